@@ -11,14 +11,11 @@ use Rattle.automata_config.specs.Settling.{has_unicode_word, settled_quits, is_u
 use Rattle.automata_config.specs.Settling.{greatest_offset, settling_refusal}
 use Rattle.automata_config.specs.declared.error.BuildError.{BuildError}
 use Rattle.automata_config.specs.declared.error.BuildError.TheVariants.{InsufficientStateIDCapacity}
+use Rattle.std.proofs.Math.Bool.{or-false}
 
 pub list_any-same : {X : Type 0} (f g : X → Bool) (xs : List X) → ((x : X) → f x ≡ g x) → list_any f xs ≡ list_any g xs
 list_any-same f g [] same = refl
 list_any-same f g (x ∷ xs) same = ap (λ z. z || list_any f xs) (same x) ∙ ap (λ z. g x || z) (list_any-same f g xs same)
-
-or-false : (b : Bool) → b || false ≡ b
-or-false true = refl
-or-false false = refl
 
 pub and-false : (b : Bool) → b && false ≡ false
 and-false true = refl

@@ -23,6 +23,7 @@ use Rattle.automata_hybrid.specs.Steps.Starts.{quit_behind, IsStartRefusalAt}
 use Rattle.automata_hybrid.proofs.Searching.{false_true}
 use Rattle.automata_hybrid.proofs.Units.{forward_unit, forward_units, backward_unit, backward_units}
 use Rattle.automata_config.specs.Options.{minimum_cache_clear_count_of}
+use Rattle.automata_hybrid.proofs.Directions.{later_anchored}
 
 -- a byte of the haystack in reach of a span
 abbrev pub InReach : Input → ℕ → Type 0
@@ -72,10 +73,6 @@ is_behind m (Some b) byte e = go (is_quit m.quits b) refl e where
   go true f e = (e, subst (λ n. is_quit m.quits n ≡ true) (some_inj e) f)
   go false f e = absurd (none_some e)
 
-later_mode : (way : Direction) (k : ℕ) (input : Input) → (later way k input).anchored ≡ input.anchored
-later_mode Forward k input = refl
-later_mode Backward k input = refl
-
 pub no_limit : (m : Machine) (c : Stored) (q : Powerset) → c.table.of ≡ m → minimum_cache_clear_count_of m.config ≡ None → GivesUp c q → ⊥
 no_limit m c q same free gives =
     let limit : minimum_cache_clear_count_of c.table.of.config ≡ None = ap (λ (n : Machine). minimum_cache_clear_count_of n.config) same ∙ free in
@@ -105,7 +102,7 @@ module _ (way : Direction) (m : Machine) (c : Stored) (input : Input) (k : ℕ) 
       is_behind m (tape_in way (later way k input)).before byte r in
       absurd (unquit byte (behind_reach way (later way k input) byte ahead.0 b.0) b.1)
   start_memory behind_at start_at e (start.UnsupportedAnchored mode', r, told, unknown) =
-      absurd (false_true (sym r.1 ∙ (ap (supports m) (later_mode way k input) ∙ mode)))
+      absurd (false_true (sym r.1 ∙ (ap (supports m) (later_anchored way k input) ∙ mode)))
   start_memory behind_at start_at e (start.Cache err, r, told, unknown) = absurd (no_limit m c _ same free r.1)
   start_memory behind_at start_at e (start.OutOfMemory, r, told, unknown) = told
 

@@ -1,5 +1,5 @@
 use Rattle.std.proofs.Common.{◌≡◌, ℕ, ◌+◌, ◌*◌, ◌^◌, ◌<◌, ◌≤◌, length, List, sym, ◌∙◌, subst, arith, length-append}
-use Rattle.std.proofs.Common.{replicate, slice_get, get_or, set, length-set, Some, inl, inr, ⊎_elim, ap, [], ◌∷◌, ◌++◌}
+use Rattle.std.proofs.Common.{replicate, slice_get, Some, inl, inr, ap, [], ◌∷◌, ◌++◌}
 use Rattle.std.specs.List.{sum_by}
 use Rattle.std.proofs.Math.Nat.{mul-le-mul_right}
 use Rattle.std.proofs.lemmas.List.Sums.{sum_by_push}
@@ -7,15 +7,14 @@ use Rattle.automata_base.specs.Powersets.Powerset.{Powerset, cost}
 use Rattle.automata_base.specs.Powersets.Accounting.{minimum_capacity, fixed_cost}
 use Rattle.automata_hybrid.specs.declared.dfa.row.Row.{Row}
 use Rattle.automata_hybrid.specs.Cache.Ids.{dead_id, quit_id}
-use Rattle.automata_hybrid.specs.Machines.Machine.{Machine, greatest, template_of, start_of, table_stride, slot_count}
-use Rattle.std.proofs.lemmas.List.{length-replicate, get_or-replicate, get_or-set_same, get_or-set_other}
-use Rattle.std.proofs.lemmas.Option.{slice_get_within, get_or_from_slice_get, slice_get-get_or}
-use Rattle.std.proofs.lemmas.Bool.{cases_eq}
+use Rattle.automata_hybrid.specs.Machines.Machine.{Machine, greatest, template_of, table_stride, slot_count}
+use Rattle.std.proofs.lemmas.List.{length-replicate, get_or-replicate}
+use Rattle.std.proofs.lemmas.Option.{slice_get_within, get_or_from_slice_get}
 use Rattle.automata_hybrid.specs.declared.dfa.settings.Settings.{Settings}
 use Rattle.automata_hybrid.specs.declared.dfa.progress.Searched.{Searched}
-use Rattle.automata_hybrid.specs.Cache.Table.{Rows, MayLead, Leads, Names, row_cost, with_row, fresh, fixed_rows}
+use Rattle.automata_hybrid.specs.Cache.Table.{Rows, Leads, Names, row_cost, with_row, fresh, fixed_rows}
 use Rattle.automata_hybrid.specs.Cache.Clears.{AllStarts}
-use Rattle.automata_hybrid.specs.Cache.Stores.{Stored, with_table, fresh_store, settings_of, with_start}
+use Rattle.automata_hybrid.specs.Cache.Stores.{Stored, with_table, fresh_store, settings_of}
 use Rattle.automata_hybrid.specs.Cache.Usage.{usage_by, IsCache, usage, Fits}
 
 -- a cache with so few rows is within its capacity
@@ -114,34 +113,6 @@ IsCache-cleared c settings t starts clears searched i named s n few whole cheap 
       same = rw s i.same;
       bounded = rw s i.bounded;
     }
-
--- the accounted cost of a state is a number of 64 bits
-pub small_cost : (c : Stored) (settings : Settings) (extra : ℕ) → IsCache c settings → extra ≤ greatest c.table.of → extra < 2 ^ 64
-small_cost c settings extra i little =
-    let e : (2 + length c.starts) * greatest c.table.of ≡ length c.starts * greatest c.table.of + 2 * greatest c.table.of = omega arith in
-    omega (arith, little, i.enough, i.bounded, e)
-
--- a start that is written
-pub IsCache-start : (c : Stored) (settings : Settings) (slot id : ℕ) → IsCache c settings → MayLead c.table id (start_of c.table.of slot) → slot < length c.starts → IsCache (with_start c slot id) settings
-IsCache-start c settings slot id i leads within =
-    let n : length c.starts ≡ length (set c.starts slot id) = sym (length-set c.starts slot id) in
-    record {
-      named = named;
-      within = subst (λ k. usage_by c.table k (fixed_cost c.table.of.nfa) ≤ c.table.of.capacity) n i.within;
-      enough = subst (λ k. minimum_capacity (table_stride c.table.of) k (greatest c.table.of) (fixed_cost c.table.of.nfa) ≤ c.table.of.capacity) n i.enough;
-      offsets = subst (λ k. (k + 4) * table_stride c.table.of < 2 ^ 27) n i.offsets;
-      slots = sym n ∙ i.slots;
-      same = i.same;
-      bounded = i.bounded;
-    } where
-      named : AllStarts c.table (set c.starts slot id)
-      named k x h =
-          let read : get_or (set c.starts slot id) k 0 ≡ x = get_or_from_slice_get (set c.starts slot id) k x 0 h in
-          let inside : k < length c.starts = subst (λ m. k < m) (length-set c.starts slot id) (slice_get_within (set c.starts slot id) k x h) in
-          ⊎_elim
-          (λ (e : k ≡ slot). (let same : id ≡ x = sym (get_or-set_same c.starts slot id 0 within) ∙ ap (λ m. get_or (set c.starts slot id) m 0) (sym e) ∙ read in subst (λ y. MayLead c.table y (start_of c.table.of k)) same (subst (λ m. MayLead c.table id (start_of c.table.of m)) (sym e) leads)))
-          (λ (ne : k ≡ slot → ⊥). i.named k x (slice_get-get_or c.starts k 0 inside ∙ ap Some (sym (get_or-set_other c.starts slot k id 0 ne) ∙ read)))
-          (cases_eq k slot)
 
 -- what leads to a state is cached
 pub Leads-known : (t : Rows) (id : ℕ) (q : Powerset) → ((n : ℕ) (p : Powerset) → Names t n p → n < 2 ^ 29) → table_stride t.of ≤ 512 → Leads t id q → id < 2 ^ 31

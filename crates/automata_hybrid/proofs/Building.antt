@@ -17,21 +17,10 @@ use Rattle.automata_hybrid.specs.Cache.Ids.{quit_id}
 use Rattle.automata_hybrid.specs.Machines.OwnStates.{IsOwn}
 use Rattle.automata_hybrid.specs.Machines.Machine.{Machine, IsMachine, marked, template_of, byte_of, next_of, greatest}
 use Rattle.automata_hybrid.specs.Machines.Machine.{table_stride, slot_count}
-
-count_more : (f : ℕ → Bool) (n : ℕ) → boundary_count f n ≤ boundary_count f (suc n)
-unfolding boundary_count
-count_more f n = omega arith
-
--- classes rise
-count_rises : (f : ℕ → Bool) (n k : ℕ) → boundary_count f n ≤ boundary_count f (k + n)
-count_rises f n zero = let e : 0 + n ≡ n = omega arith in rw e (omega arith)
-count_rises f n (suc k) =
-    let e : suc k + n ≡ suc (k + n) = omega arith in
-    let more : boundary_count f (k + n) ≤ boundary_count f (suc (k + n)) = count_more f (k + n) in
-    rw e (omega (arith, count_rises f n k, more))
+use Rattle.automata_base.proofs.Values.Boundaries.{count_grows}
 
 count_up_to : (f : ℕ → Bool) (n m : ℕ) → n ≤ m → boundary_count f n ≤ boundary_count f m
-count_up_to f n m h = let k : ℕ = m - n in let e : k + n ≡ m = omega arith in subst (λ x. boundary_count f n ≤ boundary_count f x) e (count_rises f n k)
+count_up_to f n m h = let k : ℕ = m - n in let e : k + n ≡ m = omega arith in subst (λ x. boundary_count f n ≤ boundary_count f x) e (count_grows f n k)
 
 -- the cells of a new row
 marked-length : (cs : List ℕ) (qs : List Bool) (s n : ℕ) → length (marked cs qs s n) ≡ s

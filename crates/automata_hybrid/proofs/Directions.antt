@@ -135,16 +135,6 @@ pub span_unit :
 span_unit Forward input k l = refl
 span_unit Backward input k l = omega (arith, l)
 
-pub span_low : (way : Direction) (input : Input) (k : ℕ) → input.start ≤ given_up_offset way input k
-span_low Forward input k = omega arith
-span_low Backward input k = omega arith
-
-pub span_high :
-    (way : Direction) (input : Input) (k : ℕ) → input.start ≤ input.end → k ≤ input.end - input.start
-    → given_up_offset way input k ≤ input.end
-span_high Forward input k s l = omega (arith, s, l)
-span_high Backward input k s l = omega (arith, s)
-
 -- a place before the last one is not the end of a pass back
 pub not_behind :
     (way : Direction) (input : Input) (k : ℕ) → k < input.end - input.start

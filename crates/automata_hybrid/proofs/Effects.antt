@@ -18,12 +18,10 @@ use Rattle.automata_base.specs.Powersets.Equal.{powerset_eq, powerset_eq-Decides
 use Rattle.automata_base.proofs.Paths.Orders.{none_some}
 use Rattle.std.proofs.lemmas.Bool.{cases_Bool}
 use Rattle.automata_hybrid.proofs.Rows.{Names-more, find_id-push_other}
-
-some_id : (a b : ℕ) → ◌≡◌ {A = Option ℕ} (Some a) (Some b) → a ≡ b
-some_id a b e = cc
+use Rattle.automata_base.proofs.Determinizing.Tests_of_lists.{some_same}
 
 pub one_id : (t : Rows) (a b : ℕ) (q : Powerset) → Names t a q → Names t b q → a ≡ b
-one_id t a b q f g = some_id a b (sym f ∙ g)
+one_id t a b q f g = some_same a b (sym f ∙ g)
 
 -- a clear shows in the count
 pub counts_up : (n m : ℕ) → m ≡ saturated (n + 1) → m ≡ n → n < 2 ^ 64 - 1 → ⊥

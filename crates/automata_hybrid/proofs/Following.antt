@@ -17,10 +17,11 @@ use Rattle.automata_hybrid.specs.Searches.PassState.{HasLearned, HasLearnedUnit,
 use Rattle.automata_hybrid.specs.Searches.Passes.{HasReadNoQuit, state_in, tape_in, told_in}
 use Rattle.automata_hybrid.specs.Cache.Table.{Leads, Names}
 use Rattle.automata_hybrid.specs.Walks.Answers.{IsSilent}
-use Rattle.automata_hybrid.proofs.Searching.{lt_or_le, state_more, told_quiet}
+use Rattle.automata_hybrid.proofs.Searching.{state_more, told_quiet}
 use Rattle.automata_hybrid.proofs.Stepping.{Leads-Names, Leads-silent}
 use Rattle.automata_hybrid.proofs.Walked.{silent_none, silent_same, silent_trans}
 use Rattle.automata_config.specs.Options.{match_kind_of}
+use Rattle.std.proofs.lemmas.Bool.{cases_lt}
 
 -- nothing was followed yet
 pub followed_none :
@@ -56,18 +57,12 @@ followed_more way m c input from k id id' byte low unit known below quit named f
       record {
         more = omega (arith, f.more);
         named = Leads-Names c.table id' (state_in way m input (suc k)) leads (omega (arith, low));
-        quiet = λ j l h. each here j l h (lt_or_le j k);
+        quiet = λ j l h. each here j l h (cases_lt j k);
       }
     where
       each : IsQuiet way m c input k → (j : ℕ) → from ≤ j → j < suc k → (j < k) ⊎ (k ≤ j) → IsQuiet way m c input j
       each here j l h (inl less) = f.quiet j l less
       each here j l h (inr more) = let same : k ≡ j = omega (arith, h, more) in subst (IsQuiet way m c input) same here
-
--- the same behind as many units, counted otherwise
-pub followed_to :
-    {way : Direction} {m : Machine} {c : Stored} {input : Input} {from id k to : ℕ}
-    → k ≡ to → IsFollowed way m c input from k id → IsFollowed way m c input from to id
-followed_to {way} {m} {c} {input} {from} {id} same f = subst (λ n. IsFollowed way m c input from n id) same f
 
 -- what was followed is followed on
 pub followed_on :
@@ -80,7 +75,7 @@ followed_on {way} {m} {c} {input} {from} {k} {to} {id} {id'} f on = join (on f.n
   join g = record {
     more = omega (arith, f.more, g.more);
     named = g.named;
-    quiet = λ j l h. each j l h (lt_or_le j k);
+    quiet = λ j l h. each j l h (cases_lt j k);
   } where
     each : (j : ℕ) → from ≤ j → j < to → (j < k) ⊎ (k ≤ j) → IsQuiet way m c input j
     each j l h (inl less) = f.quiet j l less
@@ -89,7 +84,7 @@ followed_on {way} {m} {c} {input} {from} {k} {to} {id} {id'} f on = join (on f.n
 module _ {way : Direction} {m : Machine} {c : Stored} {input : Input} {from to id : ℕ} (f : IsFollowed way m c input from to id) where
   -- a pass that met no quit byte before has met none
   pub followed_clean : HasReadNoQuit way m input from → HasReadNoQuit way m input to
-  followed_clean clean j byte l e = go (lt_or_le j from) where
+  followed_clean clean j byte l e = go (cases_lt j from) where
     go : (j < from) ⊎ (from ≤ j) → is_quit m.quits byte ≡ false
     go (inl less) = clean j byte less e
     go (inr more) = (f.quiet j more l).clean byte e
@@ -117,7 +112,7 @@ module _ {way : Direction} {m : Machine} {c : Stored} {input : Input} {from to i
 
   -- and has learned all that it took
   pub followed_learned : HasLearned way m c input from → HasLearned way m c input to
-  followed_learned learned j l reads = go (lt_or_le j from) where
+  followed_learned learned j l reads = go (cases_lt j from) where
     go : (j < from) ⊎ (from ≤ j) → HasLearnedUnit way m c input j
     go (inl less) = learned j less reads
     go (inr more) = (f.quiet j more l).known

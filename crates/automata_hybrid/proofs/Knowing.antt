@@ -10,7 +10,7 @@ use Rattle.automata_base.specs.Paths.Paths.{next}
 use Rattle.automata_base.specs.Powersets.Powerset.{Powerset, dead}
 use Rattle.automata_base.specs.Haystacks.Tapes.{Direction}
 use Rattle.automata_base.specs.declared.util.search.Anchored.{Anchored}
-use Rattle.automata_base.proofs.Paths.Orders.{none_some, some_inj}
+use Rattle.automata_base.proofs.Paths.Orders.{none_some}
 use Rattle.automata_config.specs.declared.error.StartError.{StartError}
 use Rattle.automata_config.specs.declared.error.StartError.TheVariants as start
 use Rattle.automata_config.specs.declared.error.SearchError.{SearchError}
@@ -26,12 +26,10 @@ use Rattle.automata_hybrid.specs.Searches.Passes.{Finds, Reads, Skips, state_in,
 use Rattle.automata_hybrid.specs.Machines.StartSlots.{slot_behind, supports}
 use Rattle.automata_hybrid.specs.Steps.Starts.{HasSlot, IsStartEffect, IsStartRefusal, IsStartRefusedAt, KnowsStart}
 use Rattle.automata_hybrid.specs.Steps.Starts.{MayStart, quit_behind, search_refusal}
-use Rattle.automata_hybrid.specs.Cache.Table.{Names, Rows}
-use Rattle.automata_hybrid.proofs.Searching.{at_reads, false_true, lt_or_le}
-
--- a state has one ID
-pub one_id : (t : Rows) (a b : ℕ) (q : Powerset) → Names t a q → Names t b q → a ≡ b
-one_id t a b q f g = some_inj (sym f ∙ g)
+use Rattle.automata_hybrid.specs.Cache.Table.{Names}
+use Rattle.automata_hybrid.proofs.Searching.{at_reads, false_true}
+use Rattle.std.proofs.lemmas.Bool.{cases_lt}
+use Rattle.automata_hybrid.proofs.Effects.{one_id}
 
 -- where nothing is determinized, what a pass has cached it still has cached
 pub knows_still :
@@ -80,7 +78,7 @@ pub learned_more :
     (way : Direction) (m : Machine) (c : Stored) (input : Input) (k id : ℕ) (u : Option ℕ)
     → HasLearned way m c input k → Names c.table id (state_in way m input k) → next (tape_in way input) k ≡ u
     → IsKnownTransition c id (unit_class m u) → unit_class m u < table_stride c.table.of → HasLearned way m c input (suc k)
-learned_more way m c input k id u learned named unit known below = λ j l reads. go j reads (lt_or_le j k) l where
+learned_more way m c input k id u learned named unit known below = λ j l reads. go j reads (cases_lt j k) l where
   go : (j : ℕ) → Reads way m input j → (j < k) ⊎ (k ≤ j) → j < suc k → HasLearnedUnit way m c input j
   go j reads (inl less) l = learned j less reads
   go j reads (inr more) l =
@@ -92,7 +90,7 @@ learned_more way m c input k id u learned named unit known below = λ j l reads.
 pub learned_all :
     (way : Direction) (m : Machine) (c : Stored) (input : Input) (k : ℕ)
     → KnowsItsStart way m c input → HasLearned way m c input k → ((j : ℕ) → k ≤ j → Reads way m input j → ⊥) → HasLearnedAll way m c input
-learned_all way m c input k begin learned stops = (begin, λ j reads. go j reads (lt_or_le j k)) where
+learned_all way m c input k begin learned stops = (begin, λ j reads. go j reads (cases_lt j k)) where
   go : (j : ℕ) → Reads way m input j → (j < k) ⊎ (k ≤ j) → HasLearnedUnit way m c input j
   go j reads (inl less) = learned j less reads
   go j reads (inr more) = absurd (stops j more reads)
@@ -174,7 +172,7 @@ module _ (m : Machine) (old new : CacheView) (mode : Anchored) (behind : Option 
     in_slot may (inr l) = effect.past may l
 
     go : (o : Option ℕ) → quit_behind m behind ≡ o → (b : Bool) → supports m mode ≡ b → new ≡ old
-    go None e true f = in_slot (e, f) (lt_or_le (slot_behind m mode behind) (slot_count m))
+    go None e true f = in_slot (e, f) (cases_lt (slot_behind m mode behind) (slot_count m))
     go None e false f = effect.barred (λ may. false_true (sym f ∙ may.1))
     go (Some byte) e b f = effect.barred (λ may. none_some (sym may.0 ∙ e))
 
@@ -193,7 +191,7 @@ spans_still way m old new input k of keeps spans = λ j l. all_still way m old n
 pub spans_more :
     (way : Direction) (m : Machine) (c : Stored) (input now : Input) (k : ℕ)
     → now ≡ later way k input → LearnedSpans way m c input k → HasLearnedAll way m c now → LearnedSpans way m c input (suc k)
-spans_more way m c input now k same spans all = λ j l. go j (lt_or_le j k) l where
+spans_more way m c input now k same spans all = λ j l. go j (cases_lt j k) l where
   go : (j : ℕ) → (j < k) ⊎ (k ≤ j) → j < suc k → HasLearnedAll way m c (later way j input)
   go j (inl less) l = spans j less
   go j (inr more) l =
@@ -205,7 +203,7 @@ pub spans_all :
     (way : Direction) (m : Machine) (c : Stored) (input : Input) (k : ℕ)
     → LearnedSpans way m c input k
     → ((j : ℕ) → k ≤ j → Tries (Finds way m) (Skips m) way input j → input.start + j ≤ input.end → ⊥) → Knows way m c input
-spans_all way m c input k spans stops = λ j tries within. go j tries within (lt_or_le j k) where
+spans_all way m c input k spans stops = λ j tries within. go j tries within (cases_lt j k) where
   go : (j : ℕ) → Tries (Finds way m) (Skips m) way input j → input.start + j ≤ input.end → (j < k) ⊎ (k ≤ j) → KnowsPass way m c (later way j input)
   go j tries within (inl less) = learned_knows way m c (later way j input) (spans j less)
   go j tries within (inr more) = absurd (stops j more tries within)

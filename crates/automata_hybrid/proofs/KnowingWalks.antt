@@ -17,9 +17,9 @@ use Rattle.automata_hybrid.specs.Walks.Answers.{HasItsState, HasToldBy, IsArriva
 use Rattle.automata_hybrid.specs.Walks.State.{At, Ended, Fresh, Stage}
 use Rattle.automata_hybrid.proofs.Growing.{grown_both, grown_same, nothing_second}
 use Rattle.automata_hybrid.proofs.Knowing.{begin_still, unit_still}
-use Rattle.automata_hybrid.proofs.Searching.{lt_or_le}
 use Rattle.automata_hybrid.proofs.WalkCalls.{told_place}
 use Rattle.automata_hybrid.proofs.Walked.{told_rises}
+use Rattle.std.proofs.lemmas.Bool.{cases_lt}
 
 -- a walk has learned nothing yet
 pub units_none : (way : Direction) (m : Machine) (c : Stored) (input : Input) (from : ℕ) → HasLearnedUnits way m c input from from
@@ -31,7 +31,7 @@ pub units_more :
     → IsGrown old new → ClearedNothing old.store new.store → HasLearnedUnits way m old.store input from read
     → IsFollowed way m old.store input read k id → HasLearnedUnit way m new.store input k
     → HasLearnedUnits way m new.store input from (suc k)
-units_more way m old new input from read k id g nothing learned f here = λ j l h. go j l h (lt_or_le j read) (lt_or_le j k) where
+units_more way m old new input from read k id g nothing learned f here = λ j l h. go j l h (cases_lt j read) (cases_lt j k) where
   go : (j : ℕ) → from ≤ j → j < suc k → (j < read) ⊎ (read ≤ j) → (j < k) ⊎ (k ≤ j) → HasLearnedUnit way m new.store input j
   go j l h (inl less) b = unit_still way m old.store new.store input g.of (g.kept nothing) j (learned j l less)
   go j l h (inr more) (inl less) = unit_still way m old.store new.store input g.of (g.kept nothing) j (f.quiet j more less).known
@@ -103,7 +103,7 @@ pub units_all :
     (way : Direction) (m : Machine) (c : Stored) (input : Input) (from k : ℕ) (id : Option ℕ) (units : ℕ)
     → IsArrival way m c.table input from id units → HasToldBy way m input from k → HasLearnedUnits way m c input from units
     → KnowsUnits way m c input from k
-units_all way m c input from k id units a first learned j l reads clean told = go (lt_or_le j units) where
+units_all way m c input from k id units a first learned j l reads clean told = go (cases_lt j units) where
   go : (j < units) ⊎ (units ≤ j) → KnowsUnit way m c input j
   go (inl less) = (learned j l less).0
   go (inr more) = absurd (arrival_stops way m c.table input from id units k j a first more reads told)

@@ -20,9 +20,10 @@ use Rattle.automata_hybrid.specs.Searches.PassState.{IsTagAt, IsTaken, half_at, 
 use Rattle.automata_hybrid.specs.Searches.Passes.{HasReadNoQuit, state_in, tape_in, told_in}
 use Rattle.automata_hybrid.specs.Cache.Table.{Leads, Names}
 use Rattle.automata_hybrid.proofs.Following.{followed_none, followed_on}
-use Rattle.automata_hybrid.proofs.Searching.{false_true, found_more, lt_or_le, state_more}
+use Rattle.automata_hybrid.proofs.Searching.{false_true, found_more, state_more}
 use Rattle.automata_hybrid.proofs.Stepping.{Leads-Names}
 use Rattle.automata_config.specs.Options.{match_kind_of}
+use Rattle.std.proofs.lemmas.Bool.{cases_lt}
 
 -- nothing was followed yet
 pub led_none :
@@ -57,7 +58,7 @@ led_more way m c input from k id id' byte low unit known below quit named f = go
       record {
         more = omega (arith, f.more);
         named = Leads-Names c.table id' (state_in way m input (suc k)) leads low;
-        taken = λ j l h. each here j l h (lt_or_le j k);
+        taken = λ j l h. each here j l h (cases_lt j k);
       }
     where
       each : IsTaken way m c input k → (j : ℕ) → from ≤ j → j < suc k → (j < k) ⊎ (k ≤ j) → IsTaken way m c input j
@@ -75,7 +76,7 @@ led_on {way} {m} {c} {input} {from} {k} {to} {id} {id'} f on = join (on f.named)
   join g = record {
     more = omega (arith, f.more, g.more);
     named = g.named;
-    taken = λ j l h. each j l h (lt_or_le j k);
+    taken = λ j l h. each j l h (cases_lt j k);
   } where
     each : (j : ℕ) → from ≤ j → j < to → (j < k) ⊎ (k ≤ j) → IsTaken way m c input j
     each j l h (inl less) = f.taken j l less
@@ -119,14 +120,14 @@ half_any (p ∷ ps) at a b l = refl
 module _ {way : Direction} {m : Machine} {c : Stored} {input : Input} {from to id : ℕ} (f : IsLed way m c input from to id) where
   -- a pass that met no quit byte before has met none
   led_clean : HasReadNoQuit way m input from → HasReadNoQuit way m input to
-  led_clean clean j byte l e = go (lt_or_le j from) where
+  led_clean clean j byte l e = go (cases_lt j from) where
     go : (j < from) ⊎ (from ≤ j) → is_quit m.quits byte ≡ false
     go (inl less) = clean j byte less e
     go (inr more) = (f.taken j more l).clean byte e
 
   -- and has learned all that it took
   pub led_learned : HasLearned way m c input from → HasLearned way m c input to
-  led_learned learned j l reads = go (lt_or_le j from) where
+  led_learned learned j l reads = go (cases_lt j from) where
     go : (j < from) ⊎ (from ≤ j) → HasLearnedUnit way m c input j
     go (inl less) = learned j less reads
     go (inr more) = (f.taken j more l).known
@@ -153,7 +154,7 @@ pub known_after :
     {way : Direction} {m : Machine} {c : Stored} {input : Input} {from mid to id id' : ℕ}
     → IsFollowed way m c input from mid id → IsLed way m c input mid to id'
     → (k : ℕ) → from ≤ k → k < to → KnowsUnit way m c input k
-known_after {way} {m} {c} {input} {from} {mid} f led k more less = go (lt_or_le k mid) where
+known_after {way} {m} {c} {input} {from} {mid} f led k more less = go (cases_lt k mid) where
   go : (k < mid) ⊎ (mid ≤ k) → KnowsUnit way m c input k
   go (inl before) = (f.quiet k more before).known.0
   go (inr behind) = (led.taken k behind less).known.0

@@ -21,10 +21,11 @@ use Rattle.automata_hybrid.specs.Walks.Answers.{AreWalked, HasTold, HasToldAt, H
 use Rattle.automata_hybrid.specs.Walks.State.{At, Ended, Fresh, Stage, Walk}
 use Rattle.automata_hybrid.specs.Walks.Sets.{IsJoined}
 use Rattle.automata_hybrid.proofs.Knowing.{begin_still, unit_still}
-use Rattle.automata_hybrid.proofs.Searching.{false_true, lt_or_le}
+use Rattle.automata_hybrid.proofs.Searching.{false_true}
 use Rattle.automata_hybrid.proofs.WalkCalls.{told_place}
 use Rattle.automata_hybrid.proofs.Walked.{Begins, told_rises, walked_begin}
 use Rattle.automata_hybrid.proofs.WalkSets.{flag_in, full_at}
+use Rattle.std.proofs.lemmas.Bool.{cases_lt}
 
 -- a walk has not begun, or its start and all transitions that it took are cached
 abbrev pub HasLearnedWalk : Machine → Stored → Input → Walk → Type 0
@@ -56,7 +57,7 @@ learned_call m input old new w v k g nothing told s may (inl (fresh, none)) know
       subst (λ n. HasLearnedUnits Forward m new.store input n v.units) none units,
     )
 learned_call m input old new w v k g nothing told s may (inr (begins, had)) knows units =
-    (begin_still Forward m old.store new.store input g.of (g.kept nothing) begins, λ j l h. go j l h (lt_or_le j w.units))
+    (begin_still Forward m old.store new.store input g.of (g.kept nothing) begins, λ j l h. go j l h (cases_lt j w.units))
   where
     go : (j : ℕ) → 0 ≤ j → j < v.units → (j < w.units) ⊎ (w.units ≤ j) → HasLearnedUnit Forward m new.store input j
     go j l h (inl less) = unit_still Forward m old.store new.store input g.of (g.kept nothing) j (had j l less)
@@ -120,7 +121,7 @@ pub set_knows :
     × ((j : ℕ) (pairs : List Pair)
     → WalkReads Forward m input j → HasReadNoQuit Forward m input j
     → AreUnsplit (Skips m) Forward input (pairs_in Forward m input j) pairs → IsOpen input set pairs → KnowsUnit Forward m c input j)
-set_knows m c input set v all stops = (all.0, λ j pairs reads clean unsplit is_open. go j pairs reads unsplit is_open (lt_or_le j v.units))
+set_knows m c input set v all stops = (all.0, λ j pairs reads clean unsplit is_open. go j pairs reads unsplit is_open (cases_lt j v.units))
   where
     go :
         (j : ℕ) (pairs : List Pair) → WalkReads Forward m input j → AreUnsplit (Skips m) Forward input (pairs_in Forward m input j) pairs

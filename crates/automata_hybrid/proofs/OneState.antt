@@ -2,18 +2,13 @@
 use Rattle.std.proofs.Common.{ℕ, ◌≡◌, ◌≤◌, ◌&&◌, ◌||◌, not, Bool, true, false, cond, ltb, List, [], ◌∷◌, length, Some}
 use Rattle.std.proofs.Common.{None, refl, sym, ap, subst, arith}
 use Rattle.std.proofs.lemmas.Bool.{le-ltb}
-use Rattle.std.proofs.lemmas.Bool.Decides.{nat_tests}
-use Rattle.automata_base.specs.ByteClasses.Classes.{stride_for}
 use Rattle.automata_base.specs.Nfas.Nodes.{Automaton, stack_room}
 use Rattle.automata_base.specs.declared.nfa.thompson.State.{State}
 use Rattle.automata_base.specs.declared.nfa.thompson.State.TheVariants.{Match, Fail}
 use Rattle.automata_config.specs.Options.{quits_of, unicode_word_boundary_of, unset}
 use Rattle.automata_config.specs.Settling.{greatest_offset, has_unicode_word, holds_non_ascii, is_too_small}
 use Rattle.automata_config.specs.Settling.{is_unsupported, settling_refusal, settled_minimum, settled_stride}
-
-stride_few : (n : ℕ) → stride_for n ≤ 512
-unfolding stride_for
-stride_few n = grind (arith, nat_tests)
+use Rattle.automata_base.proofs.Values.Boundaries.{stride_for-few}
 
 no_reason : {X : Type 0} (p q r : Bool) (x y z : X) → p ≡ false → q ≡ false → r ≡ false → cond p (Some x) (cond q (Some y) (cond r (Some z) None)) ≡ None
 no_reason false false false x y z e f g = refl
@@ -25,12 +20,12 @@ minimum_fits :
     (a : Automaton) → length a.states ≡ 1 → length a.start_pattern ≤ 1 → stack_room a.states ≤ 1 → settled_minimum unset a ≤ 2097152
 unfolding settled_minimum
 minimum_fits a one few room =
-    let stride : settled_stride unset a ≤ 512 = stride_few _ in
+    let stride : settled_stride unset a ≤ 512 = stride_for-few _ in
     omega (arith, stride, one, few, room)
 
 offset_fits : (a : Automaton) → greatest_offset unset a ≤ 134217727
 unfolding greatest_offset
-offset_fits a = let stride : settled_stride unset a ≤ 512 = stride_few _ in omega (arith, stride)
+offset_fits a = let stride : settled_stride unset a ≤ 512 = stride_for-few _ in omega (arith, stride)
 
 one_settles :
     (a : Automaton) → length a.states ≡ 1 → length a.start_pattern ≤ 1 → stack_room a.states ≤ 1 → has_unicode_word a ≡ false

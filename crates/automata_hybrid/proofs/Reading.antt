@@ -1,12 +1,10 @@
 -- Units that a search reads from an ID, from what the step on each answers and changes.
-use Rattle.std.proofs.Common.{ℕ, ◌≡◌, ◌∙◌, ◌+◌, ◌<◌, ◌≤◌, ◌⊎◌, true, false, inl, inr, Option, None, sym, ap, subst}
+use Rattle.std.proofs.Common.{ℕ, ◌≡◌, ◌∙◌, ◌+◌, ◌<◌, ◌≤◌, ◌⊎◌, true, false, inl, inr, Option, sym, ap, subst}
 use Rattle.std.proofs.Common.{arith}
 use Rattle.std.specs.Prelude.{Result, Ok, Err, IfOk, OnErr}
 use Rattle.std.specs.Result.{IsErrAnd}
 use Rattle.automata_base.specs.Powersets.Powerset.{Powerset, dead}
-use Rattle.automata_base.specs.declared.util.search.MatchErrorKind.TheVariants.{Quit as QuitAt, GaveUp}
-use Rattle.automata_base.specs.declared.util.search.MatchErrorKind.TheVariants.{UnsupportedAnchored as UnsupportedMode}
-use Rattle.automata_base.proofs.Paths.Orders.{none_some}
+use Rattle.automata_base.specs.declared.util.search.MatchErrorKind.TheVariants.{Quit as QuitAt}
 use Rattle.automata_config.specs.declared.error.SearchError.{SearchError}
 use Rattle.automata_config.specs.declared.error.SearchError.TheVariants as search
 use Rattle.automata_hybrid.specs.declared.dfa.progress.Searched.{Searched}
@@ -23,9 +21,9 @@ use Rattle.automata_hybrid.specs.Cache.Stores.{Stored, with_searched}
 use Rattle.automata_hybrid.specs.Cache.Table.{Names}
 use Rattle.automata_hybrid.proofs.Growing.{grown_moved, grown_trans, nothing_second}
 use Rattle.automata_hybrid.proofs.StepCalls.{no_quit_unit}
-use Rattle.automata_hybrid.proofs.Searching.{lt_or_le}
 use Rattle.automata_hybrid.proofs.Stepping.{refused}
 use Rattle.automata_hybrid.proofs.UnitsRead.{finished_moved}
+use Rattle.std.proofs.lemmas.Bool.{cases_lt}
 
 -- what holds of the error that a call handed on holds of what it answers
 pub at_err : {A E : Type 0} (r : Result A E) (e : E) (P : Result A E → Type 0) → IsErrAnd r (λ x. x ≡ e) → P (Err e) → P r
@@ -41,16 +39,6 @@ told_refusal m id unit quit_at at old new e h q n =
     (refused m old.store new.store q unit quit_at at h.error (no_quit_unit m unit h.refused.clean)
     (λ other names known. (let one : other ≡ id = cc in h.refused.unknown (subst (λ k. KnowsStep m old.store k unit) one known)))
     (ap (λ (v : CacheView). v.store) h.refused.unchanged) (λ c. h.refused.gives_up c q n))
-
--- at the end no byte is read, so no offset of a quit byte is reported
-pub unquit_at :
-    (m : Machine) (c : Stored) (q : Powerset) (quit_at other_at at : ℕ) (e : SearchError)
-    → IsStepRefusal m c q None quit_at at e → IsStepRefusal m c q None other_at at e
-unquit_at m c q quit_at other_at at (search.Match (QuitAt byte offset)) why = absurd (none_some why.0)
-unquit_at m c q quit_at other_at at (search.Match (GaveUp offset)) why = why
-unquit_at m c q quit_at other_at at (search.Match (UnsupportedMode mode)) why = why
-unquit_at m c q quit_at other_at at search.OutOfMemory why = why
-unquit_at m c q quit_at other_at at search.NotAPair why = why
 
 -- a search moved, and then read a unit
 pub read_after :
@@ -141,7 +129,7 @@ module _ (m : Machine) (id : ℕ) (unit : Option ℕ) (old mid next : CacheView)
 pub step_taken :
     (m : Machine) (id : ℕ) (unit : Option ℕ) (old new : CacheView) (to : ℕ) → id < fixed_from
     → IsStepEffect m id unit old new → IsStepAnswer m id unit old new to → IsStepTaken m id unit old.store new.store to
-step_taken m id unit old new to low effect a = go (lt_or_le (known_step m old.store id unit) unknown_id) where
+step_taken m id unit old new to low effect a = go (cases_lt (known_step m old.store id unit) unknown_id) where
   go :
       (known_step m old.store id unit < unknown_id) ⊎ (unknown_id ≤ known_step m old.store id unit)
       → IsStepTaken m id unit old.store new.store to

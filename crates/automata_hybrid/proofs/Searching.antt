@@ -27,6 +27,7 @@ use Rattle.automata_hybrid.specs.Steps.Starts.{quit_behind}
 use Rattle.automata_hybrid.specs.Cache.Table.{Rows, Leads, Names}
 use Rattle.automata_base.specs.ByteClasses.Classes.{is_quit}
 use Rattle.automata_config.specs.Options.{match_kind_of}
+use Rattle.std.proofs.lemmas.Bool.{cases_lt}
 
 -- one unit more
 pub state_more :
@@ -167,16 +168,13 @@ found_first way m input k l e some =
     (sym (told_stays (match_kind_of m.config) input.earliest m.nfa input.anchored (tape_in way input) k
     (suc (length (tape_in way input).bytes)) (told_in way m input k) l e refl (λ f. some (ap (half_of way input) f))))
 
-pub lt_or_le : (j k : ℕ) → (j < k) ⊎ (k ≤ j)
-lt_or_le j k = grind arith
-
 -- a pass has met no quit byte if it does not have up to a place, and reads nothing from there on
 clean_all :
     (way : Direction) (m : Machine) (input : Input) (k : ℕ)
     → quit_behind m (tape_in way input).before ≡ None
     → ((j byte : ℕ) → j < k → next (tape_in way input) j ≡ Some byte → is_quit m.quits byte ≡ false)
     → ((j : ℕ) → k ≤ j → Reads way m input j → ⊥) → MeetsNoQuit way m input
-clean_all way m input k behind clean stops = (behind, λ j byte reads e. go j byte reads e (lt_or_le j k)) where
+clean_all way m input k behind clean stops = (behind, λ j byte reads e. go j byte reads e (cases_lt j k)) where
   go :
       (j byte : ℕ) → Reads way m input j → next (tape_in way input) j ≡ Some byte → (j < k) ⊎ (k ≤ j)
       → is_quit m.quits byte ≡ false
@@ -230,7 +228,7 @@ module _ (way : Direction) (m : Machine) (t t' : Rows) (input : Input) (k id id'
   more_first e = sym at.told ∙ at.nothing e
 
   more_clean : (j byte : ℕ) → j < suc k → next (tape_in way input) j ≡ Some byte → is_quit m.quits byte ≡ false
-  more_clean j byte l e = go (lt_or_le j k) where
+  more_clean j byte l e = go (cases_lt j k) where
     go : (j < k) ⊎ (k ≤ j) → is_quit m.quits byte ≡ false
     go (inl less) = at.clean j byte less e
     go (inr more) =

@@ -24,23 +24,6 @@ use Rattle.automata_hybrid.proofs.Following.{followed_more, followed_none}
 use Rattle.automata_hybrid.proofs.Leading.{led_more, led_none}
 use Rattle.automata_hybrid.proofs.Searching.{false_true}
 
--- a cell that is its row's own ID
-pub loops_of :
-    (m : Machine) (c : Stored) (id byte cell : ℕ)
-    → id < 2 ^ 29 → cell ≡ id → cell ≡ cell_of c id (class_in m.classes byte) → class_in m.classes byte < table_stride c.table.of
-    → (is_quit m.quits byte ≡ true → cell ≡ quit_id (table_stride m))
-    → (is_quit m.quits byte ≡ false → cell < 2 ^ 31 → (q : Powerset) → Names c.table id q → Leads c.table cell (successor m.nfa (match_kind_of m.config) q (Some byte)))
-    → LoopsOn m c id byte
-loops_of m c id byte cell plain same value below quit named = go (is_quit m.quits byte) refl where
-  go : (b : Bool) → is_quit m.quits byte ≡ b → LoopsOn m c id byte
-  go true e = absurd (let h : cell ≡ quit_id (table_stride m) = quit e in omega (arith, h, same, plain))
-  go false e = record {
-    clean = e;
-    known = subst (λ n. n < 2 ^ 31) value (omega (arith, same, plain));
-    below = below;
-    back = λ q n. subst (λ i. Leads c.table i (successor m.nfa (match_kind_of m.config) q (Some byte))) same (named e (omega (arith, same, plain)) q n);
-  }
-
 -- a range of no byte
 pub range_none : (m : Machine) (c : Stored) (id : ℕ) (r : LoopRange) → r.size ≡ 0 → IsLoopRange m c id r
 range_none m c id r none = record { loops = λ byte l has. absurd (omega (arith, has, none)) }

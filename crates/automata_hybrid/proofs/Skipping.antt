@@ -6,7 +6,7 @@ use Rattle.automata_base.specs.declared.util.search.Anchored.TheVariants.{No}
 use Rattle.automata_base.specs.Haystacks.Input.{Input}
 use Rattle.automata_base.specs.Haystacks.Matches.{HalfMatch}
 use Rattle.automata_base.specs.Paths.Selections.{Pair}
-use Rattle.automata_base.specs.Haystacks.Tapes.{Direction, Forward, Backward, is_split}
+use Rattle.automata_base.specs.Haystacks.Tapes.{Direction, is_split}
 use Rattle.automata_base.specs.Answers.OfPasses.{TellsOver, IsTold, told_over}
 use Rattle.automata_base.proofs.Spans.Turning.{turn_answers}
 use Rattle.automata_config.specs.declared.error.SearchError.{SearchError}
@@ -17,6 +17,7 @@ use Rattle.automata_hybrid.specs.Searches.Passes.{Finds, Skips, IsFound, IsRefus
 use Rattle.automata_hybrid.specs.Searches.Passes.{with_base}
 use Rattle.automata_hybrid.proofs.Searching.{false_true, half_none}
 use Rattle.automata_config.specs.Options.{match_kind_of}
+use Rattle.automata_base.proofs.Spans.Answered.{haystack_later}
 
 -- the pair that a half match stands for
 pub record Stands (way : Direction) (input : Input) (o : Option Pair) (half : HalfMatch) : Type 0 where
@@ -52,10 +53,6 @@ module _ (T : Input → Option Pair → Type 0) (S : Type 0) (way : Direction) (
       go (inl e) = (omega (arith, l, e), subst (λ i. IsSplit T way (later way i input)) (sym e) split)
       go (inr h) = tries.1 j h
 
-pub later_haystack : (way : Direction) (k : ℕ) (input : Input) → (later way k input).haystack ≡ input.haystack
-later_haystack Forward k input = refl
-later_haystack Backward k input = refl
-
 -- a pass over the span that begins `k` places later was made
 module _ (way : Direction) (m : Machine) (input now : Input) (k : ℕ) (same : now ≡ later way k input)
     (tries : Tries (Finds way m) (Skips m) way input k) (within : input.start + k ≤ input.end) where
@@ -76,7 +73,7 @@ module _ (way : Direction) (m : Machine) (input now : Input) (k : ℕ) (same : n
 
   split_at : (half : HalfMatch) (s : Stands way (later way k input) (told_over way m.nfa (match_kind_of m.config) (later way k input)) half) → is_split now.haystack half.offset ≡ is_split input.haystack (offset_in way (later way k input) s.pair.place)
   split_at half s =
-      ap₂ is_split (ap (λ (i : Input). i.haystack) same ∙ later_haystack way k input) s.offset
+      ap₂ is_split (ap (λ (i : Input). i.haystack) same ∙ haystack_later way k input) s.offset
 
   -- it found what is not left out
   pub finds_some :
@@ -93,7 +90,7 @@ module _ (way : Direction) (m : Machine) (input now : Input) (k : ℕ) (same : n
       let s : Stands way (later way k input) (told_over way m.nfa (match_kind_of m.config) (later way k input)) half = stands half e in (
         s.pair,
         (sym s.told, clear c),
-        ap (λ h. is_split h (offset_in way (later way k input) s.pair.place)) (later_haystack way k input) ∙ (sym (split_at half s) ∙ split),
+        ap (λ h. is_split h (offset_in way (later way k input) s.pair.place)) (haystack_later way k input) ∙ (sym (split_at half s) ∙ split),
       )
 
   -- it found what is left out: an anchored search ends
@@ -130,7 +127,7 @@ module _ (way : Direction) (m : Machine) (input now : Input) (k : ℕ) (same : n
         let place : is_split (later way k input).haystack (offset_in way (later way k input) s.pair.place) ≡ true =
         subst (λ (p : Pair). is_split (later way k input).haystack (offset_in way (later way k input) p.place) ≡ true) same split.2 in
         false_true
-        (sym (keeps skips.0) ∙ (split_at half s ∙ (ap (λ h. is_split h (offset_in way (later way k input) s.pair.place)) (sym (later_haystack way k input)) ∙ place)))
+        (sym (keeps skips.0) ∙ (split_at half s ∙ (ap (λ h. is_split h (offset_in way (later way k input) s.pair.place)) (sym (haystack_later way k input)) ∙ place)))
 
   -- or where the search is anchored
   pub anchored_stops : (input.anchored ≡ No → ⊥) → (j : ℕ) → k < j → Tries (Finds way m) (Skips m) way input j → ⊥

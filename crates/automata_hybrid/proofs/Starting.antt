@@ -24,10 +24,11 @@ use Rattle.automata_hybrid.specs.Steps.Starts.{IsStartRefusedAt, IsStartSlot, Kn
 use Rattle.automata_hybrid.proofs.Effects.{Keeps-started, roomy-started}
 use Rattle.automata_hybrid.proofs.Growing.{grown_counted, grown_one, grown_same}
 use Rattle.automata_hybrid.proofs.Searched.{started_progress}
-use Rattle.automata_hybrid.proofs.Searching.{false_true, lt_or_le}
+use Rattle.automata_hybrid.proofs.Searching.{false_true}
 use Rattle.automata_hybrid.proofs.SlotStarts.{start_same}
 use Rattle.automata_hybrid.proofs.StartTags.{same_adds, same_keeps, started_adds, started_keeps, tagged_start}
 use Rattle.automata_config.specs.Options.{specialize_start_states_of}
+use Rattle.std.proofs.lemmas.Bool.{cases_lt}
 
 -- the start of a slot is that of its mode
 pub slot_state :
@@ -136,7 +137,7 @@ pub record ComputesStart (m : Machine) (mode : Anchored) (behind : Option ℕ) (
 -- a cached start state is written among the others
 keeps_written :
     (old xs : List ℕ) (slot id : ℕ) → KeepsStarts old xs → get_or (set xs slot id) slot 0 < 2 ^ 31 → KeepsStarts old (set xs slot id)
-keeps_written old xs slot id keeps found other k = go (lt_or_le other slot) (lt_or_le slot other) where
+keeps_written old xs slot id keeps found other k = go (cases_lt other slot) (cases_lt slot other) where
   apart : (other ≡ slot → ⊥) → get_or (set xs slot id) other 0 < 2 ^ 31
   apart not = subst (λ n. n < 2 ^ 31) (sym (get_or-set_other xs slot other id 0 not)) (keeps other k)
 

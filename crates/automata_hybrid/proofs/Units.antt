@@ -1,6 +1,6 @@
 -- The units that a pass reads are bytes of the haystack.
 use Rattle.std.proofs.Common.{ℕ, zero, suc, ◌≡◌, ◌<◌, ◌≤◌, ◌+◌, ◌-◌, List, [], ◌∷◌, length, Some, None, refl, sym, ap}
-use Rattle.std.proofs.Common.{ap₂, ◌∙◌, arith, get_or, slice_get}
+use Rattle.std.proofs.Common.{ap₂, ◌∙◌, arith, get_or}
 use Rattle.automata_base.specs.Haystacks.Input.{Input}
 use Rattle.automata_base.specs.Lists.{nth}
 use Rattle.automata_base.specs.Paths.Paths.{next}
@@ -43,11 +43,6 @@ nth_past [] k l = refl
 nth_past (y ∷ ys) zero l = absurd (omega (arith, l))
 nth_past (y ∷ ys) (suc k) l = nth_past ys k (omega (arith, l))
 
-pub get_nth : (xs : List ℕ) (k : ℕ) → slice_get xs k ≡ nth xs k
-get_nth [] k = refl
-get_nth (y ∷ ys) zero = refl
-get_nth (y ∷ ys) (suc k) = get_nth ys k
-
 -- what is read of the haystack at an offset is the unit there
 pub forward_read :
     (input : Input) (xs : List ℕ) (at i : ℕ)
@@ -57,11 +52,6 @@ forward_read input xs at i s e l inside same here =
     forward_unit input at s e l
     ∙ (nth_read input.haystack at (get_or input.haystack at 0) 0 inside refl
     ∙ ap₂ (λ (h : List ℕ) (n : ℕ). Some (get_or h n 0)) (sym same) (sym here))
-
-pub forward_end :
-    (input : Input) → input.start ≤ input.end → input.end ≤ length input.haystack → length input.haystack ≤ input.end
-    → next (tape_in Forward input) (input.end - input.start) ≡ None
-forward_end input s l past = forward_unit input input.end s (omega arith) l ∙ nth_past input.haystack input.end past
 
 -- backward what is read of the haystack is the unit at the offset behind it
 pub backward_read :

@@ -30,7 +30,8 @@ use Rattle.automata_hybrid.specs.Steps.Steps.{KnowsStep, quits_on, unit_class}
 use Rattle.automata_hybrid.specs.Cache.Stores.{IsKnownStart, Stored, with_next, with_searched}
 use Rattle.automata_hybrid.specs.Cache.Table.{Names}
 use Rattle.automata_hybrid.specs.Cache.Usage.{refuses_at, refuses_to_clear, short_of}
-use Rattle.automata_hybrid.proofs.Searching.{lt_or_le, reads_before, state_more}
+use Rattle.automata_hybrid.proofs.Searching.{reads_before, state_more}
+use Rattle.std.proofs.lemmas.Bool.{cases_lt}
 
 -- a search that moves twice is where it moved last
 moves_twice : (r : Option Progress) (x at : ℕ) → moved_to (moved_to r x) at ≡ moved_to r at
@@ -440,8 +441,8 @@ pub start_had :
     → IsStartEffect m input.anchored (tape_in way input).before old new
     → IsStartAnswer m input.anchored (tape_in way input).before old new id → HasItsStart way m input old.store new.store
 start_had way m input old new id slots effect a =
-    go (lt_or_le (slot_behind m input.anchored (tape_in way input).before) (slot_count m))
-    (lt_or_le (known_start m old.store input.anchored (tape_in way input).before) unknown_id)
+    go (cases_lt (slot_behind m input.anchored (tape_in way input).before) (slot_count m))
+    (cases_lt (known_start m old.store input.anchored (tape_in way input).before) unknown_id)
   where
     go :
         (slot_behind m input.anchored (tape_in way input).before < slot_count m)

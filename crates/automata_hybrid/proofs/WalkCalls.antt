@@ -21,10 +21,11 @@ use Rattle.automata_hybrid.specs.Walks.Answers.{HasToldAt, HasToldBy, IsRowState
 use Rattle.automata_hybrid.specs.Walks.Answers.{half_nth, start_count}
 use Rattle.automata_hybrid.specs.Walks.State.{At, Ended, Fresh, Stage, Walk, ended_walk, with_match, without_match}
 use Rattle.automata_hybrid.proofs.Growing.{clears_none, clears_none_back}
-use Rattle.automata_hybrid.proofs.Searching.{false_true, lt_or_le}
+use Rattle.automata_hybrid.proofs.Searching.{false_true}
 use Rattle.automata_hybrid.proofs.Walked.{Begins, finish_all, half_at_place, half_behind, half_past, place_length}
 use Rattle.automata_hybrid.proofs.Walked.{told_more, walked_all, walked_begin}
 use Rattle.automata_config.specs.Options.{match_kind_of}
+use Rattle.std.proofs.lemmas.Bool.{cases_lt}
 
 pub fresh_at : (q : Powerset) → Fresh ≡ At q → ⊥
 fresh_at q e = cc
@@ -37,7 +38,7 @@ twice [] ys zs = refl
 twice (x ∷ xs) ys zs = ap (λ (ws : List Pair). x ∷ ws) (twice xs ys zs)
 
 pub undone : (b : Bool) (s e : ℕ) → (IsTrue b ↔ (e < s)) → b ≡ false → s ≤ e
-undone b s e done «is» = go (lt_or_le e s) where
+undone b s e done «is» = go (cases_lt e s) where
   go : (e < s) ⊎ (s ≤ e) → s ≤ e
   go (inl l) = let f : IsTrue b = done.1 l in absurd (false_true (sym «is» ∙ f))
   go (inr l) = l

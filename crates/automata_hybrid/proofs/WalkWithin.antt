@@ -13,12 +13,10 @@ use Rattle.automata_hybrid.specs.Walks.Answers.{IsWalkOf, TellsNext, half_nth}
 use Rattle.automata_hybrid.specs.Walks.State.{Walk, without_match}
 use Rattle.automata_hybrid.specs.Searches.Within.{LiesIn}
 use Rattle.automata_config.specs.Options.{match_kind_of}
+use Rattle.automata_hybrid.proofs.Within.{same_some}
 
 none_some : {A : Type 0} {a : A} → ◌≡◌ {A = Option A} None (Some a) → ⊥
 none_some e = cc
-
-same_some : {A : Type 0} {a b : A} → ◌≡◌ {A = Option A} (Some a) (Some b) → a ≡ b
-same_some e = cc
 
 -- the pair of a half match
 abbrev pair_of : HalfMatch → Pair

@@ -14,7 +14,8 @@ use Rattle.automata_hybrid.specs.Machines.Machine.{Machine}
 use Rattle.automata_hybrid.specs.Searches.Passes.{HasReadNoQuit, Skips, state_in, tape_in}
 use Rattle.automata_hybrid.specs.Walks.Answers.{AreWalked, Finishes, HasToldBy, IsSilent, WalkMeetsNoQuit, WalkReads}
 use Rattle.automata_hybrid.specs.Walks.Answers.{half_nth, pairs_in}
-use Rattle.automata_hybrid.proofs.Searching.{dead_more, lt_or_le}
+use Rattle.automata_hybrid.proofs.Searching.{dead_more}
+use Rattle.std.proofs.lemmas.Bool.{cases_lt}
 
 -- lists joined
 offsets_join : (way : Direction) (input : Input) (xs ys : List Pair) → with_offsets way input (xs ++ ys) ≡ with_offsets way input xs ++ with_offsets way input ys
@@ -136,7 +137,7 @@ module _ (way : Direction) (m : Machine) (input : Input) where
   pub clean_more :
       (k : ℕ) → HasReadNoQuit way m input k → ((byte : ℕ) → next (tape_in way input) k ≡ Some byte → is_quit m.quits byte ≡ false)
       → HasReadNoQuit way m input (suc k)
-  clean_more k before here j byte l e = go (lt_or_le j k) where
+  clean_more k before here j byte l e = go (cases_lt j k) where
     go : (j < k) ⊎ (k ≤ j) → is_quit m.quits byte ≡ false
     go (inl less) = before j byte less e
     go (inr more) =
@@ -151,7 +152,7 @@ module _ (way : Direction) (m : Machine) (input : Input) where
   finish_dead from k units f l u clean e silent =
       record {
         more = omega (arith, f, u);
-        clean = λ j byte r h. go j byte r h (lt_or_le j (suc k));
+        clean = λ j byte r h. go j byte r h (cases_lt j (suc k));
         silent =
             silent_trans from k (suc (length (tape_in way input).bytes)) silent
             (silent_trans k (suc k) (suc (length (tape_in way input).bytes)) (silent_none k (ap (λ (q : Powerset). q.patterns) e))
@@ -169,7 +170,7 @@ module _ (way : Direction) (m : Machine) (input : Input) where
   finish_start k l clean e =
       record {
         more = omega arith;
-        clean = λ j byte r h. go j byte r h (lt_or_le j k);
+        clean = λ j byte r h. go j byte r h (cases_lt j k);
         silent = silent_dead k (suc (length (tape_in way input).bytes)) l e;
         stops = λ j l r. r.1 (dead_more way m input k j l e);
       } where

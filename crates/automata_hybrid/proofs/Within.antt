@@ -24,7 +24,7 @@ found_within way m input half few f = told_within way m.nfa (match_kind_of m.con
 some_none : {A : Type 0} {a : A} → ◌≡◌ {A = Option A} (Some a) None → ⊥
 some_none e = cc
 
-same_some : {A : Type 0} {a b : A} → ◌≡◌ {A = Option A} (Some a) (Some b) → a ≡ b
+pub same_some : {A : Type 0} {a b : A} → ◌≡◌ {A = Option A} (Some a) (Some b) → a ≡ b
 same_some e = cc
 
 -- so do the results of calls

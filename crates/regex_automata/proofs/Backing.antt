@@ -17,13 +17,11 @@ use Rattle.automata_hybrid.specs.Machines.Machine.{Machine}
 use Rattle.automata_hybrid.specs.Searches.Passes.{IsFound, IsPassRefusal, IsRefused, Skips, tape_in}
 use Rattle.automata_hybrid.specs.Steps.Starts.{quit_behind}
 use Rattle.regex_automata.proofs.Results.{none_some, same_some, some_none}
-use Rattle.regex_automata.proofs.Telling.{told_reads, units}
-
-pub false_true : false ≡ true → ⊥
-false_true e = cc
-
-yes_no : ◌≡◌ {A = Anchored} Yes No → ⊥
-yes_no e = cc
+use Rattle.regex_automata.proofs.Telling.{told_reads}
+use Rattle.automata_hybrid.proofs.Answering.{is_behind}
+use Rattle.automata_hybrid.proofs.Directions.{units_in}
+use Rattle.automata_hybrid.proofs.Searching.{false_true}
+use Rattle.automata_base.proofs.Spans.Starts.{yes_no}
 
 -- a look-behind byte that is no quit byte, and one that is
 free_behind : (m : Machine) (o : Option ℕ) (byte : ℕ) → quit_behind m o ≡ None → o ≡ Some byte → is_quit m.quits byte ≡ false
@@ -32,15 +30,6 @@ free_behind m (Some b) byte n e = subst (λ v. is_quit m.quits v ≡ false) (sam
   go : (v : Bool) → is_quit m.quits b ≡ v → ◌≡◌ {A = Option ℕ} (cond v (Some b) None) None → is_quit m.quits b ≡ false
   go true q h = absurd (some_none h)
   go false q h = q
-
-quits_behind : (m : Machine) (o : Option ℕ) (byte : ℕ) → quit_behind m o ≡ Some byte → (o ≡ Some byte) × (is_quit m.quits byte ≡ true)
-quits_behind m None byte e = absurd (none_some e)
-quits_behind m (Some b) byte e = go (is_quit m.quits b) refl e where
-  go :
-      (v : Bool) → is_quit m.quits b ≡ v → ◌≡◌ {A = Option ℕ} (cond v (Some b) None) (Some byte)
-      → (◌≡◌ {A = Option ℕ} (Some b) (Some byte)) × (is_quit m.quits byte ≡ true)
-  go true f h = (h, subst (λ n. is_quit m.quits n ≡ true) (same_some h) f)
-  go false f h = absurd (none_some h)
 
 -- the forward search met no quit byte up to its match
 front_clean :
@@ -73,13 +62,13 @@ pass_free :
     → MeetsNone (is_quit m.quits) (tape_in Backward input) (input.end - input.start)
     → IsPassRefusal Backward m c input (search.Match (QuitAt byte at)) → ⊥
 pass_free m c input byte at ahead few clean (inl (start.Quit b, why, told, unknown)) =
-    let q = quits_behind m (tape_in Backward input).before b why in
+    let q = is_behind m (tape_in Backward input).before b why in
     false_true (sym (clean b (inl (sym q.0))) ∙ q.1)
 pass_free m c input byte at ahead few clean (inl (start.UnsupportedAnchored mode, why, told, unknown)) = cc
 pass_free m c input byte at ahead few clean (inl (start.Cache err, why, told, unknown)) = cc
 pass_free m c input byte at ahead few clean (inl (start.OutOfMemory, why, told, unknown)) = cc
 pass_free m c input byte at ahead few clean (inr r) =
-    let n = units Backward input ahead few in
+    let n = units_in Backward input ahead few in
     let l : r.0 ≤ input.end - input.start = (let reads = r.2.0 in omega (arith, n, reads)) in
     false_true (sym (clean byte (inr (r.0, l, sym r.4.0))) ∙ r.4.1)
 

@@ -76,13 +76,6 @@ pub item_match :
 item_match p c input input' last last' true ended' m g = let e = g.0 in cc
 item_match p c input input' last last' false ended' m g = (g.0, g.2, g.3, refl, g.4)
 
-pub item_error :
-    (p : Regex) (c : Cache) (input input' : Input) (last last' : Option ℕ) (ended ended' : Bool) (e : SearchError)
-    → GivesItem p c (Some (Err e)) input input' last last' ended ended'
-    → (input' ≡ input) × (last' ≡ last) × (ended' ≡ true)
-item_error p c input input' last last' true ended' e g = let h = g.0 in cc
-item_error p c input input' last last' false ended' e g = (g.1, g.2, g.3)
-
 pub item_none :
     (p : Regex) (c : Cache) (input input' : Input) (last last' : Option ℕ) (ended ended' : Bool)
     → GivesItem p c None input input' last last' ended ended' → ended ≡ false → IsNextMatch p input last None

@@ -7,7 +7,7 @@ use Rattle.automata_hybrid.specs.Machines.Machine.{Machine}
 use Rattle.regex_automata.specs.Tokens.{AreGiven, IsItemAt}
 use Rattle.regex_automata.specs.declared.hybrid.regex.Regex.{Regex}
 use Rattle.regex_automata.specs.declared.tokens.error.TokenError.{TokenError}
-use Rattle.regex_automata.proofs.Backing.{false_true}
+use Rattle.automata_hybrid.proofs.Searching.{false_true}
 
 -- what comes after the tokens so far completes them
 abbrev pub Completes : Machine → List ℕ → (end start : ℕ) → List Match → (place : ℕ) → Type 0

@@ -7,7 +7,6 @@ use Rattle.automata_base.specs.Haystacks.Input.{Input}
 use Rattle.automata_base.specs.Haystacks.Matches.{HalfMatch, Match}
 use Rattle.automata_base.specs.Answers.Spans.{IsShort, back}
 use Rattle.automata_base.specs.Haystacks.Tapes.{Backward, Forward}
-use Rattle.automata_base.specs.declared.util.search.Anchored.{Anchored}
 use Rattle.automata_base.specs.declared.util.search.Anchored.TheVariants.{No, Yes}
 use Rattle.automata_hybrid.specs.Searches.Agreement.{AnswersAgree}
 use Rattle.automata_hybrid.specs.Cache.Caches.{CacheView}
@@ -27,6 +26,7 @@ use Rattle.regex_automata.specs.Regexes.SoundPairs.{forward_engine}
 use Rattle.regex_automata.specs.declared.hybrid.regex.Regex.{Regex}
 use Rattle.regex_automata.specs.declared.hybrid.regex.caches.Cache.{Cache}
 use Rattle.regex_automata.proofs.Results.{none_some, same_some, some_none}
+use Rattle.automata_base.proofs.Spans.Starts.{yes_no}
 
 -- what a pass costs
 pass_once :
@@ -35,9 +35,6 @@ pass_once :
     → IsPassCost bytes K old new
 pass_once bytes K old new once begun grown =
     record { once = once; started = begun; room = λ r. clears_none old new (bytes + 2) grown once r }
-
-yes_no : ◌≡◌ {A = Anchored} Yes No → ⊥
-yes_no e = cc
 
 -- an anchored search is one pass
 pub cost_anchored :

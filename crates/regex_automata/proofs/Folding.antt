@@ -1,14 +1,11 @@
 -- Replies one after another.
 use Rattle.std.proofs.Common.{◌≡◌, ◌∙◌, ℕ, zero, suc, ◌+◌, ◌<◌, ◌≤◌, List, [], ◌∷◌, ◌++◌, length, drop, get_or}
-use Rattle.std.proofs.Common.{append_assoc, append-nil, add-one, ap, arith, drop-cons, Some, refl, subst, sym}
+use Rattle.std.proofs.Common.{append_assoc, append-nil, add-one, ap, arith, drop-cons, refl, subst, sym}
 use Rattle.std.proofs.Math.ListN.{drop_of_length-le}
 use Rattle.regex_automata.specs.Replay.Histories.{History, start, after}
-use Rattle.regex_automata.specs.Regexes.Caches.{AreFresh}
 use Rattle.regex_automata.specs.Replay.Caches.{AreAnswered, AreAnsweredAfter, AreMade}
 use Rattle.regex_automata.specs.Replay.Replies.{IsReply, AreReplies, AreRepliesAfter}
-use Rattle.automata_base.specs.Lists.{nth}
 use Rattle.regex_automata.specs.declared.hybrid.regex.caches.Cache.{Cache}
-use Rattle.regex_automata.proofs.Results.{same_some}
 use Rattle.regex_automata.specs.declared.hybrid.regex.Regex.{Regex}
 use Rattle.regex_automata.specs.declared.replay.requests.Request.{Request}
 use Rattle.regex_automata.specs.declared.replay.requests.Reply.{Reply}
@@ -71,15 +68,6 @@ module _ (regexes : List Regex) (script : List Request) (first : Cache) where
   continues_end done h at i le all =
       let ended = subst (λ (left : List Request). Continues done h at left) (drop_of_length-le script le) all in
       subst (λ (xs : List Reply). AreAnsweredAfter regexes start first script xs) (append-nil done) (ended [] tt)
-
--- they begin as fresh ones of the first regex
-pub answered_first :
-    (regexes : List Regex) (script : List Request) (replies : List Reply) (r : Regex) (c : Cache)
-    → nth regexes 0 ≡ Some r → AreFresh r c → AreAnsweredAfter regexes start c script replies
-    → AreAnswered regexes script replies
-answered_first [] script replies r c at fresh all = tt
-answered_first (x ∷ xs) script replies r c at fresh all =
-    (c, subst (λ (v : Regex). AreFresh v c) (sym (same_some at)) fresh, all)
 
 cut_at : (script : List Request) (i : ℕ) → i < length script → (q : Request) × (drop i script ≡ q ∷ drop (suc i) script)
 cut_at [] i lt = absurd (omega arith)

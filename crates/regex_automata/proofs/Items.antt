@@ -16,8 +16,8 @@ use Rattle.regex_automata.specs.Regexes.Caches.{AreStill, NothingCleared}
 use Rattle.regex_automata.specs.Spans.Errors.{IsOfGiven}
 use Rattle.regex_automata.specs.declared.hybrid.regex.Regex.{Regex}
 use Rattle.regex_automata.specs.declared.hybrid.regex.caches.Cache.{Cache}
-use Rattle.regex_automata.proofs.Backing.{false_true}
 use Rattle.regex_automata.proofs.Results.{ok_err, same_err}
+use Rattle.automata_hybrid.proofs.Searching.{false_true}
 
 -- a match is returned
 pub gives_match :

@@ -8,7 +8,7 @@ use Rattle.automata_config.specs.declared.error.SearchError.{SearchError}
 use Rattle.regex_automata.specs.Spans.Progress.{EndsEmpty, EndsNext, EndsSpan, LeavesItem, LeavesNext, LeavesSpan}
 use Rattle.regex_automata.specs.declared.hybrid.regex.Regex.{Regex}
 use Rattle.regex_automata.specs.declared.hybrid.regex.caches.Cache.{Cache}
-use Rattle.regex_automata.proofs.Backing.{false_true}
+use Rattle.automata_hybrid.proofs.Searching.{false_true}
 
 -- a search from one place later, after one that found an empty match at the last end
 module _ (p : Regex) (input rest : Input) (last : Option ℕ) (old between new : Cache) (same : rest ≡ from (suc input.start) input)

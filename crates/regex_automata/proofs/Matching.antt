@@ -20,10 +20,10 @@ use Rattle.automata_base.specs.declared.util.search.Anchored.TheVariants.{No}
 use Rattle.automata_base.specs.declared.util.search.MatchKind.{MatchKind}
 use Rattle.automata_hybrid.specs.Machines.Machine.{Machine}
 use Rattle.automata_hybrid.specs.Searches.Passes.{IsFound, Skips, WithoutBase, without_base}
-use Rattle.automata_hybrid.proofs.Searching.{lt_or_le}
 use Rattle.automata_hybrid.proofs.Skipping.{found_told}
 use Rattle.regex_automata.specs.Spans.IsMatch.{IsAsked, IsMatchTold, IsNearestThere, IsTruthFound, in_part}
 use Rattle.automata_config.specs.Options.{match_kind_of}
+use Rattle.std.proofs.lemmas.Bool.{cases_lt}
 
 -- the first match is there if the last one is
 some_same : (ps : List ℕ) (i : ℕ) (f l : Option Pair) → is_some f ≡ is_some l → is_some (earlier_or f (pair_at ps i None)) ≡ is_some (pair_at ps i l)
@@ -78,7 +78,7 @@ module _ (m : Machine) (input : Input) (whole : Skips m → ⊥) where
         ⊎ (Skips m × (input.anchored ≡ No → ⊥) × IsSplit (TellsOver Forward m.nfa (match_kind_of m.config)) Forward (later Forward f.0 (in_part input))))
         → (answer : Option Half) × IsTold Forward m.nfa (match_kind_of m.config) (in_full input) answer × (is_some {T = Half} None ≡ is_some answer)
     go (inl past) = (None, (f.0, only_try f.0 z, inl past), refl)
-    go (inr (inl none)) = ahead (lt_or_le input.end (input.start + f.0)) where
+    go (inr (inl none)) = ahead (cases_lt input.end (input.start + f.0)) where
       ahead :
           (input.end < input.start + f.0) ⊎ (input.start + f.0 ≤ input.end)
           → (answer : Option Half) × IsTold Forward m.nfa (match_kind_of m.config) (in_full input) answer × (is_some {T = Half} None ≡ is_some answer)

@@ -6,7 +6,6 @@ use Rattle.automata_base.specs.Haystacks.Matches.{Match}
 use Rattle.automata_base.specs.Answers.Spans.{IsEmptyAt, from}
 use Rattle.automata_config.specs.declared.error.SearchError.{SearchError}
 use Rattle.automata_hybrid.proofs.Growing.{grown_trans}
-use Rattle.automata_hybrid.proofs.Searching.{lt_or_le}
 use Rattle.regex_automata.specs.Spans.Costs.{AreCostsOf}
 use Rattle.regex_automata.specs.Spans.Iteration.{AreCostsTwice, FindsEmptyAt, GoesPast, IsNextMatch, IsNextRefusal}
 use Rattle.regex_automata.specs.Spans.Outcomes.{FindsMatch, MatchLiesIn}
@@ -15,6 +14,7 @@ use Rattle.regex_automata.specs.Spans.Errors.{IsRegexRefusal}
 use Rattle.regex_automata.specs.declared.hybrid.regex.Regex.{Regex}
 use Rattle.regex_automata.specs.declared.hybrid.regex.caches.Cache.{Cache}
 use Rattle.regex_automata.proofs.Results.{err_ok, none_some, same_some}
+use Rattle.std.proofs.lemmas.Bool.{cases_lt}
 
 pub on_err : {A E : Type 0} (r : Result A E) (P : Type 0) → P → OnErr r P
 on_err (Ok a) P p = tt
@@ -23,7 +23,7 @@ on_err (Err e) P p = p
 -- a search that failed had something to search
 pub ahead_of :
     {A E : Type 0} (r : Result A E) (e : E) (a : A) (start end : ℕ) → (end < start → r ≡ Ok a) → r ≡ Err e → start ≤ end
-ahead_of r e a start end done is = go (lt_or_le end start) where
+ahead_of r e a start end done is = go (cases_lt end start) where
   go : (end < start) ⊎ (start ≤ end) → start ≤ end
   go (inl past) = absurd (err_ok (sym is ∙ done past))
   go (inr ahead) = ahead
@@ -36,7 +36,7 @@ some_of (Some b) a P h is = subst P (same_some is) h
 pub past_last :
     (input : Input) (last : Option ℕ) (m : Match) → input.start ≤ m.start → m.start ≤ m.end → (IsEmptyAt last m → ⊥)
     → last ≡ Some input.start → input.start < m.end
-past_last input last m a b full same = past (lt_or_le input.start m.end) where
+past_last input last m a b full same = past (cases_lt input.start m.end) where
   past : (input.start < m.end) ⊎ (m.end ≤ input.start) → input.start < m.end
   past (inl l) = l
   past (inr l) =

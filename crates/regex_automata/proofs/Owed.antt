@@ -43,13 +43,6 @@ pub may_refuse_truth :
     → IsAsked m input asked → MayRefuse Forward m asked e → MayRefuseTruth m input e
 may_refuse_truth m input asked e is h = (h.0, h.1, (asked, is, h.2))
 
--- if nothing prevents a search that failed
-pub refused_free :
-    {T : Type 0} (r : Result T SearchError) (p : Regex) (c : Cache) (input : Input)
-    → IsFree p input → IfErr r (IsRegexRefusal p c input) → IfErr r IsOfMemory
-refused_free (Ok x) p c input free h = tt
-refused_free (Err e) p c input free h = h.free free
-
 pub memory_of_sound :
     (p : Regex) (c : Cache) (input : Input) (e : SearchError)
     → IsSoundPair p → IsFree p input → IsRegexRefusal p c input e → IsMemory e

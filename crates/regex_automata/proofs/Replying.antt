@@ -4,8 +4,7 @@ use Rattle.std.proofs.Common.{if◌then◌else◌, ap, refl, sym, subst}
 use Rattle.automata_base.specs.Lists.{nth}
 use Rattle.regex_automata.specs.declared.hybrid.regex.Regex.{Regex}
 use Rattle.regex_automata.specs.Replay.Histories.{History}
-use Rattle.regex_automata.specs.Regexes.Caches.{AreFresh}
-use Rattle.regex_automata.specs.Replay.Caches.{AreFreshOf, IsMadeBy, IsMadeByOf}
+use Rattle.regex_automata.specs.Replay.Caches.{IsMadeBy, IsMadeByOf}
 use Rattle.regex_automata.specs.Replay.Replies.{IsReply, IsOwed, IsOwedBy, own_fault}
 use Rattle.regex_automata.specs.declared.hybrid.regex.caches.Cache.{Cache}
 use Rattle.regex_automata.specs.declared.replay.requests.Request.{Request}
@@ -50,6 +49,3 @@ pub is_made :
     → IsMadeByOf (nth rs h.current) h.walks q old new answer
 is_made rs h q old new answer r at made =
     subst (λ (o : Option Regex). IsMadeByOf o h.walks q old new answer) (sym at) made
-
-pub is_fresh : (o : Option Regex) (r : Regex) (c : Cache) → o ≡ Some r → AreFresh r c → AreFreshOf o c
-is_fresh o r c at fresh = subst (λ (v : Option Regex). AreFreshOf v c) (sym at) fresh

@@ -18,9 +18,10 @@ use Rattle.automata_hybrid.specs.Walks.Progress.{EndsSet, HaveCalled, IsOpenAfte
 use Rattle.automata_hybrid.specs.Cache.Stores.{Stored}
 use Rattle.automata_hybrid.specs.Walks.Answers.{HasTold}
 use Rattle.automata_hybrid.specs.Walks.State.{Walk}
-use Rattle.automata_hybrid.proofs.Searching.{false_true, lt_or_le}
+use Rattle.automata_hybrid.proofs.Searching.{false_true}
 use Rattle.regex_automata.proofs.Results.{some_none}
 use Rattle.regex_automata.specs.Spans.Contracts.{AreRising, ArePatternsUpto, HasToldSet, MayRefusePatterns, empty_set}
+use Rattle.std.proofs.lemmas.Bool.{cases_lt}
 
 -- what rises from a number rises from a lower one
 rising_from : (low k : ℕ) (ks : List ℕ) → low ≤ k → AreRising k ks → AreRising low ks
@@ -65,7 +66,7 @@ memory_where (Err e) h = h
 
 -- what holds below a number and at it
 up_to : (P : ℕ → Type 0) (n : ℕ) → ((k : ℕ) → k < n → P k) → P n → (k : ℕ) → k < suc n → P k
-up_to P n below here k l = go (lt_or_le k n) where
+up_to P n below here k l = go (cases_lt k n) where
   go : (k < n) ⊎ (n ≤ k) → P k
   go (inl less) = below k less
   go (inr most) = let same : n ≡ k = omega (arith, l, most) in subst P same here

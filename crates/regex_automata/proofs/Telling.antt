@@ -9,7 +9,7 @@ use Rattle.automata_base.specs.Nfas.Nodes.{Automaton}
 use Rattle.automata_base.specs.Paths.Paths.{Tape}
 use Rattle.automata_base.specs.Powersets.Powerset.{Powerset, dead}
 use Rattle.automata_base.specs.Paths.Selections.{Pair}
-use Rattle.automata_base.specs.Haystacks.Tapes.{Direction, Forward, Backward}
+use Rattle.automata_base.specs.Haystacks.Tapes.{Direction}
 use Rattle.automata_base.specs.Retraced.Passes.{first_told, told_at, told_upto}
 use Rattle.automata_base.specs.Answers.OfPasses.{told_over}
 use Rattle.automata_base.specs.declared.util.search.MatchKind.{MatchKind}
@@ -17,11 +17,8 @@ use Rattle.automata_base.proofs.Determinizing.Within.{ToldBelow, first_below, ov
 use Rattle.automata_hybrid.specs.Machines.Machine.{Machine}
 use Rattle.automata_hybrid.specs.Searches.Passes.{Reads, state_in, tape_in}
 use Rattle.automata_hybrid.proofs.Searching.{dead_more, false_true}
-use Rattle.automata_hybrid.proofs.Units.{backward_units, forward_units}
 use Rattle.automata_config.specs.Options.{match_kind_of}
-
-same_pair : {a b : Pair} → ◌≡◌ {A = Option Pair} (Some a) (Some b) → a ≡ b
-same_pair e = cc
+use Rattle.automata_base.proofs.Spans.Answered.{same_pair}
 
 module _ (kind : MatchKind) (a : Automaton) (mode : Anchored) (t : Tape) (pair : Pair) where
   -- the first match stays the first one
@@ -32,11 +29,6 @@ module _ (kind : MatchKind) (a : Automaton) (mode : Anchored) (t : Tape) (pair :
     go : (k ≤ n → first_told a kind mode t n ≡ Some pair) → (k ≡ suc n) ⊎ (k < suc n) → first_told a kind mode t (suc n) ≡ Some pair
     go before (inl same) = subst (λ i. first_told a kind mode t i ≡ Some pair) same e
     go before (inr less) = ap (λ o. earlier_or o (pair_at (told_at a kind mode t n) n None)) (before (omega (arith, less)))
-
--- the length of the tape of a span
-pub units : (way : Direction) (input : Input) → input.start ≤ input.end → input.end ≤ length input.haystack → input.end - input.start ≡ length (tape_in way input).bytes
-units Forward input s e = forward_units input s e
-units Backward input s e = backward_units input s e
 
 module _ (way : Direction) (m : Machine) (input : Input) (pair : Pair) (told : told_over way m.nfa (match_kind_of m.config) input ≡ Some pair) where
   abbrev Last : ℕ

@@ -10,11 +10,8 @@ use Rattle.automata_base.specs.declared.nfa.thompson.Flags.{Flags}
 use Rattle.automata_base.specs.Nfas.Drafts.{Draft, with_states}
 use Rattle.automata_base.specs.Nfas.Shapes.{Shape, shape_added, patched}
 
-same_shape : (x y : Shape) → ◌≡◌ {A = Option Shape} (Some x) (Some y) → x ≡ y
+pub same_shape : (x y : Shape) → ◌≡◌ {A = Option Shape} (Some x) (Some y) → x ≡ y
 same_shape x y e = cc
-
-none_apart : (x : Shape) → ◌≡◌ {A = Option Shape} None (Some x) → ⊥
-none_apart x e = cc
 
 module _ (items : List Added) (at : ℕ) (a : Added) (within : at < length items) (read : a ≡ get_or items at a) where
   shape_read : slice_get (map shape_added items) at ≡ Some (shape_added a)

@@ -20,7 +20,8 @@ use Rattle.automata_base.specs.Nfas.Shapes.{UnionShape, UnionReverseShape, Binar
 use Rattle.automata_base.specs.Nfas.Shapes.{MatchShape, shape_of, built_of}
 use Rattle.automata_base.specs.Powersets.Closure.{children}
 use Rattle.automata_base.proofs.Paths.FirstVisits.{hop_children}
-use Rattle.automata_base.proofs.Reaching.DepthFirst.{nth_in}
+use Rattle.automata_base.proofs.Building.Patches.{same_shape}
+use Rattle.automata_base.proofs.Paths.Sets.{nth_in}
 
 abbrev shape_node : Shape → Node
 shape_node (EmptyShape next) = Split []
@@ -74,9 +75,6 @@ range_inverse (is.Capture other pattern index slot) lo hi next e = cc
 range_inverse is.Fail lo hi next e = cc
 range_inverse (is.Match pattern) lo hi next e = cc
 
-shape_inj : (x y : Shape) → ◌≡◌ {A = Option Shape} (Some x) (Some y) → x ≡ y
-shape_inj x y e = cc
-
 none_shape : (x : Shape) → ◌≡◌ {A = Option Shape} None (Some x) → ⊥
 none_shape x e = cc
 
@@ -84,7 +82,7 @@ range_read :
     (found : Option State) (lo hi next : ℕ) → option_map shape_of found ≡ Some (RangeShape lo hi next)
     → found ≡ Some (is.ByteRange lo hi next)
 range_read None lo hi next e = absurd (none_shape (RangeShape lo hi next) e)
-range_read (Some s) lo hi next e = ap (λ z. Some z) (range_inverse s lo hi next (shape_inj (shape_of s) (RangeShape lo hi next) e))
+range_read (Some s) lo hi next e = ap (λ z. Some z) (range_inverse s lo hi next (same_shape (shape_of s) (RangeShape lo hi next) e))
 
 module _
     (shapes : List Shape) (start : ℕ) (before after : Automaton) (door : IsDoor before)

@@ -167,22 +167,3 @@ dead_stays a kind u =
   where
     n : Nfa
     n = nfa_of a
-
--- Rows.
-row_none : behind_of 10 None ≡ 2
-row_none = refl
-
-row_line_feed : behind_of 10 (Some 10) ≡ 3
-row_line_feed = refl
-
-row_carriage_return : behind_of 13 (Some 13) ≡ 4
-row_carriage_return = refl
-
-row_terminator : behind_of 97 (Some 97) ≡ 5
-row_terminator = refl
-
-row_word : behind_of 0 (Some 97) ≡ 1
-row_word = refl
-
-row_other : behind_of 10 (Some 0) ≡ 0
-row_other = refl

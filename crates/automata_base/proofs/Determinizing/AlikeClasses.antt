@@ -1,6 +1,6 @@
 -- The automaton tells no byte from another of its class.
 use Rattle.std.proofs.Common.{ℕ, zero, suc, ◌≡◌, ◌+◌, ◌-◌, ◌<◌, ◌≤◌, ◌⊎◌, ◌||◌, Bool, true, false, not, cond, eqb, List}
-use Rattle.std.proofs.Common.{[], ◌∷◌, get_or, Option, Some, None, refl, sym, ap, ◌∙◌, inl, inr, true≢false, arith}
+use Rattle.std.proofs.Common.{[], ◌∷◌, get_or, Some, None, refl, sym, ap, ◌∙◌, inl, inr, true≢false, arith}
 use Rattle.std.proofs.lemmas.Bool.{or_parts, eqb-true, cases_lt}
 use Rattle.std.proofs.lemmas.Grind.{common_steps}
 use Rattle.automata_base.specs.declared.nfa.thompson.State.{State}
@@ -23,10 +23,11 @@ use Rattle.automata_base.specs.Retraced.Steps.{successor, NeedsOwnLooks}
 use Rattle.automata_base.proofs.Determinizing.Alike.{alike_step}
 use Rattle.automata_base.proofs.Values.Boundaries.{count_none, count_grows}
 use Rattle.automata_base.proofs.Determinizing.AlikeBytes.{is_line_look, IsAlike}
-
-count_more : (f : ℕ → Bool) (n : ℕ) → boundary_count f (suc n) ≡ boundary_count f n + cond (f (suc n)) 1 0
-unfolding boundary_count
-count_more f n = refl
+use Rattle.automata_base.proofs.Values.Boundaries.{count_more}
+use Rattle.automata_base.proofs.Determinizing.Dense.{some_unless}
+use Rattle.automata_base.proofs.Determinizing.Dense.{within_itself}
+use Rattle.automata_base.proofs.Determinizing.Dense.{within_other}
+use Rattle.automata_base.proofs.Determinizing.Dense.{dense_below}
 
 no_more :
     (f : ℕ → Bool) (m n : ℕ) → boundary_count f m ≡ boundary_count f (suc n) → boundary_count f m ≤ boundary_count f n
@@ -87,24 +88,6 @@ ranges_next (t ∷ ts) b h =
     let p = or_parts (bounds t.lo t.hi (suc b)) (transitions_bound ts (suc b)) h in
     ap (λ z. cond z (Some t.next) (takes_in (ranges_of ts) b)) (within_next t.lo t.hi b p.0)
     ∙ ap (λ z. cond (within t.lo t.hi (suc b)) (Some t.next) z) (ranges_next ts b p.1)
-
--- A dense state by its targets.
-abbrev some_unless : ℕ → Option ℕ
-some_unless zero = None
-some_unless (suc k) = Some (suc k)
-
-within_itself : (k : ℕ) → within k k k ≡ true
-within_itself k = grind (arith, common_steps)
-
-within_other : (k u : ℕ) → (u ≡ k → ⊥) → within k k u ≡ false
-within_other k u ne = grind (arith, common_steps)
-
-dense_below : (xs : List ℕ) (k u : ℕ) → u < k → takes_in (dense_from k xs) u ≡ None
-dense_below [] k u l = refl
-dense_below (zero ∷ xs) k u l = dense_below xs (suc k) u (omega (arith, l))
-dense_below (suc m ∷ xs) k u l =
-    ap (λ b. cond b (Some (suc m)) (takes_in (dense_from (suc k) xs) u)) (within_other k u (λ e. omega (arith, l, e)))
-    ∙ dense_below xs (suc k) u (omega (arith, l))
 
 dense_takes : (xs : List ℕ) (k i u : ℕ) → u ≡ k + i → takes_in (dense_from k xs) u ≡ some_unless (get_or xs i 0)
 dense_takes [] k i u e = refl

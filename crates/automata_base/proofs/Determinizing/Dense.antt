@@ -10,13 +10,13 @@ abbrev pub some_unless : ℕ → Option ℕ
 some_unless zero = None
 some_unless (suc k) = Some (suc k)
 
-within_itself : (k : ℕ) → within k k k ≡ true
+pub within_itself : (k : ℕ) → within k k k ≡ true
 within_itself k = grind (arith, common_steps)
 
-within_other : (k u : ℕ) → (u ≡ k → ⊥) → within k k u ≡ false
+pub within_other : (k u : ℕ) → (u ≡ k → ⊥) → within k k u ≡ false
 within_other k u ne = grind (arith, common_steps)
 
-dense_below : (xs : List ℕ) (k u : ℕ) → u < k → takes_in (dense_from k xs) u ≡ None
+pub dense_below : (xs : List ℕ) (k u : ℕ) → u < k → takes_in (dense_from k xs) u ≡ None
 dense_below [] k u l = refl
 dense_below (zero ∷ xs) k u l = dense_below xs (suc k) u (omega (arith, l))
 dense_below (suc m ∷ xs) k u l =

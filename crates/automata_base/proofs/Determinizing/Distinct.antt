@@ -5,6 +5,7 @@ use Rattle.std.specs.Prelude.{Contains, AllPairs, ◌==◌}
 use Rattle.std.proofs.lemmas.Bool.{cases_eq, eq-eqb, ne_eqb, cases_Bool, both_ways, false_from_ne_true, cond_both}
 use Rattle.automata_base.specs.Lists.{In}
 use Rattle.automata_base.specs.Retraced.Once.{Distinct}
+use Rattle.automata_base.proofs.Paths.Walks.{in_either}
 
 abbrev pub Within : List ℕ → List ℕ → Type 0
 Within xs ys = (z : ℕ) → In z xs → In z ys
@@ -69,13 +70,6 @@ pairs_distinct (x ∷ xs) h = (new, pairs_distinct xs (λ i j d l m. h (suc i) (
     new : In x xs → ⊥
     new i = let (k, l, e) = Contains-In x xs i in h 0 (suc k) x (omega arith) (omega arith) (sym e)
 
-pub distinct_pairs : (xs : List ℕ) → Distinct xs → AllPairs (λ x y. x ≢ y) xs
-distinct_pairs [] h i j d l m = absurd (omega arith)
-distinct_pairs (x ∷ xs) (new, h) zero zero d l m = absurd (omega arith)
-distinct_pairs (x ∷ xs) (new, h) zero (suc j) d l m = λ e. new (subst (λ z. In z xs) (sym e) (In-get_or xs j d (omega arith)))
-distinct_pairs (x ∷ xs) (new, h) (suc i) zero d l m = absurd (omega arith)
-distinct_pairs (x ∷ xs) (new, h) (suc i) (suc j) d l m = distinct_pairs xs h i j d (omega arith) (omega arith)
-
 pub In-cases : (x : ℕ) (xs : List ℕ) → In x xs ⊎ (In x xs → ⊥)
 In-cases x [] = inr (λ i. i)
 In-cases x (y ∷ ys) = go (cases_eq x y) (In-cases x ys)
@@ -89,24 +83,6 @@ In-cases x (y ∷ ys) = go (cases_eq x y) (In-cases x ys)
         neither (inl e) = ne e
         neither (inr i) = ni i
 
-pub In-left : (x : ℕ) (xs ys : List ℕ) → In x xs → In x (xs ++ ys)
-In-left x [] ys i = absurd i
-In-left x (z ∷ xs) ys (inl e) = inl e
-In-left x (z ∷ xs) ys (inr i) = inr (In-left x xs ys i)
-
-pub In-right : (x : ℕ) (xs ys : List ℕ) → In x ys → In x (xs ++ ys)
-In-right x [] ys i = i
-In-right x (z ∷ xs) ys i = inr (In-right x xs ys i)
-
-pub In-either : (x : ℕ) (xs ys : List ℕ) → In x (xs ++ ys) → In x xs ⊎ In x ys
-In-either x [] ys i = inr i
-In-either x (z ∷ xs) ys (inl e) = inl (inl e)
-In-either x (z ∷ xs) ys (inr i) = go (In-either x xs ys i)
-  where
-    go : In x xs ⊎ In x ys → In x (z ∷ xs) ⊎ In x ys
-    go (inl j) = inl (inr j)
-    go (inr j) = inr j
-
 pub distinct_append : (V L : List ℕ) → Distinct V → Distinct L → ((x : ℕ) → In x V → In x L → ⊥) → Distinct (V ++ L)
 distinct_append [] L d e apart = e
 distinct_append (x ∷ V) L (new, d) e apart = (new', distinct_append V L d e (λ y i j. apart y (inr i) j))
@@ -116,7 +92,7 @@ distinct_append (x ∷ V) L (new, d) e apart = (new', distinct_append V L d e (�
     split (inr i) = apart x (inl refl) i
 
     new' : In x (V ++ L) → ⊥
-    new' i = split (In-either x V L i)
+    new' i = split (in_either x V L i)
 
 unfoldable pub unvisited : (ℕ → ℕ) → List ℕ → ℕ → ℕ
 unvisited w seen zero = 0
@@ -135,7 +111,7 @@ among_push_other q k seen ne = go (In-cases k seen)
 
     go : In k seen ⊎ (In k seen → ⊥) → among k (seen ++ q ∷ []) ≡ among k seen
     go (inl i) = among-In k (seen ++ q ∷ []) (within_front q seen k (inr i)) ∙ sym (among-In k seen i)
-    go (inr ni) = false_from_ne_true (among k (seen ++ q ∷ [])) (λ h. split ni (In-either k seen (q ∷ []) (In-among k (seen ++ q ∷ []) h)))
+    go (inr ni) = false_from_ne_true (among k (seen ++ q ∷ [])) (λ h. split ni (in_either k seen (q ∷ []) (In-among k (seen ++ q ∷ []) h)))
         ∙ sym (false_from_ne_true (among k seen) (λ h. ni (In-among k seen h)))
 
 unvisited_above : (w : ℕ → ℕ) (seen : List ℕ) (q n : ℕ) → n ≤ q → unvisited w (seen ++ q ∷ []) n ≡ unvisited w seen n

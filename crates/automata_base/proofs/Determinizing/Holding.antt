@@ -7,8 +7,9 @@ use Rattle.std.proofs.lemmas.List.{get_or-take, length-take-le, get_or_default, 
 use Rattle.std.proofs.lemmas.List.{get_or-set_other}
 use Rattle.automata_base.specs.Lists.{In}
 use Rattle.automata_base.specs.Retraced.Once.{Distinct}
-use Rattle.automata_base.proofs.Determinizing.Distinct.{Contains-In, pairs_distinct, distinct_append, In-either}
+use Rattle.automata_base.proofs.Determinizing.Distinct.{Contains-In, pairs_distinct, distinct_append}
 use Rattle.automata_base.proofs.Determinizing.Distinct.{distinct_below}
+use Rattle.automata_base.proofs.Paths.Walks.{in_either}
 
 module _ (dense sparse : List ℕ) (len : ℕ) (within : len ≤ length dense)
     (below : (k : ℕ) → k < len → get_or dense k 0 < length dense)
@@ -61,7 +62,7 @@ module _ (dense sparse : List ℕ) (len : ℕ) (within : len ≤ length dense)
       split x (inr (inr i)) = elim i [ ]
 
       small : (x : ℕ) → In x (take len dense ++ id ∷ []) → x < length dense
-      small x i = split x (In-either x (take len dense) (id ∷ []) i)
+      small x i = split x (in_either x (take len dense) (id ∷ []) i)
 
   pub below_set : (id k : ℕ) → id < length dense → len < length dense → k < len + 1 → get_or (set dense len id) k 0 < length (set dense len id)
   below_set id k l room m = go (cases_eq k len)

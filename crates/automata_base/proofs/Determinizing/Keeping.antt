@@ -1,18 +1,15 @@
 -- Steps of the loops that read lists of states.
-use Rattle.std.proofs.Common.{ℕ, zero, suc, ◌≡◌, ◌<◌, ◌≤◌, ◌+◌, ◌||◌, Bool, true, false, cond, eqb, List, [], ◌∷◌, ◌++◌}
+use Rattle.std.proofs.Common.{ℕ, ◌≡◌, ◌<◌, ◌≤◌, ◌+◌, ◌||◌, Bool, true, false, cond, eqb, List, [], ◌∷◌, ◌++◌}
 use Rattle.std.proofs.Common.{length, get_or, take, drop, Option, Some, None, refl, sym, ap, ◌∙◌, subst, arith}
 use Rattle.std.proofs.Common.{append_assoc, append-nil, length-append}
 use Rattle.std.proofs.lemmas.List.{at_drop_more, take_more, drop_all, take_all}
-use Rattle.std.proofs.lemmas.Nat.Bits.{bit_at-zero}
 use Rattle.automata_base.specs.Lists.{In, pick, cons_some}
 use Rattle.automata_base.specs.Haystacks.Looks.{Look}
 use Rattle.automata_base.specs.Nfas.Nfa.{Nfa, Node, Split, Assert, Read, Accept, node, keep, stays_at, accepts}
 use Rattle.automata_base.specs.Nfas.Nfa.{accepts_at, takes, takes_at}
 use Rattle.automata_base.specs.Retraced.ComputedPass.{looks_at, any_state, is_in}
-use Rattle.automata_base.specs.Haystacks.Looks.{look_index}
 use Rattle.automata_base.specs.Powersets.Cuts.{cut, cut_behind, targets}
-use Rattle.automata_base.specs.Haystacks.LookSets.{truth_of}
-use Rattle.automata_base.proofs.Determinizing.Distinct.{In-get_or, In-either, distinct_append, distinct_below}
+use Rattle.automata_base.proofs.Determinizing.Distinct.{In-get_or, distinct_append, distinct_below}
 use Rattle.automata_base.specs.Retraced.Once.{once_from, Distinct}
 use Rattle.automata_base.specs.Retraced.ComputedPass.{once_past}
 use Rattle.automata_base.specs.Powersets.Cuts.{IsOnce}
@@ -22,6 +19,9 @@ use Rattle.automata_base.specs.Nfas.Nodes.{Automaton, nfa_of}
 use Rattle.automata_base.proofs.Paths.Fuels.{is_in_false}
 use Rattle.std.specs.Prelude.{All}
 use Rattle.std.proofs.Common.{inl, inr, ◌⊎◌}
+use Rattle.std.proofs.Math.Bool.{or-false}
+use Rattle.automata_base.proofs.Paths.Walks.{in_either}
+use Rattle.automata_base.proofs.Determinizing.Tests_of_lists.{or_move}
 
 pub below_at : (xs : List ℕ) (N i x : ℕ) → ((q : ℕ) → In q xs → q < N) → i < length xs → x ≡ get_or xs i x → x < N
 below_at xs N i x b l e = b x (subst (λ z. In z xs) (sym e) (In-get_or xs i x l))
@@ -48,11 +48,6 @@ pub room_next : (kept more : List ℕ) (i x : ℕ) (b : Bool) → more ≡ kept 
 room_next kept more i x true m l = let a = ap length m in let c = length-append kept (x ∷ []) in omega (arith, a, c, l)
 room_next kept more i x false m l = let a = ap length m in let c = length-append kept [] in omega (arith, a, c, l)
 
-or_move : (a t r : Bool) → (a || t) || r ≡ t || (a || r)
-or_move true true r = refl
-or_move true false r = refl
-or_move false t r = refl
-
 pub looks_next :
     (n : Nfa) (f : Look → Bool) (xs : List ℕ) (i x : ℕ) (t more w : Bool)
     → i < length xs → x ≡ get_or xs i x → more ≡ (looks_at f (node n x) || t)
@@ -61,9 +56,6 @@ looks_next n f xs i x t more w l e m h =
     ap (λ z. z || any_state f n (drop (i + 1) xs)) m
     ∙ (or_move (looks_at f (node n x)) t (any_state f n (drop (i + 1) xs))
     ∙ (ap (λ z. t || any_state f n z) (sym (next_drop xs i x l e)) ∙ h))
-
-pub truth_none : (look : Look) → truth_of 0 look ≡ false
-truth_none look = ap (λ z. eqb z 1) (bit_at-zero (look_index look))
 
 pub any_kept : (f : Look → Bool) (n : Nfa) (xs : List ℕ) → any_state f n (pick (keep n) xs) ≡ any_state f n xs
 any_kept f n [] = refl
@@ -77,15 +69,11 @@ any_kept f n (x ∷ xs) = go (node n x) refl (any_kept f n xs)
     go (Read ranges) e h = ap (λ z. looks_at f (node n x) || z) h
     go (Accept p) e h = ap (λ z. looks_at f (node n x) || z) h
 
-or_none : (b : Bool) → b || false ≡ b
-or_none true = refl
-or_none false = refl
-
 pub looks_done :
     (n : Nfa) (f : Look → Bool) (xs kept : List ℕ) (i : ℕ) (t : Bool)
     → length xs ≤ i → kept ≡ pick (keep n) xs → (t || any_state f n (drop i xs)) ≡ any_state f n xs → t ≡ any_state f n kept
 looks_done n f xs kept i t l k h =
-    sym (ap (λ z. t || any_state f n z) (drop_all i xs l) ∙ or_none t) ∙ (h ∙ (sym (any_kept f n xs) ∙ ap (any_state f n) (sym k)))
+    sym (ap (λ z. t || any_state f n z) (drop_all i xs l) ∙ or-false t) ∙ (h ∙ (sym (any_kept f n xs) ∙ ap (any_state f n) (sym k)))
 
 pub kept_done :
     (n : Nfa) (xs kept : List ℕ) (i : ℕ) → length xs ≤ i → kept ++ pick (keep n) (drop i xs) ≡ pick (keep n) xs → kept ≡ pick (keep n) xs
@@ -254,7 +242,7 @@ pattern_next g xs i x P (Some p) ys more l e s below some none h =
 
     bound : (b : Bool) (q : ℕ) → In q (ys ++ cond b [] (p ∷ [])) → q < P
     bound true q i = h.2 q (subst (λ z. In q z) (append-nil ys) i)
-    bound false q i = split (In-either q ys (p ∷ []) i)
+    bound false q i = split (in_either q ys (p ∷ []) i)
       where
         split : In q ys ⊎ In q (p ∷ []) → q < P
         split (inl j) = h.2 q j
@@ -274,18 +262,12 @@ pattern_room ys p P d below l new =
     apart y i (inr j) = j
 
     small : (q : ℕ) → In q (ys ++ p ∷ []) → q < P
-    small q i = split (In-either q ys (p ∷ []) i)
+    small q i = split (in_either q ys (p ∷ []) i)
       where
         split : In q ys ⊎ In q (p ∷ []) → q < P
         split (inl j) = below q j
         split (inr (inl f)) = subst (λ z. z < P) (sym f) l
         split (inr (inr j)) = elim j [ ]
-
-pub in_take : (q k : ℕ) (xs : List ℕ) → In q (take k xs) → In q xs
-in_take q zero xs i = absurd i
-in_take q (suc k) [] i = i
-in_take q (suc k) (x ∷ xs) (inl e) = inl e
-in_take q (suc k) (x ∷ xs) (inr j) = inr (in_take q k xs j)
 
 pub all_in : (xs : List ℕ) (N : ℕ) → ((q : ℕ) → In q xs → q < N) → All (λ q. q < N) xs
 all_in xs N b k d l = b (get_or xs k d) (In-get_or xs k d l)

@@ -9,12 +9,13 @@ use Rattle.automata_base.specs.Haystacks.Looks.{look_index}
 use Rattle.automata_base.specs.Powersets.Passes.{is_word_look, is_crlf_look, IsMake}
 use Rattle.automata_base.proofs.Paths.Machines.{any_node_true, any_node_from, any_state_true, any_state_from, code_one}
 use Rattle.automata_base.proofs.Paths.Machines.{make_right}
-use Rattle.automata_base.proofs.Paths.Unique.{both_true, powerset_path}
+use Rattle.automata_base.proofs.Paths.Unique.{powerset_path}
 use Rattle.automata_base.specs.Haystacks.LookSets.{truth_of}
 use Rattle.automata_base.specs.Haystacks.Looks.{Look}
-use Rattle.automata_base.proofs.Determinizing.Keeping.{truth_none}
 use Rattle.automata_base.specs.Haystacks.LookSets.{IsLookSet, set_of}
 use Rattle.automata_base.proofs.Paths.LookSets.{set_of-truth_of}
+use Rattle.automata_base.proofs.Paths.LookSets.{truth_of_none}
+use Rattle.automata_base.proofs.Paths.Truths.{bool_iff}
 
 pub word_mask : (look : Look) → truth_of 262080 look ≡ is_word_look look
 word_mask l.Start = refl
@@ -64,7 +65,7 @@ pub masked :
     → (b ≡ true → (look : Look) × (truth_of any look ≡ true) × (truth_of mask look ≡ true) × (truth_of empty look ≡ false))
     → (b ≡ false → (look : Look) → truth_of any look ≡ true → truth_of mask look ≡ true → truth_of empty look ≡ false → ⊥)
     → b ≡ any_node f n.nodes
-masked n any mask empty f b are is z yes' no' = both_true b (any_node f n.nodes) there (back b refl)
+masked n any mask empty f b are is z yes' no' = bool_iff b (any_node f n.nodes) there (back b refl)
   where
     there : b ≡ true → any_node f n.nodes ≡ true
     there e =
@@ -79,7 +80,7 @@ masked n any mask empty f b are is z yes' no' = both_true b (any_node f n.nodes)
         let v = any_node_true f n.nodes h in
         absurd (no' e v.1
         (are v.1 ∙ any_node_from (λ other. eqb (look_index other) (look_index v.1)) n.nodes v.0 v.1 v.2 v.3 (eq-eqb (look_index v.1) (look_index v.1) refl))
-        (is v.1 ∙ v.4) (ap (λ k. truth_of k v.1) z ∙ truth_none v.1))
+        (is v.1 ∙ v.4) (ap (λ k. truth_of k v.1) z ∙ truth_of_none v.1))
 
 -- Whether a list has a look, by the set of its looks.
 pub some_state :
@@ -88,7 +89,7 @@ pub some_state :
     → (b ≡ true → (look : Look) × (truth_of needed look ≡ true))
     → (b ≡ false → (look : Look) → truth_of needed look ≡ false)
     → b ≡ any_state (λ other. true) n list
-some_state n list needed b are yes' no' = both_true b (any_state (λ other. true) n list) there (back b refl)
+some_state n list needed b are yes' no' = bool_iff b (any_state (λ other. true) n list) there (back b refl)
   where
     there : b ≡ true → any_state (λ other. true) n list ≡ true
     there e =

@@ -1,6 +1,6 @@
 -- Loops that test each element of a list.
 use Rattle.std.proofs.Common.{ℕ, zero, suc, ◌≡◌, ◌<◌, ◌≤◌, ◌+◌, ◌||◌, ◌&&◌, Bool, true, false, ltb, List, [], ◌∷◌}
-use Rattle.std.proofs.Common.{length, get_or, drop, Option, Some, None, refl, sym, ap, ◌∙◌, subst, arith, true≢false}
+use Rattle.std.proofs.Common.{length, get_or, drop, Option, Some, None, refl, sym, ap, ◌∙◌, subst, arith}
 use Rattle.std.proofs.lemmas.List.{at_drop_more, drop_all, take_all}
 use Rattle.std.proofs.lemmas.List.Sums.{sum_by_more}
 use Rattle.std.proofs.Common.{leb, take, ◌-◌}
@@ -24,6 +24,9 @@ use Rattle.automata_base.proofs.Determinizing.Walking.{nodes_length}
 use Rattle.automata_base.proofs.Determinizing.Distinct.{In-get_or}
 use Rattle.automata_base.specs.Nfas.Errors.{transitions_below, state_below, states_below, match_below, matches_below}
 use Rattle.automata_base.specs.Nfas.Errors.{ordered_from, alternates_of}
+use Rattle.std.proofs.lemmas.Bool.{and_parts}
+use Rattle.std.proofs.Math.Bool.{or-false}
+use Rattle.automata_base.proofs.Paths.Machines.{and_true}
 
 pub test_fails :
     {X : Type 0} (F : List X → Bool) (T : X → Bool) (xs : List X) (i : ℕ) (x : X) (w : Bool)
@@ -37,14 +40,10 @@ pub test_next :
 test_next F T xs i x w cons l e t h =
     h ∙ (at_drop_more F xs i x l ∙ (cons (get_or xs i x) (drop (i + 1) xs) ∙ ap (λ b. b && F (drop (i + 1) xs)) (ap T (sym e) ∙ t)))
 
-or_move : (a t r : Bool) → (a || t) || r ≡ t || (a || r)
+pub or_move : (a t r : Bool) → (a || t) || r ≡ t || (a || r)
 or_move true true r = refl
 or_move true false r = refl
 or_move false t r = refl
-
-or_none : (b : Bool) → b || false ≡ b
-or_none true = refl
-or_none false = refl
 
 pub any_next :
     (f : Look → Bool) (xs : List State) (i : ℕ) (x : State) (t more w : Bool)
@@ -59,25 +58,17 @@ any_next f xs i x t more w l e m h =
 pub any_done :
     (f : Look → Bool) (xs : List State) (i : ℕ) (t : Bool) → length xs ≤ i
     → (t || any_node f (nodes_of (drop i xs))) ≡ any_node f (nodes_of xs) → t ≡ any_node f (nodes_of xs)
-any_done f xs i t l h = sym (ap (λ z. t || any_node f (nodes_of z)) (drop_all i xs l) ∙ or_none t) ∙ h
-
-and_both : (a b : Bool) → a && b ≡ true → (a ≡ true) × (b ≡ true)
-and_both true b e = (refl, e)
-and_both false b e = absurd (true≢false (sym e))
-
-and_true : (a b : Bool) → a ≡ true → b ≡ true → a && b ≡ true
-and_true true b e f = f
-and_true false b e f = e
+any_done f xs i t l h = sym (ap (λ z. t || any_node f (nodes_of z)) (drop_all i xs l) ∙ or-false t) ∙ h
 
 ranges_fit : (n : ℕ) (ts : List Transition) → transitions_below n ts ≡ true → ranges_below n (ranges_of ts) ≡ true
 ranges_fit n [] h = refl
-ranges_fit n (t ∷ ts) h = let w = and_both (ltb t.next n) (transitions_below n ts) h in and_true (ltb t.next n) (ranges_below n (ranges_of ts)) w.0 (ranges_fit n ts w.1)
+ranges_fit n (t ∷ ts) h = let w = and_parts (ltb t.next n) (transitions_below n ts) h in and_true (ltb t.next n) (ranges_below n (ranges_of ts)) w.0 (ranges_fit n ts w.1)
 
 dense_fit : (n k : ℕ) (xs : List ℕ) → all_below n xs ≡ true → ranges_below n (dense_from k xs) ≡ true
 dense_fit n k [] h = refl
-dense_fit n k (zero ∷ xs) h = let w = and_both (ltb 0 n) (all_below n xs) h in dense_fit n (suc k) xs w.1
+dense_fit n k (zero ∷ xs) h = let w = and_parts (ltb 0 n) (all_below n xs) h in dense_fit n (suc k) xs w.1
 dense_fit n k (suc m ∷ xs) h =
-    let w = and_both (ltb (suc m) n) (all_below n xs) h in
+    let w = and_parts (ltb (suc m) n) (all_below n xs) h in
     and_true (ltb (suc m) n) (ranges_below n (dense_from (suc k) xs)) w.0 (dense_fit n (suc k) xs w.1)
 
 pub node_fits : (n : ℕ) (s : State) → state_below n s ≡ true → node_below n (node_of s) ≡ true
@@ -87,7 +78,7 @@ node_fits n (Dense targets) h = dense_fit n 0 targets.value h
 node_fits n (LookState look next) h = h
 node_fits n (Union alternates) h = h
 node_fits n (BinaryUnion alt1 alt2) h =
-    let w = and_both (ltb alt1 n) (ltb alt2 n) h in and_true (ltb alt1 n) (ltb alt2 n && true) w.0 (and_true (ltb alt2 n) true w.1 refl)
+    let w = and_parts (ltb alt1 n) (ltb alt2 n) h in and_true (ltb alt1 n) (ltb alt2 n && true) w.0 (and_true (ltb alt2 n) true w.1 refl)
 node_fits n (Capture next pattern index slot) h = and_true (ltb next n) true h refl
 node_fits n Fail h = refl
 node_fits n (Match pattern) h = refl
@@ -95,7 +86,7 @@ node_fits n (Match pattern) h = refl
 pub nodes_fit : (n : ℕ) (xs : List State) → states_below n xs ≡ true → nodes_below n (nodes_of xs) ≡ true
 nodes_fit n [] h = refl
 nodes_fit n (x ∷ xs) h =
-    let w = and_both (state_below n x) (states_below n xs) h in
+    let w = and_parts (state_below n x) (states_below n xs) h in
     and_true (node_below n (node_of x)) (nodes_below n (nodes_of xs)) (node_fits n x w.0) (nodes_fit n xs w.1)
 
 none_apart : (p : ℕ) → ◌≡◌ {A = Option ℕ} None (Some p) → ⊥
@@ -117,8 +108,8 @@ match_fits P (Match pattern) p h e = subst (λ z. z < P) (some_same pattern p e)
 
 pub patterns_fit : (P : ℕ) (xs : List State) (q p : ℕ) → matches_below P xs ≡ true → accepts_at (node_or_fail (nth (nodes_of xs) q)) ≡ Some p → p < P
 patterns_fit P [] q p h e = absurd (none_apart p e)
-patterns_fit P (x ∷ xs) zero p h e = match_fits P x p (and_both (match_below P x) (matches_below P xs) h).0 e
-patterns_fit P (x ∷ xs) (suc q) p h e = patterns_fit P xs q p (and_both (match_below P x) (matches_below P xs) h).1 e
+patterns_fit P (x ∷ xs) zero p h e = match_fits P x p (and_parts (match_below P x) (matches_below P xs) h).0 e
+patterns_fit P (x ∷ xs) (suc q) p h e = patterns_fit P xs q p (and_parts (match_below P x) (matches_below P xs) h).1 e
 
 pub ordered_fails :
     (xs : List Transition) (i low : ℕ) (x : Transition) (w : Bool)

@@ -16,8 +16,9 @@ use Rattle.automata_base.specs.Lists.{In, nth}
 use Rattle.automata_base.specs.Nfas.Nfa.{Truth, node_or_fail}
 use Rattle.automata_base.specs.Powersets.Closure.{children, children_at, IsUnderWay}
 use Rattle.automata_base.proofs.Paths.Loops.{under_way_skip, under_way_visit}
-use Rattle.automata_base.proofs.Determinizing.Distinct.{In-Contains, Contains-In, In-either, unvisited, unvisited_push}
+use Rattle.automata_base.proofs.Determinizing.Distinct.{In-Contains, Contains-In, unvisited, unvisited_push}
 use Rattle.automata_base.proofs.Determinizing.Distinct.{unvisited_most, among}
+use Rattle.automata_base.proofs.Paths.Walks.{in_either}
 
 pub nodes_length : (states : List State) → length (nodes_of states) ≡ length states
 nodes_length [] = refl
@@ -112,7 +113,7 @@ walk_visits a looks old start order stack q door new w =
           let short : length (children (nfa_of a) (truth_of looks) q) ≤ extra_at a.states q + 1 = few a (truth_of looks) q (w.below q (inl refl)) in
           let both : length (children (nfa_of a) (truth_of looks) q ++ stack) ≡ length (children (nfa_of a) (truth_of looks) q) + length stack = length-append (children (nfa_of a) (truth_of looks) q) stack in
           omega arith);
-      below = λ p i. below p (In-either p (children (nfa_of a) (truth_of looks) q) stack i);
+      below = λ p i. below p (in_either p (children (nfa_of a) (truth_of looks) q) stack i);
     }
   where
     below : (p : ℕ) → In p (children (nfa_of a) (truth_of looks) q) ⊎ In p stack → p < length a.states
@@ -136,10 +137,6 @@ work_visits a looks order stack q l new =
     let short : length (children (nfa_of a) (truth_of looks) q) ≤ extra_at a.states q + 1 = few a (truth_of looks) q l in
     let both : length (children (nfa_of a) (truth_of looks) q ++ stack) ≡ length (children (nfa_of a) (truth_of looks) q) + length stack = length-append (children (nfa_of a) (truth_of looks) q) stack in
     omega arith
-
-pub room_positive : (states : List State) → 0 < stack_room states
-unfolding stack_room
-room_positive states = omega arith
 
 pub pushed_top : (xs ys : List ℕ) (x : ℕ) → xs ≡ ys ++ x ∷ [] → reverse xs ≡ x ∷ reverse ys
 pushed_top xs ys x e = ap reverse e ∙ reverse-append ys (x ∷ [])

@@ -23,6 +23,7 @@ use Rattle.automata_base.specs.Answers.Within.{IsInSpan, IsPatternOf, StatesTell
 use Rattle.automata_base.specs.Answers.Within.{WalkLiesWithin}
 use Rattle.automata_base.proofs.Determinizing.ToldPairs.{in_offsets, in_told, in_unsplit}
 use Rattle.automata_base.proofs.Spans.Bytes.{forward_length, tape_length}
+use Rattle.automata_base.proofs.Spans.Answered.{same_pair}
 
 -- what is picked is picked of something
 picked : (g : ℕ → Option ℕ) (xs : List ℕ) (y : ℕ) → In y (pick g xs) → (x : ℕ) × (g x ≡ Some y)
@@ -70,9 +71,6 @@ told_own a d kind mode t i p h = step_own a d kind (state_after a kind mode t i)
 
 no_pair : {pair : Pair} → ◌≡◌ {A = Option Pair} None (Some pair) → ⊥
 no_pair e = cc
-
-same_pair : {a b : Pair} → ◌≡◌ {A = Option Pair} (Some a) (Some b) → a ≡ b
-same_pair e = cc
 
 -- what the patterns of a state tell at a place
 record IsToldAt (patterns : List ℕ) (i : ℕ) (pair : Pair) : Type 0 where

@@ -13,8 +13,8 @@ use Rattle.automata_base.specs.Nfas.Getters.{HasEmpty, SkipsLazily}
 use Rattle.automata_base.specs.Nfas.Mirrors.{BeginsAlike}
 use Rattle.automata_base.specs.Nfas.Nodes.{Automaton, nfa_of, node_of, nodes_of}
 use Rattle.automata_base.specs.Nfas.Reach.{ReachesMatch}
-use Rattle.automata_base.proofs.Paths.Unique.{both_true}
 use Rattle.automata_base.proofs.Reaching.Led.{empty_is}
+use Rattle.automata_base.proofs.Paths.Truths.{bool_iff}
 
 begins_is :
     (a : Automaton) (x : Bool) → IsTrue x ↔ ReachesMatch a.states (a.start_anchored ∷ [])
@@ -31,7 +31,7 @@ pub alike_begins :
     (a : Automaton) (x y : Bool) → IsTrue x ↔ ReachesMatch a.states (a.start_anchored ∷ []) → IsTrue y ↔ HasEmpty a
     → BeginsAlike a → x ≡ y
 alike_begins a x y f g alike =
-    both_true x y (λ e. g.1 (alike.1 ((begins_is a x f).0 e))) (λ e. (begins_is a x f).1 (alike.0 (g.0 e)))
+    bool_iff x y (λ e. g.1 (alike.1 ((begins_is a x f).0 e))) (λ e. (begins_is a x f).1 (alike.0 (g.0 e)))
 
 -- Two tests that differ, or do not.
 pub apart : (a b : Bool) → not (beq a b) ≡ true → a ≡ b → ⊥

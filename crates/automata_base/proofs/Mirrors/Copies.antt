@@ -10,18 +10,19 @@ use Rattle.automata_base.specs.declared.util.determinize.sparse_set.SparseSet.Th
 use Rattle.automata_base.specs.Lists.{In, nth, all_below}
 use Rattle.automata_base.specs.Nfas.Nfa.{Node, Split, accepts_at}
 use Rattle.automata_base.specs.Nfas.Nodes.{node_of, nodes_of}
-use Rattle.automata_base.specs.Nfas.Reach.{Route, IsReached, targets_of}
+use Rattle.automata_base.specs.Nfas.Reach.{IsReached, targets_of}
 use Rattle.automata_base.specs.declared.nfa.thompson.reach.Edges.{Edges}
 use Rattle.automata_base.specs.declared.nfa.thompson.reach.Edges.TheVariants.{Every}
 use Rattle.automata_base.proofs.Determinizing.Walking.{nodes_length}
 use Rattle.automata_base.specs.Retraced.Once.{Distinct}
 use Rattle.automata_base.specs.Retraced.SparseSet.{IsSparse}
 use Rattle.automata_base.proofs.Mirrors.Sums.{distinct_places}
-use Rattle.automata_base.proofs.Paths.Checked.{both}
 use Rattle.automata_base.proofs.Paths.Orders.{some_inj, none_some}
 use Rattle.std.proofs.lemmas.Bool.{ltb-true, lt-ltb}
 use Rattle.automata_base.specs.Retraced.ReversedEdges.{place_in, copied, copies, copy_of, is_of, matches_in, IsCopied}
 use Rattle.automata_base.specs.Retraced.ReversedEdges.{HasCopies, HaveCopies}
+use Rattle.std.proofs.lemmas.Bool.{and_parts}
+use Rattle.automata_base.proofs.Reaching.Walked.{way_more}
 
 -- A member stands at its place.
 pub at_place : (items : List ℕ) (q : ℕ) → In q items → (place_in items q < length items) × (get_or items (place_in items q) 0 ≡ q)
@@ -143,12 +144,6 @@ matches_next states p xs out new w i id at s b l e k a g c n h =
     pulled true = refl
     pulled false = refl
 
-pub matches_done :
-    (states : List State) (p : ℕ) (xs out w : List ℕ) (i : ℕ) → length xs ≤ i
-    → out ++ matches_in states p (drop i xs) ≡ w → out ≡ w
-matches_done states p xs out w i l h =
-    sym (append-nil out) ∙ (sym (ap (λ z. out ++ matches_in states p z) (drop_all i xs l)) ∙ h)
-
 pub nth_more : {A : Type 0} (xs ys : List A) (j : ℕ) (a : A) → nth xs j ≡ Some a → nth (xs ++ ys) j ≡ Some a
 nth_more [] ys j a e = absurd (none_of e)
   where
@@ -261,7 +256,7 @@ matches_below n m states p [] l b = refl
 matches_below n m states p (q ∷ qs) l b = go (is_of (accepts_at (node_of (get_or states q is.Fail))) p) (matches_below n m states p qs l c.1)
   where
     c : (ltb q n ≡ true) × (all_below n qs ≡ true)
-    c = both (ltb q n) (all_below n qs) b
+    c = and_parts (ltb q n) (all_below n qs) b
 
     go :
         (t : Bool) → all_below m (matches_in states p qs) ≡ true
@@ -271,18 +266,12 @@ matches_below n m states p (q ∷ qs) l b = go (is_of (accepts_at (node_of (get_
         ∙ h
     go false h = h
 
--- What is reached is closed, and the roots are reached.
-route_more :
-    (G : ℕ → List ℕ) (q : ℕ) (way : List ℕ) (z r : ℕ) → Route G q way z → In r (G z) → (way' : List ℕ) × Route G q way' r
-route_more G q [] z r w i = (r ∷ [], (subst (λ v. In r (G v)) (sym w) i, refl))
-route_more G q (s ∷ way) z r w i = let h = route_more G s way z r w.1 i in (s ∷ h.0, (w.0, h.1))
-
 pub reached_closed :
     (edges : Edges) (states : List State) (roots items : List ℕ) → ((q : ℕ) → In q items ↔ IsReached edges states roots q)
     → (x q : ℕ) → In x items → In q (targets_of edges states x) → In q items
 reached_closed edges states roots items r x q i t =
     let h = (r x).0 i in
-    let m = route_more (targets_of edges states) h.0 h.1 x q h.3 t in
+    let m = way_more (targets_of edges states) h.0 h.1 x q h.3 t in
     (r q).1 (h.0, m.0, h.2, m.1)
 
 pub reached_roots :

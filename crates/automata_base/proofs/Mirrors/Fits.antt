@@ -24,13 +24,14 @@ use Rattle.automata_base.specs.Nfas.Errors.{match_below, matches_below, is_small
 use Rattle.automata_base.specs.Nfas.Errors.{unless}
 use Rattle.automata_base.specs.Nfas.ReversedSizes.{asking_edges, free_edges}
 use Rattle.automata_base.specs.Retraced.ReversedEdges.{copied, copies, copy_of, HasCopies}
-use Rattle.automata_base.proofs.Reaching.InRange.{state_is_below, ids_below, node_is}
+use Rattle.automata_base.proofs.Reaching.InRange.{state_is_below, node_is}
 use Rattle.automata_base.proofs.Determinizing.Walking.{nodes_length}
 use Rattle.automata_base.proofs.Mirrors.Copies.{at_place, part_made, reached_closed, reached_roots}
 use Rattle.automata_base.proofs.Mirrors.Parts.{of_map}
 use Rattle.automata_base.proofs.Mirrors.Sizes.{sum_at, ordered_at}
 use Rattle.automata_base.proofs.Mirrors.Sums.{sum_some}
 use Rattle.automata_base.proofs.Reaching.Refused.{refusal_is, goes_on}
+use Rattle.automata_base.proofs.Determinizing.Belows.{all_below_from}
 
 copies_length : (f : ℕ → ℕ) (p : ℕ) (turned : List State) (items : List ℕ) → length (copies f p turned items) ≡ length items
 copies_length f p turned [] = refl
@@ -263,9 +264,6 @@ part_large turned most P p old entries len less had e l =
     let c : (p + 1) * (length turned + 1) ≤ P * (length turned + 1) = mul-le-mul_right (length turned + 1) (omega (arith, less)) in
     omega (arith, a, b, c, e, l)
 
-pub no_parts : (turned : List State) (most P : ℕ) → AreParts turned most P 0 [] []
-no_parts turned most P = record { plain = tt; few = omega arith; narrow = omega arith; entered = λ e i. absurd i }
-
 -- The states of plain nodes pass the tests.
 one_ordered : (n : ℕ) (ts : List Transition) → IsOneRange n (ranges_of ts) → ordered_from 0 ts ≡ true
 one_ordered n [] h = absurd h
@@ -438,7 +436,7 @@ fit_passes states made P entries root fit few narrow =
     starts : starts_below (length made) root root entries ≡ true
     starts =
         ap (λ v. v && v && all_below (length made) entries) (lt-ltb root (length made) fit.starts)
-        ∙ ids_below (length made) entries fit.entered
+        ∙ all_below_from (length made) entries fit.entered
 
 pub fit_large :
     (states made : List State) (P : ℕ) (entries : List ℕ) (root : ℕ) → IsFit states P made entries root

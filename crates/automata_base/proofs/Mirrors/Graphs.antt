@@ -1,5 +1,5 @@
 -- What is turned, edge by edge, is what stands for the edges.
-use Rattle.std.proofs.Common.{ℕ, zero, suc, ◌≡◌, ◌<◌, ◌+◌, List, [], ◌∷◌, ◌++◌, ◌⊎◌, length, Option, Some, None, inl}
+use Rattle.std.proofs.Common.{ℕ, zero, suc, ◌≡◌, ◌<◌, ◌+◌, List, [], ◌∷◌, ◌++◌, ◌⊎◌, length, Some, inl}
 use Rattle.std.proofs.Common.{inr, refl, sym, ap, ap₂, ◌∙◌, subst, arith, ⊎_elim}
 use Rattle.automata_base.specs.declared.nfa.thompson.State.{State}
 use Rattle.automata_base.specs.declared.nfa.thompson.State.TheVariants as is
@@ -16,10 +16,12 @@ use Rattle.automata_base.specs.Retraced.ReversedEdges.{Turns, no_lists, push_at,
 use Rattle.automata_base.specs.Retraced.ReversedEdges.{turn_ranges, turn_state, turn_states}
 use Rattle.automata_base.proofs.Mirrors.Lists.{push_length}
 use Rattle.automata_base.proofs.Mirrors.Runs.{runs_below}
-use Rattle.automata_base.proofs.Paths.Checked.{both}
 use Rattle.automata_base.proofs.Paths.Walks.{in_left, in_either}
 use Rattle.std.proofs.lemmas.Bool.{ltb-true}
 use Rattle.std.specs.Prelude.{true, ltb, ◌&&◌, slice_index_or}
+use Rattle.std.proofs.lemmas.Bool.{and_parts}
+use Rattle.automata_base.proofs.Mirrors.Copies.{nth_more}
+use Rattle.automata_base.proofs.Mirrors.Copies.{nth_last}
 
 -- `x` is among the alternates of `k`.
 abbrev pub InAt : List (List ℕ) → ℕ → ℕ → Type 0
@@ -92,18 +94,6 @@ graph_same P Q M size t f g i = record {
         → ((s : ℕ) × (l : Label) × Q s l k × Stand t x l s) ⊎ (M k × IsHelper t x (is.Match 0))
     go k x (inl h) = inl (h.0, h.1, f h.0 k h.1 h.2, h.3)
     go k x (inr h) = inr h
-
-nth_more : {A : Type 0} (xs ys : List A) (j : ℕ) (a : A) → nth xs j ≡ Some a → nth (xs ++ ys) j ≡ Some a
-nth_more [] ys j a e = absurd (none_of e)
-  where
-    none_of : {A : Type 0} {a : A} → ◌≡◌ {A = Option A} None (Some a) → ⊥
-    none_of e = cc
-nth_more (x ∷ xs) ys zero a e = e
-nth_more (x ∷ xs) ys (suc j) a e = nth_more xs ys j a e
-
-nth_last : {A : Type 0} (xs : List A) (a : A) → nth (xs ++ a ∷ []) (length xs) ≡ Some a
-nth_last [] a = refl
-nth_last (x ∷ xs) a = nth_last xs a
 
 stand_free : (t : Turns) (y to x s : ℕ) (l : Label) → Stand t x l s → Stand (turn_free t y to) x l s
 stand_free t y to x s Free h = h
@@ -275,7 +265,7 @@ module _ (M : ℕ → Type 0) (size from : ℕ) where
       (graph_all xs (And P from Free x) (turn_free t from x) c.1 (step_free P M size t from x (ltb-true x size c.0) i))
     where
       c : (ltb x size ≡ true) × (all_below size xs ≡ true)
-      c = both (ltb x size) (all_below size xs) b
+      c = and_parts (ltb x size) (all_below size xs) b
 
       apart : (l : Label) (k : ℕ) → HasArcAt (Split (x ∷ xs)) l k → HasArcAt (Split xs) l k ⊎ ((l ≡ Free) × (k ≡ x))
       apart Free k (inl e) = inr (refl, e)
@@ -326,7 +316,7 @@ module _ (M : ℕ → Type 0) (size from : ℕ) where
       (step_read P t r.lo r.hi r.next (ltb-true r.next size c.0) i))
     where
       c : (ltb r.next size ≡ true) × (transitions_below size rs ≡ true)
-      c = both (ltb r.next size) (transitions_below size rs) b
+      c = and_parts (ltb r.next size) (transitions_below size rs) b
 
   no_accept : (p : ℕ) (l : Label) (k : ℕ) → HasArcAt (Accept p) l k → ⊥
   no_accept p Free k h = h
@@ -356,7 +346,7 @@ module _ (M : ℕ → Type 0) (size from : ℕ) where
       (step_by P M size t from next (Asks look) (is.Look (flip look) from) (ltb-true next size b) (λ t x h. h) i)
   graph_state (is.Union alternates) P t b i = graph_all alternates.items P t b i
   graph_state (is.BinaryUnion alt1 alt2) P t b i =
-      let c = both (ltb alt1 size) (ltb alt2 size) b in
+      let c = and_parts (ltb alt1 size) (ltb alt2 size) b in
       graph_all (alt1 ∷ alt2 ∷ []) P t
       (ap (λ v. v && (ltb alt2 size && true)) c.0 ∙ ap (λ v. v && true) c.1) i
   graph_state (is.Capture next pattern index slot) P t b i = graph_all (next ∷ []) P t (ap (λ v. v && true) b) i

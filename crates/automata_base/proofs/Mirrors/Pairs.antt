@@ -1,8 +1,7 @@
 -- An NFA and its reversed one are a true pair.
-use Rattle.std.proofs.Common.{ℕ, zero, suc, ◌≡◌, ◌<◌, ◌≤◌, ◌+◌, ◌-◌, ◌&&◌, leb, not, true, false, cond, List, [], ◌∷◌}
+use Rattle.std.proofs.Common.{ℕ, zero, suc, ◌≡◌, ◌≤◌, ◌+◌, ◌-◌, ◌&&◌, leb, not, true, cond, List, [], ◌∷◌}
 use Rattle.std.proofs.Common.{◌⊎◌, length, Option, Some, None, inl, inr, refl, sym, ap, ◌∙◌, subst, arith}
 use Rattle.std.proofs.lemmas.Bool.{leb-true}
-use Rattle.std.proofs.lemmas.Grind.{common_steps}
 use Rattle.automata_base.specs.declared.nfa.thompson.State.{State}
 use Rattle.automata_base.specs.declared.nfa.thompson.State.TheVariants as is
 use Rattle.automata_base.specs.declared.nfa.thompson.Transition.{Transition}
@@ -27,10 +26,12 @@ use Rattle.automata_base.proofs.Mirrors.Turned.{IsTurn, IsApart, back_entry, bac
 use Rattle.automata_base.proofs.Mirrors.Turned.{forth_root}
 use Rattle.automata_base.proofs.Mirrors.Ways.{Bytes, IsWay, HasWay, HasPath, path_way, way_path, run_way, way_run}
 use Rattle.automata_base.proofs.Mirrors.Ways.{always, no_bytes}
-use Rattle.automata_base.proofs.Paths.Checked.{both}
 use Rattle.automata_base.proofs.Paths.Sets.{nth_in}
 use Rattle.automata_base.proofs.Spans.Bytes.{forward_next, forward_prev, forward_byte, reverse_next, reverse_prev}
 use Rattle.automata_base.proofs.Spans.Bytes.{reverse_byte}
+use Rattle.std.proofs.lemmas.Bool.{and_parts}
+use Rattle.automata_base.proofs.Spans.Loops.{nth_some}
+use Rattle.automata_base.proofs.Utf8.Edges.{within_past}
 
 -- Ordered ranges are apart.
 abbrev pub IsApartAt : Node → Type 0
@@ -40,11 +41,8 @@ IsApartAt (Read ranges) =
     (lo hi next u : ℕ) → HasRange ranges lo hi next → within lo hi u ≡ true → takes_in ranges u ≡ Some next
 IsApartAt (Accept p) = Unit {0}
 
-within_past : (lo hi u : ℕ) → hi < u → within lo hi u ≡ false
-within_past lo hi u l = grind (arith, common_steps)
-
 within_least : (lo hi u : ℕ) → within lo hi u ≡ true → lo ≤ u
-within_least lo hi u w = leb-true lo u (both (leb lo u) (leb u hi) w).0
+within_least lo hi u w = leb-true lo u (and_parts (leb lo u) (leb u hi) w).0
 
 one_takes :
     (l h r lo hi next u : ℕ) (rest : Option ℕ) → l ≡ lo → h ≡ hi → r ≡ next → within lo hi u ≡ true
@@ -59,10 +57,10 @@ range_above low [] lo hi next o h = absurd h
 range_above low (t ∷ ts) lo hi next o h = go h (range_above (t.hi + 1) ts lo hi next)
   where
     outer : (leb low t.lo && leb t.lo t.hi ≡ true) × (ordered_from (t.hi + 1) ts ≡ true)
-    outer = both (leb low t.lo && leb t.lo t.hi) (ordered_from (t.hi + 1) ts) o
+    outer = and_parts (leb low t.lo && leb t.lo t.hi) (ordered_from (t.hi + 1) ts) o
 
     inner : (leb low t.lo ≡ true) × (leb t.lo t.hi ≡ true)
-    inner = both (leb low t.lo) (leb t.lo t.hi) outer.0
+    inner = and_parts (leb low t.lo) (leb t.lo t.hi) outer.0
 
     go :
         ((t.lo ≡ lo) × (t.hi ≡ hi) × (t.next ≡ next)) ⊎ HasRange (ranges_of ts) lo hi next
@@ -81,7 +79,7 @@ sparse_apart low [] o lo hi next u h w = absurd h
 sparse_apart low (t ∷ ts) o lo hi next u (inl e) w =
     one_takes t.lo t.hi t.next lo hi next u (takes_in (ranges_of ts) u) e.0 e.1 e.2 w
 sparse_apart low (t ∷ ts) o lo hi next u (inr k) w =
-    let later = (both (leb low t.lo && leb t.lo t.hi) (ordered_from (t.hi + 1) ts) o).1 in
+    let later = (and_parts (leb low t.lo && leb t.lo t.hi) (ordered_from (t.hi + 1) ts) o).1 in
     let a = range_above (t.hi + 1) ts lo hi next later k in
     let b = within_least lo hi u w in
     ap (λ v. cond v (Some t.next) (takes_in (ranges_of ts) u)) (within_past t.lo t.hi u (omega (arith, a, b)))
@@ -106,8 +104,8 @@ state_apart (is.Match pattern) o = tt
 node_apart :
     (states : List State) (q : ℕ) → states_ordered states ≡ true → IsApartAt (node_or_fail (nth (ranged_nodes states) q))
 node_apart [] q o = tt
-node_apart (x ∷ xs) zero o = state_apart x (both (state_ordered x) (states_ordered xs) o).0
-node_apart (x ∷ xs) (suc q) o = node_apart xs q (both (state_ordered x) (states_ordered xs) o).1
+node_apart (x ∷ xs) zero o = state_apart x (and_parts (state_ordered x) (states_ordered xs) o).0
+node_apart (x ∷ xs) (suc q) o = node_apart xs q (and_parts (state_ordered x) (states_ordered xs) o).1
 
 pub door_apart : (a : Automaton) → states_ordered a.states ≡ true → IsApart (ranged_nfa a)
 door_apart a o = record {
@@ -115,7 +113,7 @@ door_apart a o = record {
       let k : IsApartAt (Read ranges) = subst IsApartAt e (node_apart a.states q o) in k lo hi next u h w;
 }
 
--- The tapes of a span are one, seen from both ends.
+-- The tapes of a span are one, seen from and_parts ends.
 truth_turns :
     (n m : Nfa) (look : Look) (p p' q q' : Option ℕ) → m.terminator ≡ n.terminator → m.reverse ≡ not n.reverse
     → p' ≡ q → q' ≡ p
@@ -146,11 +144,6 @@ tapes_turn n m h i j t r l w = record {
 
 still_turns : IsTurn always always no_bytes no_bytes 0
 still_turns = record { looks = λ a b look e. refl; bytes = λ a b e. refl }
-
-pub nth_less : (xs : List ℕ) (k : ℕ) → k < length xs → (x : ℕ) × (nth xs k ≡ Some x)
-nth_less [] k l = absurd (omega (arith, l))
-nth_less (x ∷ xs) zero l = (x, refl)
-nth_less (x ∷ xs) (suc k) l = nth_less xs k (omega (arith, l))
 
 -- An accepting way of the one from its first state, and of the other from a state.
 module _ (a b : Automaton) (door : IsDoor a) (reversed : IsReversed a b) (A B : ℕ → Truth) (bytes back : Bytes) (J : ℕ)
@@ -204,7 +197,7 @@ module _ (a b : Automaton) (door : IsDoor a) (reversed : IsReversed a b) (A B : 
 module _ (a b : Automaton) (kind : MatchKind) (door : IsDoor a) (reversed : IsReversed a b) where
   -- The entry of a pattern.
   entry : (q p : ℕ) → accepts (nfa_of a) q ≡ Some p → (e : ℕ) × (nth b.start_pattern p ≡ Some e)
-  entry q p e = nth_less b.start_pattern p (omega (arith, door.patterns q p e, reversed.0))
+  entry q p e = nth_some b.start_pattern p (omega (arith, door.patterns q p e, reversed.0))
 
   -- A span of a haystack.
   module _ (h : List ℕ) (i j p : ℕ) (l : i ≤ j) (w : j ≤ length h) where

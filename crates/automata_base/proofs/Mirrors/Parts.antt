@@ -23,18 +23,13 @@ use Rattle.automata_base.specs.Retraced.ReversedEdges.{turn_by, turn_states, IsH
 use Rattle.automata_base.specs.Retraced.ReversedEdges.{HasCopies, HaveCopies}
 use Rattle.automata_base.proofs.Reaching.InRange.{node_is}
 use Rattle.automata_base.proofs.Mirrors.Copies.{has_more, nth_last, reached_closed, reached_roots}
-use Rattle.automata_base.proofs.Paths.Checked.{both}
 use Rattle.automata_base.proofs.Mirrors.Graphs.{InAt, Stand, IsGraph, IsHelper, Of, graph_none, graph_states}
 use Rattle.automata_base.proofs.Mirrors.Graphs.{graph_tell}
 use Rattle.automata_base.proofs.Mirrors.Runs.{runs_next}
 use Rattle.automata_base.proofs.Mirrors.Turned.{arc_inside, accept_inside}
 use Rattle.automata_base.proofs.Paths.Orders.{some_inj, none_some}
 use Rattle.automata_base.proofs.Paths.Walks.{in_left}
-
--- The node of a number is that of its state.
-in_right : (x : ℕ) (xs ys : List ℕ) → In x ys → In x (xs ++ ys)
-in_right x [] ys i = i
-in_right x (y ∷ xs) ys i = inr (in_right x xs ys i)
+use Rattle.std.proofs.lemmas.Bool.{and_parts}
 
 range_next : (ranges : List Range) (lo hi r : ℕ) → HasRange ranges lo hi r → In r (nexts ranges)
 range_next [] lo hi r h = h
@@ -499,8 +494,8 @@ module _ (a : Automaton) (turned : List State) (reached : List ℕ) (m : Nfa)
 -- The states that `NFA::from_states` accepts are in range, whatever the number.
 all_in_range : (n : ℕ) (states : List State) (q : ℕ) → states_below n states ≡ true → state_below n (get_or states q is.Fail) ≡ true
 all_in_range n [] q b = refl
-all_in_range n (x ∷ xs) zero b = (both (state_below n x) (states_below n xs) b).0
-all_in_range n (x ∷ xs) (suc q) b = all_in_range n xs q (both (state_below n x) (states_below n xs) b).1
+all_in_range n (x ∷ xs) zero b = (and_parts (state_below n x) (states_below n xs) b).0
+all_in_range n (x ∷ xs) (suc q) b = all_in_range n xs q (and_parts (state_below n x) (states_below n xs) b).1
 
 pub turned_graph :
     (a : Automaton) (reached : List ℕ) (t : Turns)

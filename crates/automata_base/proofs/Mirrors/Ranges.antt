@@ -14,14 +14,15 @@ use Rattle.automata_base.specs.Retraced.ReversedEdges.{Turns, no_lists, turn_by,
 use Rattle.automata_base.specs.Retraced.ReversedEdges.{turn_states, IsHead, AreHeads, AreTurned}
 use Rattle.automata_base.proofs.Mirrors.Graphs.{InAt, Stand, IsHelper, IsGraph, Of}
 use Rattle.automata_base.proofs.Mirrors.Parts.{heads_length, turned_graph}
-use Rattle.automata_base.proofs.Paths.Checked.{both, below_in}
-use Rattle.automata_base.proofs.Reaching.InRange.{ids_below}
+use Rattle.automata_base.proofs.Paths.Checked.{below_in}
+use Rattle.std.proofs.lemmas.Bool.{and_parts}
+use Rattle.automata_base.proofs.Determinizing.Belows.{all_below_from}
 
 -- The helpers lead to states.
 states_last : (n : ℕ) (xs : List State) (x : State) → states_below n xs ≡ true → state_below n x ≡ true → states_below n (xs ++ x ∷ []) ≡ true
 states_last n [] x b c = ap (λ v. v && true) c
 states_last n (y ∷ ys) x b c =
-    let w = both (state_below n y) (states_below n ys) b in
+    let w = and_parts (state_below n y) (states_below n ys) b in
     ap (λ v. v && states_below n (ys ++ x ∷ [])) w.0 ∙ states_last n ys x w.1 c
 
 module _ (n from : ℕ) (l : from < n) where
@@ -60,11 +61,11 @@ nth_below n [] j h b e = absurd (no e)
   where
     no : ◌≡◌ {A = Option State} None (Some h) → ⊥
     no e = cc
-nth_below n (x ∷ xs) zero h b e = ap (state_below n) (sym (one e)) ∙ (both (state_below n x) (states_below n xs) b).0
+nth_below n (x ∷ xs) zero h b e = ap (state_below n) (sym (one e)) ∙ (and_parts (state_below n x) (states_below n xs) b).0
   where
     one : ◌≡◌ {A = Option State} (Some x) (Some h) → x ≡ h
     one e = cc
-nth_below n (x ∷ xs) (suc j) h b e = nth_below n xs j h (both (state_below n x) (states_below n xs) b).1 e
+nth_below n (x ∷ xs) (suc j) h b e = nth_below n xs j h (and_parts (state_below n x) (states_below n xs) b).1 e
 
 heads_below :
     (n m : ℕ) (hs more : List State) (lists : List (List ℕ)) (heads : List State) → AreHeads m hs lists heads
@@ -78,7 +79,7 @@ heads_below n m hs more (xs ∷ rest) (s ∷ ss) a f b c =
   where
     one : IsHead m hs xs s → state_below n s ≡ true
     one (inl (v, e, g)) =
-        ap (state_below n) e ∙ (ap (all_below n) g ∙ ids_below n xs (λ r i. f 0 r i))
+        ap (state_below n) e ∙ (ap (all_below n) g ∙ all_below_from n xs (λ r i. f 0 r i))
     one (inr (j, e, g)) = nth_below n hs j s b g
 
 nth_inside : {A : Type 0} (xs : List A) (j : ℕ) (a : A) → nth xs j ≡ Some a → j < length xs

@@ -11,15 +11,13 @@ use Rattle.automata_base.specs.Nfas.Nodes.{ranges_of, dense_from}
 use Rattle.automata_base.specs.Nfas.Reach.{nexts}
 use Rattle.automata_base.specs.Nfas.Errors.{ordered_from, transitions_below}
 use Rattle.automata_base.specs.Retraced.DenseRuns.{starts_with, run_of, runs_from}
-use Rattle.automata_base.proofs.Paths.Checked.{both}
+use Rattle.std.proofs.lemmas.Bool.{and_parts}
+use Rattle.automata_base.proofs.Determinizing.Dense.{dense_below}
 
 -- A list that begins with `x`.
 head_is : (x : ℕ) (xs : List ℕ) → starts_with x xs ≡ true → (ys : List ℕ) × (xs ≡ x ∷ ys)
 head_is x [] e = let k : false ≡ true = e in absurd cc
 head_is x (y ∷ ys) e = (ys, ap (λ v. v ∷ ys) (eqb-true y x e))
-
-within_yes : (lo hi u : ℕ) → lo ≤ u → u ≤ hi → within lo hi u ≡ true
-within_yes lo hi u a b = ap (λ v. v && leb u hi) (le-leb lo u a) ∙ le-leb u hi b
 
 -- The case that the first target leads somewhere.
 abbrev pub led : List ℕ → Option ℕ
@@ -30,16 +28,6 @@ led (suc k ∷ xs) = Some (suc k)
 led_head : (x : ℕ) (ys zs : List ℕ) → led (x ∷ ys) ≡ led (x ∷ zs)
 led_head zero ys zs = refl
 led_head (suc k) ys zs = refl
-
--- No byte before the first is read.
-dense_none : (xs : List ℕ) (v u : ℕ) → u < v → takes_in (dense_from v xs) u ≡ None
-dense_none [] v u l = refl
-dense_none (zero ∷ xs) v u l = dense_none xs (suc v) u (omega (arith, l))
-dense_none (suc k ∷ xs) v u l =
-    ap (λ b. cond b (Some (suc k)) (takes_in (dense_from (suc v) xs) u)) (before v u l) ∙ dense_none xs (suc v) u (omega (arith, l))
-  where
-    before : (v u : ℕ) → u < v → within v v u ≡ false
-    before v u l = grind (arith, common_steps)
 
 none_or : (b : Bool) (d : Option ℕ) → (b ≡ true → d ≡ None) → cond b None d ≡ d
 none_or true d f = sym (f refl)
@@ -60,7 +48,7 @@ none_at : (byte u : ℕ) → leb (suc byte) u && ltb u (suc byte) ≡ false
 none_at byte u = grind (arith, common_steps)
 
 inside_of : (lo u byte : ℕ) → leb lo u && ltb u byte ≡ true → u < byte
-inside_of lo u byte e = ltb-true u byte (both (leb lo u) (ltb u byte) e).1
+inside_of lo u byte e = ltb-true u byte (and_parts (leb lo u) (ltb u byte) e).1
 
 runs_take :
     (xs : List ℕ) (lo byte u : ℕ) → lo ≤ byte
@@ -79,9 +67,9 @@ runs_take (x ∷ xs) lo byte u l =
         ≡ cond (leb lo u && ltb u byte) (led (x ∷ xs)) (takes_in (dense_from byte (x ∷ xs)) u)
     on zero e =
         ap (λ v. cond (leb lo u && ltb u (suc byte)) v (takes_in (dense_from (suc byte) xs) u)) e
-        ∙ (none_or (leb lo u && ltb u (suc byte)) d (λ k. dense_none xs (suc byte) u (inside_of lo u (suc byte) k))
+        ∙ (none_or (leb lo u && ltb u (suc byte)) d (λ k. dense_below xs (suc byte) u (inside_of lo u (suc byte) k))
         ∙ sym (none_or (leb lo u && ltb u byte) d
-        (λ k. let i = inside_of lo u byte k in dense_none xs (suc byte) u (omega (arith, i)))))
+        (λ k. let i = inside_of lo u byte k in dense_below xs (suc byte) u (omega (arith, i)))))
     on (suc k) e =
         ap (λ v. cond (leb lo u && ltb u (suc byte)) v (takes_in (dense_from (suc byte) xs) u)) e
         ∙ run_goes lo byte u (Some (suc k)) d l
@@ -93,7 +81,7 @@ runs_take (x ∷ xs) lo byte u l =
     off zero e =
         e
         ∙ sym (none_or (leb lo u && ltb u byte) d
-        (λ k. let i = inside_of lo u byte k in dense_none xs (suc byte) u (omega (arith, i))))
+        (λ k. let i = inside_of lo u byte k in dense_below xs (suc byte) u (omega (arith, i))))
     off (suc k) e =
         ap (λ v. cond (within lo byte u) (Some (suc k)) v) e ∙ run_ends lo byte u (Some (suc k)) d l
 
@@ -150,7 +138,7 @@ runs_below n (x ∷ xs) lo byte h =
     go (starts_with x xs) (runs_below n xs lo (suc byte) c.1) (one x c.0 (runs_below n xs (suc byte) (suc byte) c.1))
   where
     c : (ltb x n ≡ true) × (all_below n xs ≡ true)
-    c = both (ltb x n) (all_below n xs) h
+    c = and_parts (ltb x n) (all_below n xs) h
 
     one :
         (x : ℕ) → ltb x n ≡ true → transitions_below n (runs_from (suc byte) (suc byte) xs) ≡ true

@@ -19,7 +19,8 @@ use Rattle.automata_base.proofs.Mirrors.Lists.{push_length, states_next}
 use Rattle.automata_base.proofs.Mirrors.Parts.{heads_length}
 use Rattle.automata_base.proofs.Mirrors.Runs.{runs_ordered}
 use Rattle.automata_base.proofs.Mirrors.Sums.{sum_some}
-use Rattle.automata_base.proofs.Paths.Checked.{both, below_in}
+use Rattle.automata_base.proofs.Paths.Checked.{below_in}
+use Rattle.std.proofs.lemmas.Bool.{and_parts}
 
 -- How many alternates they have.
 abbrev pub total : List (List ℕ) → ℕ
@@ -149,9 +150,9 @@ module _ (from : ℕ) where
       → AreHelpers (turn_ranges t from rs).helpers
   helpers_ranges [] low t o a = a
   helpers_ranges (r ∷ rs) low t o a =
-      let k = both (leb low r.lo && leb r.lo r.hi) (ordered_from (r.hi + 1) rs) o in
+      let k = and_parts (leb low r.lo && leb r.lo r.hi) (ordered_from (r.hi + 1) rs) o in
       helpers_ranges rs (r.hi + 1) (turn_by t (is.ByteRange r.lo r.hi from) r.next) k.1
-      (helpers_more t.helpers (is.ByteRange r.lo r.hi from) a (refl, (both (leb low r.lo) (leb r.lo r.hi) k.0).1))
+      (helpers_more t.helpers (is.ByteRange r.lo r.hi from) a (refl, (and_parts (leb low r.lo) (leb r.lo r.hi) k.0).1))
 
   helpers_state : (s : State) (t : Turns) → state_ordered s ≡ true → AreHelpers t.helpers → AreHelpers (turn_state t from s).helpers
   helpers_state (is.ByteRange lo hi next) t o a = helpers_more t.helpers (is.ByteRange lo hi from) a (refl, o)
@@ -167,8 +168,8 @@ module _ (from : ℕ) where
 
 pub ordered_at : (states : List State) (q : ℕ) → states_ordered states ≡ true → state_ordered (get_or states q is.Fail) ≡ true
 ordered_at [] q o = refl
-ordered_at (x ∷ xs) zero o = (both (state_ordered x) (states_ordered xs) o).0
-ordered_at (x ∷ xs) (suc q) o = ordered_at xs q (both (state_ordered x) (states_ordered xs) o).1
+ordered_at (x ∷ xs) zero o = (and_parts (state_ordered x) (states_ordered xs) o).0
+ordered_at (x ∷ xs) (suc q) o = ordered_at xs q (and_parts (state_ordered x) (states_ordered xs) o).1
 
 helpers_states :
     (states : List State) (ids : List ℕ) (t : Turns) → states_ordered states ≡ true → AreHelpers t.helpers

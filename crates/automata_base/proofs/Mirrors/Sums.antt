@@ -6,7 +6,8 @@ use Rattle.std.proofs.lemmas.List.{take_all}
 use Rattle.std.proofs.lemmas.List.Sums.{sum_by_more, sum_by-cons}
 use Rattle.automata_base.specs.Lists.{In}
 use Rattle.automata_base.specs.Retraced.Once.{Distinct}
-use Rattle.automata_base.proofs.Determinizing.Distinct.{In-either, unvisited, unvisited_push, among}
+use Rattle.automata_base.proofs.Determinizing.Distinct.{unvisited, unvisited_push, among}
+use Rattle.automata_base.proofs.Paths.Walks.{in_either}
 
 sum_rest :
     (f : ℕ → ℕ) (n : ℕ) (ids seen : List ℕ) → Distinct ids → ((q : ℕ) → In q ids → q < n)
@@ -25,7 +26,7 @@ sum_rest f n (q ∷ ids) seen d b a =
     omega (arith, one, took, rest, same)
   where
     apart : (r : ℕ) → In r ids → In r (seen ++ q ∷ []) → ⊥
-    apart r i j = split (In-either r seen (q ∷ []) j)
+    apart r i j = split (in_either r seen (q ∷ []) j)
       where
         split : In r seen ⊎ In r (q ∷ []) → ⊥
         split (inl k) = a r (inr i) k

@@ -6,6 +6,7 @@ use Rattle.automata_base.specs.Nfas.Nfa.{Nfa, Truth, hop, takes}
 use Rattle.automata_base.specs.Paths.Paths.{Tape, IsPathFrom, truth, all_true, Run}
 use Rattle.automata_base.proofs.Paths.Orders.{none_some}
 use Rattle.automata_base.proofs.Paths.Walks.{in_either}
+use Rattle.std.proofs.lemmas.Bool.{cases_eq}
 
 -- The bytes at the places.
 abbrev pub Bytes : Type 0
@@ -63,9 +64,6 @@ path_way n t i seen q (e ∷ p) j z (inr h) =
 abbrev pub HasPath : Nfa → Tape → ℕ → ℕ → ℕ → ℕ → Type 0
 HasPath n t i q j z = (path : List ℕ) × IsPathFrom n t i [] q path j z
 
-same_or_not : (a b : ℕ) → (a ≡ b) ⊎ (a ≡ b → ⊥)
-same_or_not a b = grind arith
-
 -- Past fewer states.
 path_forget :
     (n : Nfa) (t : Tape) (i : ℕ) (seen more : List ℕ) (q : ℕ) (p : List ℕ) (j z : ℕ)
@@ -91,8 +89,8 @@ meets :
     (n : Nfa) (t : Tape) (i : ℕ) (seen : List ℕ) (q r : ℕ) (p : List ℕ) (j z : ℕ)
     → IsPathFrom n t i seen r p j z → Meets n t i seen q r p j z
 meets n t i seen q r [] j z h = ⊎_elim
-    (λ (e : r ≡ q). inl ([], (h.0, sym e ∙ h.1))) (λ (f : r ≡ q → ⊥). inr (h, f)) (same_or_not r q)
-meets n t i seen q r (e ∷ p) j z (inl h) = go (same_or_not r q) (meets n t i (r ∷ seen) q h.0 p j z h.3)
+    (λ (e : r ≡ q). inl ([], (h.0, sym e ∙ h.1))) (λ (f : r ≡ q → ⊥). inr (h, f)) (cases_eq r q)
+meets n t i seen q r (e ∷ p) j z (inl h) = go (cases_eq r q) (meets n t i (r ∷ seen) q h.0 p j z h.3)
   where
     go : (r ≡ q) ⊎ (r ≡ q → ⊥) → Meets n t i (r ∷ seen) q h.0 p j z → Meets n t i seen q r (e ∷ p) j z
     go (inl s) g = inl (
@@ -109,7 +107,7 @@ meets n t i seen q r (e ∷ p) j z (inl h) = go (same_or_not r q) (meets n t i (
             (in_either h.0 (r ∷ seen) (q ∷ []) k)
 meets n t i seen q r (e ∷ p) j z (inr h) = ⊎_elim
     (λ (s : r ≡ q). inl (e ∷ p, subst (λ v. IsPathFrom n t i [] v (e ∷ p) j z) s (inr h)))
-    (λ (f : r ≡ q → ⊥). inr (inr h, f)) (same_or_not r q)
+    (λ (f : r ≡ q → ⊥). inr (inr h, f)) (cases_eq r q)
 
 hop_path :
     (n : Nfa) (t : Tape) (i q e r j z : ℕ) → hop n (truth n t i) q e ≡ Some r → HasPath n t i r j z → HasPath n t i q j z

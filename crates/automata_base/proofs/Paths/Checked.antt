@@ -1,42 +1,40 @@
 -- What the tests of an NFA show.
-use Rattle.std.proofs.Common.{ℕ, zero, suc, ◌≡◌, ◌<◌, ◌+◌, Bool, true, false, cond, not, ◌&&◌, ltb, List, [], ◌∷◌}
+use Rattle.std.proofs.Common.{ℕ, zero, suc, ◌≡◌, ◌<◌, ◌+◌, Bool, true, false, cond, not, ltb, List, [], ◌∷◌}
 use Rattle.std.proofs.Common.{length, Option, Some, None, inl, inr, refl, sym, ap, ◌∙◌, subst, arith, true≢false}
 use Rattle.std.proofs.lemmas.Bool.{ltb-true}
 use Rattle.automata_base.specs.Lists.{In, nth, all_below}
 use Rattle.automata_base.specs.Nfas.Nfa.{Nfa, Node, Split, Assert, Read, Accept, Range, Truth, node, node_or_fail}
 use Rattle.automata_base.specs.Nfas.Nfa.{hop_at, takes_at, takes_in}
 use Rattle.automata_base.specs.Haystacks.Looks.{within}
-use Rattle.automata_base.specs.Paths.Paths.{Tape, next, next_in, all_true, Run, IsLookAcyclic}
+use Rattle.automata_base.specs.Paths.Paths.{Tape, next, next_in, all_true, IsLookAcyclic}
 use Rattle.automata_base.specs.Powersets.Passes.{IsUnit, IsTape}
 use Rattle.automata_base.specs.Powersets.Closure.{children_at}
 use Rattle.automata_base.specs.Retraced.ComputedPass.{is_in, closure_of, IsInRange}
 use Rattle.automata_base.proofs.Paths.Checks.{ranges_below, node_below, nodes_below, is_in_range, no_way_back}
 use Rattle.automata_base.proofs.Paths.Checks.{no_ways_back, is_look_cycle_free, unit_fits, tape_fits}
 use Rattle.automata_base.proofs.Paths.Orders.{some_inj, none_some}
-use Rattle.automata_base.proofs.Paths.Sets.{HasWalk, walk_cons}
+use Rattle.automata_base.proofs.Paths.Sets.{HasWalk}
 use Rattle.automata_base.proofs.Paths.Fuels.{is_in_false, closure_right, AllBelow}
-
-pub both : (a b : Bool) → a && b ≡ true → (a ≡ true) × (b ≡ true)
-both true b e = (refl, e)
-both false b e = absurd (true≢false (sym e))
+use Rattle.std.proofs.lemmas.Bool.{and_parts}
+use Rattle.automata_base.proofs.Spans.Empties.{run_walk}
 
 pub below_in : (N : ℕ) (xs : List ℕ) (y : ℕ) → all_below N xs ≡ true → In y xs → y < N
 below_in N [] y e i = absurd i
-below_in N (x ∷ xs) y e (inl i) = subst (λ v. v < N) (sym i) (ltb-true x N (both (ltb x N) (all_below N xs) e).0)
-below_in N (x ∷ xs) y e (inr i) = below_in N xs y (both (ltb x N) (all_below N xs) e).1 i
+below_in N (x ∷ xs) y e (inl i) = subst (λ v. v < N) (sym i) (ltb-true x N (and_parts (ltb x N) (all_below N xs) e).0)
+below_in N (x ∷ xs) y e (inr i) = below_in N xs y (and_parts (ltb x N) (all_below N xs) e).1 i
 
 ranges_in : (N : ℕ) (rs : List Range) (u y : ℕ) → ranges_below N rs ≡ true → takes_in rs u ≡ Some y → y < N
 ranges_in N [] u y e t = absurd (none_some t)
-ranges_in N (r ∷ rs) u y e t = go (within r.lo r.hi u) t (ranges_in N rs u y (both (ltb r.next N) (ranges_below N rs) e).1)
+ranges_in N (r ∷ rs) u y e t = go (within r.lo r.hi u) t (ranges_in N rs u y (and_parts (ltb r.next N) (ranges_below N rs) e).1)
   where
     go : (b : Bool) → cond b (Some r.next) (takes_in rs u) ≡ Some y → (takes_in rs u ≡ Some y → y < N) → y < N
-    go true t ih = subst (λ v. v < N) (some_inj t) (ltb-true r.next N (both (ltb r.next N) (ranges_below N rs) e).0)
+    go true t ih = subst (λ v. v < N) (some_inj t) (ltb-true r.next N (and_parts (ltb r.next N) (ranges_below N rs) e).0)
     go false t ih = ih t
 
 node_in : (N : ℕ) (nodes : List Node) (q : ℕ) → nodes_below N nodes ≡ true → node_below N (node_or_fail (nth nodes q)) ≡ true
 node_in N [] q e = refl
-node_in N (x ∷ xs) zero e = (both (node_below N x) (nodes_below N xs) e).0
-node_in N (x ∷ xs) (suc q) e = node_in N xs q (both (node_below N x) (nodes_below N xs) e).1
+node_in N (x ∷ xs) zero e = (and_parts (node_below N x) (nodes_below N xs) e).0
+node_in N (x ∷ xs) (suc q) e = node_in N xs q (and_parts (node_below N x) (nodes_below N xs) e).1
 
 pub children_below : (N : ℕ) (x : Node) (A : Truth) (c : ℕ) → node_below N x ≡ true → In c (children_at x A) → c < N
 children_below N (Split alternates) A c e i = below_in N alternates c e i
@@ -61,20 +59,16 @@ in_range n e = (
   λ q u r t. takes_below (length n.nodes) (node n q) u r (node_in (length n.nodes) n.nodes q e) t,
 )
 
-run_walk : (n : Nfa) (q : ℕ) (path : List ℕ) (z : ℕ) → Run n q path z → HasWalk n all_true q z
-run_walk n q [] z r = ([], r)
-run_walk n q (e ∷ path) z r = walk_cons n all_true q e r.0 z r.1 (run_walk n r.0 path z r.2)
-
 way_back :
     (n : Nfa) (k : ℕ) (nodes : List Node) (q : ℕ) → no_ways_back n k nodes ≡ true
     → no_way_back n (k + q) (node_or_fail (nth nodes q)) ≡ true
 way_back n k [] q e = refl
 way_back n k (x ∷ xs) zero e =
-    subst (λ v. no_way_back n v x ≡ true) (omega arith) (both (no_way_back n k x) (no_ways_back n (suc k) xs) e).0
+    subst (λ v. no_way_back n v x ≡ true) (omega arith) (and_parts (no_way_back n k x) (no_ways_back n (suc k) xs) e).0
 way_back n k (x ∷ xs) (suc q) e =
     let f : suc k + q ≡ k + suc q = omega arith in
     subst (λ v. no_way_back n v (node_or_fail (nth xs q)) ≡ true) f
-    (way_back n (suc k) xs q (both (no_way_back n k x) (no_ways_back n (suc k) xs) e).1)
+    (way_back n (suc k) xs q (and_parts (no_way_back n k x) (no_ways_back n (suc k) xs) e).1)
 
 pub look_cycle_free : (n : Nfa) → is_in_range n ≡ true → is_look_cycle_free n ≡ true → IsLookAcyclic n
 look_cycle_free n range free q look next e on =
@@ -112,9 +106,9 @@ look_cycle_free n range free q look next e on =
 units_in : (us : List ℕ) (after : Option ℕ) (i : ℕ) → all_below 256 us ≡ true → unit_fits after ≡ true → IsUnit (next_in us after i)
 units_in [] None i e f = tt
 units_in [] (Some u) i e f = ltb-true u 256 f
-units_in (u ∷ us) after zero e f = ltb-true u 256 (both (ltb u 256) (all_below 256 us) e).0
-units_in (u ∷ us) after (suc i) e f = units_in us after i (both (ltb u 256) (all_below 256 us) e).1 f
+units_in (u ∷ us) after zero e f = ltb-true u 256 (and_parts (ltb u 256) (all_below 256 us) e).0
+units_in (u ∷ us) after (suc i) e f = units_in us after i (and_parts (ltb u 256) (all_below 256 us) e).1 f
 
 pub is_tape : (t : Tape) → tape_fits t ≡ true → IsTape t
 is_tape t e i =
-    let w = both (all_below 256 t.bytes) (unit_fits t.after) e in units_in t.bytes t.after i w.0 w.1
+    let w = and_parts (all_below 256 t.bytes) (unit_fits t.after) e in units_in t.bytes t.after i w.0 w.1

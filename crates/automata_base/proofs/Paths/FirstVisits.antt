@@ -11,6 +11,7 @@ use Rattle.automata_base.proofs.Paths.Walks.{in_left, in_either}
 use Rattle.automata_base.proofs.Paths.Compose.{Carries, transfer}
 use Rattle.automata_base.proofs.Paths.Sift.{same}
 use Rattle.automata_base.proofs.Paths.Readings.{sorted_has}
+use Rattle.std.proofs.lemmas.Bool.{cases_eq}
 
 hop_children_at : (x : Node) (A : Truth) (e : ℕ) → hop_at x A e ≡ nth (children_at x A) e
 hop_children_at (Split alternates) A e = refl
@@ -57,9 +58,6 @@ fresh_end :
 fresh_end n A seen q [] z f w i = f (subst (λ v. In v seen) (sym w) i)
 fresh_end n A seen q (e ∷ path) z f w i = fresh_end n A (q ∷ seen) w.0 path z w.2 w.3 (inr i)
 
-same_or_not : (a b : ℕ) → (a ≡ b) ⊎ (a ≡ b → ⊥)
-same_or_not a b = grind arith
-
 -- A walk to another state than `x` goes past `x`, or goes on from it.
 abbrev pub OnFrom : Nfa → Truth → List ℕ → ℕ → ℕ → Type 0
 OnFrom n A S x z =
@@ -82,7 +80,7 @@ meets :
     → OnFrom n A S x z ⊎ ((r ≡ x → ⊥) × IsPathAt n A (seen ++ (x ∷ [])) r path z)
 meets n A S seen x r [] z f d w = inr ((λ e. d (sym w ∙ e)), w)
 meets n A S seen x r (e ∷ path) z f d w =
-    go (same_or_not r x) (meets n A S (r ∷ seen) x w.0 path z (λ y i. inr (f y i)) d w.3)
+    go (cases_eq r x) (meets n A S (r ∷ seen) x w.0 path z (λ y i. inr (f y i)) d w.3)
   where
     go :
         (r ≡ x) ⊎ (r ≡ x → ⊥)
@@ -294,7 +292,7 @@ module _ (n : Nfa) (A : Truth) (x : ℕ) (S stack : List ℕ) (new : In x S → 
       later z other i h = let w = sorted_has Other out z m.1 i in zero_before z other w.1.0 h
 
       has : (q : ℕ) (key : List ℕ) → P' q key → In q (x ∷ out)
-      has q key h = ⊎_elim (λ (e : q ≡ x). inl e) (λ (d : q ≡ x → ⊥). inr (m.0 q key (d, h))) (same_or_not q x)
+      has q key h = ⊎_elim (λ (e : q ≡ x). inl e) (λ (d : q ≡ x → ⊥). inr (m.0 q key (d, h))) (cases_eq q x)
 
 -- A state on top that was seen has no key.
 skipped :

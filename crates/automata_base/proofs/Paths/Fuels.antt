@@ -11,14 +11,8 @@ use Rattle.automata_base.specs.Powersets.Closure.{children, Visits, done, skip, 
 use Rattle.automata_base.specs.Retraced.ComputedPass.{is_in, visits_with, first_visits, closure_of, IsInRange}
 use Rattle.automata_base.proofs.Paths.Walks.{in_either}
 use Rattle.automata_base.proofs.Paths.FirstVisits.{visits_closure}
-
-or_cases : (a b : Bool) → a || b ≡ true → (a ≡ true) ⊎ (b ≡ true)
-or_cases true b e = inl refl
-or_cases false b e = inr e
-
-or_none : (a b : Bool) → a || b ≡ false → (a ≡ false) × (b ≡ false)
-or_none true b e = absurd (true≢false e)
-or_none false b e = (refl, e)
+use Rattle.std.proofs.lemmas.Bool.{or_cases}
+use Rattle.std.proofs.lemmas.Bool.{or_parts}
 
 pub is_in_true : (x : ℕ) (xs : List ℕ) → is_in x xs ≡ true → In x xs
 is_in_true x [] e = absurd (true≢false (sym e))
@@ -30,8 +24,8 @@ is_in_true x (y ∷ ys) e = go (or_cases (eqb x y) (is_in x ys) e) (is_in_true x
 
 pub is_in_false : (x : ℕ) (xs : List ℕ) → is_in x xs ≡ false → In x xs → ⊥
 is_in_false x [] e i = i
-is_in_false x (y ∷ ys) e (inl i) = eqb-false x y (or_none (eqb x y) (is_in x ys) e).0 i
-is_in_false x (y ∷ ys) e (inr i) = is_in_false x ys (or_none (eqb x y) (is_in x ys) e).1 i
+is_in_false x (y ∷ ys) e (inl i) = eqb-false x y (or_parts (eqb x y) (is_in x ys) e).0 i
+is_in_false x (y ∷ ys) e (inr i) = is_in_false x ys (or_parts (eqb x y) (is_in x ys) e).1 i
 
 pub is_in_cases : (x : ℕ) (xs : List ℕ) → ((is_in x xs ≡ true) × In x xs) ⊎ ((is_in x xs ≡ false) × (In x xs → ⊥))
 is_in_cases x xs = go (is_in x xs) refl

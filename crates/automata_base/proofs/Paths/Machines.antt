@@ -23,7 +23,7 @@ use Rattle.automata_base.specs.Retraced.ComputedPass.{is_in, closure_of, once_pa
 use Rattle.automata_base.specs.Retraced.ComputedPass.{always, known_looks, is_full, make, arrive, has_news, any_look}
 use Rattle.automata_base.specs.Retraced.ComputedPass.{decide, successor_of, pass_of, told_of, IsInRange}
 use Rattle.automata_base.specs.Haystacks.Looks.{look_index}
-use Rattle.automata_base.proofs.Paths.Orders.{some_inj, none_some, nil_cons}
+use Rattle.automata_base.proofs.Paths.Orders.{none_some, nil_cons}
 use Rattle.automata_base.proofs.Paths.Sift.{same, in_picked}
 use Rattle.automata_base.proofs.Paths.Late.{keep_sieve}
 use Rattle.automata_base.proofs.Paths.Readings.{sorted_has}
@@ -31,6 +31,11 @@ use Rattle.automata_base.proofs.Paths.FirstVisits.{visits_closure, hop_children}
 use Rattle.automata_base.proofs.Paths.Fuels.{is_in_true, is_in_false, AllBelow, closure_right}
 use Rattle.automata_base.specs.Haystacks.LookSets.{truth_of, all_looks}
 use Rattle.automata_base.proofs.Paths.LookSets.{truth_of-set_of, set_of-small, nth_index}
+use Rattle.std.proofs.lemmas.Bool.{and_parts}
+use Rattle.std.proofs.lemmas.Bool.{or_cases}
+use Rattle.automata_base.proofs.Paths.Truths.{or_left}
+use Rattle.automata_base.proofs.Paths.Truths.{or_right}
+use Rattle.automata_base.proofs.Paths.Sets.{nth_in}
 
 -- Each once.
 abbrev pub no_nodes : Nfa
@@ -70,26 +75,9 @@ once_right xs =
     back q [] h = h
     back q (k ∷ p) h = (h.0, h.1, subst (λ v. W h.0 v q) (sym h.2.1) h.2.0)
 
--- Tests.
-and_both : (a b : Bool) → a && b ≡ true → (a ≡ true) × (b ≡ true)
-and_both true b e = (refl, e)
-and_both false b e = absurd (true≢false (sym e))
-
-and_true : (a b : Bool) → a ≡ true → b ≡ true → a && b ≡ true
+pub and_true : (a b : Bool) → a ≡ true → b ≡ true → a && b ≡ true
 and_true true b e f = f
 and_true false b e f = absurd (true≢false (sym e))
-
-or_left : (a b : Bool) → a ≡ true → a || b ≡ true
-or_left true b e = refl
-or_left false b e = absurd (true≢false (sym e))
-
-or_right : (a b : Bool) → b ≡ true → a || b ≡ true
-or_right true b e = refl
-or_right false b e = e
-
-or_cases : (a b : Bool) → a || b ≡ true → (a ≡ true) ⊎ (b ≡ true)
-or_cases true b e = inl refl
-or_cases false b e = inr e
 
 -- Looks by their numbers.
 abbrev pub looks : List Look
@@ -187,9 +175,6 @@ agree_both false a b = true≢false (sym a)
 abbrev pub Always : ℕ → Bool → Look → Option ℕ → Type 0
 Always t r look prev = (next : Option ℕ) → IsUnit next → holds t r look prev next ≡ true
 
-small : (k : ℕ) → k < 200 → k < 256
-small k h = omega (arith, h)
-
 always_true : (t : ℕ) (r : Bool) (look : Look) (prev : Option ℕ) → always t r look prev ≡ true → Always t r look prev
 always_true t r Start prev e = λ next i. e
 always_true t r End prev e = absurd (true≢false (sym e))
@@ -220,11 +205,11 @@ always_from t r EndLF prev f =
     absurd (omega (arith, a, b))
 always_from t true StartCRLF prev f = ⊎_elim
     (λ (h : is_absent prev || is_byte 13 prev ≡ true). h)
-    (λ (h : is_byte 10 prev && false ≡ true). absurd (true≢false (sym (and_both (is_byte 10 prev) false h).1)))
+    (λ (h : is_byte 10 prev && false ≡ true). absurd (true≢false (sym (and_parts (is_byte 10 prev) false h).1)))
     (or_cases (is_absent prev || is_byte 13 prev) (is_byte 10 prev && false) (f (Some 13) (omega arith)))
 always_from t false StartCRLF prev f = ⊎_elim
     (λ (h : is_absent prev || is_byte 10 prev ≡ true). h)
-    (λ (h : is_byte 13 prev && false ≡ true). absurd (true≢false (sym (and_both (is_byte 13 prev) false h).1)))
+    (λ (h : is_byte 13 prev && false ≡ true). absurd (true≢false (sym (and_parts (is_byte 13 prev) false h).1)))
     (or_cases (is_absent prev || is_byte 10 prev) (is_byte 13 prev && false) (f (Some 10) (omega arith)))
 always_from t true EndCRLF prev f = f (Some 0) (omega arith)
 always_from t false EndCRLF prev f = f (Some 0) (omega arith)
@@ -232,10 +217,10 @@ always_from t r WordAscii prev f = absurd (differ_both (is_word prev) (f (Some 9
 always_from t r WordAsciiNegate prev f = absurd (agree_both (is_word prev) (f (Some 97) (omega arith)) (f None tt))
 always_from t r WordUnicode prev f = absurd (differ_both (is_word prev) (f (Some 97) (omega arith)) (f None tt))
 always_from t r WordUnicodeNegate prev f = absurd (agree_both (is_word prev) (f (Some 97) (omega arith)) (f None tt))
-always_from t r WordStartAscii prev f = (and_both (not (is_word prev)) false (f None tt)).1
-always_from t r WordEndAscii prev f = (and_both (is_word prev) false (f (Some 97) (omega arith))).1
-always_from t r WordStartUnicode prev f = (and_both (not (is_word prev)) false (f None tt)).1
-always_from t r WordEndUnicode prev f = (and_both (is_word prev) false (f (Some 97) (omega arith))).1
+always_from t r WordStartAscii prev f = (and_parts (not (is_word prev)) false (f None tt)).1
+always_from t r WordEndAscii prev f = (and_parts (is_word prev) false (f (Some 97) (omega arith))).1
+always_from t r WordStartUnicode prev f = (and_parts (not (is_word prev)) false (f None tt)).1
+always_from t r WordEndUnicode prev f = (and_parts (is_word prev) false (f (Some 97) (omega arith))).1
 always_from t r WordStartHalfAscii prev f = f None tt
 always_from t r WordEndHalfAscii prev f = f (Some 97) (omega arith)
 always_from t r WordStartHalfUnicode prev f = f None tt
@@ -249,7 +234,7 @@ known_right n prev look = (there, back)
 
     there : known_looks n prev look ≡ true → IsKnownLook n prev look
     there e =
-        let w = and_both (any_node f n.nodes) (always n.terminator n.reverse look prev) e in
+        let w = and_parts (any_node f n.nodes) (always n.terminator n.reverse look prev) e in
         let v = any_node_true f n.nodes w.0 in
         ((v.0, v.2, v.3 ∙ ap (λ l. Assert l v.2) (code_one v.1 look v.4)), always_true n.terminator n.reverse look prev w.1)
 
@@ -268,7 +253,7 @@ full_from [] f = absurd (f refl)
 full_from (x ∷ xs) f = refl
 
 three_true : (a b c : Bool) → a && b && c ≡ true → (a ≡ true) × (b ≡ true) × (c ≡ true)
-three_true a b c e = let w = and_both (a && b) c e in let v = and_both a b w.0 in (v.0, v.1, w.1)
+three_true a b c e = let w = and_parts (a && b) c e in let v = and_parts a b w.0 in (v.0, v.1, w.1)
 
 three_from : (a b c : Bool) → a ≡ true → b ≡ true → c ≡ true → a && b && c ≡ true
 three_from a b c e f g = and_true (a && b) c (and_true a b e f) g
@@ -333,7 +318,7 @@ make_right n patterns C prev = (
       where
         there : any_state all n xs && known_looks n prev look ≡ true → ((other : Look) × IsNeeded n xs other) × IsKnownLook n prev look
         there e =
-            let w = and_both (any_state all n xs) (known_looks n prev look) e in
+            let w = and_parts (any_state all n xs) (known_looks n prev look) e in
             let v = any_state_true all n xs w.0 in
             ((v.1, (v.0, v.2, v.3, v.4)), (known_right n prev look).0 w.1)
 
@@ -342,19 +327,13 @@ make_right n patterns C prev = (
             and_true (any_state all n xs) (known_looks n prev look)
             (any_state_from all n xs h.0.1.0 h.0.0 h.0.1.1 h.0.1.2 h.0.1.3 refl) ((known_right n prev look).1 h.1)
 
--- Walks stay in the range.
-pub in_nth_child : (xs : List ℕ) (e r : ℕ) → nth xs e ≡ Some r → In r xs
-in_nth_child [] e r h = none_some h
-in_nth_child (x ∷ xs) zero r h = inl (sym (some_inj h))
-in_nth_child (x ∷ xs) (suc e) r h = inr (in_nth_child xs e r h)
-
 walk_below :
     (n : Nfa) (A : Truth) (seen : List ℕ) (q : ℕ) (path : List ℕ) (z : ℕ)
     → IsInRange n → q < length n.nodes → IsPathAt n A seen q path z → z < length n.nodes
 walk_below n A seen q [] z r l w = subst (λ v. v < length n.nodes) w l
 walk_below n A seen q (e ∷ path) z r l w =
     walk_below n A (q ∷ seen) w.0 path z r
-    (r.0 q w.0 A (in_nth_child (children n A q) e w.0 (sym (hop_children n A q e) ∙ w.1))) w.3
+    (r.0 q w.0 A (nth_in (children n A q) e w.0 (sym (hop_children n A q e) ∙ w.1))) w.3
 
 pub closure_below :
     (n : Nfa) (A : Truth) (roots xs : List ℕ)
@@ -366,7 +345,7 @@ closure_below n A roots xs r b c y i = let w = sorted_has (From W roots) xs y c.
 
     go : (key : List ℕ) → From W roots y key → y < length n.nodes
     go [] h = absurd h
-    go (k ∷ p) h = walk_below n A [] h.0 p y r (b h.0 (in_nth_child roots k h.0 h.1)) h.2
+    go (k ∷ p) h = walk_below n A [] h.0 p y r (b h.0 (nth_in roots k h.0 h.1)) h.2
 
 abbrev pub IsIn : Nfa → Powerset → Type 0
 IsIn n Q = AllBelow (length n.nodes) Q.nfa
@@ -437,8 +416,8 @@ decide_right n u Q r b = go (has_news n Q u) refl
         → IsDecided n Q u (elim t [ true ↦ L | false ↦ Q.nfa ]) × AllBelow (length n.nodes) (elim t [ true ↦ L | false ↦ Q.nfa ])
     go true e =
         let w = any_look_true f all_looks e in
-        let a = and_both (truth_of Q.needed w.0) (true_looks n Q u w.0 && not (truth_of Q.known w.0)) w.1 in
-        let v = and_both (true_looks n Q u w.0) (not (truth_of Q.known w.0)) a.1 in (
+        let a = and_parts (truth_of Q.needed w.0) (true_looks n Q u w.0 && not (truth_of Q.known w.0)) w.1 in
+        let v = and_parts (true_looks n Q u w.0) (not (truth_of Q.known w.0)) a.1 in (
           inl ((w.0, a.0, v.0, not_true (truth_of Q.known w.0) v.1), c),
           closure_below n (true_looks n Q u) Q.nfa L r b c,
         )

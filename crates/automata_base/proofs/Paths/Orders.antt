@@ -100,17 +100,6 @@ under_append_left (x ∷ xs) [] a h = elim h [ ]
 under_append_left (x ∷ xs) (y ∷ ys) a (inl h) = inl h
 under_append_left (x ∷ xs) (y ∷ ys) a (inr h) = inr (h.0, under_append_left xs ys a h.1)
 
-pub before_drop : (xs a ys : List ℕ) → Before (xs ++ a) ys → Upto xs ys
-before_drop [] a [] h = inl refl
-before_drop [] a (y ∷ ys) h = inr tt
-before_drop (x ∷ xs) a [] h = elim h [ ]
-before_drop (x ∷ xs) a (y ∷ ys) (inl h) = inr (inl h)
-before_drop (x ∷ xs) a (y ∷ ys) (inr h) = go (before_drop xs a ys h.1)
-  where
-    go : Upto xs ys → Upto (x ∷ xs) (y ∷ ys)
-    go (inl e) = inl (ap₂ ◌∷◌ h.0 e)
-    go (inr b) = inr (inr (h.0, b))
-
 pub before_begin : (xs : List ℕ) (z : ℕ) (zs : List ℕ) → Before xs (xs ++ (z ∷ zs))
 before_begin [] z zs = tt
 before_begin (x ∷ xs) z zs = inr (refl, before_begin xs z zs)

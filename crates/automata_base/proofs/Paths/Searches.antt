@@ -29,7 +29,7 @@ walk_right kind n t start pairs free tape_of p =
     pairs_map (Tells kind n t start) (ArePatternsAt kind n t start) (suc (length t.bytes)) pairs
     (λ i patterns l. pass_tells kind n t start i patterns free tape_of (le_of_suc-le-suc l)) p
 
-nth_inside : (xs : List ℕ) (i u : ℕ) → nth xs i ≡ Some u → i < length xs
+pub nth_inside : (xs : List ℕ) (i u : ℕ) → nth xs i ≡ Some u → i < length xs
 nth_inside [] i u e = absurd (none_some e)
 nth_inside (x ∷ xs) zero u e = omega arith
 nth_inside (x ∷ xs) (suc i) u e = let k = nth_inside xs i u e in omega (arith, k)

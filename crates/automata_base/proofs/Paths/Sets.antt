@@ -26,12 +26,10 @@ use Rattle.automata_base.proofs.Paths.Invariants.{next_byte}
 use Rattle.automata_base.proofs.Paths.Searches.{accepting_inside}
 use Rattle.automata_base.proofs.Paths.Included.{Includes}
 use Rattle.automata_base.proofs.Paths.Selecting.{PassSelects}
+use Rattle.std.proofs.lemmas.Bool.{cases_eq}
 
 abbrev pub HasWalk : Nfa → Truth → ℕ → ℕ → Type 0
 HasWalk n A q z = (path : List ℕ) × IsPathAt n A [] q path z
-
-same_or_not : (a b : ℕ) → (a ≡ b) ⊎ (a ≡ b → ⊥)
-same_or_not a b = grind arith
 
 -- A walk meets `q`, and then there is one from `q`, or it is one past `q`.
 abbrev pub Split2 : Nfa → Truth → List ℕ → ℕ → ℕ → List ℕ → ℕ → Type 0
@@ -39,8 +37,8 @@ Split2 n A seen q r path z = HasWalk n A q z ⊎ (IsPathAt n A (seen ++ (q ∷ [
 
 suffix : (n : Nfa) (A : Truth) (seen : List ℕ) (q r : ℕ) (path : List ℕ) (z : ℕ) → IsPathAt n A seen r path z → Split2 n A seen q r path z
 suffix n A seen q r [] z w = ⊎_elim
-    (λ (e : r ≡ q). inl ([], sym e ∙ w)) (λ (f : r ≡ q → ⊥). inr (w, f)) (same_or_not r q)
-suffix n A seen q r (e ∷ path) z w = go (same_or_not r q) (suffix n A (r ∷ seen) q w.0 path z w.3)
+    (λ (e : r ≡ q). inl ([], sym e ∙ w)) (λ (f : r ≡ q → ⊥). inr (w, f)) (cases_eq r q)
+suffix n A seen q r (e ∷ path) z w = go (cases_eq r q) (suffix n A (r ∷ seen) q w.0 path z w.3)
   where
     go : (r ≡ q) ⊎ (r ≡ q → ⊥) → Split2 n A (r ∷ seen) q w.0 path z → Split2 n A seen q r (e ∷ path) z
     go (inl s) h = inl (e ∷ path, subst (λ v. IsPathAt n A [] v (e ∷ path) z) s (walk_forget n A [] seen r (e ∷ path) z w))

@@ -12,25 +12,22 @@ use Rattle.automata_base.specs.Powersets.Passes.{IsUnit, Occurs, is_word_look, i
 use Rattle.automata_base.specs.Powersets.Passes.{true_looks}
 use Rattle.automata_base.specs.Powersets.Powerset.{Powerset}
 use Rattle.automata_base.specs.Haystacks.LookSets.{truth_of}
+use Rattle.std.proofs.lemmas.Bool.{or_cases}
 
 -- Two tests that follow from one another are equal.
-bool_iff : (a b : Bool) → (a ≡ true → b ≡ true) → (b ≡ true → a ≡ true) → a ≡ b
+pub bool_iff : (a b : Bool) → (a ≡ true → b ≡ true) → (b ≡ true → a ≡ true) → a ≡ b
 bool_iff true true f g = refl
 bool_iff true false f g = absurd (true≢false (sym (f refl)))
 bool_iff false true f g = absurd (true≢false (sym (g refl)))
 bool_iff false false f g = refl
 
-or_left : (a b : Bool) → a ≡ true → a || b ≡ true
+pub or_left : (a b : Bool) → a ≡ true → a || b ≡ true
 or_left true b e = refl
 or_left false b e = absurd (true≢false (sym e))
 
-or_right : (a b : Bool) → b ≡ true → a || b ≡ true
+pub or_right : (a b : Bool) → b ≡ true → a || b ≡ true
 or_right true b e = refl
 or_right false b e = e
-
-or_cases : (a b : Bool) → a || b ≡ true → (a ≡ true) ⊎ (b ≡ true)
-or_cases true b e = inl refl
-or_cases false b e = inr e
 
 -- A test that was known or is decided now.
 known_or :

@@ -1,6 +1,6 @@
 -- One list, one state.
-use Rattle.std.proofs.Common.{ℕ, zero, suc, ◌≡◌, Bool, true, false, List, [], ◌∷◌, ◌++◌, length, Option, inl, inr, refl}
-use Rattle.std.proofs.Common.{sym, ap, ap₂, ◌∙◌, subst, true≢false}
+use Rattle.std.proofs.Common.{ℕ, zero, suc, ◌≡◌, true, List, [], ◌∷◌, ◌++◌, length, Option, inl, inr}
+use Rattle.std.proofs.Common.{sym, ap, ap₂, ◌∙◌, subst}
 use Rattle.automata_base.specs.Paths.Order.{Upto}
 use Rattle.automata_base.specs.Lists.{pick, From}
 use Rattle.automata_base.specs.Haystacks.Looks.{Look}
@@ -8,7 +8,6 @@ use Rattle.automata_base.specs.Nfas.Nfa.{Nfa, accepts}
 use Rattle.automata_base.specs.Paths.Paths.{IsPathAt, Tape, next}
 use Rattle.automata_base.specs.Powersets.Cuts.{MatchKind, All, LeftmostFirst, cut_for, IsOnce, targets}
 use Rattle.automata_base.specs.Powersets.Passes.{IsMake, IsNeeded, IsClosureOf, IsDecided, true_looks, IsSuccessor}
-use Rattle.automata_base.specs.Powersets.Passes.{IsPass}
 use Rattle.automata_base.specs.Powersets.Powerset.{Powerset}
 use Rattle.automata_base.specs.Paths.Selections.{Accepts, Pair, ArePatternsAt, IsFirstAt, Pairs, at_place}
 use Rattle.automata_base.specs.Paths.Selections.{IsOverlappingOn}
@@ -18,8 +17,9 @@ use Rattle.automata_base.proofs.Paths.Readings.{list_one}
 use Rattle.automata_base.proofs.Paths.Decisions.{closure_agrees}
 use Rattle.automata_base.specs.Haystacks.LookSets.{truth_of}
 use Rattle.automata_base.proofs.Paths.LookSets.{same_looks}
+use Rattle.automata_base.proofs.Paths.Truths.{bool_iff}
 
-upto_both : (p q : List ℕ) → Upto p q → Upto q p → p ≡ q
+pub upto_both : (p q : List ℕ) → Upto p q → Upto q p → p ≡ q
 upto_both p q (inl e) k = e
 upto_both p q (inr b) (inl e) = sym e
 upto_both p q (inr b) (inr c) = absurd (before_irrefl p (before_trans p q p b c))
@@ -65,13 +65,6 @@ pub walk_one :
 walk_one kind n t start a b h k =
     pairs_one (ArePatternsAt kind n t start) (suc (length t.bytes)) a b (λ i x y. at_one kind n t start i x y) h k
 
--- One powerset state.
-pub both_true : (a b : Bool) → (a ≡ true → b ≡ true) → (b ≡ true → a ≡ true) → a ≡ b
-both_true true true f g = refl
-both_true true false f g = absurd (true≢false (sym (f refl)))
-both_true false true f g = absurd (true≢false (sym (g refl)))
-both_true false false f g = refl
-
 pub powerset_path :
     (A B : Powerset) → A.nfa ≡ B.nfa → A.patterns ≡ B.patterns → A.known ≡ B.known → A.needed ≡ B.needed → A.word ≡ B.word → A.half ≡ B.half → A ≡ B
 powerset_path A B l p k d w h = λ i.
@@ -89,16 +82,16 @@ make_one :
     → IsMake n patterns C prev A → IsMake n patterns C prev B → A ≡ B
 make_one n patterns C prev A B a b =
     powerset_path A B l (a.1 ∙ sym b.1)
-    (same_looks A.known B.known a.6 b.6 (λ look. both_true (truth_of A.known look) (truth_of B.known look)
+    (same_looks A.known B.known a.6 b.6 (λ look. bool_iff (truth_of A.known look) (truth_of B.known look)
     (λ e. let w = (a.3 look).0 e in (b.3 look).1 ((w.0.0, subst (λ v. IsNeeded n v w.0.0) l w.0.1), w.1))
     (λ e. let w = (b.3 look).0 e in (a.3 look).1 ((w.0.0, subst (λ v. IsNeeded n v w.0.0) (sym l) w.0.1), w.1))))
-    (same_looks A.needed B.needed a.7 b.7 (λ look. both_true (truth_of A.needed look) (truth_of B.needed look)
+    (same_looks A.needed B.needed a.7 b.7 (λ look. bool_iff (truth_of A.needed look) (truth_of B.needed look)
     (λ e. (b.2 look).1 (subst (λ v. IsNeeded n v look) l ((a.2 look).0 e)))
     (λ e. (a.2 look).1 (subst (λ v. IsNeeded n v look) (sym l) ((b.2 look).0 e)))))
-    (both_true A.word B.word
+    (bool_iff A.word B.word
     (λ e. let w = a.4.0 e in b.4.1 ((λ f. w.0 (l ∙ f)), w.1, w.2))
     (λ e. let w = b.4.0 e in a.4.1 ((λ f. w.0 (sym l ∙ f)), w.1, w.2)))
-    (both_true A.half B.half
+    (bool_iff A.half B.half
     (λ e. let w = a.5.0 e in b.5.1 ((λ f. w.0 (l ∙ f)), w.1, w.2))
     (λ e. let w = b.5.0 e in a.5.1 ((λ f. w.0 (sym l ∙ f)), w.1, w.2)))
   where
@@ -145,11 +138,3 @@ succ_one n kind Q u A B a b =
     p =
         list_one (From (λ root path q. (root ≡ q) × (path ≡ [])) (pick (accepts n) (cut_for kind n b.0))) a.1 b.1
         (subst (λ v. IsOnce (pick (accepts n) (cut_for kind n v)) a.1) l a.3) b.3
-
-pub pass_one :
-    (n : Nfa) (kind : MatchKind) (start : ℕ) (t : Tape) (k : ℕ) (A B : Powerset)
-    → IsPass n kind start t k A → IsPass n kind start t k B → A ≡ B
-pass_one n kind start t zero A B a b = arrival_one n [] (start ∷ []) t.before A B a b
-pass_one n kind start t (suc k) A B a b =
-    succ_one n kind b.0 (next t k) A B
-    (subst (λ v. IsSuccessor n kind v (next t k) A) (pass_one n kind start t k a.0 b.0 a.1 b.1) a.2) b.2

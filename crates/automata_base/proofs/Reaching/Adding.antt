@@ -4,7 +4,7 @@ use Rattle.std.proofs.Common.{length, get_or, take, drop, inl, inr, refl, sym, a
 use Rattle.std.proofs.Common.{append-nil}
 use Rattle.std.specs.Prelude.{Contains, IsTrue, IsFalse, ltb}
 use Rattle.std.proofs.lemmas.Bool.{ltb-true}
-use Rattle.std.proofs.lemmas.List.{drop_all, take-append-le}
+use Rattle.std.proofs.lemmas.List.{take-append-le}
 use Rattle.automata_base.specs.declared.nfa.thompson.State.{State}
 use Rattle.automata_base.specs.declared.nfa.thompson.Transition.{Transition}
 use Rattle.automata_base.specs.Lists.{all_below, In}
@@ -13,11 +13,14 @@ use Rattle.automata_base.specs.Nfas.Nodes.{dense_from}
 use Rattle.automata_base.specs.Retraced.Once.{once_from}
 use Rattle.automata_base.specs.Nfas.Reach.{nexts}
 use Rattle.automata_base.specs.Nfas.Errors.{transitions_below, state_below, states_below}
-use Rattle.automata_base.proofs.Determinizing.Distinct.{Contains-In, In-Contains, In-get_or, In-left, In-right}
-use Rattle.automata_base.proofs.Determinizing.Distinct.{In-either}
+use Rattle.automata_base.proofs.Determinizing.Distinct.{Contains-In, In-Contains, In-get_or}
 use Rattle.automata_base.proofs.Determinizing.Keeping.{next_drop}
-use Rattle.automata_base.proofs.Paths.Checked.{both, below_in}
+use Rattle.automata_base.proofs.Paths.Checked.{below_in}
 use Rattle.automata_base.proofs.Paths.Fuels.{is_in_cases}
+use Rattle.std.proofs.lemmas.Bool.{and_parts}
+use Rattle.automata_base.proofs.Paths.Walks.{in_left}
+use Rattle.automata_base.proofs.Paths.FirstVisits.{in_right}
+use Rattle.automata_base.proofs.Paths.Walks.{in_either}
 
 new_is : (id : ℕ) (old : List ℕ) → (Contains old id → ⊥) → is_in id old ≡ false
 new_is id old new = go (is_in_cases id old)
@@ -57,15 +60,15 @@ once_more ys (x ∷ xs) =
     (one ++ w.0, w.1 ∙ append_assoc ys one w.0)
 
 pub once_keeps : (q : ℕ) (ys xs : List ℕ) → In q ys → In q (once_from ys xs)
-once_keeps q ys xs i = let w = once_more ys xs in subst (λ z. In q z) (sym w.1) (In-left q ys w.0 i)
+once_keeps q ys xs i = let w = once_more ys xs in subst (λ z. In q z) (sym w.1) (in_left q ys w.0 i)
 
 pub once_has : (q : ℕ) (ys xs : List ℕ) → In q xs → In q (once_from ys xs)
 once_has q ys [] i = absurd i
 once_has q ys (x ∷ xs) (inl e) = once_keeps q (ys ++ cond (is_in x ys) [] (x ∷ [])) xs (go (is_in_cases x ys))
   where
     go : ((is_in x ys ≡ true) × In x ys) ⊎ ((is_in x ys ≡ false) × (In x ys → ⊥)) → In q (ys ++ cond (is_in x ys) [] (x ∷ []))
-    go (inl h) = In-left q ys (cond (is_in x ys) [] (x ∷ [])) (subst (λ z. In z ys) (sym e) h.1)
-    go (inr h) = In-right q ys (cond (is_in x ys) [] (x ∷ [])) (subst (λ b. In q (cond b [] (x ∷ []))) (sym h.0) (inl e))
+    go (inl h) = in_left q ys (cond (is_in x ys) [] (x ∷ [])) (subst (λ z. In z ys) (sym e) h.1)
+    go (inr h) = in_right q ys (cond (is_in x ys) [] (x ∷ [])) (subst (λ b. In q (cond b [] (x ∷ []))) (sym h.0) (inl e))
 once_has q ys (x ∷ xs) (inr i) = once_has q (ys ++ cond (is_in x ys) [] (x ∷ [])) xs i
 
 pub once_only : (q : ℕ) (ys xs : List ℕ) → In q (once_from ys xs) → In q ys ⊎ In q xs
@@ -79,7 +82,7 @@ once_only q ys (x ∷ xs) i = go (once_only q (ys ++ cond (is_in x ys) [] (x ∷
 
     from : (b : Bool) → In q (ys ++ cond b [] (x ∷ [])) → In q ys ⊎ In q (x ∷ xs)
     from true j = inl (subst (λ z. In q z) (append-nil ys) j)
-    from false j = split (In-either q ys (x ∷ []) j)
+    from false j = split (in_either q ys (x ∷ []) j)
 
     go : In q (ys ++ cond (is_in x ys) [] (x ∷ [])) ⊎ In q xs → In q ys ⊎ In q (x ∷ xs)
     go (inl j) = from (is_in x ys) j
@@ -87,9 +90,6 @@ once_only q ys (x ∷ xs) i = go (once_only q (ys ++ cond (is_in x ys) [] (x ∷
 
 pub once_take : (n : ℕ) (ys xs : List ℕ) → n ≤ length ys → take n (once_from ys xs) ≡ take n ys
 once_take n ys xs l = let w = once_more ys xs in ap (take n) w.1 ∙ take-append-le n ys w.0 l
-
-pub once_done : (ys xs w : List ℕ) (i : ℕ) → length xs ≤ i → once_from ys (drop i xs) ≡ w → ys ≡ w
-once_done ys xs w i l h = sym (ap (once_from ys) (drop_all i xs l)) ∙ h
 
 nexts_alike : (j k : ℕ) (xs : List ℕ) → nexts (dense_from j xs) ≡ nexts (dense_from k xs)
 nexts_alike j k [] = refl
@@ -118,14 +118,14 @@ pub next_below :
     (n : ℕ) (xs : List Transition) (i : ℕ) (x : Transition) → transitions_below n xs ≡ true → i < length xs → x ≡ get_or xs i x → x.next < n
 next_below n [] i x h l e = absurd (omega (arith, l))
 next_below n (y ∷ ys) zero x h l e =
-    subst (λ (z : Transition). z.next < n) (sym e) (ltb-true y.next n (both (ltb y.next n) (transitions_below n ys) h).0)
+    subst (λ (z : Transition). z.next < n) (sym e) (ltb-true y.next n (and_parts (ltb y.next n) (transitions_below n ys) h).0)
 next_below n (y ∷ ys) (suc i) x h l e =
-    next_below n ys i x (both (ltb y.next n) (transitions_below n ys) h).1 (omega (arith, l)) e
+    next_below n ys i x (and_parts (ltb y.next n) (transitions_below n ys) h).1 (omega (arith, l)) e
 
 pub state_at_below :
     (n : ℕ) (xs : List State) (i : ℕ) (x : State) → states_below n xs ≡ true → i < length xs → x ≡ get_or xs i x → state_below n x ≡ true
 state_at_below n [] i x h l e = absurd (omega (arith, l))
 state_at_below n (y ∷ ys) zero x h l e =
-    subst (λ z. state_below n z ≡ true) (sym e) (both (state_below n y) (states_below n ys) h).0
+    subst (λ z. state_below n z ≡ true) (sym e) (and_parts (state_below n y) (states_below n ys) h).0
 state_at_below n (y ∷ ys) (suc i) x h l e =
-    state_at_below n ys i x (both (state_below n y) (states_below n ys) h).1 (omega (arith, l)) e
+    state_at_below n ys i x (and_parts (state_below n y) (states_below n ys) h).1 (omega (arith, l)) e

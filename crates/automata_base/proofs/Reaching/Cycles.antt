@@ -19,7 +19,6 @@ use Rattle.automata_base.specs.Nfas.Reach.{node_in, look_target, targets_of, Rou
 use Rattle.automata_base.specs.Nfas.Reach.{AreLooksAcyclic}
 use Rattle.automata_base.specs.Nfas.Errors.{states_below}
 use Rattle.automata_base.specs.Powersets.Closure.{children_at}
-use Rattle.automata_base.proofs.Determinizing.Distinct.{In-either, In-left, In-right}
 use Rattle.automata_base.proofs.Determinizing.Tests_of_lists.{node_fits}
 use Rattle.automata_base.proofs.Determinizing.Walking.{node_at}
 use Rattle.automata_base.proofs.Paths.Orders.{some_inj, none_some}
@@ -27,6 +26,10 @@ use Rattle.automata_base.proofs.Reaching.Adding.{once_has, once_keeps, once_only
 use Rattle.automata_base.proofs.Reaching.Matched.{target_found}
 use Rattle.automata_base.proofs.Reaching.DepthFirst.{read_at}
 use Rattle.automata_base.proofs.Reaching.Walked.{roots_alike, way_more}
+use Rattle.std.proofs.lemmas.Bool.{cases_lt}
+use Rattle.automata_base.proofs.Paths.Walks.{in_left}
+use Rattle.automata_base.proofs.Paths.FirstVisits.{in_right}
+use Rattle.automata_base.proofs.Paths.Walks.{in_either}
 
 -- A node that has a target as a look is one.
 pub look_is : (x : Node) (next : ℕ) → look_target x ≡ Some next → (look : Look) × (x ≡ Assert look next)
@@ -58,7 +61,7 @@ module _ (states : List State) (q : ℕ) (old : List ℕ) where
       look_target (node_in states q) ≡ None → ((p r : ℕ) → In p old → In r (targets_of Epsilon states p) → In r old)
       → (z : ℕ) → In z old ↔ IsReached Epsilon states (old ++ option_to_list (look_target (node_in states q))) z
   none_reached none closed z = (
-    λ i. (z, [], subst (λ v. In z (old ++ option_to_list v)) (sym none) (In-left z old [] i), refl),
+    λ i. (z, [], subst (λ v. In z (old ++ option_to_list v)) (sym none) (in_left z old [] i), refl),
     λ h. along h.0 h.1 (subst (λ v. In h.0 v) (ap (λ v. old ++ option_to_list v) none ∙ append-nil old) h.2) h.3,
   )
     where
@@ -79,9 +82,9 @@ module _ (states : List State) (q : ℕ) (old : List ℕ) where
       roots = old ++ option_to_list (look_target (node_in states q))
 
       split : (p : ℕ) → In p old ⊎ In p (next ∷ []) → In p roots
-      split p (inl i) = In-left p old (option_to_list (look_target (node_in states q))) i
+      split p (inl i) = in_left p old (option_to_list (look_target (node_in states q))) i
       split p (inr i) =
-          In-right p old (option_to_list (look_target (node_in states q))) (subst (λ v. In p (option_to_list v)) (sym some) i)
+          in_right p old (option_to_list (look_target (node_in states q))) (subst (λ v. In p (option_to_list v)) (sym some) i)
 
       from : (p : ℕ) → In p added → In p roots
       from p i = split p (once_only p old (next ∷ []) (subst (λ v. In p v) once i))
@@ -91,7 +94,7 @@ module _ (states : List State) (q : ℕ) (old : List ℕ) where
       join p (inr i) = subst (λ v. In p v) (sym once) (once_has p old (next ∷ []) i)
 
       to : (p : ℕ) → In p roots → In p added
-      to p i = join p (In-either p old (next ∷ []) (subst (λ v. In p (old ++ option_to_list v)) some i))
+      to p i = join p (in_either p old (next ∷ []) (subst (λ v. In p (old ++ option_to_list v)) some i))
 
   pub none_found :
       (new : List ℕ) → look_target (node_in states q) ≡ None
@@ -105,15 +108,6 @@ module _ (states : List State) (q : ℕ) (old : List ℕ) where
   one_found next new b some had fresh =
       let found : IsTrue b ↔ In q new = target_found (In q new) new q b had fresh (λ i. i, λ i. i) in
       (λ t. (next, some, found.0 t), λ h. found.1 h.2)
-
-below_or : (r q : ℕ) → (r < q) ⊎ (q ≤ r)
-below_or r zero = inr (omega arith)
-below_or zero (suc q) = inl (omega arith)
-below_or (suc r) (suc q) = go (below_or r q)
-  where
-    go : (r < q) ⊎ (q ≤ r) → (suc r < suc q) ⊎ (suc q ≤ suc r)
-    go (inl l) = inl (omega (arith, l))
-    go (inr l) = inr (omega (arith, l))
 
 past_all : (states : List State) (q : ℕ) → length states ≤ q → look_target (node_in states q) ≡ None
 past_all [] q l = refl
@@ -182,10 +176,10 @@ module _
     front = take_more order i q l ∙ ap (λ z. take i order ++ z ∷ []) (sym read)
 
     earlier : (r : ℕ) → In r (take i order) → In r (take (i + 1) order)
-    earlier r j = subst (λ z. In r z) (sym front) (In-left r (take i order) (q ∷ []) j)
+    earlier r j = subst (λ z. In r z) (sym front) (in_left r (take i order) (q ∷ []) j)
 
     last : In q (take (i + 1) order)
-    last = subst (λ z. In q z) (sym front) (In-right q (take i order) (q ∷ []) (inl refl))
+    last = subst (λ z. In q z) (sym front) (in_right q (take i order) (q ∷ []) (inl refl))
 
     -- A member is led to by a look before this one, or by this one.
     led : (z : ℕ) → In z new → ((r : ℕ) × In r (take i order) × LooksTo states r z) ⊎ LooksTo states q z
@@ -210,7 +204,7 @@ module _
 
         go : IsReached Epsilon states (old ++ option_to_list (look_target (node_in states q))) z
             → ((r : ℕ) × In r (take i order) × LooksTo states r z) ⊎ LooksTo states q z
-        go h = from h.0 h.1 h.3 (In-either h.0 old (option_to_list (look_target (node_in states q))) h.2)
+        go h = from h.0 h.1 h.3 (in_either h.0 old (option_to_list (look_target (node_in states q))) h.2)
 
     -- The walk returns to it exactly if it leads back to itself: a look before it that led to it would be on a cycle.
     pub back_is : IsTrue b ↔ LeadsBack states q
@@ -228,11 +222,11 @@ module _
         root : (next : ℕ) → look_target (node_in states q) ≡ Some next → (r : ℕ) → In r (next ∷ [])
             → In r (old ++ option_to_list (look_target (node_in states q)))
         root next e r k =
-            In-right r old (option_to_list (look_target (node_in states q))) (subst (λ v. In r (option_to_list v)) (sym e) k)
+            in_right r old (option_to_list (look_target (node_in states q))) (subst (λ v. In r (option_to_list v)) (sym e) k)
 
     pub one_tried : b ≡ false → IsTried states order (i + 1) new
     one_tried e = record {
-      none = λ r j back. none r (In-either r (take i order) (q ∷ []) (subst (λ z. In r z) front j)) back;
+      none = λ r j back. none r (in_either r (take i order) (q ∷ []) (subst (λ z. In r z) front j)) back;
       sound = λ z j. sound z (led z j);
       closed = λ p r j k.
           let h = (reached p).0 j in
@@ -256,7 +250,7 @@ module _
 pub all_tried :
     (states : List State) (order : List ℕ) (i : ℕ) (items : List ℕ) → length order ≤ i
     → IsWholeOrder (length states) (targets_of Epsilon states) order → IsTried states order i items → IsTrue true ↔ AreLooksAcyclic states
-all_tried states order i items l whole tried = (λ _ q back. go q back (below_or q (length states)), λ _. refl)
+all_tried states order i items l whole tried = (λ _ q back. go q back (cases_lt q (length states)), λ _. refl)
   where
     go : (q : ℕ) → LeadsBack states q → (q < length states) ⊎ (length states ≤ q) → ⊥
     go q back (inl m) = tried.none q (subst (λ z. In q z) (sym (take_all i order l)) (whole.whole q m)) back

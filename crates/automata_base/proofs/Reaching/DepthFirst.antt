@@ -12,9 +12,13 @@ use Rattle.automata_base.specs.Nfas.Nodes.{node_of}
 use Rattle.automata_base.specs.Paths.Paths.{all_true}
 use Rattle.automata_base.specs.Nfas.Reach.{targets_of, Route}
 use Rattle.automata_base.specs.Powersets.Closure.{children_at}
-use Rattle.automata_base.proofs.Determinizing.Distinct.{Contains-In, In-Contains, In-left, In-right, In-either}
+use Rattle.automata_base.proofs.Determinizing.Distinct.{Contains-In, In-Contains}
 use Rattle.automata_base.proofs.Determinizing.Walking.{node_at}
 use Rattle.automata_base.proofs.Paths.Orders.{some_inj, none_some}
+use Rattle.automata_base.proofs.Paths.Walks.{in_left}
+use Rattle.automata_base.proofs.Paths.FirstVisits.{in_right}
+use Rattle.automata_base.proofs.Paths.Walks.{in_either}
+use Rattle.automata_base.proofs.Paths.Sets.{nth_in}
 
 route_then : (G : ℕ → List ℕ) (q : ℕ) (way : List ℕ) (r : ℕ) (more : List ℕ) (z : ℕ) → Route G q way r → Route G r more z → Route G q (way ++ more) z
 route_then G q [] r more z w m = subst (λ v. Route G v more z) (sym w) m
@@ -39,16 +43,6 @@ take_suc (y ∷ ys) (suc k) x r e (inr i) = go (take_suc ys k x r e i)
 
 pub take_next : (xs : List ℕ) (k x r : ℕ) → nth xs k ≡ Some x → In r (take (k + 1) xs) → In r (take k xs) ⊎ (r ≡ x)
 take_next xs k x r e i = let m : k + 1 ≡ suc k = omega arith in take_suc xs k x r e (subst (λ z. In r (take z xs)) m i)
-
-pub nth_in : (xs : List ℕ) (k x : ℕ) → nth xs k ≡ Some x → In x xs
-nth_in [] k x e = absurd (none_some e)
-nth_in (y ∷ ys) zero x e = inl (sym (some_inj e))
-nth_in (y ∷ ys) (suc k) x e = inr (nth_in ys k x e)
-
-pub nth_below : (xs : List ℕ) (k x : ℕ) → nth xs k ≡ Some x → k < length xs
-nth_below [] k x e = absurd (none_some e)
-nth_below (y ∷ ys) zero x e = omega arith
-nth_below (y ∷ ys) (suc k) x e = let l : k < length ys = nth_below ys k x e in omega arith
 
 pub nth_none : (xs : List ℕ) (k : ℕ) → nth xs k ≡ None → take k xs ≡ xs
 nth_none [] zero e = refl
@@ -93,7 +87,7 @@ followed_more :
     → AreFollowed n G visited frames → AreFollowed n G (visited ++ more) frames
 followed_more n G visited more [] w = tt
 followed_more n G visited more (f ∷ fs) w =
-    (w.0, λ r i. In-left r visited more (w.1 r i), followed_more n G visited more fs w.2)
+    (w.0, λ r i. in_left r visited more (w.1 r i), followed_more n G visited more fs w.2)
 
 module _ (n : ℕ) (G : ℕ → List ℕ) (visited finished : List ℕ) where
   -- A state that was not visited is put on a stack that is empty.
@@ -101,7 +95,7 @@ module _ (n : ℕ) (G : ℕ → List ℕ) (visited finished : List ℕ) where
       (frame : Frame) (id : ℕ) → frame.state ≡ id → frame.edge ≡ 0 → id < n → IsUnderSearch n G visited finished []
       → IsUnderSearch n G (visited ++ id ∷ []) finished (frame ∷ [])
   search_starts frame id same first below w = record {
-    visits = λ q i. visits q (In-either q visited (id ∷ []) i);
+    visits = λ q i. visits q (in_either q visited (id ∷ []) i);
     follows = (
       subst (λ z. z < n) (sym same) below,
       λ r i. absurd (subst (λ k. In r (take k (G frame.state))) first i),
@@ -133,7 +127,7 @@ module _ (n : ℕ) (G : ℕ → List ℕ) (visited finished : List ℕ) where
         → id < n → nth (G frame.state) edge ≡ Some id → ((r : ℕ) → In r (take edge (G frame.state)) → In r visited)
         → IsUnderSearch n G (visited ++ id ∷ []) finished (next ∷ again ∷ below)
     search_enters again next edge id same more to first small at before = record {
-      visits = λ q i. visits q (In-either q visited (id ∷ []) i);
+      visits = λ q i. visits q (in_either q visited (id ∷ []) i);
       follows = (
         subst (λ z. z < n) (sym to) small,
         λ r i. absurd (subst (λ k. In r (take k (G next.state))) first i),
@@ -163,8 +157,8 @@ module _ (n : ℕ) (G : ℕ → List ℕ) (visited finished : List ℕ) where
         follows r i = go (take_next (G frame.state) edge id r at i)
           where
             go : In r (take edge (G frame.state)) ⊎ (r ≡ id) → In r (visited ++ id ∷ [])
-            go (inl j) = In-left r visited (id ∷ []) (before r j)
-            go (inr e) = In-right r visited (id ∷ []) (inl e)
+            go (inl j) = in_left r visited (id ∷ []) (before r j)
+            go (inr e) = in_right r visited (id ∷ []) (inl e)
 
         step : LeadsBy G frame.state next.state
         step = subst (LeadsBy G frame.state) (sym to) (leads_edge G frame.state id (nth_in (G frame.state) edge id at))
@@ -182,8 +176,8 @@ module _ (n : ℕ) (G : ℕ → List ℕ) (visited finished : List ℕ) where
       visits = λ q i. leaves q (w.visits q i);
       follows = w.follows.2;
       chain = w.chain.1;
-      closed = λ p r i j. leaves r (shut p r (In-either p finished (frame.state ∷ []) i) j);
-      cyclic = λ p q i out h. cyclic p q (In-either p finished (frame.state ∷ []) i) out h;
+      closed = λ p r i j. leaves r (shut p r (in_either p finished (frame.state ∷ []) i) j);
+      cyclic = λ p q i out h. cyclic p q (in_either p finished (frame.state ∷ []) i) out h;
       order = λ i q p at j. order i q p (nth_last finished frame.state i q at) j;
     })
       where
@@ -191,8 +185,8 @@ module _ (n : ℕ) (G : ℕ → List ℕ) (visited finished : List ℕ) where
         done = finished ++ frame.state ∷ []
 
         leaves : (q : ℕ) → In q finished ⊎ In q (frame.state ∷ states_in below) → In q done ⊎ In q (states_in below)
-        leaves q (inl i) = inl (In-left q finished (frame.state ∷ []) i)
-        leaves q (inr (inl f)) = inl (In-right q finished (frame.state ∷ []) (inl f))
+        leaves q (inl i) = inl (in_left q finished (frame.state ∷ []) i)
+        leaves q (inr (inl f)) = inl (in_right q finished (frame.state ∷ []) (inl f))
         leaves q (inr (inr i)) = inr i
 
         shut : (p r : ℕ) → In p finished ⊎ In p (frame.state ∷ []) → In r (G p) → In r finished ⊎ In r (frame.state ∷ states_in below)
@@ -205,12 +199,12 @@ module _ (n : ℕ) (G : ℕ → List ℕ) (visited finished : List ℕ) where
             → Route G c way q → (In q done → ⊥) → LeadsBy G frame.state frame.state
         back c way q h (inr (inl f)) m out = subst (LeadsBy G frame.state) f h
         back c way q h (inr (inr i)) m out = leads_then G frame.state c frame.state h (w.chain.0 c i)
-        back c [] q h (inl i) m out = absurd (out (In-left q finished (frame.state ∷ []) (subst (λ z. In z finished) m i)))
+        back c [] q h (inl i) m out = absurd (out (in_left q finished (frame.state ∷ []) (subst (λ z. In z finished) m i)))
         back c (d ∷ way) q h (inl i) m out =
             back d way q (leads_then G frame.state c d h (leads_edge G c d m.0)) (w.closed c d i m.0) m.1 out
 
         cyclic : (p q : ℕ) → In p finished ⊎ In p (frame.state ∷ []) → (In q done → ⊥) → LeadsBy G p q → LeadsBy G p p
-        cyclic p q (inl i) out h = w.cyclic p q i (λ j. out (In-left q finished (frame.state ∷ []) j)) h
+        cyclic p q (inl i) out h = w.cyclic p q i (λ j. out (in_left q finished (frame.state ∷ []) j)) h
         cyclic p q (inr (inl f)) out h =
             subst (λ z. LeadsBy G z z) (sym f) (go (subst (λ z. LeadsBy G z q) f h))
           where
@@ -251,18 +245,6 @@ module _ (n : ℕ) (G : ℕ → List ℕ) (visited finished : List ℕ) where
     search_done new true all fresh added had kept =
         search_leaves new all (λ i. fresh refl (Contains-In frame.state finished i)) (added refl)
     search_done new false all fresh added had kept = search_drops new (In-Contains frame.state finished (had refl)) (kept refl)
-
--- A search that has begun with nothing, and one that has come to its end.
-pub search_none : (n : ℕ) (G : ℕ → List ℕ) (visited finished : List ℕ) → visited ≡ [] → finished ≡ [] → IsUnderSearch n G visited finished []
-search_none n G visited finished v f =
-    subst (λ z. IsUnderSearch n G z finished []) (sym v) (subst (λ z. IsUnderSearch n G [] z []) (sym f) (record {
-      visits = λ q i. absurd i;
-      follows = tt;
-      chain = tt;
-      closed = λ p r i j. absurd i;
-      cyclic = λ p q i out h. absurd i;
-      order = λ i q p e j. absurd (none_some e);
-    }))
 
 pub search_whole :
     (n : ℕ) (G : ℕ → List ℕ) (visited finished : List ℕ) → IsUnderSearch n G visited finished []

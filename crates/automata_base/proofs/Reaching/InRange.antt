@@ -13,17 +13,14 @@ use Rattle.automata_base.specs.Paths.Paths.{all_true}
 use Rattle.automata_base.specs.Nfas.Reach.{node_in, targets_at, byte_targets, nexts}
 use Rattle.automata_base.specs.Nfas.Errors.{state_below, states_below, transitions_below}
 use Rattle.automata_base.specs.Powersets.Closure.{children_at}
-use Rattle.automata_base.proofs.Determinizing.Distinct.{In-left, In-either}
 use Rattle.automata_base.proofs.Determinizing.Walking.{nodes_length}
 use Rattle.automata_base.proofs.Reaching.Led.{node_takes}
+use Rattle.automata_base.proofs.Determinizing.Belows.{all_below_from}
+use Rattle.automata_base.proofs.Paths.Walks.{in_left}
+use Rattle.automata_base.proofs.Paths.Walks.{in_either}
 
 two : (p q n : ℕ) → p < n → q < n → (ltb p n && ltb q n) ≡ true
 two p q n l k = ap (λ v. v && ltb q n) (lt-ltb p n l) ∙ lt-ltb q n k
-
--- Numbers below a bound, as a test.
-pub ids_below : (n : ℕ) (xs : List ℕ) → ((r : ℕ) → In r xs → r < n) → all_below n xs ≡ true
-ids_below n [] f = refl
-ids_below n (x ∷ xs) f = ap (λ v. v && all_below n xs) (lt-ltb x n (f x (inl refl))) ∙ ids_below n xs (λ r i. f r (inr i))
 
 pub below_each : (n : ℕ) (xs : List ℕ) → All (λ s. s < n) xs → all_below n xs ≡ true
 below_each n [] f = refl
@@ -49,7 +46,7 @@ state_is_below n (is.ByteRange lo hi next) z f = lt-ltb next n (f next (inl refl
 state_is_below n (is.Sparse ts) z f = below_ranges n ts.items f
 state_is_below n (is.Dense targets) z f = below_dense n 0 targets.value z f
 state_is_below n (is.Look look next) z f = lt-ltb next n (f next (inl refl))
-state_is_below n (is.Union alternates) z f = ids_below n alternates.items (λ r i. f r (In-left r alternates.items [] i))
+state_is_below n (is.Union alternates) z f = all_below_from n alternates.items (λ r i. f r (in_left r alternates.items [] i))
 state_is_below n (is.BinaryUnion alt1 alt2) z f = two alt1 alt2 n (f alt1 (inl refl)) (f alt2 (inr (inl refl)))
 state_is_below n (is.Capture next pattern index slot) z f = lt-ltb next n (f next (inl refl))
 state_is_below n is.Fail z f = refl
@@ -78,5 +75,5 @@ door_below a door = below_states (length a.states) a.states (λ q. state_is_belo
         (λ (j : In r (children_at (node_in a.states q) all_true)). let k = door.range.0 q r all_true j in omega (arith, k, size))
         (λ (j : In r (byte_targets (node_in a.states q))).
         let w = node_takes a.states q r door.ordered j in let k = door.range.1 q w.0 r w.1 in omega (arith, k, size))
-        (In-either r (children_at (node_in a.states q) all_true) (byte_targets (node_in a.states q))
+        (in_either r (children_at (node_in a.states q) all_true) (byte_targets (node_in a.states q))
         (subst (λ v. In r (targets_at Every v)) (sym (node_is a.states q)) i))

@@ -9,7 +9,7 @@ use Rattle.automata_base.specs.declared.nfa.thompson.Transition.{Transition}
 use Rattle.automata_base.specs.declared.nfa.thompson.reach.Edges.TheVariants.{Epsilon, Every}
 use Rattle.automata_base.specs.Nfas.Engines.{HasEdge, Road, Reaches}
 use Rattle.automata_base.specs.Nfas.Getters.{HasEmpty, SkipsLazily}
-use Rattle.automata_base.specs.Lists.{In, nth}
+use Rattle.automata_base.specs.Lists.{In}
 use Rattle.automata_base.specs.Haystacks.Looks.{Look, within}
 use Rattle.automata_base.specs.Nfas.Nfa.{Node, Range, Split, Assert, Read, Accept, node, hop, hop_at, takes_in}
 use Rattle.automata_base.specs.Nfas.Nfa.{takes_at}
@@ -19,21 +19,15 @@ use Rattle.automata_base.specs.Nfas.Reach.{node_in, nexts, byte_targets, targets
 use Rattle.automata_base.specs.Nfas.Reach.{LeadsBack, AreLooksAcyclic, ReachesMatch, SkipsFrom}
 use Rattle.automata_base.specs.Nfas.Errors.{ordered_from, state_ordered, states_ordered}
 use Rattle.automata_base.specs.Powersets.Closure.{children}
-use Rattle.automata_base.proofs.Determinizing.Distinct.{In-left, In-right, In-either}
-use Rattle.automata_base.proofs.Paths.Checked.{both}
 use Rattle.automata_base.proofs.Paths.FirstVisits.{hop_children}
 use Rattle.automata_base.proofs.Paths.Orders.{some_inj, none_some}
 use Rattle.automata_base.proofs.Reaching.Cycles.{look_is}
-
-in_nth : (xs : List ℕ) (r : ℕ) → In r xs → (e : ℕ) × (nth xs e ≡ Some r)
-in_nth [] r i = absurd i
-in_nth (x ∷ xs) r (inl e) = (0, ap (λ z. Some z) (sym e))
-in_nth (x ∷ xs) r (inr i) = let w = in_nth xs r i in (suc w.0, w.1)
-
-nth_in : (xs : List ℕ) (e r : ℕ) → nth xs e ≡ Some r → In r xs
-nth_in [] e r h = absurd (none_some h)
-nth_in (x ∷ xs) zero r h = inl (sym (some_inj h))
-nth_in (x ∷ xs) (suc e) r h = inr (nth_in xs e r h)
+use Rattle.std.proofs.lemmas.Bool.{and_parts}
+use Rattle.automata_base.proofs.Paths.Walks.{in_left}
+use Rattle.automata_base.proofs.Paths.FirstVisits.{in_right}
+use Rattle.automata_base.proofs.Paths.Walks.{in_either}
+use Rattle.automata_base.proofs.Paths.Sets.{in_nth}
+use Rattle.automata_base.proofs.Paths.Sets.{nth_in}
 
 module _ (a : Automaton) where
   hop_from : (q r : ℕ) → In r (children (nfa_of a) all_true q) → (e : ℕ) × (hop (nfa_of a) all_true q e ≡ Some r)
@@ -113,15 +107,15 @@ next_takes :
     → (u : ℕ) × (low ≤ u) × (takes_in (ranges_of ts) u ≡ Some r)
 next_takes low [] r o i = absurd i
 next_takes low (t ∷ ts) r o (inl e) =
-    let outer = both (leb low t.lo && leb t.lo t.hi) (ordered_from (t.hi + 1) ts) o in
-    let inner = both (leb low t.lo) (leb t.lo t.hi) outer.0 in (
+    let outer = and_parts (leb low t.lo && leb t.lo t.hi) (ordered_from (t.hi + 1) ts) o in
+    let inner = and_parts (leb low t.lo) (leb t.lo t.hi) outer.0 in (
       t.lo,
       leb-true low t.lo inner.0,
       ap (λ b. cond b (Some t.next) (takes_in (ranges_of ts) t.lo)) (within_low t.lo t.hi inner.1) ∙ ap (λ z. Some z) (sym e),
     )
 next_takes low (t ∷ ts) r o (inr i) =
-    let outer = both (leb low t.lo && leb t.lo t.hi) (ordered_from (t.hi + 1) ts) o in
-    let inner = both (leb low t.lo) (leb t.lo t.hi) outer.0 in
+    let outer = and_parts (leb low t.lo && leb t.lo t.hi) (ordered_from (t.hi + 1) ts) o in
+    let inner = and_parts (leb low t.lo) (leb t.lo t.hi) outer.0 in
     let w = next_takes (t.hi + 1) ts r outer.1 i in
     let a : low ≤ t.lo = leb-true low t.lo inner.0 in
     let b : t.lo ≤ t.hi = leb-true t.lo t.hi inner.1 in
@@ -172,21 +166,21 @@ pub node_takes :
     (states : List State) (q r : ℕ) → states_ordered states ≡ true → In r (byte_targets (node_in states q))
     → (u : ℕ) × (takes_at (node_in states q) u ≡ Some r)
 node_takes [] q r o i = absurd i
-node_takes (x ∷ xs) zero r o i = state_takes x r (both (state_ordered x) (states_ordered xs) o).0 i
-node_takes (x ∷ xs) (suc q) r o i = node_takes xs q r (both (state_ordered x) (states_ordered xs) o).1 i
+node_takes (x ∷ xs) zero r o i = state_takes x r (and_parts (state_ordered x) (states_ordered xs) o).0 i
+node_takes (x ∷ xs) (suc q) r o i = node_takes xs q r (and_parts (state_ordered x) (states_ordered xs) o).1 i
 
 module _ (a : Automaton) (ordered : states_ordered a.states ≡ true) where
   edge_from : (q r : ℕ) → In r (targets_of Every a.states q) → HasEdge (nfa_of a) q r
-  edge_from q r i = go (In-either r (children (nfa_of a) all_true q) (byte_targets (node_in a.states q)) i)
+  edge_from q r i = go (in_either r (children (nfa_of a) all_true q) (byte_targets (node_in a.states q)) i)
     where
       go : In r (children (nfa_of a) all_true q) ⊎ In r (byte_targets (node_in a.states q)) → HasEdge (nfa_of a) q r
       go (inl j) = inl (hop_from a q r j)
       go (inr j) = inr (node_takes a.states q r ordered j)
 
   edge_to : (q r : ℕ) → HasEdge (nfa_of a) q r → In r (targets_of Every a.states q)
-  edge_to q r (inl h) = In-left r (children (nfa_of a) all_true q) (byte_targets (node_in a.states q)) (hop_to a q h.0 r h.1)
+  edge_to q r (inl h) = in_left r (children (nfa_of a) all_true q) (byte_targets (node_in a.states q)) (hop_to a q h.0 r h.1)
   edge_to q r (inr h) =
-      In-right r (children (nfa_of a) all_true q) (byte_targets (node_in a.states q)) (takes_target (node_in a.states q) h.0 r h.1)
+      in_right r (children (nfa_of a) all_true q) (byte_targets (node_in a.states q)) (takes_target (node_in a.states q) h.0 r h.1)
 
   road_from : (q : ℕ) (way : List ℕ) (z : ℕ) → Route (targets_of Every a.states) q way z → Road (nfa_of a) q way z
   road_from q [] z w = w

@@ -15,9 +15,10 @@ use Rattle.automata_base.specs.Nfas.Reach.{node_in, second_of, second_at, is_any
 use Rattle.automata_base.specs.Nfas.Errors.{states_below}
 use Rattle.automata_base.proofs.Determinizing.Tests_of_lists.{node_fits}
 use Rattle.automata_base.proofs.Determinizing.Walking.{node_at}
-use Rattle.automata_base.proofs.Paths.Checked.{both, below_in}
+use Rattle.automata_base.proofs.Paths.Checked.{below_in}
 use Rattle.automata_base.proofs.Paths.Orders.{some_inj, none_some}
 use Rattle.automata_base.proofs.Reaching.Adding.{state_at_below}
+use Rattle.std.proofs.lemmas.Bool.{and_parts}
 
 some_state : {x y : State} → ◌≡◌ {A = Option State} (Some x) (Some y) → x ≡ y
 some_state e = cc
@@ -45,13 +46,10 @@ second_has : (x : Node) (first skip : ℕ) → x ≡ Split (first ∷ skip ∷ [
 second_has x first skip e =
     ap (λ z. second_at z first) e ∙ ap (λ b. cond b (Some skip) None) (eq-eqb first first refl)
 
-and_true : (a b : Bool) → a && b ≡ true → (a ≡ true) × (b ≡ true)
-and_true a b e = both a b e
-
 any_byte_is : (s : State) (target : ℕ) → is_any_byte_of s target ≡ true → s ≡ ByteRange 0 255 target
 any_byte_is (ByteRange lo hi next) target e =
-    let outer = and_true (eqb lo 0 && eqb hi 255) (eqb next target) e in
-    let inner = and_true (eqb lo 0) (eqb hi 255) outer.0 in
+    let outer = and_parts (eqb lo 0 && eqb hi 255) (eqb next target) e in
+    let inner = and_parts (eqb lo 0) (eqb hi 255) outer.0 in
     ap (λ z. ByteRange z hi next) (eqb-true lo 0 inner.0)
     ∙ (ap (λ z. ByteRange 0 z next) (eqb-true hi 255 inner.1) ∙ ap (λ z. ByteRange 0 255 z) (eqb-true next target outer.1))
 any_byte_is (Sparse ts) target e = absurd (true≢false (sym e))

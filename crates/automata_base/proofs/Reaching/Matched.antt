@@ -8,8 +8,9 @@ use Rattle.automata_base.specs.declared.nfa.thompson.reach.Edges.TheVariants.{Ep
 use Rattle.automata_base.specs.Lists.{In}
 use Rattle.automata_base.specs.Nfas.Nodes.{node_of}
 use Rattle.automata_base.specs.Nfas.Reach.{node_in, IsMatchAt, IsReached, ReachesMatch}
-use Rattle.automata_base.proofs.Determinizing.Distinct.{In-Contains, Contains-In, In-either, In-get_or}
+use Rattle.automata_base.proofs.Determinizing.Distinct.{In-Contains, Contains-In, In-get_or}
 use Rattle.automata_base.proofs.Determinizing.Walking.{node_at}
+use Rattle.automata_base.proofs.Paths.Walks.{in_either}
 
 pub match_here :
     (states : List State) (ids : List ℕ) (i id at : ℕ) (s : State)
@@ -26,7 +27,7 @@ pub match_next :
     → i < length ids → id ≡ get_or ids i id → at ≡ id → at < length states → s ≡ get_or states at s → (IsMatchAt (node_of s) → ⊥)
     → ((q : ℕ) → In q (take i ids) → IsMatchAt (node_in states q) → ⊥) → (q : ℕ) → In q (take (i + 1) ids) → IsMatchAt (node_in states q) → ⊥
 match_next states ids i id at s l e a m t h before q j k =
-    go (In-either q (take i ids) (id ∷ []) (subst (λ z. In q z) (take_more ids i id l ∙ ap (λ z. take i ids ++ z ∷ []) (sym e)) j))
+    go (in_either q (take i ids) (id ∷ []) (subst (λ z. In q z) (take_more ids i id l ∙ ap (λ z. take i ids ++ z ∷ []) (sym e)) j))
   where
     here : node_in states id ≡ node_of s
     here = ap (node_in states) (sym a) ∙ node_at states at s s m t

@@ -12,8 +12,8 @@ use Rattle.automata_base.specs.Nfas.Nodes.{extra_of, stack_room}
 use Rattle.automata_base.specs.Nfas.Errors.{alternates_of, is_small, is_narrow, starts_below, states_below}
 use Rattle.automata_base.specs.Nfas.Errors.{states_ordered, matches_below, unless, door_refusal}
 use Rattle.automata_base.proofs.Determinizing.Tests_of_lists.{extra_is}
-use Rattle.automata_base.proofs.Paths.Checked.{both}
 use Rattle.automata_base.specs.Lists.{all_below}
+use Rattle.std.proofs.lemmas.Bool.{and_parts}
 
 abbrev pub chain : (small narrow starts targets ranges patterns : Bool) → Option NfaError
 chain small narrow starts targets ranges patterns =
@@ -54,12 +54,6 @@ some_apart e = cc
 same_error : {x y : NfaError} → ◌≡◌ {A = Option NfaError} (Some x) (Some y) → x ≡ y
 same_error e = cc
 
-same_room : {x y : ℕ} → ◌≡◌ {A = Result ℕ NfaError} (Ok x) (Ok y) → x ≡ y
-same_room e = cc
-
-apart : {x : ℕ} {e : NfaError} → ◌≡◌ {A = Result ℕ NfaError} (Ok x) (Err e) → ⊥
-apart h = cc
-
 -- If the first test that fails is known, its error is returned.
 abbrev pub IsTold : Option NfaError → ℕ → Result ℕ NfaError → Type 0
 IsTold o room r = ((e : NfaError) → o ≡ Some e → r ≡ Err e) × (o ≡ None → r ≡ Ok room)
@@ -69,11 +63,6 @@ told o room x h = (λ e k. ap (λ z. Err z) (same_error (sym h ∙ k)), λ k. ab
 
 pub told_none : (o : Option NfaError) (room room' : ℕ) → o ≡ None → room' ≡ room → IsTold o room (Ok room')
 told_none o room room' h s = (λ e k. absurd (some_apart (sym k ∙ h)), λ k. ap (λ z. Ok z) s)
-
--- If a room is returned, all tests passed.
-pub passed : (o : Option NfaError) (room room' : ℕ) (r : Result ℕ NfaError) → IsTold o room r → r ≡ Ok room' → (o ≡ None) × (room' ≡ room)
-passed None room room' r t h = (refl, same_room (sym h ∙ t.1 refl))
-passed (Some e) room room' r t h = absurd (apart (sym h ∙ t.0 e refl))
 
 pub all_passed :
     (a b c d e f : Bool) → chain a b c d e f ≡ None
@@ -177,9 +166,9 @@ passing s a u t none =
     let tests =
     all_passed (is_small s t) (is_narrow s) (starts_below n a u t) (states_below n s) (states_ordered s) (matches_below (length t) s)
     (sym (refusal_is s a u t) ∙ none) in
-    let sizes = both (leb n 134217728) (leb (length t) 134217728) tests.0 in
-    let starts = both (ltb a n && ltb u n) (all_below n t) tests.2 in
-    let two = both (ltb a n) (ltb u n) starts.0 in
+    let sizes = and_parts (leb n 134217728) (leb (length t) 134217728) tests.0 in
+    let starts = and_parts (ltb a n && ltb u n) (all_below n t) tests.2 in
+    let two = and_parts (ltb a n) (ltb u n) starts.0 in
     record {
       small = leb-true n 134217728 sizes.0;
       few = leb-true (length t) 134217728 sizes.1;

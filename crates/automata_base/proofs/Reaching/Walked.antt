@@ -5,8 +5,9 @@ use Rattle.std.proofs.lemmas.List.{take_more, take_all}
 use Rattle.automata_base.specs.Lists.{In}
 use Rattle.automata_base.specs.Retraced.Once.{once_from}
 use Rattle.automata_base.specs.Nfas.Reach.{Route, IsReachedBy}
-use Rattle.automata_base.proofs.Determinizing.Distinct.{In-either, In-get_or}
+use Rattle.automata_base.proofs.Determinizing.Distinct.{In-get_or}
 use Rattle.automata_base.proofs.Reaching.Adding.{once_keeps, once_has, once_only, once_take}
+use Rattle.automata_base.proofs.Paths.Walks.{in_either}
 
 pub way_more :
     (G : ℕ → List ℕ) (q : ℕ) (way : List ℕ) (z r : ℕ) → Route G q way z → In r (G z) → (way' : List ℕ) × Route G q way' r
@@ -56,7 +57,7 @@ walk_steps G roots at items new q l e s w =
     subst (λ z. IsWalked G roots (at + 1) z) (sym s) (record {
       has = λ r i. once_keeps r items (G q) (w.has r i);
       sound = λ r i. sound r (once_only r items (G q) i);
-      closed = λ r t i j. closed r t (In-either r (take at items) (q ∷ []) (subst (λ z. In r z) front i)) j;
+      closed = λ r t i j. closed r t (in_either r (take at items) (q ∷ []) (subst (λ z. In r z) front i)) j;
     })
   where
     front : take (at + 1) (once_from items (G q)) ≡ take at items ++ q ∷ []

@@ -13,7 +13,7 @@ pub haystack_later : (way : Direction) (k : ℕ) (input : Input) → (later way 
 haystack_later Forward k input = refl
 haystack_later Backward k input = refl
 
-same_pair : {x y : Pair} → ◌≡◌ {A = Option Pair} (Some x) (Some y) → x ≡ y
+pub same_pair : {x y : Pair} → ◌≡◌ {A = Option Pair} (Some x) (Some y) → x ≡ y
 same_pair e = cc
 
 half_is : (a b : Half) → a.pattern ≡ b.pattern → a.offset ≡ b.offset → a.base ≡ b.base → ◌≡◌ {A = Option Half} (Some a) (Some b)

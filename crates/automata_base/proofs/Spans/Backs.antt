@@ -1,24 +1,18 @@
 -- Over a true pair the reverse paths from the chosen path's end go back to its start, and none goes farther.
-use Rattle.std.proofs.Common.{ℕ, zero, suc, ◌≡◌, ◌<◌, ◌≤◌, ◌+◌, ◌-◌, List, [], ◌∷◌, length, Some, refl, sym, ◌∙◌, subst}
+use Rattle.std.proofs.Common.{ℕ, ◌≡◌, ◌<◌, ◌≤◌, ◌+◌, ◌-◌, List, [], length, Some, refl, sym, ◌∙◌, subst}
 use Rattle.std.proofs.Common.{arith, ⊎_elim}
 use Rattle.std.proofs.lemmas.Bool.{cases_lt}
 use Rattle.automata_base.specs.Nfas.Nfa.{accepts}
-use Rattle.automata_base.specs.Lists.{nth}
 use Rattle.automata_base.specs.Paths.Paths.{IsPathFrom}
 use Rattle.automata_base.specs.Paths.Selections.{Accepts}
 use Rattle.automata_base.proofs.Paths.Searches.{accepting_inside}
-use Rattle.automata_base.proofs.Paths.Orders.{none_some}
 use Rattle.automata_base.specs.Haystacks.Tapes.{IsHaystack, Forward, Backward, forward_tape, reverse_tape, between}
 use Rattle.automata_base.specs.Nfas.Engines.{Engine}
 use Rattle.automata_base.specs.Answers.TruePairs.{Joins, IsTruePair}
 use Rattle.automata_base.proofs.Spans.Bytes.{tape_length, forward_length, nth_between}
 use Rattle.automata_base.proofs.Spans.Alike.{path_alike, forward_alike, reverse_alike}
 use Rattle.automata_base.proofs.Spans.Loops.{HasBytes}
-
-pub nth_less : (xs : List ℕ) (i v : ℕ) → nth xs i ≡ Some v → i < length xs
-nth_less [] i v e = absurd (none_some e)
-nth_less (x ∷ xs) zero v e = omega arith
-nth_less (x ∷ xs) (suc i) v e = let g = nth_less xs i v e in omega (arith, g)
+use Rattle.automata_base.proofs.Paths.Searches.{nth_inside}
 
 -- The chosen end lies in the span.
 pub end_inside :
@@ -32,7 +26,7 @@ end_inside d h b e q i pattern path l k a =
 pub forward_bytes : (h : List ℕ) (s e : ℕ) → IsHaystack h → s ≤ e → e ≤ length h → HasBytes (forward_tape h s e)
 forward_bytes h s e bytes l k o v g = ⊎_elim
     (λ (c : s + o < e). bytes (s + o) v (sym (nth_between h s e o c) ∙ g))
-    (λ (c : e ≤ s + o). absurd (omega (arith, nth_less (between h s e) o v g, forward_length h s e l k, c)))
+    (λ (c : e ≤ s + o). absurd (omega (arith, nth_inside (between h s e) o v g, forward_length h s e l k, c)))
     (cases_lt (s + o) e)
 
 -- An accepting path from the anchored start over a part of the span is one over the span.

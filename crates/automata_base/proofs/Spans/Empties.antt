@@ -41,7 +41,7 @@ walk_on n q e r z h w = go (cases_order r q)
     go (inr (inl l)) = past (λ e. omega (arith, l, e))
     go (inr (inr l)) = past (λ e. omega (arith, l, e))
 
-run_walk : (n : Nfa) (q : ℕ) (path : List ℕ) (z : ℕ) → Run n q path z → HasWalk n all_true q z
+pub run_walk : (n : Nfa) (q : ℕ) (path : List ℕ) (z : ℕ) → Run n q path z → HasWalk n all_true q z
 run_walk n q [] z r = ([], r)
 run_walk n q (e ∷ path) z r = walk_on n q e r.0 z r.1 (run_walk n r.0 path z r.2)
 

@@ -117,7 +117,7 @@ lazily n t u a x c d i (e ∷ e' ∷ path) j z p m (inl h) =
               subst (λ v. IsPathFrom n t v [] a w.1 j z) (omega arith) w.3,
             )
 
-nth_some : (xs : List ℕ) (i : ℕ) → i < length xs → (u : ℕ) × (nth xs i ≡ Some u)
+pub nth_some : (xs : List ℕ) (i : ℕ) → i < length xs → (u : ℕ) × (nth xs i ≡ Some u)
 nth_some [] i l = absurd (omega (arith, l))
 nth_some (x ∷ xs) zero l = (x, refl)
 nth_some (x ∷ xs) (suc i) l = nth_some xs i (omega (arith, l))

@@ -1,12 +1,12 @@
 -- Searches have one answer, and spans have one start.
 use Rattle.std.proofs.Common.{ℕ, suc, ◌≡◌, ◌<◌, ◌+◌, Bool, true, false, List, [], ◌∷◌, ◌++◌, ◌⊎◌, Option, Some, None}
 use Rattle.std.proofs.Common.{is_some, inl, inr, refl, sym, ap, ap₂, ◌∙◌, subst, arith, ⊎_elim}
-use Rattle.automata_base.specs.Paths.Order.{Upto, Begins}
+use Rattle.automata_base.specs.Paths.Order.{Begins}
 use Rattle.automata_base.specs.Nfas.Nfa.{Nfa, accepts}
 use Rattle.automata_base.specs.Paths.Paths.{Tape, IsPath}
 use Rattle.automata_base.specs.Powersets.Cuts.{MatchKind, All, LeftmostFirst}
 use Rattle.automata_base.specs.Paths.Selections.{Accepts, Pair, IsChosen, Selects}
-use Rattle.automata_base.proofs.Paths.Orders.{some_inj, before_irrefl, before_trans, cons_head, cons_tail}
+use Rattle.automata_base.proofs.Paths.Orders.{some_inj, cons_head, cons_tail}
 use Rattle.automata_base.specs.Answers.Spans.{IsPathStart, Chooses, IsSpan, in_full, IsMatch, from, IsEmptyAt}
 use Rattle.automata_base.specs.Answers.Spans.{IsNextItem, AreMatches, AreSpans}
 use Rattle.automata_base.specs.Haystacks.Matches.{Match}
@@ -18,11 +18,7 @@ use Rattle.automata_base.specs.Haystacks.Input.{Input}
 use Rattle.automata_base.proofs.Spans.Answered.{answers_once}
 use Rattle.automata_base.proofs.Spans.Starts.{no_pair}
 use Rattle.automata_base.proofs.Spans.Tried.{ComesTo, IsSplitAnswer}
-
-upto_once : (xs ys : List ℕ) → Upto xs ys → Upto ys xs → xs ≡ ys
-upto_once xs ys (inl e) k = e
-upto_once xs ys (inr h) (inl e) = sym e
-upto_once xs ys (inr h) (inr k) = absurd (before_irrefl xs (before_trans xs ys xs h k))
+use Rattle.automata_base.proofs.Paths.Unique.{upto_both}
 
 pub chosen_once :
     (kind : MatchKind) (earliest : Bool) (i j : ℕ) (path other : List ℕ)
@@ -30,16 +26,16 @@ pub chosen_once :
 chosen_once All true i j path other (inl h) (inl k) = absurd (omega (arith, h, k))
 chosen_once All true i j path other (inl h) (inr k) = absurd (omega (arith, h, k.0))
 chosen_once All true i j path other (inr h) (inl k) = absurd (omega (arith, h.0, k))
-chosen_once All true i j path other (inr h) (inr k) = upto_once path other h.1 k.1
+chosen_once All true i j path other (inr h) (inr k) = upto_both path other h.1 k.1
 chosen_once LeftmostFirst true i j path other (inl h) (inl k) = absurd (omega (arith, h, k))
 chosen_once LeftmostFirst true i j path other (inl h) (inr k) = absurd (omega (arith, h, k.0))
 chosen_once LeftmostFirst true i j path other (inr h) (inl k) = absurd (omega (arith, h.0, k))
-chosen_once LeftmostFirst true i j path other (inr h) (inr k) = upto_once path other h.1 k.1
-chosen_once LeftmostFirst false i j path other h k = upto_once path other h k
+chosen_once LeftmostFirst true i j path other (inr h) (inr k) = upto_both path other h.1 k.1
+chosen_once LeftmostFirst false i j path other h k = upto_both path other h k
 chosen_once All false i j path other (inl h) (inl k) = absurd (omega (arith, h, k))
 chosen_once All false i j path other (inl h) (inr k) = absurd (omega (arith, h, k.0))
 chosen_once All false i j path other (inr h) (inl k) = absurd (omega (arith, h.0, k))
-chosen_once All false i j path other (inr h) (inr k) = upto_once path other h.1 k.1
+chosen_once All false i j path other (inr h) (inr k) = upto_both path other h.1 k.1
 
 -- One path accepts one pattern at one place.
 pub accepting_once :
@@ -109,7 +105,7 @@ start_once d No t path k k' s s' = go (prefixes s.0 s'.0 s.1 s'.1 (sym s.2 ∙ s
 start_once d Yes t path k k' s s' = s ∙ sym s'
 start_once d (Pattern p) t path k k' s s' = s ∙ sym s'
 
-no_half : {x : Half} → ◌≡◌ {A = Option Half} None (Some x) → ⊥
+pub no_half : {x : Half} → ◌≡◌ {A = Option Half} None (Some x) → ⊥
 no_half e = cc
 
 same_half : {x y : Half} → ◌≡◌ {A = Option Half} (Some x) (Some y) → x ≡ y

@@ -20,9 +20,7 @@ use Rattle.automata_base.proofs.Spans.Backs.{end_inside, forward_bytes}
 use Rattle.automata_base.proofs.Spans.Starts.{mode_cases, Answered, answered, unanchored, back_answer, goes_to_start}
 use Rattle.automata_base.proofs.Spans.Starts.{start_unsplit, anchored_back}
 use Rattle.automata_base.proofs.Spans.Turning.{turn_answers, turn_outcome}
-
-no_half : {x : Half} → ◌≡◌ {A = Option Half} None (Some x) → ⊥
-no_half e = cc
+use Rattle.automata_base.proofs.Spans.Once.{no_half}
 
 -- An anchored path starts at its first place.
 pub anchored_start : (d : Engine) (m : Anchored) (t : Tape) (path : List ℕ) → (m ≡ No → ⊥) → IsPathStart d m t path 0

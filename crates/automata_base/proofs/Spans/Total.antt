@@ -2,7 +2,7 @@
 use Rattle.std.proofs.Common.{ℕ, zero, suc, ◌≡◌, ◌<◌, ◌≤◌, ◌+◌, ◌-◌, Bool, true, false, List, [], ◌∷◌, ◌⊎◌, length}
 use Rattle.std.proofs.Common.{reverse, Option, Some, None, inl, inr, refl, sym, ap, ◌∙◌, subst, arith, ⊎_elim}
 use Rattle.std.proofs.Common.{eq-or-lt_of_le}
-use Rattle.std.proofs.lemmas.Bool.{cases_lt, cases_order}
+use Rattle.std.proofs.lemmas.Bool.{cases_lt}
 use Rattle.automata_base.specs.Lists.{nth}
 use Rattle.automata_base.specs.Paths.Paths.{Tape, next_in, IsLookAcyclic}
 use Rattle.automata_base.specs.Powersets.Passes.{IsUnit, IsTape}
@@ -19,12 +19,14 @@ use Rattle.automata_base.specs.Answers.TruePairs.{IsTruePair, KeepsUtf8}
 use Rattle.automata_base.specs.Answers.Spans.{IsSpan, IsShort, back, Outcome, Found, NotAPair, IsTrySearch}
 use Rattle.automata_base.specs.Haystacks.Matches.{Match}
 use Rattle.automata_base.proofs.Spans.Bytes.{nth_reverse, reverse_length}
-use Rattle.automata_base.proofs.Spans.Backs.{end_inside, forward_bytes, nth_less}
+use Rattle.automata_base.proofs.Spans.Backs.{end_inside, forward_bytes}
 use Rattle.automata_base.proofs.Spans.Starts.{mode_cases, Answered, answered}
 use Rattle.automata_base.proofs.Spans.Right.{span_right}
 use Rattle.automata_base.proofs.Spans.Empties.{skips_or_not}
 use Rattle.automata_base.proofs.Spans.Answered.{haystack_later}
 use Rattle.automata_base.proofs.Spans.Tried.{ComesTo, IsSplitAnswer}
+use Rattle.std.proofs.lemmas.Bool.{cases_eq}
+use Rattle.automata_base.proofs.Paths.Searches.{nth_inside}
 
 unit_of : (o : Option ℕ) → ((u : ℕ) → o ≡ Some u → u < 256) → IsUnit o
 unit_of None f = tt
@@ -41,7 +43,7 @@ next_unit (x ∷ xs) after (suc i) b a = next_unit xs after i (λ o u e. b (suc 
 
 reverse_bytes : (xs : List ℕ) → IsHaystack xs → IsHaystack (reverse xs)
 reverse_bytes xs b o u e =
-    let l = nth_less (reverse xs) o u e in
+    let l = nth_inside (reverse xs) o u e in
     let k = reverse_length xs in
     b (length xs - suc o) u (sym (nth_reverse xs o (length xs - suc o) (omega (arith, l, k))) ∙ e)
 
@@ -131,17 +133,9 @@ answer_exists way d input s b skips =
     search_from way d input s b skips (suc input.end) 0
     (inl refl, λ j l. absurd (omega (arith, l))) (omega arith)
 
-same_or_not : (a b : ℕ) → (a ≡ b) ⊎ (a ≡ b → ⊥)
-same_or_not a b = go (cases_order a b)
-  where
-    go : (a ≡ b) ⊎ ((a < b) ⊎ (b < a)) → (a ≡ b) ⊎ (a ≡ b → ⊥)
-    go (inl e) = inl e
-    go (inr (inl l)) = inr (λ e. omega (arith, l, e))
-    go (inr (inr l)) = inr (λ e. omega (arith, l, e))
-
 pub short_or_not : (f : Engine) (input : Input) (half : Half) → IsShort f input half ⊎ (IsShort f input half → ⊥)
 short_or_not f input half =
-    go (same_or_not half.base half.offset) (mode_cases input.anchored) (same_or_not f.unanchored f.anchored)
+    go (cases_eq half.base half.offset) (mode_cases input.anchored) (cases_eq f.unanchored f.anchored)
   where
     go :
         (half.base ≡ half.offset) ⊎ (half.base ≡ half.offset → ⊥) → (input.anchored ≡ No) ⊎ (input.anchored ≡ No → ⊥)

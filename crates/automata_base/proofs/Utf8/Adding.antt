@@ -11,7 +11,7 @@ use Rattle.automata_base.specs.Lists.{all_below}
 use Rattle.automata_base.specs.Nfas.Nfa.{Range}
 use Rattle.automata_base.specs.Nfas.Nodes.{range_of, ranges_of, dense_from}
 use Rattle.automata_base.specs.Retraced.Once.{once_from}
-use Rattle.automata_base.proofs.Paths.Checked.{both}
+use Rattle.std.proofs.lemmas.Bool.{and_parts}
 
 pub once_append : (ys xs zs : List ℕ) → once_from ys (xs ++ zs) ≡ once_from (once_from ys xs) zs
 once_append ys [] zs = refl
@@ -75,10 +75,10 @@ one_target cs s byte (suc k) f = append-nil (range_pairs cs s (record { lo = byt
 pub class_below :
     (cs : List Class) (i : ℕ) (d : Class) → classes_below cs ≡ true → i < length cs → all_below 11 (get_or cs i d).to ≡ true
 class_below [] i d h l = absurd (omega (arith, l))
-class_below (x ∷ xs) zero d h l = (both (all_below 11 x.to) (classes_below xs) h).0
-class_below (x ∷ xs) (suc i) d h l = class_below xs i d (both (all_below 11 x.to) (classes_below xs) h).1 (omega (arith, l))
+class_below (x ∷ xs) zero d h l = (and_parts (all_below 11 x.to) (classes_below xs) h).0
+class_below (x ∷ xs) (suc i) d h l = class_below xs i d (and_parts (all_below 11 x.to) (classes_below xs) h).1 (omega (arith, l))
 
 pub entry_below : (n : ℕ) (xs : List ℕ) (i : ℕ) → 0 < n → all_below n xs ≡ true → get_or xs i 0 < n
 entry_below n [] i z h = z
-entry_below n (x ∷ xs) zero z h = ltb-true x n (both (ltb x n) (all_below n xs) h).0
-entry_below n (x ∷ xs) (suc i) z h = entry_below n xs i z (both (ltb x n) (all_below n xs) h).1
+entry_below n (x ∷ xs) zero z h = ltb-true x n (and_parts (ltb x n) (all_below n xs) h).0
+entry_below n (x ∷ xs) (suc i) z h = entry_below n xs i z (and_parts (ltb x n) (all_below n xs) h).1

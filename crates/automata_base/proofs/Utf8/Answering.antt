@@ -1,6 +1,6 @@
 -- What the tests of UTF-8 answer.
-use Rattle.std.proofs.Common.{◌≡◌, ◌↔◌, Bool, true, false, List, ◌∷◌, reverse, Result, Ok, Err, IfOk, IsUtf8, refl, sym}
-use Rattle.std.proofs.Common.{ap, ◌∙◌, true≢false, ℕ}
+use Rattle.std.proofs.Common.{◌≡◌, ◌↔◌, Bool, true, List, ◌∷◌, reverse, Result, Ok, Err, IfOk, IsUtf8, sym}
+use Rattle.std.proofs.Common.{ap, ◌∙◌, ℕ}
 use Rattle.std.specs.Prelude.{IsTrue}
 use Rattle.std.proofs.lemmas.List.{reverse-reverse}
 use Rattle.automata_base.specs.declared.nfa.thompson.utf8.Class.{Class}
@@ -39,10 +39,6 @@ if_ok (Ok b) P Q f h = f b h
 if_ok (Err e) P Q f h = tt
 
 module _ (way : Direction) (a : Automaton) where
-  -- Outside UTF-8 mode.
-  pub answer_bytes : a.flags.utf8 ≡ false → IsAnswer way a true
-  answer_bytes e = (λ _ u. absurd (true≢false (sym u ∙ e)), λ _. refl)
-
   pub answer_keeps : (b : Bool) → IsAnswer way a b → IsTrue b → (kind : MatchKind) → KeepsUtf8 way (engine_of a kind)
   answer_keeps b h t kind = keeps_from way a (h.0 t) kind
 

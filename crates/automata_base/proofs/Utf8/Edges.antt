@@ -16,10 +16,12 @@ use Rattle.automata_base.specs.Paths.Paths.{all_true}
 use Rattle.automata_base.specs.Nfas.Reach.{node_in}
 use Rattle.automata_base.specs.Nfas.Errors.{ordered_from, state_ordered, states_ordered}
 use Rattle.automata_base.specs.Powersets.Closure.{children}
-use Rattle.automata_base.proofs.Determinizing.Distinct.{In-left, In-right, In-either}
 use Rattle.automata_base.proofs.Paths.FirstVisits.{hop_children}
 use Rattle.automata_base.proofs.Paths.Orders.{some_inj, none_some}
 use Rattle.automata_base.proofs.Paths.Sets.{in_nth, nth_in}
+use Rattle.automata_base.proofs.Paths.Walks.{in_left}
+use Rattle.automata_base.proofs.Paths.FirstVisits.{in_right}
+use Rattle.automata_base.proofs.Paths.Walks.{in_either}
 
 -- Whether the classes from the byte `low` on are all bytes, each once, in order.
 abbrev pub chained : ℕ → List Class → Bool
@@ -38,7 +40,7 @@ chain_ends low (c ∷ cs) e =
 within_is : (lo hi u : ℕ) → lo ≤ u → u ≤ hi → within lo hi u ≡ true
 within_is lo hi u l h = ap (λ b. b && leb u hi) (le-leb lo u l) ∙ le-leb u hi h
 
-within_past : (lo hi u : ℕ) → hi < u → within lo hi u ≡ false
+pub within_past : (lo hi u : ℕ) → hi < u → within lo hi u ≡ false
 within_past lo hi u l = and_right (leb lo u) (leb u hi) (lt-leb u hi l)
 
 step_here : (c : Class) (cs : List Class) (s u : ℕ) → u ≤ c.last → step (c ∷ cs) s u ≡ get_or c.to s 0
@@ -55,7 +57,7 @@ Hits cs s low y r =
 range_from :
     (s y low : ℕ) (r : Range) (cs : List Class) → r.lo ≤ r.hi → chained low cs ≡ true → In y (range_pairs cs s r) → Hits cs s low y r
 range_from s y low r [] o e i = absurd i
-range_from s y low r (c ∷ cs) o e i = go (In-either y (pairs_in s r c) (range_pairs cs s r) i) (range_from s y (c.last + 1) r cs o q.1)
+range_from s y low r (c ∷ cs) o e i = go (in_either y (pairs_in s r c) (range_pairs cs s r) i) (range_from s y (c.last + 1) r cs o q.1)
   where
     p : (eqb c.first low ≡ true) × ((leb low c.last && chained (c.last + 1) cs) ≡ true)
     p = and_parts (eqb c.first low) (leb low c.last && chained (c.last + 1) cs) e
@@ -126,7 +128,7 @@ module _ (cs : List Class) (chain : chained 0 cs ≡ true) (s y : ℕ) where
   sparse_led : (low : ℕ) (ts : List Transition) → ordered_from low ts ≡ true → In y (ranges_pairs cs s (ranges_of ts)) → Led cs s low y (ranges_of ts)
   sparse_led low [] e i = absurd i
   sparse_led low (t ∷ ts) e i =
-      go (In-either y (range_pairs cs s (range_of t)) (ranges_pairs cs s (ranges_of ts)) i) (sparse_led (t.hi + 1) ts p.1)
+      go (in_either y (range_pairs cs s (range_of t)) (ranges_pairs cs s (ranges_of ts)) i) (sparse_led (t.hi + 1) ts p.1)
     where
       p : ((leb low t.lo && leb t.lo t.hi) ≡ true) × (ordered_from (t.hi + 1) ts ≡ true)
       p = and_parts (leb low t.lo && leb t.lo t.hi) (ordered_from (t.hi + 1) ts) e
@@ -152,7 +154,7 @@ module _ (cs : List Class) (chain : chained 0 cs ≡ true) (s y : ℕ) where
   dense_led k [] i = absurd i
   dense_led k (zero ∷ xs) i = led_more k (suc k) (dense_from (suc k) xs) (omega arith) (dense_led (suc k) xs i)
   dense_led k (suc m ∷ xs) i =
-      go (In-either y (range_pairs cs s (record { lo = k; hi = k; next = suc m })) (ranges_pairs cs s (dense_from (suc k) xs)) i)
+      go (in_either y (range_pairs cs s (record { lo = k; hi = k; next = suc m })) (ranges_pairs cs s (dense_from (suc k) xs)) i)
       (dense_led (suc k) xs)
     where
       go : In y (range_pairs cs s (record { lo = k; hi = k; next = suc m })) ⊎ In y (ranges_pairs cs s (dense_from (suc k) xs))
@@ -171,7 +173,7 @@ module _ (cs : List Class) (chain : chained 0 cs ≡ true) (s y : ℕ) where
 
   state_led : (x : State) → state_ordered x ≡ true → In y (byte_pairs cs s (node_of x)) → Byte (node_of x)
   state_led (is.ByteRange lo hi next) o i =
-      go (In-either y (range_pairs cs s (record { lo = lo; hi = hi; next = next })) [] i)
+      go (in_either y (range_pairs cs s (record { lo = lo; hi = hi; next = next })) [] i)
     where
       go : In y (range_pairs cs s (record { lo = lo; hi = hi; next = next })) ⊎ In y [] → Byte (node_of (is.ByteRange lo hi next))
       go (inl j) =
@@ -215,11 +217,11 @@ module _ (s u : ℕ) (byte : u < 256) where
           (v : Bool) → leb u c.last ≡ v → (c.last + 1 ≤ u → In (pair r.next (step cs s u)) (range_pairs cs s r))
           → In (pair r.next (cond v (get_or c.to s 0) (step cs s u))) (pairs_in s r c ++ range_pairs cs s r)
       go true h ih =
-          In-left (pair r.next (get_or c.to s 0)) (pairs_in s r c) (range_pairs cs s r)
+          in_left (pair r.next (get_or c.to s 0)) (pairs_in s r c) (range_pairs cs s r)
           (subst (λ v. In (pair r.next (get_or c.to s 0)) (cond v (pair r.next (get_or c.to s 0) ∷ []) [])) (sym (met (leb-true u c.last h))) (inl refl))
       go false h ih =
           let k : c.last < u = leb-false u c.last h in
-          In-right (pair r.next (step cs s u)) (pairs_in s r c) (range_pairs cs s r) (ih (omega arith))
+          in_right (pair r.next (step cs s u)) (pairs_in s r c) (range_pairs cs s r) (ih (omega arith))
 
   ranges_hit :
       (cs : List Class) (rs : List Range) (r : ℕ) → chained 0 cs ≡ true → takes_in rs u ≡ Some r
@@ -232,10 +234,10 @@ module _ (s u : ℕ) (byte : u < 256) where
           → In (pair r (step cs s u)) (range_pairs cs s x ++ ranges_pairs cs s xs)
       go true h f ih =
           let w = and_parts (leb x.lo u) (leb u x.hi) h in
-          In-left (pair r (step cs s u)) (range_pairs cs s x) (ranges_pairs cs s xs)
+          in_left (pair r (step cs s u)) (range_pairs cs s x) (ranges_pairs cs s xs)
           (subst (λ z. In (pair z (step cs s u)) (range_pairs cs s x)) (some_inj f)
           (range_hit 0 x cs e (omega arith) (leb-true x.lo u w.0) (leb-true u x.hi w.1)))
-      go false h f ih = In-right (pair r (step cs s u)) (range_pairs cs s x) (ranges_pairs cs s xs) (ih f)
+      go false h f ih = in_right (pair r (step cs s u)) (range_pairs cs s x) (ranges_pairs cs s xs) (ih f)
 
   node_hit : (cs : List Class) (x : Node) (r : ℕ) → chained 0 cs ≡ true → takes_at x u ≡ Some r → In (pair r (step cs s u)) (byte_pairs cs s x)
   node_hit cs (Split alternates) r e t = absurd (none_some t)
@@ -264,7 +266,7 @@ module _ (a : Automaton) (cs : List Class) (chain : chained 0 cs ≡ true) where
   pub edge_from :
       (x y : ℕ) → states_ordered a.states ≡ true → In y (pairs_of cs a.states x) → Edge a cs (x / 11) (x % 11) y
   edge_from x y ordered i =
-      go (In-either y (pairs_at (x % 11) (children (nfa_of a) all_true (x / 11))) (byte_pairs cs (x % 11) (node_in a.states (x / 11))) i)
+      go (in_either y (pairs_at (x % 11) (children (nfa_of a) all_true (x / 11))) (byte_pairs cs (x % 11) (node_in a.states (x / 11))) i)
     where
       free : ((r : ℕ) × In r (children (nfa_of a) all_true (x / 11)) × (y ≡ pair r (x % 11))) → Edge a cs (x / 11) (x % 11) y
       free w =
@@ -285,12 +287,12 @@ module _ (a : Automaton) (cs : List Class) (chain : chained 0 cs ≡ true) where
   pub edge_free : (q s e r : ℕ) → s < 11 → hop (nfa_of a) all_true q e ≡ Some r → In (pair r s) (pairs_of cs a.states (pair q s))
   edge_free q s e r l h =
       subst (λ z. In (pair r s) z) (sym (beside q s l))
-      (In-left (pair r s) (pairs_at s (children (nfa_of a) all_true q)) (byte_pairs cs s (node_in a.states q))
+      (in_left (pair r s) (pairs_at s (children (nfa_of a) all_true q)) (byte_pairs cs s (node_in a.states q))
       (in_pairs s r (children (nfa_of a) all_true q) (nth_in (children (nfa_of a) all_true q) e r (sym (hop_children (nfa_of a) all_true q e) ∙ h))))
 
   pub edge_byte :
       (q s u r : ℕ) → s < 11 → u < 256 → takes (nfa_of a) q u ≡ Some r → In (pair r (step cs s u)) (pairs_of cs a.states (pair q s))
   edge_byte q s u r l b t =
       subst (λ z. In (pair r (step cs s u)) z) (sym (beside q s l))
-      (In-right (pair r (step cs s u)) (pairs_at s (children (nfa_of a) all_true q)) (byte_pairs cs s (node_in a.states q))
+      (in_right (pair r (step cs s u)) (pairs_at s (children (nfa_of a) all_true q)) (byte_pairs cs s (node_in a.states q))
       (node_hit s u b cs (node_in a.states q) r chain t))

@@ -7,9 +7,10 @@ use Rattle.std.proofs.lemmas.List.{take_more, take_all}
 use Rattle.automata_base.specs.Lists.{In}
 use Rattle.automata_base.specs.Retraced.Once.{once_from}
 use Rattle.automata_base.specs.Nfas.Reach.{IsReachedBy}
-use Rattle.automata_base.proofs.Determinizing.Distinct.{In-either, In-get_or}
+use Rattle.automata_base.proofs.Determinizing.Distinct.{In-get_or}
 use Rattle.automata_base.proofs.Reaching.Adding.{once_has, once_only}
 use Rattle.automata_base.proofs.Reaching.Walked.{IsWalked}
+use Rattle.automata_base.proofs.Paths.Walks.{in_either}
 
 -- A walk begins with its roots.
 pub walk_from : (G : ℕ → List ℕ) (items : List ℕ) → IsWalked G items 0 items
@@ -30,7 +31,7 @@ module _ (P : ℕ → Type 0) (ids : List ℕ) where
   pub each_next :
       (i id : ℕ) → i < length ids → id ≡ get_or ids i id → P id → ((x : ℕ) → In x (take i ids) → P x) → (x : ℕ) → In x (take (i + 1) ids) → P x
   each_next i id l e p before x j =
-      go (In-either x (take i ids) (id ∷ []) (subst (λ z. In x z) (take_more ids i id l ∙ ap (λ z. take i ids ++ z ∷ []) (sym e)) j))
+      go (in_either x (take i ids) (id ∷ []) (subst (λ z. In x z) (take_more ids i id l ∙ ap (λ z. take i ids ++ z ∷ []) (sym e)) j))
     where
       go : In x (take i ids) ⊎ In x (id ∷ []) → P x
       go (inl k) = before x k

@@ -9,7 +9,7 @@ use Rattle.std.proofs.Math.ListN.{set}
 use Rattle.std.specs.Int.{from_bool}
 use Rattle.automata_base.specs.ByteClasses.Classes.{boundary_count, class_in, stride_for, AreClasses}
 
-count_more : (f : ℕ → Bool) (n : ℕ) → boundary_count f (suc n) ≡ boundary_count f n + cond (f (suc n)) 1 0
+pub count_more : (f : ℕ → Bool) (n : ℕ) → boundary_count f (suc n) ≡ boundary_count f n + cond (f (suc n)) 1 0
 unfolding boundary_count
 count_more f n = refl
 

@@ -1,15 +1,15 @@
 -- When two powerset states are equal, and what is hashed of one.
-use Rattle.std.specs.Prelude.{◌≡◌, ℕ, List, [], ◌∷◌, Bool, ◌==◌, ◌&&◌, nat_eq}
+use Rattle.std.specs.Prelude.{◌≡◌, [], ◌∷◌, Bool, ◌==◌, ◌&&◌, nat_eq}
 use Rattle.std.specs.Bool.{Decides}
 use Rattle.std.specs.Cmp.{unsigned_Decides, booleans_Decides}
-use Rattle.std.proofs.Common.{ap, sym, ◌∙◌, refl}
+use Rattle.std.proofs.Common.{ap, refl}
 use Rattle.std.proofs.lemmas.Bool.Decides.{Decides-and}
 use Rattle.std.proofs.lemmas.Slice.Eq.{slice_eq-Decides}
 use Rattle.std.specs.Hash as fed
 use lib.Pointwise.{pointwise}
 use mathlib.Core.Bool.{beq}
 use Rattle.automata_base.specs.Powersets.Powerset.{Powerset}
-use Rattle.automata_base.specs.Powersets.Code.{code, decoded, IsCode}
+use Rattle.automata_base.specs.Powersets.Code.{code}
 
 -- equal in all six parts
 abbrev pub powerset_eq : Powerset → Powerset → Bool
@@ -51,10 +51,3 @@ powerset_eq-Decides a b =
 -- a state is hashed as its bytes
 abbrev pub powerset_hash : Powerset → fed.HashWrites
 powerset_hash a = code a ∷ []
-
--- equal bytes exactly if the states are equal
-pub same_bytes-Decides :
-    (xs ys : List ℕ) → IsCode xs → IsCode ys → Decides (pointwise nat_eq xs ys) (decoded xs ≡ decoded ys)
-same_bytes-Decides xs ys p q =
-    let d = slice_eq-Decides unsigned_Decides xs ys _ refl in
-    (λ e. ap decoded (d.0 e), λ e. d.1 (sym p.same ∙ ap code e ∙ q.same))

@@ -1,5 +1,5 @@
 -- How the copies for each pattern are added, and that an NFA may be made of them.
-use Rattle.std.specs.Prelude.{ℕ, ◌≡◌, ◌<◌, ◌≤◌, ◌+◌, ◌*◌, ◌^◌, ◌↔◌, List, [], ◌∷◌, ◌++◌, length, map, sum_by}
+use Rattle.std.specs.Prelude.{ℕ, ◌≡◌, ◌<◌, ◌≤◌, ◌+◌, ◌*◌, ◌^◌, ◌↔◌, List, [], ◌∷◌, ◌++◌, length, map, sum_by, true}
 use Rattle.automata_base.specs.declared.nfa.thompson.State.{State}
 use Rattle.automata_base.specs.declared.nfa.thompson.reach.Edges.TheVariants.{Every}
 use Rattle.automata_base.specs.Lists.{In}
@@ -7,7 +7,7 @@ use Rattle.automata_base.specs.Nfas.Nfa.{Node, Range, Split, Assert, Read, Accep
 use Rattle.automata_base.specs.Nfas.Nodes.{nodes_of}
 use Rattle.automata_base.specs.Retraced.Once.{Distinct}
 use Rattle.automata_base.specs.Nfas.Reach.{IsReached}
-use Rattle.automata_base.specs.Nfas.Errors.{alternates_of}
+use Rattle.automata_base.specs.Nfas.Errors.{alternates_of, states_below, states_ordered}
 use Rattle.automata_base.specs.Nfas.ReversedSizes.{asking_edges, free_edges}
 use Rattle.automata_base.specs.Retraced.ReversedEdges.{copies, copy_of}
 
@@ -50,6 +50,13 @@ width (Split alternates) = length alternates
 width (Assert look next) = 0
 width (Read ranges) = 0
 width (Accept p) = 0
+
+-- The states with their edges turned round: each edge leads to one of them, their ranges are in order, and there are at
+-- least as many as before.
+pub record AreCopyable (states turned : List State) : Type 0 where
+  pub range : states_below (length turned) turned ≡ true
+  pub ordered : states_ordered turned ≡ true
+  pub whole : length states ≤ length turned
 
 -- The parts of the first `p` of `P` patterns, each with at most `most` roots.
 pub record AreParts

@@ -178,6 +178,21 @@ pub enum Anchored {
     Pattern(PatternID),
 }
 
+impl Anchored {
+    ghost use Rattle.std.specs.Prelude.{◌≡◌, true, false};
+
+    /// Whether a match may begin at the search's start alone.
+    pub fn is_anchored(&self) -> bool
+        ensures no { result ≡ false → self.now ≡ Anchored.No }
+        ensures yes { result ≡ true → self.now ≡ Anchored.No → ⊥ }
+    {
+        match self {
+            Anchored::No => false,
+            Anchored::Yes | Anchored::Pattern(_) => true,
+        }
+    }
+}
+
 impl fmt::Display for Anchored {
     ghost use Rattle.std.specs.Prelude.{Some};
     ghost use Rattle.automata_base.specs.Haystacks.Input.{mode_text};
@@ -347,6 +362,18 @@ impl<'h> Input<'h> {
             start: range.start,
             end: range.end,
         })
+    }
+
+    /// The same input once more. Unlike `clone`, it cannot fail.
+    pub fn copied(&self) -> Input<'h>
+        ensures { result ≡ self.now }
+    {
+        Input {
+            haystack: self.haystack,
+            span: self.span,
+            anchored: self.anchored,
+            earliest: self.earliest,
+        }
     }
 
     /// Sets the anchored mode. By default it is `Anchored::No`.

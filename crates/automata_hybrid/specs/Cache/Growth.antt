@@ -4,7 +4,7 @@ use Rattle.automata_base.specs.Powersets.Powerset.{Powerset}
 use Rattle.automata_hybrid.specs.Cache.Stores.{Stored, IsKnownStart, IsKnownTransition, KeepsStarts, cell_of}
 use Rattle.automata_hybrid.specs.Cache.Stores.{with_searched}
 use Rattle.automata_hybrid.specs.Cache.Usage.{row_usage, usage}
-use Rattle.automata_hybrid.specs.Cache.Caches.{CacheView}
+use Rattle.automata_hybrid.specs.Cache.Caches.{CacheView, counted}
 use Rattle.automata_hybrid.specs.Cache.Changes.{AreChanges}
 use Rattle.automata_hybrid.specs.Cache.Ids.{offset_limit, HasStartTag}
 use Rattle.automata_config.specs.Options.{specialize_start_states_of}
@@ -71,3 +71,10 @@ pub record IsGrown (old new : CacheView) : Type 0 where
   pub roomy :
       (states : ℕ) → HasRoom old.store (states + (new.count - old.count))
       → HasRoom new.store states × (new.store.clears ≡ old.store.clears)
+
+-- what adding a state again makes of a cache: nothing is determinized, it grows as by one determinization, and the
+-- progress of the search stays
+pub record IsAgainEffect (old new : CacheView) : Type 0 where
+  pub cost : new.count ≡ old.count
+  pub grown : IsGrown old (counted new)
+  pub progress : KeepsProgress old.store new.store

@@ -65,11 +65,6 @@ pub record IsQuiet (way : Direction) (m : Machine) (c : Stored) (input : Input) 
   pub known : HasLearnedUnit way m c input k
   pub silent : (state_in way m input (suc k)).patterns ≡ []
 
--- an offset lies between two others
-pub record IsBetween (low high at : ℕ) : Type 0 where
-  pub from : low ≤ at
-  pub upto : at ≤ high
-
 -- cached transitions led a pass from its first `from` units on to this ID after its first `to`; none of them reported
 -- anything
 pub record IsFollowed (way : Direction) (m : Machine) (c : Stored) (input : Input) (from to id : ℕ) : Type 0 where

@@ -14,7 +14,7 @@ ghost use Rattle.automata_hybrid.specs.Cache.Stores.{with_searched};
 ghost use Rattle.automata_hybrid.specs.Cache.Usage.{usage, GivesUp};
 ghost use Rattle.automata_hybrid.specs.Cache.Changes.{AddsNext, AddsStart, IsAddedStart};
 ghost use Rattle.automata_hybrid.specs.Cache.Caches.{IsRow, IsCacheOf, fresh_cache, counted, with_store};
-ghost use Rattle.automata_hybrid.specs.Cache.Growth.{IsGrown, KeepsProgress};
+ghost use Rattle.automata_hybrid.specs.Cache.Growth.{IsAgainEffect};
 ghost use Rattle.automata_hybrid.specs.Searches.Contracts.{IsStoreOf};
 ghost use Rattle.automata_hybrid.specs.Steps.Starts.{IsStartSlot};
 ghost use Rattle.automata_hybrid.specs.Walks.Answers.{IsRowState};
@@ -189,13 +189,11 @@ impl Cache {
         requires dfa { IsCacheOf self.old dfa.now }
         requires new { IsNewState self.old.store.table state }
         ensures named { IfOk result (λ id. Names self.new.store.table id state) }
-        ensures counted { self.new.count ≡ self.old.count }
         ensures added { OnOk result (IsAddedStart self.old.store (record { state = state; started = false })
             self.new.store) }
-        ensures grown { IsGrown self.old (counted self.new) }
+        ensures effect { IsAgainEffect self.old self.new }
         ensures gives_up { IfErr result (λ e. IsCacheError e → GivesUp self.old.store state) }
         ensures err { OnErr result (self.new ≡ self.old) }
-        ensures progress { KeepsProgress self.old.store self.new.store }
     {
         self.see_store();
         let id = self.add_start(dfa, state, false)?;

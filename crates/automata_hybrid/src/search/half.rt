@@ -13,7 +13,6 @@ ghost use Rattle.automata_hybrid.specs.Walks.State.{way_of};
 use crate::dfa::DFA;
 use crate::dfa::cache::Cache;
 use crate::search::direction::{Way, begin_later};
-use crate::search::{is_anchored, with_span};
 use automata_base::laws::told_is_right;
 use automata_base::util::search::{HalfMatch, Input};
 use automata_config::error::SearchError;
@@ -146,7 +145,7 @@ impl DFA {
             → result ≡ Err (unsupported_error input.now) }
         ensures done { input.now.end < input.now.start → result ≡ Ok None }
     {
-        let mut later = with_span(input, input.start(), input.end());
+        let mut later = input.copied();
         while !later.is_done() {
             // No `?`, as in `pass`.
             let found = match self.pass(cache, &later, way) {
@@ -159,7 +158,7 @@ impl DFA {
             if !self.skips_at(&later, half.offset()) {
                 return Ok(Some((half, later.start())));
             }
-            if is_anchored(later.get_anchored()) {
+            if later.get_anchored().is_anchored() {
                 return Ok(None);
             }
             if !begin_later(&mut later, way) {

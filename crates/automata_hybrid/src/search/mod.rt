@@ -1,6 +1,5 @@
 ghost use Rattle.std.specs.Prelude.{◌≡◌, slice_index, ◌<◌, IfOk, IfErr, OnErr};
 ghost use Rattle.std.specs.Prelude.{Some, None, true, false};
-ghost use Rattle.automata_base.specs.Haystacks.Input.{Allows};
 ghost use Rattle.automata_base.specs.Powersets.Powerset.{Powerset};
 ghost use Rattle.automata_hybrid.specs.Cache.Caches.{IsCacheOf};
 ghost use Rattle.automata_base.specs.Haystacks.Tapes.{is_split};
@@ -29,7 +28,7 @@ use crate::dfa::DFA;
 use crate::dfa::cache::Cache;
 use crate::id::LazyStateID;
 use automata_base::util::primitives::PatternID;
-use automata_base::util::search::{Anchored, HalfMatch, Input, MatchError};
+use automata_base::util::search::{HalfMatch, Input, MatchError};
 use automata_config::error::{SearchError, StepError};
 
 /// The error of a step, at an offset.
@@ -47,28 +46,6 @@ fn quit(byte: u8, at: usize) -> SearchError
     ensures { result ≡ SearchError.Match (QuitAt byte at) }
 {
     SearchError::Match(MatchError::quit(byte, at))
-}
-
-/// The input with another span.
-fn with_span<'h>(input: &Input<'h>, start: usize, end: usize) -> Input<'h>
-    requires { Allows input.now.haystack start end }
-    ensures { result ≡ record input.now { start = start; end = end } }
-{
-    Input::new(input.haystack())
-        .range(start..end)
-        .anchored(input.get_anchored())
-        .earliest(input.get_earliest())
-}
-
-/// Whether a mode is one of the anchored ones.
-fn is_anchored(mode: Anchored) -> bool
-    ensures no { result ≡ false → mode ≡ Anchored.No }
-    ensures yes { result ≡ true → mode ≡ Anchored.No → ⊥ }
-{
-    match mode {
-        Anchored::No => false,
-        Anchored::Yes | Anchored::Pattern(_) => true,
-    }
 }
 
 /// Whether an offset is inside a UTF-8 encoded character.

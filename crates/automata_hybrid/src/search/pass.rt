@@ -1,7 +1,6 @@
 //! One run over the span of an input, in either direction.
 ghost use Rattle.std.specs.Prelude.{ℕ, ◌≡◌, ◌-◌, ◌<◌, ◌≤◌, IfOk, IfErr, OnErr, OnOk, Option};
 ghost use Rattle.std.specs.Prelude.{None, Err};
-ghost use Rattle.automata_base.specs.Haystacks.Matches as matches;
 ghost use Rattle.automata_base.specs.Paths.Paths.{next};
 ghost use Rattle.automata_base.specs.Powersets.Powerset.{Powerset, dead};
 ghost use Rattle.automata_hybrid.specs.Cache.Caches.{IsCacheOf};

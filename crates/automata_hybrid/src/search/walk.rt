@@ -1,5 +1,5 @@
-ghost use Rattle.std.specs.Prelude.{ℕ, ◌≡◌, ◌+◌, ◌<◌, ◌≤◌, ◌^◌, IfOk, IfSome, IfNone, OnErr, true, false};
-ghost use Rattle.std.specs.Prelude.{length, slice_index, suc, None};
+ghost use Rattle.std.specs.Prelude.{◌≡◌, ◌+◌, ◌<◌, ◌^◌, IfOk, OnErr, true, false};
+ghost use Rattle.std.specs.Prelude.{None};
 ghost use Rattle.automata_base.specs.Powersets.Powerset.{Powerset};
 ghost use Rattle.automata_hybrid.specs.Cache.Table.{IsValid, Names};
 ghost use Rattle.automata_hybrid.specs.Walks.State.{At, Ended, Fresh, States, ended_walk, fresh_walk, keeping_of};

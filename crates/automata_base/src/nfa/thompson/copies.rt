@@ -1,13 +1,12 @@
 //! A copy of the reversed states for each pattern: of those that are reached from its matches.
 ghost use Rattle.std.specs.Prelude.{ℕ, ◌≡◌, ◌<◌, ◌≤◌, ◌+◌, ◌*◌, ◌^◌, ◌++◌, [], ◌∷◌, true, map, length};
 ghost use Rattle.std.specs.Prelude.{IfOk, OnOk, Err, None, Some};
-ghost use Rattle.automata_base.specs.declared.nfa.thompson.reach.Edges.TheVariants.{Every};
-ghost use Rattle.automata_base.specs.Retraced.Copies.{AreParts, IsPartAdded};
+ghost use Rattle.automata_base.specs.Retraced.Copies.{AreCopyable, AreParts, IsPartAdded};
 ghost use Rattle.automata_base.specs.Lists.{In, all_below};
 ghost use Rattle.automata_base.specs.Nfas.Nodes.{node_of, nodes_of};
 ghost use Rattle.automata_base.specs.Retraced.Once.{Distinct};
 ghost use Rattle.automata_base.specs.Nfas.Reach.{targets_at, targets_of};
-ghost use Rattle.automata_base.specs.Nfas.Errors.{states_below, states_ordered};
+ghost use Rattle.automata_base.specs.Nfas.Errors.{states_below};
 ghost use Rattle.automata_base.specs.Retraced.ReversedEdges.{copied, copies, copy_of, is_of, matches_in, HaveCopies};
 
 use crate::nfa::thompson::State;
@@ -228,9 +227,7 @@ pub fn parts_of(
     patterns: usize,
 ) -> Result<Parts, MakeError>
     requires few { length turned.now ≤ 2 ^ 27 }
-    requires range { states_below (length turned.now) turned.now ≡ true }
-    requires ordered { states_ordered turned.now ≡ true }
-    requires whole { length states.now ≤ length turned.now }
+    requires turned { AreCopyable states.now turned.now }
     requires below { all_below (length states.now) reached.now ≡ true }
     requires patterns { patterns ≤ 2 ^ 27 }
     ensures copies { IfOk result (λ parts.

@@ -22,10 +22,7 @@ fn from<'h>(input: &Input<'h>, start: usize) -> Input<'h>
     requires { Allows input.now.haystack start input.now.end }
     ensures { result ≡ from start input.now }
 {
-    Input::new(input.haystack())
-        .range(start..input.end())
-        .anchored(input.get_anchored())
-        .earliest(input.get_earliest())
+    input.copied().range(start..input.end())
 }
 
 /// Whether a match is empty and at the end of the last one.

@@ -28,10 +28,7 @@ impl Regex {
         ensures { IsAsked self.now.forward input.now result }
     {
         let skips = self.skips();
-        Input::new(input.haystack())
-            .range(input.start()..input.end())
-            .anchored(input.get_anchored())
-            .earliest(!skips)
+        input.copied().earliest(!skips)
     }
 
     /// Whether there is a match, whatever the input's earliest flag. It uses the forward DFA alone.

@@ -13,12 +13,10 @@ use Rattle.automata_hybrid.proofs.Knowing.{knows_here, knows_still, learned_none
 use Rattle.std.proofs.lemmas.Result.{IfErr-weaker, IfOk-weaker}
 use Rattle.automata_hybrid.proofs.Passed.{dead_answer, dead_stops, first_answer, first_stops, rest_read, rest_refused}
 use Rattle.automata_hybrid.proofs.Passed.{rest_then}
-use Rattle.automata_hybrid.proofs.Reading.{at_err}
-use Rattle.automata_hybrid.specs.Searches.PassContracts.{IsRestEffect}
 use Rattle.automata_hybrid.proofs.UnitsRead.{AreReadTo, ended_here, pass_last, pass_left_then, pass_stopped, read_none}
 use Rattle.automata_hybrid.proofs.UnitsRead.{read_then, refused_here, taken_here}
 use Rattle.automata_hybrid.proofs.Searching.{at_reads, stops_dead, stops_ends, stops_last, more_leads, more_at}
-use Rattle.automata_hybrid.proofs.Searching.{place_refuses, step_refuses, unit_refuses, if_both, if_err, false_true}
+use Rattle.automata_hybrid.proofs.Searching.{place_refuses, step_refuses, unit_refuses, if_both, false_true}
 use Rattle.automata_hybrid.proofs.Searching.{some_is, none_is}
 use Rattle.automata_hybrid.proofs.Directions.{not_behind, quit_free, span_unit, units_in}
 use Rattle.automata_hybrid.proofs.Stepping.{dead_tagged}

@@ -45,11 +45,11 @@ returns-clause-effect c =
     let none : id_of c.args.cache.now.store.table c.args.handle.now.state ≡ None =
     subst (λ q. id_of c.args.cache.now.store.table q ≡ None) c.requires.key (sym c.find.ensures ∙ c.in_default.is) in
     record {
-      cost = c.add_again.ensures.counted;
-      grown = c.add_again.ensures.grown;
+      cost = c.add_again.ensures.effect.cost;
+      grown = c.add_again.ensures.effect.grown;
       there = λ has. absurd (none_some (sym none ∙ has.named));
       again = λ lacks. (
-        c.add_again.ensures.counted,
+        c.add_again.ensures.effect.cost,
         subst (λ (q : Powerset). IsAddedStart c.args.cache.now.store (record { state = q; started = false }) c.add_again.new.self.store)
             c.in_ok-state.ensures.cases c.in_ok-id.ensures.added,
       );

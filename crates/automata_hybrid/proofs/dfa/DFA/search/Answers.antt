@@ -1,4 +1,4 @@
-use Rattle.std.proofs.Common.{ℕ, suc, ◌≡◌, ◌∙◌, ◌+◌, ◌-◌, ◌<◌, ◌≤◌, Some, true, false, inl, refl, sym, ap, ap₂, subst}
+use Rattle.std.proofs.Common.{ℕ, suc, ◌≡◌, ◌∙◌, ◌+◌, ◌-◌, ◌<◌, ◌≤◌, Some, true, false, inl, refl, sym, ap, subst}
 use Rattle.std.proofs.Common.{arith}
 use Rattle.std.proofs.lemmas.Grind.{common_steps}
 use Rattle.automata_base.specs.Answers.Answers.{later, Tries}
@@ -15,12 +15,11 @@ use Rattle.automata_hybrid.proofs.Costing.{AreCounted}
 use Rattle.automata_hybrid.proofs.Knowing.{LearnedSpans}
 use Rattle.automata_hybrid.proofs.Directions.{later_anchored, later_none, later_on, later_start, skipped, skipped_last}
 use Rattle.automata_hybrid.proofs.Directions.{skipped_more, skipped_within}
-use Rattle.automata_hybrid.proofs.Reading.{at_err}
-use Rattle.automata_hybrid.specs.Searches.Contracts.{IsSearchEffect, IsUnsupported, unsupported_error}
+use Rattle.automata_hybrid.specs.Searches.Contracts.{IsUnsupported, unsupported_error}
 use Rattle.std.specs.Prelude.{Err}
 use Rattle.automata_hybrid.proofs.Owing.{err_to}
 use Rattle.automata_hybrid.specs.Walks.State.{way_of}
-use Rattle.automata_hybrid.proofs.Searching.{if_err, false_true}
+use Rattle.automata_hybrid.proofs.Searching.{false_true}
 use Rattle.automata_hybrid.proofs.Skipping.{anchored_stops, none_stops, some_stops, finds_none, finds_no_more}
 use Rattle.automata_hybrid.proofs.Skipping.{finds_some, finds_split, tries_on, refuses}
 use Rattle.automata_hybrid.proofs.Spans.{effect_after, effect_before, effect_refused, spans_cost, spans_counted}
@@ -53,7 +52,7 @@ returns-then-not-skips_at-clause-found c =
     let ahead : c.loop-later.later.start ≤ c.loop-later.later.end = grind (arith, common_steps, c.loop-later-test.ensures.done) in
     let within : c.args.input.now.start + k ≤ c.args.input.now.end = skipped_within c.args.input.now c.loop-later.later c.loop-later.invariant.few ahead in
     let found : IsFound d c.args.self.now c.args.input.now (Some (with_base c.in-Some.half c.loop-later.later.start)) = finds_some d c.args.self.now c.args.input.now c.loop-later.later k same c.loop-later.invariant.tries within c.in-Some.half (sym c.in-Some.is ∙ c.in-Ok.ensures.answer.found) c.in-Ok.ensures.answer.clean (λ skips. subst (λ n. is_split c.loop-later.later.haystack n ≡ false) c.offset.ensures (c.if-not-skips_at.ensures.no refl skips)) in
-    subst (λ n. IsFound d c.args.self.now c.args.input.now (Some (with_base c.in-Some.half n))) (sym c.start-then-not-skips_at.ensures.start) found
+    subst (λ n. IsFound d c.args.self.now c.args.input.now (Some (with_base c.in-Some.half n))) (sym c.start.ensures.start) found
 
 pub returns-then-is_anchored-clause-found : goal.returns-then-is_anchored-clause-found
 returns-then-is_anchored-clause-found c =
@@ -67,12 +66,12 @@ returns-then-is_anchored-clause-found c =
 pub loop-later-init : goal.loop-later-init
 loop-later-init c =
     let d : Direction = way_of c.args.way in
-    let whole : c.with_span-later.result ≡ c.args.input.now = c.with_span-later.ensures ∙ ap₂ (λ (s e : ℕ). record c.args.input.now { start = s; end = e }) c.start.ensures.start c.end.ensures.end in
-    let none : 0 ≡ skipped c.args.input.now c.with_span-later.result = subst (λ (i : Input). 0 ≡ skipped c.args.input.now i) (sym whole) (omega arith) in
+    let whole : c.copied-later.result ≡ c.args.input.now = c.copied-later.ensures in
+    let none : 0 ≡ skipped c.args.input.now c.copied-later.result = subst (λ (i : Input). 0 ≡ skipped c.args.input.now i) (sym whole) (omega arith) in
     record {
       of = c.requires;
       few = subst (λ (i : Input). i.end + 1 - i.start ≤ c.args.input.now.end + 1 - c.args.input.now.start) (sym whole) (omega arith);
-      same = subst (λ n. c.with_span-later.result ≡ later d n c.args.input.now) none (whole ∙ later_none d c.args.input.now);
+      same = subst (λ n. c.copied-later.result ≡ later d n c.args.input.now) none (whole ∙ later_none d c.args.input.now);
       first = λ u. sym none;
       grown = grown_same c.args.cache.now c.args.cache.now refl;
       known = λ knows. refl;
@@ -134,7 +133,7 @@ returns-then-not-skips_at-clause-upto c = λ forward.
     let same : c.loop-later.later ≡ later d k c.args.input.now = c.loop-later.invariant.same in
     let ahead : c.loop-later.later.start ≤ c.loop-later.later.end = grind (arith, common_steps, c.loop-later-test.ensures.done) in
     let within : c.args.input.now.start + k ≤ c.args.input.now.end = skipped_within c.args.input.now c.loop-later.later c.loop-later.invariant.few ahead in
-    let base : suc k ≡ c.start-then-not-skips_at.result - c.args.input.now.start + 1 = omega (arith, c.start-then-not-skips_at.ensures.start, later_start d k c.args.input.now c.loop-later.later same forward) in
+    let base : suc k ≡ c.start.result - c.args.input.now.start + 1 = omega (arith, c.start.ensures.start, later_start d k c.args.input.now c.loop-later.later same forward) in
     subst (λ n. IsCostOfPasses Forward c.args.self.now c.args.input.now n c.args.cache.now c.pass.new.cache) base
     (subst (λ (e : Direction). IsCostOfPasses e c.args.self.now c.args.input.now (suc k) c.args.cache.now c.pass.new.cache) forward
     (spans_cost d c.args.self.now c.args.input.now k c.loop-later.invariant.tries c.args.cache.now c.loop-later.cache c.loop-later.invariant.grown c.loop-later.invariant.known c.loop-later.invariant.learned c.loop-later.invariant.bounded c.loop-later.invariant.progress c.loop-later.later same within c.pass.new.cache _ c.in-Ok.ensures.effect))

@@ -13,7 +13,10 @@ pub add_part-requires-clause-roots : goal.add_part-requires-clause-roots
 add_part-requires-clause-roots c =
     ap (all_below (length c.args.turned.now)) (c.deref.ensures.value ∙ c.in_ok-roots.ensures)
     ∙ matches_below (length c.args.states.now) (length c.args.turned.now) c.args.states.now c.new_unchecked-pattern.result c.args.reached.now
-    c.requires.whole c.requires.below
+    c.requires.turned.whole c.requires.below
+
+pub add_part-requires-clause-range : goal.add_part-requires-clause-range
+add_part-requires-clause-range c = c.requires.turned.range
 
 pub loop-p-preserved : goal.loop-p-preserved
 loop-p-preserved c =
@@ -40,7 +43,7 @@ loop-p-preserved c =
       capacity = c.in_ok-add_part.ensures.capacity;
       fit =
           part_fits c.args.turned.now (length c.args.reached.now) c.args.patterns c.loop-p.p old new c.loop-p.parts.entries.items
-          c.add_part.new.parts.entries.items c.deref.result.now part.0 c.requires.ordered c.loop-p-test.true few
+          c.add_part.new.parts.entries.items c.deref.result.now part.0 c.requires.turned.ordered c.loop-p-test.true few
           (subst (λ z. IsPartAdded old new c.args.turned.now c.deref.result.now z part.0) c.new_unchecked-pattern.ensures part.2)
           part.1 c.loop-p.invariant.fit;
     }

@@ -3,13 +3,13 @@ use Rattle.automata_base.specs.Retraced.ComputedPass.{any_node}
 use Rattle.automata_base.specs.Haystacks.Looks.{look_index}
 use Rattle.automata_base.specs.Nfas.Nodes.{nodes_of}
 use Rattle.automata_base.specs.Haystacks.LookSets.{truth_of}
-use Rattle.automata_base.proofs.Determinizing.Keeping.{truth_none}
 use Rattle.automata_base.proofs.Determinizing.Tests_of_lists.{any_next, any_done}
 use Rattle.automata_base.proofs.nfa.thompson.door.looks_of.Goals as goal
+use Rattle.automata_base.proofs.Paths.LookSets.{truth_of_none}
 
 pub loop-i-init : goal.loop-i-init
 loop-i-init c = λ other. ap (λ z. z || any_node (λ look. eqb (look_index look) (look_index other)) (nodes_of c.args.states.now))
-    (ap (λ z. truth_of z other) c.empty-looks.ensures ∙ truth_none other)
+    (ap (λ z. truth_of z other) c.empty-looks.ensures ∙ truth_of_none other)
 
 pub loop-i-preserved : goal.loop-i-preserved
 loop-i-preserved c = λ other.

@@ -1,8 +1,9 @@
 use Rattle.std.proofs.Common.{◌≡◌, ◌+◌, ◌≤◌, ◌++◌, [], ◌∷◌, length, length-append, ap, sym, ◌∙◌, subst, inl, refl, arith}
 use Rattle.automata_base.specs.Lists.{In}
-use Rattle.automata_base.proofs.Determinizing.Distinct.{In-left, In-right}
 use Rattle.automata_base.proofs.Reaching.Adding.{inserted_new}
 use Rattle.automata_base.proofs.nfa.thompson.finishing.mark.Goals as goal
+use Rattle.automata_base.proofs.Paths.Walks.{in_left}
+use Rattle.automata_base.proofs.Paths.FirstVisits.{in_right}
 
 pub returns-clause-items : goal.returns-clause-items
 returns-clause-items c =
@@ -25,11 +26,11 @@ returns-clause-kept c = λ q i.
     let items : c.insert.new.self.items ≡ c.args.visited.now.items ++ c.args.id ∷ [] =
     inserted_new c.args.visited.now.items c.insert.new.self.items c.args.id c.insert.result c.requires.new c.insert.ensures.added
     c.insert.ensures.had in
-    subst (λ z. In q z) (sym items) (In-left q c.args.visited.now.items (c.args.id ∷ []) i)
+    subst (λ z. In q z) (sym items) (in_left q c.args.visited.now.items (c.args.id ∷ []) i)
 
 pub returns-clause-has : goal.returns-clause-has
 returns-clause-has c =
     let items : c.insert.new.self.items ≡ c.args.visited.now.items ++ c.args.id ∷ [] =
     inserted_new c.args.visited.now.items c.insert.new.self.items c.args.id c.insert.result c.requires.new c.insert.ensures.added
     c.insert.ensures.had in
-    subst (λ z. In c.args.id z) (sym items) (In-right c.args.id c.args.visited.now.items (c.args.id ∷ []) (inl refl))
+    subst (λ z. In c.args.id z) (sym items) (in_right c.args.id c.args.visited.now.items (c.args.id ∷ []) (inl refl))

@@ -11,8 +11,10 @@ use Rattle.automata_base.proofs.Determinizing.Distinct.{Contains-In, In-Contains
 use Rattle.automata_base.proofs.Determinizing.Tests_of_lists.{node_fits}
 use Rattle.automata_base.proofs.Paths.Checked.{children_below}
 use Rattle.automata_base.proofs.Paths.Orders.{none_some}
-use Rattle.automata_base.proofs.Reaching.DepthFirst.{nth_in, nth_below, nth_none, take_next}
+use Rattle.automata_base.proofs.Reaching.DepthFirst.{nth_none, take_next}
 use Rattle.automata_base.proofs.nfa.thompson.finishing.next_edge.Goals as goal
+use Rattle.automata_base.proofs.Paths.Searches.{nth_inside}
+use Rattle.automata_base.proofs.Paths.Sets.{nth_in}
 
 same_edge : (a b : Edge) → Some a ≡ Some b → a ≡ b
 same_edge a b e = cc
@@ -51,7 +53,7 @@ returns-then-not-contains-clause-followed c = λ edge r e i.
 pub loop-target-smaller : goal.loop-target-smaller
 loop-target-smaller c =
     let within : c.loop-target.number < length (children_at (node_of c.args.state.now) all_true) =
-    nth_below (children_at (node_of c.args.state.now) all_true) c.loop-target.number c.in-Some.target (sym c.epsilon_target.ensures.same ∙ c.in-Some.is) in
+    nth_inside (children_at (node_of c.args.state.now) all_true) c.loop-target.number c.in-Some.target (sym c.epsilon_target.ensures.same ∙ c.in-Some.is) in
     let less :
     length (children_at (node_of c.args.state.now) all_true) - (c.loop-target.number + 1)
     < length (children_at (node_of c.args.state.now) all_true) - c.loop-target.number = omega arith in

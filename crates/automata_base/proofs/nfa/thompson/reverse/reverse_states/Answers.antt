@@ -1,4 +1,4 @@
-use Rattle.std.proofs.Common.{ℕ, List, ◌∷◌, [], ◌++◌, ◌↔◌, ◌≡◌, ◌≤◌, ◌<◌, true, length, ap, sym, ◌∙◌, subst, arith}
+use Rattle.std.proofs.Common.{ℕ, List, ◌∷◌, [], ◌++◌, ◌↔◌, ◌≡◌, ◌<◌, true, length, ap, sym, ◌∙◌, subst, arith}
 use Rattle.std.specs.Prelude.{sum_by}
 use Rattle.automata_base.specs.declared.nfa.thompson.State.{State}
 use Rattle.automata_base.specs.declared.nfa.thompson.reach.Edges.TheVariants.{Every}
@@ -6,60 +6,50 @@ use Rattle.automata_base.specs.Lists.{In, all_below}
 use Rattle.automata_base.specs.Nfas.Nfa.{Split}
 use Rattle.automata_base.specs.Nfas.Nodes.{nodes_of}
 use Rattle.automata_base.specs.Retraced.Once.{Distinct}
+use Rattle.automata_base.specs.Retraced.Copies.{AreCopyable}
 use Rattle.automata_base.specs.Nfas.Reach.{IsReached}
-use Rattle.automata_base.specs.Nfas.Errors.{alternates_of, states_below, states_ordered}
+use Rattle.automata_base.specs.Nfas.Errors.{alternates_of}
 use Rattle.automata_base.specs.Retraced.ReversedEdges.{HaveCopies}
-use Rattle.automata_base.proofs.Reaching.InRange.{ids_below}
 use Rattle.automata_base.proofs.Determinizing.Walking.{nodes_length}
 use Rattle.automata_base.proofs.Mirrors.Fits.{made_fits, parts_large, root_large, turned_large}
 use Rattle.automata_base.proofs.Mirrors.Lists.{err_is}
 use Rattle.automata_base.proofs.Mirrors.Ranges.{states_whole, states_in_range}
 use Rattle.automata_base.proofs.Mirrors.Sizes.{turned_length, turned_ordered, turned_alternates}
 use Rattle.automata_base.proofs.nfa.thompson.reverse.reverse_states.Goals as goal
+use Rattle.automata_base.proofs.Determinizing.Belows.{all_below_from}
 
 pub turned_states-requires-clause-below : goal.turned_states-requires-clause-below
 turned_states-requires-clause-below c =
     ap (all_below (length c.args.states.now)) c.as_slice-ids.ensures.items
-    ∙ ids_below (length c.args.states.now) c.in_ok-reached.reached.items
+    ∙ all_below_from (length c.args.states.now) c.in_ok-reached.reached.items
     (λ q i. subst (λ z. q < z) c.in_ok-reached.ensures.capacity (c.as_slice-ids.ensures.below q i))
 
 pub parts_of-requires-clause-below : goal.parts_of-requires-clause-below
 parts_of-requires-clause-below c =
     ap (all_below (length c.args.states.now)) c.as_slice-ids.ensures.items
-    ∙ ids_below (length c.args.states.now) c.in_ok-reached.reached.items
+    ∙ all_below_from (length c.args.states.now) c.in_ok-reached.reached.items
     (λ q i. subst (λ z. q < z) c.in_ok-reached.ensures.capacity (c.as_slice-ids.ensures.below q i))
 
-pub parts_of-requires-clause-range : goal.parts_of-requires-clause-range
-parts_of-requires-clause-range c =
+pub parts_of-requires-clause-turned : goal.parts_of-requires-clause-turned
+parts_of-requires-clause-turned c =
     let small : all_below (length c.args.states.now) c.as_slice-ids.result.now ≡ true =
     ap (all_below (length c.args.states.now)) c.as_slice-ids.ensures.items
-    ∙ ids_below (length c.args.states.now) c.in_ok-reached.reached.items
-    (λ q i. subst (λ z. q < z) c.in_ok-reached.ensures.capacity (c.as_slice-ids.ensures.below q i)) in
-    subst (λ (z : List State). states_below (length z) z ≡ true) (sym c.deref.ensures.value)
-    (states_in_range c.args.states.now c.in_ok-turned.turned.items c.as_slice-ids.result.now c.args.first c.requires.range c.requires.first small
-    c.in_ok-turned.ensures.turned)
-
-pub parts_of-requires-clause-whole : goal.parts_of-requires-clause-whole
-parts_of-requires-clause-whole c =
-    let small : all_below (length c.args.states.now) c.as_slice-ids.result.now ≡ true =
-    ap (all_below (length c.args.states.now)) c.as_slice-ids.ensures.items
-    ∙ ids_below (length c.args.states.now) c.in_ok-reached.reached.items
-    (λ q i. subst (λ z. q < z) c.in_ok-reached.ensures.capacity (c.as_slice-ids.ensures.below q i)) in
-    subst (λ (z : List State). length c.args.states.now ≤ length z) (sym c.deref.ensures.value)
-    (states_whole c.args.states.now c.in_ok-turned.turned.items c.as_slice-ids.result.now c.args.first c.requires.range c.requires.first small
-    c.in_ok-turned.ensures.turned)
-
-pub parts_of-requires-clause-ordered : goal.parts_of-requires-clause-ordered
-parts_of-requires-clause-ordered c =
-    let small : all_below (length c.args.states.now) c.as_slice-ids.result.now ≡ true =
-    ap (all_below (length c.args.states.now)) c.as_slice-ids.ensures.items
-    ∙ ids_below (length c.args.states.now) c.in_ok-reached.reached.items
+    ∙ all_below_from (length c.args.states.now) c.in_ok-reached.reached.items
     (λ q i. subst (λ z. q < z) c.in_ok-reached.ensures.capacity (c.as_slice-ids.ensures.below q i)) in
     let distinct : Distinct c.as_slice-ids.result.now =
     subst (λ (z : List ℕ). Distinct z) (sym c.as_slice-ids.ensures.items) c.as_slice-ids.ensures.distinct in
-    subst (λ (z : List State). states_ordered z ≡ true) (sym c.deref.ensures.value)
-    (turned_ordered c.args.states.now c.in_ok-turned.turned.items c.as_slice-ids.result.now c.args.first distinct small c.in_ok-turned.ensures.turned
-    c.requires.ordered)
+    subst (λ (z : List State). AreCopyable c.args.states.now z) (sym c.deref.ensures.value)
+    (record {
+      range =
+          states_in_range c.args.states.now c.in_ok-turned.turned.items c.as_slice-ids.result.now c.args.first c.requires.range c.requires.first small
+          c.in_ok-turned.ensures.turned;
+      ordered =
+          turned_ordered c.args.states.now c.in_ok-turned.turned.items c.as_slice-ids.result.now c.args.first distinct small
+          c.in_ok-turned.ensures.turned c.requires.ordered;
+      whole =
+          states_whole c.args.states.now c.in_ok-turned.turned.items c.as_slice-ids.result.now c.args.first c.requires.range c.requires.first small
+          c.in_ok-turned.ensures.turned;
+    })
 
 pub returns-in_err-turned-clause-large : goal.returns-in_err-turned-clause-large
 returns-in_err-turned-clause-large c = λ e.
@@ -71,7 +61,7 @@ pub returns-in_err-parts-clause-large : goal.returns-in_err-parts-clause-large
 returns-in_err-parts-clause-large c = λ e.
     let small : all_below (length c.args.states.now) c.as_slice-ids.result.now ≡ true =
     ap (all_below (length c.args.states.now)) c.as_slice-ids.ensures.items
-    ∙ ids_below (length c.args.states.now) c.in_ok-reached.reached.items
+    ∙ all_below_from (length c.args.states.now) c.in_ok-reached.reached.items
     (λ q i. subst (λ z. q < z) c.in_ok-reached.ensures.capacity (c.as_slice-ids.ensures.below q i)) in
     let distinct : Distinct c.as_slice-ids.result.now =
     subst (λ (z : List ℕ). Distinct z) (sym c.as_slice-ids.ensures.items) c.as_slice-ids.ensures.distinct in
@@ -86,7 +76,7 @@ pub returns-in_err-mirror-clause-large : goal.returns-in_err-mirror-clause-large
 returns-in_err-mirror-clause-large c = λ e.
     let small : all_below (length c.args.states.now) c.as_slice-ids.result.now ≡ true =
     ap (all_below (length c.args.states.now)) c.as_slice-ids.ensures.items
-    ∙ ids_below (length c.args.states.now) c.in_ok-reached.reached.items
+    ∙ all_below_from (length c.args.states.now) c.in_ok-reached.reached.items
     (λ q i. subst (λ z. q < z) c.in_ok-reached.ensures.capacity (c.as_slice-ids.ensures.below q i)) in
     let distinct : Distinct c.as_slice-ids.result.now =
     subst (λ (z : List ℕ). Distinct z) (sym c.as_slice-ids.ensures.items) c.as_slice-ids.ensures.distinct in
@@ -103,7 +93,7 @@ pub returns-clause-fit : goal.returns-clause-fit
 returns-clause-fit c =
     let small : all_below (length c.args.states.now) c.as_slice-ids.result.now ≡ true =
     ap (all_below (length c.args.states.now)) c.as_slice-ids.ensures.items
-    ∙ ids_below (length c.args.states.now) c.in_ok-reached.reached.items
+    ∙ all_below_from (length c.args.states.now) c.in_ok-reached.reached.items
     (λ q i. subst (λ z. q < z) c.in_ok-reached.ensures.capacity (c.as_slice-ids.ensures.below q i)) in
     let distinct : Distinct c.as_slice-ids.result.now =
     subst (λ (z : List ℕ). Distinct z) (sym c.as_slice-ids.ensures.items) c.as_slice-ids.ensures.distinct in

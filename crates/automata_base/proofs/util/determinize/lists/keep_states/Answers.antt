@@ -6,9 +6,10 @@ use Rattle.automata_base.specs.Nfas.Nfa.{stays_at, node, keep}
 use Rattle.automata_base.specs.Retraced.ComputedPass.{looks_at, any_state}
 use Rattle.automata_base.specs.Haystacks.Looks.{look_index}
 use Rattle.automata_base.proofs.Determinizing.Walking.{node_at}
-use Rattle.automata_base.proofs.Determinizing.Keeping.{below_at, keep_next, room_next, looks_next, truth_none}
+use Rattle.automata_base.proofs.Determinizing.Keeping.{below_at, keep_next, room_next, looks_next}
 use Rattle.automata_base.proofs.Determinizing.Keeping.{looks_done, kept_done}
 use Rattle.automata_base.proofs.util.determinize.lists.keep_states.Goals as goal
+use Rattle.automata_base.proofs.Paths.LookSets.{truth_of_none}
 
 pub state-state-requires : goal.state-state-requires
 state-state-requires c = below_at c.args.states.now (length c.args.nfa.now.states) c.loop-i.i c.index-states-i.result c.requires.below c.loop-i-test.true c.index-states-i.is
@@ -18,7 +19,7 @@ loop-i-init c = (
   ap (λ z. z ++ pick (keep (nfa_of c.args.nfa.now)) c.args.states.now) c.clear.ensures.items,
   (let z : length c.clear.new.self.items ≡ 0 = ap length c.clear.ensures.items in omega arith),
   (λ other. ap (λ z. z || any_state (λ look. eqb (look_index look) (look_index other)) (nfa_of c.args.nfa.now) c.args.states.now)
-      (ap (λ z. truth_of z other) c.empty-looks.ensures ∙ truth_none other)),
+      (ap (λ z. truth_of z other) c.empty-looks.ensures ∙ truth_of_none other)),
   (let z : vec_capacity c.clear.new.self ≡ vec_capacity c.args.kept.now = c.clear.ensures.capacity in omega arith),
 )
 

@@ -3,12 +3,12 @@ use Rattle.std.specs.Prelude.{Ok, Err}
 use Rattle.automata_base.specs.Haystacks.Input.{Input}
 use Rattle.automata_base.specs.Answers.Spans.{from}
 use Rattle.regex_automata.specs.Spans.Iteration.{AreCostsTwice, GoesPast, IsNextMatch, IsNextRefusal, input_at}
-use Rattle.regex_automata.proofs.Backing.{false_true}
 use Rattle.regex_automata.proofs.Items.{fewer_left, gives_error, gives_match, gives_none, learns_next, lies_in_haystack, some_left}
 use Rattle.regex_automata.proofs.Items.{tells_error, tells_found}
 use Rattle.regex_automata.proofs.Leaving.{item_error, item_match, item_none}
 use Rattle.regex_automata.proofs.Nexts.{some_of}
 use Rattle.regex_automata.proofs.hybrid.regex.iterate.FindMatchesIterator.next.Goals as goal
+use Rattle.automata_hybrid.proofs.Searching.{false_true}
 
 pub returns-in-Ok-Some-clause-steps : goal.returns-in-Ok-Some-clause-steps
 returns-in-Ok-Some-clause-steps c =
