@@ -1,16 +1,17 @@
 //! Calls of the library over one lazy DFA and its cache, and what they report.
 
-ghost use Rattle.std.specs.Prelude.{◌≡◌, ◌<◌, ◌^◌, IsTrue};
+ghost use Rattle.std.specs.Prelude.{◌≡◌, ◌<◌, ◌^◌, IfOk, IsTrue};
 ghost use Rattle.regex_automata.specs.Promises.{HoldsRow, IsCacheOf};
 
 use super::Host;
 use super::plans::Mode;
+use super::random_paths::Dice;
 use super::tells::{Automaton, Caller};
 use super::told::{Counted, Told, letter};
 use crate::catalogue::Entry;
 use regex_automata::hybrid::dfa::{Cache, DFA};
 use regex_automata::hybrid::{BuildError, LazyStateID, SearchError, StartError, StepError};
-use regex_automata::util::primitives::PatternID;
+use regex_automata::nfa::thompson::NFA;
 use regex_automata::util::search::{Anchored, HalfMatch, Input};
 use regex_automata::util::start;
 use std::alloc::{AllocError, Global};
@@ -24,6 +25,12 @@ pub enum Call {
     /// Searches a haystack from an offset to an offset.
     FindIn(&'static str, usize, usize),
     FindAnchored(&'static str, usize, usize),
+    /// Searches a piece that is repeated so often.
+    FindRepeated(&'static str, usize),
+    /// Searches it so often, each time from the last end on: the sum of all ends.
+    FindEach(&'static str, usize),
+    /// Searches a mebibyte of letters `a` and `b` of a fixed generator.
+    FindLetters,
     /// The same as `FindIn`, forward, with the offset where the last of its spans began.
     FindBased(&'static str, usize, usize),
     /// The start of a search of a haystack, and whether it has a tag.
@@ -62,8 +69,10 @@ pub enum Call {
     Open(usize),
     MoveTo(usize),
     Close(usize),
-    /// How many patterns the NFA has.
+    /// How many patterns the NFA has, a copy of it, and a copy of the DFA.
     Patterns,
+    PatternsOfNfaCopy,
+    PatternsOfCopy,
     /// The memory of the DFA beside its NFA.
     Memory,
     Classes,
@@ -86,7 +95,7 @@ pub struct Bench {
 
 impl Bench {
     /// Before any start.
-    pub fn new(rt: &impl Host, dfa: DFA) -> Bench {
+    fn new(rt: &impl Host, dfa: DFA) -> Bench {
         let cache = dfa.create_cache().expect(rt, "a cache");
         let at = LazyStateID::default();
         Bench {
@@ -98,10 +107,6 @@ impl Bench {
         }
     }
 
-    pub fn dfa(&self) -> &DFA {
-        &self.dfa
-    }
-
     /// What a call reports, whatever it changes.
     fn call(&mut self, alloc: Global, call: Call) -> Told {
         match call {
@@ -109,11 +114,23 @@ impl Bench {
             Call::FindEarliest(haystack) => {
                 self.find(&Input::new(haystack.as_bytes()).earliest(true))
             }
-            Call::FindIn(haystack, start, end) => self.find(&within(haystack, start, end)),
+            Call::FindIn(haystack, start, end) => self.find(&within(
+                haystack.as_bytes(),
+                start,
+                end,
+            )),
             Call::FindAnchored(haystack, start, end) => {
-                self.find(&within(haystack, start, end).anchored(Anchored::Yes))
+                self.find(&within(haystack.as_bytes(), start, end).anchored(Anchored::Yes))
             }
-            Call::FindBased(haystack, start, end) => self.find_based(&within(haystack, start, end)),
+            Call::FindBased(haystack, start, end) => self.find_based(&within(
+                haystack.as_bytes(),
+                start,
+                end,
+            )),
+            Call::FindRepeated(piece, count) | Call::FindEach(piece, count) => {
+                self.find_made(repeated(alloc, piece, count), call)
+            }
+            Call::FindLetters => self.find_made(letters(alloc), call),
             Call::StartOn(mode, haystack) => {
                 self.start_on(&Input::new(haystack.as_bytes()).anchored(mode.anchored()))
             }
@@ -122,9 +139,11 @@ impl Bench {
             Call::Step(byte) => Told::of_step(self.step(byte)),
             Call::Steps(bytes) => Told::of_step(self.steps(bytes)),
             Call::End => Told::of_step(self.end()),
-            Call::Replace => Told::of_growth(self.replace()),
-            Call::ReplaceByNew => Told::of_growth(self.replace_by_new()),
-            Call::Reset => Told::of_growth(self.reset()),
+            Call::Replace | Call::ReplaceByNew => {
+                let made = self.made(call);
+                self.replace(made)
+            }
+            Call::Reset => Told::of_growth(self.dfa.reset_cache(&mut self.cache)),
             Call::ResetByCache => Told::of_growth(self.cache.reset(&self.dfa)),
             Call::ResetTo(entry) => self.reset_to(alloc, entry),
             Call::Begin | Call::Read(_) | Call::Finish => self.move_on(call),
@@ -142,6 +161,8 @@ impl Bench {
             Call::Counts => self.counts(),
             Call::Brief => self.brief(),
             Call::Patterns => Told::Number("", self.dfa.pattern_len(), ""),
+            Call::PatternsOfNfaCopy => patterns_of(self.dfa.get_nfa().clone()),
+            Call::PatternsOfCopy => lazy_patterns_of(self.dfa.clone()),
             Call::Memory => Told::Number("", self.dfa.memory_usage(), ""),
             Call::Classes => Told::Number("", self.dfa.byte_classes().alphabet_len(), ""),
             Call::Minimum => self.minimum(),
@@ -150,7 +171,7 @@ impl Bench {
     }
 
     /// Searches in the direction of the NFA.
-    pub fn search(&mut self, input: &Input<'_>) -> Result<Option<HalfMatch>, SearchError> {
+    fn search(&mut self, input: &Input<'_>) -> Result<Option<HalfMatch>, SearchError> {
         search(&self.dfa, &mut self.cache, input)
     }
 
@@ -166,6 +187,33 @@ impl Bench {
             Ok(None) => Told::Half(Ok(None)),
             Err(error) => Told::Half(Err(error)),
         }
+    }
+
+    /// Searches a haystack that was made for the call.
+    fn find_made(&mut self, made: Result<Vec<u8>, AllocError>, call: Call) -> Told {
+        match made {
+            Ok(text) => self.find_long(text.as_slice(), call),
+            Err(_) => Told::Refused(BuildError::OutOfMemory),
+        }
+    }
+
+    fn find_long(&mut self, text: &[u8], call: Call) -> Told {
+        match call {
+            Call::FindEach(_, count) => self.find_each(text, count),
+            _ => self.find(&Input::new(text)),
+        }
+    }
+
+    fn find_each(&mut self, text: &[u8], count: usize) -> Told {
+        let (mut end, mut sum) = (0usize, 0usize);
+        for _ in 0..count {
+            let start = end.min(text.len());
+            if let Ok(Some(half)) = self.search(&Input::new(text).range(start..text.len())) {
+                end = half.offset();
+                sum = sum.saturating_add(end);
+            }
+        }
+        Told::Number("", sum, "")
     }
 
     fn start_on(&mut self, input: &Input<'_>) -> Told {
@@ -195,7 +243,7 @@ impl Bench {
         Told::Number("", self.cache.memory_usage(), letter(self.at))
     }
 
-    pub fn start(&mut self, mode: Anchored, behind: Option<u8>) -> Result<(), StartError> {
+    fn start(&mut self, mode: Anchored, behind: Option<u8>) -> Result<(), StartError> {
         let config = start::Config::new().anchored(mode).look_behind(behind);
         self.at = self.dfa.start_state(&mut self.cache, &config)?;
         Ok(())
@@ -210,7 +258,7 @@ impl Bench {
     }
 
     /// The step on a byte, from a state that the cache has.
-    pub fn step(&mut self, byte: u8) -> Result<(), StepError> {
+    fn step(&mut self, byte: u8) -> Result<(), StepError> {
         if self.has_state() {
             self.at = self.dfa.next_state(&mut self.cache, self.at, byte)?;
         }
@@ -225,7 +273,7 @@ impl Bench {
     }
 
     /// The step on the haystack's end, from a state that the cache has.
-    pub fn end(&mut self) -> Result<(), StepError> {
+    fn end(&mut self) -> Result<(), StepError> {
         if self.has_state() {
             self.at = self.dfa.next_eoi_state(&mut self.cache, self.at)?;
         }
@@ -276,18 +324,14 @@ impl Bench {
     }
 
     /// How often the cache was cleared, its memory, the bytes searched, and whether a search is in progress.
-    pub fn totals(&self) -> (usize, usize, usize, bool) {
+    fn totals(&self) -> (usize, usize, usize, bool) {
         let (clears, memory, searched) = counted(&self.cache);
         (clears, memory, searched, self.cache.in_progress())
     }
 
-    pub fn is_reverse(&self) -> bool {
-        self.dfa.get_nfa().is_reverse()
-    }
-
     /// The start of a search of an input.
-    pub fn begin(&mut self, input: &Input<'_>) -> Result<(), SearchError> {
-        self.at = if self.is_reverse() {
+    fn begin(&mut self, input: &Input<'_>) -> Result<(), SearchError> {
+        self.at = if self.dfa.get_nfa().is_reverse() {
             self.dfa.start_state_reverse(&mut self.cache, input)?
         } else {
             self.dfa.start_state_forward(&mut self.cache, input)?
@@ -295,37 +339,26 @@ impl Bench {
         Ok(())
     }
 
-    /// A search is in progress from an offset on.
-    pub fn open(&mut self, at: usize) {
-        self.cache.search_start(at);
-    }
-
-    /// The search in progress has come to an offset.
-    pub fn move_to(&mut self, at: usize) {
-        if self.cache.in_progress() {
-            self.cache.search_update(at);
+    /// A cache to take the place of this one.
+    fn made(&self, call: Call) -> Result<Cache, AllocError>
+        ensures { IfOk result (λ made. IsCacheOf made self.now.dfa) }
+    {
+        match call {
+            Call::Replace => self.dfa.create_cache(),
+            _ => Cache::new(&self.dfa),
         }
     }
 
-    /// The search in progress ends at an offset.
-    pub fn close(&mut self, at: usize) {
-        if self.cache.in_progress() {
-            self.cache.search_finish(at);
+    fn replace(&mut self, made: Result<Cache, AllocError>) -> Told
+        requires { IfOk made (λ made. IsCacheOf made self.old.dfa) }
+    {
+        match made {
+            Ok(cache) => {
+                self.cache = cache;
+                Told::Word("-")
+            }
+            Err(_) => Told::Refused(BuildError::OutOfMemory),
         }
-    }
-
-    fn replace(&mut self) -> Result<(), AllocError> {
-        self.cache = self.dfa.create_cache()?;
-        Ok(())
-    }
-
-    fn replace_by_new(&mut self) -> Result<(), AllocError> {
-        self.cache = Cache::new(&self.dfa)?;
-        Ok(())
-    }
-
-    pub fn reset(&mut self) -> Result<(), AllocError> {
-        self.dfa.reset_cache(&mut self.cache)
     }
 
     fn reset_to(&mut self, alloc: Global, entry: Entry) -> Told {
@@ -349,11 +382,12 @@ impl Bench {
         }
     }
 
+    /// The begin of a search, its progress, or its end.
     fn progress(&mut self, call: Call) -> Told {
         match call {
-            Call::Open(at) => self.open(at),
-            Call::MoveTo(at) => self.move_to(at),
-            Call::Close(at) => self.close(at),
+            Call::Open(at) => self.cache.search_start(at),
+            Call::MoveTo(at) if self.cache.in_progress() => self.cache.search_update(at),
+            Call::Close(at) if self.cache.in_progress() => self.cache.search_finish(at),
             _ => {}
         }
         Told::Word("-")
@@ -407,6 +441,38 @@ pub fn search(
     }
 }
 
+fn patterns_of(copy: Result<NFA, AllocError>) -> Told {
+    match copy {
+        Ok(nfa) => Told::Number("", nfa.pattern_len(), ""),
+        Err(_) => Told::Refused(BuildError::OutOfMemory),
+    }
+}
+
+fn lazy_patterns_of(copy: Result<DFA, AllocError>) -> Told {
+    match copy {
+        Ok(dfa) => Told::Number("", dfa.pattern_len(), ""),
+        Err(_) => Told::Refused(BuildError::OutOfMemory),
+    }
+}
+
+fn repeated(alloc: Global, piece: &str, count: usize) -> Result<Vec<u8>, AllocError> {
+    let mut text = Vec::new(alloc);
+    for _ in 0..count {
+        text.extend_from_slice(piece.as_bytes())?;
+    }
+    Ok(text)
+}
+
+fn letters(alloc: Global) -> Result<Vec<u8>, AllocError> {
+    let mut text = Vec::new(alloc);
+    let mut dice = Dice::new(0);
+    for _ in 0..1u32 << 20 {
+        let letter = if dice.roll(2) == 0 { b'a' } else { b'b' };
+        text.extend_from_slice(&[letter])?;
+    }
+    Ok(text)
+}
+
 /// How often a cache was cleared, its memory, and the bytes searched.
 pub fn counted(cache: &Cache) -> Counted {
     let (memory, searched) = (cache.memory_usage(), cache.search_total_len());
@@ -414,8 +480,8 @@ pub fn counted(cache: &Cache) -> Counted {
 }
 
 /// An input over a part of a haystack, or over all of it if it has no such part.
-pub fn within(haystack: &str, start: usize, end: usize) -> Input<'_> {
-    let input = Input::new(haystack.as_bytes());
+pub fn within(haystack: &[u8], start: usize, end: usize) -> Input<'_> {
+    let input = Input::new(haystack);
     if input.allows(start, end) {
         input.range(start..end)
     } else {

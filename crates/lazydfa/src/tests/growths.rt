@@ -8,8 +8,9 @@ use super::walker::{Over, Turn, Walked, Walker};
 use crate::catalogue::Entry;
 use Automaton::{Chain, Forward, Reverse};
 use Call::{
-    Brief, Classes, Counts, End, Find, FindIn, Known, Matched, Memory, Minimum, Patterns, Replace,
-    Reset, Room, Start, StartIn, StartOn, State, Step, Steps,
+    Brief, Classes, Counts, End, Find, FindIn, Known, Matched, Memory, Minimum, Patterns,
+    PatternsOfCopy, PatternsOfNfaCopy, Replace, Reset, Room, Start, StartIn, StartOn, State, Step,
+    Steps,
 };
 use Mode::{Every, First, Of};
 use Over::{Span, Text};
@@ -52,6 +53,8 @@ const KNOWN: &[Lazy] = &[
     ("patterns of a match, a known step, and what is counted", Forward(Entry::Aa), "all", &[Start(None), State,
         Steps("aa")], &[(Matched, "patterns 2 last 1"), (Start(None), "-"), (Known(b'a'), "state 1"),
         (Counts, "0 651 0"), (Classes, "4"), (Minimum, "1895"), (Patterns, "2"), (Memory, "0"), (Room, "false")], &[]),
+    ("copies of the NFA and of the DFA, which share what they are copies of", WORDS, "", &[],
+        &[(PatternsOfNfaCopy, "2"), (PatternsOfCopy, "2"), (Room, "false")], &[]),
     ("a start that is known, though the cache is full", A16, "noclasses capacity=37281", &[Find(AS)],
         &[(StartOn(Every, AS), "false"), (Counts, "1 19288 3")], &[]),
 ];
@@ -78,7 +81,7 @@ const CALLS: &[Lazy] = &[
         (Step(b'a'), "-"), (Counts, "0 36105 0")], ONCE),
     ("a step that clears, and two more", A16, FULL, &[Start(None), Steps("aaaaaaaaaaaaa")], &[(Step(b'a'), "-"),
         (Step(b'a'), "-"), (Step(b'a'), "-"), (Counts, "1 17187 0")], ONCE),
-    ("a start that clears", Chain(Shape::Assert(Look::WordAscii, 1)), "noclasses capacity=37645", &[Start(None),
+    ("a start that clears", Chain(Shape::Assert(Look::WordAscii, 1), 20), "noclasses capacity=37645", &[Start(None),
         Steps("aaaaaaaaaaaaa"), Counts], &[(Start(Some(b'a')), "-"), (Counts, "1 10965 0")], ONCE),
 ];
 
@@ -141,11 +144,12 @@ const WALKS: &[Walk] = &[
         (Turn::Room, "false")], &[]),
     ("nor from a state that it holds and that the cache has, else it owes its pair", Walked(Forward(Entry::Aa),
         Text("aa")), "all", &[Next, Next, Next, Next, Next, Begin, Next, Next], &[(Switch, "-"), (Next, "memory"),
-        (Match, "none"), (Switch, "-"), (Next, "memory"), (Switch, "-"), (Next, "half 0 2"), (Next, "half 1 2"),
-        (Next, "none"), (Switch, "-"), (Next, "none"), (Match, "none")], &[]),
+        (Match, "none"), (Next, "memory"), (Switch, "-"), (Next, "half 0 2"), (Next, "half 1 2"), (Next, "none"),
+        (Switch, "-"), (Next, "none"), (Match, "none")], &[]),
     ("nor for another pattern of a place", Walked(Forward(Entry::Aa), Text("aa")), "all", &[Next], &[(Switch, "-"),
-        (Next, "half 1 1"), (Next, "memory"), (Match, "none"), (Switch, "-"), (Next, "memory"),
-        (Turn::Counts, "0 383 0")], &[]),
+        (Next, "half 1 1"), (Next, "memory"), (Match, "none"), (Next, "memory"), (Turn::Counts, "0 383 0")], &[]),
+    ("nor for a copy", Walked(Forward(Entry::Aa), Text("aa")), "all", &[Next], &[(Turn::Copy, "half 0 1"),
+        (Turn::Room, "false")], &[]),
     ("nor over a done span", Walked(Forward(Entry::Always), Span("ab", 2, 1)), "all", &[], &[(Next, "none"),
         (Next, "none"), (Turn::Counts, "0 221 0")], &[]),
     ("over known transitions a search for a set takes none", OVER_WORDS, "all", &[Which(4)], &[(Fill, "{0 1}")], &[]),

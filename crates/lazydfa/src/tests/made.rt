@@ -2,48 +2,53 @@
 
 ghost use Rattle.std.specs.Prelude.{◌≡◌};
 
+use super::Host;
+use super::builder::build_ab;
 use super::plans::{Mode, ids_of, pattern_id};
 use super::tells::{Automaton, Caller, ONCE, RowOf, Short, config, refuse_each, tells_all};
 use super::told::Told;
-use super::{Host, Text, same_of};
 use crate::catalogue::Entry;
 use Automaton::{Forward, Reverse};
 use Lead::{End, Is, Room, Start, Step, Steps};
-use Made::{Always, Decode, Encode, Never, Set};
+use Made::{Always, Build, Decode, Encode, Never, Set};
 use Mode::{Every, First, Of};
 use regex_automata::hybrid::BuildError;
 use regex_automata::hybrid::dfa::DFA;
-use regex_automata::nfa::thompson::NFA;
+use regex_automata::nfa::thompson;
+use regex_automata::nfa::thompson::{Builder, NFA};
 use regex_automata::util::determinize;
 use regex_automata::util::determinize::{Parts, Scratch, State};
 use regex_automata::util::primitives::PatternID;
 use regex_automata::util::search::{MatchKind, PatternSet};
 use std::alloc::{AllocError, Global};
 
-/// What the row shows, the NFA states, the patterns, the looks needed, and the bytes.
-type Coded = (Text, &'static [u8], &'static [u8], u32, &'static [u8]);
+/// A state: its NFA states, its patterns, the looks needed, and its bytes.
+type Coded = (&'static [u8], &'static [u8], u32, &'static [u8]);
 
+/// Three states and two patterns.
 #[rattlefmt::skip]
-const THREE: Coded = ("three states and two patterns", &[3, 4, 1], &[0, 1], 0,
+const THREE: Coded = (&[3, 4, 1], &[0, 1], 0,
     &[3, 0, 0, 0, 0, 0, 0, 0, 0, 2, 0, 0, 0, 0, 0, 0, 0, 1, 0, 0, 0, 6, 2, 5]);
 
+const BOTH: &[Made] = &[Encode, Decode];
+
 #[rattlefmt::skip]
-const CODED: &[Coded] = &[
-    ("pattern 0 alone", &[], &[0], 0, &[1, 0, 0, 0, 0, 0, 0, 0, 0]),
-    ("one state", &[1], &[], 0, &[0, 0, 0, 0, 0, 0, 0, 0, 0, 2]),
-    THREE,
-    ("two patterns, and states that fall", &[3, 4, 1, 2, 6], &[0, 1], 0,
-        &[3, 0, 0, 0, 0, 0, 0, 0, 0, 2, 0, 0, 0, 0, 0, 0, 0, 1, 0, 0, 0, 6, 2, 5, 2, 8]),
-    ("a Unicode word boundary is needed", &[0, 6], &[], 1 << 8, &[0, 0, 0, 0, 0, 0, 1, 0, 0, 0, 12]),
+const CODED: &[RowOf<Coded, Made>] = &[
+    ("pattern 0 alone", (&[], &[0], 0, &[1, 0, 0, 0, 0, 0, 0, 0, 0]), "", BOTH, "true, true"),
+    ("one state", (&[1], &[], 0, &[0, 0, 0, 0, 0, 0, 0, 0, 0, 2]), "", BOTH, "true, true"),
+    ("three states and two patterns", THREE, "", BOTH, "true, true"),
+    ("two patterns, and states that fall", (&[3, 4, 1, 2, 6], &[0, 1], 0,
+        &[3, 0, 0, 0, 0, 0, 0, 0, 0, 2, 0, 0, 0, 0, 0, 0, 0, 1, 0, 0, 0, 6, 2, 5, 2, 8]), "", BOTH, "true, true"),
+    ("a Unicode word boundary is needed", (&[0, 6], &[], 1 << 8, &[0, 0, 0, 0, 0, 0, 1, 0, 0, 0, 12]), "", BOTH,
+        "true, true"),
 ];
 
-/// The parts of a row, with no look known and no flag set.
-fn parts_of(rt: &impl Host, row: Coded) -> Parts {
-    let patterns = patterns_of(rt, row.2);
-    let (known, needed, word, half) = (0, row.3, false, false);
+/// The parts of a state, with no look known and no flag set.
+fn parts_of(rt: &impl Host, (states, patterns, needed, _): Coded) -> Parts {
+    let (known, word, half) = (0, false, false);
     Parts {
-        nfa: ids_of(rt, row.1),
-        patterns,
+        nfa: ids_of(rt, states),
+        patterns: patterns_of(rt, patterns),
         known,
         needed,
         word,
@@ -61,26 +66,7 @@ fn patterns_of(rt: &impl Host, numbers: &[u8]) -> Vec<PatternID> {
 
 #[test]
 fn codes_states(rt: HostRuntime) {
-    for row in CODED {
-        let row = *row;
-        code(&rt, row);
-    }
-}
-
-fn code(rt: &impl Host, row: Coded) {
-    let parts = parts_of(rt, row);
-    assert!(rt; parts.is_without_repeats());
-    let state = State::encode(rt.alloc(), &parts).expect(rt, "memory");
-    same_of(rt, &state.as_bytes(), &row.4, &row.0);
-    let decoded = state.decode(rt.alloc()).expect(rt, "memory");
-    same_parts(rt, &decoded, &parts, row.0);
-}
-
-fn same_parts(rt: &impl Host, found: &Parts, want: &Parts, shows: &str) {
-    same_of(rt, &found.nfa, &want.nfa, &shows);
-    same_of(rt, &found.patterns, &want.patterns, &shows);
-    let flags = (found.known, found.needed, found.word, found.half);
-    same_of(rt, &flags, &(0, want.needed, false, false), &shows);
+    tells_all::<Making>(&rt, CODED);
 }
 
 /// A call.
@@ -235,13 +221,17 @@ enum Made {
     Decode,
     /// A clone, which shares what it is of.
     Copy,
+    /// An NFA by a builder that is used again, and whether it skips lazily.
+    Build,
 }
 
-/// The parts of a state, and the state.
+/// The parts of a state, the state, its bytes, and a builder.
 #[derive(Drop)]
 struct Making {
     parts: Parts,
     state: State,
+    bytes: &'static [u8],
+    builder: Builder,
 }
 
 impl Making {
@@ -254,17 +244,31 @@ impl Making {
         if !self.parts.is_without_repeats() {
             return Ok(false);
         }
-        Ok(State::encode(alloc, &self.parts)?.as_bytes() == THREE.4)
+        Ok(State::encode(alloc, &self.parts)?.as_bytes() == self.bytes)
     }
 
     fn copy(&self) -> Result<bool, AllocError> {
         Ok(self.state.clone()? == self.state)
     }
 
-    fn decode(&self, alloc: Global) -> Result<bool, AllocError> {
-        let decoded = self.state.decode(alloc)?;
-        Ok(decoded.nfa == self.parts.nfa && decoded.patterns == self.parts.patterns)
+    fn build(&mut self) -> Told {
+        self.builder.clear();
+        match build_ab(&mut self.builder) {
+            Ok(nfa) => Told::of_flag(nfa.skips_lazily()),
+            Err(thompson::BuildError::OutOfMemory) => Told::Refused(BuildError::OutOfMemory),
+            Err(_) => Told::Word("another error"),
+        }
     }
+
+    fn decode(&self, alloc: Global) -> Result<bool, AllocError> {
+        let (decoded, parts) = (self.state.decode(alloc)?, &self.parts);
+        let lists = decoded.nfa == parts.nfa && decoded.patterns == parts.patterns;
+        Ok(lists && looks_of(&decoded) == looks_of(parts))
+    }
+}
+
+fn looks_of(parts: &Parts) -> (u32, u32, bool, bool) {
+    (parts.known, parts.needed, parts.word, parts.half)
 }
 
 /// Whether what was made is right.
@@ -283,14 +287,20 @@ fn count_patterns(built: Result<DFA, BuildError>) -> Told {
 }
 
 impl Caller for Making {
-    type Of = ();
+    type Of = Coded;
 
     type Call = Made;
 
-    fn make(rt: &impl Host, _of: (), _options: &str) -> Result<Making, BuildError> {
-        let parts = parts_of(rt, THREE);
+    fn make(rt: &impl Host, of: Coded, _options: &str) -> Result<Making, BuildError> {
+        let parts = parts_of(rt, of);
         let state = coded(rt, &parts);
-        Ok(Making { parts, state })
+        let builder = Builder::new(rt.alloc());
+        Ok(Making {
+            parts,
+            state,
+            bytes: of.3,
+            builder,
+        })
     }
 
     fn answer(&mut self, alloc: Global, made: Made) -> Told {
@@ -301,6 +311,7 @@ impl Caller for Making {
             Encode => told_of(self.encode(alloc)),
             Decode => told_of(self.decode(alloc)),
             Made::Copy => told_of(self.copy()),
+            Build => self.build(),
         }
     }
 }
@@ -312,10 +323,12 @@ fn coded(rt: &impl Host, parts: &Parts) -> State {
 }
 
 #[rattlefmt::skip]
-const MADE: &[Short<(), Made>] = &[
-    ("always", (), "", &[], &[(Always, "patterns 1")], ONCE), ("never", (), "", &[], &[(Never, "patterns 0")], ONCE),
-    ("a set", (), "", &[], &[(Set, "true")], ONCE), ("encode", (), "", &[], &[(Encode, "true")], ONCE),
-    ("decode", (), "", &[], &[(Decode, "true")], ONCE), ("a copy", (), "", &[], &[(Made::Copy, "true")], &[]),
+const MADE: &[Short<Coded, Made>] = &[
+    ("always", THREE, "", &[], &[(Always, "patterns 1")], ONCE),
+    ("never", THREE, "", &[], &[(Never, "patterns 0")], ONCE), ("a set", THREE, "", &[], &[(Set, "true")], ONCE),
+    ("encode", THREE, "", &[], &[(Encode, "true")], ONCE), ("decode", THREE, "", &[], &[(Decode, "true")], ONCE),
+    ("a copy", THREE, "", &[], &[(Made::Copy, "true")], &[]),
+    ("a builder", THREE, "", &[], &[(Build, "true")], ONCE),
 ];
 
 #[test]

@@ -12,7 +12,6 @@ mod bench;
 mod builder;
 mod config;
 mod growths;
-mod long;
 mod made;
 mod memory;
 mod nfa;
@@ -152,11 +151,4 @@ fn printed(rt: &impl Host, script: &str) -> (String, Option<RunError>) {
     let result = run(rt.alloc(), &mut input, &mut output);
     let text = String::from_utf8(output.bytes).expect(rt, "a text");
     (text, result.err())
-}
-
-/// Runs a script that has no fault.
-fn prints(rt: &impl Host, script: &str, want: &str, shows: &str) {
-    let (text, fault) = printed(rt, script);
-    same_of(rt, &fault, &None, &shows);
-    same_text(rt, text.as_str(), want, shows);
 }

@@ -17,9 +17,13 @@ const EMPTY: &[Entry] = &[
 /// What the NFAs of the catalogue say of themselves. Only `any` reads bytes in UTF-8 mode that are not UTF-8.
 #[test]
 fn describes_the_catalogue(rt: HostRuntime) {
-    for entry in Entry::ALL {
-        let (forward, reverse) = (describe_forward(&rt, entry), describe_reverse(&rt, entry));
-        same_of(&rt, &forward, &reverse, &entry);
+    describe_all(&rt, &Entry::ALL);
+}
+
+fn describe_all(rt: &impl Host, entries: &[Entry]) {
+    for entry in entries.iter().copied() {
+        let (forward, reverse) = (describe_forward(rt, entry), describe_reverse(rt, entry));
+        same_of(rt, &forward, &reverse, &entry);
     }
 }
 
@@ -44,53 +48,45 @@ fn describe_reverse(rt: &impl Host, entry: Entry) -> (bool, usize) {
     (nfa.is_utf8(), nfa.pattern_len())
 }
 
-/// What the row shows, the states, the unanchored start, and whether it skips lazily. Byte `a` leads to the match.
-type Skip = (&'static str, &'static [Shape], u8, bool);
+/// What the row shows, the states, the unanchored start, whether it skips lazily, and whether no cycle of epsilon edges
+/// passes a look.
+type Told = (Text, &'static [Shape], u8, bool, bool);
 
 #[rattlefmt::skip]
-const SKIPS: &[Skip] = &[
-    ("the anchored start or any byte", &[Range(b'a', b'a', 1), Accept(0), Either(0, 3), Range(0x00, 0xFF, 2)], 2,
+const TOLD: &[Told] = &[
+    ("the anchored start or any byte", &[Range(b'a', b'a', 1), Accept(0), Either(0, 3), Range(0x00, 0xFF, 2)], 2, true,
         true),
-    ("equal starts", &[Range(b'a', b'a', 2), Accept(0), Either(0, 3), Range(0x00, 0xFF, 2)], 0, true),
+    ("equal starts", &[Range(b'a', b'a', 2), Accept(0), Either(0, 3), Range(0x00, 0xFF, 2)], 0, true, true),
     ("any byte or the anchored start", &[Range(b'a', b'a', 1), Accept(0), Either(3, 0), Range(0x00, 0xFF, 2)], 2,
-        false),
-    ("any byte but one", &[Range(b'a', b'a', 1), Accept(0), Either(0, 3), Range(0x00, 0xFE, 2)], 2, false),
-    ("a range to itself", &[Range(b'a', b'a', 1), Accept(0), Either(0, 3), Range(0x00, 0xFF, 3)], 2, false),
+        false, true),
+    ("any byte but one", &[Range(b'a', b'a', 1), Accept(0), Either(0, 3), Range(0x00, 0xFE, 2)], 2, false, true),
+    ("a range to itself", &[Range(b'a', b'a', 1), Accept(0), Either(0, 3), Range(0x00, 0xFF, 3)], 2, false, true),
     ("a byte that leads to the union", &[Range(b'a', b'a', 2), Accept(0), Either(0, 3), Range(0x00, 0xFF, 2)], 2,
-        false),
+        false, true),
     ("a byte that leads to the range", &[Range(b'a', b'a', 3), Accept(0), Either(0, 3), Range(0x00, 0xFF, 2)], 2,
-        false),
+        false, true),
+    // Looks, where all starts are equal.
+    ("no look", &[Range(b'a', b'a', 1), Accept(0)], 0, true, true),
+    ("a look before a byte", &[Assert(Look::WordAscii, 1), Range(b'a', b'a', 2), Accept(0)], 0, true, true),
+    ("a look that leads to itself", &[Assert(Look::Start, 0), Accept(0)], 0, true, false),
+    ("a look repeated", &[Either(1, 2), Assert(Look::WordAscii, 0), Accept(0)], 0, true, false),
+    ("a look and a byte repeated", &[Either(1, 3), Assert(Look::WordAscii, 2), Range(b'a', b'a', 0), Accept(0)], 0,
+        true, true),
+    ("a look behind a cycle", &[Either(0, 1), Assert(Look::Start, 2), Accept(0)], 0, true, true),
+    ("a look before a cycle", &[Assert(Look::Start, 1), Either(1, 2), Accept(0)], 0, true, true),
 ];
 
 #[test]
-fn tells_lazy_skipping(rt: HostRuntime) {
-    for row in SKIPS {
-        let (shows, states, start, want) = *row;
-        let nfa = Plan::of(states, start).build(&rt);
-        same_of(&rt, &nfa.skips_lazily(), &want, &shows);
-    }
+fn tells_lazy_skipping_and_cycles_of_looks(rt: HostRuntime) {
+    tell_all(&rt, TOLD);
 }
 
-/// What the row shows, the states, and whether no cycle of epsilon edges passes a look.
-type Cycle = (&'static str, &'static [Shape], bool);
-
-#[rattlefmt::skip]
-const CYCLES: &[Cycle] = &[
-    ("no look", &[Range(b'a', b'a', 1), Accept(0)], true),
-    ("a look before a byte", &[Assert(Look::WordAscii, 1), Range(b'a', b'a', 2), Accept(0)], true),
-    ("a look that leads to itself", &[Assert(Look::Start, 0), Accept(0)], false),
-    ("a look repeated", &[Either(1, 2), Assert(Look::WordAscii, 0), Accept(0)], false),
-    ("a look and a byte repeated", &[Either(1, 3), Assert(Look::WordAscii, 2), Range(b'a', b'a', 0), Accept(0)], true),
-    ("a look behind a cycle", &[Either(0, 1), Assert(Look::Start, 2), Accept(0)], true),
-    ("a look before a cycle", &[Assert(Look::Start, 1), Either(1, 2), Accept(0)], true),
-];
-
-#[test]
-fn tells_cycles_of_looks(rt: HostRuntime) {
-    for row in CYCLES {
-        let (shows, states, want) = *row;
-        let nfa = Plan::of(states, 0).build(&rt);
-        same_of(&rt, &nfa.is_look_acyclic(), &want, &shows);
+fn tell_all(rt: &impl Host, rows: &[Told]) {
+    for row in rows {
+        let (shows, states, start, skips, is_acyclic) = *row;
+        let nfa = Plan::of(states, start).build(rt);
+        let found = (nfa.skips_lazily(), nfa.is_look_acyclic());
+        same_of(rt, &found, &(skips, is_acyclic), &shows);
     }
 }
 
@@ -136,9 +132,12 @@ const REFUSED: &[Refused] = &[
 
 #[test]
 fn refuses_malformed_automata(rt: HostRuntime) {
-    for row in REFUSED {
-        let row = *row;
-        refuse(&rt, row);
+    refuse_all(&rt, REFUSED);
+}
+
+fn refuse_all(rt: &impl Host, rows: &[Refused]) {
+    for row in rows {
+        refuse(rt, *row);
     }
 }
 

@@ -60,9 +60,17 @@ fn best(paths: &[Path], is_reverse: bool, kind: MatchKind, earliest: bool) -> Op
     let mut best = *paths.first()?;
     for path in paths.iter().copied() {
         let (at, best_at) = (path.0.offset(), best.0.offset());
-        let is_nearer = at != best_at && (at < best_at) != is_reverse;
-        let is_farther = at != best_at && !is_nearer;
-        if earliest && is_nearer || !earliest && kind == MatchKind::All && is_farther {
+        let (near, far) = if is_reverse {
+            (best_at, at)
+        } else {
+            (at, best_at)
+        };
+        let is_better = if earliest {
+            near < far
+        } else {
+            kind == MatchKind::All && far < near
+        };
+        if is_better {
             best = path;
         }
     }
@@ -164,14 +172,22 @@ struct Sides {
 }
 
 fn beside(nfa: &NFA, input: &Input<'_>, place: usize) -> Sides {
-    let left = input.haystack().get(place.wrapping_sub(1)).copied();
-    let right = input.haystack().get(place).copied();
-    let (before, after, reads, behind) = if nfa.is_reverse() {
-        (right, left, input.start() < place, place.saturating_sub(1))
+    let left = byte_at(input, place.wrapping_sub(1));
+    let right = byte_at(input, place);
+    let (start, end) = (input.start(), input.end());
+    if nfa.is_reverse() {
+        sides_of(right, left, start < place, place.saturating_sub(1))
     } else {
-        (left, right, place < input.end(), place.saturating_add(1))
-    };
-    let read = if reads { after } else { None };
+        sides_of(left, right, place < end, place.saturating_add(1))
+    }
+}
+
+fn byte_at(input: &Input<'_>, place: usize) -> Option<u8> {
+    input.haystack().get(place).copied()
+}
+
+fn sides_of(before: Option<u8>, after: Option<u8>, is_inside: bool, behind: usize) -> Sides {
+    let read = if is_inside { after } else { None };
     Sides {
         before,
         after,
@@ -288,17 +304,6 @@ fn is_word(byte: Option<u8>) -> bool {
         Some(byte) => byte.is_ascii_alphanumeric() || byte == b'_',
         None => false,
     }
-}
-
-/// What is searched, with caches of its own, beside listed paths.
-pub trait Compared: Drop {
-    fn compare_all(&mut self, rt: &impl Host, haystacks: &[Vec<u8>]);
-}
-
-/// Compares, and gives it all back.
-pub fn compare<T: Compared>(rt: &impl Host, compared: T, haystacks: &[Vec<u8>]) {
-    let mut compared = compared;
-    compared.compare_all(rt, haystacks);
 }
 
 /// Three pieces of which haystacks are made. The first two are of different classes, if there are several.

@@ -79,10 +79,11 @@ impl Plan {
     }
 }
 
-/// A state, and after it nineteen bytes `a` to the one match. All starts are at the first.
-pub fn chain(rt: &impl Host, first: Shape) -> NFA {
+/// A state, and after it so many states, of which each but the last, the one match, reads an `a`. All starts are at the
+/// first.
+pub fn chain(rt: &impl Host, first: Shape, length: usize) -> NFA {
     let starts = ids_of(rt, &[0]);
-    let states = chained(rt, first);
+    let states = chained(rt, first, length);
     let flags = Flags::default();
     NFA::from_states(rt.alloc(), states, id(0), id(0), starts, flags).expect(rt, "a chain")
 }
@@ -96,11 +97,14 @@ pub fn crowd(rt: &impl Host, patterns: usize) -> NFA {
     nfa.expect(rt, "an automaton")
 }
 
-fn chained(rt: &impl Host, first: Shape) -> Vec<State> {
+fn chained(rt: &impl Host, first: Shape, length: usize) -> Vec<State> {
     let mut states = Vec::new(rt.alloc());
     push(rt, &mut states, first);
-    for next in 2..21u8 {
-        push(rt, &mut states, Shape::Range(b'a', b'a', next));
+    for number in 2..length.saturating_add(1) {
+        let next = StateID::new(number).unwrap_or(StateID::ZERO);
+        let (lo, hi) = (b'a', b'a');
+        let range = State::ByteRange { lo, hi, next };
+        states.push(range).expect(rt, "memory");
     }
     push(rt, &mut states, Shape::Accept(0));
     states
@@ -157,7 +161,7 @@ fn transitions(rt: &impl Host, ranges: &[(u8, u8, u8)]) -> Vec<Transition> {
     transitions
 }
 
-fn targets(bytes: &[(u8, u8)]) -> [StateID; 256] {
+pub fn targets(bytes: &[(u8, u8)]) -> [StateID; 256] {
     let mut targets = [StateID::ZERO; 256];
     for row in bytes {
         let (byte, next) = *row;

@@ -1,7 +1,7 @@
 //! Two hundred NFAs of a fixed generator, searched beside their listed paths: plain, by walks and by sets.
 
 use super::paths::{MODES, half};
-use super::plans::{capture, dense, id, pattern_id};
+use super::plans::{capture, dense, id, pattern_id, targets};
 use super::walk_paths::{Listed, Name, list, prepare};
 use super::{Host, same_of};
 use regex_automata::hybrid::dfa::DFA;
@@ -172,11 +172,13 @@ impl Maker {
     }
 
     fn targets(&mut self) -> [StateID; 256] {
-        let mut targets = [StateID::ZERO; 256];
-        for letter in self.alphabet.letters {
-            targets[usize::from(letter)] = self.target();
-        }
-        targets
+        let [first, second, third] = self.alphabet.letters;
+        let row = [
+            (first, self.roll(self.states)),
+            (second, self.roll(self.states)),
+            (third, self.roll(self.states)),
+        ];
+        targets(&row)
     }
 
     fn alternates(&mut self, rt: &impl Host) -> Vec<StateID> {
@@ -373,7 +375,7 @@ fn agree(rt: &impl Host, first: u8, alphabet: Alphabet, counted: (usize, usize, 
         for kind in [MatchKind::LeftmostFirst, MatchKind::All] {
             for is_reverse in [false, true] {
                 let nfa = Maker::new(number, alphabet).nfa(rt, is_reverse);
-                let listed = prepare(rt, Name::Numbered(number), nfa, kind);
+                let listed = prepare(rt, (None, number), nfa, kind);
                 compare_all(rt, listed, alphabet.letters, &mut tally);
             }
         }

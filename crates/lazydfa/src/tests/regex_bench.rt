@@ -1,7 +1,7 @@
 //! Calls of the library over one regex and its cache, and what they report.
 
-ghost use Rattle.std.specs.Prelude.{◌≡◌};
-ghost use Rattle.regex_automata.specs.Promises.{AreCachesOf};
+ghost use Rattle.std.specs.Prelude.{◌≡◌, IfOk};
+ghost use Rattle.regex_automata.specs.Promises.{AreCachesOf, IsSoundPair};
 
 use super::Host;
 use super::bench::counted;
@@ -9,60 +9,55 @@ use super::plans::{Mode, Plan, Shape};
 use super::tells::{Automaton, Caller, RowOf, config};
 use super::told::{Counted, Item, Told};
 use crate::catalogue::Entry;
-use regex_automata::hybrid::dfa::DFA;
-use regex_automata::hybrid::regex::{Builder, Cache, Regex};
+use regex_automata::hybrid::dfa::{Config, DFA};
+use regex_automata::hybrid::regex::{Builder, Cache, Regex, RegexBuildError};
 use regex_automata::hybrid::{BuildError, SearchError};
 use regex_automata::nfa::thompson::NFA;
 use regex_automata::tokens::{Token, TokenError, Tokens};
 use regex_automata::util::search::{Input, Match};
 use std::alloc::{AllocError, Global};
 
-/// Two NFAs for a regex.
+/// What a regex is made of.
 #[derive(Clone, Copy)]
 pub enum Pair {
-    /// Those of an entry.
+    /// Both NFAs of an entry.
     Of(Entry),
-    /// The forward one of an entry, and the reverse one of another.
+    /// The forward NFA of an entry, and the reverse one of another.
     Mixed(Entry, Entry),
-    /// The forward one of an entry, and a reverse one of one pattern that it never matches.
+    /// The forward NFA of an entry, and a reverse one of one pattern that it never matches.
     Barren(Entry),
-    /// Those of an entry as lazy DFAs, the reverse one of `MatchKind::All`.
+    /// Two lazy DFAs of an entry, the reverse one of `MatchKind::All`.
     Joined(Entry),
-    /// Two that are not in the catalogue, the forward one first.
+    /// Two NFAs that are not in the catalogue, the forward one first.
     Planned(&'static Plan, &'static Plan),
+    /// A forward NFA, and the reverse of it.
+    Turned(Automaton),
 }
 
 impl Pair {
-    fn forward(self, rt: &impl Host) -> NFA {
+    /// What it searches forward by, and what it searches back by, unless that is made of the first.
+    fn parts(self) -> (Automaton, Automaton) {
         match self {
-            Pair::Of(entry) | Pair::Joined(entry) | Pair::Mixed(entry, _) | Pair::Barren(entry) => {
-                entry.forward(rt.alloc()).expect(rt, "an entry")
+            Pair::Of(entry) | Pair::Joined(entry) => {
+                (Automaton::Forward(entry), Automaton::Reverse(entry))
             }
-            Pair::Planned(plan, _) => plan.build(rt),
-        }
-    }
-
-    fn reverse(self, rt: &impl Host) -> NFA {
-        match self {
-            Pair::Of(entry) | Pair::Joined(entry) | Pair::Mixed(_, entry) => {
-                entry.reverse(rt.alloc()).expect(rt, "an entry")
-            }
-            Pair::Barren(_) => BARREN.build(rt),
-            Pair::Planned(_, plan) => plan.build(rt),
+            Pair::Mixed(entry, other) => (Automaton::Forward(entry), Automaton::Reverse(other)),
+            Pair::Barren(entry) => (Automaton::Forward(entry), BARREN),
+            Pair::Planned(plan, other) => (Automaton::Planned(plan), Automaton::Planned(other)),
+            Pair::Turned(automaton) => (automaton, Automaton::Never),
         }
     }
 
     /// The regex with these options, or why it cannot be built.
     pub fn build(self, rt: &impl Host, options: &str) -> Result<Regex, BuildError> {
-        if let Pair::Joined(entry) = self {
-            return Ok(joined(rt, entry));
+        let (forward, reverse) = self.parts();
+        match self {
+            Pair::Joined(_) => Ok(joined(rt, forward, reverse)),
+            Pair::Turned(_) => Ok(turned(rt, forward, options)),
+            _ => Regex::builder()
+                .dfa(config(rt, options))
+                .build_from_nfas(forward.nfa(rt), reverse.nfa(rt)),
         }
-        let config = config(rt, options);
-        let forward = self.forward(rt);
-        let reverse = self.reverse(rt);
-        Regex::builder()
-            .dfa(config)
-            .build_from_nfas(forward, reverse)
     }
 
     /// The regex, which can be built.
@@ -72,16 +67,29 @@ impl Pair {
 }
 
 /// A regex of two lazy DFAs.
-fn joined(rt: &impl Host, entry: Entry) -> Regex {
-    let forward = Automaton::Forward(entry).lazy(rt, "");
-    let reverse = Automaton::Reverse(entry).lazy(rt, "all");
+fn joined(rt: &impl Host, forward: Automaton, reverse: Automaton) -> Regex {
+    let forward = forward.build(rt, "").expect(rt, "an automaton");
+    let reverse = reverse.build(rt, "all").expect(rt, "an automaton");
     assert!(rt; forward.pattern_len() == reverse.pattern_len());
     Builder::default().build_from_dfas(forward, reverse)
 }
 
+/// The regex of one NFA.
+fn turned(rt: &impl Host, forward: Automaton, options: &str) -> Regex {
+    let built = alone(forward.nfa(rt), config(rt, options));
+    built.expect(rt, "a regex")
+}
+
+/// The regex of one NFA. By its contract it finds the spans of the NFA's ordered paths.
+pub fn alone(nfa: NFA, config: Config) -> Result<Regex, RegexBuildError>
+    ensures { IfOk result IsSoundPair }
+{
+    Regex::builder().dfa(config).build_from_nfa(nfa)
+}
+
 /// One state, which has no edges.
 #[rattlefmt::skip]
-const BARREN: Plan = Plan { states: &[Shape::Union], starts: (0, 0), patterns: &[0] };
+const BARREN: Automaton = Automaton::Planned(&Plan { states: &[Shape::Union], starts: (0, 0), patterns: &[0] });
 
 /// A call.
 #[derive(Clone, Copy)]
@@ -95,6 +103,8 @@ pub enum Ask {
     Is(&'static [u8]),
     /// The first eight items of an iteration.
     Items(&'static [u8]),
+    /// The same from an offset on.
+    ItemsFrom(&'static [u8], usize),
     /// The first eight tokens from an offset on.
     Tokens(&'static [u8], usize),
     /// A search by a part of the cache that is lent for writing.
@@ -176,6 +186,7 @@ impl RegexBench {
             Ask::Search(haystack) => Told::Span(self.search(&Input::new(haystack)), ""),
             Ask::Is(haystack) => Told::Truth(self.holds(&Input::new(haystack))),
             Ask::Items(haystack) => Told::Items(self.first_items(Input::new(haystack))),
+            Ask::ItemsFrom(haystack, start) => Told::Items(self.first_items(from(haystack, start))),
             Ask::Tokens(haystack, start) => Told::Items(self.first_tokens(haystack, start)),
             Ask::Forward(haystack) => self.forward(&Input::new(haystack)),
             Ask::Reverse(haystack) => self.reverse(&Input::new(haystack)),
@@ -189,19 +200,40 @@ impl RegexBench {
     /// A call that makes a cache or a part of it as new.
     fn renew(&mut self, ask: Ask) -> Told {
         match ask {
-            Ask::Replace => {
-                let replaced = self.replace();
-                told_of_parts(replaced, self.regex.forward())
+            Ask::Replace | Ask::ReplaceByNew | Ask::ReplaceByClone => {
+                let made = self.made(ask);
+                self.replace(ask, made)
             }
-            Ask::ReplaceByNew => Told::of_growth(self.replace_by_new()),
             Ask::ReplaceForward => Told::of_growth(self.replace_forward()),
             Ask::ReplaceReverse => Told::of_growth(self.replace_reverse()),
-            Ask::ReplaceByClone => Told::of_growth(self.replace_by_clone()),
             Ask::ResetByCache => Told::of_growth(self.cache.reset(&self.regex)),
             Ask::ResetForward => Told::of_growth(self.reset_forward()),
             Ask::ResetReverse => Told::of_growth(self.reset_reverse()),
             Ask::ResetOrFind(haystack) => self.reset_or_find(haystack),
             _ => Told::of_growth(self.reset()),
+        }
+    }
+
+    /// A cache to take the place of this one.
+    fn made(&self, ask: Ask) -> Result<Cache, AllocError>
+        ensures { IfOk result (λ made. AreCachesOf made self.now.regex) }
+    {
+        match ask {
+            Ask::Replace => self.regex.create_cache(),
+            Ask::ReplaceByNew => Cache::new(&self.regex),
+            _ => self.cache.clone(),
+        }
+    }
+
+    fn replace(&mut self, ask: Ask, made: Result<Cache, AllocError>) -> Told
+        requires { IfOk made (λ made. AreCachesOf made self.old.regex) }
+    {
+        match made {
+            Ok(cache) => {
+                self.cache = cache;
+                Told::Word("-")
+            }
+            Err(_) => told_of_refusal(ask, self.regex.forward()),
         }
     }
 
@@ -230,8 +262,17 @@ impl RegexBench {
         Told::Span(found, refused)
     }
 
-    pub fn search(&mut self, input: &Input<'_>) -> Result<Option<Match>, SearchError> {
+    fn search(&mut self, input: &Input<'_>) -> Result<Option<Match>, SearchError> {
         self.regex.try_search(&mut self.cache, input)
+    }
+
+    /// The match of a search, as an item.
+    pub fn first(&mut self, input: &Input<'_>) -> Item {
+        match self.search(input) {
+            Ok(Some(found)) => item_of(Some(Ok(found))),
+            Ok(None) => None,
+            Err(error) => item_of(Some(Err(error))),
+        }
     }
 
     pub fn holds(&mut self, input: &Input<'_>) -> Result<bool, SearchError> {
@@ -278,16 +319,6 @@ impl RegexBench {
         Told::Half(dfa.try_search_rev(self.cache.reverse_mut(), input))
     }
 
-    fn replace(&mut self) -> Result<(), AllocError> {
-        self.cache = self.regex.create_cache()?;
-        Ok(())
-    }
-
-    fn replace_by_new(&mut self) -> Result<(), AllocError> {
-        self.cache = Cache::new(&self.regex)?;
-        Ok(())
-    }
-
     fn replace_forward(&mut self) -> Result<(), AllocError> {
         let new = self.regex.forward().create_cache()?;
         *self.cache.forward_mut() = new;
@@ -300,11 +331,6 @@ impl RegexBench {
         Ok(())
     }
 
-    fn replace_by_clone(&mut self) -> Result<(), AllocError> {
-        self.cache = self.cache.clone()?;
-        Ok(())
-    }
-
     fn reset_forward(&mut self) -> Result<(), AllocError> {
         self.regex.forward().reset_cache(self.cache.forward_mut())
     }
@@ -313,14 +339,25 @@ impl RegexBench {
         self.regex.reverse().reset_cache(self.cache.reverse_mut())
     }
 
-    pub fn reset(&mut self) -> Result<(), AllocError> {
+    fn reset(&mut self) -> Result<(), AllocError> {
         self.regex.reset_cache(&mut self.cache)
     }
 
     /// The same cache, reset to another regex.
-    pub fn reset_to(&mut self, rt: &impl Host, regex: Regex) {
-        regex.reset_cache(&mut self.cache).expect(rt, "memory");
-        self.regex = regex;
+    pub fn reset_to(&mut self, regex: Regex) {
+        if regex.reset_cache(&mut self.cache).is_ok() {
+            self.regex = regex;
+        }
+    }
+
+    /// The second token of a haystack.
+    pub fn second_token<'h>(&mut self, haystack: &'h [u8]) -> Option<Token<'h>> {
+        let mut tokens = self.regex.tokens(&mut self.cache, Input::new(haystack));
+        let _ = tokens.next();
+        match tokens.next() {
+            Some(Ok(token)) => Some(token),
+            _ => None,
+        }
     }
 
     fn memory(&self) -> Told {
@@ -357,12 +394,11 @@ impl Caller for RegexBench {
     }
 }
 
-/// Whether a cache was made. If not, the reverse part was refused if the forward one can be made.
-fn told_of_parts(made: Result<(), AllocError>, forward: &DFA) -> Told {
-    match made {
-        Ok(()) => Told::Word("-"),
-        Err(_) if has_no_room(forward) => Told::Refused(BuildError::OutOfMemory),
-        Err(_) => Told::Word("reverse memory"),
+/// Why no cache was made: of two new parts, the reverse one was refused if the forward one can be made.
+fn told_of_refusal(ask: Ask, forward: &DFA) -> Told {
+    match ask {
+        Ask::Replace if !has_no_room(forward) => Told::Word("reverse memory"),
+        _ => Told::Refused(BuildError::OutOfMemory),
     }
 }
 

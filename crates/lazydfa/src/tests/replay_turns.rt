@@ -64,6 +64,18 @@ struct History {
 }
 
 impl History {
+    /// Whether a reply is out of memory, as `hear` says.
+    fn is_refused(
+        &mut self,
+        rt: &impl Host,
+        request: &Request<'_>,
+        row: Row,
+        reply: &Reply,
+    ) -> bool {
+        let text = format!(in rt.alloc(); "{}", Line(reply)).expect(rt, "memory");
+        self.hear(rt, request, row, text.as_str())
+    }
+
     /// Whether a reply is out of memory after a beginning of what is due. Otherwise it has to be the one that is due.
     fn hear(&mut self, rt: &impl Host, request: &Request<'_>, row: Row, reply: &str) -> bool {
         let own = row.1[self.current.min(1)];
@@ -122,17 +134,12 @@ impl History {
 }
 
 /// The rows of a script with this one in its middle.
-fn rows_around(middle: Row) -> [Row; 32] {
-    let mut rows = [middle; 32];
-    put(&mut rows, 0, BEFORE);
-    put(&mut rows, BEFORE.len() + 1, BEHIND);
+fn rows_around(rt: &impl Host, middle: Row) -> Vec<Row> {
+    let mut rows = Vec::new(rt.alloc());
+    rows.extend_from_slice(BEFORE).expect(rt, "memory");
+    rows.push(middle).expect(rt, "memory");
+    rows.extend_from_slice(BEHIND).expect(rt, "memory");
     rows
-}
-
-fn put(rows: &mut [Row; 32], from: usize, part: &[Row]) {
-    for (at, row) in part.iter().copied().enumerate() {
-        rows[from.saturating_add(at).min(31)] = row;
-    }
 }
 
 fn script_of(rt: &impl Host, rows: &[Row]) -> Script {
@@ -144,39 +151,7 @@ fn script_of(rt: &impl Host, rows: &[Row]) -> Script {
 }
 
 /// The regexes, and the requests of a script by its rows.
-type Asked<'a> = (&'a [Regex], &'a [Request<'a>], &'a [Row; 32]);
-
-/// Which requests ran out of memory; each other reply has to be the one that is due after those before.
-fn compare(rt: &impl Host, (_, requests, rows): Asked<'_>, replies: &[Reply]) -> [bool; 32] {
-    let sizes = (requests.len(), replies.len());
-    same_of(rt, &sizes, &(32, 32), &"the replies");
-    let mut text = String::with_capacity(rt.alloc(), 1 << 10).expect(rt, "memory");
-    let mut history = History {
-        current: 0,
-        begun: 0,
-        walks: [(0, &[]); 4],
-    };
-    let mut refused = [false; 32];
-    for at in 0..32usize {
-        if let (Some(request), Some(reply)) = (requests.get(at), replies.get(at)) {
-            text.clear();
-            write!(text, "{}", Line(reply)).expect(rt, "memory");
-            refused[at] = history.hear(rt, request, rows[at], text.as_str());
-        }
-    }
-    refused
-}
-
-/// One turn: which requests ran out of memory, if the list of the replies did not.
-fn replay_short(rt: &impl Host, asked: Asked<'_>, turns: &mut Turns) -> Option<[bool; 32]> {
-    turns.lend(rt);
-    let replies = replay(rt.alloc(), asked.0, asked.1);
-    turns.release();
-    match replies {
-        Ok(replies) => Some(compare(rt, asked, replies.as_slice())),
-        Err(_) => None,
-    }
-}
+type Asked<'a> = (&'a [Regex], &'a [Request<'a>], &'a [Row]);
 
 /// What ran out of memory in the turns of a script: the list of the replies, the request in the middle alone, and
 /// requests.
@@ -188,28 +163,57 @@ struct Seen {
 }
 
 impl Seen {
-    /// Adds what ran out of memory in one turn, and returns how many requests that is.
-    fn add(&mut self, refused: &[bool; 32]) -> usize {
-        let mut count = 0usize;
+    /// Compares the replies of one turn, and returns how many requests ran out of memory; each other reply has to be
+    /// the one that is due after those before.
+    fn compare(
+        &mut self,
+        rt: &impl Host,
+        (_, requests, rows): Asked<'_>,
+        replies: &[Reply],
+    ) -> usize {
+        same_of(rt, &replies.len(), &rows.len(), &"the replies");
+        let mut history = History {
+            current: 0,
+            begun: 0,
+            walks: [(0, &[]); 4],
+        };
+        let (mut count, mut last) = (0usize, 0usize);
         for at in 0..32usize {
-            if refused[at] {
-                self.requests[at] = true;
-                count = count.saturating_add(1);
+            if let (Some(request), Some(reply), Some(row)) = (
+                requests.get(at),
+                replies.get(at),
+                rows.get(at),
+            ) {
+                if history.is_refused(rt, request, *row, reply) {
+                    self.requests[at] = true;
+                    (count, last) = (count.saturating_add(1), at);
+                }
             }
         }
-        self.alone = self.alone || count == 1 && refused[BEFORE.len().min(31)];
+        self.alone = self.alone || count == 1 && last == BEFORE.len();
         count
     }
 
     /// Whether the list of the replies, the request in the middle, and at least so many requests ran out of memory.
     fn has_refused(&self, least: usize) -> bool {
-        let mut count = 0usize;
-        for is_refused in self.requests {
-            if is_refused {
-                count = count.saturating_add(1);
-            }
-        }
+        let count = self.requests.iter().filter(|it| **it).count();
         self.script && self.requests[BEFORE.len().min(31)] && count >= least
+    }
+}
+
+/// One turn: how many requests ran out of memory, if the list of the replies did not.
+fn replay_short(
+    rt: &impl Host,
+    asked: Asked<'_>,
+    turns: &mut Turns,
+    seen: &mut Seen,
+) -> Option<usize> {
+    turns.lend(rt);
+    let replies = replay(rt.alloc(), asked.0, asked.1);
+    turns.release();
+    match replies {
+        Ok(replies) => Some(seen.compare(rt, asked, replies.as_slice())),
+        Err(_) => None,
     }
 }
 
@@ -222,8 +226,8 @@ fn refuse_in_turn(rt: &impl Host, asked: Asked<'_>, turns: &mut Turns, step: usi
     };
     for turn in 1..4096usize {
         turns.lend_from(step.saturating_mul(turn));
-        match replay_short(rt, asked, turns) {
-            Some(refused) if seen.add(&refused) == 0 => return seen,
+        match replay_short(rt, asked, turns, &mut seen) {
+            Some(0) => return seen,
             Some(_) => {}
             None => seen.script = true,
         }
@@ -235,22 +239,32 @@ fn refuse_in_turn(rt: &impl Host, asked: Asked<'_>, turns: &mut Turns, step: usi
 /// The same, with this request in the middle.
 fn refuse(rt: &impl Host, regexes: &[Regex], row: Row, turns: &mut Turns, step: usize) -> Seen {
     turns.release();
-    let rows = rows_around(row);
-    let script = script_of(rt, &rows);
+    let rows = rows_around(rt, row);
+    let script = script_of(rt, rows.as_slice());
     let requests = script.requests(rt.alloc()).expect(rt, "memory");
-    refuse_in_turn(rt, (regexes, requests.as_slice(), &rows), turns, step)
+    refuse_in_turn(
+        rt,
+        (regexes, requests.as_slice(), rows.as_slice()),
+        turns,
+        step,
+    )
 }
 
 /// Replays around each request of `NEEDS`, and counts those that run out of memory alone in some turn. Each does in
 /// some turn, and so do at least so many requests of its script.
 fn refuse_each(rt: &impl Host, options: &str, step: usize, least: usize) -> usize {
-    let dates = Pair::Of(Entry::Date).regex(rt, options);
-    let runs = Pair::Of(Entry::Runs).regex(rt, options);
-    let regexes = [dates, runs];
+    let regexes = [
+        Pair::Of(Entry::Date).regex(rt, options),
+        Pair::Of(Entry::Runs).regex(rt, options),
+    ];
+    count_alone(rt, &regexes, step, least)
+}
+
+fn count_alone(rt: &impl Host, regexes: &[Regex], step: usize, least: usize) -> usize {
     let mut turns = Turns::new(rt);
     let mut alone = 0usize;
     for middle in NEEDS.iter().copied() {
-        let seen = refuse(rt, &regexes, middle, &mut turns, step);
+        let seen = refuse(rt, regexes, middle, &mut turns, step);
         same_of(rt, &seen.has_refused(least), &true, &middle.0);
         if seen.alone {
             alone = alone.saturating_add(1);

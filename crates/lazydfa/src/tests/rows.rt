@@ -2,20 +2,19 @@
 
 use super::bench::{Bench, Call};
 use super::plans::{Mode, Plan, Shape};
-use super::tells::{Automaton, RowOf, tells_all, text_of};
+use super::tells::{Automaton, RowOf, tells_all};
 use super::texts::UNSUPPORTED;
-use super::{Host, Text, same_of, same_text};
 use crate::catalogue::Entry;
 use Automaton::{Always, Chain, Crowd, Forward, Never, Planned, Reverse};
 use Call::{
-    Begin, Brief, Classes, Close, Counts, End, Find, FindAnchored, FindBased, FindEarliest, FindIn,
-    Finish, Known, Matched, Memory, Minimum, MoveTo, Open, Patterns, Read, ReplaceByNew, Reset,
-    ResetByCache, ResetTo, Start, StartIn, StartOn, State, Step, Steps,
+    Begin, Brief, Classes, Close, Counts, End, Find, FindAnchored, FindBased, FindEach,
+    FindEarliest, FindIn, FindLetters, FindRepeated, Finish, Known, Matched, Memory, Minimum,
+    MoveTo, Open, Patterns, Read, ReplaceByNew, Reset, ResetByCache, ResetTo, Start, StartIn,
+    StartOn, State, Step, Steps,
 };
 use Mode::{Every, Of};
 use Shape::{Accept, Assert, Capture, Dense, Either, Range, Sparse, Union};
 use regex_automata::util::look::Look;
-use std::fmt::Write;
 
 /// A row of calls over an NFA and a cache.
 type Row = RowOf<Automaton, Call>;
@@ -53,6 +52,8 @@ const AMPLE: &[Row] = &[
     ("", WORDS, "", &[Classes, Minimum], "12, 2901"), ("", Forward(Entry::Aa), "all", &[Classes, Minimum], "4, 1895"),
     ("", Forward(Entry::Bnum), "unicode", &[Minimum], "2651"), ("", Forward(Entry::Wordend), "", &[Classes], "10"),
     ("", Forward(Entry::Crlf), "", &[Classes], "6"), ("", Forward(Entry::Snow), "", &[Classes], "19"),
+    ("", Forward(Entry::Bound), "unicode", &[Classes, Minimum], "11, 2374"),
+    ("", Forward(Entry::Bound), "unicode quit=78", &[Classes, Minimum], "13, 2374"),
     ("", Forward(Entry::Snowx), "starts", &[Minimum], "7397"), ("", A16, "noclasses", &[Minimum], "37281"),
     ("word boundaries", Forward(Entry::Bound), "", &[], UNSUPPORTED),
     ("before the capacity", Forward(Entry::Bnum), "capacity=0", &[], UNSUPPORTED),
@@ -98,6 +99,8 @@ const SEARCHED: &[Row] = &[
         "0 335 0, half 0 0, 0 678 1"),
     ("the start of a search over no bytes is there, though the search begins no progress", AB_BACK, "",
         &[StartOn(Every, ""), Find(""), Counts], "false, none, 0 421 0"),
+    ("a byte from 80 on", Forward(Entry::Bound), "unicode", &[Find(" a"), Find(" a\u{e9}"), Counts],
+        "half 0 1, quit c3 2, 0 696 4"),
     ("a letter before the span, and one behind it", Reverse(Entry::Bnum), "unicode", &[FindIn("\u{3b2}123", 2, 5),
         FindIn("123\u{3b2}", 0, 3)], "quit b2 1, quit ce 3"),
     ("a quit byte before the start is known", Reverse(Entry::Wordend), "quit=78", &[Find("abcxyz")], "quit 78 3"),
@@ -113,6 +116,25 @@ const SEARCHED: &[Row] = &[
     ("at a quit byte before the span", AB_BACK, "all quit=63", &[FindIn("cab", 1, 3), Counts], "quit 63 0, 0 593 1"),
     ("at the dead state", AB_BACK, "all", &[Find("zyxab"), Counts], "half 0 3, 0 678 3"),
     ("at the first match", WORDS_BACK, "all", &[FindEarliest("@foo bar"), Counts], "half 0 7, 0 989 1"),
+];
+
+/// Any bytes, an `a`, and eleven bytes more. Its states distinguish which of the last twelve bytes were `a`.
+#[rattlefmt::skip]
+const TWELFTH: Plan = Plan {
+    states: &[Either(1, 2), Range(0, 255, 0), Range(b'a', b'a', 3), Range(0, 255, 4), Range(0, 255, 5),
+        Range(0, 255, 6), Range(0, 255, 7), Range(0, 255, 8), Range(0, 255, 9), Range(0, 255, 10), Range(0, 255, 11),
+        Range(0, 255, 12), Range(0, 255, 13), Range(0, 255, 14), Accept(0)], starts: (0, 0), patterns: &[0],
+};
+
+/// Long haystacks and many states.
+#[rattlefmt::skip]
+const LONG: &[Row] = &[
+    ("three thousand bytes, each with a state of its own", Chain(Range(b'a', b'a', 1), 3000), "",
+        &[FindRepeated("a", 3000), Counts], "half 0 3000, 0 273384 3000"),
+    ("a mebibyte of which nearly each byte makes a new state, over a cache of the least capacity", Planned(&TWELFTH),
+        "all capacity=0 skip", &[FindLetters, Counts], "half 0 1048574, 62993 1468 7"),
+    ("ten thousand dates, each found from the end of the one before", Forward(Entry::Date), "",
+        &[FindEach("2018-12-24 ", 10_000), Counts], "550045000, 0 1745 119999"),
 ];
 
 #[rattlefmt::skip]
@@ -213,10 +235,10 @@ const WALKED: &[Row] = &[
 ];
 
 /// `b`, or else twenty bytes `a`.
-const FORK: Automaton = Chain(Sparse(&[(b'a', b'a', 1), (b'b', b'b', 20)]));
+const FORK: Automaton = Chain(Sparse(&[(b'a', b'a', 1), (b'b', b'b', 20)]), 20);
 
 /// Twenty bytes `a` from a word boundary on, so that the starts differ by the look-behind byte.
-const WORD: Automaton = Chain(Assert(Look::WordAscii, 1));
+const WORD: Automaton = Chain(Assert(Look::WordAscii, 1), 20);
 
 #[rattlefmt::skip]
 const TWO_SEARCHES: &[Call] = &[Counts, Find(AS), Counts, Find(AS), Counts];
@@ -258,82 +280,61 @@ fn searches_tell_their_rows(rt: HostRuntime) {
 }
 
 #[test]
+fn long_searches_tell_their_rows(rt: HostRuntime) {
+    tells_all::<Bench>(&rt, LONG);
+}
+
+#[test]
 fn steps_tell_their_rows(rt: HostRuntime) {
     tells_all::<Bench>(&rt, STEPPED);
     tells_all::<Bench>(&rt, WALKED);
     tells_all::<Bench>(&rt, CLEARED);
 }
 
-/// An NFA, its options, a haystack, the reply, and what is counted: the memory of a fresh cache, after one search, and
-/// the bytes searched by one search.
-type Counted = (Automaton, Text, Text, Text, [usize; 3]);
-
+/// What is counted of a fresh cache, after each of two searches, after a reset, and after one search more: no clear, the
+/// memory, and the bytes searched.
 #[rattlefmt::skip]
-const COUNTED: &[Counted] = &[
-    (AB, "", "ab", "half 0 2", [335, 678, 2]),
-    (Forward(Entry::Always), "", "", "half 0 0", [221, 344, 0]),
-    (Forward(Entry::Never), "", "abc", "none", [217, 217, 0]),
-    (Forward(Entry::Date), "", "2018-12-24 2016-10-08", "half 0 10", [549, 1745, 11]),
-    (WORDS, "", "@foo bar", "half 1 4", [577, 1082, 5]),
-    (Forward(Entry::Runs), "", "123 foobar 4567", "half 1 3", [481, 858, 4]),
-    (A16, "", AS, "half 0 16", [581, 1840, 16]),
-    (AB_BACK, "all", "ab", "half 0 0", [335, 678, 1]),
-    (AB_BACK, "all", "", "none", [335, 421, 0]),
-    (Reverse(Entry::Always), "all", "abc", "half 0 3", [221, 344, 1]),
-    (Reverse(Entry::Never), "all", "abc", "none", [217, 217, 0]),
-    (Reverse(Entry::Date), "all", "2018-12-24 2016-10-08", "half 0 0", [549, 1850, 20]),
-    (WORDS_BACK, "all", "@foo bar", "half 1 0", [577, 1383, 7]),
-    (Reverse(Entry::A16), "all", AS, "half 0 0", [581, 1840, 15]),
-    (Reverse(Entry::Snow), "all", "a\u{2603}x", "half 0 0", [778, 2144, 4]),
-    (Reverse(Entry::Crlf), "all", "a\r\n", "half 0 1", [360, 646, 2]),
+const COUNTED: &[Row] = &[
+    ("", AB, "", &[Counts, Find("ab"), Counts, Find("ab"), Counts, Reset, Counts, Find("ab"), Counts],
+        "0 335 0, half 0 2, 0 678 2, half 0 2, 0 678 4, -, 0 335 0, half 0 2, 0 678 2"),
+    ("", Forward(Entry::Always), "", &[Counts, Find(""), Counts, Find(""), Counts, Reset, Counts, Find(""), Counts],
+        "0 221 0, half 0 0, 0 344 0, half 0 0, 0 344 0, -, 0 221 0, half 0 0, 0 344 0"),
+    ("", Forward(Entry::Never), "", &[Counts, Find("abc"), Counts, Find("abc"), Counts, Reset, Counts, Find("abc"),
+        Counts], "0 217 0, none, 0 217 0, none, 0 217 0, -, 0 217 0, none, 0 217 0"),
+    ("", Forward(Entry::Date), "", &[Counts, Find("2018-12-24 2016-10-08"), Counts, Find("2018-12-24 2016-10-08"),
+        Counts, Reset, Counts, Find("2018-12-24 2016-10-08"), Counts],
+        "0 549 0, half 0 10, 0 1745 11, half 0 10, 0 1745 22, -, 0 549 0, half 0 10, 0 1745 11"),
+    ("", WORDS, "", &[Counts, Find("@foo bar"), Counts, Find("@foo bar"), Counts, Reset, Counts, Find("@foo bar"),
+        Counts], "0 577 0, half 1 4, 0 1082 5, half 1 4, 0 1082 10, -, 0 577 0, half 1 4, 0 1082 5"),
+    ("", Forward(Entry::Runs), "", &[Counts, Find("123 foobar 4567"), Counts, Find("123 foobar 4567"), Counts, Reset,
+        Counts, Find("123 foobar 4567"), Counts],
+        "0 481 0, half 1 3, 0 858 4, half 1 3, 0 858 8, -, 0 481 0, half 1 3, 0 858 4"),
+    ("", A16, "", &[Counts, Find(AS), Counts, Find(AS), Counts, Reset, Counts, Find(AS), Counts],
+        "0 581 0, half 0 16, 0 1840 16, half 0 16, 0 1840 32, -, 0 581 0, half 0 16, 0 1840 16"),
+    ("", AB_BACK, "all", &[Counts, Find("ab"), Counts, Find("ab"), Counts, Reset, Counts, Find("ab"), Counts],
+        "0 335 0, half 0 0, 0 678 1, half 0 0, 0 678 2, -, 0 335 0, half 0 0, 0 678 1"),
+    ("", AB_BACK, "all", &[Counts, Find(""), Counts, Find(""), Counts, Reset, Counts, Find(""), Counts],
+        "0 335 0, none, 0 421 0, none, 0 421 0, -, 0 335 0, none, 0 421 0"),
+    ("", Reverse(Entry::Always), "all", &[Counts, Find("abc"), Counts, Find("abc"), Counts, Reset, Counts,
+        Find("abc"), Counts], "0 221 0, half 0 3, 0 344 1, half 0 3, 0 344 2, -, 0 221 0, half 0 3, 0 344 1"),
+    ("", Reverse(Entry::Never), "all", &[Counts, Find("abc"), Counts, Find("abc"), Counts, Reset, Counts, Find("abc"),
+        Counts], "0 217 0, none, 0 217 0, none, 0 217 0, -, 0 217 0, none, 0 217 0"),
+    ("", Reverse(Entry::Date), "all", &[Counts, Find("2018-12-24 2016-10-08"), Counts, Find("2018-12-24 2016-10-08"),
+        Counts, Reset, Counts, Find("2018-12-24 2016-10-08"), Counts],
+        "0 549 0, half 0 0, 0 1850 20, half 0 0, 0 1850 40, -, 0 549 0, half 0 0, 0 1850 20"),
+    ("", WORDS_BACK, "all", &[Counts, Find("@foo bar"), Counts, Find("@foo bar"), Counts, Reset, Counts,
+        Find("@foo bar"), Counts],
+        "0 577 0, half 1 0, 0 1383 7, half 1 0, 0 1383 14, -, 0 577 0, half 1 0, 0 1383 7"),
+    ("", Reverse(Entry::A16), "all", &[Counts, Find(AS), Counts, Find(AS), Counts, Reset, Counts, Find(AS), Counts],
+        "0 581 0, half 0 0, 0 1840 15, half 0 0, 0 1840 30, -, 0 581 0, half 0 0, 0 1840 15"),
+    ("", Reverse(Entry::Snow), "all", &[Counts, Find("a\u{2603}x"), Counts, Find("a\u{2603}x"), Counts, Reset, Counts,
+        Find("a\u{2603}x"), Counts],
+        "0 778 0, half 0 0, 0 2144 4, half 0 0, 0 2144 8, -, 0 778 0, half 0 0, 0 2144 4"),
+    ("", Reverse(Entry::Crlf), "all", &[Counts, Find("a\r\n"), Counts, Find("a\r\n"), Counts, Reset, Counts,
+        Find("a\r\n"), Counts], "0 360 0, half 0 1, 0 646 2, half 0 1, 0 646 4, -, 0 360 0, half 0 1, 0 646 2"),
 ];
 
 #[test]
 fn counts_memory_and_searched_bytes(rt: HostRuntime) {
-    for row in COUNTED {
-        let row = *row;
-        count(&rt, row);
-    }
-}
-
-/// Searches twice, and once more after a reset.
-fn count(rt: &impl Host, row: Counted) {
-    let (automaton, options, haystack, reply, [fresh, used, searched]) = row;
-    let find = Find(haystack);
-    let calls = [
-        Counts, find, Counts, find, Counts, Reset, Counts, find, Counts,
-    ];
-    let found = text_of::<Bench>(rt, automaton, options, &calls);
-    let twice = searched.saturating_mul(2);
-    let want = format!(in rt.alloc();
-        "0 {fresh} 0, {reply}, 0 {used} {searched}, {reply}, 0 {used} {twice}, -, 0 {fresh} 0, {reply}, 0 {used} {searched}"
-    );
-    let want = want.expect(rt, "memory");
-    same_text(rt, found.as_str(), want.as_str(), haystack);
-}
-
-/// If each byte from 0x80 on is a quit byte, a Unicode word boundary is allowed without the heuristic.
-#[test]
-fn searches_where_no_letter_is_read(rt: HostRuntime) {
-    let mut options = String::new(rt.alloc());
-    write_quits(&rt, &mut options);
-    let calls = [Find(" a"), Find(" a\u{e9}"), Counts];
-    let found = text_of::<Bench>(&rt, Forward(Entry::Bound), options.as_str(), &calls);
-    let want = "half 0 1, quit c3 2, 0 696 4";
-    same_text(&rt, found.as_str(), want, "quit bytes from 80 on");
-}
-
-fn write_quits(rt: &impl Host, options: &mut String) {
-    for byte in 0x80..=0xFFu8 {
-        write!(options, "quit={byte:02x} ").expect(rt, "memory");
-    }
-}
-
-#[test]
-fn keeps_its_settings(rt: HostRuntime) {
-    let built = Forward(Entry::Bound).lazy(&rt, "unicode");
-    let copy = built.clone().expect(&rt, "a copy");
-    let config = copy.get_config();
-    let kept = (config.get_unicode_word_boundary(), config.get_quit(0xB2));
-    same_of(&rt, &kept, &(true, false), &"the settings");
+    tells_all::<Bench>(&rt, COUNTED);
 }

@@ -1,6 +1,6 @@
 //! Scripts, from bytes to bytes.
 
-use super::{Host, Sink, Source, Text, printed, prints, same_of, same_text};
+use super::{Host, Sink, Source, Text, printed, same_of, same_text};
 use crate::error::RunError;
 use crate::run::run;
 use std::fmt::Write;
@@ -32,7 +32,7 @@ fn answers_scripts(rt: HostRuntime) {
 fn answer_all(rt: &impl Host, rows: &[(&'static str, &'static str)]) {
     for row in rows {
         let (script, want) = *row;
-        prints(rt, script, want, script);
+        ends_with(rt, script, want, None);
     }
 }
 
@@ -70,12 +70,21 @@ const BAD: &[(&str, usize)] = &[
 
 #[test]
 fn tells_the_first_bad_line(rt: HostRuntime) {
-    for row in BAD {
+    refuse_all(&rt, BAD);
+}
+
+fn refuse_all(rt: &impl Host, rows: &[(&'static str, usize)]) {
+    for row in rows {
         let (script, line) = *row;
-        let (text, fault) = printed(&rt, script);
-        same_of(&rt, &fault, &Some(RunError::BadLine(line)), &script);
-        same_text(&rt, text.as_str(), "", script);
+        ends_with(rt, script, "", Some(RunError::BadLine(line)));
     }
+}
+
+/// Runs a script, and looks at what it prints and at its fault.
+fn ends_with(rt: &impl Host, script: &str, want: &str, fault: Option<RunError>) {
+    let (text, found) = printed(rt, script);
+    same_of(rt, &found, &fault, &script);
+    same_text(rt, text.as_str(), want, script);
 }
 
 /// Lines at the edge of what is allowed.
@@ -95,9 +104,13 @@ const ALLOWED: &[&str] = &[
 
 #[test]
 fn takes_lines_at_the_edge(rt: HostRuntime) {
-    for script in ALLOWED.iter().copied() {
-        let (_, fault) = printed(&rt, script);
-        same_of(&rt, &fault, &None, &script);
+    take_all(&rt, ALLOWED);
+}
+
+fn take_all(rt: &impl Host, scripts: &[&'static str]) {
+    for script in scripts.iter().copied() {
+        let (_, fault) = printed(rt, script);
+        same_of(rt, &fault, &None, &script);
     }
 }
 
@@ -195,7 +208,7 @@ fn answers_long_scripts(rt: HostRuntime) {
 fn answer_long(rt: &impl Host, row: &Long) {
     let script = long_script(rt, row);
     let want = long_output(rt, row);
-    prints(rt, script.as_str(), want.as_str(), row.0);
+    ends_with(rt, script.as_str(), want.as_str(), None);
 }
 
 fn long_script(rt: &impl Host, row: &Long) -> String {

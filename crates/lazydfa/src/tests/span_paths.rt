@@ -1,20 +1,22 @@
 //! Spans beside those of the listed paths: from the start of the selected path to its end.
 
-use super::paths::{
-    CHARACTERS, Compared, EMPTY, LITERALS, LOOKS, MODES, REPEATED, Row, answer, compare, haystacks,
-};
+use super::bench::within;
+use super::paths::{CHARACTERS, EMPTY, LITERALS, LOOKS, MODES, REPEATED, Row, answer, haystacks};
 use super::regex_bench::{Pair, RegexBench};
 use super::told::Item;
 use super::{Host, same_of};
 use crate::catalogue::Entry;
 use regex_automata::nfa::thompson::NFA;
-use regex_automata::util::search::{Input, Match, MatchKind, Span};
+use regex_automata::util::search::{Input, MatchKind};
 
 /// A slow search: its NFA, and its match kind.
 type Slow<'a> = (&'a NFA, MatchKind);
 
+/// A pattern, a start and an end.
+type Span = (usize, usize, usize);
+
 /// The span of the selected path, from an offset on.
-fn span_from(rt: &impl Host, slow: Slow<'_>, input: &Input<'_>, start: usize) -> Option<Match> {
+fn span_from(rt: &impl Host, slow: Slow<'_>, input: &Input<'_>, start: usize) -> Option<Span> {
     if start > input.end() {
         return None;
     }
@@ -23,9 +25,7 @@ fn span_from(rt: &impl Host, slow: Slow<'_>, input: &Input<'_>, start: usize) ->
         .anchored(input.get_anchored())
         .earliest(input.get_earliest());
     let (half, start) = answer(rt, slow.0, slow.1, &rest)?;
-    let end = half.offset();
-    let start = start.min(end);
-    Some(Match::new(half.pattern(), Span { start, end }))
+    Some((half.pattern().as_usize(), start, half.offset()))
 }
 
 /// The next span: an empty one at the last end is replaced by what is found from one offset later.
@@ -34,24 +34,24 @@ fn next_span(
     slow: Slow<'_>,
     input: &Input<'_>,
     (start, last): (usize, Option<usize>),
-) -> Option<Match> {
+) -> Option<Span> {
     let next = span_from(rt, slow, input, start)?;
-    if next.start() < next.end() || last != Some(next.end()) {
+    if next.1 < next.2 || last != Some(next.2) {
         return Some(next);
     }
     span_from(rt, slow, input, start.saturating_add(1))
 }
 
 /// The spans of an input, each from the end of the last one.
-fn list(rt: &impl Host, slow: Slow<'_>, input: &Input<'_>) -> Vec<Match> {
-    let mut spans = Vec::new(rt.alloc());
+fn list(rt: &impl Host, slow: Slow<'_>, input: &Input<'_>) -> [Item; 8] {
+    let mut spans = [None; 8];
     let mut at = (input.start(), None);
-    for _ in 0..input.haystack().len() + 2 {
+    for number in 0..8usize {
         let Some(next) = next_span(rt, slow, input, at) else {
             return spans;
         };
-        at = (next.end(), Some(next.end()));
-        spans.push(next).expect(rt, "memory");
+        at = (next.2, Some(next.2));
+        spans[number] = Some(Ok(next));
     }
     spans
 }
@@ -73,33 +73,36 @@ struct Listed {
     ample: RegexBench,
 }
 
-impl Compared for Listed {
+impl Listed {
     /// Every span of each haystack, and the whole of it in each anchored mode; of a short one every span in each mode.
     fn compare_all(&mut self, rt: &impl Host, haystacks: &[Vec<u8>]) {
         for haystack in haystacks {
             self.compare_haystack(rt, haystack.as_slice());
         }
     }
-}
 
-impl Listed {
     fn compare_haystack(&mut self, rt: &impl Host, haystack: &[u8]) {
         for end in 0..haystack.len() + 1 {
             for start in 0..end + 1 {
-                let is_full = haystack.len() < 6 || start == 0 && end == haystack.len();
-                let modes = if is_full { MODES.len() } else { 1 };
-                for (mode, earliest) in MODES.iter().copied().take(modes) {
-                    let input = Input::new(haystack).range(start..end);
-                    self.compare(rt, &input.anchored(mode).earliest(earliest));
+                self.compare(rt, &Input::new(haystack).range(start..end));
+                if haystack.len() < 6 || start == 0 && end == haystack.len() {
+                    self.compare_modes(rt, haystack, (start, end));
                 }
             }
+        }
+    }
+
+    fn compare_modes(&mut self, rt: &impl Host, haystack: &[u8], (start, end): (usize, usize)) {
+        for (mode, earliest) in MODES {
+            let input = within(haystack, start, end);
+            self.compare(rt, &input.anchored(mode).earliest(earliest));
         }
     }
 
     fn compare(&mut self, rt: &impl Host, input: &Input<'_>) {
         let nfa = self.ample.regex().forward().get_nfa();
         let spans = list(rt, (nfa, self.kind), input);
-        let want = (spans.as_slice(), has_path(rt, nfa, self.kind, input));
+        let want = (&spans, has_path(rt, nfa, self.kind, input));
         let of = (self.entry, self.kind, input);
         compare_with(rt, &mut self.tight, input, want, &of);
         compare_with(rt, &mut self.ample, input, want, &of);
@@ -111,22 +114,13 @@ fn compare_with(
     rt: &impl Host,
     bench: &mut RegexBench,
     input: &Input<'_>,
-    (want, has_path): (&[Match], bool),
+    (want, has_path): (&[Item; 8], bool),
     of: &(Entry, MatchKind, &Input<'_>),
 ) {
-    same_of(rt, &bench.search(input), &Ok(want.first().copied()), of);
+    same_of(rt, &bench.first(input), &want[0], of);
     same_of(rt, &bench.holds(input), &Ok(has_path), of);
     let found = bench.first_items(input.clone().expect(rt, "an input"));
-    same_of(rt, &found, &items_of(want), of);
-}
-
-/// The first eight items of an iteration over at most seven spans.
-fn items_of(spans: &[Match]) -> [Item; 8] {
-    let mut items = [None; 8];
-    for (number, span) in spans.iter().enumerate() {
-        items[number.min(7)] = Some(Ok((span.pattern().as_usize(), span.start(), span.end())));
-    }
-    items
+    same_of(rt, &found, want, of);
 }
 
 /// A match kind, and its options for caches of the least capacity and of an ample one.
@@ -137,6 +131,12 @@ const KINDS: [Kind; 2] = [
     (MatchKind::LeftmostFirst, "unicode starts capacity=0 skip", "unicode starts"),
     (MatchKind::All, "all unicode starts capacity=0 skip", "all unicode starts"),
 ];
+
+/// Compares, and gives it all back.
+fn compare(rt: &impl Host, listed: Listed, haystacks: &[Vec<u8>]) {
+    let mut listed = listed;
+    listed.compare_all(rt, haystacks);
+}
 
 fn prepare(rt: &impl Host, entry: Entry, (kind, least, config): Kind) -> Listed {
     let tight = RegexBench::new(rt, Pair::Of(entry).regex(rt, least));

@@ -20,8 +20,8 @@ pub enum Automaton {
     Planned(&'static Plan),
     /// One match state, at which so many patterns start.
     Crowd(usize),
-    /// A state, and after it nineteen bytes `a` to the one match.
-    Chain(Shape),
+    /// A state, and after it so many states, of which each but the last, the one match, reads an `a`.
+    Chain(Shape, usize),
     /// Those of `DFA::always_match` and `DFA::never_match`.
     Always,
     Never,
@@ -35,7 +35,7 @@ impl Automaton {
             Automaton::Planned(plan) => plan.build(rt),
             Automaton::Crowd(patterns) => crowd(rt, patterns),
             Automaton::Always | Automaton::Never => panic!(rt; "it is built by the library"),
-            Automaton::Chain(first) => chain(rt, first),
+            Automaton::Chain(first, length) => chain(rt, first, length),
         }
     }
 
@@ -48,11 +48,6 @@ impl Automaton {
                 .configure(config)
                 .build_from_nfa(self.nfa(rt)),
         }
-    }
-
-    /// The lazy DFA, which can be built.
-    pub fn lazy(self, rt: &impl Host, options: &str) -> DFA {
-        self.build(rt, options).expect(rt, "an automaton")
     }
 }
 
@@ -120,7 +115,7 @@ fn write_calls<T: Caller>(
 ) {
     match T::make(rt, of, options) {
         Ok(mut caller) => caller.tell(rt, calls, text),
-        Err(error) => write!(text, "{error}").expect(rt, "memory"),
+        Err(error) => write_told(rt, text, &Told::Refused(error)),
     }
 }
 
@@ -251,7 +246,7 @@ impl Turns {
 
     pub fn hear(&mut self, rt: &impl Host, told: &Told) {
         self.told.clear();
-        write!(self.told, "{told}").expect(rt, "memory");
+        write_told(rt, &mut self.told, told);
     }
 
     /// Whether a call that should answer runs out of memory. Then there is memory from here on.

@@ -2,8 +2,7 @@
 //! over another cache, with a search of the same input between.
 
 use super::paths::{
-    CHARACTERS, Compared, EMPTY, LITERALS, LOOKS, MODES, REPEATED, Row, accepting, compare, half,
-    haystacks, splits,
+    CHARACTERS, EMPTY, LITERALS, LOOKS, MODES, REPEATED, Row, accepting, half, haystacks, splits,
 };
 use super::tells::Automaton;
 use super::walker::{Over, Walker};
@@ -44,17 +43,23 @@ fn list_at(
     let mut least = before;
     for (number, path) in paths.iter().enumerate() {
         if path.offset() == place {
-            let is_told = match kind {
-                MatchKind::All => !pairs.contains(path),
-                MatchKind::LeftmostFirst => number < least,
-            };
-            if is_told && !is_passed {
+            let is_first = number < least;
+            if !is_passed && tells(kind, is_first, path, pairs) {
                 pairs.push(*path).expect(rt, "memory");
             }
             least = least.min(number);
         }
     }
     least
+}
+
+/// Whether a pair is told: under `MatchKind::All` once.
+fn tells(kind: MatchKind, is_first: bool, path: &HalfMatch, pairs: &Vec<HalfMatch>) -> bool {
+    if kind == MatchKind::All {
+        !pairs.contains(path)
+    } else {
+        is_first
+    }
 }
 
 /// The patterns of the pairs that are below a capacity, or that of the first pair alone.
@@ -73,11 +78,7 @@ fn patterns_of(pairs: &[HalfMatch], is_first_alone: bool, capacity: usize) -> [b
 }
 
 /// The name of an NFA in messages: its entry, or its number.
-#[derive(Clone, Copy, Debug)]
-pub enum Name {
-    Of(Entry),
-    Numbered(u8),
-}
+pub type Name = (Option<Entry>, u8);
 
 /// What is compared: an NFA of one direction and match kind, with caches of the least capacity and of an ample one.
 #[derive(Drop)]
@@ -89,7 +90,7 @@ pub struct Listed {
     pub found: Vec<HalfMatch>,
 }
 
-impl Compared for Listed {
+impl Listed {
     /// Every span of each haystack, and the whole of it in each anchored mode.
     fn compare_all(&mut self, rt: &impl Host, haystacks: &[Vec<u8>]) {
         for haystack in haystacks {
@@ -97,9 +98,7 @@ impl Compared for Listed {
             self.compare_modes(rt, haystack.as_slice());
         }
     }
-}
 
-impl Listed {
     fn compare_spans(&mut self, rt: &impl Host, haystack: &[u8]) {
         for end in 0..haystack.len() + 1 {
             for start in 0..end + 1 {
@@ -183,17 +182,29 @@ fn walker(rt: &impl Host, nfa: NFA, config: Config) -> Walker {
     Walker::new(rt, built.expect(rt, "an automaton"), Over::Text(""))
 }
 
+/// Compares, and gives it all back.
+fn compare(rt: &impl Host, listed: Listed, haystacks: &[Vec<u8>]) {
+    let mut listed = listed;
+    listed.compare_all(rt, haystacks);
+}
+
 /// Searches, walks and sets of both match kinds in both directions report what the listed paths of each entry say.
 fn agree(rt: &impl Host, rows: &[Row]) {
     for row in rows {
         let (entry, pieces, most) = *row;
-        let (name, haystacks) = (Name::Of(entry), haystacks(rt, pieces, most));
+        let (name, haystacks) = ((Some(entry), 0), haystacks(rt, pieces, most));
         for kind in [MatchKind::LeftmostFirst, MatchKind::All] {
             let (forward, reverse) = (Automaton::Forward(entry), Automaton::Reverse(entry));
-            let listed = prepare(rt, name, forward.nfa(rt), kind);
-            compare(rt, listed, haystacks.as_slice());
-            let listed = prepare(rt, name, reverse.nfa(rt), kind);
-            compare(rt, listed, haystacks.as_slice());
+            compare(
+                rt,
+                prepare(rt, name, forward.nfa(rt), kind),
+                haystacks.as_slice(),
+            );
+            compare(
+                rt,
+                prepare(rt, name, reverse.nfa(rt), kind),
+                haystacks.as_slice(),
+            );
         }
     }
 }

@@ -1,4 +1,4 @@
-//! Overlapping walks and sets of patterns over one lazy DFA and three caches of it.
+//! Overlapping walks and sets of patterns over one lazy DFA and two caches of it.
 
 ghost use Rattle.std.specs.Prelude.{◌≡◌};
 ghost use Rattle.lazydfa.specs.Walks.{IsWalkOver};
@@ -29,7 +29,7 @@ impl Over {
     pub fn input(self) -> Input<'static> {
         match self {
             Over::Text(haystack) => Input::new(haystack.as_bytes()),
-            Over::Span(haystack, start, end) => within(haystack, start, end),
+            Over::Span(haystack, start, end) => within(haystack.as_bytes(), start, end),
             Over::Pattern(haystack, number) => {
                 Input::new(haystack.as_bytes()).anchored(Anchored::Pattern(pattern_id(number)))
             }
@@ -46,6 +46,8 @@ pub enum Turn {
     Begin,
     /// What the walk has found last.
     Match,
+    /// The same of a copy of it.
+    Copy,
     /// The patterns of all matches, in a set of this capacity.
     Which(usize),
     /// The same in a set of this capacity that has a pattern.
@@ -56,7 +58,7 @@ pub enum Turn {
     Fill,
     /// A plain search of another haystack.
     Find(&'static str),
-    /// Goes on over the next of the three caches.
+    /// Goes on over the other cache.
     Switch,
     Reset,
     /// How often the cache was cleared, its memory, and the bytes searched.
@@ -86,38 +88,36 @@ fn names(has: [bool; 4]) -> &'static str {
 
 /// Which of the first patterns a set has; the last stands for each that comes after.
 fn firsts_of(set: &PatternSet) -> [bool; 4] {
-    let mut has = [false; 4];
-    for pattern in set.iter() {
-        has[pattern.as_usize().min(3)] = true;
-    }
-    has
+    let [zero, one, two] = [has(set, 0), has(set, 1), has(set, 2)];
+    let count = usize::from(zero) + usize::from(one) + usize::from(two);
+    [zero, one, two, set.len() > count]
 }
 
-/// A lazy DFA with three caches, of which calls use the first, a set of patterns, and what is walked over.
+fn has(set: &PatternSet, number: u8) -> bool {
+    set.contains(pattern_id(number))
+}
+
+/// A lazy DFA with two caches, of which calls use the first, a set of patterns, and what is walked over.
 #[derive(Drop)]
 pub struct Walker {
     dfa: DFA,
-    first: Cache,
-    second: Cache,
-    third: Cache,
+    cache: Cache,
+    other: Cache,
     set: PatternSet,
     over: Over,
-    ghost first_of: { IsCacheOf first dfa },
-    ghost second_of: { IsCacheOf second dfa },
-    ghost third_of: { IsCacheOf third dfa },
+    ghost of: { IsCacheOf cache dfa },
+    ghost other_of: { IsCacheOf other dfa },
 }
 
 impl Walker {
     pub fn new(rt: &impl Host, dfa: DFA, over: Over) -> Walker {
-        let first = dfa.create_cache().expect(rt, "a cache");
-        let second = dfa.create_cache().expect(rt, "a cache");
-        let third = dfa.create_cache().expect(rt, "a cache");
+        let cache = dfa.create_cache().expect(rt, "a cache");
+        let other = dfa.create_cache().expect(rt, "a cache");
         let set = PatternSet::new(rt.alloc(), 4).expect(rt, "a set");
         Walker {
             dfa,
-            first,
-            second,
-            third,
+            cache,
+            other,
             set,
             over,
         }
@@ -127,7 +127,7 @@ impl Walker {
         &self.dfa
     }
 
-    /// All matches of a walk. Each call is made over another cache, after a search of the same input.
+    /// All matches of a walk. Each call is made over the other cache, after a search of the same input.
     pub fn walk(&mut self, rt: &impl Host, input: &Input<'_>, found: &mut Vec<HalfMatch>) {
         found.clear();
         let mut walk = OverlappingState::start();
@@ -144,15 +144,28 @@ impl Walker {
         requires { IsWalkOver self.old.dfa input.now walk.old }
     {
         for _call in 0..1000u32 {
-            self.find(input).expect(rt, "a search");
-            step(&self.dfa, &mut self.first, input, walk).expect(rt, "a call");
-            let Some(half) = walk.get_match() else {
+            let Some(half) = self.next(rt, input, walk) else {
                 return;
             };
             found.push(half).expect(rt, "memory");
-            self.switch();
         }
         check(rt, false);
+    }
+
+    /// The next match of a walk, after a search of its input. The next call is made over the other cache.
+    fn next(
+        &mut self,
+        rt: &impl Host,
+        input: &Input<'_>,
+        walk: &mut OverlappingState,
+    ) -> Option<HalfMatch>
+        requires { IsWalkOver self.old.dfa input.now walk.old }
+        ensures { IsWalkOver self.new.dfa input.now walk.new }
+    {
+        self.find(input).expect(rt, "a search");
+        step(&self.dfa, &mut self.cache, input, walk).expect(rt, "a call");
+        self.switch();
+        walk.get_match()
     }
 
     /// Writes what the calls of a walk over this input report, and those between them.
@@ -183,17 +196,31 @@ impl Walker {
         requires { IsWalkOver self.old.dfa input.now walk.old }
     {
         for turn in row.3 {
-            turns.hear(rt, &self.turn(rt.alloc(), input, *turn, walk));
+            self.hear(rt, input, *turn, walk, turns);
         }
         turns.lend(rt);
         for (number, owed) in row.4.iter().enumerate() {
-            let (turn, want) = *owed;
-            turns.hear(rt, &self.turn(rt.alloc(), input, turn, walk));
-            if turns.refuses(rt, number, want, row.5) {
-                turns.hear(rt, &self.turn(rt.alloc(), input, turn, walk));
+            self.hear(rt, input, owed.0, walk, turns);
+            if turns.refuses(rt, number, owed.1, row.5) {
+                self.hear(rt, input, owed.0, walk, turns);
             }
-            turns.has_told(rt, want, row.0);
+            turns.has_told(rt, owed.1, row.0);
         }
+    }
+
+    /// Makes a call, whose report is kept.
+    fn hear(
+        &mut self,
+        rt: &impl Host,
+        input: &Input<'_>,
+        turn: Turn,
+        walk: &mut OverlappingState,
+        turns: &mut Turns,
+    )
+        requires { IsWalkOver self.old.dfa input.now walk.old }
+        ensures { IsWalkOver self.new.dfa input.now walk.new }
+    {
+        turns.hear(rt, &self.turn(rt.alloc(), input, turn, walk));
     }
 
     /// What a call reports. A call of the walk may change it, and each other one leaves it unchanged.
@@ -209,7 +236,7 @@ impl Walker {
     {
         match turn {
             Turn::Next => {
-                let stepped = step(&self.dfa, &mut self.first, input, walk);
+                let stepped = step(&self.dfa, &mut self.cache, input, walk);
                 told_of_step(stepped, walk.get_match())
             }
             Turn::Begin => {
@@ -217,6 +244,7 @@ impl Walker {
                 Told::Word("-")
             }
             Turn::Match => Told::Half(Ok(walk.get_match())),
+            Turn::Copy => told_of_copy(walk),
             _ => self.call(alloc, input, turn),
         }
     }
@@ -231,14 +259,14 @@ impl Walker {
             Turn::Insert(pattern) => {
                 Told::of_flag(self.set.try_insert(pattern_id(pattern)) == Ok(true))
             }
-            Turn::Fill => fill(&self.dfa, &mut self.first, input, &mut self.set),
+            Turn::Fill => join(&self.dfa, &mut self.cache, input, &mut self.set, None),
             Turn::Find(haystack) => Told::Half(self.find(&Input::new(haystack.as_bytes()))),
             Turn::Switch => {
                 self.switch();
                 Told::Word("-")
             }
-            Turn::Reset => Told::of_growth(self.dfa.reset_cache(&mut self.first)),
-            Turn::Counts => Told::Counts(counted(&self.first), ""),
+            Turn::Reset => Told::of_growth(self.dfa.reset_cache(&mut self.cache)),
+            Turn::Counts => Told::Counts(counted(&self.cache), ""),
             _ => Told::of_flag(Vec::<u8>::with_capacity(alloc, 1).is_ok()),
         }
     }
@@ -247,7 +275,7 @@ impl Walker {
     pub fn find(&mut self, input: &Input<'_>) -> Result<Option<HalfMatch>, SearchError>
         ensures { self.new.dfa ≡ self.old.dfa }
     {
-        search(&self.dfa, &mut self.first, input)
+        search(&self.dfa, &mut self.cache, input)
     }
 
     /// The patterns of all matches, in a set of this capacity that may have one.
@@ -261,7 +289,7 @@ impl Walker {
         ensures { self.new.dfa ≡ self.old.dfa }
     {
         match PatternSet::new(alloc, capacity) {
-            Ok(mut set) => join(&self.dfa, &mut self.first, input, &mut set, given),
+            Ok(mut set) => join(&self.dfa, &mut self.cache, input, &mut set, given),
             Err(_) => Told::Refused(BuildError::OutOfMemory),
         }
     }
@@ -269,34 +297,16 @@ impl Walker {
     /// The patterns of all matches that are below a capacity, as far as they are among the first ones.
     pub fn patterns(&mut self, rt: &impl Host, input: &Input<'_>, capacity: usize) -> [bool; 4] {
         let mut set = PatternSet::new(rt.alloc(), capacity).expect(rt, "memory");
-        self.fill_from(rt, input, &mut set);
-        firsts_of(&set)
-    }
-
-    fn fill_from(&mut self, rt: &impl Host, input: &Input<'_>, set: &mut PatternSet) {
-        let dfa = &self.dfa;
-        let filled = dfa.try_which_overlapping_matches(&mut self.first, input, set);
+        let (has, filled) = fill(&self.dfa, &mut self.cache, input, &mut set);
         filled.expect(rt, "a set");
+        has
     }
 
-    /// Puts the next of the three caches first.
+    /// Puts the other cache first.
     fn switch(&mut self)
         ensures { self.new.dfa ≡ self.old.dfa }
     {
-        self.swap_first();
-        self.swap_last();
-    }
-
-    fn swap_first(&mut self)
-        ensures { self.new.dfa ≡ self.old.dfa }
-    {
-        mem::swap(&mut self.first, &mut self.second);
-    }
-
-    fn swap_last(&mut self)
-        ensures { self.new.dfa ≡ self.old.dfa }
-    {
-        mem::swap(&mut self.second, &mut self.third);
+        mem::swap(&mut self.cache, &mut self.other);
     }
 }
 
@@ -328,7 +338,16 @@ fn told_of_step(stepped: Result<(), SearchError>, found: Option<HalfMatch>) -> T
     }
 }
 
-/// Adds the patterns of all matches to a set, and first one that is given.
+/// The match of a copy, which shares the state of the walk.
+fn told_of_copy(walk: &OverlappingState) -> Told {
+    match walk.clone() {
+        Ok(copy) => Told::Half(Ok(copy.get_match())),
+        Err(_) => Told::Refused(BuildError::OutOfMemory),
+    }
+}
+
+/// Adds the patterns of all matches to a set, and first one that is given. It returns those that the set has then, and
+/// why it has no more.
 fn join(
     dfa: &DFA,
     cache: &mut Cache,
@@ -342,20 +361,24 @@ fn join(
     if let Some(pattern) = given {
         let _ = set.try_insert(pattern_id(pattern));
     }
-    fill(dfa, cache, input, set)
+    match fill(dfa, cache, input, set) {
+        (has, Ok(())) => Told::Word(names(has)),
+        (has, Err(error)) => Told::Names(names(has), error),
+    }
 }
 
-/// Adds the patterns of all matches to a set. It returns those that the set has then, and why it has no more.
-fn fill(dfa: &DFA, cache: &mut Cache, input: &Input<'_>, set: &mut PatternSet) -> Told
+/// Adds the patterns of all matches to a set.
+fn fill(
+    dfa: &DFA,
+    cache: &mut Cache,
+    input: &Input<'_>,
+    set: &mut PatternSet,
+) -> ([bool; 4], Result<(), SearchError>)
     requires { IsCacheOf cache.old dfa.now }
     ensures { IsCacheOf cache.new dfa.now }
 {
     let filled = dfa.try_which_overlapping_matches(cache, input, set);
-    let names = names(firsts_of(set));
-    match filled {
-        Ok(()) => Told::Word(names),
-        Err(error) => Told::Names(names, error),
-    }
+    (firsts_of(set), filled)
 }
 
 impl Caller for Walker {
@@ -365,8 +388,10 @@ impl Caller for Walker {
 
     fn make(rt: &impl Host, of: Walked, options: &str) -> Result<Walker, BuildError> {
         let Walked(automaton, over) = of;
-        let dfa = automaton.lazy(rt, options);
-        Ok(Walker::new(rt, dfa, over))
+        match automaton.build(rt, options) {
+            Ok(dfa) => Ok(Walker::new(rt, dfa, over)),
+            Err(error) => Err(error),
+        }
     }
 
     /// A call that leaves the walk unchanged.

@@ -18,7 +18,7 @@ const AS: &str = "aaaaaaaaaaaaaaaa";
 const MORE: &str = "aaaaaaaaaaaaaaaaaaa";
 
 /// No byte at all, or nineteen bytes `a`.
-const FORK: Automaton = Automaton::Chain(Shape::Either(1, 20));
+const FORK: Automaton = Automaton::Chain(Shape::Either(1, 20), 20);
 
 const OVER_FORK: Walked = Walked(FORK, Text(MORE));
 
