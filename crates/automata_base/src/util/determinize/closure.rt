@@ -7,6 +7,7 @@ ghost use Rattle.automata_base.specs.Nfas.Nodes.{node_of, nfa_of};
 ghost use Rattle.automata_base.specs.Retraced.Rooms.{IsClosureRoom};
 ghost use Rattle.automata_base.specs.Haystacks.LookSets.{truth_of};
 
+use crate::nfa::thompson::reading::state_at;
 use crate::nfa::thompson::{NFA, State};
 use crate::util::determinize::sparse_set::SparseSet;
 use crate::util::look::LookSet;
@@ -92,10 +93,11 @@ fn close_from(
         → IsUnderWay (nfa_of nfa.now) (truth_of looks) roots tail set.new.items }
     ensures room { IsClosureRoom nfa.now stack.new set.new }
 {
+    let states = nfa.states();
     let mut id = start;
     'visit: loop {
         if set.insert(id) {
-            if let Some(next) = expand(nfa.state(id), looks, stack) {
+            if let Some(next) = expand(state_at(nfa, states, id), looks, stack) {
                 id = next;
                 continue;
             }

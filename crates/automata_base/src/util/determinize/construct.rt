@@ -17,7 +17,7 @@ ghost use Rattle.automata_base.specs.Haystacks.LookSets.{truth_of};
 ghost use Rattle.automata_base.specs.Powersets.Closure.{IsUnderWay};
 
 use crate::nfa::thompson::NFA;
-use crate::nfa::thompson::reading::{pattern_of, target};
+use crate::nfa::thompson::reading::{pattern_of, state_at, target};
 use crate::util::determinize::closure::{close, close_one};
 use crate::util::determinize::deciding::{
     first_of, has_news, is_unit, is_word_unit, known_behind, news,
@@ -243,8 +243,9 @@ fn read_first(
     ensures patterns { vec_capacity patterns.old ≤ vec_capacity patterns.new }
 {
     patterns.clear();
+    let states = nfa.states();
     for i in 0..list.len() {
-        let state = nfa.state(list[i]);
+        let state = state_at(nfa, states, list[i]);
         match pattern_of(state) {
             Some(pattern) => {
                 patterns.push(pattern).unwrap();

@@ -28,14 +28,17 @@ insert-requires c =
     let whole : c.visit.set.capacity ≡ length c.args.nfa.now.states = c.visit.invariant.1 in
     omega arith
 
-pub state-requires : goal.state-requires
-state-requires c = c.visit.invariant.0.below c.visit.id (inl refl)
+pub state_at-requires-clause-id : goal.state_at-requires-clause-id
+state_at-requires-clause-id c =
+    let below : c.visit.id < length c.args.nfa.now.states = c.visit.invariant.0.below c.visit.id (inl refl) in
+    let same = ap length c.states-states.ensures.same in
+    omega (arith, below, same)
 
 pub expand-requires : goal.expand-requires
 expand-requires c =
-    let room : length c.visit.stack.items + length (children_at (node_of c.state.result.now) (truth_of c.args.looks)) ≤ stack_room c.args.nfa.now.states =
-    step_room c.args.nfa.now c.args.looks c.args.set.now.items c.args.start c.visit.set.items c.visit.stack.items c.visit.id c.state.result.now
-    c.state.ensures.same (c.if-insert.ensures.new refl) c.visit.invariant.0 in
+    let room : length c.visit.stack.items + length (children_at (node_of c.state_at.result.now) (truth_of c.args.looks)) ≤ stack_room c.args.nfa.now.states =
+    step_room c.args.nfa.now c.args.looks c.args.set.now.items c.args.start c.visit.set.items c.visit.stack.items c.visit.id c.state_at.result.now
+    c.state_at.ensures.same (c.if-insert.ensures.new refl) c.visit.invariant.0 in
     let len : vec_len c.visit.stack ≡ length c.visit.stack.items = c.visit.stack.ok.0 in
     let kept : vec_capacity c.args.stack.now ≤ vec_capacity c.visit.stack = c.visit.invariant.2 in
     let enough : stack_room c.args.nfa.now.states ≤ vec_capacity c.args.stack.now = c.requires.room.places in
@@ -46,8 +49,8 @@ followed : (c : goal.In-Some) →
     Walking c.args.nfa.now c.args.looks c.args.set.now.items c.args.start c.insert.new.self.items (c.in-Some.next ∷ reverse c.expand.new.stack.items)
     × (work c.args.nfa.now c.insert.new.self.items (c.in-Some.next ∷ reverse c.expand.new.stack.items) < work c.args.nfa.now c.visit.set.items (c.visit.id ∷ reverse c.visit.stack.items))
 followed c =
-    new_step c.args.nfa.now c.args.looks c.args.set.now.items c.args.start c.visit.set.items c.insert.new.self.items (reverse c.visit.stack.items) (c.in-Some.next ∷ reverse c.expand.new.stack.items) c.visit.id c.state.result.now
-    c.state.ensures.door c.state.ensures.same (c.if-insert.ensures.new refl) (c.if-insert.ensures.added refl) c.in-Some.ensures.pushed c.visit.invariant.0
+    new_step c.args.nfa.now c.args.looks c.args.set.now.items c.args.start c.visit.set.items c.insert.new.self.items (reverse c.visit.stack.items) (c.in-Some.next ∷ reverse c.expand.new.stack.items) c.visit.id c.state_at.result.now
+    c.state_at.ensures.door c.state_at.ensures.same (c.if-insert.ensures.new refl) (c.if-insert.ensures.added refl) c.in-Some.ensures.pushed c.visit.invariant.0
 
 pub visit-smaller-in-Some : goal.visit-smaller-in-Some
 visit-smaller-in-Some c = (followed c).1
@@ -99,8 +102,8 @@ visited : (c : goal.In-Some-pop) →
     (vec_capacity c.args.stack.now) c.visit.stack c.if-insert.stack
 visited c = elim c.if-insert.branch [
   | then-insert+in_default w ↦ subst (Visited c.args.nfa.now c.args.looks c.args.set.now.items c.args.start c.visit.set.items c.insert.new.self.items c.visit.id (vec_capacity c.args.stack.now) c.visit.stack) (sym w.stack-is)
-      (new_visit c.args.nfa.now c.args.looks c.args.set.now.items c.args.start c.visit.set.items c.insert.new.self.items c.visit.id (vec_capacity c.args.stack.now) c.visit.stack w.expand.new.stack w.state.result.now
-      w.state.ensures.door w.state.ensures.same (w.if-insert.ensures.new refl) (w.if-insert.ensures.added refl) w.in_default.ensures.pushed
+      (new_visit c.args.nfa.now c.args.looks c.args.set.now.items c.args.start c.visit.set.items c.insert.new.self.items c.visit.id (vec_capacity c.args.stack.now) c.visit.stack w.expand.new.stack w.state_at.result.now
+      w.state_at.ensures.door w.state_at.ensures.same (w.if-insert.ensures.new refl) (w.if-insert.ensures.added refl) w.in_default.ensures.pushed
       c.visit.invariant.0 c.visit.invariant.2 w.in_default.ensures.capacity)
   | else-insert w ↦ subst (Visited c.args.nfa.now c.args.looks c.args.set.now.items c.args.start c.visit.set.items c.insert.new.self.items c.visit.id (vec_capacity c.args.stack.now) c.visit.stack) (sym w.stack-is)
       (old_visit c.args.nfa.now c.args.looks c.args.set.now.items c.args.start c.visit.set.items c.insert.new.self.items c.visit.id (vec_capacity c.args.stack.now) c.visit.stack (w.if-insert.ensures.had refl) (w.if-insert.ensures.unchanged refl) c.visit.invariant.0 c.visit.invariant.2)
@@ -127,8 +130,8 @@ done : (c : goal.In-None) →
     (vec_capacity c.args.stack.now) c.visit.stack c.if-insert.stack
 done c = elim c.if-insert.branch [
   | then-insert+in_default w ↦ subst (Visited c.args.nfa.now c.args.looks c.args.set.now.items c.args.start c.visit.set.items c.insert.new.self.items c.visit.id (vec_capacity c.args.stack.now) c.visit.stack) (sym w.stack-is)
-      (new_visit c.args.nfa.now c.args.looks c.args.set.now.items c.args.start c.visit.set.items c.insert.new.self.items c.visit.id (vec_capacity c.args.stack.now) c.visit.stack w.expand.new.stack w.state.result.now
-      w.state.ensures.door w.state.ensures.same (w.if-insert.ensures.new refl) (w.if-insert.ensures.added refl) w.in_default.ensures.pushed
+      (new_visit c.args.nfa.now c.args.looks c.args.set.now.items c.args.start c.visit.set.items c.insert.new.self.items c.visit.id (vec_capacity c.args.stack.now) c.visit.stack w.expand.new.stack w.state_at.result.now
+      w.state_at.ensures.door w.state_at.ensures.same (w.if-insert.ensures.new refl) (w.if-insert.ensures.added refl) w.in_default.ensures.pushed
       c.visit.invariant.0 c.visit.invariant.2 w.in_default.ensures.capacity)
   | else-insert w ↦ subst (Visited c.args.nfa.now c.args.looks c.args.set.now.items c.args.start c.visit.set.items c.insert.new.self.items c.visit.id (vec_capacity c.args.stack.now) c.visit.stack) (sym w.stack-is)
       (old_visit c.args.nfa.now c.args.looks c.args.set.now.items c.args.start c.visit.set.items c.insert.new.self.items c.visit.id (vec_capacity c.args.stack.now) c.visit.stack (w.if-insert.ensures.had refl) (w.if-insert.ensures.unchanged refl) c.visit.invariant.0 c.visit.invariant.2)
