@@ -22,7 +22,7 @@ fn push_reversed(stack: &mut Vec<StateID>, states: &[StateID])
     ensures capacity { vec_capacity stack.old ≤ vec_capacity stack.new }
 {
     for i in (0..states.len()).rev() {
-        stack.push(states[i]).unwrap();
+        stack.push_reserved(states[i]);
     }
 }
 
@@ -101,7 +101,7 @@ fn expand(
             }
         }
         State::BinaryUnion { alt1, alt2 } => {
-            stack.push(*alt2).unwrap();
+            stack.push_reserved(*alt2);
             Some(*alt1)
         }
         State::Capture { next, .. } => Some(*next),

@@ -23,7 +23,7 @@ fn push_if(kept: &mut Vec<StateID>, id: StateID, passes: bool)
     ensures capacity { vec_capacity kept.old ≤ vec_capacity kept.new }
 {
     if passes {
-        kept.push(id).unwrap();
+        kept.push_reserved(id);
     }
 }
 

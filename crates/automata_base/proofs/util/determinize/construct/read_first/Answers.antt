@@ -33,8 +33,8 @@ loop-i-init c =
       capacity = omega arith;
     }
 
-pub unwrap-requires : goal.unwrap-requires
-unwrap-requires c =
+pub push_reserved-requires : goal.push_reserved-requires
+push_reserved-requires c =
     let low = below_at c.args.list.now (length c.args.nfa.now.states) c.loop-i.i c.index-list-i.result c.requires.below c.loop-i-test.true c.index-list-i.is in
     let here : accepts (nfa_of c.args.nfa.now) c.index-list-i.result ≡ Some c.in-Some.pattern =
     ap accepts_at (node_at c.args.nfa.now.states c.index-list-i.result c.state_at-state.result.now c.state_at-state.result.now low c.state_at-state.ensures.same) ∙ (sym c.pattern_of.ensures ∙ c.in-Some.is) in
@@ -43,7 +43,7 @@ unwrap-requires c =
     let len : vec_len c.loop-i.patterns ≡ length c.loop-i.patterns.items = c.loop-i.patterns.ok.0 in
     let kept : vec_capacity c.args.patterns.now ≤ vec_capacity c.loop-i.patterns = c.loop-i.invariant.capacity in
     let room : length c.args.nfa.now.start_pattern ≤ vec_capacity c.args.patterns.now = c.requires.patterns in
-    c.push.ensures.succeeds (omega arith)
+    omega arith
 
 pub returns-in-Some-clause-matched : goal.returns-in-Some-clause-matched
 returns-in-Some-clause-matched c =
@@ -51,8 +51,7 @@ returns-in-Some-clause-matched c =
     let here : accepts (nfa_of c.args.nfa.now) c.index-list-i.result ≡ Some c.in-Some.pattern =
     ap accepts_at (node_at c.args.nfa.now.states c.index-list-i.result c.state_at-state.result.now c.state_at-state.result.now low c.state_at-state.ensures.same) ∙ (sym c.pattern_of.ensures ∙ c.in-Some.is) in
     let below : c.in-Some.pattern < length c.args.nfa.now.start_pattern = c.state_at-state.ensures.door.patterns c.index-list-i.result c.in-Some.pattern here in
-    let items : c.push.new.self.items ≡ c.loop-i.patterns.items ++ c.in-Some.pattern ∷ [] = rw c.unwrap.ensures at c.push.ensures.items in
-    let one : c.push.new.self.items ≡ c.in-Some.pattern ∷ [] = items ∙ ap (λ z. z ++ c.in-Some.pattern ∷ []) c.loop-i.invariant.none in
+    let one : c.push_reserved.new.self.items ≡ c.in-Some.pattern ∷ [] = c.push_reserved.ensures.items ∙ ap (λ z. z ++ c.in-Some.pattern ∷ []) c.loop-i.invariant.none in
     subst (AreMatched c.args.nfa.now (cut (nfa_of c.args.nfa.now) c.args.list.now)) (sym one)
     (matched_one c.args.nfa.now (cut (nfa_of c.args.nfa.now) c.args.list.now) c.in-Some.pattern below
     (cut_picks_here (nfa_of c.args.nfa.now) c.args.list.now c.loop-i.i c.index-list-i.result c.in-Some.pattern c.loop-i-test.true c.index-list-i.is here c.loop-i.invariant.picks))
