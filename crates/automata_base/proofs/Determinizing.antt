@@ -8,6 +8,7 @@ pub mod Dense
 pub mod Distinct
 pub mod Holding
 pub mod Keeping
+pub mod Leaves
 pub mod Made
 pub mod Making
 pub mod Repeats

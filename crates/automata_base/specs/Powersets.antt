@@ -9,4 +9,5 @@ pub mod Equal
 pub mod Key
 pub mod Code
 pub mod Scratch
+pub mod Shared
 pub mod Members

@@ -3,6 +3,7 @@ pub mod Passes
 pub mod ComputedPass
 pub mod Once
 pub mod Rooms
+pub mod Expanding
 pub mod SparseSet
 pub mod Boundaries
 pub mod DepthFirst

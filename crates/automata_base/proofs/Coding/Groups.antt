@@ -120,6 +120,14 @@ counted-all bytes i count all l p =
     let none : length (numbers (drop i bytes)) ≡ 0 = ap (λ x. length (numbers x)) (drop_all i bytes l) in
     omega (arith, p, none)
 
+pub length-numbers_most : (bytes : List ℕ) → length (numbers bytes) ≤ length bytes
+unfolding numbers
+length-numbers_most [] = omega arith
+length-numbers_most (b ∷ bytes) =
+    let rest = length-numbers_most bytes in
+    cond_both (nat_lt b 128) (b ∷ numbers bytes) (with_low (b - 128) (numbers bytes)) (λ x. length x ≤ suc (length bytes))
+    (λ e. omega (arith, rest)) (λ e. omega (arith, rest, length-with_low (b - 128) (numbers bytes)))
+
 pub length-ids_of : (before : ℕ) (zs : List ℕ) → length (ids_of before zs) ≡ length zs
 unfolding ids_of
 length-ids_of before [] = refl

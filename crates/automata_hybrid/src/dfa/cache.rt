@@ -11,7 +11,7 @@ ghost use Rattle.automata_hybrid.specs.Cache.Table.{HasItsMatchTag};
 ghost use Rattle.automata_hybrid.specs.Cache.Table.{IsNewState};
 ghost use Rattle.automata_hybrid.specs.Cache.Stores.{IsCacheError, IsSoundStore, cell_of, with_next, with_start};
 ghost use Rattle.automata_hybrid.specs.Cache.Stores.{with_searched};
-ghost use Rattle.automata_hybrid.specs.Cache.Usage.{usage, GivesUp};
+ghost use Rattle.automata_hybrid.specs.Cache.Usage.{usage, Fits, GivesUp};
 ghost use Rattle.automata_hybrid.specs.Cache.Changes.{AddsNext, AddsStart, IsAddedStart};
 ghost use Rattle.automata_hybrid.specs.Cache.Caches.{IsRow, IsCacheOf, fresh_cache, counted, with_store};
 ghost use Rattle.automata_hybrid.specs.Cache.Growth.{IsAgainEffect};
@@ -273,13 +273,36 @@ impl Cache {
         ensures gives_up { IfErr result (λ e. IsCacheError e → GivesUp self.old.store state) }
         ensures err { OnErr result (self.new ≡ self.old) }
     {
-        if self.store.fits(&state) {
-            let to = self.store.add_row(state, false)?;
+        let bytes = self.store.cost_of(&state);
+        if self.store.fits(bytes) {
+            let to = self.store.add_row(state, false, bytes)?;
             return Ok((from, to));
         }
+        self.clear_and_add_next(dfa, from, state, bytes)
+    }
+
+    /// The same where the state does not fit. What a clear needs on the stack is prepared here alone.
+    #[inline(never)]
+    fn clear_and_add_next(
+        &mut self,
+        dfa: &DFA,
+        from: LazyStateID,
+        state: State,
+        bytes: usize,
+    ) -> Result<(LazyStateID, LazyStateID), StepError>
+        requires dfa { IsCacheOf self.old dfa.now }
+        requires valid { IsValid self.old.store.table from }
+        requires new { IsNewState self.old.store.table state }
+        requires bytes { bytes ≡ cost state }
+        requires full { Fits self.old.store (cost state) → ⊥ }
+        ensures answer { IfOk result (λ p. AddsNext self.old.store self.new.store from state p.0 p.1) }
+        ensures counted { self.new.count ≡ self.old.count }
+        ensures gives_up { IfErr result (λ e. IsCacheError e → GivesUp self.old.store state) }
+        ensures err { OnErr result (self.new ≡ self.old) }
+    {
         let mut fresh = self.store.cleared(dfa)?;
         let from = fresh.keep_saved(&self.store.table, from)?;
-        let to = self.store.replace(fresh, state, false)?;
+        let to = self.store.replace(fresh, state, false, bytes)?;
         Ok((from, to))
     }
 
@@ -339,12 +362,35 @@ impl Cache {
         ensures gives_up { IfErr result (λ e. IsCacheError e → GivesUp self.old.store state) }
         ensures err { OnErr result (self.new ≡ self.old) }
     {
-        if self.store.fits(&state) {
-            let id = self.store.add_row(state, started)?;
+        let bytes = self.store.cost_of(&state);
+        if self.store.fits(bytes) {
+            let id = self.store.add_row(state, started, bytes)?;
             return Ok(id);
         }
+        self.clear_and_add_start(dfa, state, started, bytes)
+    }
+
+    /// The same where the state does not fit.
+    #[inline(never)]
+    fn clear_and_add_start(
+        &mut self,
+        dfa: &DFA,
+        state: State,
+        started: bool,
+        bytes: usize,
+    ) -> Result<LazyStateID, StepError>
+        requires dfa { IsCacheOf self.old dfa.now }
+        requires new { IsNewState self.old.store.table state }
+        requires bytes { bytes ≡ cost state }
+        requires full { Fits self.old.store (cost state) → ⊥ }
+        ensures answer { IfOk result (AddsStart self.old.store self.new.store
+            (record { state = state; started = started })) }
+        ensures counted { self.new.count ≡ self.old.count }
+        ensures gives_up { IfErr result (λ e. IsCacheError e → GivesUp self.old.store state) }
+        ensures err { OnErr result (self.new ≡ self.old) }
+    {
         let fresh = self.store.cleared(dfa)?;
-        let id = self.store.replace(fresh, state, started)?;
+        let id = self.store.replace(fresh, state, started, bytes)?;
         Ok(id)
     }
 

@@ -6,8 +6,8 @@ ghost use Rattle.automata_hybrid.specs.Cache.Table.{id_of, Names, IsValid, row_c
 ghost use Rattle.automata_hybrid.specs.Cache.Clears.{AllStarts, IsPut, KeepsSlot, KeepsAllStarts};
 ghost use Rattle.automata_hybrid.specs.Cache.Ids.{offset_limit};
 
-use crate::dfa::DFA;
 use crate::dfa::table::Table;
+use crate::dfa::{DFA, row};
 use crate::id::LazyStateID;
 use std::alloc::AllocError;
 
@@ -28,7 +28,8 @@ pub fn keep_row(kept: &mut Table, old: &Table, id: LazyStateID) -> Result<LazySt
     if let Some(found) = kept.get(&key) {
         return Ok(found);
     }
-    let added = kept.add(row.state, row.started)?;
+    let bytes = row::cost(&row.state);
+    let added = kept.add(row.state, row.started, bytes)?;
     Ok(added)
 }
 

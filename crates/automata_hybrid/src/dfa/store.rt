@@ -24,6 +24,9 @@ use std::marker::Model;
 
 const OFFSET_LIMIT: usize = LazyStateID::OFFSET_LIMIT as usize;
 
+/// How many rows a new cache has room for, so that a short search does not move them.
+const FIRST_ROWS: usize = 8;
+
 /// A lazy DFA's cache, whose accounted bytes never pass its capacity.
 #[derive(Drop)]
 pub struct Store {
@@ -79,7 +82,7 @@ impl Store {
         ensures { IfOk result (λ c. c ≡ fresh_store dfa.now) }
     {
         let _capacity = settings.capacity;
-        let table = Table::fresh(dfa, stride, template, 0)?;
+        let table = Table::fresh(dfa, stride, template, FIRST_ROWS)?;
         let mut starts = Vec::new(dfa.alloc());
         starts.resize(slots, LazyStateID::UNKNOWN)?;
         Ok(Store {
@@ -109,16 +112,24 @@ impl Store {
             + self.settings.fixed
     }
 
-    /// Whether a new state fits.
-    pub fn fits(&self, state: &State) -> bool
+    /// The accounted bytes of a new state. They are counted once, and handed on.
+    pub fn cost_of(&self, state: &State) -> usize
         requires { cost state.now ≤ greatest self.now.table.of }
-        ensures { IsTrue result ↔ Fits self.now (cost state.now) }
+        ensures { result ≡ cost state.now }
+    {
+        let _within = self.memory_usage();
+        row::cost(state)
+    }
+
+    /// Whether a new state of so many bytes fits.
+    pub fn fits(&self, bytes: usize) -> bool
+        requires { bytes ≤ greatest self.now.table.of }
+        ensures { IsTrue result ↔ Fits self.now bytes }
     {
         let used = self.memory_usage();
         let room = self.settings.capacity - used;
-        let extra = row::cost(state);
         let row = CELL_SIZE * self.table.stride() + ROW_SIZE + ENTRY_SIZE;
-        row + extra <= room && self.table.cell_count() < OFFSET_LIMIT
+        row + bytes <= room && self.table.cell_count() < OFFSET_LIMIT
     }
 
     /// Whether a search gives up in place of a clear.
@@ -158,9 +169,15 @@ impl Store {
         })
     }
 
-    /// Adds a row for a state that fits.
-    pub fn add_row(&mut self, state: State, started: bool) -> Result<LazyStateID, AllocError>
+    /// Adds a row for a state that fits, whose accounted bytes these are.
+    pub fn add_row(
+        &mut self,
+        state: State,
+        started: bool,
+        bytes: usize,
+    ) -> Result<LazyStateID, AllocError>
         requires new { IsNewState self.old.table state }
+        requires bytes { bytes ≡ cost state }
         requires fits { Fits self.old (cost state) }
         ensures ok { OnOk result (self.new ≡ grown self.old (record { state = state; started = started })) }
         ensures named { IfOk result (λ id. Names self.new.table id state) }
@@ -169,7 +186,7 @@ impl Store {
         ensures err { OnErr result (self.new ≡ self.old) }
     {
         self.table.see_rows();
-        let added = self.table.add(state, started)?;
+        let added = self.table.add(state, started, bytes)?;
         Ok(added)
     }
 
@@ -197,8 +214,10 @@ impl Store {
         mut fresh: Store,
         state: State,
         started: bool,
+        bytes: usize,
     ) -> Result<LazyStateID, AllocError>
         requires room { FitsAny fresh }
+        requires bytes { bytes ≡ cost state }
         requires new { IsNewState fresh.table state }
         ensures ok { OnOk result (self.new ≡ grown fresh (record { state = state; started = started })) }
         ensures named { IfOk result (λ id. Names self.new.table id state) }
@@ -206,7 +225,7 @@ impl Store {
         ensures of { OnOk result (self.new.table.of ≡ fresh.table.of) }
         ensures err { OnErr result (self.new ≡ self.old) }
     {
-        let id = fresh.add_row(state, started)?;
+        let id = fresh.add_row(state, started, bytes)?;
         *self = fresh;
         Ok(id)
     }

@@ -132,9 +132,15 @@ impl Table {
         self.costs
     }
 
-    /// Adds a row for a state that the table lacks. A refusal changes nothing.
-    pub fn add(&mut self, state: State, started: bool) -> Result<LazyStateID, AllocError>
+    /// Adds a row for a state that the table lacks, whose accounted bytes these are. A refusal changes nothing.
+    pub fn add(
+        &mut self,
+        state: State,
+        started: bool,
+        bytes: usize,
+    ) -> Result<LazyStateID, AllocError>
         requires new { IsNewState self.old state }
+        requires bytes { bytes ≡ cost state }
         requires fits { length self.old.cells < offset_limit }
         requires costs { sum_by row_cost self.old.rows + cost state < 2 ^ 64 }
         ensures ok { OnOk result (self.new ≡ with_row self.old (record { state = state; started = started })) }
@@ -148,7 +154,6 @@ impl Table {
         self.map.reserve(1)?;
         let key = state.key()?;
         let matches = row::has_patterns(&state);
-        let cost = row::cost(&state);
         let offset = self.cells.len();
         let id = LazyStateID::of_row(offset as u32, started, matches);
         let grown: Result<(), AllocError> = self.cells.extend_from_slice(&self.template);
@@ -159,7 +164,7 @@ impl Table {
             .map
             .insert(key, id);
         let _ = inserted.unwrap();
-        self.costs += cost;
+        self.costs += bytes;
         Ok(id)
     }
 

@@ -1,5 +1,6 @@
 ghost use Rattle.std.specs.Prelude.{◌≡◌, ◌<◌, ◌||◌, eqb, Some};
-ghost use Rattle.std.specs.Prelude.{None};
+ghost use Rattle.std.specs.Prelude.{None, length, slice_index_or};
+ghost use Rattle.automata_base.specs.Nfas.Accepted.{IsDoor};
 ghost use Rattle.automata_base.specs.Lists.{nth};
 ghost use Rattle.automata_base.specs.Paths.Paths.{all_true};
 ghost use Rattle.automata_base.specs.Powersets.Closure.{children_at};
@@ -14,10 +15,22 @@ ghost use Rattle.automata_base.specs.Nfas.Nfa.{takes_in};
 ghost use Rattle.automata_base.specs.Haystacks.Looks.{within};
 ghost use Rattle.automata_base.specs.Nfas.Reach.{look_target};
 
-use crate::nfa::thompson::{State, Transition};
+use crate::nfa::thompson::{NFA, State, Transition};
 use crate::util::look::LookSet;
 use crate::util::primitives::{PatternID, StateID};
 use crate::util::search::MatchKind;
+
+/// The state with this ID, which has to be below the number of states. A loop takes the NFA's states once, before it,
+/// and finds each by one load.
+pub fn state_at<'a>(nfa: &NFA, states: &'a [State], id: StateID) -> &'a State
+    requires states { states.now ≡ nfa.now.states }
+    requires id { id < length states.now }
+    ensures same { result.now ≡ slice_index_or nfa.now.states id result.now }
+    ensures door { IsDoor nfa.now }
+{
+    let _door = nfa.states();
+    &states[id.as_usize()]
+}
 
 /// Whether a powerset state keeps the state.
 pub fn stays(state: &State) -> bool

@@ -1,5 +1,7 @@
 ghost use Rattle.std.specs.Prelude.{◌≡◌, ◌+◌, ◌<◌, ◌≤◌, ◌∷◌, ◌++◌, List, ℕ, length, reverse, All, vec_len};
-ghost use Rattle.std.specs.Prelude.{vec_capacity, option_to_list, IsTrue, []};
+ghost use Rattle.std.specs.Prelude.{vec_capacity, option_to_list, IsTrue, [], drop};
+ghost use Rattle.automata_base.specs.Lists.{In};
+ghost use Rattle.automata_base.specs.Retraced.Expanding.{IsExpanded, Extends};
 ghost use Rattle.automata_base.specs.Nfas.Nfa.{Truth};
 ghost use Rattle.automata_base.specs.Paths.Paths.{IsClosure};
 ghost use Rattle.automata_base.specs.Powersets.Closure.{children_at, IsUnderWay};
@@ -7,6 +9,7 @@ ghost use Rattle.automata_base.specs.Nfas.Nodes.{node_of, nfa_of};
 ghost use Rattle.automata_base.specs.Retraced.Rooms.{IsClosureRoom};
 ghost use Rattle.automata_base.specs.Haystacks.LookSets.{truth_of};
 
+use crate::nfa::thompson::reading::state_at;
 use crate::nfa::thompson::{NFA, State};
 use crate::util::determinize::sparse_set::SparseSet;
 use crate::util::look::LookSet;
@@ -19,44 +22,7 @@ fn push_reversed(stack: &mut Vec<StateID>, states: &[StateID])
     ensures capacity { vec_capacity stack.old ≤ vec_capacity stack.new }
 {
     for i in (0..states.len()).rev() {
-        stack.push(states[i]).unwrap();
-    }
-}
-
-// Gives the first state that an epsilon edge leads to, and puts the others on the stack.
-fn expand(state: &State, looks: LookSet, stack: &mut Vec<StateID>) -> Option<StateID>
-    requires { vec_len stack.old + length (children_at (node_of state.now) (truth_of looks))
-        ≤ vec_capacity stack.old + 1 }
-    ensures pushed { option_to_list result ++ reverse stack.new.items
-        ≡ children_at (node_of state.now) (truth_of looks) ++ reverse stack.old.items }
-    ensures capacity { vec_capacity stack.old ≤ vec_capacity stack.new }
-{
-    match state {
-        State::Look { look, next } => {
-            if looks.contains(*look) {
-                Some(*next)
-            } else {
-                None
-            }
-        }
-        State::Union { alternates } => {
-            if alternates.is_empty() {
-                None
-            } else {
-                push_reversed(stack, &alternates[1..]);
-                Some(alternates[0])
-            }
-        }
-        State::BinaryUnion { alt1, alt2 } => {
-            stack.push(*alt2).unwrap();
-            Some(*alt1)
-        }
-        State::Capture { next, .. } => Some(*next),
-        State::ByteRange { .. }
-        | State::Sparse(_)
-        | State::Dense(_)
-        | State::Fail
-        | State::Match { .. } => None,
+        stack.push_reserved(states[i]);
     }
 }
 
@@ -77,6 +43,76 @@ fn is_leaf(state: &State) -> bool
     }
 }
 
+// Visits the states at the front of a list that no epsilon edge leaves, and gives how many these are.
+fn visit_leaves(nfa: &NFA, list: &[StateID], set: &mut SparseSet) -> usize
+    requires below { (q : ℕ) → In q list.now → q < length nfa.now.states }
+    requires whole { set.old.capacity ≡ length nfa.now.states }
+    ensures few { result ≤ length list.now }
+    ensures way { (truth : Truth) (roots tail : List ℕ)
+        → IsUnderWay (nfa_of nfa.now) truth roots (list.now ++ tail) set.old.items
+        → IsUnderWay (nfa_of nfa.now) truth roots (drop result list.now ++ tail) set.new.items }
+    ensures grown { Extends set.old.items set.new.items }
+    ensures whole { set.new.capacity ≡ set.old.capacity }
+{
+    let states = nfa.states();
+    for i in 0..list.len() {
+        let id = list[i];
+        if !is_leaf(state_at(nfa, states, id)) {
+            return i;
+        }
+        let _added = set.insert(id);
+    }
+    list.len()
+}
+
+// Gives the first state that an epsilon edge leads to, and puts the others on the stack. States at the front that no
+// epsilon edge leaves are visited at once.
+fn expand(
+    nfa: &NFA,
+    state: &State,
+    looks: LookSet,
+    stack: &mut Vec<StateID>,
+    set: &mut SparseSet,
+) -> Option<StateID>
+    requires below { (q : ℕ) → In q (children_at (node_of state.now) (truth_of looks)) → q < length nfa.now.states }
+    requires whole { set.old.capacity ≡ length nfa.now.states }
+    requires room { vec_len stack.old + length (children_at (node_of state.now) (truth_of looks))
+        ≤ vec_capacity stack.old + 1 }
+    ensures expanded { IsExpanded (nfa_of nfa.now) (truth_of looks) (children_at (node_of state.now) (truth_of looks))
+        set.old.items set.new.items (reverse stack.old.items) (option_to_list result ++ reverse stack.new.items) }
+    ensures capacity { vec_capacity stack.old ≤ vec_capacity stack.new }
+    ensures whole { set.new.capacity ≡ set.old.capacity }
+{
+    match state {
+        State::Look { look, next } => {
+            if looks.contains(*look) {
+                Some(*next)
+            } else {
+                None
+            }
+        }
+        State::Union { alternates } => {
+            let visited = visit_leaves(nfa, alternates, set);
+            if visited == alternates.len() {
+                None
+            } else {
+                push_reversed(stack, &alternates[visited + 1..]);
+                Some(alternates[visited])
+            }
+        }
+        State::BinaryUnion { alt1, alt2 } => {
+            stack.push_reserved(*alt2);
+            Some(*alt1)
+        }
+        State::Capture { next, .. } => Some(*next),
+        State::ByteRange { .. }
+        | State::Sparse(_)
+        | State::Dense(_)
+        | State::Fail
+        | State::Match { .. } => None,
+    }
+}
+
 // Adds what epsilon edges reach from `start` to the set, by the stack.
 fn close_from(
     nfa: &NFA,
@@ -92,10 +128,11 @@ fn close_from(
         → IsUnderWay (nfa_of nfa.now) (truth_of looks) roots tail set.new.items }
     ensures room { IsClosureRoom nfa.now stack.new set.new }
 {
+    let states = nfa.states();
     let mut id = start;
     'visit: loop {
         if set.insert(id) {
-            if let Some(next) = expand(nfa.state(id), looks, stack) {
+            if let Some(next) = expand(nfa, state_at(nfa, states, id), looks, stack, set) {
                 id = next;
                 continue;
             }

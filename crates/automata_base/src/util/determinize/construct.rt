@@ -4,7 +4,7 @@ ghost use Rattle.automata_base.specs.Retraced.ComputedPass.{known_looks, any_nod
 ghost use Rattle.automata_base.specs.Powersets.Cuts.{cut, cut_for, targets};
 ghost use Rattle.automata_base.specs.Nfas.Accepted.{IsDoor};
 ghost use Rattle.automata_base.specs.Lists.{In, cons_some};
-ghost use Rattle.automata_base.specs.Haystacks.Looks.{Look};
+ghost use Rattle.automata_base.specs.Haystacks.Looks.{Look, is_word, is_byte, first_half};
 ghost use Rattle.automata_base.specs.Powersets.Results.{AreMatched, IsClosureMade, IsStartMade, IsStepMade};
 ghost use Rattle.automata_base.specs.Nfas.Nodes.{nfa_of};
 ghost use Rattle.automata_base.specs.Retraced.Once.{Distinct};
@@ -17,7 +17,7 @@ ghost use Rattle.automata_base.specs.Haystacks.LookSets.{truth_of};
 ghost use Rattle.automata_base.specs.Powersets.Closure.{IsUnderWay};
 
 use crate::nfa::thompson::NFA;
-use crate::nfa::thompson::reading::{pattern_of, target};
+use crate::nfa::thompson::reading::{pattern_of, state_at, target};
 use crate::util::determinize::closure::{close, close_one};
 use crate::util::determinize::deciding::{
     first_of, has_news, is_unit, is_word_unit, known_behind, news,
@@ -55,10 +55,19 @@ fn pick_known(some: bool, known: LookSet) -> LookSet
     if some { known } else { LookSet::empty() }
 }
 
-fn all_of(a: bool, b: bool, c: bool) -> bool
-    ensures { result ≡ (a && b && c) }
+// Whether a state that has NFA states is after a word byte, and some look of the NFA asks for that.
+fn is_after_word(nfa: &NFA, full: bool, prev: Option<u8>) -> bool
+    ensures { result ≡ (full && any_node is_word_look (nfa_of nfa.now).nodes && is_word prev) }
 {
-    a && b && c
+    full && has_word(nfa) && is_word_unit(prev)
+}
+
+// Whether a state that has NFA states is half way through a CRLF, and some look of the NFA asks for that.
+fn is_half_way(nfa: &NFA, full: bool, prev: Option<u8>) -> bool
+    ensures { result ≡ (full && any_node is_crlf_look (nfa_of nfa.now).nodes
+        && is_byte (first_half nfa.now.flags.reverse) prev) }
+{
+    full && has_crlf(nfa) && is_unit(first_of(nfa.flags().reverse), prev)
 }
 
 fn has_any(list: &[StateID]) -> bool
@@ -83,12 +92,8 @@ fn fill(nfa: &NFA, set: &SparseSet, known: LookSet, prev: Option<u8>, parts: &mu
     parts.needed = needed.bits();
     parts.known = known.bits();
     let full = has_any(parts.nfa.as_slice());
-    parts.word = all_of(full, has_word(nfa), is_word_unit(prev));
-    parts.half = all_of(
-        full,
-        has_crlf(nfa),
-        is_unit(first_of(nfa.flags().reverse), prev),
-    );
+    parts.word = is_after_word(nfa, full, prev);
+    parts.half = is_half_way(nfa, full, prev);
 }
 
 fn close_unit(
@@ -243,11 +248,12 @@ fn read_first(
     ensures patterns { vec_capacity patterns.old ≤ vec_capacity patterns.new }
 {
     patterns.clear();
+    let states = nfa.states();
     for i in 0..list.len() {
-        let state = nfa.state(list[i]);
+        let state = state_at(nfa, states, list[i]);
         match pattern_of(state) {
             Some(pattern) => {
-                patterns.push(pattern).unwrap();
+                patterns.push_reserved(pattern);
                 return;
             }
             None => {}

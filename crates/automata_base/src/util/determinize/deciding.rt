@@ -168,7 +168,23 @@ fn is_news(needed: LookSet, truth: LookSet, known: LookSet, look: Look) -> bool
     needed.contains(look) && truth.contains(look) && !known.contains(look)
 }
 
-/// Whether a needed look is true and was not known.
+// Whether a needed look is true and was not known, look by look.
+fn finds_news(needed: LookSet, truth: LookSet, known: LookSet) -> bool
+    ensures news { IsTrue result → (look : Look) × (truth_of needed look ≡ true) × (truth_of truth look ≡ true)
+        × (truth_of known look ≡ false) }
+    ensures none { IsFalse result → (look : Look) → truth_of needed look ≡ true → truth_of truth look ≡ true
+        → truth_of known look ≡ false → ⊥ }
+{
+    for index in 0..18 {
+        if is_news(needed, truth, known, Look::from_index(index)) {
+            return true;
+        }
+    }
+    false
+}
+
+/// Whether a needed look is true and was not known. Mostly none is needed, which is seen without a call.
+#[inline(always)]
 pub fn has_news(needed: LookSet, truth: LookSet, known: LookSet) -> bool
     ensures news { IsTrue result → (look : Look) × (truth_of needed look ≡ true) × (truth_of truth look ≡ true)
         × (truth_of known look ≡ false) }
@@ -178,12 +194,7 @@ pub fn has_news(needed: LookSet, truth: LookSet, known: LookSet) -> bool
     if needed.is_empty() {
         return false;
     }
-    for index in 0..18 {
-        if is_news(needed, truth, known, Look::from_index(index)) {
-            return true;
-        }
-    }
-    false
+    finds_news(needed, truth, known)
 }
 
 /// The looks that are true at the unit, where one of them is needed and was not known.

@@ -46,6 +46,7 @@ impl<'a> Iterator for Ids<'a> {
 }
 
 impl<'a> Ids<'a> {
+    ghost use Rattle.std.specs.Prelude.{length, ◌≤◌};
     ghost use Rattle.automata_base.specs.Powersets.Code.{ids_of, numbers, AreIds};
 
     /// The NFA states of these bytes.
@@ -58,6 +59,13 @@ impl<'a> Ids<'a> {
             before: 0,
         }
     }
+
+    /// No more NFA states than these are left: each takes a byte.
+    fn at_most(&self) -> usize
+        ensures { length self.now ≤ result }
+    {
+        self.rest.len()
+    }
 }
 
 /// Sets the list to the NFA states.
@@ -67,6 +75,18 @@ pub fn read_ids(ids: Ids<'_>, out: &mut Vec<StateID>) -> Result<(), AllocError>
     out.clear();
     for id in ids {
         out.push(id)?;
+    }
+    Ok(())
+}
+
+/// Sets the list to the NFA states, with room made for all of them first, so that none asks for its own.
+pub(crate) fn list_ids(ids: Ids<'_>, out: &mut Vec<StateID>) -> Result<(), AllocError>
+    ensures ok { OnOk result (out.new.items ≡ ids.entry) }
+{
+    out.clear();
+    out.reserve(ids.at_most())?;
+    for id in ids {
+        out.push_reserved(id);
     }
     Ok(())
 }

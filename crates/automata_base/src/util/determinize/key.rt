@@ -2,16 +2,16 @@
 ghost use Rattle.std.specs.Prelude.{◌≡◌, ◌⊎◌, [], IfOk};
 ghost use Rattle.automata_base.specs.Powersets.Code.{code, decoded, IsCode};
 
+use crate::util::determinize::shared::SharedBytes;
 use crate::util::determinize::state::State;
 use std::alloc::{AllocError, Global};
 use std::hash::{Hash, Hasher};
 use std::marker::Model;
-use std::rc::RcSlice;
 
 /// The bytes of a key.
 #[derive(Drop)]
 enum Bytes {
-    Shared(RcSlice<u8>),
+    Shared(SharedBytes),
     Own(Vec<u8>),
 }
 
@@ -108,12 +108,10 @@ impl Clone for Key {
 }
 
 impl Key {
-    ghost use Rattle.std.specs.Rc.{rc_slice_items};
-
     /// A key that shares these bytes.
-    pub(crate) fn shared(bytes: RcSlice<u8>) -> Key
-        requires { IsCode (rc_slice_items bytes) }
-        ensures { result ≡ decoded (rc_slice_items bytes) }
+    pub(crate) fn shared(bytes: SharedBytes) -> Key
+        requires { IsCode bytes }
+        ensures { result ≡ decoded bytes }
     {
         Key {
             bytes: Bytes::Shared(bytes),

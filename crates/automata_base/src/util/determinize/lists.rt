@@ -13,7 +13,7 @@ ghost use Rattle.automata_base.specs.Retraced.ComputedPass.{is_in};
 ghost use Rattle.std.specs.Prelude.{vec_capacity, vec_len, cond};
 
 use crate::nfa::thompson::NFA;
-use crate::nfa::thompson::reading::{add_look, pattern_of, stays};
+use crate::nfa::thompson::reading::{add_look, pattern_of, state_at, stays};
 use crate::util::look::LookSet;
 use crate::util::primitives::{PatternID, StateID};
 
@@ -23,7 +23,7 @@ fn push_if(kept: &mut Vec<StateID>, id: StateID, passes: bool)
     ensures capacity { vec_capacity kept.old ≤ vec_capacity kept.new }
 {
     if passes {
-        kept.push(id).unwrap();
+        kept.push_reserved(id);
     }
 }
 
@@ -39,9 +39,10 @@ pub fn keep_states(nfa: &NFA, states: &[StateID], kept: &mut Vec<StateID>) -> Lo
 {
     kept.clear();
     let mut looks = LookSet::empty();
+    let nodes = nfa.states();
     for i in 0..states.len() {
         let id = states[i];
-        let state = nfa.state(id);
+        let state = state_at(nfa, nodes, id);
         looks = add_look(looks, state);
         push_if(kept, id, stays(state));
     }

@@ -13,6 +13,7 @@ pub mod laws;
 pub(crate) mod lists;
 mod read;
 mod scratch;
+mod shared;
 pub(crate) mod sparse_set;
 mod state;
 mod valid;

@@ -37,7 +37,28 @@ fn groups_in(bytes: &[u8]) -> (u64, &[u8])
     }
 }
 
-/// The number in groups at the front, and what comes after it. A number of one group is read in line.
+// The number in groups at the front.
+#[inline(never)]
+fn long_number(bytes: &[u8]) -> u64
+    requires { (n : ℕ) × (tail : List ℕ) × IsFront bytes.now n tail }
+    ensures { (n : ℕ) (tail : List ℕ) → IsFront bytes.now n tail → result ≡ n }
+{
+    let (number, _) = groups_in(bytes);
+    number
+}
+
+// What comes after the number in groups at the front.
+#[inline(never)]
+fn after_long(bytes: &[u8]) -> &[u8]
+    requires { (n : ℕ) × (tail : List ℕ) × IsFront bytes.now n tail }
+    ensures { (n : ℕ) (tail : List ℕ) → IsFront bytes.now n tail → result.now ≡ tail }
+{
+    let (_, rest) = groups_in(bytes);
+    rest
+}
+
+/// The number in groups at the front, and what comes after it. A number of one group is read in line. For a longer one
+/// two calls return in registers, since room in memory for a pair would be prepared for each number.
 #[inline(always)]
 pub fn number_in(bytes: &[u8]) -> (u64, &[u8])
     requires { (n : ℕ) × (tail : List ℕ) × IsFront bytes.now n tail }
@@ -48,7 +69,7 @@ pub fn number_in(bytes: &[u8]) -> (u64, &[u8])
             return (u64::from(*first), rest);
         }
     }
-    groups_in(bytes)
+    (long_number(bytes), after_long(bytes))
 }
 
 /// One for the last byte of a number, and none for another.

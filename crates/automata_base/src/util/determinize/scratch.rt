@@ -8,7 +8,7 @@ ghost use Rattle.automata_base.specs.Paths.Starts.{IsOf};
 use crate::nfa::thompson::NFA;
 use crate::util::determinize::construct::{next_into, start_into};
 use crate::util::determinize::count::Count;
-use crate::util::determinize::ids::read_ids;
+use crate::util::determinize::ids::list_ids;
 use crate::util::determinize::key::Key;
 use crate::util::determinize::sparse_set::SparseSet;
 use crate::util::determinize::state::{Parts, State};
@@ -158,7 +158,7 @@ pub fn next_key(
     ensures count { scratch.new.count ≡ scratch.old.count + 1 }
 {
     scratch.count.tick();
-    read_ids(from.nfa(), &mut scratch.list)?;
+    list_ids(from.nfa(), &mut scratch.list)?;
     next_into(
         nfa,
         kind,

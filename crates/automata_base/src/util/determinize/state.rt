@@ -13,13 +13,13 @@ use crate::util::determinize::key::Key;
 use crate::util::determinize::read::{
     ids_in, number_count, pattern_at, pattern_count, read_patterns, u32_at,
 };
+use crate::util::determinize::shared::SharedBytes;
 use crate::util::determinize::valid::are_distinct;
 use crate::util::determinize::write::push_state;
 use crate::util::primitives::{PatternID, StateID, see_patterns};
 use std::alloc::{AllocError, Global};
 use std::hash::{Hash, Hasher};
 use std::marker::Model;
-use std::rc::RcSlice;
 
 /// The six parts of a powerset state.
 #[derive(Debug, Drop)]
@@ -80,19 +80,18 @@ impl Parts {
 /// A powerset state as coded bytes, shared. Contracts see the state and not its bytes.
 #[derive(Drop)]
 pub struct State {
-    bytes: RcSlice<u8>,
+    bytes: SharedBytes,
 }
 
 impl Model for State {
-    ghost use Rattle.std.specs.Rc.{rc_slice_items};
     ghost use Rattle.automata_base.specs.Powersets.Code.{decoded, IsCode};
     ghost use Rattle.automata_base.specs.Powersets.Powerset.{Powerset};
 
     ghost Value = { Powerset };
 
-    ghost view = { λ s. decoded (rc_slice_items s.bytes) };
+    ghost view = { λ s. decoded s.bytes };
 
-    ghost invariant = { λ s. IsCode (rc_slice_items s.bytes) };
+    ghost invariant = { λ s. IsCode s.bytes };
 }
 
 impl PartialEq for State {
@@ -104,7 +103,7 @@ impl PartialEq for State {
     ghost laws = { partial_equiv_from_equiv (decided powerset_eq powerset_eq-Decides) };
 
     fn eq(&self, other: &State) -> bool {
-        self.bytes == other.bytes
+        self.bytes.as_slice() == other.bytes.as_slice()
     }
 }
 
@@ -148,7 +147,7 @@ impl State {
     {
         let mut bytes = Vec::new(alloc);
         parts.write(&mut bytes)?;
-        let bytes = RcSlice::from_vec(bytes)?;
+        let bytes = SharedBytes::from_slice(alloc, &bytes)?;
         Ok(State { bytes })
     }
 
@@ -157,7 +156,7 @@ impl State {
         requires { IsCode bytes.now }
         ensures { IfOk result (λ s. s ≡ decoded bytes.now) }
     {
-        let bytes = RcSlice::from_slice(alloc, bytes)?;
+        let bytes = SharedBytes::from_slice(alloc, bytes)?;
         Ok(State { bytes })
     }
 

@@ -1,5 +1,5 @@
 // The bytes of a state, appended to a vector.
-ghost use Rattle.std.specs.Prelude.{◌≡◌, ◌++◌, ◌<◌, ◌^◌, length, All, OnOk};
+ghost use Rattle.std.specs.Prelude.{◌≡◌, ◌++◌, ◌<◌, ◌≤◌, ◌+◌, ◌^◌, length, All, OnOk, vec_len, vec_capacity};
 ghost use Rattle.std.specs.List.{flat_map};
 ghost use Rattle.automata_base.specs.Powersets.Code.{four_bytes, varint, ids_code, code, difference, is_listed};
 ghost use Rattle.automata_base.specs.Powersets.Code.{patterns_code};
@@ -52,16 +52,38 @@ fn difference_of(before: u32, id: u32) -> u64
     }
 }
 
+/// Appends a number where there is room for a byte of each number that is left, and leaves room for the others. Most
+/// numbers take one byte.
+#[inline(always)]
+fn push_in_room(out: &mut Vec<u8>, n: u64, left: usize) -> Result<(), AllocError>
+    requires bound { n < 2 ^ 35 }
+    requires left { 0 < left }
+    requires room { vec_len out.old + left ≤ vec_capacity out.old }
+    ensures ok { OnOk result (out.new.items ≡ out.old.items ++ varint n) }
+    ensures room { OnOk result (vec_len out.new + left ≤ vec_capacity out.new + 1) }
+{
+    if n < 128 {
+        out.push_reserved(n as u8);
+        return Ok(());
+    }
+    push_number(out, n)?;
+    out.reserve(left)?;
+    Ok(())
+}
+
 /// Appends NFA states, each by its difference to the one before.
 fn push_ids(out: &mut Vec<u8>, ids: &[StateID]) -> Result<(), AllocError>
     ensures ok { OnOk result (out.new.items ≡ out.old.items ++ ids_code 0 ids.now) }
     ensures ids { OnOk result (All IsId ids.now) }
 {
     let mut before = 0;
+    let mut left = ids.len();
+    out.reserve(left)?;
     for id in ids {
         let id = id.as_u32();
-        push_number(out, difference_of(before, id))?;
+        push_in_room(out, difference_of(before, id), left)?;
         before = id;
+        left -= 1;
     }
     Ok(())
 }

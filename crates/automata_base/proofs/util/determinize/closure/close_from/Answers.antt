@@ -8,8 +8,12 @@ use Rattle.automata_base.specs.Nfas.Accepted.{IsDoor}
 use Rattle.automata_base.specs.Nfas.Nodes.{Automaton, stack_room, node_of}
 use Rattle.automata_base.specs.Haystacks.LookSets.{truth_of}
 use Rattle.automata_base.specs.Powersets.Closure.{children_at}
-use Rattle.automata_base.proofs.Determinizing.Walking.{Walking, work, walk_begins, walk_ends, pushed_top, new_step}
+use Rattle.automata_base.specs.Powersets.Members.{Members}
+use Rattle.automata_base.proofs.Determinizing.Walking.{Walking, work, walk_begins, walk_ends, pushed_top}
 use Rattle.automata_base.proofs.Determinizing.Walking.{old_step, step_room}
+use Rattle.automata_base.proofs.Determinizing.Leaves.{expanded_step, children_below}
+use Rattle.automata_base.specs.Nfas.Nodes.{nfa_of}
+use Rattle.automata_base.specs.Retraced.Expanding.{IsExpanded}
 use Rattle.automata_base.proofs.util.determinize.closure.close_from.Goals as goal
 use Rattle.automata_base.proofs.util.determinize.closure.close_from.Goals.{then-insert+in_default, else-insert}
 
@@ -28,14 +32,25 @@ insert-requires c =
     let whole : c.visit.set.capacity ≡ length c.args.nfa.now.states = c.visit.invariant.1 in
     omega arith
 
-pub state-requires : goal.state-requires
-state-requires c = c.visit.invariant.0.below c.visit.id (inl refl)
+pub state_at-requires-clause-id : goal.state_at-requires-clause-id
+state_at-requires-clause-id c =
+    let below : c.visit.id < length c.args.nfa.now.states = c.visit.invariant.0.below c.visit.id (inl refl) in
+    let same = ap length c.states-states.ensures.same in
+    omega (arith, below, same)
 
-pub expand-requires : goal.expand-requires
-expand-requires c =
-    let room : length c.visit.stack.items + length (children_at (node_of c.state.result.now) (truth_of c.args.looks)) ≤ stack_room c.args.nfa.now.states =
-    step_room c.args.nfa.now c.args.looks c.args.set.now.items c.args.start c.visit.set.items c.visit.stack.items c.visit.id c.state.result.now
-    c.state.ensures.same (c.if-insert.ensures.new refl) c.visit.invariant.0 in
+pub expand-requires-clause-below : goal.expand-requires-clause-below
+expand-requires-clause-below c =
+    children_below c.args.nfa.now c.args.looks c.args.set.now.items c.args.start c.visit.set.items c.insert.new.self.items (reverse c.visit.stack.items) c.visit.id c.state_at.result.now
+    c.state_at.ensures.door c.state_at.ensures.same (c.if-insert.ensures.new refl) (c.if-insert.ensures.added refl) c.visit.invariant.0
+
+pub expand-requires-clause-whole : goal.expand-requires-clause-whole
+expand-requires-clause-whole c = c.if-insert.ensures.capacity ∙ c.visit.invariant.1
+
+pub expand-requires-clause-room : goal.expand-requires-clause-room
+expand-requires-clause-room c =
+    let room : length c.visit.stack.items + length (children_at (node_of c.state_at.result.now) (truth_of c.args.looks)) ≤ stack_room c.args.nfa.now.states =
+    step_room c.args.nfa.now c.args.looks c.args.set.now.items c.args.start c.visit.set.items c.visit.stack.items c.visit.id c.state_at.result.now
+    c.state_at.ensures.same (c.if-insert.ensures.new refl) c.visit.invariant.0 in
     let len : vec_len c.visit.stack ≡ length c.visit.stack.items = c.visit.stack.ok.0 in
     let kept : vec_capacity c.args.stack.now ≤ vec_capacity c.visit.stack = c.visit.invariant.2 in
     let enough : stack_room c.args.nfa.now.states ≤ vec_capacity c.args.stack.now = c.requires.room.places in
@@ -43,11 +58,11 @@ expand-requires c =
 
 -- a new state with a child
 followed : (c : goal.In-Some) →
-    Walking c.args.nfa.now c.args.looks c.args.set.now.items c.args.start c.insert.new.self.items (c.in-Some.next ∷ reverse c.expand.new.stack.items)
-    × (work c.args.nfa.now c.insert.new.self.items (c.in-Some.next ∷ reverse c.expand.new.stack.items) < work c.args.nfa.now c.visit.set.items (c.visit.id ∷ reverse c.visit.stack.items))
+    Walking c.args.nfa.now c.args.looks c.args.set.now.items c.args.start c.expand.new.set.items (c.in-Some.next ∷ reverse c.expand.new.stack.items)
+    × (work c.args.nfa.now c.expand.new.set.items (c.in-Some.next ∷ reverse c.expand.new.stack.items) < work c.args.nfa.now c.visit.set.items (c.visit.id ∷ reverse c.visit.stack.items))
 followed c =
-    new_step c.args.nfa.now c.args.looks c.args.set.now.items c.args.start c.visit.set.items c.insert.new.self.items (reverse c.visit.stack.items) (c.in-Some.next ∷ reverse c.expand.new.stack.items) c.visit.id c.state.result.now
-    c.state.ensures.door c.state.ensures.same (c.if-insert.ensures.new refl) (c.if-insert.ensures.added refl) c.in-Some.ensures.pushed c.visit.invariant.0
+    expanded_step c.args.nfa.now c.args.looks c.args.set.now.items c.args.start c.visit.set.items c.insert.new.self.items c.expand.new.set.items (reverse c.visit.stack.items) (c.in-Some.next ∷ reverse c.expand.new.stack.items) c.visit.id c.state_at.result.now
+    c.state_at.ensures.door c.state_at.ensures.same (c.if-insert.ensures.new refl) (c.if-insert.ensures.added refl) c.in-Some.ensures.expanded c.visit.invariant.0
 
 pub visit-smaller-in-Some : goal.visit-smaller-in-Some
 visit-smaller-in-Some c = (followed c).1
@@ -56,7 +71,7 @@ pub visit-preserved-in-Some : goal.visit-preserved-in-Some
 visit-preserved-in-Some c =
     let kept : vec_capacity c.args.stack.now ≤ vec_capacity c.visit.stack = c.visit.invariant.2 in
     let more : vec_capacity c.visit.stack ≤ vec_capacity c.expand.new.stack = c.in-Some.ensures.capacity in
-    ((followed c).0, c.if-insert.ensures.capacity ∙ c.visit.invariant.1, omega arith)
+    ((followed c).0, c.in-Some.ensures.whole ∙ (c.if-insert.ensures.capacity ∙ c.visit.invariant.1), omega arith)
 
 -- what a visit without a child leaves, before the next state is taken off the stack
 record Visited (a : Automaton) (looks : ℕ) (old : List ℕ) (start : ℕ) (before after : List ℕ) (id capacity : ℕ)
@@ -75,15 +90,15 @@ next_way a looks old start before after id capacity was stack rest top e v =
     subst P (pushed_top stack.items rest.items top e) (v.walking, v.less)
 
 -- it was new, and its children took what room there was
-new_visit : (a : Automaton) (looks : ℕ) (old : List ℕ) (start : ℕ) (before after : List ℕ) (id capacity : ℕ)
+new_visit : (a : Automaton) (looks : ℕ) (old : List ℕ) (start : ℕ) (before seen after : List ℕ) (id capacity : ℕ)
     (was stack : Vec ℕ Global) (state : State)
-    → IsDoor a → state ≡ get_or a.states id state → (Contains before id → ⊥) → after ≡ before ++ id ∷ []
-    → reverse stack.items ≡ children_at (node_of state) (truth_of looks) ++ reverse was.items
+    → IsDoor a → state ≡ get_or a.states id state → (Contains before id → ⊥) → seen ≡ before ++ id ∷ []
+    → IsExpanded (nfa_of a) (truth_of looks) (children_at (node_of state) (truth_of looks)) seen after (reverse was.items) (reverse stack.items)
     → Walking a looks old start before (id ∷ reverse was.items)
     → capacity ≤ vec_capacity was → vec_capacity was ≤ vec_capacity stack
     → Visited a looks old start before after id capacity was stack
-new_visit a looks old start before after id capacity was stack state door is new grown put walking kept more =
-    let step = new_step a looks old start before after (reverse was.items) (reverse stack.items) id state door is new grown put walking in
+new_visit a looks old start before seen after id capacity was stack state door is new grown put walking kept more =
+    let step = expanded_step a looks old start before seen after (reverse was.items) (reverse stack.items) id state door is new grown put walking in
     record { walking = step.0; less = step.1; room = omega arith }
 
 -- it was there
@@ -95,20 +110,28 @@ old_visit a looks old start before after id capacity was had same walking kept =
     record { walking = step.0; less = step.1; room = kept }
 
 visited : (c : goal.In-Some-pop) →
-    Visited c.args.nfa.now c.args.looks c.args.set.now.items c.args.start c.visit.set.items c.insert.new.self.items c.visit.id
+    Visited c.args.nfa.now c.args.looks c.args.set.now.items c.args.start c.visit.set.items c.if-insert.set.items c.visit.id
     (vec_capacity c.args.stack.now) c.visit.stack c.if-insert.stack
 visited c = elim c.if-insert.branch [
-  | then-insert+in_default w ↦ subst (Visited c.args.nfa.now c.args.looks c.args.set.now.items c.args.start c.visit.set.items c.insert.new.self.items c.visit.id (vec_capacity c.args.stack.now) c.visit.stack) (sym w.stack-is)
-      (new_visit c.args.nfa.now c.args.looks c.args.set.now.items c.args.start c.visit.set.items c.insert.new.self.items c.visit.id (vec_capacity c.args.stack.now) c.visit.stack w.expand.new.stack w.state.result.now
-      w.state.ensures.door w.state.ensures.same (w.if-insert.ensures.new refl) (w.if-insert.ensures.added refl) w.in_default.ensures.pushed
-      c.visit.invariant.0 c.visit.invariant.2 w.in_default.ensures.capacity)
-  | else-insert w ↦ subst (Visited c.args.nfa.now c.args.looks c.args.set.now.items c.args.start c.visit.set.items c.insert.new.self.items c.visit.id (vec_capacity c.args.stack.now) c.visit.stack) (sym w.stack-is)
-      (old_visit c.args.nfa.now c.args.looks c.args.set.now.items c.args.start c.visit.set.items c.insert.new.self.items c.visit.id (vec_capacity c.args.stack.now) c.visit.stack (w.if-insert.ensures.had refl) (w.if-insert.ensures.unchanged refl) c.visit.invariant.0 c.visit.invariant.2)
+  | then-insert+in_default w ↦ subst (λ (m : Members). Visited c.args.nfa.now c.args.looks c.args.set.now.items c.args.start c.visit.set.items m.items c.visit.id (vec_capacity c.args.stack.now) c.visit.stack c.if-insert.stack) (sym w.set-is)
+      (subst (Visited c.args.nfa.now c.args.looks c.args.set.now.items c.args.start c.visit.set.items w.expand.new.set.items c.visit.id (vec_capacity c.args.stack.now) c.visit.stack) (sym w.stack-is)
+      (new_visit c.args.nfa.now c.args.looks c.args.set.now.items c.args.start c.visit.set.items c.insert.new.self.items w.expand.new.set.items c.visit.id (vec_capacity c.args.stack.now) c.visit.stack w.expand.new.stack w.state_at.result.now
+      w.state_at.ensures.door w.state_at.ensures.same (w.if-insert.ensures.new refl) (w.if-insert.ensures.added refl) w.in_default.ensures.expanded
+      c.visit.invariant.0 c.visit.invariant.2 w.in_default.ensures.capacity))
+  | else-insert w ↦ subst (λ (m : Members). Visited c.args.nfa.now c.args.looks c.args.set.now.items c.args.start c.visit.set.items m.items c.visit.id (vec_capacity c.args.stack.now) c.visit.stack c.if-insert.stack) (sym w.set-is)
+      (subst (Visited c.args.nfa.now c.args.looks c.args.set.now.items c.args.start c.visit.set.items c.insert.new.self.items c.visit.id (vec_capacity c.args.stack.now) c.visit.stack) (sym w.stack-is)
+      (old_visit c.args.nfa.now c.args.looks c.args.set.now.items c.args.start c.visit.set.items c.insert.new.self.items c.visit.id (vec_capacity c.args.stack.now) c.visit.stack (w.if-insert.ensures.had refl) (w.if-insert.ensures.unchanged refl) c.visit.invariant.0 c.visit.invariant.2))
+]
+
+same_set : (c : goal.In-Some-pop) → c.if-insert.set.capacity ≡ c.insert.new.self.capacity
+same_set c = elim c.if-insert.branch [
+  | then-insert+in_default w ↦ ap (λ (m : Members). m.capacity) w.set-is ∙ w.in_default.ensures.whole
+  | else-insert w ↦ ap (λ (m : Members). m.capacity) w.set-is
 ]
 
 pub visit-smaller : goal.visit-smaller
 visit-smaller c =
-    (next_way c.args.nfa.now c.args.looks c.args.set.now.items c.args.start c.visit.set.items c.insert.new.self.items c.visit.id (vec_capacity c.args.stack.now) c.visit.stack c.if-insert.stack
+    (next_way c.args.nfa.now c.args.looks c.args.set.now.items c.args.start c.visit.set.items c.if-insert.set.items c.visit.id (vec_capacity c.args.stack.now) c.visit.stack c.if-insert.stack
     c.pop.new.self c.in-Some-pop.top c.in-Some-pop.ensures.items (visited c)).1
 
 pub visit-preserved : goal.visit-preserved
@@ -116,33 +139,41 @@ visit-preserved c =
     let v = visited c in
     let kept : vec_capacity c.args.stack.now ≤ vec_capacity c.if-insert.stack = v.room in
     let same : vec_capacity c.pop.new.self ≡ vec_capacity c.if-insert.stack = c.in-Some-pop.ensures.capacity in (
-      (next_way c.args.nfa.now c.args.looks c.args.set.now.items c.args.start c.visit.set.items c.insert.new.self.items c.visit.id (vec_capacity c.args.stack.now) c.visit.stack c.if-insert.stack
+      (next_way c.args.nfa.now c.args.looks c.args.set.now.items c.args.start c.visit.set.items c.if-insert.set.items c.visit.id (vec_capacity c.args.stack.now) c.visit.stack c.if-insert.stack
           c.pop.new.self c.in-Some-pop.top c.in-Some-pop.ensures.items v).0,
-      c.insert.ensures.capacity ∙ c.visit.invariant.1,
+      same_set c ∙ (c.insert.ensures.capacity ∙ c.visit.invariant.1),
       omega arith,
     )
 
 done : (c : goal.In-None) →
-    Visited c.args.nfa.now c.args.looks c.args.set.now.items c.args.start c.visit.set.items c.insert.new.self.items c.visit.id
+    Visited c.args.nfa.now c.args.looks c.args.set.now.items c.args.start c.visit.set.items c.if-insert.set.items c.visit.id
     (vec_capacity c.args.stack.now) c.visit.stack c.if-insert.stack
 done c = elim c.if-insert.branch [
-  | then-insert+in_default w ↦ subst (Visited c.args.nfa.now c.args.looks c.args.set.now.items c.args.start c.visit.set.items c.insert.new.self.items c.visit.id (vec_capacity c.args.stack.now) c.visit.stack) (sym w.stack-is)
-      (new_visit c.args.nfa.now c.args.looks c.args.set.now.items c.args.start c.visit.set.items c.insert.new.self.items c.visit.id (vec_capacity c.args.stack.now) c.visit.stack w.expand.new.stack w.state.result.now
-      w.state.ensures.door w.state.ensures.same (w.if-insert.ensures.new refl) (w.if-insert.ensures.added refl) w.in_default.ensures.pushed
-      c.visit.invariant.0 c.visit.invariant.2 w.in_default.ensures.capacity)
-  | else-insert w ↦ subst (Visited c.args.nfa.now c.args.looks c.args.set.now.items c.args.start c.visit.set.items c.insert.new.self.items c.visit.id (vec_capacity c.args.stack.now) c.visit.stack) (sym w.stack-is)
-      (old_visit c.args.nfa.now c.args.looks c.args.set.now.items c.args.start c.visit.set.items c.insert.new.self.items c.visit.id (vec_capacity c.args.stack.now) c.visit.stack (w.if-insert.ensures.had refl) (w.if-insert.ensures.unchanged refl) c.visit.invariant.0 c.visit.invariant.2)
+  | then-insert+in_default w ↦ subst (λ (m : Members). Visited c.args.nfa.now c.args.looks c.args.set.now.items c.args.start c.visit.set.items m.items c.visit.id (vec_capacity c.args.stack.now) c.visit.stack c.if-insert.stack) (sym w.set-is)
+      (subst (Visited c.args.nfa.now c.args.looks c.args.set.now.items c.args.start c.visit.set.items w.expand.new.set.items c.visit.id (vec_capacity c.args.stack.now) c.visit.stack) (sym w.stack-is)
+      (new_visit c.args.nfa.now c.args.looks c.args.set.now.items c.args.start c.visit.set.items c.insert.new.self.items w.expand.new.set.items c.visit.id (vec_capacity c.args.stack.now) c.visit.stack w.expand.new.stack w.state_at.result.now
+      w.state_at.ensures.door w.state_at.ensures.same (w.if-insert.ensures.new refl) (w.if-insert.ensures.added refl) w.in_default.ensures.expanded
+      c.visit.invariant.0 c.visit.invariant.2 w.in_default.ensures.capacity))
+  | else-insert w ↦ subst (λ (m : Members). Visited c.args.nfa.now c.args.looks c.args.set.now.items c.args.start c.visit.set.items m.items c.visit.id (vec_capacity c.args.stack.now) c.visit.stack c.if-insert.stack) (sym w.set-is)
+      (subst (Visited c.args.nfa.now c.args.looks c.args.set.now.items c.args.start c.visit.set.items c.insert.new.self.items c.visit.id (vec_capacity c.args.stack.now) c.visit.stack) (sym w.stack-is)
+      (old_visit c.args.nfa.now c.args.looks c.args.set.now.items c.args.start c.visit.set.items c.insert.new.self.items c.visit.id (vec_capacity c.args.stack.now) c.visit.stack (w.if-insert.ensures.had refl) (w.if-insert.ensures.unchanged refl) c.visit.invariant.0 c.visit.invariant.2))
+]
+
+same_set_done : (c : goal.In-None) → c.if-insert.set.capacity ≡ c.insert.new.self.capacity
+same_set_done c = elim c.if-insert.branch [
+  | then-insert+in_default w ↦ ap (λ (m : Members). m.capacity) w.set-is ∙ w.in_default.ensures.whole
+  | else-insert w ↦ ap (λ (m : Members). m.capacity) w.set-is
 ]
 
 pub returns-clause-way : goal.returns-clause-way
 returns-clause-way c =
     let none : c.if-insert.stack.items ≡ [] = nil_from_length c.if-insert.stack.items (sym c.if-insert.stack.ok.0 ∙ c.in-None.ensures.cases.0) in
-    walk_ends c.args.nfa.now c.args.looks c.args.set.now.items c.args.start c.insert.new.self.items
-    (subst (Walking c.args.nfa.now c.args.looks c.args.set.now.items c.args.start c.insert.new.self.items) (ap reverse none) (done c).walking)
+    walk_ends c.args.nfa.now c.args.looks c.args.set.now.items c.args.start c.if-insert.set.items
+    (subst (Walking c.args.nfa.now c.args.looks c.args.set.now.items c.args.start c.if-insert.set.items) (ap reverse none) (done c).walking)
 
 pub returns-clause-room : goal.returns-clause-room
 returns-clause-room c =
     let kept : vec_capacity c.args.stack.now ≤ vec_capacity c.if-insert.stack = (done c).room in
     let same : vec_capacity c.pop.new.self ≡ vec_capacity c.if-insert.stack = c.in-None.ensures.capacity in
     let enough : stack_room c.args.nfa.now.states ≤ vec_capacity c.args.stack.now = c.requires.room.places in
-    record { whole = c.insert.ensures.capacity ∙ c.visit.invariant.1; empty = search rules; places = omega arith }
+    record { whole = same_set_done c ∙ (c.insert.ensures.capacity ∙ c.visit.invariant.1); empty = search rules; places = omega arith }

@@ -1,12 +1,11 @@
 use Rattle.std.proofs.Common.{◌≡◌, ◌&&◌, ◌<◌, subst, true, ap, ◌∙◌}
 use Rattle.automata_base.specs.Lists.{pick, In}
-use Rattle.automata_base.specs.Haystacks.Looks.{is_byte, first_half}
+use Rattle.automata_base.specs.Haystacks.Looks.{is_byte, is_word, first_half}
 use Rattle.automata_base.specs.Nfas.Nfa.{keep}
 use Rattle.automata_base.specs.Retraced.ComputedPass.{any_state, any_node, is_full}
 use Rattle.automata_base.specs.Powersets.Passes.{is_word_look, is_crlf_look}
 use Rattle.automata_base.specs.Nfas.Nodes.{nfa_of}
 use Rattle.automata_base.specs.Haystacks.LookSets.{truth_of}
-use Rattle.automata_base.specs.declared.nfa.thompson.Flags.{Flags}
 use Rattle.automata_base.proofs.Determinizing.Keeping.{kept_in}
 use Rattle.automata_base.proofs.Determinizing.Making.{made, some_state}
 use Rattle.automata_base.proofs.util.determinize.construct.fill.Goals as goal
@@ -15,7 +14,7 @@ pub returns-clause-make : goal.returns-clause-make
 returns-clause-make c =
     let full : c.has_any-full.result ≡ is_full c.keep_states-needed.new.kept.items = c.has_any-full.ensures ∙ ap is_full c.as_slice-2.ensures.value in
     made (nfa_of c.args.nfa.now) c.args.parts.now.patterns.items c.args.set.now.items c.keep_states-needed.new.kept.items c.args.prev
-    c.bits-parts-2.result c.bits-parts.result c.all_of-parts.result c.all_of-parts-2.result c.bits-parts-2.ensures.small c.bits-parts.ensures.small
+    c.bits-parts-2.result c.bits-parts.result c.is_after_word-parts.result c.is_half_way-parts.result c.bits-parts-2.ensures.small c.bits-parts.ensures.small
     (c.keep_states-needed.ensures.kept ∙ ap (pick (keep (nfa_of c.args.nfa.now))) c.as_slice.ensures.items)
     (λ look. ap (λ v. truth_of v look) c.bits-parts-2.ensures.value ∙ (c.pick_known-known.ensures look
     ∙ (ap (λ b. b && truth_of c.args.known look)
@@ -23,15 +22,9 @@ returns-clause-make c =
     c.keep_states-needed.ensures.looks c.has_some-some.ensures.some c.has_some-some.ensures.none)
     ∙ ap (λ b. any_state (λ other. true) (nfa_of c.args.nfa.now) c.keep_states-needed.new.kept.items && b) (c.requires.known look))))
     (λ look. ap (λ v. truth_of v look) c.bits-parts.ensures.value ∙ c.keep_states-needed.ensures.looks look)
-    (c.all_of-parts.ensures
-    ∙ (ap (λ b. b && c.has_word.result && c.is_word_unit.result) full
-    ∙ (ap (λ b. is_full c.keep_states-needed.new.kept.items && b && c.is_word_unit.result) c.has_word.ensures
-    ∙ ap (λ b. is_full c.keep_states-needed.new.kept.items && any_node is_word_look (nfa_of c.args.nfa.now).nodes && b) c.is_word_unit.ensures)))
-    (c.all_of-parts-2.ensures
-    ∙ (ap (λ b. b && c.has_crlf.result && c.is_unit.result) full
-    ∙ (ap (λ b. is_full c.keep_states-needed.new.kept.items && b && c.is_unit.result) c.has_crlf.ensures
-    ∙ ap (λ b. is_full c.keep_states-needed.new.kept.items && any_node is_crlf_look (nfa_of c.args.nfa.now).nodes && b)
-    (c.is_unit.ensures ∙ ap (λ b. is_byte b c.args.prev) (c.first_of.ensures ∙ ap (λ (f : Flags). first_half f.reverse) c.flags.ensures)))))
+    (c.is_after_word-parts.ensures ∙ ap (λ b. b && any_node is_word_look (nfa_of c.args.nfa.now).nodes && is_word c.args.prev) full)
+    (c.is_half_way-parts.ensures
+    ∙ ap (λ b. b && any_node is_crlf_look (nfa_of c.args.nfa.now).nodes && is_byte (first_half c.args.nfa.now.flags.reverse) c.args.prev) full)
 
 pub keep_states-needed-requires-clause-below : goal.keep_states-needed-requires-clause-below
 keep_states-needed-requires-clause-below c = λ q i.

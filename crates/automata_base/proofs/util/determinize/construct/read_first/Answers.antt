@@ -14,8 +14,11 @@ use Rattle.automata_base.proofs.Determinizing.Keeping.{cut_targets_next, cut_tar
 use Rattle.automata_base.proofs.Determinizing.Keeping.{matched_one, matched_none}
 use Rattle.automata_base.proofs.util.determinize.construct.read_first.Goals as goal
 
-pub state-state-requires : goal.state-state-requires
-state-state-requires c = below_at c.args.list.now (length c.args.nfa.now.states) c.loop-i.i c.index-list-i.result c.requires.below c.loop-i-test.true c.index-list-i.is
+pub state_at-state-requires-clause-id : goal.state_at-state-requires-clause-id
+state_at-state-requires-clause-id c =
+    let below = below_at c.args.list.now (length c.args.nfa.now.states) c.loop-i.i c.index-list-i.result c.requires.below c.loop-i-test.true c.index-list-i.is in
+    let same = ap length c.states-states.ensures.same in
+    omega (arith, below, same)
 
 pub loop-i-init : goal.loop-i-init
 loop-i-init c =
@@ -30,26 +33,25 @@ loop-i-init c =
       capacity = omega arith;
     }
 
-pub unwrap-requires : goal.unwrap-requires
-unwrap-requires c =
+pub push_reserved-requires : goal.push_reserved-requires
+push_reserved-requires c =
     let low = below_at c.args.list.now (length c.args.nfa.now.states) c.loop-i.i c.index-list-i.result c.requires.below c.loop-i-test.true c.index-list-i.is in
     let here : accepts (nfa_of c.args.nfa.now) c.index-list-i.result ≡ Some c.in-Some.pattern =
-    ap accepts_at (node_at c.args.nfa.now.states c.index-list-i.result c.state-state.result.now c.state-state.result.now low c.state-state.ensures.same) ∙ (sym c.pattern_of.ensures ∙ c.in-Some.is) in
-    let below : c.in-Some.pattern < length c.args.nfa.now.start_pattern = c.state-state.ensures.door.patterns c.index-list-i.result c.in-Some.pattern here in
+    ap accepts_at (node_at c.args.nfa.now.states c.index-list-i.result c.state_at-state.result.now c.state_at-state.result.now low c.state_at-state.ensures.same) ∙ (sym c.pattern_of.ensures ∙ c.in-Some.is) in
+    let below : c.in-Some.pattern < length c.args.nfa.now.start_pattern = c.state_at-state.ensures.door.patterns c.index-list-i.result c.in-Some.pattern here in
     let none : length c.loop-i.patterns.items ≡ 0 = ap length c.loop-i.invariant.none in
     let len : vec_len c.loop-i.patterns ≡ length c.loop-i.patterns.items = c.loop-i.patterns.ok.0 in
     let kept : vec_capacity c.args.patterns.now ≤ vec_capacity c.loop-i.patterns = c.loop-i.invariant.capacity in
     let room : length c.args.nfa.now.start_pattern ≤ vec_capacity c.args.patterns.now = c.requires.patterns in
-    c.push.ensures.succeeds (omega arith)
+    omega arith
 
 pub returns-in-Some-clause-matched : goal.returns-in-Some-clause-matched
 returns-in-Some-clause-matched c =
     let low = below_at c.args.list.now (length c.args.nfa.now.states) c.loop-i.i c.index-list-i.result c.requires.below c.loop-i-test.true c.index-list-i.is in
     let here : accepts (nfa_of c.args.nfa.now) c.index-list-i.result ≡ Some c.in-Some.pattern =
-    ap accepts_at (node_at c.args.nfa.now.states c.index-list-i.result c.state-state.result.now c.state-state.result.now low c.state-state.ensures.same) ∙ (sym c.pattern_of.ensures ∙ c.in-Some.is) in
-    let below : c.in-Some.pattern < length c.args.nfa.now.start_pattern = c.state-state.ensures.door.patterns c.index-list-i.result c.in-Some.pattern here in
-    let items : c.push.new.self.items ≡ c.loop-i.patterns.items ++ c.in-Some.pattern ∷ [] = rw c.unwrap.ensures at c.push.ensures.items in
-    let one : c.push.new.self.items ≡ c.in-Some.pattern ∷ [] = items ∙ ap (λ z. z ++ c.in-Some.pattern ∷ []) c.loop-i.invariant.none in
+    ap accepts_at (node_at c.args.nfa.now.states c.index-list-i.result c.state_at-state.result.now c.state_at-state.result.now low c.state_at-state.ensures.same) ∙ (sym c.pattern_of.ensures ∙ c.in-Some.is) in
+    let below : c.in-Some.pattern < length c.args.nfa.now.start_pattern = c.state_at-state.ensures.door.patterns c.index-list-i.result c.in-Some.pattern here in
+    let one : c.push_reserved.new.self.items ≡ c.in-Some.pattern ∷ [] = c.push_reserved.ensures.items ∙ ap (λ z. z ++ c.in-Some.pattern ∷ []) c.loop-i.invariant.none in
     subst (AreMatched c.args.nfa.now (cut (nfa_of c.args.nfa.now) c.args.list.now)) (sym one)
     (matched_one c.args.nfa.now (cut (nfa_of c.args.nfa.now) c.args.list.now) c.in-Some.pattern below
     (cut_picks_here (nfa_of c.args.nfa.now) c.args.list.now c.loop-i.i c.index-list-i.result c.in-Some.pattern c.loop-i-test.true c.index-list-i.is here c.loop-i.invariant.picks))
@@ -58,7 +60,7 @@ pub returns-in-Some-clause-closure : goal.returns-in-Some-clause-closure
 returns-in-Some-clause-closure c =
     let low = below_at c.args.list.now (length c.args.nfa.now.states) c.loop-i.i c.index-list-i.result c.requires.below c.loop-i-test.true c.index-list-i.is in
     let here : accepts (nfa_of c.args.nfa.now) c.index-list-i.result ≡ Some c.in-Some.pattern =
-    ap accepts_at (node_at c.args.nfa.now.states c.index-list-i.result c.state-state.result.now c.state-state.result.now low c.state-state.ensures.same) ∙ (sym c.pattern_of.ensures ∙ c.in-Some.is) in
+    ap accepts_at (node_at c.args.nfa.now.states c.index-list-i.result c.state_at-state.result.now c.state_at-state.result.now low c.state_at-state.ensures.same) ∙ (sym c.pattern_of.ensures ∙ c.in-Some.is) in
     let roots = targets (nfa_of c.args.nfa.now) (Some c.args.u) (cut (nfa_of c.args.nfa.now) c.args.list.now) in
     under_way_done (nfa_of c.args.nfa.now) (truth_of c.args.known) roots c.loop-i.set.items
     (subst (λ z. IsUnderWay (nfa_of c.args.nfa.now) (truth_of c.args.known) roots z c.loop-i.set.items)
@@ -67,15 +69,15 @@ returns-in-Some-clause-closure c =
 pub close_maybe-requires-clause-start : goal.close_maybe-requires-clause-start
 close_maybe-requires-clause-start c = λ q s.
     let low = below_at c.args.list.now (length c.args.nfa.now.states) c.loop-i.i c.index-list-i.result c.requires.below c.loop-i-test.true c.index-list-i.is in
-    let at = node_at c.args.nfa.now.states c.index-list-i.result c.state-state.result.now c.state-state.result.now low c.state-state.ensures.same in
+    let at = node_at c.args.nfa.now.states c.index-list-i.result c.state_at-state.result.now c.state_at-state.result.now low c.state_at-state.ensures.same in
     let none : accepts (nfa_of c.args.nfa.now) c.index-list-i.result ≡ None = ap accepts_at at ∙ (sym c.pattern_of.ensures ∙ c.in-None.is) in
     let here : takes (nfa_of c.args.nfa.now) c.index-list-i.result c.args.u ≡ c.target.result = ap (λ m. takes_at m c.args.u) at ∙ sym c.target.ensures in
-    subst (λ z. q < z) (nodes_length c.args.nfa.now.states) (c.state-state.ensures.door.range.1 c.index-list-i.result c.args.u q (here ∙ s))
+    subst (λ z. q < z) (nodes_length c.args.nfa.now.states) (c.state_at-state.ensures.door.range.1 c.index-list-i.result c.args.u q (here ∙ s))
 
 pub loop-i-preserved : goal.loop-i-preserved
 loop-i-preserved c =
     let low = below_at c.args.list.now (length c.args.nfa.now.states) c.loop-i.i c.index-list-i.result c.requires.below c.loop-i-test.true c.index-list-i.is in
-    let at = node_at c.args.nfa.now.states c.index-list-i.result c.state-state.result.now c.state-state.result.now low c.state-state.ensures.same in
+    let at = node_at c.args.nfa.now.states c.index-list-i.result c.state_at-state.result.now c.state_at-state.result.now low c.state_at-state.ensures.same in
     let none : accepts (nfa_of c.args.nfa.now) c.index-list-i.result ≡ None = ap accepts_at at ∙ (sym c.pattern_of.ensures ∙ c.in-None.is) in
     let here : takes (nfa_of c.args.nfa.now) c.index-list-i.result c.args.u ≡ c.target.result = ap (λ m. takes_at m c.args.u) at ∙ sym c.target.ensures in
     let roots = targets (nfa_of c.args.nfa.now) (Some c.args.u) (cut (nfa_of c.args.nfa.now) c.args.list.now) in

@@ -11,8 +11,11 @@ use Rattle.automata_base.proofs.Determinizing.Keeping.{looks_done, kept_done}
 use Rattle.automata_base.proofs.util.determinize.lists.keep_states.Goals as goal
 use Rattle.automata_base.proofs.Paths.LookSets.{truth_of_none}
 
-pub state-state-requires : goal.state-state-requires
-state-state-requires c = below_at c.args.states.now (length c.args.nfa.now.states) c.loop-i.i c.index-states-i.result c.requires.below c.loop-i-test.true c.index-states-i.is
+pub state_at-state-requires-clause-id : goal.state_at-state-requires-clause-id
+state_at-state-requires-clause-id c =
+    let below = below_at c.args.states.now (length c.args.nfa.now.states) c.loop-i.i c.index-states-i.result c.requires.below c.loop-i-test.true c.index-states-i.is in
+    let same = ap length c.states-nodes.ensures.same in
+    omega (arith, below, same)
 
 pub loop-i-init : goal.loop-i-init
 loop-i-init c = (
@@ -33,8 +36,8 @@ push_if-requires c =
 pub loop-i-preserved : goal.loop-i-preserved
 loop-i-preserved c =
     let below = below_at c.args.states.now (length c.args.nfa.now.states) c.loop-i.i c.index-states-i.result c.requires.below c.loop-i-test.true c.index-states-i.is in
-    let here : node (nfa_of c.args.nfa.now) c.index-states-i.result ≡ node_of c.state-state.result.now =
-    node_at c.args.nfa.now.states c.index-states-i.result c.state-state.result.now c.state-state.result.now below c.state-state.ensures.same in (
+    let here : node (nfa_of c.args.nfa.now) c.index-states-i.result ≡ node_of c.state_at-state.result.now =
+    node_at c.args.nfa.now.states c.index-states-i.result c.state_at-state.result.now c.state_at-state.result.now below c.state_at-state.ensures.same in (
       keep_next (nfa_of c.args.nfa.now) c.args.states.now c.loop-i.kept.items c.push_if.new.kept.items c.loop-i.i c.index-states-i.result c.stays.result
           c.loop-i-test.true c.index-states-i.is (c.stays.ensures ∙ ap stays_at (sym here)) c.push_if.ensures.items c.loop-i.invariant.0,
       room_next c.loop-i.kept.items c.push_if.new.kept.items c.loop-i.i c.index-states-i.result c.stays.result c.push_if.ensures.items c.loop-i.invariant.1,

@@ -1,28 +1,19 @@
 use Rattle.std.proofs.Common.{refl, sym, subst}
 use Rattle.automata_hybrid.specs.declared.dfa.row.Row.{Row}
 use Rattle.automata_hybrid.specs.Cache.Caches.{CacheView}
+use Rattle.automata_hybrid.specs.Cache.Usage.{Fits}
 use Rattle.automata_hybrid.specs.Cache.Changes.{AddsStart}
 use Rattle.automata_hybrid.specs.Cache.Table.{IsNewState}
 use Rattle.automata_hybrid.proofs.Adding.{new_there, start_clears, start_fits}
 use Rattle.automata_hybrid.proofs.Searching.{false_true}
 use Rattle.automata_hybrid.proofs.dfa.cache.Cache.add_start.Goals as goal
 
-pub replace-requires-clause-new : goal.replace-requires-clause-new
-replace-requires-clause-new c =
-    let new : IsNewState c.self.inside.store.table c.args.state = subst (λ (v : CacheView). IsNewState v.store.table c.args.state) (sym c.self.view_is) c.requires.new in
-    new_there c.self.inside.store.table c.in_ok-fresh.fresh.table c.args.state c.in_ok-fresh.ensures.cleared.kept.of
-    (c.in_ok-fresh.ensures.cleared.kept.absent c.args.state new.lacks.0) new
-
 pub returns-then-fits-clause-answer : goal.returns-then-fits-clause-answer
 returns-then-fits-clause-answer c =
     let r : Row = record { state = c.args.state; started = c.args.started } in
     subst (λ (v : CacheView). AddsStart v.store c.add_row.new.self r c.in_ok-id.id) c.self.view_is
-    (start_fits c.self.inside.store c.add_row.new.self r c.in_ok-id.id (c.if-fits.ensures.0 refl) c.in_ok-id.ensures.ok c.in_ok-id.ensures.named)
+    (start_fits c.self.inside.store c.add_row.new.self r c.in_ok-id.id (subst (Fits c.self.inside.store) c.cost_of-bytes.ensures (c.if-fits.ensures.0 refl)) c.in_ok-id.ensures.ok c.in_ok-id.ensures.named)
 
-pub returns-clause-answer : goal.returns-clause-answer
-returns-clause-answer c =
-    let r : Row = record { state = c.args.state; started = c.args.started } in
-    subst (λ (v : CacheView). AddsStart v.store c.replace.new.self r c.in_ok-id-2.id) c.self.view_is
-    (start_clears c.self.inside.store c.in_ok-fresh.fresh c.replace.new.self r c.in_ok-id-2.id
-    (λ fits. false_true (c.if-fits.ensures.1 fits))
-    c.in_ok-fresh.ensures.cleared c.in_ok-id-2.ensures.ok c.in_ok-id-2.ensures.named)
+pub clear_and_add_start-requires-clause-full : goal.clear_and_add_start-requires-clause-full
+clear_and_add_start-requires-clause-full c = λ fits.
+    false_true (c.if-fits.ensures.1 (subst (λ (v : CacheView). Fits v.store c.cost_of-bytes.result) (sym c.self.view_is) (subst (Fits c.args.self.now.store) (sym c.cost_of-bytes.ensures) fits)))

@@ -41,7 +41,7 @@ invariant_of-self-2 c =
     let cheap : cost q ≤ greatest c.self.inside.of.value = rw (← c.self.view_is) at c.requires.new.cheap in
     let of : IsStateOf c.self.inside.of.value q = rw (← c.self.view_is) at c.requires.new.own in
     record {
-      table = rw (cells, rows, c.cost-cost.ensures) (IsTable-with_row _ r c.self.inside.map c.insert-inserted.new.self c.self.inside.costs c.self.invariant.table absent c.requires.new.lacks.1 cheap of fits map);
+      table = rw (cells, rows, c.requires.bytes) (IsTable-with_row _ r c.self.inside.map c.insert-inserted.new.self c.self.inside.costs c.self.invariant.table absent c.requires.new.lacks.1 cheap of fits map);
       stride = c.self.invariant.stride;
       template = c.self.invariant.template;
     }

@@ -1,5 +1,4 @@
 use Rattle.std.proofs.Common.{sym, ◌∙◌, ap, List, ℕ, length}
-use Rattle.std.specs.Rc.{rc_slice_items}
 use Rattle.automata_base.specs.Powersets.Powerset.{Powerset}
 use Rattle.automata_base.specs.Powersets.Code.{ids_bytes, numbers}
 use Rattle.automata_base.proofs.Coding.Groups.{length-ids_of}
@@ -9,5 +8,5 @@ pub returns : goal.returns
 returns c =
     c.number_count.ensures
     ∙ ap (λ (xs : List ℕ). length (numbers xs)) (c.ids_in.ensures ∙ ap ids_bytes c.as_slice.ensures.value)
-    ∙ sym (length-ids_of 0 (numbers (ids_bytes (rc_slice_items c.self.inside.bytes))))
+    ∙ sym (length-ids_of 0 (numbers (ids_bytes c.self.inside.bytes)))
     ∙ ap (λ (q : Powerset). length q.nfa) c.self.view_is

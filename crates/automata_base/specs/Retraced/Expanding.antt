@@ -1,0 +1,16 @@
+-- How a closure goes on from a state to its epsilon edges.
+use Rattle.std.specs.Prelude.{ℕ, ◌≡◌, List, ◌++◌, drop}
+use Rattle.automata_base.specs.Nfas.Nfa.{Nfa, Truth}
+use Rattle.automata_base.specs.Powersets.Closure.{IsUnderWay}
+
+-- some come behind those of a list
+abbrev pub Extends : List ℕ → List ℕ → Type 0
+Extends before after = (more : List ℕ) × (after ≡ before ++ more)
+
+-- Of these children some at the front were visited, and the others wait before what waited. `before` and `after` are the
+-- states visited.
+pub record IsExpanded (n : Nfa) (A : Truth) (children before after waited waiting : List ℕ) : Type 0 where
+  pub way : (roots tail : List ℕ) → IsUnderWay n A roots (children ++ (waited ++ tail)) before
+      → IsUnderWay n A roots (waiting ++ tail) after
+  pub grown : Extends before after
+  pub left : (visited : ℕ) × (waiting ≡ drop visited children ++ waited)
