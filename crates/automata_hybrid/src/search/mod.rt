@@ -17,6 +17,7 @@ mod advance;
 mod direction;
 mod follow;
 mod half;
+mod known;
 mod lanes;
 mod loop_range;
 mod overlapping;
@@ -58,6 +59,13 @@ fn with_span<'h>(input: &Input<'h>, start: usize, end: usize) -> Input<'h>
         .range(start..end)
         .anchored(input.get_anchored())
         .earliest(input.get_earliest())
+}
+
+/// The same input once more.
+fn copied<'h>(input: &Input<'h>) -> Input<'h>
+    ensures { result ≡ input.now }
+{
+    with_span(input, input.start(), input.end())
 }
 
 /// Whether a mode is one of the anchored ones.

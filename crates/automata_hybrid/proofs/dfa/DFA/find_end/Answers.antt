@@ -5,9 +5,7 @@ use Rattle.automata_base.specs.Powersets.Powerset.{Powerset}
 use Rattle.automata_base.specs.Retraced.Steps.{successor}
 use Rattle.automata_base.specs.Haystacks.Tapes.{Direction}
 use Rattle.automata_hybrid.specs.Cache.Caches.{CacheView}
-use Rattle.automata_hybrid.specs.Searches.PassContracts.{IsRestEffect}
 use Rattle.automata_hybrid.specs.Searches.PassState.{IsAt}
-use Rattle.automata_hybrid.specs.Searches.Units.{IsEndProgress}
 use Rattle.automata_hybrid.specs.Searches.Progress.{before_last}
 use Rattle.automata_hybrid.specs.Cache.Stores.{with_searched}
 use Rattle.automata_hybrid.specs.Searches.Passes.{given_up_offset, state_in, tape_in, unit_offset}
@@ -16,9 +14,8 @@ use Rattle.automata_hybrid.specs.Cache.Table.{IsValid, Rows, Leads, Names}
 use Rattle.automata_hybrid.specs.Walks.State.{way_of}
 use Rattle.automata_hybrid.proofs.Directions.{units_in}
 use Rattle.automata_hybrid.proofs.Passed.{last_answer, rest_read, rest_refused, stands_alive}
-use Rattle.automata_hybrid.proofs.Reading.{at_err}
 use Rattle.automata_hybrid.proofs.UnitsRead.{ended_here, last_left, last_read, refused_here, taken_here}
-use Rattle.automata_hybrid.proofs.Searching.{unit_refuses, stops_last, if_err}
+use Rattle.automata_hybrid.proofs.Searching.{unit_refuses, stops_last}
 use Rattle.automata_hybrid.proofs.dfa.DFA.find_end.Goals as goal
 
 pub read-requires-clause-valid : goal.read-requires-clause-valid

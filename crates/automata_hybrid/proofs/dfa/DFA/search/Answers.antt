@@ -15,12 +15,11 @@ use Rattle.automata_hybrid.proofs.Costing.{AreCounted}
 use Rattle.automata_hybrid.proofs.Knowing.{LearnedSpans}
 use Rattle.automata_hybrid.proofs.Directions.{later_anchored, later_none, later_on, later_start, skipped, skipped_last}
 use Rattle.automata_hybrid.proofs.Directions.{skipped_more, skipped_within}
-use Rattle.automata_hybrid.proofs.Reading.{at_err}
-use Rattle.automata_hybrid.specs.Searches.Contracts.{IsSearchEffect, IsUnsupported, unsupported_error}
+use Rattle.automata_hybrid.specs.Searches.Contracts.{IsUnsupported, unsupported_error}
 use Rattle.std.specs.Prelude.{Err}
 use Rattle.automata_hybrid.proofs.Owing.{err_to}
 use Rattle.automata_hybrid.specs.Walks.State.{way_of}
-use Rattle.automata_hybrid.proofs.Searching.{if_err, false_true}
+use Rattle.automata_hybrid.proofs.Searching.{false_true}
 use Rattle.automata_hybrid.proofs.Skipping.{anchored_stops, none_stops, some_stops, finds_none, finds_no_more}
 use Rattle.automata_hybrid.proofs.Skipping.{finds_some, finds_split, tries_on, refuses}
 use Rattle.automata_hybrid.proofs.Spans.{effect_after, effect_before, effect_refused, spans_cost, spans_counted}
