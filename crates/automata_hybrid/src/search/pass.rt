@@ -38,6 +38,16 @@ pub(super) struct Place {
     pub(super) next: LazyStateID,
 }
 
+/// The same once more: what is lent to a call stands in memory, and the first one need not.
+fn again(found: Option<HalfMatch>) -> Option<HalfMatch>
+    ensures { result ≡ found }
+{
+    match found {
+        Some(half) => Some(half),
+        None => None,
+    }
+}
+
 impl DFA {
     /// One run over the span, which is not done. While all that it reads is cached, it changes nothing, and it counts its
     /// bytes once it has ended.
@@ -62,7 +72,10 @@ impl DFA {
         let start = self.known_start(cache, input, way);
         if start.is_fixed() || keeps_none(input, way) {
             let copy = copied(input);
-            return self.begin(cache, &copy, way);
+            return match self.begin(cache, &copy, way) {
+                Ok(found) => Ok(found),
+                Err(error) => Err(error),
+            };
         }
         let Known {
             ended,
@@ -76,7 +89,11 @@ impl DFA {
         }
         cache.search_start(span_offset(input, way, 0));
         let copy = copied(input);
-        self.rest(cache, &copy, way, at, id, found)
+        let before = again(found);
+        match self.rest(cache, &copy, way, at, id, before) {
+            Ok(found) => Ok(found),
+            Err(error) => Err(error),
+        }
     }
 
     /// The same, of which the start state may not be cached.

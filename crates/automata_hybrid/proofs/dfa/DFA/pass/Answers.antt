@@ -1,8 +1,9 @@
-use Rattle.std.proofs.Common.{◌≡◌, ◌∙◌, ◌+◌, ◌<◌, ◌≤◌, ◌^◌, None, inr, length, ap, subst, sym, refl, arith}
+use Rattle.std.proofs.Common.{Option, ◌≡◌, ◌∙◌, ◌+◌, ◌<◌, ◌≤◌, ◌^◌, None, inr, length, ap, subst, sym, refl, arith}
 use Rattle.std.proofs.lemmas.Grind.{common_steps}
-use Rattle.std.proofs.lemmas.Result.{IfErr-weaker, IfOk-weaker}
-use Rattle.std.specs.Prelude.{IfErr, OnOk}
+use Rattle.std.specs.Prelude.{Err, Ok}
+use Rattle.automata_hybrid.specs.Searches.Passes.{IsPassRefusal}
 use Rattle.automata_base.specs.Haystacks.Input.{Input}
+use Rattle.automata_base.specs.Haystacks.Matches.{HalfMatch}
 use Rattle.automata_base.specs.Haystacks.Tapes.{Direction}
 use Rattle.automata_hybrid.specs.Cache.Caches.{CacheView, with_store}
 use Rattle.automata_hybrid.specs.Cache.Progress.{saturated, started, total_len}
@@ -57,12 +58,21 @@ pub rest-requires-clause-at : goal.rest-requires-clause-at
 rest-requires-clause-at c =
     let d : Direction = way_of c.args.way in
     let k : IsKnownUpto d c.args.self.now c.args.cache.now.store c.args.input.now c.known_pass-ended.result.at c.known_pass-ended.result.id c.known_pass-ended.result.found = c.known_pass-ended.ensures.left c.if-ended.false in
-    subst (λ (v : CacheView). IsKnownUpto d c.args.self.now v.store c.copied-copy-2.result c.known_pass-ended.result.at c.known_pass-ended.result.id c.known_pass-ended.result.found) (sym c.search_start.ensures.value)
+    subst (λ (o : Option HalfMatch). IsKnownUpto d c.args.self.now c.search_start.new.self.store c.copied-copy-2.result c.known_pass-ended.result.at c.known_pass-ended.result.id o) (sym c.again-before.ensures)
+    (subst (λ (v : CacheView). IsKnownUpto d c.args.self.now v.store c.copied-copy-2.result c.known_pass-ended.result.at c.known_pass-ended.result.id c.known_pass-ended.result.found) (sym c.search_start.ensures.value)
     (subst (λ (i : Input). IsKnownUpto d c.args.self.now (with_searched c.args.cache.now.store (started c.args.cache.now.store.searched c.span_offset.result)) i c.known_pass-ended.result.at c.known_pass-ended.result.id c.known_pass-ended.result.found) (sym c.copied-copy-2.ensures)
-    (record { within = k.within; at = k.at; learned = k.learned; known = k.known }))
+    (record { within = k.within; at = k.at; learned = k.learned; known = k.known })))
 
-pub returns-clause-effect : goal.returns-clause-effect
-returns-clause-effect c =
+pub returns-in-Err-clause-refusal : goal.returns-in-Err-clause-refusal
+returns-in-Err-clause-refusal c =
+    subst (λ (i : Input). IsPassRefusal (way_of c.args.way) c.args.self.now c.begin.new.cache.store i c.in-Err.error) c.copied-copy.ensures c.in-Err.ensures.refusal
+
+pub returns-in-Err-rest-clause-refusal : goal.returns-in-Err-rest-clause-refusal
+returns-in-Err-rest-clause-refusal c =
+    subst (λ (i : Input). IsPassRefusal (way_of c.args.way) c.args.self.now c.rest.new.cache.store i c.in-Err-rest.error) c.copied-copy-2.ensures c.in-Err-rest.ensures.refusal
+
+pub returns-in-Ok-rest-clause-effect : goal.returns-in-Ok-rest-clause-effect
+returns-in-Ok-rest-clause-effect c =
     let d : Direction = way_of c.args.way in
     let low : c.known_start-start.result < 2 ^ 31 = grind (arith, common_steps, c.if-is_fixed.ensures) in
     let slots : length c.args.cache.now.store.starts ≡ slot_count c.args.self.now = c.see_bounds.ensures.slots ∙ ap (λ (d : Machine). slot_count d) c.requires.of in
@@ -71,19 +81,37 @@ returns-clause-effect c =
     let had = start_had d c.args.self.now c.args.input.now c.args.cache.now c.args.cache.now c.known_start-start.result slots e a in
     let begins : c.search_start.new.self.store ≡ with_search_begun d c.args.input.now 0 c.args.cache.now.store =
     subst (λ at. c.search_start.new.self.store ≡ with_searched c.args.cache.now.store (started c.args.cache.now.store.searched at)) c.span_offset.ensures (ap (λ (v : CacheView). v.store) c.search_start.ensures.value) in
-    pass_rest d c.args.self.now c.args.input.now c.known_start-start.result c.args.cache.now c.args.cache.now c.search_start.new.self c.rest.new.cache c.rest.result slots a e c.search_start.ensures.value
-    (subst (λ (i : Input). IsRestEffect d c.args.self.now i 0 c.search_start.new.self c.rest.new.cache c.rest.result) c.copied-copy-2.ensures c.rest.ensures.effect)
-    (IfOk-weaker c.rest.result _ _
-    (λ _ ended. (
+    pass_rest d c.args.self.now c.args.input.now c.known_start-start.result c.args.cache.now c.args.cache.now c.search_start.new.self c.rest.new.cache (Ok c.in-Ok-rest.found) slots a e c.search_start.ensures.value
+    (subst (λ (i : Input). IsRestEffect d c.args.self.now i 0 c.search_start.new.self c.rest.new.cache (Ok c.in-Ok-rest.found)) c.copied-copy-2.ensures c.in-Ok-rest.ensures.effect) (
       c.args.cache.now.store,
       had,
-      inr (c.if-keeps_none.ensures.no refl, subst (λ (v : Stored). EndsAtLast d c.args.self.now c.args.input.now v c.rest.new.cache.store) begins ended),
-    ))
-    (subst (λ (i : Input). OnOk c.rest.result (EndsAtLast d c.args.self.now i c.search_start.new.self.store c.rest.new.cache.store)) c.copied-copy-2.ensures c.rest.ensures.ended))
-    (IfErr-weaker c.rest.result _ _
-    (λ error stopped. inr (
+      inr (
+        c.if-keeps_none.ensures.no refl,
+        subst (λ (v : Stored). EndsAtLast d c.args.self.now c.args.input.now v c.rest.new.cache.store) begins
+            (subst (λ (i : Input). EndsAtLast d c.args.self.now i c.search_start.new.self.store c.rest.new.cache.store) c.copied-copy-2.ensures c.in-Ok-rest.ensures.ended),
+      ),
+    )
+    tt
+
+pub returns-in-Err-rest-clause-effect : goal.returns-in-Err-rest-clause-effect
+returns-in-Err-rest-clause-effect c =
+    let d : Direction = way_of c.args.way in
+    let low : c.known_start-start.result < 2 ^ 31 = grind (arith, common_steps, c.if-is_fixed.ensures) in
+    let slots : length c.args.cache.now.store.starts ≡ slot_count c.args.self.now = c.see_bounds.ensures.slots ∙ ap (λ (d : Machine). slot_count d) c.requires.of in
+    let a = c.known_start-start.ensures.answer low in
+    let e = c.known_start-start.ensures.effect low in
+    let had = start_had d c.args.self.now c.args.input.now c.args.cache.now c.args.cache.now c.known_start-start.result slots e a in
+    let begins : c.search_start.new.self.store ≡ with_search_begun d c.args.input.now 0 c.args.cache.now.store =
+    subst (λ at. c.search_start.new.self.store ≡ with_searched c.args.cache.now.store (started c.args.cache.now.store.searched at)) c.span_offset.ensures (ap (λ (v : CacheView). v.store) c.search_start.ensures.value) in
+    pass_rest d c.args.self.now c.args.input.now c.known_start-start.result c.args.cache.now c.args.cache.now c.search_start.new.self c.rest.new.cache (Err c.in-Err-rest.error) slots a e c.search_start.ensures.value
+    (subst (λ (i : Input). IsRestEffect {T = Option HalfMatch} d c.args.self.now i 0 c.search_start.new.self c.rest.new.cache (Err c.in-Err-rest.error)) c.copied-copy-2.ensures c.in-Err-rest.ensures.effect)
+    tt
+    (inr (
       c.args.cache.now.store,
       had,
-      inr (c.if-keeps_none.ensures.no refl, subst (λ (v : Stored). IsStoppedAt d c.args.self.now c.args.input.now v c.rest.new.cache.store error) begins stopped),
+      inr (
+        c.if-keeps_none.ensures.no refl,
+        subst (λ (v : Stored). IsStoppedAt d c.args.self.now c.args.input.now v c.rest.new.cache.store c.in-Err-rest.error) begins
+            (subst (λ (i : Input). IsStoppedAt d c.args.self.now i c.search_start.new.self.store c.rest.new.cache.store c.in-Err-rest.error) c.copied-copy-2.ensures c.in-Err-rest.ensures.left),
+      ),
     ))
-    (subst (λ (i : Input). IfErr c.rest.result (IsStoppedAt d c.args.self.now i c.search_start.new.self.store c.rest.new.cache.store)) c.copied-copy-2.ensures c.rest.ensures.left))
