@@ -93,78 +93,77 @@ module _ (way : Direction) (m : Machine) (input : Input) (from : ℕ) (old : Sto
         );
       }
 
+-- the units from one place to another were read, but that the search was moved less far
+pub record AreReadBehind (way : Direction) (m : Machine) (input : Input) (from to : ℕ) (old c : Stored) : Type 0 where
+  pub run : Stored
+  pub read : AreReadTo way m input from to old run
+  pub lags : Lags c run
+
+module _ (way : Direction) (m : Machine) (input : Input) (from : ℕ) (old : Stored) where
+  pub read_exactly : (to : ℕ) (c : Stored) → AreReadTo way m input from to old c → AreReadBehind way m input from to old c
+  read_exactly to c read = record { run = c; read = read; lags = lags_none c }
+
   -- units whose transitions are cached change nothing else
   pub read_known :
-      (k to : ℕ) (c : Stored) → AreReadTo way m input from k old c → k ≤ to
+      (k to : ℕ) (c : Stored) → AreReadBehind way m input from k old c → k ≤ to
       → ((j : ℕ) → k ≤ j → j < to → KnowsUnit way m c input j)
-      → (run : Stored) × AreReadTo way m input from to old run × Lags c run
+      → AreReadBehind way m input from to old c
   read_known k zero c before more known =
       let none : k ≡ 0 = omega (arith, more) in
-      (c, subst (λ n. AreReadTo way m input from n old c) none before, lags_none c)
+      subst (λ n. AreReadBehind way m input from n old c) none before
   read_known k (suc to) c before more known =
       go (eq-or-lt_of_le more) (λ less. read_known k to c before less (λ j from below. known j from (omega (arith, below))))
     where
       on :
-          KnowsUnit way m c input to → ((run : Stored) × AreReadTo way m input from to old run × Lags c run)
-          → (run : Stored) × AreReadTo way m input from (suc to) old run × Lags c run
-      on here (run, reads, lags) =
-          let there : KnowsUnit way m run input to = subst (λ (v : Stored). KnowsUnit way m v input to) lags.same here in (
-            with_search_moved way input to run,
-            read_more to run (with_search_moved way input to run) reads (inl (there, refl)),
-            record {
-              same = lags.same;
-              moves = λ at. lags.moves at ∙ sym (updated_twice run.searched (given_up_offset way input to) at);
-            },
-          )
+          KnowsUnit way m c input to → AreReadBehind way m input from to old c
+          → AreReadBehind way m input from (suc to) old c
+      on here there =
+          let known : KnowsUnit way m there.run input to = subst (λ (v : Stored). KnowsUnit way m v input to) there.lags.same here in
+          record {
+            run = with_search_moved way input to there.run;
+            read = read_more way m input from old to there.run (with_search_moved way input to there.run) there.read (inl (known, refl));
+            lags = record {
+              same = there.lags.same;
+              moves = λ at. there.lags.moves at ∙ sym (updated_twice there.run.searched (given_up_offset way input to) at);
+            };
+          }
 
       go :
-          (k ≡ suc to) ⊎ (k < suc to)
-          → (k ≤ to → (run : Stored) × AreReadTo way m input from to old run × Lags c run)
-          → (run : Stored) × AreReadTo way m input from (suc to) old run × Lags c run
-      go (inl same) before_it = (c, subst (λ n. AreReadTo way m input from n old c) same before, lags_none c)
+          (k ≡ suc to) ⊎ (k < suc to) → (k ≤ to → AreReadBehind way m input from to old c)
+          → AreReadBehind way m input from (suc to) old c
+      go (inl same) before_it = subst (λ n. AreReadBehind way m input from n old c) same before
       go (inr less) before_it = on (known to (omega (arith, less)) (omega arith)) (before_it (omega (arith, less)))
 
 -- units were read, and then cached ones were followed
 module _ (way : Direction) (m : Machine) (input : Input) (from : ℕ) (old : Stored) (k to : ℕ) (c : Stored)
-    (before : AreReadTo way m input from k old c) (more : k ≤ to)
+    (before : AreReadBehind way m input from k old c) (more : k ≤ to)
     (known : (j : ℕ) → k ≤ j → j < to → KnowsUnit way m c input j) where
-  followed : (run : Stored) × AreReadTo way m input from to old run × Lags c run
+  followed : AreReadBehind way m input from to old c
   followed = read_known way m input from old k to c before more known
 
   -- and one was read
   pub read_then :
       (new : Stored) → IsUnitRead way m input to (with_search_moved way input to c) new
       → AreReadTo way m input from (suc to) old new
-  read_then new here = go followed where
-    go :
-        ((run : Stored) × AreReadTo way m input from to old run × Lags c run)
-        → AreReadTo way m input from (suc to) old new
-    go (run, reads, lags) =
-        read_more way m input from old to run new reads
-        (subst (λ (v : Stored). IsUnitRead way m input to v new) (lags_moved way input to c run lags) here)
+  read_then new here =
+      read_more way m input from old to followed.run new followed.read
+      (subst (λ (v : Stored). IsUnitRead way m input to v new) (lags_moved way input to c followed.run followed.lags) here)
 
   -- or failed
   pub left_then :
       (new : Stored) → IsLeftAt way m input to c new
       → (run : Stored) × AreReadTo way m input from to old run × IsLeftAt way m input to run new
-  left_then new left = go followed left where
-    go :
-        ((run : Stored) × AreReadTo way m input from to old run × Lags c run) → IsLeftAt way m input to c new
-        → (run : Stored) × AreReadTo way m input from to old run × IsLeftAt way m input to run new
-    go (run, reads, lags) (inl (quits, same)) =
-        (run, reads, inl (quits, same ∙ lags_ended way input to c run lags))
-    go (run, reads, lags) (inr (room, same)) =
-        (run, reads, inr (room, same ∙ lags_moved way input to c run lags))
+  left_then new (inl (quits, same)) =
+      (followed.run, followed.read, inl (quits, same ∙ lags_ended way input to c followed.run followed.lags))
+  left_then new (inr (room, same)) =
+      (followed.run, followed.read, inr (room, same ∙ lags_moved way input to c followed.run followed.lags))
 
   -- which may be the last one of a pass
   pub pass_left_then :
       (new : Stored) → IsPassLeftAt way m input to c new
       → (run : Stored) × AreReadTo way m input from to old run × IsPassLeftAt way m input to run new
-  pass_left_then new (inl (behind, same)) = go followed where
-    go :
-        ((run : Stored) × AreReadTo way m input from to old run × Lags c run)
-        → (run : Stored) × AreReadTo way m input from to old run × IsPassLeftAt way m input to run new
-    go (run, reads, lags) = (run, reads, inl (behind, same ∙ lags_ended way input to c run lags))
+  pass_left_then new (inl (behind, same)) =
+      (followed.run, followed.read, inl (behind, same ∙ lags_ended way input to c followed.run followed.lags))
   pass_left_then new (inr (inner, left)) = go (left_then new left) where
     go :
         ((run : Stored) × AreReadTo way m input from to old run × IsLeftAt way m input to run new)

@@ -1,16 +1,19 @@
 -- What a pass answers, and what it makes of its cache: the whole of it, or from some unit on.
-use Rattle.std.specs.Prelude.{ℕ, ◌≡◌, ◌+◌, ◌-◌, ◌≤◌, true, Option, Result, IfErr, OnOk}
+use Rattle.std.specs.Prelude.{ℕ, suc, ◌≡◌, ◌+◌, ◌-◌, ◌<◌, ◌≤◌, true, Option, Result, Ok, IfErr, OnOk}
 use Rattle.automata_base.specs.Haystacks.Input.{Input}
 use Rattle.automata_base.specs.Haystacks.Matches.{HalfMatch}
 use Rattle.automata_base.specs.Haystacks.Tapes.{Direction}
+use Rattle.automata_base.specs.Paths.Paths.{next}
 use Rattle.automata_config.specs.declared.error.SearchError.{SearchError}
 use Rattle.automata_hybrid.specs.Cache.Caches.{CacheView}
 use Rattle.automata_hybrid.specs.Cache.Growth.{ClearedNothing, IsGrown, IsStill}
-use Rattle.automata_hybrid.specs.Searches.Cached.{IsOfInput, KnowsItsStart, KnowsPass}
+use Rattle.automata_hybrid.specs.Searches.Cached.{IsOfInput, KnowsItsStart, KnowsPass, KnowsUnit}
 use Rattle.automata_hybrid.specs.Machines.Machine.{Machine}
 use Rattle.automata_hybrid.specs.Searches.PassState.{HasLearned, HasLearnedAll, IsAt, found_over}
+use Rattle.automata_hybrid.specs.Cache.Stores.{Stored}
 use Rattle.automata_hybrid.specs.Searches.Progress.{HasEnded, IsLeft}
-use Rattle.automata_hybrid.specs.Searches.Passes.{MeetsNoQuit, tape_in}
+use Rattle.automata_hybrid.specs.Searches.Passes.{MeetsNoQuit, Reads, tape_in}
+use Rattle.automata_hybrid.specs.Searches.Units.{IsReadEffect}
 use Rattle.automata_hybrid.specs.Machines.StartSlots.{supports}
 use Rattle.automata_hybrid.specs.Steps.Starts.{MayStart}
 use Rattle.automata_hybrid.specs.Cache.Table.{Rows}
@@ -65,3 +68,29 @@ pub record IsRestEffect {T : Type 0} (way : Direction) (m : Machine) (input : In
   pub learned :
       KnowsItsStart way m old.store input → HasLearned way m old.store input k → ClearedNothing old.store new.store
       → OnOk result (HasLearnedAll way m new.store input)
+
+-- a pass over the span of an input has read its first `k` units, all by cached transitions
+pub record IsKnownUpto (way : Direction) (m : Machine) (c : Stored) (input : Input) (k id : ℕ)
+    (found : Option HalfMatch) : Type 0 where
+  pub within : k ≤ input.end - input.start
+  pub at : IsUnderway way m c.table input k id found
+  pub learned : HasLearned way m c input k
+  pub known : (j : ℕ) → j < k → KnowsUnit way m c input j
+
+-- cached transitions led a pass to its unit at place `k`, which it reads from a state that this ID names by a cached
+-- transition too, and it reads none after it: this is what it answers
+pub record IsKnownEnd (way : Direction) (m : Machine) (c : CacheView) (input : Input) (k id : ℕ)
+    (half : Option HalfMatch) : Type 0 where
+  -- This was found before.
+  pub before : Option HalfMatch
+  pub upto : IsKnownUpto way m c.store input k id before
+  -- It is what the pass answers.
+  pub answer : IsPassAnswer way m input half
+  -- The unit is the last one that the pass reads.
+  pub reads : Reads way m input k
+  pub stops : (j : ℕ) → suc k ≤ j → Reads way m input j → ⊥
+  -- Its transition is cached.
+  pub known : KnowsUnit way m c.store input k
+  -- To read it changes nothing.
+  pub to : ℕ
+  pub effect : IsReadEffect m id (next (tape_in way input) k) c c (Ok to)

@@ -1,5 +1,5 @@
 ghost use Rattle.std.specs.Prelude.{ℕ, ◌≡◌, ◌*◌, ◌%◌, ◌<◌, ◌≤◌, IfOk, IfErr, OnOk, OnErr, slice_index};
-ghost use Rattle.std.specs.Prelude.{length, is_some, IsSome, IsTrue, ◌↔◌, false};
+ghost use Rattle.std.specs.Prelude.{length, is_some, IsSome, IsTrue, ◌+◌, ◌↔◌, false, None};
 ghost use Rattle.automata_base.specs.Powersets.Powerset.{Powerset, cost, dead};
 ghost use Rattle.automata_base.specs.Retraced.Steps.{successor, start_state_of};
 ghost use Rattle.automata_hybrid.specs.Machines.OwnStates.{IsOwn};
@@ -19,7 +19,7 @@ ghost use Rattle.automata_hybrid.specs.Searches.Contracts.{IsStoreOf};
 ghost use Rattle.automata_hybrid.specs.Steps.Starts.{IsStartSlot};
 ghost use Rattle.automata_hybrid.specs.Walks.Answers.{IsRowState};
 ghost use Rattle.automata_hybrid.specs.Walks.State.{IsHandle};
-ghost use Rattle.automata_hybrid.specs.Cache.Progress.{started, updated, finished, total_len};
+ghost use Rattle.automata_hybrid.specs.Cache.Progress.{started, updated, finished, saturated, total_len};
 ghost use Rattle.automata_config.specs.Options.{match_kind_of};
 
 use crate::dfa::store::Store;
@@ -505,6 +505,16 @@ impl Cache {
         ensures counted { self.new.count ≡ self.old.count }
     {
         self.store.searched.finish(at);
+    }
+
+    /// A search over so many bytes begins and ends.
+    #[inline(always)]
+    pub(crate) fn count_search(&mut self, bytes: usize)
+        ensures value { self.new ≡ with_store self.old (with_searched self.old.store
+            (record { bytes = saturated (total_len self.old.store.searched + bytes); running = None })) }
+        ensures table { self.new.store.table ≡ self.old.store.table }
+    {
+        self.store.searched.count(bytes);
     }
 
     /// The accounted bytes: rows of cells, states, start slots and the buffers of determinization. They never exceed the

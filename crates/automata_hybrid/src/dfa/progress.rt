@@ -1,6 +1,6 @@
-ghost use Rattle.std.specs.Prelude.{◌≡◌, ◌-◌, Some, None};
+ghost use Rattle.std.specs.Prelude.{◌≡◌, ◌+◌, ◌-◌, Some, None};
 ghost use Rattle.automata_hybrid.specs.Cache.Progress.{distance, started, updated, finished, total_len};
-ghost use Rattle.automata_hybrid.specs.Cache.Progress.{progress_cleared};
+ghost use Rattle.automata_hybrid.specs.Cache.Progress.{progress_cleared, saturated};
 
 /// A running search: where it began, and where it is.
 #[derive(Clone, Copy)]
@@ -74,6 +74,18 @@ impl Searched {
             self.bytes = self.bytes.saturating_add(whole.distance());
             self.running = None;
         }
+    }
+
+    /// A search over so many bytes begins and ends.
+    #[inline(always)]
+    pub fn count(&mut self, bytes: usize)
+        ensures { self.new ≡ record { bytes = saturated (total_len self.old + bytes); running = None } }
+    {
+        if self.running.is_some() {
+            self.bytes = self.total_len();
+            self.running = None;
+        }
+        self.bytes = self.bytes.saturating_add(bytes);
     }
 
     /// What a clear makes of it.

@@ -12,6 +12,7 @@ ghost use Rattle.automata_hybrid.specs.Steps.Starts.{IsStartAnswer, IsStartRefus
 ghost use Rattle.automata_hybrid.specs.Machines.StartSlots.{supports, slot_of};
 ghost use Rattle.automata_hybrid.specs.Steps.BySteps.{StartsAt};
 ghost use Rattle.automata_hybrid.specs.Cache.Caches.{IsCacheOf};
+ghost use Rattle.automata_hybrid.specs.Cache.Ids.{unknown_id};
 
 use crate::dfa::DFA;
 use crate::dfa::cache::{Cache, Found};
@@ -212,6 +213,29 @@ impl DFA {
             None => Ok(cache.dead()),
             Some(slot) => cache.start(self, slot, config.get_anchored(), config.get_look_behind()),
         }
+    }
+
+    /// The start state of an anchored mode after a look-behind byte, if a search may start there and it is cached, and
+    /// else the unknown ID.
+    #[inline(always)]
+    pub(crate) fn start_state_known(
+        &self,
+        cache: &Cache,
+        mode: Anchored,
+        prev: Option<u8>,
+    ) -> LazyStateID
+        requires { IsCacheOf cache.now self.now }
+        ensures answer { result < unknown_id → IsStartAnswer self.now mode prev cache.now cache.now result }
+        ensures effect { result < unknown_id → IsStartEffect self.now mode prev cache.now cache.now }
+    {
+        cache.see_store();
+        if self.quits_behind(prev).is_some() {
+            return LazyStateID::UNKNOWN;
+        }
+        let Ok(Some(slot)) = self.mode_slot(mode, prev) else {
+            return LazyStateID::UNKNOWN;
+        };
+        cache.start_slot(slot)
     }
 
     /// The start state of a forward search. The look-behind byte is the one before the span. The error of a quit byte has

@@ -4,6 +4,7 @@ ghost use Rattle.std.specs.Prelude.{ℕ, ◌≡◌, ◌+◌, ◌-◌, ◌<◌, �
 ghost use Rattle.automata_base.specs.Answers.Answers.{later, offset_in};
 ghost use Rattle.automata_base.specs.Paths.Paths.{next};
 ghost use Rattle.automata_hybrid.specs.Cache.Caches.{with_store};
+ghost use Rattle.automata_hybrid.specs.Cache.Progress.{distance};
 ghost use Rattle.automata_hybrid.specs.Searches.Progress.{KeepsNone, before_last};
 ghost use Rattle.automata_hybrid.specs.Searches.Passes.{given_up_offset, tape_in, unit_offset};
 ghost use Rattle.automata_hybrid.specs.Cache.Stores.{with_searched};
@@ -12,6 +13,7 @@ ghost use Rattle.automata_hybrid.specs.Walks.State.{way_of};
 
 use crate::dfa::cache::Cache;
 use automata_base::util::search::Input;
+use automata_base::util::start;
 
 /// The direction of a search.
 #[derive(Clone, Copy)]
@@ -130,6 +132,34 @@ pub(crate) fn span_offset(input: &Input<'_>, way: Way, place: usize) -> usize
     match way {
         Way::Forward => at,
         Way::Backward => at.saturating_sub(1).max(input.start()),
+    }
+}
+
+/// The byte behind a search, which its start state depends on.
+#[inline(always)]
+pub(crate) fn byte_behind(input: &Input<'_>, way: Way) -> Option<u8>
+    ensures { result ≡ (tape_in (way_of way) input.now).before }
+{
+    match way {
+        Way::Forward => start::Config::from_input_forward(input).get_look_behind(),
+        Way::Backward => start::Config::from_input_reverse(input).get_look_behind(),
+    }
+}
+
+/// How many bytes a run counts that ended at a place: back, the byte after the span is none of them.
+#[inline(always)]
+pub(crate) fn bytes_read(input: &Input<'_>, way: Way, place: usize) -> usize
+    requires within { place ≤ input.now.end - input.now.start }
+    requires kept { KeepsNone (way_of way) input.now → ⊥ }
+    requires open { input.now.start ≤ input.now.end }
+    ensures { result ≡ distance (record {
+      start = given_up_offset (way_of way) input.now 0;
+      place = given_up_offset (way_of way) input.now place;
+    }) }
+{
+    match way {
+        Way::Forward => place,
+        Way::Backward => place.min(input.end() - input.start() - 1),
     }
 }
 

@@ -16,6 +16,7 @@ mod advance;
 mod direction;
 mod follow;
 mod half;
+mod known;
 mod lanes;
 mod loop_range;
 mod overlapping;

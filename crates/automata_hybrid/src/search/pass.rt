@@ -6,7 +6,8 @@ ghost use Rattle.automata_base.specs.Powersets.Powerset.{Powerset, dead};
 ghost use Rattle.automata_hybrid.specs.Cache.Caches.{IsCacheOf};
 ghost use Rattle.automata_hybrid.specs.Searches.Cached.{KnowsUnit};
 ghost use Rattle.automata_hybrid.specs.Searches.Contracts.{IsUnsupported, unsupported_error};
-ghost use Rattle.automata_hybrid.specs.Searches.PassContracts.{IsPassAnswer, IsPassEffect, IsRestEffect, IsUnderway};
+ghost use Rattle.automata_hybrid.specs.Searches.PassContracts.{IsKnownUpto, IsPassAnswer, IsPassEffect};
+ghost use Rattle.automata_hybrid.specs.Searches.PassContracts.{IsRestEffect, IsUnderway};
 ghost use Rattle.automata_hybrid.specs.Searches.PassState.{HasLearned, IsAt, IsMet};
 ghost use Rattle.automata_hybrid.specs.Searches.Units.{IsEndProgress};
 ghost use Rattle.automata_hybrid.specs.Searches.Progress.{EndsAtLast, IsStoppedAt, IsUnitRead, KeepsNone};
@@ -18,26 +19,86 @@ use crate::dfa::DFA;
 use crate::dfa::cache::Cache;
 use crate::id::LazyStateID;
 use crate::search::direction::{
-    Way, byte_at, byte_offset, end_before_last, keeps_none, last_place, place_offset, span_offset,
-    unit_at, unit_offset,
+    Way, byte_at, byte_offset, bytes_read, end_before_last, keeps_none, last_place, place_offset,
+    span_offset, unit_at, unit_offset,
 };
+use crate::search::known::Known;
 use automata_base::util::search::{HalfMatch, Input};
 use automata_config::error::SearchError;
 
 /// Where a run is: its place, the ID of its state there, and what it found last.
 #[derive(Clone, Copy)]
-struct Place {
-    at: usize,
-    id: LazyStateID,
-    found: Option<HalfMatch>,
+pub(super) struct Place {
+    pub(super) at: usize,
+    pub(super) id: LazyStateID,
+    pub(super) found: Option<HalfMatch>,
     /// The ID that comes next, where a run stopped at it: unknown where none was read.
-    next: LazyStateID,
+    pub(super) next: LazyStateID,
+}
+
+/// The same once more: what is lent to a call stands in memory, and the first one need not.
+fn again(found: Option<HalfMatch>) -> Option<HalfMatch>
+    ensures { result ≡ found }
+{
+    match found {
+        Some(half) => Some(half),
+        None => None,
+    }
 }
 
 impl DFA {
-    /// One run over the span, which is not done.
+    /// One run over the span, which is not done. While all that it reads is cached, it changes nothing, and it counts its
+    /// bytes once it has ended.
     #[inline(always)]
     pub(super) fn pass(
+        &self,
+        cache: &mut Cache,
+        input: &Input<'_>,
+        way: Way,
+    ) -> Result<Option<HalfMatch>, SearchError>
+        requires of { IsCacheOf cache.old self.now }
+        requires open { input.now.start ≤ input.now.end }
+        ensures of { IsCacheOf cache.new self.now }
+        ensures answer { IfOk result (IsPassAnswer (way_of way) self.now input.now) }
+        ensures refusal { IfErr result (IsPassRefusal (way_of way) self.now cache.new.store input.now) }
+        ensures unsupported { IsUnsupported (way_of way) self.now input.now
+            → result ≡ Err (unsupported_error input.now) }
+        ensures effect { IsPassEffect (way_of way) self.now input.now cache.old cache.new result }
+    {
+        cache.see_bounds();
+        cache.see_store();
+        let start = self.known_start(cache, input, way);
+        if start.is_fixed() || keeps_none(input, way) {
+            let copy = input.copied();
+            return match self.begin(cache, &copy, way) {
+                Ok(found) => Ok(found),
+                Err(error) => Err(error),
+            };
+        }
+        let Known {
+            ended,
+            at,
+            id,
+            found,
+        } = self.known_pass(cache, input, way, start);
+        if ended {
+            cache.count_search(bytes_read(input, way, at));
+            return Ok(found);
+        }
+        cache.search_start(span_offset(input, way, 0));
+        let copy = input.copied();
+        let before = again(found);
+        match self.rest(cache, &copy, way, at, id, before) {
+            Ok(found) => Ok(found),
+            Err(error) => Err(error),
+        }
+    }
+
+    /// The same, of which the start state may not be cached.
+    // It is not inlined, and `rest` is not, so that a search which finds all that it needs keeps its numbers in registers.
+    // They are lent copies of the input, since one that is lent stands in memory.
+    #[inline(never)]
+    fn begin(
         &self,
         cache: &mut Cache,
         input: &Input<'_>,
@@ -71,14 +132,14 @@ impl DFA {
             cache.end_search(first);
             return Ok(None);
         }
-        let found = self.find(cache, input, way, start)?;
+        let found = self.rest(cache, input, way, 0, start, None)?;
         Ok(found)
     }
 
     /// Follows cached transitions as far as they report nothing, and then into states that have patterns: the last of
     /// these is asked for its pattern. An earliest search follows the first ones alone.
     #[inline(always)]
-    fn run(
+    pub(super) fn run(
         &self,
         cache: &Cache,
         input: &Input<'_>,
@@ -128,17 +189,45 @@ impl DFA {
         }
     }
 
-    /// Runs over the span from its start state, and takes the last step.
+    /// Runs over the rest of a span, whose search has begun, from a place up to which all was cached.
+    #[inline(never)]
+    fn rest(
+        &self,
+        cache: &mut Cache,
+        input: &Input<'_>,
+        way: Way,
+        from: usize,
+        start: LazyStateID,
+        before: Option<HalfMatch>,
+    ) -> Result<Option<HalfMatch>, SearchError>
+        requires of { IsCacheOf cache.old self.now }
+        requires at { IsKnownUpto (way_of way) self.now cache.old.store input.now from start before }
+        ensures of { IsCacheOf cache.new self.now }
+        ensures answer { IfOk result (IsPassAnswer (way_of way) self.now input.now) }
+        ensures refusal { IfErr result (IsPassRefusal (way_of way) self.now cache.new.store input.now) }
+        ensures effect { IsRestEffect (way_of way) self.now input.now 0 cache.old cache.new result }
+        ensures ended { OnOk result (EndsAtLast (way_of way) self.now input.now cache.old.store cache.new.store) }
+        ensures left { IfErr result (IsStoppedAt (way_of way) self.now input.now cache.old.store cache.new.store) }
+    {
+        match way {
+            Way::Forward => self.find(cache, input, Way::Forward, from, start, before),
+            Way::Backward => self.find(cache, input, Way::Backward, from, start, before),
+        }
+    }
+
+    /// The same, in a direction that is known where it is inlined.
     #[inline(always)]
     fn find(
         &self,
         cache: &mut Cache,
         input: &Input<'_>,
         way: Way,
+        from: usize,
         start: LazyStateID,
+        before: Option<HalfMatch>,
     ) -> Result<Option<HalfMatch>, SearchError>
         requires of { IsCacheOf cache.old self.now }
-        requires at { IsUnderway (way_of way) self.now cache.old.store.table input.now 0 start None }
+        requires at { IsKnownUpto (way_of way) self.now cache.old.store input.now from start before }
         ensures of { IsCacheOf cache.new self.now }
         ensures answer { IfOk result (IsPassAnswer (way_of way) self.now input.now) }
         ensures refusal { IfErr result (IsPassRefusal (way_of way) self.now cache.new.store input.now) }
@@ -147,9 +236,9 @@ impl DFA {
         ensures left { IfErr result (IsStoppedAt (way_of way) self.now input.now cache.old.store cache.new.store) }
     {
         let last = last_place(input);
-        let mut at = 0;
+        let mut at = from;
         let mut id = start;
-        let mut found = None;
+        let mut found = before;
         while at < last {
             let run = self.run(cache, input, way, at, id, found);
             if run.at >= last {

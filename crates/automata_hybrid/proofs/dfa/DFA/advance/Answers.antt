@@ -17,7 +17,7 @@ use Rattle.automata_hybrid.proofs.Growing.{grown_same, grown_trans, nothing_firs
 use Rattle.automata_hybrid.proofs.KnowingWalks.{unit_knows, units_more, units_none}
 use Rattle.automata_hybrid.proofs.Reading.{at_err}
 use Rattle.automata_hybrid.proofs.SearchedWalks.{arrived_read, call_stopped}
-use Rattle.automata_hybrid.proofs.UnitsRead.{AreReadTo, left_then, read_none, read_then}
+use Rattle.automata_hybrid.proofs.UnitsRead.{AreReadTo, left_then, read_exactly, read_none, read_then}
 use Rattle.automata_hybrid.proofs.Searching.{false_true, if_err}
 use Rattle.automata_hybrid.proofs.Stepping.{dead_tagged}
 use Rattle.automata_hybrid.proofs.Walked.{clean_more, finish_dead, finish_read, silent_same, silent_step}
@@ -74,7 +74,7 @@ loop-read-preserved c =
           (c.loop-read.invariant.learned first) f (c.in_ok-next.ensures.effect.learned second)));
       silent = subst (IsSilent d c.args.self.now c.args.input.now c.args.units) more silent;
       progress = subst (λ n. AreReadTo d c.args.self.now c.args.input.now c.args.units n c.args.cache.now.store c.read_unit.new.cache.store) more
-          (read_then d c.args.self.now c.args.input.now c.args.units c.args.cache.now.store c.loop-read.read k c.loop-read.cache.store c.loop-read.invariant.progress f.more (λ j l h. (f.quiet j l h).known.0) c.read_unit.new.cache.store c.in_ok-next.ensures.effect.read);
+          (read_then d c.args.self.now c.args.input.now c.args.units c.args.cache.now.store c.loop-read.read k c.loop-read.cache.store (read_exactly d c.args.self.now c.args.input.now c.args.units c.args.cache.now.store c.loop-read.read c.loop-read.cache.store c.loop-read.invariant.progress) f.more (λ j l h. (f.quiet j l h).known.0) c.read_unit.new.cache.store c.in_ok-next.ensures.effect.read);
       reads = λ less. (k, sym more, c.in_ok-next.ensures.reads);
     }
 
@@ -144,7 +144,7 @@ returns-in_err-next-clause-effect c =
       left =
           call_stopped d c.args.self.now c.args.input.now c.args.units k c.args.cache.now.store c.read_unit.new.cache.store c.in_err-next.field-0.0 c.in_err-next.ensures.reads
           (followed_clean f c.loop-read.invariant.clean) (followed_silent f c.loop-read.invariant.silent) c.in_err-next.ensures.refusal
-          (left_then d c.args.self.now c.args.input.now c.args.units c.args.cache.now.store c.loop-read.read k c.loop-read.cache.store c.loop-read.invariant.progress f.more (λ j l h. (f.quiet j l h).known.0) c.read_unit.new.cache.store c.in_err-next.ensures.effect.left);
+          (left_then d c.args.self.now c.args.input.now c.args.units c.args.cache.now.store c.loop-read.read k c.loop-read.cache.store (read_exactly d c.args.self.now c.args.input.now c.args.units c.args.cache.now.store c.loop-read.read c.loop-read.cache.store c.loop-read.invariant.progress) f.more (λ j l h. (f.quiet j l h).known.0) c.read_unit.new.cache.store c.in_err-next.ensures.effect.left);
     })
 
 pub returns-then-is_dead-clause-effect : goal.returns-then-is_dead-clause-effect
@@ -170,7 +170,7 @@ returns-then-is_dead-clause-effect c =
           (c.loop-read.invariant.learned first) f (c.in_ok-next.ensures.effect.learned second)));
       read =
           arrived_read d c.args.self.now c.args.input.now c.args.units k (k + 1) c.args.cache.now.store c.read_unit.new.cache.store from more c.in_ok-next.ensures.reads
-          (read_then d c.args.self.now c.args.input.now c.args.units c.args.cache.now.store c.loop-read.read k c.loop-read.cache.store c.loop-read.invariant.progress f.more (λ j l h. (f.quiet j l h).known.0) c.read_unit.new.cache.store c.in_ok-next.ensures.effect.read);
+          (read_then d c.args.self.now c.args.input.now c.args.units c.args.cache.now.store c.loop-read.read k c.loop-read.cache.store (read_exactly d c.args.self.now c.args.input.now c.args.units c.args.cache.now.store c.loop-read.read c.loop-read.cache.store c.loop-read.invariant.progress) f.more (λ j l h. (f.quiet j l h).known.0) c.read_unit.new.cache.store c.in_ok-next.ensures.effect.read);
       left = tt;
     }
 
@@ -197,7 +197,7 @@ returns-then-tells-clause-effect c =
           (c.loop-read.invariant.learned first) f (c.in_ok-next.ensures.effect.learned second)));
       read =
           arrived_read d c.args.self.now c.args.input.now c.args.units k (k + 1) c.args.cache.now.store c.read_unit.new.cache.store from more c.in_ok-next.ensures.reads
-          (read_then d c.args.self.now c.args.input.now c.args.units c.args.cache.now.store c.loop-read.read k c.loop-read.cache.store c.loop-read.invariant.progress f.more (λ j l h. (f.quiet j l h).known.0) c.read_unit.new.cache.store c.in_ok-next.ensures.effect.read);
+          (read_then d c.args.self.now c.args.input.now c.args.units c.args.cache.now.store c.loop-read.read k c.loop-read.cache.store (read_exactly d c.args.self.now c.args.input.now c.args.units c.args.cache.now.store c.loop-read.read c.loop-read.cache.store c.loop-read.invariant.progress) f.more (λ j l h. (f.quiet j l h).known.0) c.read_unit.new.cache.store c.in_ok-next.ensures.effect.read);
       left = tt;
     }
 

@@ -9,12 +9,12 @@ use Rattle.automata_hybrid.specs.Searches.PassState.{HasLearned, IsAt}
 use Rattle.automata_hybrid.specs.Steps.Steps.{known_step}
 use Rattle.automata_hybrid.specs.Searches.Passes.{Reads, given_up_offset, tape_in}
 use Rattle.automata_hybrid.proofs.Growing.{grown_same, grown_trans, nothing_first, nothing_second}
-use Rattle.automata_hybrid.proofs.Knowing.{knows_here, knows_still, learned_none, learned_step}
+use Rattle.automata_hybrid.proofs.Knowing.{knows_here, knows_still, learned_step}
 use Rattle.std.proofs.lemmas.Result.{IfErr-weaker, IfOk-weaker}
 use Rattle.automata_hybrid.proofs.Passed.{dead_answer, dead_stops, first_answer, first_stops, rest_read, rest_refused}
 use Rattle.automata_hybrid.proofs.Passed.{rest_then}
-use Rattle.automata_hybrid.proofs.UnitsRead.{AreReadTo, ended_here, pass_last, pass_left_then, pass_stopped, read_none}
-use Rattle.automata_hybrid.proofs.UnitsRead.{read_then, refused_here, taken_here}
+use Rattle.automata_hybrid.proofs.UnitsRead.{AreReadTo, ended_here, pass_last, pass_left_then, pass_stopped, read_exactly}
+use Rattle.automata_hybrid.proofs.UnitsRead.{read_known, read_none, read_then, refused_here, taken_here}
 use Rattle.automata_hybrid.proofs.Searching.{at_reads, stops_dead, stops_ends, stops_last, more_leads, more_at}
 use Rattle.automata_hybrid.proofs.Searching.{place_refuses, step_refuses, unit_refuses, if_both, false_true}
 use Rattle.automata_hybrid.proofs.Searching.{some_is, none_is}
@@ -33,10 +33,14 @@ loop-at-init c =
       counted = omega arith;
       grown = grown_same c.args.cache.now c.args.cache.now refl;
       idle = λ knows. refl;
-      learned = λ begin nothing. (begin, learned_none d c.args.self.now c.args.cache.now.store c.args.input.now);
-      within = omega arith;
-      at = c.requires.at.at;
-      progress = read_none d c.args.self.now c.args.input.now 0 c.args.cache.now.store c.args.cache.now.store refl;
+      learned = λ begin nothing. (begin, c.requires.at.learned);
+      within = omega (arith, c.requires.at.within, c.last_place-last.ensures.place);
+      at = c.requires.at.at.at;
+      progress =
+          read_known d c.args.self.now c.args.input.now 0 c.args.cache.now.store 0 c.args.from c.args.cache.now.store
+          (read_exactly d c.args.self.now c.args.input.now 0 c.args.cache.now.store 0 c.args.cache.now.store
+          (read_none d c.args.self.now c.args.input.now 0 c.args.cache.now.store c.args.cache.now.store refl))
+          (omega arith) (λ j from below. c.requires.at.known j below);
     }
 
 pub read_met-requires-clause-met : goal.read_met-requires-clause-met
@@ -48,8 +52,8 @@ find_end-requires-clause-at c =
     let d : Direction = way_of c.args.way in
     let same : c.run-run.result.at ≡ c.args.input.now.end - c.args.input.now.start = omega (arith, c.if-run-last.true, c.run-run.ensures.within, c.last_place-last.ensures.place) in
     record {
-      undone = c.requires.at.undone;
-      may = c.requires.at.may;
+      undone = c.requires.at.at.undone;
+      may = c.requires.at.at.may;
       at = subst (λ k. IsAt d c.args.self.now c.loop-at.cache.store.table c.args.input.now k c.run-run.result.id c.run-run.result.found) same (c.run-run.ensures.at);
     }
 
@@ -58,8 +62,8 @@ find_end-requires-2-clause-at c =
     let d : Direction = way_of c.args.way in
     let same : c.loop-at.at ≡ c.args.input.now.end - c.args.input.now.start = omega (arith, c.loop-at-test.false, c.loop-at.invariant.within, c.last_place-last.ensures.place) in
     record {
-      undone = c.requires.at.undone;
-      may = c.requires.at.may;
+      undone = c.requires.at.at.undone;
+      may = c.requires.at.at.may;
       at = subst (λ k. IsAt d c.args.self.now c.loop-at.cache.store.table c.args.input.now k c.loop-at.id c.loop-at.found) same c.loop-at.invariant.at;
     }
 
@@ -71,9 +75,9 @@ returns-in-Err-clause-refusal c =
     let at : IsAt d c.args.self.now c.loop-at.cache.store.table c.args.input.now k c.run-run.result.id c.run-run.result.found = c.run-run.ensures.at in
     let given : given_up_offset d c.args.input.now k ≡ c.byte_offset-offset.result = span_unit d c.args.input.now k inside ∙ sym c.byte_offset-offset.ensures.unit in
     let read : next (tape_in d c.args.input.now) k ≡ Some c.byte_at-byte.result = c.byte_at-byte.ensures in
-    let few : k ≤ length (tape_in d c.args.input.now).bytes = (let u = units_in d c.args.input.now c.requires.at.undone c.last_place-last.ensures.inside in omega (arith, u, inside)) in
+    let few : k ≤ length (tape_in d c.args.input.now).bytes = (let u = units_in d c.args.input.now c.requires.at.at.undone c.last_place-last.ensures.inside in omega (arith, u, inside)) in
     (step_refuses d c.args.self.now c.loop-at.cache.store.table c.read_met.new.cache.store c.args.input.now k c.run-run.result.id c.byte_offset-offset.result c.byte_offset-offset.result _ c.run-run.result.found c.in-Err.error
-    at few c.in-Err.ensures.effect.alive read (sym c.byte_offset-offset.ensures.unit) given c.in-Err.ensures.refusal c.requires.at.may.0)
+    at few c.in-Err.ensures.effect.alive read (sym c.byte_offset-offset.ensures.unit) given c.in-Err.ensures.refusal c.requires.at.at.may.0)
 
 pub returns-then-is_dead-clause-answer : goal.returns-then-is_dead-clause-answer
 returns-then-is_dead-clause-answer c =
@@ -82,8 +86,8 @@ returns-then-is_dead-clause-answer c =
     let inside : k < c.args.input.now.end - c.args.input.now.start = omega (arith, c.if-run-last.false, c.last_place-last.ensures.place) in
     let at : IsAt d c.args.self.now c.loop-at.cache.store.table c.args.input.now k c.run-run.result.id c.run-run.result.found = c.run-run.ensures.at in
     let read : next (tape_in d c.args.input.now) k ≡ Some c.byte_at-byte.result = c.byte_at-byte.ensures in
-    let few : k ≤ length (tape_in d c.args.input.now).bytes = (let u = units_in d c.args.input.now c.requires.at.undone c.last_place-last.ensures.inside in omega (arith, u, inside)) in
-    dead_answer d c.args.self.now c.args.input.now k c.run-run.result.id _ c.run-run.result.found c.loop-at.cache c.loop-at.cache c.read_met.new.cache c.end_search.new.self {s = c.loop-at.cache.store.searched} refl c.end_search.ensures.value (record { undone = c.requires.at.undone; may = c.requires.at.may; at = at }) read c.in-Ok.next None c.in-Ok.ensures.answer (λ l. (dead_tagged c.read_met.new.cache.store.table c.in-Ok.next (c.see_store.ensures.low c.in-Ok.next) c.see_store.ensures.small _ l).0 (c.if-is_dead.ensures.0 refl)) few
+    let few : k ≤ length (tape_in d c.args.input.now).bytes = (let u = units_in d c.args.input.now c.requires.at.at.undone c.last_place-last.ensures.inside in omega (arith, u, inside)) in
+    dead_answer d c.args.self.now c.args.input.now k c.run-run.result.id _ c.run-run.result.found c.loop-at.cache c.loop-at.cache c.read_met.new.cache c.end_search.new.self {s = c.loop-at.cache.store.searched} refl c.end_search.ensures.value (record { undone = c.requires.at.at.undone; may = c.requires.at.at.may; at = at }) read c.in-Ok.next None c.in-Ok.ensures.answer (λ l. (dead_tagged c.read_met.new.cache.store.table c.in-Ok.next (c.see_store.ensures.low c.in-Ok.next) c.see_store.ensures.small _ l).0 (c.if-is_dead.ensures.0 refl)) few
 
 pub returns-then-is_dead-clause-effect : goal.returns-then-is_dead-clause-effect
 returns-then-is_dead-clause-effect c =
@@ -92,11 +96,11 @@ returns-then-is_dead-clause-effect c =
     let inside : k < c.args.input.now.end - c.args.input.now.start = omega (arith, c.if-run-last.false, c.last_place-last.ensures.place) in
     let at : IsAt d c.args.self.now c.loop-at.cache.store.table c.args.input.now k c.run-run.result.id c.run-run.result.found = c.run-run.ensures.at in
     let read : next (tape_in d c.args.input.now) k ≡ Some c.byte_at-byte.result = c.byte_at-byte.ensures in
-    let few : k ≤ length (tape_in d c.args.input.now).bytes = (let u = units_in d c.args.input.now c.requires.at.undone c.last_place-last.ensures.inside in omega (arith, u, inside)) in
+    let few : k ≤ length (tape_in d c.args.input.now).bytes = (let u = units_in d c.args.input.now c.requires.at.at.undone c.last_place-last.ensures.inside in omega (arith, u, inside)) in
     rest_then d c.args.self.now c.args.input.now k c.args.cache.now c.loop-at.cache c.loop-at.cache c.end_search.new.self {s = c.loop-at.cache.store.searched} _ refl (omega (arith, inside))
     c.loop-at.invariant.grown (omega (arith, c.loop-at.invariant.counted, c.run-run.ensures.from)) c.loop-at.invariant.idle (λ begin nothing. (let had = c.loop-at.invariant.learned begin nothing in (had.0, c.run-run.ensures.learned had.1)))
-    (rest_read d c.args.self.now c.args.input.now k c.run-run.result.id _ c.run-run.result.found c.loop-at.cache c.loop-at.cache c.read_met.new.cache c.end_search.new.self {s = c.loop-at.cache.store.searched} refl c.end_search.ensures.value (record { undone = c.requires.at.undone; may = c.requires.at.may; at = at }) read c.in-Ok.next _ c.in-Ok.ensures.effect c.in-Ok.ensures.of (omega (arith, inside)) few
-    (dead_stops d c.args.self.now c.args.input.now k c.run-run.result.id _ c.run-run.result.found c.loop-at.cache c.loop-at.cache c.read_met.new.cache c.end_search.new.self {s = c.loop-at.cache.store.searched} refl c.end_search.ensures.value (record { undone = c.requires.at.undone; may = c.requires.at.may; at = at }) read c.in-Ok.next None c.in-Ok.ensures.answer (λ l. (dead_tagged c.read_met.new.cache.store.table c.in-Ok.next (c.see_store.ensures.low c.in-Ok.next) c.see_store.ensures.small _ l).0 (c.if-is_dead.ensures.0 refl))))
+    (rest_read d c.args.self.now c.args.input.now k c.run-run.result.id _ c.run-run.result.found c.loop-at.cache c.loop-at.cache c.read_met.new.cache c.end_search.new.self {s = c.loop-at.cache.store.searched} refl c.end_search.ensures.value (record { undone = c.requires.at.at.undone; may = c.requires.at.at.may; at = at }) read c.in-Ok.next _ c.in-Ok.ensures.effect c.in-Ok.ensures.of (omega (arith, inside)) few
+    (dead_stops d c.args.self.now c.args.input.now k c.run-run.result.id _ c.run-run.result.found c.loop-at.cache c.loop-at.cache c.read_met.new.cache c.end_search.new.self {s = c.loop-at.cache.store.searched} refl c.end_search.ensures.value (record { undone = c.requires.at.at.undone; may = c.requires.at.at.may; at = at }) read c.in-Ok.next None c.in-Ok.ensures.answer (λ l. (dead_tagged c.read_met.new.cache.store.table c.in-Ok.next (c.see_store.ensures.low c.in-Ok.next) c.see_store.ensures.small _ l).0 (c.if-is_dead.ensures.0 refl))))
 
 pub found_at-found-requires-clause-leads : goal.found_at-found-requires-clause-leads
 found_at-found-requires-clause-leads c =
@@ -105,7 +109,7 @@ found_at-found-requires-clause-leads c =
     let inside : k < c.args.input.now.end - c.args.input.now.start = omega (arith, c.if-run-last.false, c.last_place-last.ensures.place) in
     let at : IsAt d c.args.self.now c.loop-at.cache.store.table c.args.input.now k c.run-run.result.id c.run-run.result.found = c.run-run.ensures.at in
     let read : next (tape_in d c.args.input.now) k ≡ Some c.byte_at-byte.result = c.byte_at-byte.ensures in
-    let few : k ≤ length (tape_in d c.args.input.now).bytes = (let u = units_in d c.args.input.now c.requires.at.undone c.last_place-last.ensures.inside in omega (arith, u, inside)) in
+    let few : k ≤ length (tape_in d c.args.input.now).bytes = (let u = units_in d c.args.input.now c.requires.at.at.undone c.last_place-last.ensures.inside in omega (arith, u, inside)) in
     (_, more_leads d c.args.self.now c.loop-at.cache.store.table c.read_met.new.cache.store.table c.args.input.now k c.run-run.result.id c.in-Ok.next _ c.run-run.result.found None at read c.in-Ok.ensures.answer.named (quit_free c.args.self.now _ c.in-Ok.ensures.answer.clean))
 
 pub returns-then-is_some-clause-answer : goal.returns-then-is_some-clause-answer
@@ -115,8 +119,8 @@ returns-then-is_some-clause-answer c =
     let inside : k < c.args.input.now.end - c.args.input.now.start = omega (arith, c.if-run-last.false, c.last_place-last.ensures.place) in
     let at : IsAt d c.args.self.now c.loop-at.cache.store.table c.args.input.now k c.run-run.result.id c.run-run.result.found = c.run-run.ensures.at in
     let read : next (tape_in d c.args.input.now) k ≡ Some c.byte_at-byte.result = c.byte_at-byte.ensures in
-    let few : k ≤ length (tape_in d c.args.input.now).bytes = (let u = units_in d c.args.input.now c.requires.at.undone c.last_place-last.ensures.inside in omega (arith, u, inside)) in
-    first_answer d c.args.self.now c.args.input.now k c.run-run.result.id _ c.run-run.result.found c.loop-at.cache c.loop-at.cache c.read_met.new.cache c.end_search-then-is_some.new.self {s = c.loop-at.cache.store.searched} refl c.end_search-then-is_some.ensures.value (record { undone = c.requires.at.undone; may = c.requires.at.may; at = at }) read c.in-Ok.next c.found_at-found.result c.in-Ok.ensures.answer c.place_offset.result c.place_offset.ensures c.found_at-found.ensures (sym c.get_earliest.ensures ∙ c.if-get_earliest.true) (some_is c.found_at-found.result c.if-is_some.ensures) few
+    let few : k ≤ length (tape_in d c.args.input.now).bytes = (let u = units_in d c.args.input.now c.requires.at.at.undone c.last_place-last.ensures.inside in omega (arith, u, inside)) in
+    first_answer d c.args.self.now c.args.input.now k c.run-run.result.id _ c.run-run.result.found c.loop-at.cache c.loop-at.cache c.read_met.new.cache c.end_search-then-is_some.new.self {s = c.loop-at.cache.store.searched} refl c.end_search-then-is_some.ensures.value (record { undone = c.requires.at.at.undone; may = c.requires.at.at.may; at = at }) read c.in-Ok.next c.found_at-found.result c.in-Ok.ensures.answer c.place_offset.result c.place_offset.ensures c.found_at-found.ensures (sym c.get_earliest.ensures ∙ c.if-get_earliest.true) (some_is c.found_at-found.result c.if-is_some.ensures) few
 
 pub returns-then-is_some-clause-effect : goal.returns-then-is_some-clause-effect
 returns-then-is_some-clause-effect c =
@@ -125,11 +129,11 @@ returns-then-is_some-clause-effect c =
     let inside : k < c.args.input.now.end - c.args.input.now.start = omega (arith, c.if-run-last.false, c.last_place-last.ensures.place) in
     let at : IsAt d c.args.self.now c.loop-at.cache.store.table c.args.input.now k c.run-run.result.id c.run-run.result.found = c.run-run.ensures.at in
     let read : next (tape_in d c.args.input.now) k ≡ Some c.byte_at-byte.result = c.byte_at-byte.ensures in
-    let few : k ≤ length (tape_in d c.args.input.now).bytes = (let u = units_in d c.args.input.now c.requires.at.undone c.last_place-last.ensures.inside in omega (arith, u, inside)) in
+    let few : k ≤ length (tape_in d c.args.input.now).bytes = (let u = units_in d c.args.input.now c.requires.at.at.undone c.last_place-last.ensures.inside in omega (arith, u, inside)) in
     rest_then d c.args.self.now c.args.input.now k c.args.cache.now c.loop-at.cache c.loop-at.cache c.end_search-then-is_some.new.self {s = c.loop-at.cache.store.searched} _ refl (omega (arith, inside))
     c.loop-at.invariant.grown (omega (arith, c.loop-at.invariant.counted, c.run-run.ensures.from)) c.loop-at.invariant.idle (λ begin nothing. (let had = c.loop-at.invariant.learned begin nothing in (had.0, c.run-run.ensures.learned had.1)))
-    (rest_read d c.args.self.now c.args.input.now k c.run-run.result.id _ c.run-run.result.found c.loop-at.cache c.loop-at.cache c.read_met.new.cache c.end_search-then-is_some.new.self {s = c.loop-at.cache.store.searched} refl c.end_search-then-is_some.ensures.value (record { undone = c.requires.at.undone; may = c.requires.at.may; at = at }) read c.in-Ok.next _ c.in-Ok.ensures.effect c.in-Ok.ensures.of (omega (arith, inside)) few
-    (first_stops d c.args.self.now c.args.input.now k c.run-run.result.id _ c.run-run.result.found c.loop-at.cache c.loop-at.cache c.read_met.new.cache c.end_search-then-is_some.new.self {s = c.loop-at.cache.store.searched} refl c.end_search-then-is_some.ensures.value (record { undone = c.requires.at.undone; may = c.requires.at.may; at = at }) read c.in-Ok.next c.found_at-found.result c.in-Ok.ensures.answer c.place_offset.result c.place_offset.ensures c.found_at-found.ensures (sym c.get_earliest.ensures ∙ c.if-get_earliest.true) (some_is c.found_at-found.result c.if-is_some.ensures)))
+    (rest_read d c.args.self.now c.args.input.now k c.run-run.result.id _ c.run-run.result.found c.loop-at.cache c.loop-at.cache c.read_met.new.cache c.end_search-then-is_some.new.self {s = c.loop-at.cache.store.searched} refl c.end_search-then-is_some.ensures.value (record { undone = c.requires.at.at.undone; may = c.requires.at.at.may; at = at }) read c.in-Ok.next _ c.in-Ok.ensures.effect c.in-Ok.ensures.of (omega (arith, inside)) few
+    (first_stops d c.args.self.now c.args.input.now k c.run-run.result.id _ c.run-run.result.found c.loop-at.cache c.loop-at.cache c.read_met.new.cache c.end_search-then-is_some.new.self {s = c.loop-at.cache.store.searched} refl c.end_search-then-is_some.ensures.value (record { undone = c.requires.at.at.undone; may = c.requires.at.at.may; at = at }) read c.in-Ok.next c.found_at-found.result c.in-Ok.ensures.answer c.place_offset.result c.place_offset.ensures c.found_at-found.ensures (sym c.get_earliest.ensures ∙ c.if-get_earliest.true) (some_is c.found_at-found.result c.if-is_some.ensures)))
 
 pub loop-at-preserved : goal.loop-at-preserved
 loop-at-preserved c =
@@ -139,7 +143,7 @@ loop-at-preserved c =
     let at : IsAt d c.args.self.now c.loop-at.cache.store.table c.args.input.now k c.run-run.result.id c.run-run.result.found = c.run-run.ensures.at in
     let given : given_up_offset d c.args.input.now k ≡ c.byte_offset-offset.result = span_unit d c.args.input.now k inside ∙ sym c.byte_offset-offset.ensures.unit in
     let read : next (tape_in d c.args.input.now) k ≡ Some c.byte_at-byte.result = c.byte_at-byte.ensures in
-    let few : k ≤ length (tape_in d c.args.input.now).bytes = (let u = units_in d c.args.input.now c.requires.at.undone c.last_place-last.ensures.inside in omega (arith, u, inside)) in
+    let few : k ≤ length (tape_in d c.args.input.now).bytes = (let u = units_in d c.args.input.now c.requires.at.at.undone c.last_place-last.ensures.inside in omega (arith, u, inside)) in
     let first : c.args.input.now.earliest ≡ true → c.found_at-found.result ≡ None =
     elim c.else-get_earliest.branch [
       | else-get_earliest-via-then-get_earliest+else-is_some w ↦ λ e. none_is c.found_at-found.result (sym w.is_some.ensures ∙ w.if-is_some.false)
@@ -152,7 +156,7 @@ loop-at-preserved c =
       grown = grown_trans c.args.cache.now c.loop-at.cache c.read_met.new.cache c.loop-at.invariant.grown c.in-Ok.ensures.effect.grown;
       idle = λ knows. (
           let still : KnowsPass d c.args.self.now c.loop-at.cache.store c.args.input.now = knows_still d c.args.self.now c.args.input.now c.args.cache.now c.loop-at.cache c.loop-at.invariant.grown (c.loop-at.invariant.idle knows) knows in
-          let idle = c.in-Ok.ensures.effect.known (knows_here d c.args.self.now c.loop-at.cache.store c.args.input.now k c.run-run.result.id c.run-run.result.found (Some _) still c.requires.at.may at few c.in-Ok.ensures.effect.alive read) in
+          let idle = c.in-Ok.ensures.effect.known (knows_here d c.args.self.now c.loop-at.cache.store c.args.input.now k c.run-run.result.id c.run-run.result.found (Some _) still c.requires.at.at.may at few c.in-Ok.ensures.effect.alive read) in
           idle.0.0 ∙ c.loop-at.invariant.idle knows);
       learned = λ begin nothing. (
           let before = c.loop-at.invariant.learned begin (nothing_first c.args.cache.now c.loop-at.cache c.read_met.new.cache c.loop-at.invariant.grown c.in-Ok.ensures.effect.grown nothing) in
@@ -162,9 +166,10 @@ loop-at-preserved c =
           (step.0, subst (HasLearned d c.args.self.now c.read_met.new.cache.store c.args.input.now) more step.1));
       within = omega (arith, inside);
       at = subst (λ n. IsAt d c.args.self.now c.read_met.new.cache.store.table c.args.input.now n c.in-Ok.next c.found_at-found.result) more (more_at d c.args.self.now c.loop-at.cache.store.table c.read_met.new.cache.store.table c.args.input.now k c.run-run.result.id c.in-Ok.next _ c.run-run.result.found c.found_at-found.result at read c.in-Ok.ensures.answer.named (quit_free c.args.self.now _ c.in-Ok.ensures.answer.clean) (c.place_offset.result, c.place_offset.ensures, c.found_at-found.ensures) first (λ l. (dead_tagged c.read_met.new.cache.store.table c.in-Ok.next (c.see_store.ensures.low c.in-Ok.next) c.see_store.ensures.small _ l).1 (λ b. false_true (c.if-is_dead.ensures.1 b))));
-      progress = subst (λ n. AreReadTo d c.args.self.now c.args.input.now 0 n c.args.cache.now.store c.read_met.new.cache.store) more
+      progress = read_exactly d c.args.self.now c.args.input.now 0 c.args.cache.now.store (c.run-run.result.at + 1) c.read_met.new.cache.store
+          (subst (λ n. AreReadTo d c.args.self.now c.args.input.now 0 n c.args.cache.now.store c.read_met.new.cache.store) more
           (read_then d c.args.self.now c.args.input.now 0 c.args.cache.now.store c.loop-at.at k c.loop-at.cache.store c.loop-at.invariant.progress c.run-run.ensures.from c.run-run.ensures.known c.read_met.new.cache.store
-          (taken_here d c.args.self.now c.args.input.now k c.run-run.result.id c.byte_offset-offset.result (Some _) c.loop-at.cache.store at.named read given c.read_met.new.cache.store c.in-Ok.next c.in-Ok.ensures.step.taken));
+          (taken_here d c.args.self.now c.args.input.now k c.run-run.result.id c.byte_offset-offset.result (Some _) c.loop-at.cache.store at.named read given c.read_met.new.cache.store c.in-Ok.next c.in-Ok.ensures.step.taken)));
     }
 
 pub returns-in-Err-clause-effect : goal.returns-in-Err-clause-effect
@@ -174,10 +179,10 @@ returns-in-Err-clause-effect c =
     let inside : k < c.args.input.now.end - c.args.input.now.start = omega (arith, c.if-run-last.false, c.last_place-last.ensures.place) in
     let at : IsAt d c.args.self.now c.loop-at.cache.store.table c.args.input.now k c.run-run.result.id c.run-run.result.found = c.run-run.ensures.at in
     let read : next (tape_in d c.args.input.now) k ≡ Some c.byte_at-byte.result = c.byte_at-byte.ensures in
-    let few : k ≤ length (tape_in d c.args.input.now).bytes = (let u = units_in d c.args.input.now c.requires.at.undone c.last_place-last.ensures.inside in omega (arith, u, inside)) in
+    let few : k ≤ length (tape_in d c.args.input.now).bytes = (let u = units_in d c.args.input.now c.requires.at.at.undone c.last_place-last.ensures.inside in omega (arith, u, inside)) in
     rest_then d c.args.self.now c.args.input.now k c.args.cache.now c.loop-at.cache c.loop-at.cache c.read_met.new.cache {s = c.loop-at.cache.store.searched} (Err c.in-Err.error) refl (omega (arith, inside))
     c.loop-at.invariant.grown (omega (arith, c.loop-at.invariant.counted, c.run-run.ensures.from)) c.loop-at.invariant.idle (λ begin nothing. (let had = c.loop-at.invariant.learned begin nothing in (had.0, c.run-run.ensures.learned had.1)))
-    ((rest_refused d c.args.self.now c.args.input.now k c.run-run.result.id _ c.run-run.result.found c.loop-at.cache c.loop-at.cache c.read_met.new.cache c.read_met.new.cache {s = c.loop-at.cache.store.searched} {s' = c.read_met.new.cache.store.searched} refl refl (record { undone = c.requires.at.undone; may = c.requires.at.may; at = at }) read c.in-Err.error c.in-Err.ensures.effect (omega (arith, inside)) few))
+    ((rest_refused d c.args.self.now c.args.input.now k c.run-run.result.id _ c.run-run.result.found c.loop-at.cache c.loop-at.cache c.read_met.new.cache c.read_met.new.cache {s = c.loop-at.cache.store.searched} {s' = c.read_met.new.cache.store.searched} refl refl (record { undone = c.requires.at.at.undone; may = c.requires.at.at.may; at = at }) read c.in-Err.error c.in-Err.ensures.effect (omega (arith, inside)) few))
 
 pub read_met-requires-clause-valid : goal.read_met-requires-clause-valid
 read_met-requires-clause-valid c =
@@ -211,14 +216,14 @@ returns-in-Err-clause-left c =
     let at : IsAt d c.args.self.now c.loop-at.cache.store.table c.args.input.now k c.run-run.result.id c.run-run.result.found = c.run-run.ensures.at in
     let given : given_up_offset d c.args.input.now k ≡ c.byte_offset-offset.result = span_unit d c.args.input.now k inside ∙ sym c.byte_offset-offset.ensures.unit in
     let read : next (tape_in d c.args.input.now) k ≡ Some c.byte_at-byte.result = c.byte_at-byte.ensures in
-    let few : k ≤ length (tape_in d c.args.input.now).bytes = (let u = units_in d c.args.input.now c.requires.at.undone c.last_place-last.ensures.inside in omega (arith, u, inside)) in
+    let few : k ≤ length (tape_in d c.args.input.now).bytes = (let u = units_in d c.args.input.now c.requires.at.at.undone c.last_place-last.ensures.inside in omega (arith, u, inside)) in
     (pass_stopped d c.args.self.now c.args.input.now k c.args.cache.now.store c.read_met.new.cache.store c.in-Err.error
     (at_reads d c.args.self.now c.loop-at.cache.store.table c.args.input.now k c.run-run.result.id c.run-run.result.found at few c.in-Err.ensures.effect.alive) at.clean
     (unit_refuses d c.args.self.now c.loop-at.cache.store.table c.read_met.new.cache.store c.args.input.now k c.run-run.result.id c.byte_offset-offset.result c.byte_offset-offset.result _ c.run-run.result.found c.in-Err.error
     at read (sym c.byte_offset-offset.ensures.unit) given c.in-Err.ensures.refusal)
     (pass_left_then d c.args.self.now c.args.input.now 0 c.args.cache.now.store c.loop-at.at k c.loop-at.cache.store c.loop-at.invariant.progress c.run-run.ensures.from c.run-run.ensures.known c.read_met.new.cache.store
     (inr (
-      not_behind d c.args.input.now k inside (units_in d c.args.input.now c.requires.at.undone c.last_place-last.ensures.inside),
+      not_behind d c.args.input.now k inside (units_in d c.args.input.now c.requires.at.at.undone c.last_place-last.ensures.inside),
       refused_here d c.args.self.now c.args.input.now k c.run-run.result.id c.byte_offset-offset.result (Some _) c.loop-at.cache.store at.named read given c.read_met.new.cache.store c.in-Err.ensures.step.left,
     ))))
 
@@ -230,7 +235,7 @@ returns-then-is_dead-clause-ended c =
     let at : IsAt d c.args.self.now c.loop-at.cache.store.table c.args.input.now k c.run-run.result.id c.run-run.result.found = c.run-run.ensures.at in
     let given : given_up_offset d c.args.input.now k ≡ c.byte_offset-offset.result = span_unit d c.args.input.now k inside ∙ sym c.byte_offset-offset.ensures.unit in
     let read : next (tape_in d c.args.input.now) k ≡ Some c.byte_at-byte.result = c.byte_at-byte.ensures in
-    let few : k ≤ length (tape_in d c.args.input.now).bytes = (let u = units_in d c.args.input.now c.requires.at.undone c.last_place-last.ensures.inside in omega (arith, u, inside)) in
+    let few : k ≤ length (tape_in d c.args.input.now).bytes = (let u = units_in d c.args.input.now c.requires.at.at.undone c.last_place-last.ensures.inside in omega (arith, u, inside)) in
     let stops : Reads d c.args.self.now c.args.input.now (suc k) → ⊥ = stops_dead d c.args.self.now c.loop-at.cache.store.table c.read_met.new.cache.store.table c.args.input.now k c.run-run.result.id c.in-Ok.next _ c.run-run.result.found None at read c.in-Ok.ensures.answer.named (quit_free c.args.self.now _ c.in-Ok.ensures.answer.clean) (λ l. (dead_tagged c.read_met.new.cache.store.table c.in-Ok.next (c.see_store.ensures.low c.in-Ok.next) c.see_store.ensures.small _ l).0 (c.if-is_dead.ensures.0 refl)) (suc k) (omega arith) in
     pass_last d c.args.self.now c.args.input.now k c.args.cache.now.store c.read_met.new.cache.store c.end_search.new.self.store
     (at_reads d c.args.self.now c.loop-at.cache.store.table c.args.input.now k c.run-run.result.id c.run-run.result.found at few c.in-Ok.ensures.effect.alive) stops
@@ -246,7 +251,7 @@ returns-then-is_some-clause-ended c =
     let at : IsAt d c.args.self.now c.loop-at.cache.store.table c.args.input.now k c.run-run.result.id c.run-run.result.found = c.run-run.ensures.at in
     let given : given_up_offset d c.args.input.now k ≡ c.byte_offset-offset.result = span_unit d c.args.input.now k inside ∙ sym c.byte_offset-offset.ensures.unit in
     let read : next (tape_in d c.args.input.now) k ≡ Some c.byte_at-byte.result = c.byte_at-byte.ensures in
-    let few : k ≤ length (tape_in d c.args.input.now).bytes = (let u = units_in d c.args.input.now c.requires.at.undone c.last_place-last.ensures.inside in omega (arith, u, inside)) in
+    let few : k ≤ length (tape_in d c.args.input.now).bytes = (let u = units_in d c.args.input.now c.requires.at.at.undone c.last_place-last.ensures.inside in omega (arith, u, inside)) in
     let stops : Reads d c.args.self.now c.args.input.now (suc k) → ⊥ = stops_ends d c.args.self.now c.loop-at.cache.store.table c.read_met.new.cache.store.table c.args.input.now k c.run-run.result.id c.in-Ok.next _ c.run-run.result.found c.found_at-found.result at read c.in-Ok.ensures.answer.named (quit_free c.args.self.now _ c.in-Ok.ensures.answer.clean) (c.place_offset.result, c.place_offset.ensures, c.found_at-found.ensures) (sym c.get_earliest.ensures ∙ c.if-get_earliest.true) (some_is c.found_at-found.result c.if-is_some.ensures) (suc k) (omega arith) in
     pass_last d c.args.self.now c.args.input.now k c.args.cache.now.store c.read_met.new.cache.store c.end_search-then-is_some.new.self.store
     (at_reads d c.args.self.now c.loop-at.cache.store.table c.args.input.now k c.run-run.result.id c.run-run.result.found at few c.in-Ok.ensures.effect.alive) stops
@@ -260,7 +265,7 @@ returns-then-run-last-clause-ended c =
     let same : c.run-run.result.at ≡ c.args.input.now.end - c.args.input.now.start = omega (arith, c.if-run-last.true, c.run-run.ensures.within, c.last_place-last.ensures.place) in
     let k : ℕ = c.args.input.now.end - c.args.input.now.start in
     let at : IsAt d c.args.self.now c.loop-at.cache.store.table c.args.input.now k c.run-run.result.id c.run-run.result.found = subst (λ k. IsAt d c.args.self.now c.loop-at.cache.store.table c.args.input.now k c.run-run.result.id c.run-run.result.found) same c.run-run.ensures.at in
-    let units : k ≡ length (tape_in d c.args.input.now).bytes = units_in d c.args.input.now c.requires.at.undone c.last_place-last.ensures.inside in
+    let units : k ≡ length (tape_in d c.args.input.now).bytes = units_in d c.args.input.now c.requires.at.at.undone c.last_place-last.ensures.inside in
     IfOk-weaker c.find_end.result _ _
     (λ _ ended. pass_last d c.args.self.now c.args.input.now k c.args.cache.now.store ended.0 c.find_end.new.cache.store
     (at_reads d c.args.self.now c.loop-at.cache.store.table c.args.input.now k c.run-run.result.id c.run-run.result.found at (omega (arith, units)) c.find_end.ensures.alive) (λ r. stops_last d c.args.self.now c.args.input.now k units (suc k) (omega arith) r)
@@ -273,7 +278,7 @@ returns-then-run-last-clause-left c =
     let same : c.run-run.result.at ≡ c.args.input.now.end - c.args.input.now.start = omega (arith, c.if-run-last.true, c.run-run.ensures.within, c.last_place-last.ensures.place) in
     let k : ℕ = c.args.input.now.end - c.args.input.now.start in
     let at : IsAt d c.args.self.now c.loop-at.cache.store.table c.args.input.now k c.run-run.result.id c.run-run.result.found = subst (λ k. IsAt d c.args.self.now c.loop-at.cache.store.table c.args.input.now k c.run-run.result.id c.run-run.result.found) same c.run-run.ensures.at in
-    let units : k ≡ length (tape_in d c.args.input.now).bytes = units_in d c.args.input.now c.requires.at.undone c.last_place-last.ensures.inside in
+    let units : k ≡ length (tape_in d c.args.input.now).bytes = units_in d c.args.input.now c.requires.at.at.undone c.last_place-last.ensures.inside in
     if_both c.find_end.result _ _ _
     (λ error refused left. pass_stopped d c.args.self.now c.args.input.now k c.args.cache.now.store c.find_end.new.cache.store error
     (at_reads d c.args.self.now c.loop-at.cache.store.table c.args.input.now k c.run-run.result.id c.run-run.result.found at (omega (arith, units)) c.find_end.ensures.alive) at.clean refused
@@ -286,7 +291,7 @@ returns-clause-ended c =
     let same : c.loop-at.at ≡ c.args.input.now.end - c.args.input.now.start = omega (arith, c.loop-at-test.false, c.loop-at.invariant.within, c.last_place-last.ensures.place) in
     let k : ℕ = c.args.input.now.end - c.args.input.now.start in
     let at : IsAt d c.args.self.now c.loop-at.cache.store.table c.args.input.now k c.loop-at.id c.loop-at.found = subst (λ k. IsAt d c.args.self.now c.loop-at.cache.store.table c.args.input.now k c.loop-at.id c.loop-at.found) same c.loop-at.invariant.at in
-    let units : k ≡ length (tape_in d c.args.input.now).bytes = units_in d c.args.input.now c.requires.at.undone c.last_place-last.ensures.inside in
+    let units : k ≡ length (tape_in d c.args.input.now).bytes = units_in d c.args.input.now c.requires.at.at.undone c.last_place-last.ensures.inside in
     IfOk-weaker c.find_end-2.result _ _
     (λ _ ended. pass_last d c.args.self.now c.args.input.now k c.args.cache.now.store ended.0 c.find_end-2.new.cache.store
     (at_reads d c.args.self.now c.loop-at.cache.store.table c.args.input.now k c.loop-at.id c.loop-at.found at (omega (arith, units)) c.find_end-2.ensures.alive) (λ r. stops_last d c.args.self.now c.args.input.now k units (suc k) (omega arith) r)
@@ -299,7 +304,7 @@ returns-clause-left c =
     let same : c.loop-at.at ≡ c.args.input.now.end - c.args.input.now.start = omega (arith, c.loop-at-test.false, c.loop-at.invariant.within, c.last_place-last.ensures.place) in
     let k : ℕ = c.args.input.now.end - c.args.input.now.start in
     let at : IsAt d c.args.self.now c.loop-at.cache.store.table c.args.input.now k c.loop-at.id c.loop-at.found = subst (λ k. IsAt d c.args.self.now c.loop-at.cache.store.table c.args.input.now k c.loop-at.id c.loop-at.found) same c.loop-at.invariant.at in
-    let units : k ≡ length (tape_in d c.args.input.now).bytes = units_in d c.args.input.now c.requires.at.undone c.last_place-last.ensures.inside in
+    let units : k ≡ length (tape_in d c.args.input.now).bytes = units_in d c.args.input.now c.requires.at.at.undone c.last_place-last.ensures.inside in
     if_both c.find_end-2.result _ _ _
     (λ error refused left. pass_stopped d c.args.self.now c.args.input.now k c.args.cache.now.store c.find_end-2.new.cache.store error
     (at_reads d c.args.self.now c.loop-at.cache.store.table c.args.input.now k c.loop-at.id c.loop-at.found at (omega (arith, units)) c.find_end-2.ensures.alive) at.clean refused
@@ -312,9 +317,9 @@ returns-then-run-last-clause-refusal c =
     let same : c.run-run.result.at ≡ c.args.input.now.end - c.args.input.now.start = omega (arith, c.if-run-last.true, c.run-run.ensures.within, c.last_place-last.ensures.place) in
     let k : ℕ = c.args.input.now.end - c.args.input.now.start in
     let at : IsAt d c.args.self.now c.loop-at.cache.store.table c.args.input.now k c.run-run.result.id c.run-run.result.found = subst (λ k. IsAt d c.args.self.now c.loop-at.cache.store.table c.args.input.now k c.run-run.result.id c.run-run.result.found) same c.run-run.ensures.at in
-    let units : k ≡ length (tape_in d c.args.input.now).bytes = units_in d c.args.input.now c.requires.at.undone c.last_place-last.ensures.inside in
+    let units : k ≡ length (tape_in d c.args.input.now).bytes = units_in d c.args.input.now c.requires.at.at.undone c.last_place-last.ensures.inside in
     IfErr-weaker c.find_end.result _ _
-    (λ error refused. place_refuses d c.args.self.now c.loop-at.cache.store.table c.find_end.new.cache.store c.args.input.now k c.run-run.result.id c.run-run.result.found error at (omega (arith, units)) c.find_end.ensures.alive c.requires.at.may.0 refused)
+    (λ error refused. place_refuses d c.args.self.now c.loop-at.cache.store.table c.find_end.new.cache.store c.args.input.now k c.run-run.result.id c.run-run.result.found error at (omega (arith, units)) c.find_end.ensures.alive c.requires.at.at.may.0 refused)
     c.find_end.ensures.refusal
 
 pub returns-clause-refusal : goal.returns-clause-refusal
@@ -323,7 +328,7 @@ returns-clause-refusal c =
     let same : c.loop-at.at ≡ c.args.input.now.end - c.args.input.now.start = omega (arith, c.loop-at-test.false, c.loop-at.invariant.within, c.last_place-last.ensures.place) in
     let k : ℕ = c.args.input.now.end - c.args.input.now.start in
     let at : IsAt d c.args.self.now c.loop-at.cache.store.table c.args.input.now k c.loop-at.id c.loop-at.found = subst (λ k. IsAt d c.args.self.now c.loop-at.cache.store.table c.args.input.now k c.loop-at.id c.loop-at.found) same c.loop-at.invariant.at in
-    let units : k ≡ length (tape_in d c.args.input.now).bytes = units_in d c.args.input.now c.requires.at.undone c.last_place-last.ensures.inside in
+    let units : k ≡ length (tape_in d c.args.input.now).bytes = units_in d c.args.input.now c.requires.at.at.undone c.last_place-last.ensures.inside in
     IfErr-weaker c.find_end-2.result _ _
-    (λ error refused. place_refuses d c.args.self.now c.loop-at.cache.store.table c.find_end-2.new.cache.store c.args.input.now k c.loop-at.id c.loop-at.found error at (omega (arith, units)) c.find_end-2.ensures.alive c.requires.at.may.0 refused)
+    (λ error refused. place_refuses d c.args.self.now c.loop-at.cache.store.table c.find_end-2.new.cache.store c.args.input.now k c.loop-at.id c.loop-at.found error at (omega (arith, units)) c.find_end-2.ensures.alive c.requires.at.at.may.0 refused)
     c.find_end-2.ensures.refusal

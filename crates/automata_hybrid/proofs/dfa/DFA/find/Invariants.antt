@@ -4,7 +4,7 @@ use Rattle.automata_hybrid.specs.Cache.Growth.{IsGrown, ClearedNothing}
 use Rattle.automata_hybrid.specs.Searches.Cached.{KnowsItsStart, KnowsPass}
 use Rattle.automata_hybrid.specs.Searches.PassState.{HasLearned, IsAt}
 use Rattle.automata_hybrid.specs.Walks.State.{way_of}
-use Rattle.automata_hybrid.proofs.UnitsRead.{AreReadTo}
+use Rattle.automata_hybrid.proofs.UnitsRead.{AreReadBehind}
 use Rattle.automata_hybrid.proofs.dfa.DFA.find.Given as goal
 
 abbrev pub invariant-loop-at : goal.invariant-loop-at
@@ -16,7 +16,7 @@ invariant-loop-at l = record {
   idle : KnowsPass (way_of l.way) l.self l.fn.cache.store l.input → l.cache.count ≡ l.fn.cache.count;
   learned : KnowsItsStart (way_of l.way) l.self l.fn.cache.store l.input → ClearedNothing l.fn.cache.store l.cache.store → KnowsItsStart (way_of l.way) l.self l.cache.store l.input × HasLearned (way_of l.way) l.self l.cache.store l.input l.at;
   at : IsAt (way_of l.way) l.self l.cache.store.table l.input l.at l.id l.found;
-  progress : AreReadTo (way_of l.way) l.self l.input 0 l.at l.fn.cache.store l.cache.store;
+  progress : AreReadBehind (way_of l.way) l.self l.input 0 l.at l.fn.cache.store l.cache.store;
 }
 
 abbrev pub decreases-loop-at : goal.decreases-loop-at

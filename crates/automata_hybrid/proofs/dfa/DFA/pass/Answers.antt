@@ -1,166 +1,117 @@
-use Rattle.std.proofs.Common.{◌≡◌, ◌∙◌, ap, None, refl, sym, subst, inl, inr, arith}
-use Rattle.std.specs.Prelude.{Err}
-use Rattle.std.proofs.lemmas.Result.{IfErr-weaker, IfOk-weaker}
-use Rattle.automata_base.specs.Powersets.Powerset.{dead}
+use Rattle.std.proofs.Common.{Option, ◌≡◌, ◌∙◌, ◌+◌, ◌<◌, ◌≤◌, ◌^◌, None, inr, length, ap, subst, sym, refl, arith}
+use Rattle.std.proofs.lemmas.Grind.{common_steps}
+use Rattle.std.specs.Prelude.{Err, Ok}
+use Rattle.automata_hybrid.specs.Searches.Passes.{IsPassRefusal}
+use Rattle.automata_base.specs.Haystacks.Input.{Input}
+use Rattle.automata_base.specs.Haystacks.Matches.{HalfMatch}
 use Rattle.automata_base.specs.Haystacks.Tapes.{Direction}
+use Rattle.automata_hybrid.specs.Cache.Caches.{CacheView, with_store}
+use Rattle.automata_hybrid.specs.Cache.Progress.{saturated, started, total_len}
 use Rattle.automata_hybrid.specs.Cache.Stores.{Stored, with_searched}
-use Rattle.automata_hybrid.specs.Cache.Caches.{CacheView}
 use Rattle.automata_hybrid.specs.Machines.Machine.{Machine, slot_count}
-use Rattle.automata_hybrid.specs.Searches.PassContracts.{IsPassEffect}
-use Rattle.automata_hybrid.specs.Cache.Progress.{started}
-use Rattle.automata_hybrid.specs.Searches.Progress.{EndsAtLast, IsStoppedAt, with_search_begun, with_search_ended}
-use Rattle.automata_hybrid.specs.Searches.Passes.{Reads, state_in}
-use Rattle.automata_hybrid.specs.Cache.Table.{Rows, Names}
+use Rattle.automata_hybrid.specs.Searches.PassContracts.{IsKnownUpto, IsRestEffect}
+use Rattle.automata_hybrid.specs.Searches.Progress.{EndsAtLast, IsStoppedAt, with_search_begun}
+use Rattle.automata_hybrid.specs.Searches.Passes.{tape_in}
 use Rattle.automata_hybrid.specs.Walks.State.{way_of}
-use Rattle.automata_hybrid.proofs.Directions.{begins_alive, begins_dead}
-use Rattle.automata_hybrid.proofs.Passed.{pass_rest, pass_unstarted, rest_dead}
-use Rattle.automata_hybrid.proofs.Reading.{at_err}
-use Rattle.automata_hybrid.proofs.UnitsRead.{ended_here, pass_dies, start_had}
-use Rattle.automata_hybrid.proofs.Searching.{at_reads, clean_start, false_true, if_both, place_refuses, starts_at}
-use Rattle.automata_hybrid.proofs.Searching.{starts_dead, stops_start}
+use Rattle.automata_hybrid.proofs.Directions.{begins_alive}
+use Rattle.automata_hybrid.proofs.KnownPasses.{known_ended, known_rest}
+use Rattle.automata_hybrid.proofs.Passed.{pass_rest}
+use Rattle.automata_hybrid.proofs.Searching.{starts_at}
+use Rattle.automata_hybrid.proofs.UnitsRead.{start_had}
+use Rattle.automata_hybrid.proofs.Stepping.{low_bit}
 use Rattle.automata_hybrid.proofs.dfa.DFA.pass.Goals as goal
 
-pub returns-then-is_dead-clause-answer : goal.returns-then-is_dead-clause-answer
-returns-then-is_dead-clause-answer c =
+pub known_pass-ended-requires-clause-at : goal.known_pass-ended-requires-clause-at
+known_pass-ended-requires-clause-at c =
     let d : Direction = way_of c.args.way in
-    let dies : state_in d c.args.self.now c.args.input.now 0 ≡ dead = begins_dead d c.args.self.now c.walk_start.new.cache.store.table c.args.input.now c.in-Ok.start c.in-Ok.ensures.answer.named (c.see_store.ensures.low c.in-Ok.start) c.see_store.ensures.small (c.if-is_dead.ensures.0 refl) in
-    record { found = starts_dead d c.args.self.now c.args.input.now dies; clean = clean_start d c.args.self.now c.args.input.now dies c.in-Ok.ensures.answer.may.0; supported = c.in-Ok.ensures.answer.may.1 }
-
-pub returns-then-is_dead-2-clause-answer : goal.returns-then-is_dead-2-clause-answer
-returns-then-is_dead-2-clause-answer c =
-    let d : Direction = way_of c.args.way in
-    let dies : state_in d c.args.self.now c.args.input.now 0 ≡ dead = begins_dead d c.args.self.now c.walk_start.new.cache.store.table c.args.input.now c.in-Ok.start c.in-Ok.ensures.answer.named (c.see_store.ensures.low c.in-Ok.start) c.see_store.ensures.small (c.if-is_dead-2.ensures.0 refl) in
-    record { found = starts_dead d c.args.self.now c.args.input.now dies; clean = clean_start d c.args.self.now c.args.input.now dies c.in-Ok.ensures.answer.may.0; supported = c.in-Ok.ensures.answer.may.1 }
-
-pub find-requires-clause-at : goal.find-requires-clause-at
-find-requires-clause-at c =
-    let d : Direction = way_of c.args.way in
+    let low : c.known_start-start.result < 2 ^ 31 = grind (arith, common_steps, c.if-is_fixed.ensures) in
+    let a = c.known_start-start.ensures.answer low in
     record {
       undone = c.requires.«open»;
-      may = c.in-Ok.ensures.answer.may;
-      at = starts_at d c.args.self.now c.search_start.new.self.store.table c.args.input.now c.in-Ok.start
-          (subst (λ (t : Rows). Names t c.in-Ok.start (state_in d c.args.self.now c.args.input.now 0)) (sym c.search_start.ensures.table)
-          (begins_alive d c.args.self.now c.walk_start.new.cache.store.table c.args.input.now c.in-Ok.start c.in-Ok.ensures.answer.named (c.see_store.ensures.low c.in-Ok.start) c.see_store.ensures.small (λ b. false_true (c.if-is_dead-2.ensures.1 b))));
+      may = a.may;
+      at = starts_at d c.args.self.now c.args.cache.now.store.table c.args.input.now c.known_start-start.result
+          (begins_alive d c.args.self.now c.args.cache.now.store.table c.args.input.now c.known_start-start.result a.named (c.see_store.ensures.low c.known_start-start.result) c.see_store.ensures.small
+          (λ b. (let l : c.known_start-start.result < 2 ^ 29 = grind (arith, common_steps, c.if-is_fixed.ensures) in low_bit 30 c.known_start-start.result (omega (arith, l)) b)));
     }
 
-pub find_still-requires-clause-at : goal.find_still-requires-clause-at
-find_still-requires-clause-at c =
+pub returns-then-ended-clause-effect : goal.returns-then-ended-clause-effect
+returns-then-ended-clause-effect c =
     let d : Direction = way_of c.args.way in
-    record {
-      undone = c.requires.«open»;
-      may = c.in-Ok.ensures.answer.may;
-      at = starts_at d c.args.self.now c.walk_start.new.cache.store.table c.args.input.now c.in-Ok.start
-          (begins_alive d c.args.self.now c.walk_start.new.cache.store.table c.args.input.now c.in-Ok.start c.in-Ok.ensures.answer.named (c.see_store.ensures.low c.in-Ok.start) c.see_store.ensures.small (λ b. false_true (c.if-is_dead.ensures.1 b)));
-    }
-
-pub returns-in-Err-clause-effect : goal.returns-in-Err-clause-effect
-returns-in-Err-clause-effect c =
-    let d : Direction = way_of c.args.way in
-    (pass_unstarted d c.args.self.now c.args.input.now _ _ c.args.cache.now c.walk_start.new.cache c.in-Err.error (c.see_bounds.ensures.slots ∙ ap (λ (d : Machine). slot_count d) c.requires.of)
-    c.in-Err.ensures.refusal c.in-Err.ensures.effect refl refl)
-
-pub returns-then-is_dead-clause-effect : goal.returns-then-is_dead-clause-effect
-returns-then-is_dead-clause-effect c =
-    let d : Direction = way_of c.args.way in
-    let dies : state_in d c.args.self.now c.args.input.now 0 ≡ dead = begins_dead d c.args.self.now c.walk_start.new.cache.store.table c.args.input.now c.in-Ok.start c.in-Ok.ensures.answer.named (c.see_store.ensures.low c.in-Ok.start) c.see_store.ensures.small (c.if-is_dead.ensures.0 refl) in
-    pass_rest d c.args.self.now c.args.input.now c.in-Ok.start c.args.cache.now c.walk_start.new.cache c.walk_start.new.cache c.walk_start.new.cache {s = c.walk_start.new.cache.store.searched} _ (c.see_bounds.ensures.slots ∙ ap (λ (d : Machine). slot_count d) c.requires.of)
-    c.in-Ok.ensures.answer c.in-Ok.ensures.effect refl
-    (rest_dead d c.args.self.now c.args.input.now c.walk_start.new.cache c.walk_start.new.cache {s = c.walk_start.new.cache.store.searched} _ refl dies) (
-      c.walk_start.new.cache.store,
-      (start_had d c.args.self.now c.args.input.now c.args.cache.now c.walk_start.new.cache c.in-Ok.start (c.see_bounds.ensures.slots ∙ ap (λ (d : Machine). slot_count d) c.requires.of) c.in-Ok.ensures.effect c.in-Ok.ensures.answer),
-      inl (c.if-keeps_none.ensures.yes refl, inr (stops_start d c.args.self.now c.args.input.now dies 0 (omega arith), refl)),
+    let low : c.known_start-start.result < 2 ^ 31 = grind (arith, common_steps, c.if-is_fixed.ensures) in
+    let slots : length c.args.cache.now.store.starts ≡ slot_count c.args.self.now = c.see_bounds.ensures.slots ∙ ap (λ (d : Machine). slot_count d) c.requires.of in
+    let a = c.known_start-start.ensures.answer low in
+    let e = c.known_start-start.ensures.effect low in
+    let had = start_had d c.args.self.now c.args.input.now c.args.cache.now c.args.cache.now c.known_start-start.result slots e a in
+    let end = c.known_pass-ended.ensures.ended c.if-ended.true in
+    let few : c.known_pass-ended.result.at ≤ length (tape_in d c.args.input.now).bytes = end.reads.0 in
+    let counted = subst (λ n. c.count_search.new.self ≡ with_store c.args.cache.now (with_searched c.args.cache.now.store (record { bytes = saturated (total_len c.args.cache.now.store.searched + n); running = None })))
+    c.bytes_read.ensures c.count_search.ensures.value in
+    pass_rest d c.args.self.now c.args.input.now c.known_start-start.result c.args.cache.now c.args.cache.now c.args.cache.now c.count_search.new.self {s = c.args.cache.now.store.searched} _ slots a e refl
+    (known_rest d c.args.self.now c.args.input.now c.known_pass-ended.result.at c.known_pass-ended.result.id c.args.cache.now c.known_pass-ended.result.found c.count_search.new.self end counted c.requires.of few) (
+      c.args.cache.now.store,
+      had,
+      inr (c.if-keeps_none.ensures.no refl, known_ended d c.args.self.now c.args.input.now c.known_pass-ended.result.at c.known_pass-ended.result.id c.args.cache.now c.known_pass-ended.result.found c.count_search.new.self end counted),
     )
     tt
 
-pub returns-then-is_dead-2-clause-effect : goal.returns-then-is_dead-2-clause-effect
-returns-then-is_dead-2-clause-effect c =
+pub rest-requires-clause-at : goal.rest-requires-clause-at
+rest-requires-clause-at c =
     let d : Direction = way_of c.args.way in
-    let begins : c.search_start.new.self.store ≡ with_search_begun d c.args.input.now 0 c.walk_start.new.cache.store =
-    subst (λ at. c.search_start.new.self.store ≡ with_searched c.walk_start.new.cache.store (started c.walk_start.new.cache.store.searched at)) c.span_offset-first.ensures (ap (λ (v : CacheView). v.store) c.search_start.ensures.value) in
-    let dies : state_in d c.args.self.now c.args.input.now 0 ≡ dead = begins_dead d c.args.self.now c.walk_start.new.cache.store.table c.args.input.now c.in-Ok.start c.in-Ok.ensures.answer.named (c.see_store.ensures.low c.in-Ok.start) c.see_store.ensures.small (c.if-is_dead-2.ensures.0 refl) in
-    pass_rest d c.args.self.now c.args.input.now c.in-Ok.start c.args.cache.now c.walk_start.new.cache c.search_start.new.self c.end_search.new.self _ (c.see_bounds.ensures.slots ∙ ap (λ (d : Machine). slot_count d) c.requires.of)
-    c.in-Ok.ensures.answer c.in-Ok.ensures.effect c.search_start.ensures.value
-    (rest_dead d c.args.self.now c.args.input.now c.search_start.new.self c.end_search.new.self _ c.end_search.ensures.value dies) (
-      c.walk_start.new.cache.store,
-      (start_had d c.args.self.now c.args.input.now c.args.cache.now c.walk_start.new.cache c.in-Ok.start (c.see_bounds.ensures.slots ∙ ap (λ (d : Machine). slot_count d) c.requires.of) c.in-Ok.ensures.effect c.in-Ok.ensures.answer),
+    let k : IsKnownUpto d c.args.self.now c.args.cache.now.store c.args.input.now c.known_pass-ended.result.at c.known_pass-ended.result.id c.known_pass-ended.result.found = c.known_pass-ended.ensures.left c.if-ended.false in
+    subst (λ (o : Option HalfMatch). IsKnownUpto d c.args.self.now c.search_start.new.self.store c.copied-copy-2.result c.known_pass-ended.result.at c.known_pass-ended.result.id o) (sym c.again-before.ensures)
+    (subst (λ (v : CacheView). IsKnownUpto d c.args.self.now v.store c.copied-copy-2.result c.known_pass-ended.result.at c.known_pass-ended.result.id c.known_pass-ended.result.found) (sym c.search_start.ensures.value)
+    (subst (λ (i : Input). IsKnownUpto d c.args.self.now (with_searched c.args.cache.now.store (started c.args.cache.now.store.searched c.span_offset.result)) i c.known_pass-ended.result.at c.known_pass-ended.result.id c.known_pass-ended.result.found) (sym c.copied-copy-2.ensures)
+    (record { within = k.within; at = k.at; learned = k.learned; known = k.known })))
+
+pub returns-in-Err-clause-refusal : goal.returns-in-Err-clause-refusal
+returns-in-Err-clause-refusal c =
+    subst (λ (i : Input). IsPassRefusal (way_of c.args.way) c.args.self.now c.begin.new.cache.store i c.in-Err.error) c.copied-copy.ensures c.in-Err.ensures.refusal
+
+pub returns-in-Err-rest-clause-refusal : goal.returns-in-Err-rest-clause-refusal
+returns-in-Err-rest-clause-refusal c =
+    subst (λ (i : Input). IsPassRefusal (way_of c.args.way) c.args.self.now c.rest.new.cache.store i c.in-Err-rest.error) c.copied-copy-2.ensures c.in-Err-rest.ensures.refusal
+
+pub returns-in-Ok-rest-clause-effect : goal.returns-in-Ok-rest-clause-effect
+returns-in-Ok-rest-clause-effect c =
+    let d : Direction = way_of c.args.way in
+    let low : c.known_start-start.result < 2 ^ 31 = grind (arith, common_steps, c.if-is_fixed.ensures) in
+    let slots : length c.args.cache.now.store.starts ≡ slot_count c.args.self.now = c.see_bounds.ensures.slots ∙ ap (λ (d : Machine). slot_count d) c.requires.of in
+    let a = c.known_start-start.ensures.answer low in
+    let e = c.known_start-start.ensures.effect low in
+    let had = start_had d c.args.self.now c.args.input.now c.args.cache.now c.args.cache.now c.known_start-start.result slots e a in
+    let begins : c.search_start.new.self.store ≡ with_search_begun d c.args.input.now 0 c.args.cache.now.store =
+    subst (λ at. c.search_start.new.self.store ≡ with_searched c.args.cache.now.store (started c.args.cache.now.store.searched at)) c.span_offset.ensures (ap (λ (v : CacheView). v.store) c.search_start.ensures.value) in
+    pass_rest d c.args.self.now c.args.input.now c.known_start-start.result c.args.cache.now c.args.cache.now c.search_start.new.self c.rest.new.cache (Ok c.in-Ok-rest.found) slots a e c.search_start.ensures.value
+    (subst (λ (i : Input). IsRestEffect d c.args.self.now i 0 c.search_start.new.self c.rest.new.cache (Ok c.in-Ok-rest.found)) c.copied-copy-2.ensures c.in-Ok-rest.ensures.effect) (
+      c.args.cache.now.store,
+      had,
       inr (
         c.if-keeps_none.ensures.no refl,
-        pass_dies d c.args.self.now c.args.input.now (with_search_begun d c.args.input.now 0 c.walk_start.new.cache.store) c.end_search.new.self.store
-            (stops_start d c.args.self.now c.args.input.now dies)
-            (ended_here d c.args.input.now 0 c.span_offset-first.result c.search_start.new.self c.end_search.new.self (sym c.span_offset-first.ensures) c.end_search.ensures.value
-            ∙ ap (λ (v : Stored). with_search_ended d c.args.input.now 0 v) begins),
+        subst (λ (v : Stored). EndsAtLast d c.args.self.now c.args.input.now v c.rest.new.cache.store) begins
+            (subst (λ (i : Input). EndsAtLast d c.args.self.now i c.search_start.new.self.store c.rest.new.cache.store) c.copied-copy-2.ensures c.in-Ok-rest.ensures.ended),
       ),
     )
     tt
 
-pub returns-then-keeps_none-clause-effect : goal.returns-then-keeps_none-clause-effect
-returns-then-keeps_none-clause-effect c =
+pub returns-in-Err-rest-clause-effect : goal.returns-in-Err-rest-clause-effect
+returns-in-Err-rest-clause-effect c =
     let d : Direction = way_of c.args.way in
-    let reads : Reads d c.args.self.now c.args.input.now 0 =
-    at_reads d c.args.self.now c.walk_start.new.cache.store.table c.args.input.now 0 c.in-Ok.start None
-    (starts_at d c.args.self.now c.walk_start.new.cache.store.table c.args.input.now c.in-Ok.start
-    (begins_alive d c.args.self.now c.walk_start.new.cache.store.table c.args.input.now c.in-Ok.start c.in-Ok.ensures.answer.named (c.see_store.ensures.low c.in-Ok.start) c.see_store.ensures.small (λ b. false_true (c.if-is_dead.ensures.1 b))))
-    (omega arith) c.find_still.ensures.alive in
-    pass_rest d c.args.self.now c.args.input.now c.in-Ok.start c.args.cache.now c.walk_start.new.cache c.walk_start.new.cache c.find_still.new.cache {s = c.walk_start.new.cache.store.searched} c.find_still.result (c.see_bounds.ensures.slots ∙ ap (λ (d : Machine). slot_count d) c.requires.of)
-    c.in-Ok.ensures.answer c.in-Ok.ensures.effect refl
-    c.find_still.ensures.effect
-    (IfOk-weaker c.find_still.result _ _
-    (λ _ read. (
-      c.walk_start.new.cache.store,
-      (start_had d c.args.self.now c.args.input.now c.args.cache.now c.walk_start.new.cache c.in-Ok.start (c.see_bounds.ensures.slots ∙ ap (λ (d : Machine). slot_count d) c.requires.of) c.in-Ok.ensures.effect c.in-Ok.ensures.answer),
-      inl (c.if-keeps_none.ensures.yes refl, inl (reads, read)),
-    ))
-    c.find_still.ensures.read)
-    (if_both c.find_still.result _ _ _
-    (λ error refused kept. inr (
-      c.walk_start.new.cache.store,
-      (start_had d c.args.self.now c.args.input.now c.args.cache.now c.walk_start.new.cache c.in-Ok.start (c.see_bounds.ensures.slots ∙ ap (λ (d : Machine). slot_count d) c.requires.of) c.in-Ok.ensures.effect c.in-Ok.ensures.answer),
-      inl (c.if-keeps_none.ensures.yes refl, reads, refused, kept),
-    ))
-    c.find_still.ensures.refusal c.find_still.ensures.kept)
-
-pub returns-then-keeps_none-clause-refusal : goal.returns-then-keeps_none-clause-refusal
-returns-then-keeps_none-clause-refusal c =
-    let d : Direction = way_of c.args.way in
-    IfErr-weaker c.find_still.result _ _
-    (λ error refused. place_refuses d c.args.self.now c.walk_start.new.cache.store.table c.find_still.new.cache.store c.args.input.now 0 c.in-Ok.start None error
-    (starts_at d c.args.self.now c.walk_start.new.cache.store.table c.args.input.now c.in-Ok.start
-    (begins_alive d c.args.self.now c.walk_start.new.cache.store.table c.args.input.now c.in-Ok.start c.in-Ok.ensures.answer.named (c.see_store.ensures.low c.in-Ok.start) c.see_store.ensures.small (λ b. false_true (c.if-is_dead.ensures.1 b))))
-    (omega arith) c.find_still.ensures.alive c.in-Ok.ensures.answer.may.0 refused)
-    c.find_still.ensures.refusal
-
-pub returns-clause-effect : goal.returns-clause-effect
-returns-clause-effect c =
-    let d : Direction = way_of c.args.way in
-    let begins : c.search_start.new.self.store ≡ with_search_begun d c.args.input.now 0 c.walk_start.new.cache.store =
-    subst (λ at. c.search_start.new.self.store ≡ with_searched c.walk_start.new.cache.store (started c.walk_start.new.cache.store.searched at)) c.span_offset-first.ensures (ap (λ (v : CacheView). v.store) c.search_start.ensures.value) in
-    pass_rest d c.args.self.now c.args.input.now c.in-Ok.start c.args.cache.now c.walk_start.new.cache c.search_start.new.self c.find.new.cache _ (c.see_bounds.ensures.slots ∙ ap (λ (d : Machine). slot_count d) c.requires.of)
-    c.in-Ok.ensures.answer c.in-Ok.ensures.effect c.search_start.ensures.value
-    c.in_ok-found.ensures.effect (
-      c.walk_start.new.cache.store,
-      (start_had d c.args.self.now c.args.input.now c.args.cache.now c.walk_start.new.cache c.in-Ok.start (c.see_bounds.ensures.slots ∙ ap (λ (d : Machine). slot_count d) c.requires.of) c.in-Ok.ensures.effect c.in-Ok.ensures.answer),
-      inr (
-        c.if-keeps_none.ensures.no refl,
-        subst (λ (v : Stored). EndsAtLast d c.args.self.now c.args.input.now v c.find.new.cache.store) begins c.in_ok-found.ensures.ended,
-      ),
-    )
-    tt
-
-pub returns-in_err-found-clause-effect : goal.returns-in_err-found-clause-effect
-returns-in_err-found-clause-effect c =
-    let d : Direction = way_of c.args.way in
-    let begins : c.search_start.new.self.store ≡ with_search_begun d c.args.input.now 0 c.walk_start.new.cache.store =
-    subst (λ at. c.search_start.new.self.store ≡ with_searched c.walk_start.new.cache.store (started c.walk_start.new.cache.store.searched at)) c.span_offset-first.ensures (ap (λ (v : CacheView). v.store) c.search_start.ensures.value) in
-    at_err c.from_residual.result _ (IsPassEffect d c.args.self.now c.args.input.now c.args.cache.now c.find.new.cache) c.from_residual.ensures.1
-    (pass_rest d c.args.self.now c.args.input.now c.in-Ok.start c.args.cache.now c.walk_start.new.cache c.search_start.new.self c.find.new.cache (Err c.in_err-found.field-0.0) (c.see_bounds.ensures.slots ∙ ap (λ (d : Machine). slot_count d) c.requires.of)
-    c.in-Ok.ensures.answer c.in-Ok.ensures.effect c.search_start.ensures.value
-    c.in_err-found.ensures.effect
+    let low : c.known_start-start.result < 2 ^ 31 = grind (arith, common_steps, c.if-is_fixed.ensures) in
+    let slots : length c.args.cache.now.store.starts ≡ slot_count c.args.self.now = c.see_bounds.ensures.slots ∙ ap (λ (d : Machine). slot_count d) c.requires.of in
+    let a = c.known_start-start.ensures.answer low in
+    let e = c.known_start-start.ensures.effect low in
+    let had = start_had d c.args.self.now c.args.input.now c.args.cache.now c.args.cache.now c.known_start-start.result slots e a in
+    let begins : c.search_start.new.self.store ≡ with_search_begun d c.args.input.now 0 c.args.cache.now.store =
+    subst (λ at. c.search_start.new.self.store ≡ with_searched c.args.cache.now.store (started c.args.cache.now.store.searched at)) c.span_offset.ensures (ap (λ (v : CacheView). v.store) c.search_start.ensures.value) in
+    pass_rest d c.args.self.now c.args.input.now c.known_start-start.result c.args.cache.now c.args.cache.now c.search_start.new.self c.rest.new.cache (Err c.in-Err-rest.error) slots a e c.search_start.ensures.value
+    (subst (λ (i : Input). IsRestEffect {T = Option HalfMatch} d c.args.self.now i 0 c.search_start.new.self c.rest.new.cache (Err c.in-Err-rest.error)) c.copied-copy-2.ensures c.in-Err-rest.ensures.effect)
     tt
     (inr (
-      c.walk_start.new.cache.store,
-      (start_had d c.args.self.now c.args.input.now c.args.cache.now c.walk_start.new.cache c.in-Ok.start (c.see_bounds.ensures.slots ∙ ap (λ (d : Machine). slot_count d) c.requires.of) c.in-Ok.ensures.effect c.in-Ok.ensures.answer),
+      c.args.cache.now.store,
+      had,
       inr (
         c.if-keeps_none.ensures.no refl,
-        subst (λ (v : Stored). IsStoppedAt d c.args.self.now c.args.input.now v c.find.new.cache.store c.in_err-found.field-0.0) begins c.in_err-found.ensures.left,
+        subst (λ (v : Stored). IsStoppedAt d c.args.self.now c.args.input.now v c.rest.new.cache.store c.in-Err-rest.error) begins
+            (subst (λ (i : Input). IsStoppedAt d c.args.self.now i c.search_start.new.self.store c.rest.new.cache.store c.in-Err-rest.error) c.copied-copy-2.ensures c.in-Err-rest.ensures.left),
       ),
-    )))
+    ))

@@ -1,0 +1,172 @@
+use Rattle.std.proofs.Common.{◌≡◌, ◌∙◌, ap, None, refl, sym, subst, inl, inr, arith}
+use Rattle.std.specs.Prelude.{Err}
+use Rattle.std.proofs.lemmas.Result.{IfErr-weaker, IfOk-weaker}
+use Rattle.automata_base.specs.Powersets.Powerset.{dead}
+use Rattle.automata_base.specs.Haystacks.Tapes.{Direction}
+use Rattle.automata_hybrid.specs.Cache.Stores.{Stored, with_searched}
+use Rattle.automata_hybrid.specs.Cache.Caches.{CacheView}
+use Rattle.automata_hybrid.specs.Machines.Machine.{Machine, slot_count}
+use Rattle.automata_hybrid.specs.Searches.PassContracts.{IsPassEffect}
+use Rattle.automata_hybrid.specs.Cache.Progress.{started}
+use Rattle.automata_hybrid.specs.Searches.Progress.{EndsAtLast, IsStoppedAt, with_search_begun, with_search_ended}
+use Rattle.automata_hybrid.specs.Searches.Passes.{Reads, state_in}
+use Rattle.automata_hybrid.specs.Cache.Table.{Rows, Names}
+use Rattle.automata_hybrid.specs.Walks.State.{way_of}
+use Rattle.automata_hybrid.proofs.Directions.{begins_alive, begins_dead}
+use Rattle.automata_hybrid.proofs.Knowing.{learned_none}
+use Rattle.automata_hybrid.proofs.Passed.{pass_rest, pass_unstarted, rest_dead}
+use Rattle.automata_hybrid.proofs.Reading.{at_err}
+use Rattle.automata_hybrid.proofs.UnitsRead.{ended_here, pass_dies, start_had}
+use Rattle.automata_hybrid.proofs.Searching.{at_reads, clean_start, false_true, if_both, place_refuses, starts_at}
+use Rattle.automata_hybrid.proofs.Searching.{starts_dead, stops_start}
+use Rattle.automata_hybrid.proofs.dfa.DFA.begin.Goals as goal
+
+pub returns-then-is_dead-clause-answer : goal.returns-then-is_dead-clause-answer
+returns-then-is_dead-clause-answer c =
+    let d : Direction = way_of c.args.way in
+    let dies : state_in d c.args.self.now c.args.input.now 0 ≡ dead = begins_dead d c.args.self.now c.walk_start.new.cache.store.table c.args.input.now c.in-Ok.start c.in-Ok.ensures.answer.named (c.see_store.ensures.low c.in-Ok.start) c.see_store.ensures.small (c.if-is_dead.ensures.0 refl) in
+    record { found = starts_dead d c.args.self.now c.args.input.now dies; clean = clean_start d c.args.self.now c.args.input.now dies c.in-Ok.ensures.answer.may.0; supported = c.in-Ok.ensures.answer.may.1 }
+
+pub returns-then-is_dead-2-clause-answer : goal.returns-then-is_dead-2-clause-answer
+returns-then-is_dead-2-clause-answer c =
+    let d : Direction = way_of c.args.way in
+    let dies : state_in d c.args.self.now c.args.input.now 0 ≡ dead = begins_dead d c.args.self.now c.walk_start.new.cache.store.table c.args.input.now c.in-Ok.start c.in-Ok.ensures.answer.named (c.see_store.ensures.low c.in-Ok.start) c.see_store.ensures.small (c.if-is_dead-2.ensures.0 refl) in
+    record { found = starts_dead d c.args.self.now c.args.input.now dies; clean = clean_start d c.args.self.now c.args.input.now dies c.in-Ok.ensures.answer.may.0; supported = c.in-Ok.ensures.answer.may.1 }
+
+pub rest-requires-clause-at : goal.rest-requires-clause-at
+rest-requires-clause-at c =
+    let d : Direction = way_of c.args.way in
+    record {
+      within = omega arith;
+      learned = learned_none d c.args.self.now c.search_start.new.self.store c.args.input.now;
+      known = λ j below. absurd (omega (arith, below));
+      at = record {
+        undone = c.requires.«open»;
+        may = c.in-Ok.ensures.answer.may;
+        at = starts_at d c.args.self.now c.search_start.new.self.store.table c.args.input.now c.in-Ok.start
+            (subst (λ (t : Rows). Names t c.in-Ok.start (state_in d c.args.self.now c.args.input.now 0)) (sym c.search_start.ensures.table)
+            (begins_alive d c.args.self.now c.walk_start.new.cache.store.table c.args.input.now c.in-Ok.start c.in-Ok.ensures.answer.named (c.see_store.ensures.low c.in-Ok.start) c.see_store.ensures.small (λ b. false_true (c.if-is_dead-2.ensures.1 b))));
+      };
+    }
+
+pub find_still-requires-clause-at : goal.find_still-requires-clause-at
+find_still-requires-clause-at c =
+    let d : Direction = way_of c.args.way in
+    record {
+      undone = c.requires.«open»;
+      may = c.in-Ok.ensures.answer.may;
+      at = starts_at d c.args.self.now c.walk_start.new.cache.store.table c.args.input.now c.in-Ok.start
+          (begins_alive d c.args.self.now c.walk_start.new.cache.store.table c.args.input.now c.in-Ok.start c.in-Ok.ensures.answer.named (c.see_store.ensures.low c.in-Ok.start) c.see_store.ensures.small (λ b. false_true (c.if-is_dead.ensures.1 b)));
+    }
+
+pub returns-in-Err-clause-effect : goal.returns-in-Err-clause-effect
+returns-in-Err-clause-effect c =
+    let d : Direction = way_of c.args.way in
+    (pass_unstarted d c.args.self.now c.args.input.now _ _ c.args.cache.now c.walk_start.new.cache c.in-Err.error (c.see_bounds.ensures.slots ∙ ap (λ (d : Machine). slot_count d) c.requires.of)
+    c.in-Err.ensures.refusal c.in-Err.ensures.effect refl refl)
+
+pub returns-then-is_dead-clause-effect : goal.returns-then-is_dead-clause-effect
+returns-then-is_dead-clause-effect c =
+    let d : Direction = way_of c.args.way in
+    let dies : state_in d c.args.self.now c.args.input.now 0 ≡ dead = begins_dead d c.args.self.now c.walk_start.new.cache.store.table c.args.input.now c.in-Ok.start c.in-Ok.ensures.answer.named (c.see_store.ensures.low c.in-Ok.start) c.see_store.ensures.small (c.if-is_dead.ensures.0 refl) in
+    pass_rest d c.args.self.now c.args.input.now c.in-Ok.start c.args.cache.now c.walk_start.new.cache c.walk_start.new.cache c.walk_start.new.cache {s = c.walk_start.new.cache.store.searched} _ (c.see_bounds.ensures.slots ∙ ap (λ (d : Machine). slot_count d) c.requires.of)
+    c.in-Ok.ensures.answer c.in-Ok.ensures.effect refl
+    (rest_dead d c.args.self.now c.args.input.now c.walk_start.new.cache c.walk_start.new.cache {s = c.walk_start.new.cache.store.searched} _ refl dies) (
+      c.walk_start.new.cache.store,
+      (start_had d c.args.self.now c.args.input.now c.args.cache.now c.walk_start.new.cache c.in-Ok.start (c.see_bounds.ensures.slots ∙ ap (λ (d : Machine). slot_count d) c.requires.of) c.in-Ok.ensures.effect c.in-Ok.ensures.answer),
+      inl (c.if-keeps_none.ensures.yes refl, inr (stops_start d c.args.self.now c.args.input.now dies 0 (omega arith), refl)),
+    )
+    tt
+
+pub returns-then-is_dead-2-clause-effect : goal.returns-then-is_dead-2-clause-effect
+returns-then-is_dead-2-clause-effect c =
+    let d : Direction = way_of c.args.way in
+    let begins : c.search_start.new.self.store ≡ with_search_begun d c.args.input.now 0 c.walk_start.new.cache.store =
+    subst (λ at. c.search_start.new.self.store ≡ with_searched c.walk_start.new.cache.store (started c.walk_start.new.cache.store.searched at)) c.span_offset-first.ensures (ap (λ (v : CacheView). v.store) c.search_start.ensures.value) in
+    let dies : state_in d c.args.self.now c.args.input.now 0 ≡ dead = begins_dead d c.args.self.now c.walk_start.new.cache.store.table c.args.input.now c.in-Ok.start c.in-Ok.ensures.answer.named (c.see_store.ensures.low c.in-Ok.start) c.see_store.ensures.small (c.if-is_dead-2.ensures.0 refl) in
+    pass_rest d c.args.self.now c.args.input.now c.in-Ok.start c.args.cache.now c.walk_start.new.cache c.search_start.new.self c.end_search.new.self _ (c.see_bounds.ensures.slots ∙ ap (λ (d : Machine). slot_count d) c.requires.of)
+    c.in-Ok.ensures.answer c.in-Ok.ensures.effect c.search_start.ensures.value
+    (rest_dead d c.args.self.now c.args.input.now c.search_start.new.self c.end_search.new.self _ c.end_search.ensures.value dies) (
+      c.walk_start.new.cache.store,
+      (start_had d c.args.self.now c.args.input.now c.args.cache.now c.walk_start.new.cache c.in-Ok.start (c.see_bounds.ensures.slots ∙ ap (λ (d : Machine). slot_count d) c.requires.of) c.in-Ok.ensures.effect c.in-Ok.ensures.answer),
+      inr (
+        c.if-keeps_none.ensures.no refl,
+        pass_dies d c.args.self.now c.args.input.now (with_search_begun d c.args.input.now 0 c.walk_start.new.cache.store) c.end_search.new.self.store
+            (stops_start d c.args.self.now c.args.input.now dies)
+            (ended_here d c.args.input.now 0 c.span_offset-first.result c.search_start.new.self c.end_search.new.self (sym c.span_offset-first.ensures) c.end_search.ensures.value
+            ∙ ap (λ (v : Stored). with_search_ended d c.args.input.now 0 v) begins),
+      ),
+    )
+    tt
+
+pub returns-then-keeps_none-clause-effect : goal.returns-then-keeps_none-clause-effect
+returns-then-keeps_none-clause-effect c =
+    let d : Direction = way_of c.args.way in
+    let reads : Reads d c.args.self.now c.args.input.now 0 =
+    at_reads d c.args.self.now c.walk_start.new.cache.store.table c.args.input.now 0 c.in-Ok.start None
+    (starts_at d c.args.self.now c.walk_start.new.cache.store.table c.args.input.now c.in-Ok.start
+    (begins_alive d c.args.self.now c.walk_start.new.cache.store.table c.args.input.now c.in-Ok.start c.in-Ok.ensures.answer.named (c.see_store.ensures.low c.in-Ok.start) c.see_store.ensures.small (λ b. false_true (c.if-is_dead.ensures.1 b))))
+    (omega arith) c.find_still.ensures.alive in
+    pass_rest d c.args.self.now c.args.input.now c.in-Ok.start c.args.cache.now c.walk_start.new.cache c.walk_start.new.cache c.find_still.new.cache {s = c.walk_start.new.cache.store.searched} c.find_still.result (c.see_bounds.ensures.slots ∙ ap (λ (d : Machine). slot_count d) c.requires.of)
+    c.in-Ok.ensures.answer c.in-Ok.ensures.effect refl
+    c.find_still.ensures.effect
+    (IfOk-weaker c.find_still.result _ _
+    (λ _ read. (
+      c.walk_start.new.cache.store,
+      (start_had d c.args.self.now c.args.input.now c.args.cache.now c.walk_start.new.cache c.in-Ok.start (c.see_bounds.ensures.slots ∙ ap (λ (d : Machine). slot_count d) c.requires.of) c.in-Ok.ensures.effect c.in-Ok.ensures.answer),
+      inl (c.if-keeps_none.ensures.yes refl, inl (reads, read)),
+    ))
+    c.find_still.ensures.read)
+    (if_both c.find_still.result _ _ _
+    (λ error refused kept. inr (
+      c.walk_start.new.cache.store,
+      (start_had d c.args.self.now c.args.input.now c.args.cache.now c.walk_start.new.cache c.in-Ok.start (c.see_bounds.ensures.slots ∙ ap (λ (d : Machine). slot_count d) c.requires.of) c.in-Ok.ensures.effect c.in-Ok.ensures.answer),
+      inl (c.if-keeps_none.ensures.yes refl, reads, refused, kept),
+    ))
+    c.find_still.ensures.refusal c.find_still.ensures.kept)
+
+pub returns-then-keeps_none-clause-refusal : goal.returns-then-keeps_none-clause-refusal
+returns-then-keeps_none-clause-refusal c =
+    let d : Direction = way_of c.args.way in
+    IfErr-weaker c.find_still.result _ _
+    (λ error refused. place_refuses d c.args.self.now c.walk_start.new.cache.store.table c.find_still.new.cache.store c.args.input.now 0 c.in-Ok.start None error
+    (starts_at d c.args.self.now c.walk_start.new.cache.store.table c.args.input.now c.in-Ok.start
+    (begins_alive d c.args.self.now c.walk_start.new.cache.store.table c.args.input.now c.in-Ok.start c.in-Ok.ensures.answer.named (c.see_store.ensures.low c.in-Ok.start) c.see_store.ensures.small (λ b. false_true (c.if-is_dead.ensures.1 b))))
+    (omega arith) c.find_still.ensures.alive c.in-Ok.ensures.answer.may.0 refused)
+    c.find_still.ensures.refusal
+
+pub returns-clause-effect : goal.returns-clause-effect
+returns-clause-effect c =
+    let d : Direction = way_of c.args.way in
+    let begins : c.search_start.new.self.store ≡ with_search_begun d c.args.input.now 0 c.walk_start.new.cache.store =
+    subst (λ at. c.search_start.new.self.store ≡ with_searched c.walk_start.new.cache.store (started c.walk_start.new.cache.store.searched at)) c.span_offset-first.ensures (ap (λ (v : CacheView). v.store) c.search_start.ensures.value) in
+    pass_rest d c.args.self.now c.args.input.now c.in-Ok.start c.args.cache.now c.walk_start.new.cache c.search_start.new.self c.rest.new.cache _ (c.see_bounds.ensures.slots ∙ ap (λ (d : Machine). slot_count d) c.requires.of)
+    c.in-Ok.ensures.answer c.in-Ok.ensures.effect c.search_start.ensures.value
+    c.in_ok-found.ensures.effect (
+      c.walk_start.new.cache.store,
+      (start_had d c.args.self.now c.args.input.now c.args.cache.now c.walk_start.new.cache c.in-Ok.start (c.see_bounds.ensures.slots ∙ ap (λ (d : Machine). slot_count d) c.requires.of) c.in-Ok.ensures.effect c.in-Ok.ensures.answer),
+      inr (
+        c.if-keeps_none.ensures.no refl,
+        subst (λ (v : Stored). EndsAtLast d c.args.self.now c.args.input.now v c.rest.new.cache.store) begins c.in_ok-found.ensures.ended,
+      ),
+    )
+    tt
+
+pub returns-in_err-found-clause-effect : goal.returns-in_err-found-clause-effect
+returns-in_err-found-clause-effect c =
+    let d : Direction = way_of c.args.way in
+    let begins : c.search_start.new.self.store ≡ with_search_begun d c.args.input.now 0 c.walk_start.new.cache.store =
+    subst (λ at. c.search_start.new.self.store ≡ with_searched c.walk_start.new.cache.store (started c.walk_start.new.cache.store.searched at)) c.span_offset-first.ensures (ap (λ (v : CacheView). v.store) c.search_start.ensures.value) in
+    at_err c.from_residual.result _ (IsPassEffect d c.args.self.now c.args.input.now c.args.cache.now c.rest.new.cache) c.from_residual.ensures.1
+    (pass_rest d c.args.self.now c.args.input.now c.in-Ok.start c.args.cache.now c.walk_start.new.cache c.search_start.new.self c.rest.new.cache (Err c.in_err-found.field-0.0) (c.see_bounds.ensures.slots ∙ ap (λ (d : Machine). slot_count d) c.requires.of)
+    c.in-Ok.ensures.answer c.in-Ok.ensures.effect c.search_start.ensures.value
+    c.in_err-found.ensures.effect
+    tt
+    (inr (
+      c.walk_start.new.cache.store,
+      (start_had d c.args.self.now c.args.input.now c.args.cache.now c.walk_start.new.cache c.in-Ok.start (c.see_bounds.ensures.slots ∙ ap (λ (d : Machine). slot_count d) c.requires.of) c.in-Ok.ensures.effect c.in-Ok.ensures.answer),
+      inr (
+        c.if-keeps_none.ensures.no refl,
+        subst (λ (v : Stored). IsStoppedAt d c.args.self.now c.args.input.now v c.rest.new.cache.store c.in_err-found.field-0.0) begins c.in_err-found.ensures.left,
+      ),
+    )))

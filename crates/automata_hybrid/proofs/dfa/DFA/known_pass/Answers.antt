@@ -1,0 +1,96 @@
+use Rattle.std.proofs.Common.{ℕ, suc, ◌≡◌, ◌∙◌, ◌+◌, ◌-◌, ◌<◌, ◌≤◌, ◌^◌, None, true, false, length, subst, sym, refl, arith}
+use Rattle.std.proofs.lemmas.Grind.{common_steps}
+use Rattle.automata_base.specs.Haystacks.Tapes.{Direction}
+use Rattle.automata_hybrid.specs.Searches.PassContracts.{IsKnownEnd, IsKnownUpto}
+use Rattle.automata_hybrid.specs.Searches.Passes.{tape_in}
+use Rattle.automata_hybrid.specs.Walks.State.{way_of}
+use Rattle.automata_hybrid.specs.declared.search.known.Known.{Known}
+use Rattle.automata_hybrid.proofs.Directions.{units_in}
+use Rattle.automata_hybrid.proofs.Knowing.{learned_none}
+use Rattle.automata_hybrid.proofs.KnownPasses.{known_dead, known_first, known_last, known_leads, known_more}
+use Rattle.automata_hybrid.proofs.Searching.{false_true, none_is, some_is}
+use Rattle.automata_hybrid.proofs.dfa.DFA.known_pass.Goals as goal
+use Rattle.automata_hybrid.proofs.dfa.DFA.known_pass.Goals.{else-get_earliest-via-then-get_earliest+else-is_some}
+use Rattle.automata_hybrid.proofs.dfa.DFA.known_pass.Goals.{else-get_earliest-via-else-get_earliest}
+
+pub found_at-found-requires-clause-leads : goal.found_at-found-requires-clause-leads
+found_at-found-requires-clause-leads c =
+    let d : Direction = way_of c.args.way in
+    let k : ℕ = c.run-run.result.at in
+    let low : c.known_next-next.result < 2 ^ 31 = grind (arith, common_steps, c.if-is_unknown.ensures.size) in
+    let upto : IsKnownUpto d c.args.self.now c.args.cache.now.store c.args.input.now k c.run-run.result.id c.run-run.result.found = record {
+      within = c.run-run.ensures.within;
+      at = record { undone = c.requires.at.undone; may = c.requires.at.may; at = c.run-run.ensures.at };
+      learned = c.run-run.ensures.learned (learned_none d c.args.self.now c.args.cache.now.store c.args.input.now);
+      known = λ j below. c.run-run.ensures.known j (omega arith) below;
+    } in
+    let few : k ≤ length (tape_in d c.args.input.now).bytes = (let u = units_in d c.args.input.now c.requires.at.undone c.last_place-last.ensures.inside in omega (arith, u, upto.within)) in
+    (_, known_leads d c.args.self.now c.args.input.now k c.run-run.result.id c.args.cache.now c.run-run.result.found c.known_next-next.result c.requires.of c.see_store.ensures upto few (subst (λ n. n < 2 ^ 31) (c.known_next-next.ensures.value low) low) (c.known_next-next.ensures.answer low) (c.known_next-next.ensures.effect low) (λ b. false_true (c.if-is_quit.ensures.1 b)))
+
+pub returns-then-is_dead-clause-ended : goal.returns-then-is_dead-clause-ended
+returns-then-is_dead-clause-ended c =
+    let d : Direction = way_of c.args.way in
+    let k : ℕ = c.run-run.result.at in
+    let low : c.known_next-next.result < 2 ^ 31 = grind (arith, common_steps, c.if-is_unknown.ensures.size) in
+    let upto : IsKnownUpto d c.args.self.now c.args.cache.now.store c.args.input.now k c.run-run.result.id c.run-run.result.found = record {
+      within = c.run-run.ensures.within;
+      at = record { undone = c.requires.at.undone; may = c.requires.at.may; at = c.run-run.ensures.at };
+      learned = c.run-run.ensures.learned (learned_none d c.args.self.now c.args.cache.now.store c.args.input.now);
+      known = λ j below. c.run-run.ensures.known j (omega arith) below;
+    } in
+    let few : k ≤ length (tape_in d c.args.input.now).bytes = (let u = units_in d c.args.input.now c.requires.at.undone c.last_place-last.ensures.inside in omega (arith, u, upto.within)) in
+    subst (λ (r : Known). r.ended ≡ true → IsKnownEnd d c.args.self.now c.args.cache.now c.args.input.now r.at r.id r.found) (sym c.ended.ensures)
+    (λ _. known_dead d c.args.self.now c.args.input.now k c.run-run.result.id c.args.cache.now c.run-run.result.found c.known_next-next.result c.requires.of c.see_store.ensures upto few (subst (λ n. n < 2 ^ 31) (c.known_next-next.ensures.value low) low) (c.known_next-next.ensures.answer low) (c.known_next-next.ensures.effect low) (λ b. false_true (c.if-is_quit.ensures.1 b)) (c.if-is_dead.ensures.0 refl))
+
+pub returns-then-run-last-clause-ended : goal.returns-then-run-last-clause-ended
+returns-then-run-last-clause-ended c =
+    let d : Direction = way_of c.args.way in
+    let k : ℕ = c.run-run.result.at in
+    let low : c.known_next-next.result < 2 ^ 31 = grind (arith, common_steps, c.if-is_unknown.ensures.size) in
+    let upto : IsKnownUpto d c.args.self.now c.args.cache.now.store c.args.input.now k c.run-run.result.id c.run-run.result.found = record {
+      within = c.run-run.ensures.within;
+      at = record { undone = c.requires.at.undone; may = c.requires.at.may; at = c.run-run.ensures.at };
+      learned = c.run-run.ensures.learned (learned_none d c.args.self.now c.args.cache.now.store c.args.input.now);
+      known = λ j below. c.run-run.ensures.known j (omega arith) below;
+    } in
+    let few : k ≤ length (tape_in d c.args.input.now).bytes = (let u = units_in d c.args.input.now c.requires.at.undone c.last_place-last.ensures.inside in omega (arith, u, upto.within)) in
+    subst (λ (r : Known). r.ended ≡ true → IsKnownEnd d c.args.self.now c.args.cache.now c.args.input.now r.at r.id r.found) (sym c.ended-then-run-last.ensures)
+    (λ _. known_last d c.args.self.now c.args.input.now k c.run-run.result.id c.args.cache.now c.run-run.result.found c.known_next-next.result c.requires.of c.see_store.ensures upto few (subst (λ n. n < 2 ^ 31) (c.known_next-next.ensures.value low) low) (c.known_next-next.ensures.answer low) (c.known_next-next.ensures.effect low) (λ b. false_true (c.if-is_quit.ensures.1 b)) c.found_at-found.result c.place_offset.result c.place_offset.ensures c.found_at-found.ensures (let u = units_in d c.args.input.now c.requires.at.undone c.last_place-last.ensures.inside in omega (arith, u, upto.within, c.if-run-last.true, c.last_place-last.ensures.place)))
+
+pub returns-then-is_some-clause-ended : goal.returns-then-is_some-clause-ended
+returns-then-is_some-clause-ended c =
+    let d : Direction = way_of c.args.way in
+    let k : ℕ = c.run-run.result.at in
+    let low : c.known_next-next.result < 2 ^ 31 = grind (arith, common_steps, c.if-is_unknown.ensures.size) in
+    let upto : IsKnownUpto d c.args.self.now c.args.cache.now.store c.args.input.now k c.run-run.result.id c.run-run.result.found = record {
+      within = c.run-run.ensures.within;
+      at = record { undone = c.requires.at.undone; may = c.requires.at.may; at = c.run-run.ensures.at };
+      learned = c.run-run.ensures.learned (learned_none d c.args.self.now c.args.cache.now.store c.args.input.now);
+      known = λ j below. c.run-run.ensures.known j (omega arith) below;
+    } in
+    let few : k ≤ length (tape_in d c.args.input.now).bytes = (let u = units_in d c.args.input.now c.requires.at.undone c.last_place-last.ensures.inside in omega (arith, u, upto.within)) in
+    subst (λ (r : Known). r.ended ≡ true → IsKnownEnd d c.args.self.now c.args.cache.now c.args.input.now r.at r.id r.found) (sym c.ended-then-is_some.ensures)
+    (λ _. known_first d c.args.self.now c.args.input.now k c.run-run.result.id c.args.cache.now c.run-run.result.found c.known_next-next.result c.requires.of c.see_store.ensures upto few (subst (λ n. n < 2 ^ 31) (c.known_next-next.ensures.value low) low) (c.known_next-next.ensures.answer low) (c.known_next-next.ensures.effect low) (λ b. false_true (c.if-is_quit.ensures.1 b)) c.found_at-found.result c.place_offset.result c.place_offset.ensures c.found_at-found.ensures (sym c.get_earliest.ensures ∙ c.if-get_earliest.true) (some_is c.found_at-found.result c.if-is_some.ensures))
+
+pub returns-clause-left : goal.returns-clause-left
+returns-clause-left c =
+    let d : Direction = way_of c.args.way in
+    let k : ℕ = c.run-run.result.at in
+    let low : c.known_next-next.result < 2 ^ 31 = grind (arith, common_steps, c.if-is_unknown.ensures.size) in
+    let upto : IsKnownUpto d c.args.self.now c.args.cache.now.store c.args.input.now k c.run-run.result.id c.run-run.result.found = record {
+      within = c.run-run.ensures.within;
+      at = record { undone = c.requires.at.undone; may = c.requires.at.may; at = c.run-run.ensures.at };
+      learned = c.run-run.ensures.learned (learned_none d c.args.self.now c.args.cache.now.store c.args.input.now);
+      known = λ j below. c.run-run.ensures.known j (omega arith) below;
+    } in
+    let few : k ≤ length (tape_in d c.args.input.now).bytes = (let u = units_in d c.args.input.now c.requires.at.undone c.last_place-last.ensures.inside in omega (arith, u, upto.within)) in
+    let less : k < c.args.input.now.end - c.args.input.now.start = omega (arith, c.if-run-last.false, c.last_place-last.ensures.place) in
+    let more : suc k ≡ c.run-run.result.at + 1 = omega arith in
+    let first : c.args.input.now.earliest ≡ true → c.found_at-found.result ≡ None =
+    elim c.else-get_earliest.branch [
+      | else-get_earliest-via-then-get_earliest+else-is_some w ↦ λ e. none_is c.found_at-found.result (sym w.is_some.ensures ∙ w.if-is_some.false)
+      | else-get_earliest-via-else-get_earliest w ↦ λ e. absurd (false_true (sym w.if-get_earliest.false ∙ (c.get_earliest.ensures ∙ e)))
+    ] in
+    subst (λ (r : Known). r.ended ≡ false → IsKnownUpto d c.args.self.now c.args.cache.now.store c.args.input.now r.at r.id r.found) (sym c.left-2.ensures)
+    (λ _. subst (λ n. IsKnownUpto d c.args.self.now c.args.cache.now.store c.args.input.now n c.known_next-next.result c.found_at-found.result) more
+    (known_more d c.args.self.now c.args.input.now k c.run-run.result.id c.args.cache.now c.run-run.result.found c.known_next-next.result c.requires.of c.see_store.ensures upto few (subst (λ n. n < 2 ^ 31) (c.known_next-next.ensures.value low) low) (c.known_next-next.ensures.answer low) (c.known_next-next.ensures.effect low) (λ b. false_true (c.if-is_quit.ensures.1 b)) c.found_at-found.result c.place_offset.result c.place_offset.ensures c.found_at-found.ensures (λ b. false_true (c.if-is_dead.ensures.1 b)) first less))

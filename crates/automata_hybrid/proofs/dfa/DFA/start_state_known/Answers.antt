@@ -1,0 +1,46 @@
+use Rattle.std.proofs.Common.{ℕ, Bool, ◌≡◌, ◌∙◌, ◌^◌, ◌<◌, Option, None, Some, ap, subst, sym, refl, false, true}
+use Rattle.std.specs.Prelude.{Result, Ok, Err, IfSome}
+use Rattle.std.specs.Option.{is_some}
+use Rattle.automata_base.specs.declared.util.search.Anchored.{Anchored}
+use Rattle.automata_config.specs.declared.error.StartError.{StartError}
+use Rattle.automata_config.specs.declared.error.StartError.TheVariants.{UnsupportedAnchored}
+use Rattle.automata_hybrid.specs.Machines.Machine.{Machine, slot_count}
+use Rattle.automata_hybrid.specs.Machines.StartSlots.{slot_behind, supports}
+use Rattle.automata_hybrid.specs.Steps.Starts.{IsStartSlot, KnowsStart, quit_behind}
+use Rattle.automata_hybrid.proofs.Starting.{knows_slot, known_answer, known_effect}
+use Rattle.automata_hybrid.proofs.dfa.DFA.start_state_known.Goals as goal
+
+is_none : (o : Option ℕ) → is_some o ≡ false → o ≡ None
+is_none None e = refl
+is_none (Some n) e = cc
+
+supported :
+    (o : Option ℕ) (mode : Anchored) (b : Bool)
+    → (b ≡ false → ◌≡◌ {A = Result (Option ℕ) StartError} (Ok o) (Err (UnsupportedAnchored mode))) → b ≡ true
+supported o mode true refused = refl
+supported o mode false refused = let bad : ◌≡◌ {A = Result (Option ℕ) StartError} (Ok o) (Err (UnsupportedAnchored mode)) = refused refl in cc
+
+slot_here : (c : goal.After-start_slot) → IsStartSlot c.args.self.now c.args.mode c.args.prev c.in-Ok-Some.slot
+slot_here c =
+    let none : quit_behind c.args.self.now c.args.prev ≡ None = sym c.quits_behind.ensures ∙ is_none c.quits_behind.result (sym c.is_some.ensures ∙ c.if-is_some.false) in
+    record {
+      may = (none, supported c.in-Ok-Some.field-0 c.args.mode (supports c.args.self.now c.args.mode) c.in-Ok-Some.ensures.refused.1);
+      at = subst (λ (o : Option ℕ). IfSome o (λ n. n ≡ slot_behind c.args.self.now c.args.mode c.args.prev)) c.in-Ok-Some.field-0-is c.in-Ok-Some.ensures.slot;
+      within = subst (λ (o : Option ℕ). IfSome o (λ n. n < slot_count c.args.self.now)) c.in-Ok-Some.field-0-is c.in-Ok-Some.ensures.within;
+    }
+
+knows_here :
+    (c : goal.After-start_slot) → c.start_slot.result < 2 ^ 31
+    → KnowsStart c.args.self.now c.args.cache.now.store c.args.mode c.args.prev
+knows_here c low =
+    knows_slot c.args.self.now c.args.cache.now.store c.args.mode c.args.prev c.in-Ok-Some.slot (slot_here c)
+    (c.see_store.ensures.slots ∙ ap (λ (m : Machine). slot_count m) c.requires) (subst (λ n. n < 2 ^ 31) c.start_slot.ensures.value low)
+
+pub returns-clause-answer : goal.returns-clause-answer
+returns-clause-answer c = λ low.
+    known_answer c.args.self.now c.args.mode c.args.prev c.args.cache.now c.in-Ok-Some.slot c.start_slot.result c.requires (slot_here c) (knows_here c low)
+    c.start_slot.ensures.value low c.start_slot.ensures.leads c.start_slot.ensures.tag
+
+pub returns-clause-effect : goal.returns-clause-effect
+returns-clause-effect c = λ low.
+    known_effect c.args.self.now c.args.mode c.args.prev c.args.cache.now (knows_here c low)

@@ -1,0 +1,152 @@
+//! A run over cached transitions alone: it only reads the cache.
+ghost use Rattle.std.specs.Prelude.{◌≡◌, ◌-◌, ◌<◌, ◌≤◌, None, Ok, true, false};
+ghost use Rattle.automata_base.specs.Paths.Paths.{next};
+ghost use Rattle.automata_hybrid.specs.Cache.Caches.{IsCacheOf};
+ghost use Rattle.automata_hybrid.specs.Cache.Ids.{unknown_id};
+ghost use Rattle.automata_hybrid.specs.Cache.Table.{IsValid, Names};
+ghost use Rattle.automata_hybrid.specs.Searches.PassContracts.{IsKnownEnd, IsKnownUpto, IsUnderway};
+ghost use Rattle.automata_hybrid.specs.Searches.PassState.{IsMet};
+ghost use Rattle.automata_hybrid.specs.Searches.Passes.{state_in, tape_in};
+ghost use Rattle.automata_hybrid.specs.Searches.Units.{IsReadEffect};
+ghost use Rattle.automata_hybrid.specs.Steps.Starts.{IsStartAnswer, IsStartEffect};
+ghost use Rattle.automata_hybrid.specs.Steps.Steps.{IsStepAnswer, known_step};
+ghost use Rattle.automata_hybrid.specs.Walks.State.{way_of};
+
+use crate::dfa::DFA;
+use crate::dfa::cache::Cache;
+use crate::id::LazyStateID;
+use crate::search::direction::{Way, byte_at, byte_behind, last_place, place_offset, unit_at};
+use automata_base::util::search::{HalfMatch, Input};
+
+/// How far cached transitions led a pass.
+#[derive(Drop)]
+pub(super) struct Known {
+    /// Whether the pass has ended with the unit at the place.
+    pub(super) ended: bool,
+    pub(super) at: usize,
+    /// The ID of the state at the place.
+    pub(super) id: LazyStateID,
+    /// What the pass finds, where it has ended, and else what it has found before the place.
+    pub(super) found: Option<HalfMatch>,
+}
+
+impl Known {
+    fn ended(at: usize, id: LazyStateID, found: Option<HalfMatch>) -> Known
+        ensures { result ≡ record { ended = true; at = at; id = id; found = found } }
+    {
+        Known {
+            ended: true,
+            at,
+            id,
+            found,
+        }
+    }
+
+    fn left(at: usize, id: LazyStateID, found: Option<HalfMatch>) -> Known
+        ensures { result ≡ record { ended = false; at = at; id = id; found = found } }
+    {
+        Known {
+            ended: false,
+            at,
+            id,
+            found,
+        }
+    }
+}
+
+impl DFA {
+    /// The start state of a search, if it may start and that is cached, and else the unknown ID.
+    #[inline(always)]
+    pub(super) fn known_start(&self, cache: &Cache, input: &Input<'_>, way: Way) -> LazyStateID
+        requires { IsCacheOf cache.now self.now }
+        ensures answer { result < unknown_id → IsStartAnswer self.now input.now.anchored
+            (tape_in (way_of way) input.now).before cache.now cache.now result }
+        ensures effect { result < unknown_id → IsStartEffect self.now input.now.anchored
+            (tape_in (way_of way) input.now).before cache.now cache.now }
+    {
+        self.start_state_known(cache, input.get_anchored(), byte_behind(input, way))
+    }
+
+    /// The ID after a unit, as far as it is cached.
+    #[inline(always)]
+    fn known_step(&self, cache: &Cache, id: LazyStateID, unit: Option<u8>) -> LazyStateID
+        requires of { IsCacheOf cache.now self.now }
+        requires valid { IsValid cache.now.store.table id }
+        ensures value { result ≡ known_step self.now cache.now.store id unit }
+        ensures answer { result < unknown_id → IsStepAnswer self.now id unit cache.now cache.now result }
+        ensures effect { result < unknown_id → IsReadEffect self.now id unit cache.now cache.now (Ok result) }
+    {
+        self.see_machine();
+        cache.see_store();
+        cache.cell(id, self.unit_class(unit))
+    }
+
+    /// The ID after the unit at a place: the one that was met there, or at the last place as far as it is cached.
+    #[inline(always)]
+    fn known_next(
+        &self,
+        cache: &Cache,
+        input: &Input<'_>,
+        way: Way,
+        at: usize,
+        id: LazyStateID,
+        met: LazyStateID,
+    ) -> LazyStateID
+        requires of { IsCacheOf cache.now self.now }
+        requires open { input.now.start ≤ input.now.end }
+        requires within { at ≤ input.now.end - input.now.start }
+        requires named { Names cache.now.store.table id (state_in (way_of way) self.now input.now at) }
+        requires met { IsMet (way_of way) self.now cache.now.store input.now at id met }
+        ensures value { result < unknown_id
+            → result ≡ known_step self.now cache.now.store id (next (tape_in (way_of way) input.now) at) }
+        ensures answer { result < unknown_id → IsStepAnswer self.now id
+            (next (tape_in (way_of way) input.now) at) cache.now cache.now result }
+        ensures effect { result < unknown_id → IsReadEffect self.now id
+            (next (tape_in (way_of way) input.now) at) cache.now cache.now (Ok result) }
+    {
+        if at < last_place(input) {
+            let _next = self.known_step(cache, id, Some(byte_at(input, way, at)));
+            return met;
+        }
+        self.known_step(cache, id, unit_at(input, way, at))
+    }
+
+    /// A pass over cached transitions from its start state, as far as these lead.
+    #[inline(always)]
+    pub(super) fn known_pass(
+        &self,
+        cache: &Cache,
+        input: &Input<'_>,
+        way: Way,
+        start: LazyStateID,
+    ) -> Known
+        requires of { IsCacheOf cache.now self.now }
+        requires at { IsUnderway (way_of way) self.now cache.now.store.table input.now 0 start None }
+        ensures ended { result.ended ≡ true
+            → IsKnownEnd (way_of way) self.now cache.now input.now result.at result.id result.found }
+        ensures left { result.ended ≡ false
+            → IsKnownUpto (way_of way) self.now cache.now.store input.now result.at result.id result.found }
+    {
+        cache.see_store();
+        let last = last_place(input);
+        let run = self.run(cache, input, way, 0, start, None);
+        let next = self.known_next(cache, input, way, run.at, run.id, run.next);
+        if next.is_unknown() {
+            return Known::left(run.at, run.id, run.found);
+        }
+        if next.is_quit() {
+            return Known::left(run.at, run.id, run.found);
+        }
+        if next.is_dead() {
+            return Known::ended(run.at, run.id, run.found);
+        }
+        let found = self.found_at(cache, next, place_offset(input, way, run.at), run.found);
+        if run.at >= last {
+            return Known::ended(run.at, run.id, found);
+        }
+        if input.get_earliest() && found.is_some() {
+            return Known::ended(run.at, run.id, found);
+        }
+        Known::left(run.at + 1, next, found)
+    }
+}
