@@ -7,8 +7,8 @@ use Rattle.automata_base.specs.Powersets.Closure.{IsUnderWay}
 abbrev pub Extends : List ℕ → List ℕ → Type 0
 Extends before after = (more : List ℕ) × (after ≡ before ++ more)
 
--- Of these children some at the front were visited, and the others wait before what waited. `before` and `after` are the
--- states visited.
+-- Of these children some at the front were visited, and the others wait before what waited. `before` and `after` are
+-- the states visited.
 pub record IsExpanded (n : Nfa) (A : Truth) (children before after waited waiting : List ℕ) : Type 0 where
   pub way : (roots tail : List ℕ) → IsUnderWay n A roots (children ++ (waited ++ tail)) before
       → IsUnderWay n A roots (waiting ++ tail) after
