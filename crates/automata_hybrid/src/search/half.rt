@@ -148,7 +148,7 @@ impl DFA {
     {
         let mut later = with_span(input, input.start(), input.end());
         while !later.is_done() {
-            // No `?`, as in `pass`.
+            // No `?`: it sends each value through memory, also where there is no error.
             let found = match self.pass(cache, &later, way) {
                 Ok(found) => found,
                 Err(error) => return Err(error),
