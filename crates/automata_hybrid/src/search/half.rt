@@ -147,7 +147,7 @@ impl DFA {
     {
         let mut later = input.copied();
         while !later.is_done() {
-            // No `?`, as in `pass`.
+            // No `?`: it sends each value through memory, also where there is no error.
             let found = match self.pass(cache, &later, way) {
                 Ok(found) => found,
                 Err(error) => return Err(error),

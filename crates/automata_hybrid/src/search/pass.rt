@@ -49,6 +49,9 @@ fn again(found: Option<HalfMatch>) -> Option<HalfMatch>
 impl DFA {
     /// One run over the span, which is not done. While all that it reads is cached, it changes nothing, and it counts its
     /// bytes once it has ended.
+    // `begin` and `rest` are not inlined, so that a search which finds all that it needs cached keeps its numbers in
+    // registers. What they are lent and what they return stands in memory: so they are lent copies, and what they return
+    // is taken apart.
     #[inline(always)]
     pub(super) fn pass(
         &self,
@@ -95,8 +98,6 @@ impl DFA {
     }
 
     /// The same, of which the start state may not be cached.
-    // It is not inlined, and `rest` is not, so that a search which finds all that it needs keeps its numbers in registers.
-    // They are lent copies of the input, since one that is lent stands in memory.
     #[inline(never)]
     fn begin(
         &self,
@@ -114,7 +115,6 @@ impl DFA {
         ensures effect { IsPassEffect (way_of way) self.now input.now cache.old cache.new result }
     {
         cache.see_bounds();
-        // Here and below no `?`: it sends each value through memory, also where there is no error.
         let start = match self.walk_start(cache, input, way) {
             Ok(start) => start,
             Err(error) => return Err(error),
