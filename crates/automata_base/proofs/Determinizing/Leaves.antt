@@ -13,7 +13,9 @@ use Rattle.automata_base.specs.Haystacks.LookSets.{truth_of}
 use Rattle.automata_base.specs.Powersets.Closure.{children, children_at, IsUnderWay}
 use Rattle.automata_base.specs.Retraced.Expanding.{IsExpanded, Extends}
 use Rattle.automata_base.proofs.Paths.Loops.{under_way_skip, under_way_visit}
-use Rattle.automata_base.proofs.Determinizing.Distinct.{In-Contains, Contains-In, In-either, In-left, In-right}
+use Rattle.automata_base.proofs.Determinizing.Distinct.{In-Contains, Contains-In}
+use Rattle.automata_base.proofs.Paths.FirstVisits.{in_right}
+use Rattle.automata_base.proofs.Paths.Walks.{in_either, in_left}
 use Rattle.automata_base.proofs.Determinizing.Distinct.{among, among-In, In-among, unvisited}
 use Rattle.automata_base.proofs.Determinizing.Keeping.{next_drop}
 use Rattle.automata_base.proofs.Determinizing.Walking.{Walking, work, extra_at, new_step}
@@ -36,7 +38,7 @@ extends_on first order after q true grown same (more, e) = (more ++ q ∷ [], gr
 extends_on first order after q false grown same (more, e) = (more, same refl ∙ e)
 
 among_more : (k : ℕ) (seen added : List ℕ) → among k seen ≡ true → among k (seen ++ added) ≡ true
-among_more k seen added e = among-In k (seen ++ added) (In-left k seen added (In-among k seen e))
+among_more k seen added e = among-In k (seen ++ added) (in_left k seen added (In-among k seen e))
 
 unvisited_more : (w : ℕ → ℕ) (seen added : List ℕ) (n : ℕ) → unvisited w (seen ++ added) n ≤ unvisited w seen n
 unfolding unvisited
@@ -80,15 +82,15 @@ waiting_on a looks old start order after was waiting kids x w =
         room =
             (let less = unvisited_extends (extra_at a.states) order after (length a.states) x.grown in
             omega (arith, less, shorter, w.room));
-        below = λ q i. w.below q (back q (In-either q (drop x.left.0 kids) was (subst (In q) x.left.1 i)));
+        below = λ q i. w.below q (back q (in_either q (drop x.left.0 kids) was (subst (In q) x.left.1 i)));
       },
       (let less = unvisited_extends (λ q. suc (extra_at a.states q)) order after (length a.states) x.grown in
           omega (arith, less, shorter)),
     )
   where
     back : (q : ℕ) → In q (drop x.left.0 kids) ⊎ In q was → In q (kids ++ was)
-    back q (inl i) = In-left q kids was (In-drop q x.left.0 kids i)
-    back q (inr i) = In-right q kids was i
+    back q (inl i) = in_left q kids was (In-drop q x.left.0 kids i)
+    back q (inr i) = in_right q kids was i
 
 pub expanded_step : (a : Automaton) (looks : ℕ) (old : List ℕ) (start : ℕ) (order seen after stack waiting : List ℕ) (q : ℕ) (state : State)
     → IsDoor a → state ≡ get_or a.states q state → (Contains order q → ⊥) → seen ≡ order ++ q ∷ []
@@ -108,7 +110,7 @@ pub children_below : (a : Automaton) (looks : ℕ) (old : List ℕ) (start : ℕ
     → (p : ℕ) → In p (children_at (node_of state) (truth_of looks)) → p < length a.states
 children_below a looks old start order seen stack q state door is new grown w p i =
     let kids = children_at (node_of state) (truth_of looks) in
-    (new_step a looks old start order seen stack (kids ++ stack) q state door is new grown refl w).0.below p (In-left p kids stack i)
+    (new_step a looks old start order seen stack (kids ++ stack) q state door is new grown refl w).0.below p (in_left p kids stack i)
 
 -- all children wait
 pub unmoved : (n : Nfa) (A : Truth) (kids seen was waiting : List ℕ) → waiting ≡ kids ++ was → IsExpanded n A kids seen seen was waiting
