@@ -209,9 +209,11 @@ impl DFA {
         ensures ended { OnOk result (EndsAtLast (way_of way) self.now input.now cache.old.store cache.new.store) }
         ensures left { IfErr result (IsStoppedAt (way_of way) self.now input.now cache.old.store cache.new.store) }
     {
+        // Of its own, so that a loop reads it from registers.
+        let own = copied(input);
         match way {
-            Way::Forward => self.find(cache, input, Way::Forward, from, start, before),
-            Way::Backward => self.find(cache, input, Way::Backward, from, start, before),
+            Way::Forward => self.find(cache, &own, Way::Forward, from, start, before),
+            Way::Backward => self.find(cache, &own, Way::Backward, from, start, before),
         }
     }
 
