@@ -1,6 +1,7 @@
 -- Passes over cached transitions alone: how they end, and what they make of the cache and of the progress.
 use Rattle.std.proofs.Common.{ℕ, suc, ◌≡◌, ◌∙◌, ◌+◌, ◌-◌, ◌<◌, ◌≤◌, ◌⊎◌, inl, inr, length, Option, None, Some, true, false}
 use Rattle.std.proofs.Common.{refl, sym, ap, subst, arith}
+use Rattle.std.proofs.lemmas.Bool.{cases_lt}
 use Rattle.std.specs.Prelude.{Ok}
 use Rattle.automata_base.specs.Haystacks.Input.{Input}
 use Rattle.automata_base.specs.Haystacks.Matches.{HalfMatch}
@@ -26,7 +27,7 @@ use Rattle.automata_hybrid.proofs.Growing.{grown_same}
 use Rattle.automata_hybrid.proofs.Knowing.{learned_more}
 use Rattle.automata_hybrid.proofs.Passed.{dead_answer, dead_stops, first_answer, first_stops, last_answer, rest_read}
 use Rattle.automata_hybrid.proofs.Passed.{rest_then}
-use Rattle.automata_hybrid.proofs.Searching.{at_reads, lt_or_le, more_at, more_leads, stops_last}
+use Rattle.automata_hybrid.proofs.Searching.{at_reads, more_at, more_leads, stops_last}
 use Rattle.automata_hybrid.proofs.StepCalls.{no_quit_unit}
 use Rattle.automata_hybrid.proofs.Stepping.{dead_tagged, unquit}
 use Rattle.automata_hybrid.proofs.UnitsRead.{finished_moved, pass_last, read_exactly, read_none, read_then}
@@ -143,7 +144,7 @@ module _ (way : Direction) (m : Machine) (input : Input) (k id : ℕ) (c : Cache
       learned =
           learned_more way m c.store input k id (next (tape_in way input) k) upto.learned upto.at.at.named refl knows
           (subst (λ (n : Machine). unit_class m (next (tape_in way input) k) < table_stride n) (sym of) effect.below);
-      known = λ j below. go j (lt_or_le j k) below;
+      known = λ j below. go j (cases_lt j k) below;
     } where
       go : (j : ℕ) → (j < k) ⊎ (k ≤ j) → j < suc k → KnowsUnit way m c.store input j
       go j (inl less_) below = upto.known j less_
