@@ -1,9 +1,5 @@
-pub mod Building
-pub mod Coding
-pub mod Determinizing
-pub mod Mirrors
+pub mod Nfas
+pub mod Powersets
+pub mod Answers
 pub mod Paths
-pub mod Reaching
-pub mod Spans
-pub mod Utf8
-pub mod Values
+pub mod ByteClasses

@@ -9,10 +9,10 @@ ghost use Rattle.automata_base.specs.Laws.StartIsRight.{AllEndsRise, MatchIffFou
 ghost use Rattle.automata_base.specs.Laws.Steps.{ClassesStepAlike, ClassesQuitAlike, StartsAreAlike, DeadStaysDead};
 ghost use Rattle.automata_base.specs.Laws.Steps.{PassesSelect, PassesFindNearest, PassesFindFarthest};
 ghost use Rattle.automata_base.specs.Laws.Steps.{PowersetStartsAreRight, SuccessorsAreRight};
-ghost use Rattle.automata_base.specs.Answers.OfPasses.{ToldEndsAreRight, ToldIsOne, ToldIsRight};
-ghost use Rattle.automata_base.specs.Laws.Walks.{AllPairsAreTold, OverlappingIsTold, WalkIsRight, WalksAreOne};
-ghost use Rattle.automata_base.specs.Laws.Walks.{WalksAreTold};
-ghost use Rattle.automata_base.specs.Answers.Within.{StatesTellOwn, ToldLiesWithin, WalkLiesWithin};
+ghost use Rattle.automata_base.specs.Answers.OfPasses.{ReportedEndsAreRight, ReportedIsOne, ReportedIsRight};
+ghost use Rattle.automata_base.specs.Laws.Walks.{AllPairsAreReported, OverlappingIsReported, WalkIsRight, WalksAreOne};
+ghost use Rattle.automata_base.specs.Laws.Walks.{WalksAreReported};
+ghost use Rattle.automata_base.specs.Answers.Within.{StatesReportOwn, ReportedLiesWithin, WalkLiesWithin};
 
 use crate::nfa::thompson::NFA;
 
@@ -44,7 +44,7 @@ pub fn start_is_right()
 pub fn steps_are_right(nfa: &NFA)
     ensures successors { SuccessorsAreRight nfa.now }
     ensures starts { PowersetStartsAreRight nfa.now }
-    ensures own { StatesTellOwn nfa.now }
+    ensures own { StatesReportOwn nfa.now }
 {
     let _states = nfa.states();
 }
@@ -60,19 +60,19 @@ pub fn steps_are_alike()
 
 /// What a pass reports, byte by byte, is what the ordered paths through the tape select; and if offsets inside a UTF-8
 /// encoded character are skipped, passes report one answer.
-pub fn passes_tell_paths()
+pub fn passes_report_paths()
     ensures selects { PassesSelect }
     ensures nearest { PassesFindNearest }
     ensures farthest { PassesFindFarthest }
-    ensures one { ToldIsOne }
+    ensures one { ReportedIsOne }
 {}
 
 /// What passes report is the answer of the ordered paths, both with offsets inside characters skipped; and for every
 /// NFA the nearest end, or under `MatchKind::All` the farthest one. It lies in the span, and its pattern is the NFA's.
-pub fn told_is_right(nfa: &NFA)
-    ensures answer { ToldIsRight nfa.now }
-    ensures ends { ToldEndsAreRight nfa.now }
-    ensures within { ToldLiesWithin nfa.now }
+pub fn reported_is_right(nfa: &NFA)
+    ensures answer { ReportedIsRight nfa.now }
+    ensures ends { ReportedEndsAreRight nfa.now }
+    ensures within { ReportedLiesWithin nfa.now }
 {
     let _states = nfa.states();
 }
@@ -81,11 +81,11 @@ pub fn told_is_right(nfa: &NFA)
 /// NFA it has, under `MatchKind::All`, the pairs of all accepting paths. Each pair lies in the span, and its pattern is
 /// the NFA's.
 pub fn walk_is_right(nfa: &NFA)
-    ensures told { WalksAreTold nfa.now }
+    ensures reported { WalksAreReported nfa.now }
     ensures one { WalksAreOne }
     ensures right { WalkIsRight nfa.now }
-    ensures overlapping { OverlappingIsTold nfa.now }
-    ensures all { AllPairsAreTold nfa.now }
+    ensures overlapping { OverlappingIsReported nfa.now }
+    ensures all { AllPairsAreReported nfa.now }
     ensures within { WalkLiesWithin nfa.now }
 {
     let _states = nfa.states();

@@ -1,6 +1,6 @@
 pub mod Passes
 pub mod Contracts
-pub mod Within
+pub mod Bounds
 pub mod Agreement
 pub mod Costs
 pub mod Cached

@@ -6,14 +6,14 @@ ghost use Rattle.automata_hybrid.specs.Searches.Cached.{KnownStays};
 ghost use Rattle.automata_hybrid.specs.Steps.BySteps.{FirstMatchIsFound};
 
 use crate::dfa::DFA;
-use automata_base::laws::{passes_tell_paths, told_is_right, walk_is_right};
+use automata_base::laws::{passes_report_paths, reported_is_right, walk_is_right};
 
 /// What was searched before, and how large the cache is, shows in no answer: two searches that find something for one
 /// automaton, kind and input find the same.
 pub fn answers_agree()
     ensures { AnswersAgree }
 {
-    passes_tell_paths();
+    passes_report_paths();
 }
 
 /// Nor does it show in an overlapping search: two of one NFA, match kind and input report one list, match by match.
@@ -41,7 +41,7 @@ pub fn known_stays(dfa: &DFA)
 pub fn first_match_is_found(dfa: &DFA)
     ensures { FirstMatchIsFound dfa.now }
 {
-    told_is_right(dfa.get_nfa());
+    reported_is_right(dfa.get_nfa());
 }
 
 /// Under `MatchKind::All` a set has, after `try_which_overlapping_matches`, exactly the patterns that match: those of which

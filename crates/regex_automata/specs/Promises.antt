@@ -31,7 +31,7 @@ pub use Rattle.automata_hybrid.specs.Searches.Agreement.{AnswersAgree}
 -- An overlapping search as contracts see it; it belongs to this input, and has reported so many matches; the list that it
 -- reports, the match at an index of it, and what a call returns and does to the walk.
 pub use Rattle.automata_hybrid.specs.Walks.State.{Walk}
-pub use Rattle.automata_hybrid.specs.Walks.Answers.{AreWalked, HasTold, IsWalkOf, TellsNext, half_nth}
+pub use Rattle.automata_hybrid.specs.Walks.Answers.{AreWalked, HasReported, IsWalkOf, ReportsNext, half_nth}
 pub use Rattle.automata_hybrid.specs.Walks.Contracts.{IsWalkCall}
 -- Some path of the pattern, from a start and through the span of an input, ends in a match; under `MatchKind::All` a set
 -- has exactly these patterns after a call that answers.

@@ -73,7 +73,8 @@ pub record IsNoTokenAt (m : Machine) (h : List ℕ) (end place : ℕ) : Type 0 w
   pub within : place < end
   pub none :
       IsHalf Forward m (asked h end place) (Ok None)
-      ⊎ ((pattern : ℕ) × IsHalf Forward m (asked h end place) (Ok (Some (record { pattern = pattern; offset = place }))))
+      ⊎ ((pattern : ℕ)
+      × IsHalf Forward m (asked h end place) (Ok (Some (record { pattern = pattern; offset = place }))))
 
 -- an error names this place, or is that of a search that fails over this cache
 abbrev pub IsRefusedAt : Machine → Stored → List ℕ → (end place : ℕ) → TokenError → Type 0

@@ -1,7 +1,7 @@
 //! Laws about searches over two lazy DFAs. The contract of each function is the law; its body only cites other laws.
 ghost use Rattle.regex_automata.specs.Spans.Agreement.{MatchesAgree, TruthIffFound, TruthsAgree};
 
-use automata_base::laws::passes_tell_paths;
+use automata_base::laws::passes_report_paths;
 pub use automata_base::laws::{start_is_right, walk_is_right};
 pub use automata_hybrid::laws::{
     answers_agree, first_match_is_found, sets_have_matching, walks_agree,
@@ -19,7 +19,7 @@ pub fn matches_agree()
 pub fn truths_agree()
     ensures { TruthsAgree }
 {
-    passes_tell_paths();
+    passes_report_paths();
 }
 
 /// If both answer, `is_match` is true exactly if `find` returns a match. An earliest input over DFAs that skip offsets
@@ -27,5 +27,5 @@ pub fn truths_agree()
 pub fn truth_is_found()
     ensures { TruthIffFound }
 {
-    passes_tell_paths();
+    passes_report_paths();
 }

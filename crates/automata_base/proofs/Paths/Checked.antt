@@ -16,7 +16,7 @@ use Rattle.automata_base.proofs.Paths.Orders.{some_inj, none_some}
 use Rattle.automata_base.proofs.Paths.Sets.{HasWalk}
 use Rattle.automata_base.proofs.Paths.Fuels.{is_in_false, closure_right, AllBelow}
 use Rattle.std.proofs.lemmas.Bool.{and_parts}
-use Rattle.automata_base.proofs.Spans.Empties.{run_walk}
+use Rattle.automata_base.proofs.Answers.Empties.{run_walk}
 
 pub below_in : (N : ℕ) (xs : List ℕ) (y : ℕ) → all_below N xs ≡ true → In y xs → y < N
 below_in N [] y e i = absurd i

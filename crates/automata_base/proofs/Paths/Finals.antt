@@ -5,14 +5,14 @@ use Rattle.automata_base.specs.Lists.{IsSet}
 use Rattle.automata_base.specs.Nfas.Nfa.{Nfa}
 use Rattle.automata_base.specs.Paths.Paths.{Tape, IsLookAcyclic}
 use Rattle.automata_base.specs.Powersets.Cuts.{MatchKind, All}
-use Rattle.automata_base.specs.Paths.Selections.{Accepts, Pair, IsNearest, IsFarthest, Pairs, Tells, Selects}
+use Rattle.automata_base.specs.Paths.Selections.{Accepts, Pair, IsNearest, IsFarthest, Pairs, Reports, Selects}
 use Rattle.automata_base.specs.Paths.Selections.{IsOverlappingOn}
-use Rattle.automata_base.specs.Retraced.ComputedPass.{told_of, pair_at, last_of, earlier_or, first_of, search_of}
+use Rattle.automata_base.specs.Retraced.ComputedPass.{reported_of, pair_at, last_of, earlier_or, first_of, search_of}
 use Rattle.automata_base.specs.Retraced.ComputedPass.{pairs_upto, IsInRange}
 use Rattle.automata_base.specs.Powersets.Passes.{IsTape}
 use Rattle.automata_base.proofs.Paths.Searches.{sel_right, walk_right}
 use Rattle.automata_base.proofs.Paths.Sets.{nearest_right, farthest_right, pairs_right}
-use Rattle.automata_base.proofs.Paths.Machines.{told_right}
+use Rattle.automata_base.proofs.Paths.Machines.{reported_right}
 use Rattle.automata_base.proofs.Paths.Selecting.{PassSelects}
 
 -- The last place below `k` at which something is reported.
@@ -24,9 +24,9 @@ IsLast At k (Some pair) =
 
 last_right :
     (n : Nfa) (kind : MatchKind) (start : ℕ) (t : Tape) (At : ℕ → List ℕ → Type 0) (k : ℕ)
-    → ((i : ℕ) → At i (told_of n kind start t i)) → IsLast At k (last_of n kind start t k)
+    → ((i : ℕ) → At i (reported_of n kind start t i)) → IsLast At k (last_of n kind start t k)
 last_right n kind start t At zero f = λ i l. absurd (omega (arith, l))
-last_right n kind start t At (suc k) f = go (told_of n kind start t k) (f k) (last_of n kind start t k) (last_right n kind start t At k f)
+last_right n kind start t At (suc k) f = go (reported_of n kind start t k) (f k) (last_of n kind start t k) (last_right n kind start t At k f)
   where
     new : (i : ℕ) → i < suc k → (i ≡ k) ⊎ (i < k)
     new i l = eq-or-lt_of_le (le_of_suc-le-suc l)
@@ -49,9 +49,9 @@ IsFirst At k (Some pair) =
 
 first_right :
     (n : Nfa) (kind : MatchKind) (start : ℕ) (t : Tape) (At : ℕ → List ℕ → Type 0) (k : ℕ)
-    → ((i : ℕ) → At i (told_of n kind start t i)) → IsFirst At k (first_of n kind start t k)
+    → ((i : ℕ) → At i (reported_of n kind start t i)) → IsFirst At k (first_of n kind start t k)
 first_right n kind start t At zero f = λ i l. absurd (omega (arith, l))
-first_right n kind start t At (suc k) f = go (first_of n kind start t k) (first_right n kind start t At k f) (told_of n kind start t k) (f k)
+first_right n kind start t At (suc k) f = go (first_of n kind start t k) (first_right n kind start t At k f) (reported_of n kind start t k) (f k)
   where
     new : (i : ℕ) → i < suc k → (i ≡ k) ⊎ (i < k)
     new i l = eq-or-lt_of_le (le_of_suc-le-suc l)
@@ -66,16 +66,16 @@ pub pass_sel_right :
     → IsInRange n → start < length n.nodes → PassSelects kind earliest n t start (search_of kind earliest n t start)
 pass_sel_right kind true n t start r l =
     go (first_of n kind start t (suc (length t.bytes)))
-    (first_right n kind start t (Tells kind n t start) (suc (length t.bytes)) (λ i. told_right n kind start t i r l))
+    (first_right n kind start t (Reports kind n t start) (suc (length t.bytes)) (λ i. reported_right n kind start t i r l))
   where
-    go : (o : Option Pair) → IsFirst (Tells kind n t start) (suc (length t.bytes)) o → PassSelects kind true n t start o
+    go : (o : Option Pair) → IsFirst (Reports kind n t start) (suc (length t.bytes)) o → PassSelects kind true n t start o
     go None h = λ i b. h i (omega (arith, b))
     go (Some pair) h = (h.0, le_of_suc-le-suc h.1, h.2, h.3)
 pass_sel_right kind false n t start r l =
     go (last_of n kind start t (suc (length t.bytes)))
-    (last_right n kind start t (Tells kind n t start) (suc (length t.bytes)) (λ i. told_right n kind start t i r l))
+    (last_right n kind start t (Reports kind n t start) (suc (length t.bytes)) (λ i. reported_right n kind start t i r l))
   where
-    go : (o : Option Pair) → IsLast (Tells kind n t start) (suc (length t.bytes)) o → PassSelects kind false n t start o
+    go : (o : Option Pair) → IsLast (Reports kind n t start) (suc (length t.bytes)) o → PassSelects kind false n t start o
     go None h = λ i b. h i (omega (arith, b))
     go (Some pair) h = (h.0, le_of_suc-le-suc h.1, h.2, λ j b c. h.3 j b (omega (arith, c)))
 
@@ -89,10 +89,10 @@ search_right kind earliest n t start r l free tape_of =
 
 walk_pairs :
     (kind : MatchKind) (n : Nfa) (t : Tape) (start k : ℕ)
-    → IsInRange n → start < length n.nodes → Pairs (Tells kind n t start) k (pairs_upto n kind start t k)
+    → IsInRange n → start < length n.nodes → Pairs (Reports kind n t start) k (pairs_upto n kind start t k)
 walk_pairs kind n t start zero r l = refl
 walk_pairs kind n t start (suc k) r l =
-    (pairs_upto n kind start t k, told_of n kind start t k, walk_pairs kind n t start k r l, told_right n kind start t k r l, refl)
+    (pairs_upto n kind start t k, reported_of n kind start t k, walk_pairs kind n t start k r l, reported_right n kind start t k r l, refl)
 
 -- Late is right, for walks.
 pub walked_right :
@@ -120,6 +120,6 @@ end_right n t start r l tape_of =
 pub set_right :
     (n : Nfa) (t : Tape) (start i : ℕ)
     → IsInRange n → start < length n.nodes → IsTape t → i ≤ length t.bytes
-    → IsSet (λ p. (path : List ℕ) × Accepts n t start i p path) (told_of n All start t i)
+    → IsSet (λ p. (path : List ℕ) × Accepts n t start i p path) (reported_of n All start t i)
 set_right n t start i r l tape_of inside =
-    pairs_right n t start i (told_of n All start t i) tape_of inside (told_right n All start t i r l)
+    pairs_right n t start i (reported_of n All start t i) tape_of inside (reported_right n All start t i r l)

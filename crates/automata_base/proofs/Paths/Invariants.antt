@@ -8,14 +8,14 @@ use Rattle.automata_base.specs.Paths.Paths.{IsPathAt, Tape, IsPath, truth, prev,
 use Rattle.automata_base.specs.Powersets.Cuts.{MatchKind, All, LeftmostFirst, cut, cut_for, IsOnce, targets}
 use Rattle.automata_base.specs.Powersets.Passes.{IsTape, IsClosureOf, IsDecided, IsSuccessor, IsStart, IsPass}
 use Rattle.automata_base.specs.Powersets.Powerset.{Powerset}
-use Rattle.automata_base.specs.Paths.Selections.{Accepts, IsFirstAt, ArePatternsAt, Tells}
+use Rattle.automata_base.specs.Paths.Selections.{Accepts, IsFirstAt, ArePatternsAt, Reports}
 use Rattle.automata_base.proofs.Paths.Orders.{before_total, before_upto, before_trans}
 use Rattle.automata_base.proofs.Paths.Places.{path_end, accepts_ends}
 use Rattle.automata_base.proofs.Paths.Sift.{same}
 use Rattle.automata_base.proofs.Paths.Late.{Ending}
 use Rattle.automata_base.proofs.Paths.Steps.{EndsWithin, Within, IsPast, step, first}
 use Rattle.automata_base.proofs.Paths.Cuts.{front, leader, no_leader, no_leader_in, led, Led}
-use Rattle.automata_base.proofs.Paths.Readings.{targets_all, targets_cut, patterns_all, patterns_cut, told}
+use Rattle.automata_base.proofs.Paths.Readings.{targets_all, targets_cut, patterns_all, patterns_cut, reported}
 use Rattle.automata_base.proofs.Paths.Readings.{once_is_none, once_is_one, patterns_of}
 use Rattle.automata_base.proofs.Paths.Decisions.{decides}
 
@@ -69,7 +69,7 @@ means_decided kind n t start i Q L free tape_of m d =
 abbrev pub After : Nfa → Tape → ℕ → ℕ → List ℕ → Option ℕ → Type 0
 After n t start i N o =
     (best : Option (List ℕ)) × IsListOf (EndsWithin n t start best i) (front n N) × IsBest n t start best (suc i)
-    × IsPast n t start best i × IsFirstAt n t start i (told n o)
+    × IsPast n t start best i × IsFirstAt n t start i (reported n o)
 
 up_to_here : (j i : ℕ) → j < suc i → (j < i) ⊎ (j ≡ i)
 up_to_here j i l = ⊎_elim (λ (e : j ≡ i). inr e) (λ (k : j < i). inl k) (eq-or-lt_of_le (le_of_suc-le-suc l))
@@ -253,11 +253,11 @@ means_succ kind n t start i P Q free tape_of inside m s = go (next_byte t.bytes 
             subst (λ v. IsClosureOf n s.1 (pick (λ v. takes n v b.0) (cut_for kind n s.0)) v Q) (sym b.1)
             (subst (λ v. IsClosureOf n s.1 (targets n v (cut_for kind n s.0)) v Q) b.2 s.4)
 
-pub means_tells :
+pub means_reports :
     (kind : MatchKind) (n : Nfa) (t : Tape) (start i : ℕ) (P Q : Powerset)
     → IsLookAcyclic n → IsTape t → Means kind n t start i P → IsSuccessor n kind P (next t i) Q
     → ArePatternsAt kind n t start i Q.patterns
-means_tells kind n t start i P Q free tape_of m s =
+means_reports kind n t start i P Q free tape_of m s =
     subst (λ v. ArePatternsAt kind n t start i v) (sym s.4.4.1)
     (go kind m.0 m.4 (means_decided kind n t start i P s.0 free tape_of m s.2) s.3)
   where
@@ -269,11 +269,11 @@ means_tells kind n t start i P Q free tape_of m s =
         patterns_of n t start i (pick (ends n) s.0) s.1
         (subst (λ v. IsListOf (EndsWithin n t start v i) (pick (ends n) s.0)) b l)
         (subst (λ v. IsOnce v s.1) (patterns_all n s.0) o)
-    go LeftmostFirst best b l o = told_as (after n t start i best (pick (ends n) s.0) l b).4
+    go LeftmostFirst best b l o = reported_as (after n t start i best (pick (ends n) s.0) l b).4
       where
-        told_as : IsFirstAt n t start i (told n (leader n (pick (ends n) s.0))) → IsFirstAt n t start i s.1
-        told_as (inl h) = inl (once_is_none (pick (accepts n) (cut n s.0)) s.1 (patterns_cut n s.0 ∙ h.0) o, h.1)
-        told_as (inr h) =
+        reported_as : IsFirstAt n t start i (reported n (leader n (pick (ends n) s.0))) → IsFirstAt n t start i s.1
+        reported_as (inl h) = inl (once_is_none (pick (accepts n) (cut n s.0)) s.1 (patterns_cut n s.0 ∙ h.0) o, h.1)
+        reported_as (inr h) =
             inr (h.0, h.1, once_is_one (pick (accepts n) (cut n s.0)) s.1 h.0 (patterns_cut n s.0 ∙ h.2) o, h.3, h.4, h.5)
 
 pub pass_means :
@@ -285,9 +285,9 @@ pass_means kind n t start (suc k) Q free tape_of l p =
     (pass_means kind n t start k p.0 free tape_of (omega (arith, l)) p.1) p.2
 
 -- What the pass reports at a place is what the paths define.
-pub pass_tells :
+pub pass_reports :
     (kind : MatchKind) (n : Nfa) (t : Tape) (start i : ℕ) (patterns : List ℕ)
-    → IsLookAcyclic n → IsTape t → i ≤ length t.bytes → Tells kind n t start i patterns → ArePatternsAt kind n t start i patterns
-pass_tells kind n t start i patterns free tape_of l p =
+    → IsLookAcyclic n → IsTape t → i ≤ length t.bytes → Reports kind n t start i patterns → ArePatternsAt kind n t start i patterns
+pass_reports kind n t start i patterns free tape_of l p =
     subst (λ v. ArePatternsAt kind n t start i v) p.2
-    (means_tells kind n t start i p.1.0 p.0 free tape_of (pass_means kind n t start i p.1.0 free tape_of l p.1.1) p.1.2)
+    (means_reports kind n t start i p.1.0 p.0 free tape_of (pass_means kind n t start i p.1.0 free tape_of l p.1.1) p.1.2)

@@ -17,11 +17,11 @@ use Rattle.automata_base.specs.Powersets.Passes.{IsUnit, Occurs, IsKnownLook, Is
 use Rattle.automata_base.specs.Powersets.Passes.{is_crlf_look, true_looks, IsNews, IsDecided, IsClosureOf, IsSuccessor}
 use Rattle.automata_base.specs.Powersets.Passes.{IsPass}
 use Rattle.automata_base.specs.Powersets.Powerset.{Powerset}
-use Rattle.automata_base.specs.Paths.Selections.{Tells}
+use Rattle.automata_base.specs.Paths.Selections.{Reports}
 use Rattle.automata_base.specs.Powersets.Closure.{children, Visits, done, skip, visit}
 use Rattle.automata_base.specs.Retraced.ComputedPass.{is_in, closure_of, once_past, looks_at, any_node, any_state}
 use Rattle.automata_base.specs.Retraced.ComputedPass.{always, known_looks, is_full, make, arrive, has_news, any_look}
-use Rattle.automata_base.specs.Retraced.ComputedPass.{decide, successor_of, pass_of, told_of, IsInRange}
+use Rattle.automata_base.specs.Retraced.ComputedPass.{decide, successor_of, pass_of, reported_of, IsInRange}
 use Rattle.automata_base.specs.Haystacks.Looks.{look_index}
 use Rattle.automata_base.proofs.Paths.Orders.{none_some, nil_cons}
 use Rattle.automata_base.proofs.Paths.Sift.{same, in_picked}
@@ -439,19 +439,19 @@ pub succ_right :
     → IsInRange n → IsIn n Q
     → IsSuccessor n kind Q u (successor_of n kind Q u) × IsIn n (successor_of n kind Q u)
 succ_right n kind u Q r b =
-    ((decide n Q u, once_past [] told, d.0, once_right told, a.0), a.1)
+    ((decide n Q u, once_past [] reported, d.0, once_right reported, a.0), a.1)
   where
-    told : List ℕ
-    told = pick (accepts n) (cut_for kind n (decide n Q u))
+    reported : List ℕ
+    reported = pick (accepts n) (cut_for kind n (decide n Q u))
 
     d : IsDecided n Q u (decide n Q u) × AllBelow (length n.nodes) (decide n Q u)
     d = decide_right n u Q r b
 
     a :
-        IsClosureOf n (once_past [] told) (targets n u (cut_for kind n (decide n Q u))) u (successor_of n kind Q u)
+        IsClosureOf n (once_past [] reported) (targets n u (cut_for kind n (decide n Q u))) u (successor_of n kind Q u)
         × IsIn n (successor_of n kind Q u)
     a =
-        arrive_right n (once_past [] told) (targets n u (cut_for kind n (decide n Q u))) u r
+        arrive_right n (once_past [] reported) (targets n u (cut_for kind n (decide n Q u))) u r
         (targets_below n u (cut_for kind n (decide n Q u)) r)
 
 abbrev pub Computed : Nfa → MatchKind → ℕ → Tape → ℕ → Powerset → Type 0
@@ -473,7 +473,7 @@ pass_right n kind start t (suc k) r l =
     let s = succ_right n kind (next t k) (pass_of n kind start t k) r w.1 in
     ((pass_of n kind start t k, w.0, s.0), s.1)
 
-pub told_right :
+pub reported_right :
     (n : Nfa) (kind : MatchKind) (start : ℕ) (t : Tape) (i : ℕ)
-    → IsInRange n → start < length n.nodes → Tells kind n t start i (told_of n kind start t i)
-told_right n kind start t i r l = (pass_of n kind start t (suc i), (pass_right n kind start t (suc i) r l).0, refl)
+    → IsInRange n → start < length n.nodes → Reports kind n t start i (reported_of n kind start t i)
+reported_right n kind start t i r l = (pass_of n kind start t (suc i), (pass_right n kind start t (suc i) r l).0, refl)

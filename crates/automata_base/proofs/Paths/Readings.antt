@@ -6,7 +6,7 @@ use Rattle.automata_base.specs.Lists.{In, Sorted, IsListOf, cons_some, pick, Fro
 use Rattle.automata_base.specs.Nfas.Nfa.{Nfa, Node, Split, Assert, Read, Accept, node, takes, takes_at, accepts}
 use Rattle.automata_base.specs.Nfas.Nfa.{accepts_at, ends, ends_at}
 use Rattle.automata_base.specs.Paths.Paths.{Tape, IsPath}
-use Rattle.automata_base.specs.Powersets.Cuts.{cut, cut_behind, IsOnce}
+use Rattle.automata_base.specs.Powersets.Cuts.{cut, cut_after, IsOnce}
 use Rattle.automata_base.proofs.Paths.Orders.{some_inj, none_some, before_irrefl, before_trans}
 use Rattle.automata_base.proofs.Paths.Places.{accepts_ends, match_last}
 use Rattle.automata_base.proofs.Paths.Compose.{Composes, Divides, compose}
@@ -60,19 +60,19 @@ targets_cut n u (q ∷ xs) = go (class_at (node n q) q u) (targets_cut n u xs)
 
     go :
         Class (node n q) q u → pick g (cut n xs) ≡ pick g (front n rest)
-        → pick g (cut_behind (accepts n q) q (cut n xs)) ≡ pick g (front n (cons_some (ends n q) rest))
+        → pick g (cut_after (accepts n q) q (cut n xs)) ≡ pick g (front n (cons_some (ends n q) rest))
     go (inl h) ih =
-        ap (λ o. pick g (cut_behind o q (cut n xs))) h.1
+        ap (λ o. pick g (cut_after o q (cut n xs))) h.1
         ∙ (ap (λ o. cons_some o []) h.3
         ∙ (ap (λ o. pick g (stop_at o q (front n rest))) (sym h.1)
         ∙ ap (λ o. pick g (front n (cons_some o rest))) (sym h.2)))
     go (inr (inl h)) ih =
-        ap (λ o. pick g (cut_behind o q (cut n xs))) h.0
+        ap (λ o. pick g (cut_after o q (cut n xs))) h.0
         ∙ (ap (λ v. cons_some (g q) v) ih
         ∙ (ap (λ o. pick g (stop_at o q (front n rest))) (sym h.0)
         ∙ ap (λ o. pick g (front n (cons_some o rest))) (sym h.1)))
     go (inr (inr h)) ih =
-        ap (λ o. pick g (cut_behind o q (cut n xs))) h.0
+        ap (λ o. pick g (cut_after o q (cut n xs))) h.0
         ∙ (ap (λ o. cons_some o (pick g (cut n xs))) h.2
         ∙ (ih
         ∙ ap (λ o. pick g (front n (cons_some o rest))) (sym h.1)))
@@ -98,11 +98,11 @@ patterns_all n (q ∷ xs) = go (class_at (node n q) q 0) (patterns_all n xs)
         ap (λ o. cons_some o (pick g xs)) h.0 ∙ (ih ∙ ap (λ o. pick g (cons_some o (pick (ends n) xs))) (sym h.1))
 
 -- The pattern of the first match state.
-abbrev pub told : Nfa → Option ℕ → List ℕ
-told n None = []
-told n (Some m) = cons_some (accepts n m) []
+abbrev pub reported : Nfa → Option ℕ → List ℕ
+reported n None = []
+reported n (Some m) = cons_some (accepts n m) []
 
-pub patterns_cut : (n : Nfa) (xs : List ℕ) → pick (accepts n) (cut n xs) ≡ told n (leader n (pick (ends n) xs))
+pub patterns_cut : (n : Nfa) (xs : List ℕ) → pick (accepts n) (cut n xs) ≡ reported n (leader n (pick (ends n) xs))
 patterns_cut n [] = refl
 patterns_cut n (q ∷ xs) = go (class_at (node n q) q 0) (patterns_cut n xs)
   where
@@ -113,23 +113,23 @@ patterns_cut n (q ∷ xs) = go (class_at (node n q) q 0) (patterns_cut n xs)
     rest = pick (ends n) xs
 
     go :
-        Class (node n q) q 0 → pick g (cut n xs) ≡ told n (leader n rest)
-        → pick g (cut_behind (accepts n q) q (cut n xs)) ≡ told n (leader n (cons_some (ends n q) rest))
+        Class (node n q) q 0 → pick g (cut n xs) ≡ reported n (leader n rest)
+        → pick g (cut_after (accepts n q) q (cut n xs)) ≡ reported n (leader n (cons_some (ends n q) rest))
     go (inl h) ih =
-        ap (λ o. pick g (cut_behind o q (cut n xs))) h.1
-        ∙ (ap (λ o. told n (first_of_two o q (leader n rest))) (sym h.1)
-        ∙ ap (λ o. told n (leader n (cons_some o rest))) (sym h.2))
+        ap (λ o. pick g (cut_after o q (cut n xs))) h.1
+        ∙ (ap (λ o. reported n (first_of_two o q (leader n rest))) (sym h.1)
+        ∙ ap (λ o. reported n (leader n (cons_some o rest))) (sym h.2))
     go (inr (inl h)) ih =
-        ap (λ o. pick g (cut_behind o q (cut n xs))) h.0
+        ap (λ o. pick g (cut_after o q (cut n xs))) h.0
         ∙ (ap (λ o. cons_some o (pick g (cut n xs))) h.0
         ∙ (ih
-        ∙ (ap (λ o. told n (first_of_two o q (leader n rest))) (sym h.0)
-        ∙ ap (λ o. told n (leader n (cons_some o rest))) (sym h.1))))
+        ∙ (ap (λ o. reported n (first_of_two o q (leader n rest))) (sym h.0)
+        ∙ ap (λ o. reported n (leader n (cons_some o rest))) (sym h.1))))
     go (inr (inr h)) ih =
-        ap (λ o. pick g (cut_behind o q (cut n xs))) h.0
+        ap (λ o. pick g (cut_after o q (cut n xs))) h.0
         ∙ (ap (λ o. cons_some o (pick g (cut n xs))) h.0
         ∙ (ih
-        ∙ ap (λ o. told n (leader n (cons_some o rest))) (sym h.1)))
+        ∙ ap (λ o. reported n (leader n (cons_some o rest))) (sym h.1)))
 
 -- One list alone has the states with keys in their order.
 pub sorted_one :

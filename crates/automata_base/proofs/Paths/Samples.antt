@@ -5,7 +5,7 @@ use Rattle.automata_base.specs.Nfas.Nfa.{Nfa, Node, Split, Assert, Read, Accept}
 use Rattle.automata_base.specs.Paths.Paths.{Tape}
 use Rattle.automata_base.specs.Powersets.Cuts.{All, LeftmostFirst}
 use Rattle.automata_base.specs.Paths.Selections.{Pair}
-use Rattle.automata_base.specs.Retraced.ComputedPass.{search_of, told_of}
+use Rattle.automata_base.specs.Retraced.ComputedPass.{search_of, reported_of}
 
 abbrev pub read : ℕ → ℕ → ℕ → Node
 read lo hi next = Read (record { lo = lo; hi = hi; next = next } ∷ [])
@@ -63,16 +63,16 @@ row_ab_empty = refl
 pub row_date : search_of LeftmostFirst false date (whole (50 ∷ 48 ∷ 49 ∷ 56 ∷ 45 ∷ 49 ∷ 50 ∷ 45 ∷ 50 ∷ 52 ∷ 32 ∷ 50 ∷ 48 ∷ 49 ∷ 54 ∷ [])) 11 ≡ answer 0 10
 row_date = refl
 
-pub row_aa_1 : told_of aa All 5 (whole (97 ∷ 97 ∷ [])) 1 ≡ 0 ∷ 1 ∷ []
+pub row_aa_1 : reported_of aa All 5 (whole (97 ∷ 97 ∷ [])) 1 ≡ 0 ∷ 1 ∷ []
 row_aa_1 = refl
 
-pub row_aa_2 : told_of aa All 5 (whole (97 ∷ 97 ∷ [])) 2 ≡ 0 ∷ 1 ∷ []
+pub row_aa_2 : reported_of aa All 5 (whole (97 ∷ 97 ∷ [])) 2 ≡ 0 ∷ 1 ∷ []
 row_aa_2 = refl
 
-pub row_aa_first : told_of aa LeftmostFirst 5 (whole (97 ∷ 97 ∷ [])) 1 ≡ 0 ∷ []
+pub row_aa_first : reported_of aa LeftmostFirst 5 (whole (97 ∷ 97 ∷ [])) 1 ≡ 0 ∷ []
 row_aa_first = refl
 
-pub row_aa_first_2 : told_of aa LeftmostFirst 5 (whole (97 ∷ 97 ∷ [])) 2 ≡ []
+pub row_aa_first_2 : reported_of aa LeftmostFirst 5 (whole (97 ∷ 97 ∷ [])) 2 ≡ []
 row_aa_first_2 = refl
 
 -- "cabac"
@@ -96,23 +96,23 @@ row_crlf_first = refl
 pub row_crlf_all : search_of All false crlf (whole (97 ∷ 13 ∷ 10 ∷ [])) 2 ≡ answer 0 3
 row_crlf_all = refl
 
-pub row_crlf_2 : told_of crlf All 2 (whole (97 ∷ 13 ∷ 10 ∷ [])) 2 ≡ []
+pub row_crlf_2 : reported_of crlf All 2 (whole (97 ∷ 13 ∷ 10 ∷ [])) 2 ≡ []
 row_crlf_2 = refl
 
 -- The same line read backwards: place 0 of the walk is place 3 of the haystack.
-pub row_crlf_reverse_0 : told_of crlf_reverse All 2 (whole (10 ∷ 13 ∷ 97 ∷ [])) 0 ≡ 0 ∷ []
+pub row_crlf_reverse_0 : reported_of crlf_reverse All 2 (whole (10 ∷ 13 ∷ 97 ∷ [])) 0 ≡ 0 ∷ []
 row_crlf_reverse_0 = refl
 
-pub row_crlf_reverse_2 : told_of crlf_reverse All 2 (whole (10 ∷ 13 ∷ 97 ∷ [])) 2 ≡ 0 ∷ []
+pub row_crlf_reverse_2 : reported_of crlf_reverse All 2 (whole (10 ∷ 13 ∷ 97 ∷ [])) 2 ≡ 0 ∷ []
 row_crlf_reverse_2 = refl
 
-pub row_twice : told_of twice All 0 (whole []) 0 ≡ 0 ∷ []
+pub row_twice : reported_of twice All 0 (whole []) 0 ≡ 0 ∷ []
 row_twice = refl
 
-pub row_two_matches : told_of two_matches All 0 (whole []) 0 ≡ 0 ∷ []
+pub row_two_matches : reported_of two_matches All 0 (whole []) 0 ≡ 0 ∷ []
 row_two_matches = refl
 
-pub row_nothing : told_of nothing All 0 (whole (97 ∷ [])) 1 ≡ []
+pub row_nothing : reported_of nothing All 0 (whole (97 ∷ [])) 1 ≡ []
 row_nothing = refl
 
 -- A cycle through a look: the least paths report pattern 1 first, by the edges 0, 0, 1 against 1, and the pass does
@@ -120,5 +120,5 @@ row_nothing = refl
 abbrev pub look_cycle : Nfa
 look_cycle = forward (Split (2 ∷ 1 ∷ []) ∷ Accept 2 ∷ Assert EndLF 3 ∷ Split (0 ∷ 4 ∷ []) ∷ Accept 1 ∷ [])
 
-pub row_look_cycle : told_of look_cycle All 0 (record { before = Some 97; bytes = []; after = None }) 0 ≡ 2 ∷ 1 ∷ []
+pub row_look_cycle : reported_of look_cycle All 0 (record { before = Some 97; bytes = []; after = None }) 0 ≡ 2 ∷ 1 ∷ []
 row_look_cycle = refl

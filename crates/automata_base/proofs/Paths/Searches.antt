@@ -7,12 +7,12 @@ use Rattle.automata_base.specs.Lists.{In, nth}
 use Rattle.automata_base.specs.Nfas.Nfa.{Nfa}
 use Rattle.automata_base.specs.Paths.Paths.{Tape, IsPathFrom, IsLookAcyclic}
 use Rattle.automata_base.specs.Powersets.Cuts.{MatchKind, All, LeftmostFirst}
-use Rattle.automata_base.specs.Paths.Selections.{Accepts, IsFirstAt, ArePatternsAt, Tells, Pair, Pairs, IsOverlappingOn}
+use Rattle.automata_base.specs.Paths.Selections.{Accepts, IsFirstAt, ArePatternsAt, Reports, Pair, Pairs, IsOverlappingOn}
 use Rattle.automata_base.specs.Paths.Selections.{Selects}
 use Rattle.automata_base.proofs.Paths.Orders.{cons_head, nil_cons, none_some, upto_before}
 use Rattle.automata_base.specs.Powersets.Passes.{IsTape}
-use Rattle.automata_base.proofs.Paths.Invariants.{pass_tells}
-use Rattle.automata_base.proofs.Paths.Selecting.{PassTells, PassSelects}
+use Rattle.automata_base.proofs.Paths.Invariants.{pass_reports}
+use Rattle.automata_base.proofs.Paths.Selecting.{PassReports, PassSelects}
 
 pub pairs_map :
     (At At' : ℕ → List ℕ → Type 0) (k : ℕ) (pairs : List Pair)
@@ -24,10 +24,10 @@ pairs_map At At' (suc k) pairs f p =
 -- The whole list of a walk.
 pub walk_right :
     (kind : MatchKind) (n : Nfa) (t : Tape) (start : ℕ) (pairs : List Pair)
-    → IsLookAcyclic n → IsTape t → PassTells kind n t start pairs → IsOverlappingOn kind n t start pairs
+    → IsLookAcyclic n → IsTape t → PassReports kind n t start pairs → IsOverlappingOn kind n t start pairs
 walk_right kind n t start pairs free tape_of p =
-    pairs_map (Tells kind n t start) (ArePatternsAt kind n t start) (suc (length t.bytes)) pairs
-    (λ i patterns l. pass_tells kind n t start i patterns free tape_of (le_of_suc-le-suc l)) p
+    pairs_map (Reports kind n t start) (ArePatternsAt kind n t start) (suc (length t.bytes)) pairs
+    (λ i patterns l. pass_reports kind n t start i patterns free tape_of (le_of_suc-le-suc l)) p
 
 pub nth_inside : (xs : List ℕ) (i u : ℕ) → nth xs i ≡ Some u → i < length xs
 nth_inside [] i u e = absurd (none_some e)
@@ -130,16 +130,16 @@ sel_all n t start pair rest here f = (w.0, w.1, chosen)
         go (inr (inr l)) = inl l
 
 -- After the last place at which something is reported every accepting path has one before it.
-abbrev pub Told : Nfa → Tape → ℕ → Pair → List ℕ → Type 0
-Told n t start pair told =
-    (pattern : ℕ) × (path : List ℕ) × (told ≡ pattern ∷ []) × Accepts n t start pair.place pattern path
+abbrev pub Reported : Nfa → Tape → ℕ → Pair → List ℕ → Type 0
+Reported n t start pair reported =
+    (pattern : ℕ) × (path : List ℕ) × (reported ≡ pattern ∷ []) × Accepts n t start pair.place pattern path
     × ((other : ℕ) (more : List ℕ) → Accepts n t start pair.place other more → Upto path more)
     × ((j other : ℕ) (more : List ℕ) → j < pair.place → Accepts n t start j other more → Before path more)
 
 upto :
     (n : Nfa) (t : Tape) (start : ℕ) (pair : Pair) (rest : List ℕ)
     → ((j : ℕ) → pair.place < j → j ≤ length t.bytes → ArePatternsAt LeftmostFirst n t start j [])
-    → (h : Told n t start pair (pair.pattern ∷ rest))
+    → (h : Reported n t start pair (pair.pattern ∷ rest))
     → (k j pattern : ℕ) (other : List ℕ) → j < k → Accepts n t start j pattern other → Upto h.1 other
 upto n t start pair rest f h zero j pattern other l a = absurd (omega (arith, l))
 upto n t start pair rest f h (suc k) j pattern other l a = go (three pair.place j) (upto n t start pair rest f h k)
@@ -175,16 +175,16 @@ pub sel_right :
     (kind : MatchKind) (earliest : Bool) (n : Nfa) (t : Tape) (start : ℕ) (answer : Option Pair)
     → IsLookAcyclic n → IsTape t → PassSelects kind earliest n t start answer → Selects kind earliest n t start answer
 sel_right kind earliest n t start None free tape_of p =
-    sel_none kind earliest n t start (λ i l. pass_tells kind n t start i [] free tape_of l (p i l))
+    sel_none kind earliest n t start (λ i l. pass_reports kind n t start i [] free tape_of l (p i l))
 sel_right kind true n t start (Some pair) free tape_of p =
     sel_earliest kind n t start pair p.0
-    (pass_tells kind n t start pair.place (pair.pattern ∷ p.0) free tape_of p.1 p.2)
-    (λ j l. pass_tells kind n t start j [] free tape_of (omega (arith, l, p.1)) (p.3 j l))
+    (pass_reports kind n t start pair.place (pair.pattern ∷ p.0) free tape_of p.1 p.2)
+    (λ j l. pass_reports kind n t start j [] free tape_of (omega (arith, l, p.1)) (p.3 j l))
 sel_right All false n t start (Some pair) free tape_of p =
     sel_all n t start pair p.0
-    (pass_tells All n t start pair.place (pair.pattern ∷ p.0) free tape_of p.1 p.2)
-    (λ j b l. pass_tells All n t start j [] free tape_of l (p.3 j b l))
+    (pass_reports All n t start pair.place (pair.pattern ∷ p.0) free tape_of p.1 p.2)
+    (λ j b l. pass_reports All n t start j [] free tape_of l (p.3 j b l))
 sel_right LeftmostFirst false n t start (Some pair) free tape_of p =
     sel_first n t start pair p.0
-    (pass_tells LeftmostFirst n t start pair.place (pair.pattern ∷ p.0) free tape_of p.1 p.2)
-    (λ j b l. pass_tells LeftmostFirst n t start j [] free tape_of l (p.3 j b l))
+    (pass_reports LeftmostFirst n t start pair.place (pair.pattern ∷ p.0) free tape_of p.1 p.2)
+    (λ j b l. pass_reports LeftmostFirst n t start j [] free tape_of l (p.3 j b l))

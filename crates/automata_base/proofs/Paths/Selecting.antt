@@ -3,20 +3,20 @@ use Rattle.std.specs.Prelude.{ℕ, suc, ◌<◌, ◌≤◌, Bool, true, false, L
 use Rattle.automata_base.specs.Powersets.Cuts.{MatchKind}
 use Rattle.automata_base.specs.Nfas.Nfa.{Nfa}
 use Rattle.automata_base.specs.Paths.Paths.{Tape}
-use Rattle.automata_base.specs.Paths.Selections.{Pair, Pairs, Tells}
+use Rattle.automata_base.specs.Paths.Selections.{Pair, Pairs, Reports}
 
 -- The whole list of a walk, by its pass.
-abbrev pub PassTells : MatchKind → Nfa → Tape → ℕ → List Pair → Type 0
-PassTells kind n t start pairs = Pairs (Tells kind n t start) (suc (length t.bytes)) pairs
+abbrev pub PassReports : MatchKind → Nfa → Tape → ℕ → List Pair → Type 0
+PassReports kind n t start pairs = Pairs (Reports kind n t start) (suc (length t.bytes)) pairs
 
 -- What a search reports of its pass: of the first state with patterns, or otherwise of the last one, the first pattern
 -- and the place whose unit led to it.
 abbrev pub PassSelects : MatchKind → Bool → Nfa → Tape → ℕ → Option Pair → Type 0
 PassSelects kind earliest n t start None =
-    (i : ℕ) → i ≤ length t.bytes → Tells kind n t start i []
+    (i : ℕ) → i ≤ length t.bytes → Reports kind n t start i []
 PassSelects kind true n t start (Some pair) =
-    (rest : List ℕ) × (pair.place ≤ length t.bytes) × Tells kind n t start pair.place (pair.pattern ∷ rest)
-    × ((j : ℕ) → j < pair.place → Tells kind n t start j [])
+    (rest : List ℕ) × (pair.place ≤ length t.bytes) × Reports kind n t start pair.place (pair.pattern ∷ rest)
+    × ((j : ℕ) → j < pair.place → Reports kind n t start j [])
 PassSelects kind false n t start (Some pair) =
-    (rest : List ℕ) × (pair.place ≤ length t.bytes) × Tells kind n t start pair.place (pair.pattern ∷ rest)
-    × ((j : ℕ) → pair.place < j → j ≤ length t.bytes → Tells kind n t start j [])
+    (rest : List ℕ) × (pair.place ≤ length t.bytes) × Reports kind n t start pair.place (pair.pattern ∷ rest)
+    × ((j : ℕ) → pair.place < j → j ≤ length t.bytes → Reports kind n t start j [])

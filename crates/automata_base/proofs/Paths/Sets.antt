@@ -10,7 +10,7 @@ use Rattle.automata_base.specs.Powersets.Cuts.{MatchKind, All, LeftmostFirst, cu
 use Rattle.automata_base.specs.Powersets.Passes.{IsUnit, IsTape, IsKnownLook, IsMake, IsClosureOf, IsDecided}
 use Rattle.automata_base.specs.Powersets.Passes.{IsSuccessor, IsPass}
 use Rattle.automata_base.specs.Powersets.Powerset.{Powerset}
-use Rattle.automata_base.specs.Paths.Selections.{Accepts, IsNearest, IsFarthest, Tells, Pair}
+use Rattle.automata_base.specs.Paths.Selections.{Accepts, IsNearest, IsFarthest, Reports, Pair}
 use Rattle.automata_base.proofs.Paths.Orders.{some_inj, none_some, nil_cons, cons_head}
 use Rattle.automata_base.proofs.Paths.Walks.{walk_more, walk_forget, in_either}
 use Rattle.automata_base.proofs.Paths.Places.{path_extend, last_place, walk_path, path_walk, accepts_ends}
@@ -19,7 +19,7 @@ use Rattle.automata_base.proofs.Paths.Sift.{picked_in, in_picked}
 use Rattle.automata_base.proofs.Paths.Late.{Ending, keep_sieve, ends_sieve, kept_at, keep_true, FirstStay, first_stay}
 use Rattle.automata_base.proofs.Paths.Steps.{takes_ends}
 use Rattle.automata_base.proofs.Paths.Cuts.{leader, no_leader, no_leader_in, leader_in, leader_accepts}
-use Rattle.automata_base.proofs.Paths.Readings.{sorted_has, targets_all, targets_cut, patterns_all, patterns_cut, told}
+use Rattle.automata_base.proofs.Paths.Readings.{sorted_has, targets_all, targets_cut, patterns_all, patterns_cut, reported}
 use Rattle.automata_base.proofs.Paths.Readings.{once_is_none, once_is_one}
 use Rattle.automata_base.proofs.Paths.Decisions.{decides_known, news_closure, truth_between}
 use Rattle.automata_base.proofs.Paths.Invariants.{next_byte}
@@ -271,11 +271,11 @@ once_set xs ys o p = (there, λ i. let k = sorted_has (From Root xs) ys p o.1 i 
     back (j ∷ s) k = nth_in xs j p (k.1 ∙ ap Some k.2.0)
 
 -- The patterns reported are those of the accepting paths that end there.
-pub all_tells_set :
+pub all_reports_set :
     (n : Nfa) (t : Tape) (start i : ℕ) (P Q : Powerset)
     → IsTape t → MeansSet n t start i P → IsSuccessor n All P (next t i) Q
     → IsSet (λ p. (path : List ℕ) × Accepts n t start i p path) Q.patterns
-all_tells_set n t start i P Q tape_of m s =
+all_reports_set n t start i P Q tape_of m s =
     subst (λ v. IsSet (λ p. (path : List ℕ) × Accepts n t start i p path) v) (sym s.4.4.1) (there, back)
   where
     N : IsSet (EndsMet n t start i) (pick (ends n) s.0)
@@ -302,15 +302,15 @@ IsHonest n t start i patterns =
     (patterns ≡ [] → (p : ℕ) (path : List ℕ) → Accepts n t start i p path → ⊥)
     × ((p : ℕ) (rest : List ℕ) → patterns ≡ p ∷ rest → (path : List ℕ) × Accepts n t start i p path)
 
-pub tells_honest :
+pub reports_honest :
     (kind : MatchKind) (n : Nfa) (t : Tape) (start i : ℕ) (P Q : Powerset)
     → IsTape t → MeansSet n t start i P → IsSuccessor n kind P (next t i) Q → IsHonest n t start i Q.patterns
-tells_honest All n t start i P Q tape_of m s =
+reports_honest All n t start i P Q tape_of m s =
     (λ e p path a. subst (λ v. In p v) e (w.1 p (path, a)), λ p rest e. w.0 p (subst (λ v. In p v) (sym e) (inl refl)))
   where
     w : IsSet (λ p. (path : List ℕ) × Accepts n t start i p path) Q.patterns
-    w = all_tells_set n t start i P Q tape_of m s
-tells_honest LeftmostFirst n t start i P Q tape_of m s = subst (λ v. IsHonest n t start i v) (sym s.4.4.1) (go (leader n (pick (ends n) s.0)) refl)
+    w = all_reports_set n t start i P Q tape_of m s
+reports_honest LeftmostFirst n t start i P Q tape_of m s = subst (λ v. IsHonest n t start i v) (sym s.4.4.1) (go (leader n (pick (ends n) s.0)) refl)
   where
     N : IsSet (EndsMet n t start i) (pick (ends n) s.0)
     N = decided_set n t start i P s.0 tape_of m s.2
@@ -319,7 +319,7 @@ tells_honest LeftmostFirst n t start i P Q tape_of m s = subst (λ v. IsHonest n
     go None e = (quiet, λ p rest f. absurd (nil_cons (sym none ∙ f)))
       where
         none : s.1 ≡ []
-        none = once_is_none (pick (accepts n) (cut n s.0)) s.1 (patterns_cut n s.0 ∙ ap (λ v. told n v) e) s.3
+        none = once_is_none (pick (accepts n) (cut n s.0)) s.1 (patterns_cut n s.0 ∙ ap (λ v. reported n v) e) s.3
 
         quiet : s.1 ≡ [] → (p : ℕ) (path : List ℕ) → Accepts n t start i p path → ⊥
         quiet f p path a = no_leader_in n (pick (ends n) s.0) a.0 p e (N.1 a.0 (accepts_ends n a.0 p a.2, (path, a.1))) a.2
@@ -334,25 +334,25 @@ tells_honest LeftmostFirst n t start i P Q tape_of m s = subst (λ v. IsHonest n
         one : s.1 ≡ a.0 ∷ []
         one =
             once_is_one (pick (accepts n) (cut n s.0)) s.1 a.0
-            (patterns_cut n s.0 ∙ (ap (λ v. told n v) e ∙ ap (λ v. cons_some v []) a.1)) s.3
+            (patterns_cut n s.0 ∙ (ap (λ v. reported n v) e ∙ ap (λ v. cons_some v []) a.1)) s.3
 
 pub pass_honest :
     (kind : MatchKind) (n : Nfa) (t : Tape) (start i : ℕ) (patterns : List ℕ)
-    → IsTape t → i ≤ length t.bytes → IsQuiet kind n t start i → Tells kind n t start i patterns
+    → IsTape t → i ≤ length t.bytes → IsQuiet kind n t start i → Reports kind n t start i patterns
     → IsHonest n t start i patterns
 pass_honest kind n t start i patterns tape_of l quiet p =
     subst (λ v. IsHonest n t start i v) p.2
-    (tells_honest kind n t start i p.1.0 p.0 tape_of (pass_sets kind n t start i p.1.0 tape_of l quiet p.1.1) p.1.2)
+    (reports_honest kind n t start i p.1.0 p.0 tape_of (pass_sets kind n t start i p.1.0 tape_of l quiet p.1.1) p.1.2)
 
 -- If nothing was reported before, no accepting path ends before.
-pub told_nothing :
+pub reported_nothing :
     (kind : MatchKind) (n : Nfa) (t : Tape) (start k : ℕ)
-    → IsTape t → k ≤ suc (length t.bytes) → ((j : ℕ) → j < k → Tells kind n t start j [])
+    → IsTape t → k ≤ suc (length t.bytes) → ((j : ℕ) → j < k → Reports kind n t start j [])
     → (j pattern : ℕ) (path : List ℕ) → j < k → Accepts n t start j pattern path → ⊥
-told_nothing kind n t start zero tape_of l f j pattern path h a = omega (arith, h)
-told_nothing kind n t start (suc k) tape_of l f j pattern path h a =
+reported_nothing kind n t start zero tape_of l f j pattern path h a = omega (arith, h)
+reported_nothing kind n t start (suc k) tape_of l f j pattern path h a =
     go kind (eq-or-lt_of_le (le_of_suc-le-suc h)) (pass_honest kind n t start k [] tape_of (le_of_suc-le-suc l))
-    (told_nothing kind n t start k tape_of (omega (arith, l)) (λ j h. f j (omega (arith, h)))) (f k (omega arith))
+    (reported_nothing kind n t start k tape_of (omega (arith, l)) (λ j h. f j (omega (arith, h)))) (f k (omega arith))
   where
     quiet :
         (kind : MatchKind) → ((j pattern : ℕ) (path : List ℕ) → j < k → Accepts n t start j pattern path → ⊥)
@@ -361,9 +361,9 @@ told_nothing kind n t start (suc k) tape_of l f j pattern path h a =
     quiet LeftmostFirst ih = ih
 
     go :
-        (kind : MatchKind) → (j ≡ k) ⊎ (j < k) → (IsQuiet kind n t start k → Tells kind n t start k [] → IsHonest n t start k [])
+        (kind : MatchKind) → (j ≡ k) ⊎ (j < k) → (IsQuiet kind n t start k → Reports kind n t start k [] → IsHonest n t start k [])
         → ((j pattern : ℕ) (path : List ℕ) → j < k → Accepts n t start j pattern path → ⊥)
-        → Tells kind n t start k [] → ⊥
+        → Reports kind n t start k [] → ⊥
     go kind (inr b) honest ih p = ih j pattern path b a
     go kind (inl e) honest ih p = (honest (quiet kind ih) p).0 refl pattern path (subst (λ v. Accepts n t start v pattern path) e a)
 
@@ -371,13 +371,13 @@ pub nearest_right :
     (kind : MatchKind) (n : Nfa) (t : Tape) (start : ℕ) (answer : Option Pair)
     → IsTape t → PassSelects kind true n t start answer → IsNearest n t start answer
 nearest_right kind n t start None tape_of p = λ i pattern path a.
-    told_nothing kind n t start (suc (length t.bytes)) tape_of (omega arith) (λ j h. p j (le_of_suc-le-suc h)) i pattern path
+    reported_nothing kind n t start (suc (length t.bytes)) tape_of (omega arith) (λ j h. p j (le_of_suc-le-suc h)) i pattern path
     (let k = accepting_inside n t start i pattern path a in omega (arith, k)) a
 nearest_right kind n t start (Some pair) tape_of p =
     ((pass_honest kind n t start pair.place (pair.pattern ∷ p.0) tape_of p.1 (quiet kind) p.2).1 pair.pattern p.0 refl, before)
   where
     before : (j pattern : ℕ) (path : List ℕ) → j < pair.place → Accepts n t start j pattern path → ⊥
-    before = told_nothing kind n t start pair.place tape_of (omega (arith, p.1)) p.3
+    before = reported_nothing kind n t start pair.place tape_of (omega (arith, p.1)) p.3
 
     quiet : (kind : MatchKind) → IsQuiet kind n t start pair.place
     quiet All = tt
@@ -386,11 +386,11 @@ nearest_right kind n t start (Some pair) tape_of p =
 -- For every NFA, under `MatchKind::All` the pairs reported are those of the accepting paths.
 pub pairs_right :
     (n : Nfa) (t : Tape) (start i : ℕ) (patterns : List ℕ)
-    → IsTape t → i ≤ length t.bytes → Tells All n t start i patterns
+    → IsTape t → i ≤ length t.bytes → Reports All n t start i patterns
     → IsSet (λ p. (path : List ℕ) × Accepts n t start i p path) patterns
 pairs_right n t start i patterns tape_of l p =
     subst (λ v. IsSet (λ p. (path : List ℕ) × Accepts n t start i p path) v) p.2
-    (all_tells_set n t start i p.1.0 p.0 tape_of (pass_sets All n t start i p.1.0 tape_of l tt p.1.1) p.1.2)
+    (all_reports_set n t start i p.1.0 p.0 tape_of (pass_sets All n t start i p.1.0 tape_of l tt p.1.1) p.1.2)
 
 pub farthest_right :
     (n : Nfa) (t : Tape) (start : ℕ) (answer : Option Pair)

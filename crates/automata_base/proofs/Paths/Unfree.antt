@@ -38,8 +38,8 @@ third k key (inl b) = omega (arith, b)
 third k key (inr b) = elim b.1 as (λ v. ⊥) [ inl c ↦ omega (arith, c) | inr c ↦ last k key c.1 ]
 
 -- So the pass's list, pattern 2 and then 1, is not that of the least paths.
-pub told_wrongly : IsAllAt look_cycle behind_a 0 0 (2 ∷ 1 ∷ []) → ⊥
-told_wrongly h = go h.1.0 (path_follow look_cycle behind_a 0 [] 0 h.1.0 0 h.1.1.0 h.1.1.1) h.1.1.2 (h.1.3 1 (0 ∷ 0 ∷ 1 ∷ []) (inl refl) one_accepts)
+pub reported_wrongly : IsAllAt look_cycle behind_a 0 0 (2 ∷ 1 ∷ []) → ⊥
+reported_wrongly h = go h.1.0 (path_follow look_cycle behind_a 0 [] 0 h.1.0 0 h.1.1.0 h.1.1.1) h.1.1.2 (h.1.3 1 (0 ∷ 0 ∷ 1 ∷ []) (inl refl) one_accepts)
   where
     here : (key : List ℕ) → ℕ → Type 0
     here key q = follow look_cycle behind_a 0 [] 0 key ≡ stand 0 q

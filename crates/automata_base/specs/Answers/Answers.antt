@@ -30,18 +30,18 @@ later Backward k input = record input { end = input.end - k }
 abbrev pub offset_in : Direction → Input → ℕ → ℕ
 offset_in way input i = offset way input.start input.end i
 
--- What is reported over one span splits a character. `Tells` says what is reported over the span of an input, which is
+-- What is reported over one span splits a character. `Reports` says what is reported over the span of an input, which is
 -- not done.
-abbrev pub IsSplit : (Tells : Input → Option Pair → Type 0) → Direction → Input → Type 0
-IsSplit Tells way input =
-    (pair : Pair) × Tells input (Some pair) × (is_split input.haystack (offset_in way input pair.place) ≡ true)
+abbrev pub IsSplit : (Reports : Input → Option Pair → Type 0) → Direction → Input → Type 0
+IsSplit Reports way input =
+    (pair : Pair) × Reports input (Some pair) × (is_split input.haystack (offset_in way input pair.place) ≡ true)
 
 -- The search comes to try the span that begins `k` places later: over all the spans before it a split place was
 -- reported, and only an unanchored search that skips goes on after one.
-abbrev pub Tries : (Tells : Input → Option Pair → Type 0) → (skipping : Type 0) → Direction → Input → ℕ → Type 0
-Tries Tells skipping way input k =
+abbrev pub Tries : (Reports : Input → Option Pair → Type 0) → (skipping : Type 0) → Direction → Input → ℕ → Type 0
+Tries Reports skipping way input k =
     ((k ≡ 0) ⊎ (skipping × (input.anchored ≡ No)))
-    × ((j : ℕ) → j < k → (input.start + j ≤ input.end) × IsSplit Tells way (later way j input))
+    × ((j : ℕ) → j < k → (input.start + j ≤ input.end) × IsSplit Reports way (later way j input))
 
 -- A pattern, the offset where its path ends, and the start of the span that gave it.
 pub record Half : Type 0 where
@@ -52,15 +52,15 @@ pub record Half : Type 0 where
 -- What is reported over the first span for which that is nothing or not split. If split places are skipped, an anchored
 -- search has an answer over its first span alone.
 abbrev pub Answers :
-    (Tells : Input → Option Pair → Type 0) → (skipping : Type 0) → Direction → Input → Option Half → Type 0
-Answers Tells skipping way input None =
-    (k : ℕ) × Tries Tells skipping way input k
+    (Reports : Input → Option Pair → Type 0) → (skipping : Type 0) → Direction → Input → Option Half → Type 0
+Answers Reports skipping way input None =
+    (k : ℕ) × Tries Reports skipping way input k
     × ((input.end < input.start + k)
-    ⊎ (Tells (later way k input) None
-    ⊎ (skipping × (input.anchored ≡ No → ⊥) × IsSplit Tells way (later way k input))))
-Answers Tells skipping way input (Some half) =
-    (k : ℕ) × (pair : Pair) × Tries Tells skipping way input k × (input.start + k ≤ input.end)
-    × Tells (later way k input) (Some pair)
+    ⊎ (Reports (later way k input) None
+    ⊎ (skipping × (input.anchored ≡ No → ⊥) × IsSplit Reports way (later way k input))))
+Answers Reports skipping way input (Some half) =
+    (k : ℕ) × (pair : Pair) × Tries Reports skipping way input k × (input.start + k ≤ input.end)
+    × Reports (later way k input) (Some pair)
     × (skipping → is_split input.haystack (offset_in way (later way k input) pair.place) ≡ false)
     × (half.pattern ≡ pair.pattern) × (half.offset ≡ offset_in way (later way k input) pair.place)
     × (half.base ≡ (later way k input).start)
@@ -91,11 +91,11 @@ AreUnsplit skipping way input pairs found =
     ⊎ ((skipping → ⊥) × (found ≡ with_offsets way input pairs))
 
 -- The whole list of a walk: what is reported over the span, and nothing over one that is done.
-abbrev pub Walks : (Tells : Input → List Pair → Type 0) → (skipping : Type 0) → Direction → Input → List Pair → Type 0
-Walks Tells skipping way input found =
+abbrev pub Walks : (Reports : Input → List Pair → Type 0) → (skipping : Type 0) → Direction → Input → List Pair → Type 0
+Walks Reports skipping way input found =
     ((input.end < input.start) × (found ≡ []))
     ⊎ ((input.start ≤ input.end)
-    × ((pairs : List Pair) × Tells input pairs × AreUnsplit skipping way input pairs found))
+    × ((pairs : List Pair) × Reports input pairs × AreUnsplit skipping way input pairs found))
 
 -- What the paths over the span of an input report to a walk, which is not done.
 abbrev pub OverlapsOver : Direction → Engine → Input → List Pair → Type 0
@@ -116,10 +116,10 @@ HasPattern p [] = ⊥
 HasPattern p (pair ∷ pairs) = (p ≡ pair.pattern) ⊎ HasPattern p pairs
 
 -- The patterns of a set after a forward walk: the given ones, and those that the walk reports below the capacity; an
--- earliest one reports its first pair alone. `Tells` says which list the walk reports.
-abbrev pub ArePatterns : (Tells : List Pair → Type 0) → Input → ℕ → (given found : List ℕ) → Type 0
-ArePatterns Tells input capacity given found =
-    (pairs : List Pair) × Tells pairs
+-- earliest one reports its first pair alone. `Reports` says which list the walk reports.
+abbrev pub ArePatterns : (Reports : List Pair → Type 0) → Input → ℕ → (given found : List ℕ) → Type 0
+ArePatterns Reports input capacity given found =
+    (pairs : List Pair) × Reports pairs
     × ((p : ℕ) → In p found ↔ (In p given ⊎ ((p < capacity) × HasPattern p (first_alone input.earliest pairs))))
 
 -- The same by paths.

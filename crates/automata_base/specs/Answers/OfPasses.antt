@@ -9,32 +9,32 @@ use Rattle.automata_base.specs.Nfas.Nfa.{Nfa}
 use Rattle.automata_base.specs.Paths.Paths.{Tape, IsLookAcyclic}
 use Rattle.automata_base.specs.Paths.Selections.{Pair, IsFarthest, IsNearest}
 use Rattle.automata_base.specs.Haystacks.Tapes.{Direction, tape_of}
-use Rattle.automata_base.specs.Retraced.Passes.{told_by}
+use Rattle.automata_base.specs.Retraced.Passes.{reported_by}
 
 -- what the pass over the span of an input reports, which is not done; the place is counted from where the search begins
-abbrev pub told_over : Direction → Automaton → MatchKind → Input → Option Pair
-told_over way a kind input =
-    told_by kind input.earliest a input.anchored (tape_of way input.haystack input.start input.end)
+abbrev pub reported_over : Direction → Automaton → MatchKind → Input → Option Pair
+reported_over way a kind input =
+    reported_by kind input.earliest a input.anchored (tape_of way input.haystack input.start input.end)
 
-abbrev pub TellsOver : Direction → Automaton → MatchKind → Input → Option Pair → Type 0
-TellsOver way a kind input told = told ≡ told_over way a kind input
+abbrev pub ReportsOver : Direction → Automaton → MatchKind → Input → Option Pair → Type 0
+ReportsOver way a kind input reported = reported ≡ reported_over way a kind input
 
 -- what a search answers: what the pass reports over the first span for which that is nothing or not split
-abbrev pub IsTold : Direction → Automaton → MatchKind → Input → Option Half → Type 0
-IsTold way a kind input answer = Answers (TellsOver way a kind) (IsSkipping (engine_of a kind)) way input answer
+abbrev pub IsReported : Direction → Automaton → MatchKind → Input → Option Half → Type 0
+IsReported way a kind input answer = Answers (ReportsOver way a kind) (IsSkipping (engine_of a kind)) way input answer
 
 -- without a look cycle it is the answer of the ordered paths
-abbrev pub ToldIsRight : Automaton → Type 0
-ToldIsRight a =
+abbrev pub ReportedIsRight : Automaton → Type 0
+ReportedIsRight a =
     (way : Direction) (kind : MatchKind) (input : Input) (answer : Option Half)
-    → IsLookAcyclic (nfa_of a) → IsInput input → IsTold way a kind input answer
+    → IsLookAcyclic (nfa_of a) → IsInput input → IsReported way a kind input answer
     → IsAnswer way (engine_of a kind) input answer
 
 -- passes report one answer
-abbrev pub ToldIsOne : Type 0
-ToldIsOne =
+abbrev pub ReportedIsOne : Type 0
+ReportedIsOne =
     (way : Direction) (a : Automaton) (kind : MatchKind) (input : Input) (first second : Option Half)
-    → IsTold way a kind input first → IsTold way a kind input second → first ≡ second
+    → IsReported way a kind input first → IsReported way a kind input second → first ≡ second
 
 -- what a rule of ends says over the span of an input, which is not done
 abbrev pub EndsFrom : (Rule : Nfa → Tape → ℕ → Option Pair → Type 0) → Engine → Tape → Option ℕ → Option Pair → Type 0
@@ -53,9 +53,9 @@ abbrev pub IsFarthestAnswer : Direction → Engine → Input → Option Half →
 IsFarthestAnswer way d input answer = Answers (EndsOver IsFarthest way d) (IsSkipping d) way input answer
 
 -- for every NFA it is the nearest end in an earliest search, and under `MatchKind::All` the farthest end in any other
-abbrev pub ToldEndsAreRight : Automaton → Type 0
-ToldEndsAreRight a =
+abbrev pub ReportedEndsAreRight : Automaton → Type 0
+ReportedEndsAreRight a =
     (way : Direction) (kind : MatchKind) (input : Input) (answer : Option Half)
-    → IsInput input → IsTold way a kind input answer
+    → IsInput input → IsReported way a kind input answer
     → (input.earliest ≡ true → IsNearestAnswer way (engine_of a kind) input answer)
     × (input.earliest ≡ false → kind ≡ All → IsFarthestAnswer way (engine_of a kind) input answer)

@@ -69,23 +69,24 @@ pub data Outcome : Type 0 where
   NotAPair : Outcome
 
 -- What a search over a forward and a reverse DFA returns, by what the search forward and the one back find.
-abbrev pub TellsBy : (Fronts Backs : Input → Option Half → Type 0) → Engine → Input → Outcome → Type 0
-TellsBy Fronts Backs f input (Found None) = Fronts input None
-TellsBy Fronts Backs f input (Found (Some m)) =
+abbrev pub ReportsBy : (Fronts Backs : Input → Option Half → Type 0) → Engine → Input → Outcome → Type 0
+ReportsBy Fronts Backs f input (Found None) = Fronts input None
+ReportsBy Fronts Backs f input (Found (Some m)) =
     (half : Half) × Fronts input (Some half) × FindsStartBy Backs f input half (Some m.start)
     × (m.pattern ≡ half.pattern) × (m.end ≡ half.offset)
-TellsBy Fronts Backs f input NotAPair = (half : Half) × Fronts input (Some half) × FindsStartBy Backs f input half None
+ReportsBy Fronts Backs f input NotAPair =
+    (half : Half) × Fronts input (Some half) × FindsStartBy Backs f input half None
 
 -- If both answer by the ordered paths.
 abbrev pub FindsStart : Engine → Engine → Input → Half → Option ℕ → Type 0
 FindsStart f r input half start = FindsStartBy (IsAnswer Backward r) f input half start
 
 abbrev pub IsTrySearch : Engine → Engine → Input → Outcome → Type 0
-IsTrySearch f r input outcome = TellsBy (IsAnswer Forward f) (IsAnswer Backward r) f input outcome
+IsTrySearch f r input outcome = ReportsBy (IsAnswer Forward f) (IsAnswer Backward r) f input outcome
 
 -- If the one back finds the farthest place alone, whatever the order of its paths.
 abbrev pub IsFarSearch : Engine → Engine → Input → Outcome → Type 0
-IsFarSearch f r input outcome = TellsBy (IsAnswer Forward f) (IsFarthestAnswer Backward r) f input outcome
+IsFarSearch f r input outcome = ReportsBy (IsAnswer Forward f) (IsFarthestAnswer Backward r) f input outcome
 
 abbrev pub from : ℕ → Input → Input
 from start input = record input { start = start }

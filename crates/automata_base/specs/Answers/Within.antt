@@ -10,37 +10,37 @@ use Rattle.automata_base.specs.Powersets.Powerset.{Powerset}
 use Rattle.automata_base.specs.Paths.Selections.{Pair}
 use Rattle.automata_base.specs.Retraced.Steps.{start_state_of, successor}
 use Rattle.automata_base.specs.Haystacks.Tapes.{Direction}
-use Rattle.automata_base.specs.Answers.OfPasses.{IsTold}
-use Rattle.automata_base.specs.Laws.Walks.{AreTold, InPairs}
+use Rattle.automata_base.specs.Answers.OfPasses.{IsReported}
+use Rattle.automata_base.specs.Laws.Walks.{AreReported, InPairs}
 
 -- a pattern of the NFA
 abbrev pub IsPatternOf : Automaton → ℕ → Type 0
 IsPatternOf a pattern = pattern < length a.start_pattern
 
 -- the patterns of a powerset state are the NFA's
-abbrev pub TellsOwn : Automaton → Powerset → Type 0
-TellsOwn a q = (pattern : ℕ) → In pattern q.patterns → IsPatternOf a pattern
+abbrev pub ReportsOwn : Automaton → Powerset → Type 0
+ReportsOwn a q = (pattern : ℕ) → In pattern q.patterns → IsPatternOf a pattern
 
 -- so are those of each start, and of each state that a step leads to
-abbrev pub StatesTellOwn : Automaton → Type 0
-StatesTellOwn a =
-    ((mode : Anchored) (prev : Option ℕ) → TellsOwn a (start_state_of a mode prev))
-    × ((kind : MatchKind) (q : Powerset) (unit : Option ℕ) → TellsOwn a (successor a kind q unit))
+abbrev pub StatesReportOwn : Automaton → Type 0
+StatesReportOwn a =
+    ((mode : Anchored) (prev : Option ℕ) → ReportsOwn a (start_state_of a mode prev))
+    × ((kind : MatchKind) (q : Powerset) (unit : Option ℕ) → ReportsOwn a (successor a kind q unit))
 
 -- an offset in the span of an input
 abbrev pub IsInSpan : Input → ℕ → Type 0
 IsInSpan input offset = (input.start ≤ offset) × (offset ≤ input.end)
 
 -- what passes answer lies in the span, not before the start of the span that gave it
-abbrev pub ToldLiesWithin : Automaton → Type 0
-ToldLiesWithin a =
+abbrev pub ReportedLiesWithin : Automaton → Type 0
+ReportedLiesWithin a =
     (way : Direction) (kind : MatchKind) (input : Input) (half : Half)
-    → input.end ≤ length input.haystack → IsTold way a kind input (Some half)
+    → input.end ≤ length input.haystack → IsReported way a kind input (Some half)
     → IsPatternOf a half.pattern × IsInSpan input half.offset × (input.start ≤ half.base) × (half.base ≤ half.offset)
 
 -- and so does each pair of a walk
 abbrev pub WalkLiesWithin : Automaton → Type 0
 WalkLiesWithin a =
     (way : Direction) (kind : MatchKind) (input : Input) (found : List Pair) (pair : Pair)
-    → input.end ≤ length input.haystack → AreTold way a kind input found → InPairs pair found
+    → input.end ≤ length input.haystack → AreReported way a kind input found → InPairs pair found
     → IsPatternOf a pair.pattern × IsInSpan input pair.place

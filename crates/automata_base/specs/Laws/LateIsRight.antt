@@ -6,7 +6,7 @@ use Rattle.automata_base.specs.Paths.Paths.{Tape, IsLookAcyclic}
 use Rattle.automata_base.specs.Powersets.Cuts.{MatchKind, All}
 use Rattle.automata_base.specs.Powersets.Passes.{IsTape}
 use Rattle.automata_base.specs.Paths.Selections.{Accepts, Selects, IsOverlappingOn, IsNearest, IsFarthest}
-use Rattle.automata_base.specs.Retraced.ComputedPass.{search_of, pairs_upto, told_of, IsInRange}
+use Rattle.automata_base.specs.Retraced.ComputedPass.{search_of, pairs_upto, reported_of, IsInRange}
 
 -- Without a look cycle, a search by passes selects what the ordered paths select.
 abbrev pub SearchesAreRight : Type 0
@@ -39,4 +39,4 @@ abbrev pub PairsAreRight : Type 0
 PairsAreRight =
     (n : Nfa) (t : Tape) (start i : ℕ)
     → IsInRange n → start < length n.nodes → IsTape t → i ≤ length t.bytes
-    → IsSet (λ p. (path : List ℕ) × Accepts n t start i p path) (told_of n All start t i)
+    → IsSet (λ p. (path : List ℕ) × Accepts n t start i p path) (reported_of n All start t i)

@@ -11,16 +11,16 @@ use Rattle.automata_base.specs.Haystacks.Matches.{Match}
 
 -- Over a true pair with the UTF-8 promise a search reports the match of the path that the forward search chose, and
 -- never that the two are no pair.
-abbrev pub TellSpans : (Tells : Engine → Engine → Input → Outcome → Type 0) → Type 0
-TellSpans Tells =
+abbrev pub ReportSpans : (Reports : Engine → Engine → Input → Outcome → Type 0) → Type 0
+ReportSpans Reports =
     (f r : Engine) (input : Input) (outcome : Outcome)
-    → IsTruePair f r → KeepsUtf8 Forward f → IsInput input → Tells f r input outcome → FindsSpan f input outcome
+    → IsTruePair f r → KeepsUtf8 Forward f → IsInput input → Reports f r input outcome → FindsSpan f input outcome
 
 -- This holds of one that answers both ways by the ordered paths, and of one whose search back finds the farthest place
 -- alone, as a pass of any reverse NFA does.
 pub record StartsAreRight : Type 0 where
-  pub paths : TellSpans IsTrySearch
-  pub farthest : TellSpans IsFarSearch
+  pub paths : ReportSpans IsTrySearch
+  pub farthest : ReportSpans IsFarSearch
 
 -- It has an outcome, and each input one match.
 abbrev pub SpansAreFound : Type 0

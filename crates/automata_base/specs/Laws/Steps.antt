@@ -12,7 +12,7 @@ use Rattle.automata_base.specs.Powersets.Powerset.{Powerset, dead}
 use Rattle.automata_base.specs.Paths.Selections.{Selects, IsNearest, IsFarthest}
 use Rattle.automata_base.specs.Paths.Starts.{IsOf, IsStartOf, mode_start}
 use Rattle.automata_base.specs.Retraced.Steps.{start_state_of, successor, NeedsOwnLooks}
-use Rattle.automata_base.specs.Retraced.Passes.{told_by}
+use Rattle.automata_base.specs.Retraced.Passes.{reported_by}
 
 -- bytes of one class lead a powerset state to one successor
 abbrev pub ClassesStepAlike : Type 0
@@ -43,21 +43,22 @@ abbrev pub PassesSelect : Type 0
 PassesSelect =
     (kind : MatchKind) (earliest : Bool) (a : Automaton) (mode : Anchored) (t : Tape) (start : ℕ)
     → mode_start a mode ≡ Some start → IsInRange (nfa_of a) → start < length (nodes_of a.states)
-    → IsLookAcyclic (nfa_of a) → IsTape t → Selects kind earliest (nfa_of a) t start (told_by kind earliest a mode t)
+    → IsLookAcyclic (nfa_of a) → IsTape t
+    → Selects kind earliest (nfa_of a) t start (reported_by kind earliest a mode t)
 
 -- an earliest pass over any NFA reports the nearest end
 abbrev pub PassesFindNearest : Type 0
 PassesFindNearest =
     (kind : MatchKind) (a : Automaton) (mode : Anchored) (t : Tape) (start : ℕ)
     → mode_start a mode ≡ Some start → IsInRange (nfa_of a) → start < length (nodes_of a.states) → IsTape t
-    → IsNearest (nfa_of a) t start (told_by kind true a mode t)
+    → IsNearest (nfa_of a) t start (reported_by kind true a mode t)
 
 -- under `MatchKind::All` a pass over any NFA reports the farthest end
 abbrev pub PassesFindFarthest : Type 0
 PassesFindFarthest =
     (a : Automaton) (mode : Anchored) (t : Tape) (start : ℕ)
     → mode_start a mode ≡ Some start → IsInRange (nfa_of a) → start < length (nodes_of a.states) → IsTape t
-    → IsFarthest (nfa_of a) t start (told_by All false a mode t)
+    → IsFarthest (nfa_of a) t start (reported_by All false a mode t)
 
 -- what `successor` gives of an own state is the successor, the only one
 abbrev pub SuccessorsAreRight : Automaton → Type 0

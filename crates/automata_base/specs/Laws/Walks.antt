@@ -9,41 +9,41 @@ use Rattle.automata_base.specs.Paths.Paths.{IsLookAcyclic}
 use Rattle.automata_base.specs.Paths.Selections.{Accepts, Pair}
 use Rattle.automata_base.specs.Paths.Starts.{mode_start}
 use Rattle.automata_base.specs.Haystacks.Tapes.{Direction, is_split, tape_of}
-use Rattle.automata_base.specs.Retraced.Passes.{pairs_told}
+use Rattle.automata_base.specs.Retraced.Passes.{pairs_reported}
 
 -- what the pass over the span of an input reports, which is not done; places are counted from where the search begins
-abbrev pub SpanTells : Direction → Automaton → MatchKind → Input → List Pair → Type 0
-SpanTells way a kind input pairs =
-    pairs ≡ pairs_told a kind input.anchored (tape_of way input.haystack input.start input.end)
+abbrev pub SpanReports : Direction → Automaton → MatchKind → Input → List Pair → Type 0
+SpanReports way a kind input pairs =
+    pairs ≡ pairs_reported a kind input.anchored (tape_of way input.haystack input.start input.end)
     (suc (length (tape_of way input.haystack input.start input.end).bytes))
 
 -- the whole list of a walk: what its pass reports, by offsets, without the split places if they are skipped
-abbrev pub AreTold : Direction → Automaton → MatchKind → Input → List Pair → Type 0
-AreTold way a kind input found = Walks (SpanTells way a kind) (IsSkipping (engine_of a kind)) way input found
+abbrev pub AreReported : Direction → Automaton → MatchKind → Input → List Pair → Type 0
+AreReported way a kind input found = Walks (SpanReports way a kind) (IsSkipping (engine_of a kind)) way input found
 
 -- each walk has such a list, and one alone
-abbrev pub WalksAreTold : Automaton → Type 0
-WalksAreTold a =
-    (way : Direction) (kind : MatchKind) (input : Input) → (found : List Pair) × AreTold way a kind input found
+abbrev pub WalksAreReported : Automaton → Type 0
+WalksAreReported a =
+    (way : Direction) (kind : MatchKind) (input : Input) → (found : List Pair) × AreReported way a kind input found
 
 abbrev pub WalksAreOne : Type 0
 WalksAreOne =
     (way : Direction) (a : Automaton) (kind : MatchKind) (input : Input) (first second : List Pair)
-    → AreTold way a kind input first → AreTold way a kind input second → first ≡ second
+    → AreReported way a kind input first → AreReported way a kind input second → first ≡ second
 
 -- without a look cycle it is the list of the ordered paths
 abbrev pub WalkIsRight : Automaton → Type 0
 WalkIsRight a =
     (way : Direction) (kind : MatchKind) (input : Input) (found : List Pair)
-    → IsLookAcyclic (nfa_of a) → IsInput input → AreTold way a kind input found
+    → IsLookAcyclic (nfa_of a) → IsInput input → AreReported way a kind input found
     → IsOverlapping way (engine_of a kind) input found
 
 -- and each list of the ordered paths is this one
-abbrev pub OverlappingIsTold : Automaton → Type 0
-OverlappingIsTold a =
+abbrev pub OverlappingIsReported : Automaton → Type 0
+OverlappingIsReported a =
     (way : Direction) (kind : MatchKind) (input : Input) (found : List Pair)
     → IsLookAcyclic (nfa_of a) → IsInput input → IsOverlapping way (engine_of a kind) input found
-    → AreTold way a kind input found
+    → AreReported way a kind input found
 
 abbrev pub InPairs : Pair → List Pair → Type 0
 InPairs pair [] = ⊥
@@ -59,8 +59,9 @@ IsAccepted way a input start pair =
     × (IsSkipping (engine_of a All) → is_split input.haystack pair.place ≡ false)
 
 -- for every NFA a walk under `MatchKind::All` reports the pairs of all accepting paths
-abbrev pub AllPairsAreTold : Automaton → Type 0
-AllPairsAreTold a =
+abbrev pub AllPairsAreReported : Automaton → Type 0
+AllPairsAreReported a =
     (way : Direction) (input : Input) (found : List Pair) (start : ℕ)
-    → IsInput input → input.start ≤ input.end → mode_start a input.anchored ≡ Some start → AreTold way a All input found
+    → IsInput input → input.start ≤ input.end → mode_start a input.anchored ≡ Some start
+    → AreReported way a All input found
     → (pair : Pair) → InPairs pair found ↔ IsAccepted way a input start pair

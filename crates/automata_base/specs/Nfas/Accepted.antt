@@ -9,7 +9,7 @@ use Rattle.automata_base.specs.Haystacks.Looks.{look_index}
 use Rattle.automata_base.specs.Nfas.Errors.{states_ordered}
 
 -- At most 2 ^ 27 states and patterns, each number in range, ranges in order.
-pub record IsDoor (a : Automaton) : Type 0 where
+pub record IsChecked (a : Automaton) : Type 0 where
   pub small : length a.states ≤ 2 ^ 27
   pub few : length a.start_pattern ≤ 2 ^ 27
   pub range : IsInRange (nfa_of a)

@@ -5,7 +5,7 @@ use Rattle.automata_base.specs.declared.nfa.thompson.Flags.{Flags}
 use Rattle.automata_base.specs.declared.nfa.thompson.State.{State}
 use Rattle.automata_base.specs.Nfas.Nodes.{Automaton, nfa_of, stack_room}
 use Rattle.automata_base.specs.Paths.Paths.{IsLookAcyclic}
-use Rattle.automata_base.specs.Nfas.Accepted.{IsDoor, IsLooks}
+use Rattle.automata_base.specs.Nfas.Accepted.{IsChecked, IsLooks}
 use Rattle.automata_base.specs.Nfas.Getters.{HasEmpty, SkipsLazily}
 
 -- What contracts see of an NFA, by its parts, and by its data.
@@ -29,7 +29,7 @@ automaton_of d = record {
 
 -- The data of an NFA that `NFA::from_states` accepts: what it says of itself was computed when it was made.
 pub record IsConsistent (d : Data) : Type 0 where
-  pub door : IsDoor (automaton_of d)
+  pub checked : IsChecked (automaton_of d)
   pub looks : IsLooks (automaton_of d) d.looks
   pub room : d.room ≡ stack_room d.states.items
   pub empty : IsTrue d.has_empty ↔ HasEmpty (automaton_of d)

@@ -8,8 +8,8 @@ use Rattle.automata_base.specs.declared.nfa.thompson.building.BuildError.{BuildE
 use Rattle.automata_base.specs.declared.nfa.thompson.building.BuildError.TheVariants.{TooLarge, OutOfMemory}
 use Rattle.automata_base.specs.declared.nfa.thompson.building.BuildError.TheVariants.{NoPattern, NFA}
 use Rattle.automata_base.specs.declared.nfa.thompson.NfaError.{NfaError}
-use Rattle.automata_base.specs.declared.nfa.thompson.NfaError.TheVariants as door
-use Rattle.automata_base.specs.Nfas.Accepted.{IsDoor}
+use Rattle.automata_base.specs.declared.nfa.thompson.NfaError.TheVariants as nfa_error
+use Rattle.automata_base.specs.Nfas.Accepted.{IsChecked}
 use Rattle.automata_base.specs.Nfas.Getters.{SkipsLazily}
 use Rattle.automata_base.specs.Nfas.Nodes.{Automaton}
 use Rattle.automata_base.specs.Nfas.Shapes.{Shape, UnionShape, RangeShape, shape_of, shape_added, built_of}
@@ -109,17 +109,17 @@ AreBuilt draft states = map shape_of states ≡ map built_of draft.states
 
 -- What a builder returns for an error of `NFA::from_states`: the one of memory is its own.
 abbrev pub build_error : NfaError → BuildError
-build_error door.StateRange = NFA door.StateRange
-build_error door.StartRange = NFA door.StartRange
-build_error door.PatternRange = NFA door.PatternRange
-build_error door.Ranges = NFA door.Ranges
-build_error door.TooLarge = NFA door.TooLarge
-build_error door.OutOfMemory = OutOfMemory
+build_error nfa_error.StateRange = NFA nfa_error.StateRange
+build_error nfa_error.StartRange = NFA nfa_error.StartRange
+build_error nfa_error.PatternRange = NFA nfa_error.PatternRange
+build_error nfa_error.Ranges = NFA nfa_error.Ranges
+build_error nfa_error.TooLarge = NFA nfa_error.TooLarge
+build_error nfa_error.OutOfMemory = OutOfMemory
 
 -- If the states before it lead to no others, an NFA that starts at a lazy loop skips lazily.
 abbrev pub PrefixesSkipLazily : Type 0
 PrefixesSkipLazily =
-    (draft : Draft) (start : ℕ) (before after : Automaton) → IsDoor before → AreBuilt draft before.states
+    (draft : Draft) (start : ℕ) (before after : Automaton) → IsChecked before → AreBuilt draft before.states
     → start < length draft.states
     → outline after ≡ built (with_states draft (draft.states ++ prefix_of draft start)) start (length draft.states)
     → SkipsLazily after

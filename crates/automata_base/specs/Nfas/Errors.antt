@@ -94,8 +94,8 @@ abbrev pub unless : Bool → NfaError → Option NfaError → Option NfaError
 unless passes error later = if passes then later else Some error
 
 -- The error of the first test that fails; none if all pass.
-unfoldable pub door_refusal : List State → (anchored unanchored : ℕ) → (starts : List ℕ) → Option NfaError
-door_refusal states anchored unanchored starts =
+unfoldable pub states_refusal : List State → (anchored unanchored : ℕ) → (starts : List ℕ) → Option NfaError
+states_refusal states anchored unanchored starts =
     unless (is_small states starts) TooLarge
     (unless (is_narrow states) TooLarge
     (unless (starts_below (length states) anchored unanchored starts) StartRange

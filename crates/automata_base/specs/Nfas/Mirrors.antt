@@ -12,7 +12,7 @@ use Rattle.automata_base.specs.Powersets.Cuts.{MatchKind, All}
 use Rattle.automata_base.specs.Nfas.Engines.{MatchesEmpty, BeginsLazily, engine_of}
 use Rattle.automata_base.specs.Nfas.Nodes.{Automaton, nfa_of}
 use Rattle.automata_base.specs.Retraced.DenseRuns.{ranged_nfa}
-use Rattle.automata_base.specs.Nfas.Accepted.{IsDoor}
+use Rattle.automata_base.specs.Nfas.Accepted.{IsChecked}
 use Rattle.automata_base.specs.Paths.Selections.{Accepts}
 use Rattle.automata_base.specs.Haystacks.Tapes.{forward_tape, reverse_tape}
 use Rattle.automata_base.specs.Answers.TruePairs.{IsTruePair}
@@ -103,7 +103,7 @@ pub record IsReversedAt
   pub arcs :
       (s : ℕ) (l : Label) → In s reached → HasArc n s l t
       → In s kept × ((x : ℕ) × In x xs × IsReversedArc m x l (place s))
-  pub told : t ≡ first → (x : ℕ) × In x xs × (node m x ≡ Accept p)
+  pub reported : t ≡ first → (x : ℕ) × In x xs × (node m x ≡ Accept p)
 
 -- The part for the pattern `p` has a state for each kept state of `n`: its matches that are reached, and what leads to
 -- them. Its backward paths begin at `entry`, which goes on to the matches.
@@ -152,10 +152,11 @@ IsReversedByPattern a b =
 
 -- This holds of every reversed NFA.
 abbrev pub PatternsAreReversed : Type 0
-PatternsAreReversed = (a b : Automaton) → IsDoor a → IsReversed a b → IsReversedByPattern a b
+PatternsAreReversed = (a b : Automaton) → IsChecked a → IsReversed a b → IsReversedByPattern a b
 
 -- An NFA and its reversed one are a true pair.
 abbrev pub ReversedIsTrue : Type 0
 ReversedIsTrue =
-    (a b : Automaton) (kind : MatchKind) → IsDoor a → IsReversed a b → BeginsAlike a → BeginsLazily (engine_of a kind)
+    (a b : Automaton) (kind : MatchKind) → IsChecked a → IsReversed a b → BeginsAlike a
+    → BeginsLazily (engine_of a kind)
     → IsTruePair (engine_of a kind) (engine_of b All)

@@ -55,8 +55,8 @@ abbrev pub IsOverlappingOn : MatchKind → Nfa → Tape → ℕ → List Pair �
 IsOverlappingOn kind n t start pairs = Pairs (ArePatternsAt kind n t start) (suc (length t.bytes)) pairs
 
 -- What the pass reports at place `i`: the patterns of the state that the unit there leads to.
-abbrev pub Tells : MatchKind → Nfa → Tape → ℕ → ℕ → List ℕ → Type 0
-Tells kind n t start i patterns = (Q : Powerset) × IsPass n kind start t (suc i) Q × (Q.patterns ≡ patterns)
+abbrev pub Reports : MatchKind → Nfa → Tape → ℕ → ℕ → List ℕ → Type 0
+Reports kind n t start i patterns = (Q : Powerset) × IsPass n kind start t (suc i) Q × (Q.patterns ≡ patterns)
 
 -- Whether the place `i` of a path with that edge list is preferred to `j` of another.
 abbrev pub IsChosen : MatchKind → (earliest : Bool) → ℕ → List ℕ → ℕ → List ℕ → Type 0

@@ -5,14 +5,14 @@ use Rattle.automata_base.specs.Nfas.Nfa.{Nfa, takes, accepts}
 pub use Rattle.automata_base.specs.declared.util.search.MatchKind.{MatchKind}
 pub use Rattle.automata_base.specs.declared.util.search.MatchKind.TheVariants.{All, LeftmostFirst}
 
-abbrev pub cut_behind : Option ℕ → ℕ → List ℕ → List ℕ
-cut_behind None q rest = q ∷ rest
-cut_behind (Some p) q rest = q ∷ []
+abbrev pub cut_after : Option ℕ → ℕ → List ℕ → List ℕ
+cut_after None q rest = q ∷ rest
+cut_after (Some p) q rest = q ∷ []
 
 -- The part of a list up to the first match state.
 abbrev pub cut : Nfa → List ℕ → List ℕ
 cut n [] = []
-cut n (q ∷ xs) = cut_behind (accepts n q) q (cut n xs)
+cut n (q ∷ xs) = cut_after (accepts n q) q (cut n xs)
 
 -- What counts of a list of states: all of it under `MatchKind::All`, and the part up to the first match state under
 -- `MatchKind::LeftmostFirst`.

@@ -11,7 +11,7 @@ use Rattle.automata_base.specs.Powersets.Passes.{IsClosureOf, IsSuccessor}
 use Rattle.automata_base.specs.Powersets.Powerset.{Powerset, cost}
 use Rattle.automata_base.specs.Paths.Starts.{IsOf, IsStartOf}
 use Rattle.automata_base.specs.Retraced.Steps.{NeedsOwnLooks, start_state_of, successor}
-use Rattle.automata_base.specs.Answers.Within.{TellsOwn}
+use Rattle.automata_base.specs.Answers.Within.{ReportsOwn}
 
 -- the powerset state where the searches of a mode start behind a byte, or behind none
 pub record IsStartMade (a : Automaton) (mode : Anchored) (prev : Option ℕ) (made : Powerset) : Type 0 where
@@ -19,7 +19,7 @@ pub record IsStartMade (a : Automaton) (mode : Anchored) (prev : Option ℕ) (ma
   pub start : IsStartOf a mode prev made
   pub same : made ≡ start_state_of a mode prev
   -- its patterns, the looks that it needs and its NFA states are the automaton's
-  pub own : TellsOwn a made
+  pub own : ReportsOwn a made
   pub looks : NeedsOwnLooks a made
   pub is_of : IsOf a made
   -- it costs no more than any state of the automaton may
@@ -32,7 +32,7 @@ pub record IsStepMade (a : Automaton) (kind : MatchKind) (from : Powerset) (unit
   pub step : IsSuccessor (nfa_of a) kind from unit made
   pub same : made ≡ successor a kind from unit
   -- its patterns, the looks that it needs and its NFA states are the automaton's
-  pub own : TellsOwn a made
+  pub own : ReportsOwn a made
   pub looks : NeedsOwnLooks a made
   pub is_of : IsOf a made
   -- it costs no more than any state of the automaton may

@@ -1,6 +1,6 @@
--- What contracts see of the room of determinisation.
+-- What contracts see of the room to determinize.
 use Rattle.std.specs.Prelude.{ℕ}
-use Rattle.automata_base.specs.Nfas.Accepted.{IsDoor}
+use Rattle.automata_base.specs.Nfas.Accepted.{IsChecked}
 use Rattle.automata_base.specs.Nfas.Nodes.{Automaton}
 use Rattle.automata_base.specs.Retraced.Rooms.{IsStepRoom}
 use Rattle.automata_base.specs.declared.util.determinize.scratch.Scratch.TheInside.{Inside}
@@ -14,7 +14,7 @@ abbrev pub view_of : Inside → ScratchView
 view_of s = record { of = s.of.value; count = s.count.number }
 
 pub record IsScratch (s : Inside) : Type 0 where
-  -- its NFA passed the door
-  pub door : IsDoor s.of.value
+  -- its NFA passed the tests of `NFA::from_states`
+  pub checked : IsChecked s.of.value
   -- it is room for the steps of that NFA
   pub room : IsStepRoom s.of.value s.stack s.one s.two s.parts

@@ -124,8 +124,8 @@ abbrev pub pass_of : Nfa → MatchKind → ℕ → Tape → ℕ → Powerset
 pass_of n kind start t zero = start_behind n start t.before
 pass_of n kind start t (suc k) = successor_of n kind (pass_of n kind start t k) (next t k)
 
-abbrev pub told_of : Nfa → MatchKind → ℕ → Tape → ℕ → List ℕ
-told_of n kind start t i = (pass_of n kind start t (suc i)).patterns
+abbrev pub reported_of : Nfa → MatchKind → ℕ → Tape → ℕ → List ℕ
+reported_of n kind start t i = (pass_of n kind start t (suc i)).patterns
 
 abbrev pub pair_at : List ℕ → ℕ → Option Pair → Option Pair
 pair_at [] i other = other
@@ -134,7 +134,7 @@ pair_at (p ∷ rest) i other = Some (record { pattern = p; place = i })
 -- The first pattern of the last state with patterns among those that `k` units lead to.
 abbrev pub last_of : Nfa → MatchKind → ℕ → Tape → ℕ → Option Pair
 last_of n kind start t zero = None
-last_of n kind start t (suc i) = pair_at (told_of n kind start t i) i (last_of n kind start t i)
+last_of n kind start t (suc i) = pair_at (reported_of n kind start t i) i (last_of n kind start t i)
 
 abbrev pub earlier_or : Option Pair → Option Pair → Option Pair
 earlier_or None other = other
@@ -142,7 +142,7 @@ earlier_or (Some pair) other = Some pair
 
 abbrev pub first_of : Nfa → MatchKind → ℕ → Tape → ℕ → Option Pair
 first_of n kind start t zero = None
-first_of n kind start t (suc i) = earlier_or (first_of n kind start t i) (pair_at (told_of n kind start t i) i None)
+first_of n kind start t (suc i) = earlier_or (first_of n kind start t i) (pair_at (reported_of n kind start t i) i None)
 
 abbrev pub search_of : MatchKind → Bool → Nfa → Tape → ℕ → Option Pair
 search_of kind true n t start = first_of n kind start t (suc (length t.bytes))
@@ -157,4 +157,4 @@ IsInRange n =
 -- The pairs that a walk reports at the first `k` places.
 abbrev pub pairs_upto : Nfa → MatchKind → ℕ → Tape → ℕ → List Pair
 pairs_upto n kind start t zero = []
-pairs_upto n kind start t (suc k) = pairs_upto n kind start t k ++ at_place k (told_of n kind start t k)
+pairs_upto n kind start t (suc k) = pairs_upto n kind start t k ++ at_place k (reported_of n kind start t k)

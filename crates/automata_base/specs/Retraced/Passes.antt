@@ -15,29 +15,30 @@ state_after a kind mode t zero = start_state_of a mode t.before
 state_after a kind mode t (suc k) = successor a kind (state_after a kind mode t k) (next t k)
 
 -- the patterns of the state that the unit at place `i` leads to: matches are delayed by one byte
-abbrev pub told_at : Automaton → MatchKind → Anchored → Tape → ℕ → List ℕ
-told_at a kind mode t i = (state_after a kind mode t (suc i)).patterns
+abbrev pub reported_at : Automaton → MatchKind → Anchored → Tape → ℕ → List ℕ
+reported_at a kind mode t i = (state_after a kind mode t (suc i)).patterns
 
 -- the first pattern of the last state with patterns, and its place, among what the first `k` units report
-unfoldable pub last_told : Automaton → MatchKind → Anchored → Tape → ℕ → Option Pair
-last_told a kind mode t zero = None
-last_told a kind mode t (suc i) = pair_at (told_at a kind mode t i) i (last_told a kind mode t i)
+unfoldable pub last_reported : Automaton → MatchKind → Anchored → Tape → ℕ → Option Pair
+last_reported a kind mode t zero = None
+last_reported a kind mode t (suc i) = pair_at (reported_at a kind mode t i) i (last_reported a kind mode t i)
 
 -- the same of the first state with patterns
-unfoldable pub first_told : Automaton → MatchKind → Anchored → Tape → ℕ → Option Pair
-first_told a kind mode t zero = None
-first_told a kind mode t (suc i) = earlier_or (first_told a kind mode t i) (pair_at (told_at a kind mode t i) i None)
+unfoldable pub first_reported : Automaton → MatchKind → Anchored → Tape → ℕ → Option Pair
+first_reported a kind mode t zero = None
+first_reported a kind mode t (suc i) =
+    earlier_or (first_reported a kind mode t i) (pair_at (reported_at a kind mode t i) i None)
 
 -- what the first `k` units report: an earliest search the first match, any other the last one
-abbrev pub told_upto : MatchKind → (earliest : Bool) → Automaton → Anchored → Tape → ℕ → Option Pair
-told_upto kind true a mode t k = first_told a kind mode t k
-told_upto kind false a mode t k = last_told a kind mode t k
+abbrev pub reported_upto : MatchKind → (earliest : Bool) → Automaton → Anchored → Tape → ℕ → Option Pair
+reported_upto kind true a mode t k = first_reported a kind mode t k
+reported_upto kind false a mode t k = last_reported a kind mode t k
 
 -- what a search reports of its pass, which reads each byte of the tape and the unit after it
-abbrev pub told_by : MatchKind → (earliest : Bool) → Automaton → Anchored → Tape → Option Pair
-told_by kind earliest a mode t = told_upto kind earliest a mode t (suc (length t.bytes))
+abbrev pub reported_by : MatchKind → (earliest : Bool) → Automaton → Anchored → Tape → Option Pair
+reported_by kind earliest a mode t = reported_upto kind earliest a mode t (suc (length t.bytes))
 
 -- the pairs that the first `k` units report, in order
-unfoldable pub pairs_told : Automaton → MatchKind → Anchored → Tape → ℕ → List Pair
-pairs_told a kind mode t zero = []
-pairs_told a kind mode t (suc i) = pairs_told a kind mode t i ++ at_place i (told_at a kind mode t i)
+unfoldable pub pairs_reported : Automaton → MatchKind → Anchored → Tape → ℕ → List Pair
+pairs_reported a kind mode t zero = []
+pairs_reported a kind mode t (suc i) = pairs_reported a kind mode t i ++ at_place i (reported_at a kind mode t i)

@@ -1,4 +1,4 @@
--- The room that determinisation works in, so that a state is made without taking memory.
+-- The room to determinize in, so that a state is made without allocating.
 use Rattle.std.specs.Prelude.{ℕ, ◌≡◌, ◌≤◌, length, [], Vec, vec_capacity}
 use Rattle.std.specs.declared.alloc.Global.{Global}
 use Rattle.automata_base.specs.Powersets.Members.{Members}

@@ -33,7 +33,8 @@ impl Model for ByteClasses {
 
 impl ByteClasses {
     ghost use Rattle.std.specs.Prelude.{◌≡◌, ◌+◌, ◌<◌, ◌≤◌, ◌^◌, ℕ, false, true, length};
-    ghost use Rattle.automata_base.specs.ByteClasses.Classes.{AreClasses, class_of, class_in, eoi_class, alphabet_length};
+    ghost use Rattle.automata_base.specs.ByteClasses.Classes.{AreClasses, class_of, class_in, eoi_class};
+    ghost use Rattle.automata_base.specs.ByteClasses.Classes.{alphabet_length};
     ghost use Rattle.automata_base.specs.ByteClasses.Classes.{stride_of, is_quit};
 
     /// The classes of the NFA's bytes, with these quit bytes. If `on` is false, each byte is a class of its own.

@@ -3,8 +3,8 @@ use Rattle.automata_base.specs.Nfas.Nodes.{Automaton}
 use Rattle.automata_base.specs.Powersets.Powerset.{Powerset}
 use Rattle.automata_base.specs.Paths.Starts.{IsOf}
 use Rattle.automata_base.specs.Retraced.Steps.{NeedsOwnLooks}
-use Rattle.automata_base.specs.Answers.Within.{TellsOwn}
+use Rattle.automata_base.specs.Answers.Within.{ReportsOwn}
 
 -- the states, the looks and the patterns of a powerset state are the automaton's
 unfoldable pub IsOwn : Automaton → Powerset → Type 0
-IsOwn a q = IsOf a q × NeedsOwnLooks a q × TellsOwn a q
+IsOwn a q = IsOf a q × NeedsOwnLooks a q × ReportsOwn a q

@@ -5,7 +5,7 @@ use Rattle.automata_base.specs.Haystacks.Input.{Input}
 use Rattle.automata_base.specs.Haystacks.Tapes.{Direction}
 use Rattle.automata_hybrid.specs.Machines.Machine.{Machine}
 use Rattle.automata_hybrid.specs.Searches.Passes.{IsFound}
-use Rattle.automata_hybrid.specs.Walks.Answers.{HasTold, TellsNext}
+use Rattle.automata_hybrid.specs.Walks.Answers.{HasReported, ReportsNext}
 use Rattle.automata_hybrid.specs.Walks.State.{Walk}
 use Rattle.automata_config.specs.Options.{match_kind_of}
 
@@ -22,8 +22,8 @@ AnswersAgree =
 -- whatever cache it uses; and so do walks of two DFAs of one NFA and one match kind.
 abbrev pub WalksAgree : Machine → Type 0
 WalksAgree m =
-    (way : Direction) (other : Machine) (input : Input) (first second first_told second_told : Walk) (k : ℕ)
+    (way : Direction) (other : Machine) (input : Input) (first second first_reported second_reported : Walk) (k : ℕ)
     → other.nfa ≡ m.nfa → match_kind_of other.config ≡ match_kind_of m.config
-    → HasTold way m input first k → HasTold way other input second k
-    → TellsNext way m input first first_told → TellsNext way other input second second_told
-    → first_told.found ≡ second_told.found
+    → HasReported way m input first k → HasReported way other input second k
+    → ReportsNext way m input first first_reported → ReportsNext way other input second second_reported
+    → first_reported.found ≡ second_reported.found

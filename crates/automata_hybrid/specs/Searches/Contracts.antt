@@ -27,7 +27,7 @@ use Rattle.automata_hybrid.specs.Searches.Progress.{EndsProgress, LeavesProgress
 use Rattle.automata_hybrid.specs.Searches.Passes.{IsFound, IsRefused, NoQuitInReach, WithoutBase, tape_in, with_base}
 use Rattle.automata_hybrid.specs.Machines.StartSlots.{supports}
 use Rattle.automata_hybrid.specs.Steps.Starts.{quit_behind}
-use Rattle.automata_hybrid.specs.Searches.Within.{LiesIn, LiesPast}
+use Rattle.automata_hybrid.specs.Searches.Bounds.{LiesIn, LiesPast}
 use Rattle.automata_config.specs.Options.{match_kind_of, minimum_cache_clear_count_of}
 
 -- a cache of this DFA: its rows fit together, each start slot has its own start or none yet, and its accounted bytes

@@ -8,7 +8,7 @@ use Rattle.automata_base.specs.Paths.Paths.{next}
 use Rattle.automata_base.specs.Powersets.Powerset.{Powerset, dead}
 use Rattle.automata_base.specs.Paths.Selections.{Pair}
 use Rattle.automata_base.specs.Haystacks.Tapes.{Direction}
-use Rattle.automata_base.specs.Answers.OfPasses.{told_over}
+use Rattle.automata_base.specs.Answers.OfPasses.{reported_over}
 use Rattle.automata_base.specs.declared.util.search.MatchErrorKind.TheVariants.{GaveUp}
 use Rattle.automata_config.specs.declared.error.StepError.{StepError}
 use Rattle.automata_config.specs.declared.error.StepError.TheVariants as step
@@ -16,7 +16,7 @@ use Rattle.automata_config.specs.declared.error.SearchError.{SearchError}
 use Rattle.automata_config.specs.declared.error.SearchError.TheVariants as search
 use Rattle.automata_hybrid.specs.Machines.Machine.{Machine, table_stride}
 use Rattle.automata_hybrid.specs.Cache.Table.{Rows, Names, Leads}
-use Rattle.automata_hybrid.specs.Searches.Passes.{HasReadNoQuit, Reads, tape_in, state_in, told_in}
+use Rattle.automata_hybrid.specs.Searches.Passes.{HasReadNoQuit, Reads, tape_in, state_in, reported_in}
 use Rattle.automata_hybrid.specs.Cache.Stores.{Stored}
 use Rattle.automata_hybrid.specs.Searches.Cached.{KnowsItsStart, KnowsUnit}
 use Rattle.automata_hybrid.specs.Cache.Ids.{HasOnly, IsRunTag, unknown_id, HasDeadTag}
@@ -35,13 +35,13 @@ half_at (pattern ∷ patterns) at found = Some (record { pattern = pattern; offs
 
 -- what a pass over the span of an input finds
 abbrev pub found_over : Direction → Machine → Input → Option HalfMatch
-found_over way m input = half_of way input (told_over way m.nfa (match_kind_of m.config) input)
+found_over way m input = half_of way input (reported_over way m.nfa (match_kind_of m.config) input)
 
 -- a pass has read `k` units, none a quit byte: the ID names its state there, and this was found
 pub record IsAt (way : Direction) (m : Machine) (t : Rows) (input : Input) (k id : ℕ) (found : Option HalfMatch) :
     Type 0 where
   pub named : Names t id (state_in way m input k)
-  pub told : found ≡ half_of way input (told_in way m input k)
+  pub reported : found ≡ half_of way input (reported_in way m input k)
   pub nothing : input.earliest ≡ true → found ≡ None
   pub clean : HasReadNoQuit way m input k
 

@@ -10,8 +10,8 @@ use Rattle.automata_base.specs.Paths.Paths.{Tape, next}
 use Rattle.automata_base.specs.Powersets.Powerset.{Powerset, dead}
 use Rattle.automata_base.specs.Paths.Selections.{Pair}
 use Rattle.automata_base.specs.Haystacks.Tapes.{Direction, Forward, Backward, tape_of}
-use Rattle.automata_base.specs.Retraced.Passes.{state_after, told_upto}
-use Rattle.automata_base.specs.Answers.OfPasses.{told_over}
+use Rattle.automata_base.specs.Retraced.Passes.{state_after, reported_upto}
+use Rattle.automata_base.specs.Answers.OfPasses.{reported_over}
 use Rattle.automata_base.specs.Retraced.Steps.{successor}
 use Rattle.automata_base.specs.declared.util.search.MatchErrorKind.TheVariants.{Quit as QuitAt, GaveUp}
 use Rattle.automata_base.specs.declared.util.search.MatchErrorKind.TheVariants.{UnsupportedAnchored as UnsupportedMode}
@@ -34,14 +34,15 @@ abbrev pub state_in : Direction → Machine → Input → ℕ → Powerset
 state_in way m input k = state_after m.nfa (match_kind_of m.config) input.anchored (tape_in way input) k
 
 -- what its first `k` units report
-abbrev pub told_in : Direction → Machine → Input → ℕ → Option Pair
-told_in way m input k = told_upto (match_kind_of m.config) input.earliest m.nfa input.anchored (tape_in way input) k
+abbrev pub reported_in : Direction → Machine → Input → ℕ → Option Pair
+reported_in way m input k =
+    reported_upto (match_kind_of m.config) input.earliest m.nfa input.anchored (tape_in way input) k
 
 -- a pass reads the unit at place `k`: its state there is not dead, and an earliest one has reported nothing yet
 abbrev pub Reads : Direction → Machine → Input → ℕ → Type 0
 Reads way m input k =
     (k ≤ length (tape_in way input).bytes) × (state_in way m input k ≡ dead → ⊥)
-    × (input.earliest ≡ true → told_in way m input k ≡ None)
+    × (input.earliest ≡ true → reported_in way m input k ≡ None)
 
 -- none of the first `k` units of a pass is a quit byte
 abbrev pub HasReadNoQuit : Direction → Machine → Input → ℕ → Type 0
@@ -103,7 +104,8 @@ IsPassRefusal way m c input e =
 
 -- a pass over the span of an input reports this, and meets no quit byte
 abbrev pub Finds : Direction → Machine → Input → Option Pair → Type 0
-Finds way m input told = (told ≡ told_over way m.nfa (match_kind_of m.config) input) × MeetsNoQuit way m input
+Finds way m input reported =
+    (reported ≡ reported_over way m.nfa (match_kind_of m.config) input) × MeetsNoQuit way m input
 
 -- split places are skipped
 abbrev pub Skips : Machine → Type 0

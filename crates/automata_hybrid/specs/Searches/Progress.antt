@@ -49,8 +49,8 @@ AreUnitsRead way m input from (suc units) old new =
     × IsUnitRead way m input (from + units) (with_search_moved way input (from + units) mid) new
 
 -- and then the search has ended: at the last of them, or where there is none, at the place
-abbrev pub HasEndedBehind : Direction → Machine → Input → (from units : ℕ) → (old new : Stored) → Type 0
-HasEndedBehind way m input from units old new =
+abbrev pub HasEndedAfter : Direction → Machine → Input → (from units : ℕ) → (old new : Stored) → Type 0
+HasEndedAfter way m input from units old new =
     (mid : Stored) × AreUnitsRead way m input from units old mid
     × (new ≡ with_search_ended way input (from + (units - 1)) mid)
 
@@ -68,18 +68,18 @@ ReadsUnits way m input units =
 -- a pass that has begun has ended at the last unit that it reads
 abbrev pub EndsAtLast : Direction → Machine → Input → (begun new : Stored) → Type 0
 EndsAtLast way m input begun new =
-    (units : ℕ) × ReadsUnits way m input units × HasEndedBehind way m input 0 units begun new
+    (units : ℕ) × ReadsUnits way m input units × HasEndedAfter way m input 0 units begun new
 
 -- the last unit of a pass backward, after its span: the pass has ended before it reads it
-abbrev pub IsBehindEnd : Direction → Input → ℕ → Type 0
-IsBehindEnd Forward input k = ⊥
-IsBehindEnd Backward input k = k ≡ length (tape_in Backward input).bytes
+abbrev pub IsAfterEnd : Direction → Input → ℕ → Type 0
+IsAfterEnd Forward input k = ⊥
+IsAfterEnd Backward input k = k ≡ length (tape_in Backward input).bytes
 
 -- a pass is left so at a unit; but backward, at its last one, it has ended
 abbrev pub IsPassLeftAt : Direction → Machine → Input → (k : ℕ) → (old new : Stored) → Type 0
 IsPassLeftAt way m input k old new =
-    (IsBehindEnd way input k × (new ≡ with_search_ended way input k old))
-    ⊎ ((IsBehindEnd way input k → ⊥) × IsLeftAt way m input k old new)
+    (IsAfterEnd way input k × (new ≡ with_search_ended way input k old))
+    ⊎ ((IsAfterEnd way input k → ⊥) × IsLeftAt way m input k old new)
 
 -- a pass that has begun failed at a unit that it reads
 abbrev pub IsStoppedAt : Direction → Machine → Input → (begun new : Stored) → SearchError → Type 0

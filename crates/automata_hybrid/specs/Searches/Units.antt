@@ -29,7 +29,7 @@ pub record IsStepRefusedAt (m : Machine) (id : ℕ) (unit : Option ℕ) (at : �
   -- The step fails with it.
   pub refused : IsStepRefused m id unit old new error
   -- It is reported at this offset.
-  pub told : e ≡ step_refusal error at
+  pub reported : e ≡ step_refusal error at
 
 -- what the ID is that reading a unit from an ID answers
 pub record IsReadAnswer (m : Machine) (id : ℕ) (unit : Option ℕ) (old new : CacheView) (next : ℕ) : Type 0 where

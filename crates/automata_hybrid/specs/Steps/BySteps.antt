@@ -56,7 +56,7 @@ pub record IsStepAt (m : Machine) (c : CacheView) (input : Input) (at next : ℕ
   -- The cache has the row of the ID.
   pub row : HoldsRow c next
   -- With the match tag its state has patterns.
-  pub tells : HasMatchTag next → HasPatterns c next
+  pub reports : HasMatchTag next → HasPatterns c next
   -- With the match tag a match ends at the offset: matches are delayed by one unit.
   pub found :
       HasMatchTag next → (pattern : ℕ) → IsFirstPattern c next pattern

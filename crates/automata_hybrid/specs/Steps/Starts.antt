@@ -66,8 +66,8 @@ abbrev pub IsStartRefusal : Machine → Stored → Anchored → Option ℕ → S
 -- the look-behind byte is a quit byte, and it is this one
 IsStartRefusal m c mode behind (start.Quit byte) = quit_behind m behind ≡ Some byte
 -- it is none, and the anchored mode is not supported
-IsStartRefusal m c mode behind (start.UnsupportedAnchored told) =
-    (quit_behind m behind ≡ None) × (supports m mode ≡ false) × (told ≡ mode)
+IsStartRefusal m c mode behind (start.UnsupportedAnchored reported) =
+    (quit_behind m behind ≡ None) × (supports m mode ≡ false) × (reported ≡ mode)
 -- the cache does not have the state, has no room for it, and may not be cleared
 IsStartRefusal m c mode behind (start.Cache err) = MayStart m mode behind × GivesUp c (start_state_of m.nfa mode behind)
 IsStartRefusal m c mode behind start.OutOfMemory = MayStart m mode behind
@@ -137,7 +137,7 @@ pub record IsStartRefusedAt (m : Machine) (mode : Anchored) (behind : Option ℕ
   -- The call for the start state fails with it.
   pub refused : IsStartRefused m mode behind old new error
   -- It is reported at this offset.
-  pub told : e ≡ search_refusal error behind_at start_at
+  pub reported : e ≡ search_refusal error behind_at start_at
 
 -- what asking for a start state does to the cache, whether that returns Ok or an error
 pub record IsStartEffect (m : Machine) (mode : Anchored) (behind : Option ℕ) (old new : CacheView) : Type 0 where

@@ -8,8 +8,8 @@ use Rattle.automata_base.specs.Paths.Paths.{next}
 use Rattle.automata_base.specs.Powersets.Powerset.{Powerset, cost, dead}
 use Rattle.automata_base.specs.Paths.Selections.{Pair}
 use Rattle.automata_base.specs.Haystacks.Tapes.{Direction, is_split}
-use Rattle.automata_base.specs.Retraced.Passes.{pairs_told}
-use Rattle.automata_base.specs.Laws.Walks.{AreTold}
+use Rattle.automata_base.specs.Retraced.Passes.{pairs_reported}
+use Rattle.automata_base.specs.Laws.Walks.{AreReported}
 use Rattle.automata_base.specs.declared.util.search.MatchErrorKind.TheVariants.{GaveUp}
 use Rattle.automata_config.specs.declared.error.SearchError.{SearchError}
 use Rattle.automata_config.specs.declared.error.SearchError.TheVariants as search
@@ -26,11 +26,11 @@ use Rattle.automata_config.specs.Options.{match_kind_of}
 
 -- the pairs that a pass reports by its first `k` units; their places are the pass's
 abbrev pub pairs_in : Direction → Machine → Input → ℕ → List Pair
-pairs_in way m input k = pairs_told m.nfa (match_kind_of m.config) input.anchored (tape_in way input) k
+pairs_in way m input k = pairs_reported m.nfa (match_kind_of m.config) input.anchored (tape_in way input) k
 
 -- the whole list of a walk, by offsets
 abbrev pub AreWalked : Direction → Machine → Input → List Pair → Type 0
-AreWalked way m input pairs = AreTold way m.nfa (match_kind_of m.config) input pairs
+AreWalked way m input pairs = AreReported way m.nfa (match_kind_of m.config) input pairs
 
 -- the pair at an index, as a half match
 abbrev pub half_nth : List Pair → ℕ → Option HalfMatch
@@ -39,7 +39,7 @@ half_nth (pair ∷ pairs) zero = Some (record { pattern = pair.pattern; offset =
 half_nth (pair ∷ pairs) (suc k) = half_nth pairs k
 
 -- by its first `n` units a pass reports `k` pairs to a walk, the split ones left out where they are skipped
-pub record HasToldBy (way : Direction) (m : Machine) (input : Input) (n k : ℕ) : Type 0 where
+pub record HasReportedBy (way : Direction) (m : Machine) (input : Input) (n k : ℕ) : Type 0 where
   pub pairs : List Pair
   pub unsplit : AreUnsplit (Skips m) way input (pairs_in way m input n) pairs
   pub count : k ≡ length pairs
@@ -60,50 +60,50 @@ pub record IsRowState (m : Machine) (q : Powerset) : Type 0 where
   pub alive : q ≡ dead → ⊥
 
 -- a walk stands at the state after the unit at a place that is not skipped, none of its units a quit byte; it has
--- reported `told` patterns of this state, at least one, and `k` pairs in all
-pub record Stands (way : Direction) (m : Machine) (input : Input) (q : Powerset) (units told k : ℕ) : Type 0 where
+-- reported `reported` patterns of this state, at least one, and `k` pairs in all
+pub record Stands (way : Direction) (m : Machine) (input : Input) (q : Powerset) (units reported k : ℕ) : Type 0 where
   pub undone : input.start ≤ input.end
   pub may : MayStart m input.anchored (tape_in way input).before
   pub place : ℕ
-  pub behind : units ≡ suc place
+  pub one_after : units ≡ suc place
   pub within : place ≤ length (tape_in way input).bytes
   pub state : q ≡ state_in way m input units
   pub row : IsRowState m q
   pub clean : HasReadNoQuit way m input units
   pub unskipped : Skips m → is_split input.haystack (offset_in way input place) ≡ false
-  pub some : 0 < told
-  pub few : told ≤ length q.patterns
+  pub some : 0 < reported
+  pub few : reported ≤ length q.patterns
   pub earlier : ℕ
-  pub before : HasToldBy way m input place earlier
-  pub count : k ≡ earlier + told
+  pub before : HasReportedBy way m input place earlier
+  pub count : k ≡ earlier + reported
 
 -- a walk has reported all that there is to report: its span was done, or it met no quit byte to its end
-pub record HasToldAll (way : Direction) (m : Machine) (input : Input) (k : ℕ) : Type 0 where
+pub record HasReportedAll (way : Direction) (m : Machine) (input : Input) (k : ℕ) : Type 0 where
   pub clean :
       (input.end < input.start) ⊎ (MayStart m input.anchored (tape_in way input).before × WalkMeetsNoQuit way m input)
   pub pairs : List Pair
   pub all : AreWalked way m input pairs
   pub none_left : length pairs ≤ k
 
-abbrev pub HasToldAt : Direction → Machine → Input → Stage → (units told k : ℕ) → Type 0
-HasToldAt way m input Fresh units told k = (k ≡ 0) × (units ≡ 0)
-HasToldAt way m input (At q) units told k = Stands way m input q units told k
-HasToldAt way m input Ended units told k = HasToldAll way m input k
+abbrev pub HasReportedAt : Direction → Machine → Input → Stage → (units reported k : ℕ) → Type 0
+HasReportedAt way m input Fresh units reported k = (k ≡ 0) × (units ≡ 0)
+HasReportedAt way m input (At q) units reported k = Stands way m input q units reported k
+HasReportedAt way m input Ended units reported k = HasReportedAll way m input k
 
 -- a walk has reported the first `k` pairs of the walk over this input
-abbrev pub HasTold : Direction → Machine → Input → Walk → ℕ → Type 0
-HasTold way m input w k = HasToldAt way m input w.stage w.units w.told k
+abbrev pub HasReported : Direction → Machine → Input → Walk → ℕ → Type 0
+HasReported way m input w k = HasReportedAt way m input w.stage w.units w.reported k
 
 -- it is a walk over this input
 abbrev pub IsWalkOf : Direction → Machine → Input → Walk → Type 0
-IsWalkOf way m input w = (k : ℕ) × HasTold way m input w k
+IsWalkOf way m input w = (k : ℕ) × HasReported way m input w k
 
 -- a call that returned Ok: after `k` pairs it reports the next one, which is the match; if none is left there is no
 -- match, and the walk has ended
-abbrev pub TellsNext : Direction → Machine → Input → Walk → Walk → Type 0
-TellsNext way m input old new =
-    (k : ℕ) → HasTold way m input old k
-    → HasTold way m input new (suc k)
+abbrev pub ReportsNext : Direction → Machine → Input → Walk → Walk → Type 0
+ReportsNext way m input old new =
+    (k : ℕ) → HasReported way m input old k
+    → HasReported way m input new (suc k)
     × ((pairs : List Pair) → AreWalked way m input pairs
     → (new.found ≡ half_nth pairs k) × (length pairs ≤ k → new.stage ≡ Ended))
 
@@ -124,7 +124,7 @@ IsResumeRefusal way m c input Ended units e = ⊥
 -- which is reported as out of memory
 pub record IsUnheld (way : Direction) (m : Machine) (input : Input) (j : ℕ) (e : SearchError) : Type 0 where
   pub clean : IsNoQuit m (next (tape_in way input) j)
-  pub tells : 0 < length (state_in way m input (suc j)).patterns
+  pub reports : 0 < length (state_in way m input (suc j)).patterns
   pub unskipped : Skips m → is_split input.haystack (offset_in way input j) ≡ false
   pub memory : e ≡ search.OutOfMemory
 
@@ -139,25 +139,25 @@ IsRefusalAt States way m c input j e = IsUnitRefusal way m c input j e ⊎ IsUnh
 abbrev pub IsWalkRefusal : Keeping → Direction → Machine → Stored → Input → Walk → ℕ → SearchError → Type 0
 IsWalkRefusal keeping way m c input w k e =
     (input.start ≤ input.end)
-    × ((HasToldBy way m input w.units k × IsResumeRefusal way m c input w.stage w.units e)
+    × ((HasReportedBy way m input w.units k × IsResumeRefusal way m c input w.stage w.units e)
     ⊎ (MayStart m input.anchored (tape_in way input).before
-    × ((j : ℕ) × (w.units ≤ j) × WalkReads way m input j × HasReadNoQuit way m input j × HasToldBy way m input j k
+    × ((j : ℕ) × (w.units ≤ j) × WalkReads way m input j × HasReadNoQuit way m input j × HasReportedBy way m input j k
     × IsRefusalAt keeping way m c input j e)))
 
 -- the units from one place of a pass to another report nothing to a walk
 abbrev pub IsSilent : Direction → Machine → Input → (from to : ℕ) → Type 0
-IsSilent way m input from to = (k : ℕ) → HasToldBy way m input from k → HasToldBy way m input to k
+IsSilent way m input from to = (k : ℕ) → HasReportedBy way m input from k → HasReportedBy way m input to k
 
 -- from its first `from` units a walk went on, without a quit byte, to a state that reports patterns at a place that is
 -- not skipped, and the ID names it
 pub record Arrives (way : Direction) (m : Machine) (t : Rows) (input : Input) (from id units : ℕ) : Type 0 where
   pub place : ℕ
-  pub behind : units ≡ suc place
+  pub one_after : units ≡ suc place
   pub more : from ≤ place
   pub within : place ≤ length (tape_in way input).bytes
   pub named : Names t id (state_in way m input units)
   pub clean : HasReadNoQuit way m input units
-  pub tells : (q : Powerset) → Names t id q → 0 < length q.patterns
+  pub reports : (q : Powerset) → Names t id q → 0 < length q.patterns
   pub unskipped : Skips m → is_split input.haystack (offset_in way input place) ≡ false
   pub silent : IsSilent way m input from place
 
@@ -190,7 +190,8 @@ HasItsState t Ended = Unit {0}
 abbrev pub GoesOn : Walk → Walk → Type 0
 GoesOn old new =
     (new.found ≡ None)
-    ⊎ ((new.stage ≡ Ended → ⊥) × ((old.units < new.units) ⊎ ((new.units ≡ old.units) × (new.told ≡ suc old.told))))
+    ⊎ ((new.stage ≡ Ended → ⊥)
+    × ((old.units < new.units) ⊎ ((new.units ≡ old.units) × (new.reported ≡ suc old.reported))))
 
 -- one determinization for the start state of a walk that has not begun
 abbrev pub start_count : Stage → ℕ

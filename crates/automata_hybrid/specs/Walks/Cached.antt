@@ -14,14 +14,14 @@ use Rattle.automata_hybrid.specs.Searches.PassState.{HasLearnedUnit}
 use Rattle.automata_hybrid.specs.Searches.Passes.{HasReadNoQuit, Skips, tape_in}
 use Rattle.automata_hybrid.specs.Steps.Starts.{MayStart}
 use Rattle.automata_hybrid.specs.Cache.Table.{Has}
-use Rattle.automata_hybrid.specs.Walks.Answers.{HasTold, HasToldBy, WalkReads, pairs_in}
+use Rattle.automata_hybrid.specs.Walks.Answers.{HasReported, HasReportedBy, WalkReads, pairs_in}
 use Rattle.automata_hybrid.specs.Walks.State.{At, Ended, Fresh, Stage, Walk}
 
 -- the next call of a walk reads units: it has not ended, has reported all of where it stands, and units are left
-pub record IsToRead (input : Input) (stage : Stage) (units told : ℕ) : Type 0 where
+pub record IsToRead (input : Input) (stage : Stage) (units reported : ℕ) : Type 0 where
   pub undone : input.start ≤ input.end
   pub on : stage ≡ Ended → ⊥
-  pub all_told : (q : Powerset) → stage ≡ At q → length q.patterns ≤ told
+  pub all_reported : (q : Powerset) → stage ≡ At q → length q.patterns ≤ reported
   pub left : units ≤ input.end - input.start
 
 -- what a walk goes on from is cached: its start, or the state that it holds, which the cache has
@@ -34,13 +34,13 @@ KnowsItsState way m c input Ended = Unit {0}
 -- `k`, or to a quit byte
 abbrev pub KnowsUnits : Direction → Machine → Stored → Input → (from k : ℕ) → Type 0
 KnowsUnits way m c input from k =
-    (j : ℕ) → from ≤ j → WalkReads way m input j → HasReadNoQuit way m input j → HasToldBy way m input j k
+    (j : ℕ) → from ≤ j → WalkReads way m input j → HasReadNoQuit way m input j → HasReportedBy way m input j k
     → KnowsUnit way m c input j
 
 -- all that the next call of a walk uses is cached
 abbrev pub KnowsWalk : Direction → Machine → Stored → Input → Walk → Type 0
 KnowsWalk way m c input w =
-    (k : ℕ) → HasTold way m input w k → IsToRead input w.stage w.units w.told
+    (k : ℕ) → HasReported way m input w k → IsToRead input w.stage w.units w.reported
     → MayStart m input.anchored (tape_in way input).before
     → KnowsItsState way m c input w.stage × KnowsUnits way m c input w.units k
 

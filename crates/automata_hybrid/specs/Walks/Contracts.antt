@@ -22,27 +22,28 @@ use Rattle.automata_hybrid.specs.Machines.Machine.{Machine}
 use Rattle.automata_hybrid.specs.Searches.Contracts.{IsMemory, IsStoreOf, IsUnhindered, IsUnsupported}
 use Rattle.automata_hybrid.specs.Searches.Contracts.{unsupported_error}
 use Rattle.automata_hybrid.specs.Walks.Progress.{EndsCall, EndsSet, LeavesCall, LeavesSet, ReadsNoUnit}
-use Rattle.automata_hybrid.specs.Walks.Answers.{AreWalked, HasItsState, HasTold, IsUnheld, IsWalkRefusal, TellsNext}
+use Rattle.automata_hybrid.specs.Walks.Answers.{AreWalked, HasItsState, HasReported, IsUnheld, IsWalkRefusal}
+use Rattle.automata_hybrid.specs.Walks.Answers.{ReportsNext}
 use Rattle.automata_hybrid.specs.Walks.Answers.{half_nth}
 use Rattle.automata_hybrid.specs.Walks.Answers.{start_count}
 use Rattle.automata_hybrid.specs.Walks.State.{At, Fresh, Ids, Keeping, States, Walk, without_match}
 use Rattle.automata_hybrid.specs.Walks.Sets.{IsWhichRefusal}
 use Rattle.automata_hybrid.specs.Cache.Table.{Has}
-use Rattle.automata_hybrid.specs.Searches.Within.{LiesIn}
+use Rattle.automata_hybrid.specs.Searches.Bounds.{LiesIn}
 use Rattle.automata_config.specs.Options.{match_kind_of}
 
 -- over some cache of the DFA, within its settings, a call of this walk, which has reported so many pairs, may fail so
-abbrev pub MayRefuseCall : Direction → Machine → Input → Walk → (told : ℕ) → SearchError → Type 0
-MayRefuseCall way m input w told e = (c : Stored) × IsStoreOf c m × IsWalkRefusal States way m c input w told e
+abbrev pub MayRefuseCall : Direction → Machine → Input → Walk → (reported : ℕ) → SearchError → Type 0
+MayRefuseCall way m input w reported e = (c : Stored) × IsStoreOf c m × IsWalkRefusal States way m c input w reported e
 
 -- what a call of a walk answers, and what it makes of the walk
 pub record IsWalkCall (way : Direction) (m : Machine) (input : Input) (old new : Walk)
     (result : Result (Unit {0}) SearchError) : Type 0 where
   -- for every NFA, the next pair that its pass reports
-  pub tells : OnOk result (TellsNext way m input old new)
+  pub reports : OnOk result (ReportsNext way m input old new)
   -- if no cycle passes a look, that of the list which the ordered paths define
   pub paths :
-      IsLookAcyclic (nfa_of m.nfa) → (k : ℕ) (pairs : List Pair) → HasTold way m input old k
+      IsLookAcyclic (nfa_of m.nfa) → (k : ℕ) (pairs : List Pair) → HasReported way m input old k
       → IsOverlapping way (engine_of m.nfa (match_kind_of m.config)) input pairs
       → OnOk result (new.found ≡ half_nth pairs k)
   -- it lies in the input's span, and its pattern is one of the NFA's
@@ -50,7 +51,7 @@ pub record IsWalkCall (way : Direction) (m : Machine) (input : Input) (old new :
   -- a walk whose call fails is unchanged, except that it has no match
   pub refused : OnErr result (new ≡ without_match old)
   -- an error is one that some cache may give
-  pub errors : (k : ℕ) → HasTold way m input old k → IfErr result (MayRefuseCall way m input old k)
+  pub errors : (k : ℕ) → HasReported way m input old k → IfErr result (MayRefuseCall way m input old k)
   -- of a walk that has not begun, an anchored mode that is not supported is reported
   pub unsupported : old.stage ≡ Fresh → IsUnsupported way m input → result ≡ Err (unsupported_error input)
   -- if nothing else can prevent an answer, the only error is out of memory
@@ -108,7 +109,7 @@ abbrev pub MayRefuseWhich : Machine → Input → (old new : List Bool) → Sear
 MayRefuseWhich m input old new e = (c : Stored) × IsStoreOf c m × IsWhichRefusal m c input old new e
 
 -- what a set is joined with
-pub record IsSetTold (m : Machine) (input : Input) (old new : List Bool)
+pub record IsSetReported (m : Machine) (input : Input) (old new : List Bool)
     (result : Result (Unit {0}) SearchError) : Type 0 where
   -- for every NFA, the patterns below its capacity that the walk reports
   pub found :
@@ -124,11 +125,11 @@ pub record IsSetTold (m : Machine) (input : Input) (old new : List Bool)
   -- if the span is done, the set is unchanged too, and the call returns Ok
   pub done : input.end < input.start → IsOk result × (new ≡ old)
 
--- what a call that joins a set owes
+-- what a call that joins a set returns
 pub record IsWhich (m : Machine) (input : Input) (old new : List Bool)
     (result : Result (Unit {0}) SearchError) : Type 0 where
   -- the set is joined with what the walk reports
-  pub told : IsSetTold m input old new result
+  pub reported : IsSetReported m input old new result
   -- an error is one that some cache may give
   pub errors : IfErr result (MayRefuseWhich m input old new)
   -- if nothing else can prevent an answer, the only error is out of memory

@@ -20,8 +20,8 @@ use Rattle.automata_hybrid.specs.Walks.Progress.{IsCallStopped, IsResumed, Reads
 use Rattle.automata_hybrid.specs.Searches.Passes.{state_in, tape_in}
 use Rattle.automata_hybrid.specs.Steps.Starts.{MayStart}
 use Rattle.automata_hybrid.specs.Cache.Table.{Has, Leads, Names, Rows}
-use Rattle.automata_hybrid.specs.Walks.Answers.{GoesOn, HasItsState, HasTold, HasToldBy, IsWalkOf}
-use Rattle.automata_hybrid.specs.Walks.Answers.{IsWalkRefusal, TellsNext, WalkReads, start_count}
+use Rattle.automata_hybrid.specs.Walks.Answers.{GoesOn, HasItsState, HasReported, HasReportedBy, IsWalkOf}
+use Rattle.automata_hybrid.specs.Walks.Answers.{IsWalkRefusal, ReportsNext, WalkReads, start_count}
 use Rattle.automata_hybrid.specs.Walks.State.{At, Ended, Fresh, Ids, IsHeldAt, IsHeldItself, Keeping, Stage, Walk}
 use Rattle.automata_hybrid.specs.Walks.State.{keeping_of}
 use Rattle.automata_hybrid.specs.declared.search.walk.Held.{Held}
@@ -29,20 +29,20 @@ use Rattle.automata_hybrid.specs.declared.search.walk.Held.{Held}
 -- a walk over this input, and what is held is the state where it stands
 pub record IsHeldWalk (way : Direction) (m : Machine) (input : Input) (t : Rows) (w : Walk) (held : Held) :
     Type 0 where
-  pub told : IsWalkOf way m input w
+  pub reported : IsWalkOf way m input w
   pub holds : IsHeldAt t w.stage held
 
 -- and it is the state itself
 pub record IsKeptWalk (way : Direction) (m : Machine) (input : Input) (w : Walk) (held : Held) : Type 0 where
-  pub told : IsWalkOf way m input w
+  pub reported : IsWalkOf way m input w
   pub itself : IsHeldItself w.stage held
 
 -- a walk whose next call reads units
 pub record ReadsOn (way : Direction) (m : Machine) (input : Input) (t : Rows) (w : Walk) (held : Held) :
     Type 0 where
-  pub told : IsWalkOf way m input w
+  pub reported : IsWalkOf way m input w
   pub holds : IsHeldAt t w.stage held
-  pub reads : IsToRead input w.stage w.units w.told
+  pub reads : IsToRead input w.stage w.units w.reported
 
 -- what a call makes of what is held: it is the state where the walk stands then, and as much is kept of it
 pub record HoldsOn (t : Rows) (next : Walk) (old new : Held) : Type 0 where
@@ -53,7 +53,7 @@ pub record HoldsOn (t : Rows) (next : Walk) (old new : Held) : Type 0 where
 pub record IsCallAnswer (way : Direction) (m : Machine) (input : Input) (walk next : Walk) (old new : Stored) :
     Type 0 where
   -- the walk has reported the next pair, or has ended
-  pub tells : TellsNext way m input walk next
+  pub reports : ReportsNext way m input walk next
   -- with a match it has read more units or reported one pattern more
   pub goes_on : GoesOn walk next
   -- where it has ended it reads no unit more
@@ -69,7 +69,7 @@ pub record IsCallAnswer (way : Direction) (m : Machine) (input : Input) (walk ne
 pub record IsCallRefused (keeping : Keeping) (way : Direction) (m : Machine) (input : Input) (walk : Walk)
     (new : Stored) (e : SearchError) : Type 0 where
   -- the walk cannot go on from where it is, or it fails at a unit
-  pub why : (k : ℕ) → HasTold way m input walk k → IsWalkRefusal keeping way m new input walk k e
+  pub why : (k : ℕ) → HasReported way m input walk k → IsWalkRefusal keeping way m new input walk k e
   -- of one that has not begun, an anchored mode that is not supported is reported
   pub unsupported : walk.stage ≡ Fresh → IsUnsupported way m input → e ≡ unsupported_error input
   -- one that reads no unit does not fail
@@ -116,7 +116,7 @@ pub record IsPutBackEffect {T E : Type 0} (q : Powerset) (old new : CacheView) (
   pub again : (Has old.store.table q → ⊥) → OnOk result (IsPutBack q old new)
 
 -- a walk has read so many units of its span, and one is left: the ID names its state there
-pub record StandsBehind (way : Direction) (m : Machine) (t : Rows) (input : Input) (units id : ℕ) : Type 0 where
+pub record StandsAfterUnits (way : Direction) (m : Machine) (t : Rows) (input : Input) (units id : ℕ) : Type 0 where
   pub undone : input.start ≤ input.end
   pub left : units ≤ input.end - input.start
   pub named : Names t id (state_in way m input units)
@@ -147,7 +147,7 @@ pub record IsAdvanceEffect (way : Direction) (m : Machine) (input : Input) (unit
   pub most : new.count + units ≤ old.count + (input.end - input.start + 1)
   -- if the transition on each unit that is read is cached, it determinizes nothing, and does not fail for lack of room
   pub known :
-      (k : ℕ) → HasToldBy way m input units k → KnowsUnits way m old.store input units k
+      (k : ℕ) → HasReportedBy way m input units k → KnowsUnits way m old.store input units k
       → (new.count ≡ old.count) × IfErr result IsOfInput
   -- if nothing was cleared, it is cached from then on
   pub learned :

@@ -9,18 +9,18 @@ use Rattle.automata_hybrid.specs.Cache.Stores.{Stored}
 use Rattle.automata_hybrid.specs.Walks.Cached.{IsOpen}
 use Rattle.automata_hybrid.specs.Machines.Machine.{Machine}
 use Rattle.automata_hybrid.specs.Cache.Changes.{IsAddedStart}
-use Rattle.automata_hybrid.specs.Searches.Progress.{AreUnitsRead, HasEndedBehind, HasItsStart, IsLeftAt, IsUnitRead}
+use Rattle.automata_hybrid.specs.Searches.Progress.{AreUnitsRead, HasEndedAfter, HasItsStart, IsLeftAt, IsUnitRead}
 use Rattle.automata_hybrid.specs.Searches.Progress.{with_search_begun, with_search_moved}
 use Rattle.automata_hybrid.specs.Searches.Passes.{HasReadNoQuit, IsUnitRefusal}
 use Rattle.automata_hybrid.specs.Cache.Table.{Has}
-use Rattle.automata_hybrid.specs.Walks.Answers.{AreWalked, IsResumeRefusal, IsSilent, IsUnheld, TellsNext, WalkReads}
+use Rattle.automata_hybrid.specs.Walks.Answers.{AreWalked, IsResumeRefusal, IsSilent, IsUnheld, ReportsNext, WalkReads}
 use Rattle.automata_hybrid.specs.Walks.State.{At, Ended, Fresh, Ids, Keeping, Stage, States, Walk, fresh_walk}
 
 -- a call reads no unit: the walk has ended, has another pattern to report at its state, or has no unit left in its span
 abbrev pub ReadsNoUnit : Input → Walk → Type 0
 ReadsNoUnit input w =
     (w.stage ≡ Ended)
-    ⊎ (((q : Powerset) × (w.stage ≡ At q) × (w.told < length q.patterns)) ⊎ (input.end < input.start + w.units))
+    ⊎ (((q : Powerset) × (w.stage ≡ At q) × (w.reported < length q.patterns)) ⊎ (input.end < input.start + w.units))
 
 -- a walk has the state that it goes on from: its start; or the state where it stands, which is put back where the cache
 -- lacks it
@@ -44,7 +44,7 @@ EndsCall way m input walk next old new =
     (ReadsNoUnit input walk × (new ≡ old))
     ⊎ ((ReadsNoUnit input walk → ⊥) × (begun : Stored) × (units : ℕ) × IsResumed way m input walk.stage old begun
     × (next.units ≡ walk.units + units) × ReadsItsUnits way m input walk next
-    × HasEndedBehind way m input walk.units units (with_search_begun way input walk.units begun) new)
+    × HasEndedAfter way m input walk.units units (with_search_begun way input walk.units begun) new)
 
 -- a call fails at the unit at place `k`; or the unit was read, and the state after it cannot be held
 abbrev pub IsCallLeftAt : Keeping → Direction → Machine → Input → (k : ℕ) → (old new : Stored) → SearchError → Type 0
@@ -69,16 +69,16 @@ LeavesCall keeping way m input walk old new e =
     × IsCallStopped keeping way m input walk.units (with_search_begun way input walk.units begun) new e)
 
 -- a set is still open once its walk has reported its first pairs
-abbrev pub IsOpenAfter : Machine → Input → (set : List Bool) → (told : ℕ) → Type 0
-IsOpenAfter m input set told =
-    (pairs : List Pair) → AreWalked Forward m input pairs → IsOpen input set (take told pairs)
+abbrev pub IsOpenAfter : Machine → Input → (set : List Bool) → (reported : ℕ) → Type 0
+IsOpenAfter m input set reported =
+    (pairs : List Pair) → AreWalked Forward m input pairs → IsOpen input set (take reported pairs)
 
 -- so many calls of the walk of a set have ended, one after another, each while the set was open
 abbrev pub HaveCalled : Machine → Input → (set : List Bool) → (calls : ℕ) → Stored → Walk → Stored → Type 0
 HaveCalled m input set zero old walk new = (walk ≡ fresh_walk) × (new ≡ old)
 HaveCalled m input set (suc calls) old walk new =
     (before : Walk) × (mid : Stored) × HaveCalled m input set calls old before mid × IsOpenAfter m input set calls
-    × TellsNext Forward m input before walk × EndsCall Forward m input before walk mid new
+    × ReportsNext Forward m input before walk × EndsCall Forward m input before walk mid new
 
 -- a search for a set that returns Ok has made calls of its walk, up to one that finds no match or leaves the set closed
 abbrev pub EndsSet : Machine → Input → (set : List Bool) → (old new : Stored) → Type 0

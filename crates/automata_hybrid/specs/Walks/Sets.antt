@@ -10,7 +10,7 @@ use Rattle.automata_config.specs.declared.error.SearchError.{SearchError}
 use Rattle.automata_hybrid.specs.Cache.Stores.{Stored}
 use Rattle.automata_hybrid.specs.Machines.Machine.{Machine}
 use Rattle.automata_hybrid.specs.Walks.Progress.{IsOpenAfter}
-use Rattle.automata_hybrid.specs.Walks.Answers.{AreWalked, HasTold, IsWalkRefusal}
+use Rattle.automata_hybrid.specs.Walks.Answers.{AreWalked, HasReported, IsWalkRefusal}
 use Rattle.automata_hybrid.specs.Walks.State.{Ids, Walk}
 
 -- a set joined with the patterns of these pairs that are below its capacity
@@ -22,7 +22,7 @@ IsJoined pairs old new =
 -- with them
 abbrev pub IsWhichRefusal : Machine → Stored → Input → (old new : List Bool) → SearchError → Type 0
 IsWhichRefusal m c input old new e =
-    (walk : Walk) × (k : ℕ) × HasTold Forward m input walk k
+    (walk : Walk) × (k : ℕ) × HasReported Forward m input walk k
     × IsWalkRefusal Ids Forward m c input walk k e
     × ((pairs : List Pair) → AreWalked Forward m input pairs → IsJoined (take k pairs) old new)
     × IsOpenAfter m input old k

@@ -24,24 +24,24 @@ pub data Stage : Type 0 where
 pub record Walk : Type 0 where
   pub stage : Stage
   pub units : ℕ
-  pub told : ℕ
+  pub reported : ℕ
   pub found : Option HalfMatch
 
 -- a walk that has not begun
 abbrev pub fresh_walk : Walk
-fresh_walk = record { stage = Fresh; units = 0; told = 0; found = None }
+fresh_walk = record { stage = Fresh; units = 0; reported = 0; found = None }
 
 -- the same without its match
 abbrev pub without_match : Walk → Walk
-without_match w = record { stage = w.stage; units = w.units; told = w.told; found = None }
+without_match w = record { stage = w.stage; units = w.units; reported = w.reported; found = None }
 
 -- with the next pattern of its state reported
 abbrev pub with_match : Walk → HalfMatch → Walk
-with_match w half = record { stage = w.stage; units = w.units; told = suc w.told; found = Some half }
+with_match w half = record { stage = w.stage; units = w.units; reported = suc w.reported; found = Some half }
 
 -- at its end, when it has read so many units
 abbrev pub ended_walk : Walk → ℕ → Walk
-ended_walk w units = record { stage = Ended; units = units; told = 0; found = None }
+ended_walk w units = record { stage = Ended; units = units; reported = 0; found = None }
 
 -- a direction as contracts name it
 abbrev pub way_of : Way → Direction
@@ -104,4 +104,4 @@ stage_of stage.Ended = Ended
 
 -- and of a walk
 abbrev pub walk_of : Inside → Walk
-walk_of s = record { stage = stage_of s.stage; units = s.units; told = s.told; found = s.found }
+walk_of s = record { stage = stage_of s.stage; units = s.units; reported = s.reported; found = s.found }

@@ -8,7 +8,7 @@ ghost use Rattle.automata_base.specs.Powersets.Powerset.{Powerset};
 ghost use Rattle.automata_base.specs.Haystacks.Tapes.{is_split};
 ghost use Rattle.automata_hybrid.specs.Cache.Caches.{IsCacheOf};
 ghost use Rattle.automata_hybrid.specs.Searches.PassState.{IsFollowed};
-ghost use Rattle.automata_hybrid.specs.Walks.Parts.{IsAdvanceEffect, IsUnitEffect, StandsBehind};
+ghost use Rattle.automata_hybrid.specs.Walks.Parts.{IsAdvanceEffect, IsUnitEffect, StandsAfterUnits};
 ghost use Rattle.automata_hybrid.specs.Searches.Passes.{HasReadNoQuit, IsUnitRefusal, Skips, behind_offset};
 ghost use Rattle.automata_hybrid.specs.Searches.Passes.{state_in, tape_in, unit_offset};
 ghost use Rattle.automata_hybrid.specs.Steps.Starts.{IsStartAnswer, IsStartEffect, IsStartRefusedAt};
@@ -75,7 +75,7 @@ impl DFA {
         place: usize,
     ) -> Result<LazyStateID, SearchError>
         requires of { IsCacheOf cache.old self.now }
-        requires at { StandsBehind (way_of way) self.now cache.old.store.table input.now place id }
+        requires at { StandsAfterUnits (way_of way) self.now cache.old.store.table input.now place id }
         ensures of { IsCacheOf cache.new self.now }
         ensures leads { IfOk result (λ n. Leads cache.new.store.table n
             (state_in (way_of way) self.now input.now (suc place))) }
@@ -92,7 +92,7 @@ impl DFA {
     }
 
     /// Whether a state's patterns match at a place of a walk that is not skipped.
-    fn tells(
+    fn reports(
         &self,
         cache: &Cache,
         input: &Input<'_>,
@@ -151,7 +151,7 @@ impl DFA {
         units: usize,
     ) -> Result<Arrival, SearchError>
         requires of { IsCacheOf cache.old self.now }
-        requires from { StandsBehind (way_of way) self.now cache.old.store.table input.now units from }
+        requires from { StandsAfterUnits (way_of way) self.now cache.old.store.table input.now units from }
         requires clean { HasReadNoQuit (way_of way) self.now input.now units }
         ensures of { IsCacheOf cache.new self.now }
         ensures arrives { IfOk result (λ a. IsArrival (way_of way) self.now cache.new.store.table input.now units a.id
@@ -173,7 +173,7 @@ impl DFA {
                     units: stop.at + 1,
                 });
             }
-            if self.tells(cache, input, way, next, stop.at) {
+            if self.reports(cache, input, way, next, stop.at) {
                 return Ok(Arrival {
                     id: Some(next),
                     units: stop.at + 1,

@@ -84,7 +84,7 @@ impl DFA {
         requires met { IsMet (way_of way) self.now cache.now.store input.now start from next }
         ensures within { start < result.at → result.at ≤ input.now.end - input.now.start }
         ensures led { IsLed (way_of way) self.now cache.now.store input.now start result.at result.id }
-        ensures tells { start < result.at → HasMatchTag result.id }
+        ensures reports { start < result.at → HasMatchTag result.id }
         ensures met { IsMet (way_of way) self.now cache.now.store input.now result.at result.id result.next }
     {
         let _haystack = input.haystack();

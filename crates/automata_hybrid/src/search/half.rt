@@ -13,7 +13,7 @@ ghost use Rattle.automata_hybrid.specs.Walks.State.{way_of};
 use crate::dfa::DFA;
 use crate::dfa::cache::Cache;
 use crate::search::direction::{Way, begin_later};
-use automata_base::laws::told_is_right;
+use automata_base::laws::reported_is_right;
 use automata_base::util::search::{HalfMatch, Input};
 use automata_config::error::SearchError;
 
@@ -85,7 +85,7 @@ impl DFA {
         ensures effect { IsSearchEffect Forward self.now input.now cache.old cache.new result }
         ensures upto { IfOk result (λ o. IfSome o (λ p. IsCostUpto self.now input.now p.1 cache.old cache.new)) }
     {
-        told_is_right(self.get_nfa());
+        reported_is_right(self.get_nfa());
         let _haystack = input.haystack();
         let found = self.search(cache, input, Way::Forward);
         cache.see_bounds();
@@ -119,7 +119,7 @@ impl DFA {
         // What it does to the cache.
         ensures effect { IsSearchEffect Backward self.now input.now cache.old cache.new result }
     {
-        told_is_right(self.get_nfa());
+        reported_is_right(self.get_nfa());
         let _haystack = input.haystack();
         let found = self.search(cache, input, Way::Backward);
         cache.see_bounds();

@@ -12,8 +12,9 @@ ghost use Rattle.automata_hybrid.specs.Walks.Parts.{IsKeptWalk, IsResumeAnswer, 
 ghost use Rattle.automata_hybrid.specs.Searches.Passes.{tape_in};
 ghost use Rattle.automata_hybrid.specs.Steps.Starts.{MayStart};
 ghost use Rattle.automata_hybrid.specs.Cache.Table.{Names};
-ghost use Rattle.automata_hybrid.specs.Walks.Answers.{Arrives, HasTold, HasToldBy};
-ghost use Rattle.automata_hybrid.specs.Walks.Answers.{IsResumeRefusal, IsRowState, IsWalkOf, IsWalkRefusal, TellsNext};
+ghost use Rattle.automata_hybrid.specs.Walks.Answers.{Arrives, HasReported, HasReportedBy};
+ghost use Rattle.automata_hybrid.specs.Walks.Answers.{IsResumeRefusal, IsRowState, IsWalkOf, IsWalkRefusal};
+ghost use Rattle.automata_hybrid.specs.Walks.Answers.{ReportsNext};
 ghost use Rattle.automata_hybrid.specs.Walks.State.{At, Ended, IsHeldAt, States, keeping_of, way_of, without_match};
 
 use crate::dfa::DFA;
@@ -54,7 +55,7 @@ impl DFA {
 
         // What it reports, whatever the cache; and why it fails.
         ensures call { IsWalkCall Forward self.now input.now state.old state.new result }
-        ensures refusal { (k : ℕ) → HasTold Forward self.now input.now state.old k
+        ensures refusal { (k : ℕ) → HasReported Forward self.now input.now state.old k
             → IfErr result (IsWalkRefusal States Forward self.now cache.new.store input.now state.old k) }
 
         // What it does to the cache.
@@ -77,11 +78,12 @@ impl DFA {
 
         // What it reports, whatever the cache; and why it fails.
         ensures call { IsWalkCall Backward self.now input.now state.old state.new result }
-        ensures refusal { (k : ℕ) → HasTold Backward self.now input.now state.old k
+        ensures refusal { (k : ℕ) → HasReported Backward self.now input.now state.old k
             → IfErr result (IsWalkRefusal States Backward self.now cache.new.store input.now state.old k) }
 
         // What it does to the cache.
-        ensures effect { IsCallEffect States Backward self.now input.now state.old state.new cache.old cache.new result }
+        ensures effect { IsCallEffect States Backward self.now input.now state.old state.new
+            cache.old cache.new result }
     {
         self.call(cache, input, Way::Backward, state)
     }
@@ -197,17 +199,17 @@ impl DFA {
         requires of { IsCacheOf cache.now self.now }
         requires open { input.now.start ≤ input.now.end }
         requires may { MayStart self.now input.now.anchored (tape_in (way_of way) input.now).before }
-        requires here { (k : ℕ) → HasTold (way_of way) self.now input.now walk.old k
-            → HasToldBy (way_of way) self.now input.now walk.old.units k }
+        requires here { (k : ℕ) → HasReported (way_of way) self.now input.now walk.old k
+            → HasReportedBy (way_of way) self.now input.now walk.old.units k }
         requires arrives { Arrives (way_of way) self.now cache.now.store.table input.now walk.old.units id units }
-        ensures tells { TellsNext (way_of way) self.now input.now walk.old walk.new }
+        ensures reports { ReportsNext (way_of way) self.now input.now walk.old walk.new }
         ensures units { walk.new.units ≡ units }
         ensures at { (q : Powerset) × (walk.new.stage ≡ At q) × Names cache.now.store.table id q }
     {
         let at = place_offset(input, way, units - 1);
         let half = HalfMatch::new(cache.match_pattern(id, 0), at);
         walk.go_to(cache.snapshot(id), units);
-        walk.tell(half);
+        walk.report(half);
     }
 
     /// One call of a walk by the state that it holds.
@@ -223,7 +225,7 @@ impl DFA {
         ensures of { IsCacheOf cache.new self.now }
         ensures walk { IsWalkOf (way_of way) self.now input.now walk.new }
         ensures call { IsWalkCall (way_of way) self.now input.now walk.old walk.new result }
-        ensures refusal { (k : ℕ) → HasTold (way_of way) self.now input.now walk.old k
+        ensures refusal { (k : ℕ) → HasReported (way_of way) self.now input.now walk.old k
             → IfErr result (IsWalkRefusal States (way_of way) self.now cache.new.store input.now walk.old k) }
         ensures effect { IsCallEffect States (way_of way) self.now input.now walk.old walk.new
             cache.old cache.new result }
@@ -245,7 +247,7 @@ impl DFA {
         ensures of { IsCacheOf cache.new self.now }
         ensures walk { IsKeptWalk (way_of way) self.now input.now walk.new held.new }
         ensures call { IsWalkCall (way_of way) self.now input.now walk.old walk.new result }
-        ensures refusal { (k : ℕ) → HasTold (way_of way) self.now input.now walk.old k
+        ensures refusal { (k : ℕ) → HasReported (way_of way) self.now input.now walk.old k
             → IfErr result (IsWalkRefusal States (way_of way) self.now cache.new.store input.now walk.old k) }
         ensures effect { IsCallEffect States (way_of way) self.now input.now walk.old walk.new
             cache.old cache.new result }
@@ -295,7 +297,7 @@ impl DFA {
         }
         if let Some(pattern) = self.next_pattern(cache, walk, held) {
             let place = place_offset(input, way, walk.units() - 1);
-            walk.tell(HalfMatch::new(pattern, place));
+            walk.report(HalfMatch::new(pattern, place));
             return Ok(());
         }
         if walk.units() > last_place(input) {
@@ -310,22 +312,22 @@ impl DFA {
         requires on { walk.now.stage ≡ Ended → ⊥ }
         requires held { IsHeldAt cache.now.store.table walk.now.stage held.now }
         ensures left { IfSome result (λ p. (q : Powerset) × (walk.now.stage ≡ At q)
-            × (walk.now.told < length q.patterns) × (p ≡ slice_index q.patterns walk.now.told)) }
-        ensures room { IfSome result (λ p. walk.now.told + 1 < 2 ^ 64) }
-        ensures none { IfNone result ((q : Powerset) → walk.now.stage ≡ At q → length q.patterns ≤ walk.now.told) }
+            × (walk.now.reported < length q.patterns) × (p ≡ slice_index q.patterns walk.now.reported)) }
+        ensures room { IfSome result (λ p. walk.now.reported + 1 < 2 ^ 64) }
+        ensures none { IfNone result ((q : Powerset) → walk.now.stage ≡ At q → length q.patterns ≤ walk.now.reported) }
     {
-        let told = walk.told();
+        let reported = walk.reported();
         match held {
             Held::Row(Some(id)) => {
-                if told < cache.match_len(*id) {
-                    Some(cache.match_pattern(*id, told))
+                if reported < cache.match_len(*id) {
+                    Some(cache.match_pattern(*id, reported))
                 } else {
                     None
                 }
             }
             Held::State(Some(handle)) => {
-                if told < handle.state.match_len() {
-                    Some(handle.state.match_pattern(told))
+                if reported < handle.state.match_len() {
+                    Some(handle.state.match_pattern(reported))
                 } else {
                     None
                 }

@@ -210,7 +210,7 @@ impl DFA {
         ensures left { IfErr result (IsStoppedAt (way_of way) self.now input.now cache.old.store cache.new.store) }
     {
         // Of its own, so that a loop reads it from registers.
-        let own = copied(input);
+        let own = input.copied();
         match way {
             Way::Forward => self.find(cache, &own, Way::Forward, from, start, before),
             Way::Backward => self.find(cache, &own, Way::Backward, from, start, before),

@@ -45,7 +45,8 @@ impl Held {
     fn share(&self) -> Result<Held, AllocError>
         ensures keeping { IfOk result (λ held. keeping_of held ≡ keeping_of self.now) }
         ensures none { IfOk result (λ held. HoldsNone self.now → HoldsNone held) }
-        ensures itself { IfOk result (λ held. (q : Powerset) → IsHeldItself (At q) self.now → IsHeldItself (At q) held) }
+        ensures itself { IfOk result
+            (λ held. (q : Powerset) → IsHeldItself (At q) self.now → IsHeldItself (At q) held) }
     {
         match self {
             Held::State(Some(handle)) => {
@@ -98,7 +99,7 @@ enum Stage {
 pub(crate) struct Cursor {
     stage: Stage,
     units: usize,
-    told: usize,
+    reported: usize,
     found: Option<HalfMatch>,
 }
 
@@ -118,7 +119,7 @@ impl Cursor {
         Cursor {
             stage: Stage::Fresh,
             units: 0,
-            told: 0,
+            reported: 0,
             found: None,
         }
     }
@@ -138,10 +139,10 @@ impl Cursor {
     }
 
     /// How many patterns of its state it has reported.
-    pub(crate) fn told(&self) -> usize
-        ensures { result ≡ self.now.told }
+    pub(crate) fn reported(&self) -> usize
+        ensures { result ≡ self.now.reported }
     {
-        self.told
+        self.reported
     }
 
     pub(crate) fn is_fresh(&self) -> bool
@@ -172,21 +173,21 @@ impl Cursor {
     }
 
     /// Reports the next pattern of its state.
-    pub(crate) fn tell(&mut self, half: HalfMatch)
-        requires { self.old.told + 1 < 2 ^ 64 }
+    pub(crate) fn report(&mut self, half: HalfMatch)
+        requires { self.old.reported + 1 < 2 ^ 64 }
         ensures { self.new ≡ with_match self.old half }
     {
-        self.told += 1;
+        self.reported += 1;
         self.found = Some(half);
     }
 
     /// Goes to a state of which it has reported nothing.
     pub(crate) fn go_to(&mut self, state: Snapshot<State>, units: usize)
-        ensures { self.new ≡ record { stage = At state.value; units = units; told = 0; found = None } }
+        ensures { self.new ≡ record { stage = At state.value; units = units; reported = 0; found = None } }
     {
         self.stage = Stage::At(state);
         self.units = units;
-        self.told = 0;
+        self.reported = 0;
         self.found = None;
     }
 
@@ -196,7 +197,7 @@ impl Cursor {
     {
         self.stage = Stage::Ended;
         self.units = units;
-        self.told = 0;
+        self.reported = 0;
         self.found = None;
     }
 
@@ -216,7 +217,7 @@ impl Cursor {
         Cursor {
             stage,
             units: self.units,
-            told: self.told,
+            reported: self.reported,
             found: self.found,
         }
     }

@@ -1,7 +1,7 @@
 //! The set of the patterns that match, found by one overlapping search forward.
 ghost use Rattle.std.specs.Prelude.{IfErr};
 ghost use Rattle.automata_hybrid.specs.Cache.Caches.{IsCacheOf};
-ghost use Rattle.automata_hybrid.specs.Walks.Contracts.{IsSetTold, IsWhich, IsWhichEffect};
+ghost use Rattle.automata_hybrid.specs.Walks.Contracts.{IsSetReported, IsWhich, IsWhichEffect};
 ghost use Rattle.automata_hybrid.specs.Walks.Sets.{IsWhichRefusal};
 
 use crate::dfa::DFA;
@@ -41,9 +41,9 @@ impl DFA {
         ensures effect { IsWhichEffect self.now input.now patset.old cache.old cache.new result }
     {
         let _haystack = input.haystack();
-        let told = self.collect(cache, input, patset);
+        let reported = self.collect(cache, input, patset);
         cache.see_bounds();
-        told
+        reported
     }
 
     /// Takes one pair after another.
@@ -55,7 +55,7 @@ impl DFA {
     ) -> Result<(), SearchError>
         requires { IsCacheOf cache.old self.now }
         ensures of { IsCacheOf cache.new self.now }
-        ensures told { IsSetTold self.now input.now patset.old patset.new result }
+        ensures reported { IsSetReported self.now input.now patset.old patset.new result }
         ensures refusal { IfErr result (IsWhichRefusal self.now cache.new.store input.now patset.old patset.new) }
         ensures effect { IsWhichEffect self.now input.now patset.old cache.old cache.new result }
     {

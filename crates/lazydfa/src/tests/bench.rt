@@ -6,8 +6,8 @@ ghost use Rattle.regex_automata.specs.Promises.{HoldsRow, IsCacheOf};
 use super::Host;
 use super::plans::Mode;
 use super::random_paths::Dice;
-use super::tells::{Automaton, Caller};
-use super::told::{Counted, Told, letter};
+use super::reported::{Counted, Reported, letter};
+use super::reports::{Automaton, Caller};
 use crate::catalogue::Entry;
 use regex_automata::hybrid::dfa::{Cache, DFA};
 use regex_automata::hybrid::{BuildError, LazyStateID, SearchError, StartError, StepError};
@@ -88,7 +88,7 @@ pub struct Bench {
     dfa: DFA,
     cache: Cache,
     at: LazyStateID,
-    told: [LazyStateID; 8],
+    reported: [LazyStateID; 8],
     count: usize,
     ghost of: { IsCacheOf cache dfa },
 }
@@ -102,13 +102,13 @@ impl Bench {
             dfa,
             cache,
             at,
-            told: [at; 8],
+            reported: [at; 8],
             count: 0,
         }
     }
 
     /// What a call reports, whatever it changes.
-    fn call(&mut self, alloc: Global, call: Call) -> Told {
+    fn call(&mut self, alloc: Global, call: Call) -> Reported {
         match call {
             Call::Find(haystack) => self.find(&Input::new(haystack.as_bytes())),
             Call::FindEarliest(haystack) => {
@@ -134,17 +134,17 @@ impl Bench {
             Call::StartOn(mode, haystack) => {
                 self.start_on(&Input::new(haystack.as_bytes()).anchored(mode.anchored()))
             }
-            Call::Start(behind) => Told::of_start(self.start(Anchored::No, behind)),
-            Call::StartIn(mode, behind) => Told::of_start(self.start(mode.anchored(), behind)),
-            Call::Step(byte) => Told::of_step(self.step(byte)),
-            Call::Steps(bytes) => Told::of_step(self.steps(bytes)),
-            Call::End => Told::of_step(self.end()),
+            Call::Start(behind) => Reported::of_start(self.start(Anchored::No, behind)),
+            Call::StartIn(mode, behind) => Reported::of_start(self.start(mode.anchored(), behind)),
+            Call::Step(byte) => Reported::of_step(self.step(byte)),
+            Call::Steps(bytes) => Reported::of_step(self.steps(bytes)),
+            Call::End => Reported::of_step(self.end()),
             Call::Replace | Call::ReplaceByNew => {
                 let made = self.made(call);
                 self.replace(made)
             }
-            Call::Reset => Told::of_growth(self.dfa.reset_cache(&mut self.cache)),
-            Call::ResetByCache => Told::of_growth(self.cache.reset(&self.dfa)),
+            Call::Reset => Reported::of_growth(self.dfa.reset_cache(&mut self.cache)),
+            Call::ResetByCache => Reported::of_growth(self.cache.reset(&self.dfa)),
             Call::ResetTo(entry) => self.reset_to(alloc, entry),
             Call::Begin | Call::Read(_) | Call::Finish => self.move_on(call),
             Call::Open(_) | Call::MoveTo(_) | Call::Close(_) => self.progress(call),
@@ -153,20 +153,20 @@ impl Bench {
     }
 
     /// A call that does not change the cache.
-    fn ask(&mut self, alloc: Global, call: Call) -> Told {
+    fn ask(&mut self, alloc: Global, call: Call) -> Reported {
         match call {
             Call::Known(byte) => self.known(byte),
             Call::State => self.state(self.at),
             Call::Matched => self.matched(),
             Call::Counts => self.counts(),
             Call::Brief => self.brief(),
-            Call::Patterns => Told::Number("", self.dfa.pattern_len(), ""),
+            Call::Patterns => Reported::Number("", self.dfa.pattern_len(), ""),
             Call::PatternsOfNfaCopy => patterns_of(self.dfa.get_nfa().clone()),
             Call::PatternsOfCopy => lazy_patterns_of(self.dfa.clone()),
-            Call::Memory => Told::Number("", self.dfa.memory_usage(), ""),
-            Call::Classes => Told::Number("", self.dfa.byte_classes().alphabet_len(), ""),
+            Call::Memory => Reported::Number("", self.dfa.memory_usage(), ""),
+            Call::Classes => Reported::Number("", self.dfa.byte_classes().alphabet_len(), ""),
             Call::Minimum => self.minimum(),
-            _ => Told::of_flag(Vec::<u8>::with_capacity(alloc, 1).is_ok()),
+            _ => Reported::of_flag(Vec::<u8>::with_capacity(alloc, 1).is_ok()),
         }
     }
 
@@ -175,36 +175,36 @@ impl Bench {
         search(&self.dfa, &mut self.cache, input)
     }
 
-    fn find(&mut self, input: &Input<'_>) -> Told {
-        Told::Half(self.search(input))
+    fn find(&mut self, input: &Input<'_>) -> Reported {
+        Reported::Half(self.search(input))
     }
 
-    fn find_based(&mut self, input: &Input<'_>) -> Told {
+    fn find_based(&mut self, input: &Input<'_>) -> Reported {
         match self.dfa.try_search_fwd_base(&mut self.cache, input) {
             Ok(Some((half, place))) => {
-                Told::Based(half.pattern().as_usize(), half.offset(), place)
+                Reported::Based(half.pattern().as_usize(), half.offset(), place)
             }
-            Ok(None) => Told::Half(Ok(None)),
-            Err(error) => Told::Half(Err(error)),
+            Ok(None) => Reported::Half(Ok(None)),
+            Err(error) => Reported::Half(Err(error)),
         }
     }
 
     /// Searches a haystack that was made for the call.
-    fn find_made(&mut self, made: Result<Vec<u8>, AllocError>, call: Call) -> Told {
+    fn find_made(&mut self, made: Result<Vec<u8>, AllocError>, call: Call) -> Reported {
         match made {
             Ok(text) => self.find_long(text.as_slice(), call),
-            Err(_) => Told::Refused(BuildError::OutOfMemory),
+            Err(_) => Reported::Refused(BuildError::OutOfMemory),
         }
     }
 
-    fn find_long(&mut self, text: &[u8], call: Call) -> Told {
+    fn find_long(&mut self, text: &[u8], call: Call) -> Reported {
         match call {
             Call::FindEach(_, count) => self.find_each(text, count),
             _ => self.find(&Input::new(text)),
         }
     }
 
-    fn find_each(&mut self, text: &[u8], count: usize) -> Told {
+    fn find_each(&mut self, text: &[u8], count: usize) -> Reported {
         let (mut end, mut sum) = (0usize, 0usize);
         for _ in 0..count {
             let start = end.min(text.len());
@@ -213,18 +213,18 @@ impl Bench {
                 sum = sum.saturating_add(end);
             }
         }
-        Told::Number("", sum, "")
+        Reported::Number("", sum, "")
     }
 
-    fn start_on(&mut self, input: &Input<'_>) -> Told {
+    fn start_on(&mut self, input: &Input<'_>) -> Reported {
         match self.begin(input) {
-            Ok(()) => Told::of_flag(self.at.is_tagged()),
-            Err(SearchError::OutOfMemory) => Told::NoStart(StartError::OutOfMemory),
-            Err(error) => Told::Half(Err(error)),
+            Ok(()) => Reported::of_flag(self.at.is_tagged()),
+            Err(SearchError::OutOfMemory) => Reported::NoStart(StartError::OutOfMemory),
+            Err(error) => Reported::Half(Err(error)),
         }
     }
 
-    fn move_on(&mut self, call: Call) -> Told {
+    fn move_on(&mut self, call: Call) -> Reported {
         match call {
             Call::Begin => {
                 let _ = self.start(Anchored::No, None);
@@ -239,8 +239,8 @@ impl Bench {
         self.brief()
     }
 
-    fn brief(&self) -> Told {
-        Told::Number("", self.cache.memory_usage(), letter(self.at))
+    fn brief(&self) -> Reported {
+        Reported::Number("", self.cache.memory_usage(), letter(self.at))
     }
 
     fn start(&mut self, mode: Anchored, behind: Option<u8>) -> Result<(), StartError> {
@@ -281,46 +281,46 @@ impl Bench {
     }
 
     /// The cached step on a byte, from a state that the cache has and that has no tag.
-    fn known(&mut self, byte: u8) -> Told {
+    fn known(&mut self, byte: u8) -> Reported {
         if self.at.is_tagged() || !self.has_state() {
-            return Told::Word("-");
+            return Reported::Word("-");
         }
         let id = self.dfa.next_state_untagged(&self.cache, self.at, byte);
         self.state(id)
     }
 
-    fn state(&mut self, id: LazyStateID) -> Told {
+    fn state(&mut self, id: LazyStateID) -> Reported {
         let mut number = 0usize;
-        for told in &self.told {
-            if number >= self.count || *told == id {
+        for reported in &self.reported {
+            if number >= self.count || *reported == id {
                 break;
             }
             number = number.saturating_add(1);
         }
         if number >= self.count && number < 8 {
-            self.told[number] = id;
+            self.reported[number] = id;
             self.count = number + 1;
         }
-        Told::Number("state ", number, letter(id))
+        Reported::Number("state ", number, letter(id))
     }
 
     /// How many patterns match, and the last of them.
-    fn matched(&self) -> Told {
+    fn matched(&self) -> Reported {
         if self.at.is_dead() || self.at.is_quit() || !self.has_state() {
-            return Told::Word("-");
+            return Reported::Word("-");
         }
         if !self.at.is_match() {
-            return Told::Word("patterns 0");
+            return Reported::Word("patterns 0");
         }
         let count = self.dfa.match_len(&self.cache, self.at);
         let last = self.dfa.match_pattern(&self.cache, self.at, count - 1);
-        Told::Patterns(count, last.as_usize())
+        Reported::Patterns(count, last.as_usize())
     }
 
-    fn counts(&self) -> Told {
+    fn counts(&self) -> Reported {
         let (clears, memory, searched, in_progress) = self.totals();
         let behind = if in_progress { " open" } else { "" };
-        Told::Counts((clears, memory, searched), behind)
+        Reported::Counts((clears, memory, searched), behind)
     }
 
     /// How often the cache was cleared, its memory, the bytes searched, and whether a search is in progress.
@@ -349,55 +349,55 @@ impl Bench {
         }
     }
 
-    fn replace(&mut self, made: Result<Cache, AllocError>) -> Told
+    fn replace(&mut self, made: Result<Cache, AllocError>) -> Reported
         requires { IfOk made (λ made. IsCacheOf made self.old.dfa) }
     {
         match made {
             Ok(cache) => {
                 self.cache = cache;
-                Told::Word("-")
+                Reported::Word("-")
             }
-            Err(_) => Told::Refused(BuildError::OutOfMemory),
+            Err(_) => Reported::Refused(BuildError::OutOfMemory),
         }
     }
 
-    fn reset_to(&mut self, alloc: Global, entry: Entry) -> Told {
+    fn reset_to(&mut self, alloc: Global, entry: Entry) -> Reported {
         let Ok(nfa) = entry.forward(alloc) else {
-            return Told::Word("no entry");
+            return Reported::Word("no entry");
         };
         match DFA::builder().build_from_nfa(nfa) {
             Ok(dfa) => self.take(dfa),
-            Err(error) => Told::Refused(error),
+            Err(error) => Reported::Refused(error),
         }
     }
 
     /// Goes on with this DFA.
-    fn take(&mut self, dfa: DFA) -> Told {
+    fn take(&mut self, dfa: DFA) -> Reported {
         match dfa.reset_cache(&mut self.cache) {
             Ok(()) => {
                 self.dfa = dfa;
-                Told::Word("-")
+                Reported::Word("-")
             }
-            Err(_) => Told::Refused(BuildError::OutOfMemory),
+            Err(_) => Reported::Refused(BuildError::OutOfMemory),
         }
     }
 
     /// The begin of a search, its progress, or its end.
-    fn progress(&mut self, call: Call) -> Told {
+    fn progress(&mut self, call: Call) -> Reported {
         match call {
             Call::Open(at) => self.cache.search_start(at),
             Call::MoveTo(at) if self.cache.in_progress() => self.cache.search_update(at),
             Call::Close(at) if self.cache.in_progress() => self.cache.search_finish(at),
             _ => {}
         }
-        Told::Word("-")
+        Reported::Word("-")
     }
 
-    fn minimum(&self) -> Told {
+    fn minimum(&self) -> Reported {
         let config = self.dfa.get_config();
         match config.get_minimum_cache_capacity(self.dfa.get_nfa()) {
-            Ok(minimum) => Told::Number("", minimum, ""),
-            Err(error) => Told::Refused(error),
+            Ok(minimum) => Reported::Number("", minimum, ""),
+            Err(error) => Reported::Refused(error),
         }
     }
 }
@@ -414,14 +414,14 @@ impl Caller for Bench {
         }
     }
 
-    fn answer(&mut self, alloc: Global, call: Call) -> Told {
+    fn answer(&mut self, alloc: Global, call: Call) -> Reported {
         let before = self.totals();
-        let told = self.call(alloc, call);
+        let reported = self.call(alloc, call);
         let may_change = matches!(call, Call::Steps(_));
-        if told.is_refusal() && !may_change && self.totals() != before {
-            return Told::Word("a refusal that changed the cache");
+        if reported.is_refusal() && !may_change && self.totals() != before {
+            return Reported::Word("a refusal that changed the cache");
         }
-        told
+        reported
     }
 }
 
@@ -441,17 +441,17 @@ pub fn search(
     }
 }
 
-fn patterns_of(copy: Result<NFA, AllocError>) -> Told {
+fn patterns_of(copy: Result<NFA, AllocError>) -> Reported {
     match copy {
-        Ok(nfa) => Told::Number("", nfa.pattern_len(), ""),
-        Err(_) => Told::Refused(BuildError::OutOfMemory),
+        Ok(nfa) => Reported::Number("", nfa.pattern_len(), ""),
+        Err(_) => Reported::Refused(BuildError::OutOfMemory),
     }
 }
 
-fn lazy_patterns_of(copy: Result<DFA, AllocError>) -> Told {
+fn lazy_patterns_of(copy: Result<DFA, AllocError>) -> Reported {
     match copy {
-        Ok(dfa) => Told::Number("", dfa.pattern_len(), ""),
-        Err(_) => Told::Refused(BuildError::OutOfMemory),
+        Ok(dfa) => Reported::Number("", dfa.pattern_len(), ""),
+        Err(_) => Reported::Refused(BuildError::OutOfMemory),
     }
 }
 

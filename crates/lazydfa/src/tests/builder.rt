@@ -74,7 +74,7 @@ const STATES: &str =
 #[test]
 fn builds_each_kind_of_state(rt: HostRuntime) {
     let nfa = built(&rt);
-    tells_states(&rt, &nfa);
+    reports_states(&rt, &nfa);
 }
 
 fn built(rt: &impl Host) -> NFA {
@@ -85,7 +85,7 @@ fn built(rt: &impl Host) -> NFA {
     builder.build(id(0), id(0)).expect(rt, "an automaton")
 }
 
-fn tells_states(rt: &impl Host, nfa: &NFA) {
+fn reports_states(rt: &impl Host, nfa: &NFA) {
     let found = format!(in rt.alloc(); "{:?} {:?}", nfa.states(), nfa.flags());
     same_text(rt, found.expect(rt, "memory").as_str(), STATES, "states");
 }

@@ -15,13 +15,13 @@ use regex_automata::util::search::PatternSet;
 fn joins_settings(rt: HostRuntime) {
     let old = Config::new().quit(b'a', true).cache_capacity(7);
     let new = Config::new().quit(b'b', true).byte_classes(false);
-    tell_joined(&rt, &old.overwrite(new));
+    report_joined(&rt, &old.overwrite(new));
     let kept = old.overwrite(Config::new());
     let found = (kept.get_quit(b'a'), new.get_cache_capacity());
     same_of(&rt, &found, &(true, 2097152), &"nothing new");
 }
 
-fn tell_joined(rt: &impl Host, joined: &Config) {
+fn report_joined(rt: &impl Host, joined: &Config) {
     let options = (joined.get_cache_capacity(), joined.get_byte_classes());
     let quits = (joined.get_quit(b'b'), joined.get_quit(b'a'));
     same_of(rt, &options, &(7, false), &"the new settings");
@@ -49,9 +49,9 @@ fn parts_bytes(rt: HostRuntime) {
 
 fn part_all(rt: &impl Host, rows: &[Parted]) {
     for row in rows {
-        let (shows, states, quit, want) = *row;
+        let (shows, states, quit, expected) = *row;
         let found = bounds(rt, &Plan::of(states, 0).build(rt), quit);
-        same_of(rt, &found.as_slice(), &want.as_bytes(), &shows);
+        same_of(rt, &found.as_slice(), &expected.as_bytes(), &shows);
     }
 }
 
@@ -96,7 +96,7 @@ const INSERTED: &[(u8, Option<bool>)] = &[
 fn fills_a_set_of_patterns(rt: HostRuntime) {
     let mut set = PatternSet::new(rt.alloc(), 3).expect(&rt, "a set");
     fill(&rt, &mut set, INSERTED);
-    tell_set(&rt, &set);
+    report_set(&rt, &set);
 }
 
 fn fill(rt: &impl Host, set: &mut PatternSet, rows: &[(u8, Option<bool>)]) {
@@ -107,11 +107,11 @@ fn fill(rt: &impl Host, set: &mut PatternSet, rows: &[(u8, Option<bool>)]) {
     }
 }
 
-fn tell_set(rt: &impl Host, set: &PatternSet) {
+fn report_set(rt: &impl Host, set: &PatternSet) {
     let size = (set.len(), set.capacity(), set.is_full());
     same_of(rt, &size, &(2, 3, false), &"the size");
     let mut patterns = set.iter();
     let listed = [patterns.next(), patterns.next(), patterns.next()];
-    let want = [Some(pattern_id(0)), Some(pattern_id(2)), None];
-    same_of(rt, &listed, &want, &"the list and its end");
+    let expected = [Some(pattern_id(0)), Some(pattern_id(2)), None];
+    same_of(rt, &listed, &expected, &"the list and its end");
 }

@@ -3,7 +3,7 @@
 use super::bench::{Bench, Call};
 use super::plans::{Mode, Shape};
 use super::regex_bench::{Ask, Pair, RegexBench};
-use super::tells::{Automaton, ONCE, Refusal, Short, refuse_each};
+use super::reports::{Automaton, ONCE, Refusal, Short, refuse_each};
 use super::walker::{Over, Turn, Walked, Walker};
 use crate::catalogue::Entry;
 use Automaton::{Chain, Forward, Reverse};
@@ -175,12 +175,12 @@ const FOO: &[u8] = b"@foo bar";
 /// Each of its items needs a new state, and so does the end.
 const ITEMS: &[u8] = b"\xE2xaaa\xE2 a";
 
-const ITEMS_TOLD: &str = "0 0..0; 1 1..2; 0 3..3; 0 4..4; 0 6..6";
+const ITEMS_REPORTED: &str = "0 0..0; 1 1..2; 0 3..3; 0 4..4; 0 6..6";
 
 /// Each of its tokens needs a new state. The last offset has none.
 const TOKENS: &[u8] = b"1a23bc!";
 
-const TOKENS_TOLD: &str = "1 0..1; 0 1..2; 1 2..4; 0 4..6; no token at 6";
+const TOKENS_REPORTED: &str = "1 0..1; 0 1..2; 1 2..4; 0 4..6; no token at 6";
 
 const PAIR: Pair = Pair::Of(Entry::Words);
 
@@ -208,25 +208,25 @@ const REGEXES: &[Regex] = &[
     ("a search", PAIR, "noclasses", &[], &[(Ask::Search(FOO), "match 1 0..4")], AT_ONCE),
     ("a search back", PAIR, "noclasses", &[Ask::Forward(FOO)], &[(Ask::Find(FOO), "match 1 0..4")], AT_ONCE),
     ("whether there is a match", PAIR, "noclasses", &[], &[(Ask::Is(FOO), "true")], &[(0, "memory")]),
-    ("the first item", SNOWX, "", &[Ask::Learn(ITEMS, &[], Every)], &[(Ask::Items(ITEMS), ITEMS_TOLD)],
+    ("the first item", SNOWX, "", &[Ask::Learn(ITEMS, &[], Every)], &[(Ask::Items(ITEMS), ITEMS_REPORTED)],
         &[(0, "memory")]),
-    ("the second", SNOWX, "", &[Ask::Learn(ITEMS, &[0], Every)], &[(Ask::Items(ITEMS), ITEMS_TOLD)],
+    ("the second", SNOWX, "", &[Ask::Learn(ITEMS, &[0], Every)], &[(Ask::Items(ITEMS), ITEMS_REPORTED)],
         &[(0, "0 0..0; memory")]),
-    ("the third", SNOWX, "", &[Ask::Learn(ITEMS, &[0, 1], Every)], &[(Ask::Items(ITEMS), ITEMS_TOLD)],
+    ("the third", SNOWX, "", &[Ask::Learn(ITEMS, &[0, 1], Every)], &[(Ask::Items(ITEMS), ITEMS_REPORTED)],
         &[(0, "0 0..0; 1 1..2; memory")]),
-    ("the fourth", SNOWX, "", &[Ask::Learn(ITEMS, &[0, 1, 2], Every)], &[(Ask::Items(ITEMS), ITEMS_TOLD)],
+    ("the fourth", SNOWX, "", &[Ask::Learn(ITEMS, &[0, 1, 2], Every)], &[(Ask::Items(ITEMS), ITEMS_REPORTED)],
         &[(0, "0 0..0; 1 1..2; 0 3..3; memory")]),
-    ("the fifth", SNOWX, "", &[Ask::Learn(ITEMS, &[0, 1, 2, 3, 4], Every)], &[(Ask::Items(ITEMS), ITEMS_TOLD)],
+    ("the fifth", SNOWX, "", &[Ask::Learn(ITEMS, &[0, 1, 2, 3, 4], Every)], &[(Ask::Items(ITEMS), ITEMS_REPORTED)],
         &[(0, "0 0..0; 1 1..2; 0 3..3; 0 4..4; memory")]),
     ("the end of an iteration", SNOWX, "", &[Ask::Learn(ITEMS, &[0, 1, 2, 3, 4, 5], Every)],
-        &[(Ask::Items(ITEMS), ITEMS_TOLD)], &[(0, "0 0..0; 1 1..2; 0 3..3; 0 4..4; 0 6..6; memory")]),
-    ("the first token", RUNS, "", &[Ask::Learn(TOKENS, &[], First)], &[(Ask::Tokens(TOKENS, 0), TOKENS_TOLD)],
+        &[(Ask::Items(ITEMS), ITEMS_REPORTED)], &[(0, "0 0..0; 1 1..2; 0 3..3; 0 4..4; 0 6..6; memory")]),
+    ("the first token", RUNS, "", &[Ask::Learn(TOKENS, &[], First)], &[(Ask::Tokens(TOKENS, 0), TOKENS_REPORTED)],
         &[(0, "memory")]),
-    ("the second", RUNS, "", &[Ask::Learn(TOKENS, &[0], First)], &[(Ask::Tokens(TOKENS, 0), TOKENS_TOLD)],
+    ("the second", RUNS, "", &[Ask::Learn(TOKENS, &[0], First)], &[(Ask::Tokens(TOKENS, 0), TOKENS_REPORTED)],
         &[(0, "1 0..1; memory")]),
-    ("the third", RUNS, "", &[Ask::Learn(TOKENS, &[0, 1], First)], &[(Ask::Tokens(TOKENS, 0), TOKENS_TOLD)],
+    ("the third", RUNS, "", &[Ask::Learn(TOKENS, &[0, 1], First)], &[(Ask::Tokens(TOKENS, 0), TOKENS_REPORTED)],
         &[(0, "1 0..1; 0 1..2; memory")]),
-    ("the fourth", RUNS, "", &[Ask::Learn(TOKENS, &[0, 1, 2], First)], &[(Ask::Tokens(TOKENS, 0), TOKENS_TOLD)],
+    ("the fourth", RUNS, "", &[Ask::Learn(TOKENS, &[0, 1, 2], First)], &[(Ask::Tokens(TOKENS, 0), TOKENS_REPORTED)],
         &[(0, "1 0..1; 0 1..2; 1 2..4; memory")]),
 ];
 

@@ -5,8 +5,8 @@ ghost use Rattle.std.specs.Prelude.{◌≡◌};
 use super::Host;
 use super::builder::build_ab;
 use super::plans::{Mode, ids_of, pattern_id};
-use super::tells::{Automaton, Caller, ONCE, RowOf, Short, config, refuse_each, tells_all};
-use super::told::Told;
+use super::reported::Reported;
+use super::reports::{Automaton, Caller, ONCE, RowOf, Short, config, refuse_each, reports_all};
 use crate::catalogue::Entry;
 use Automaton::{Forward, Reverse};
 use Lead::{End, Is, Room, Start, Step, Steps};
@@ -66,7 +66,7 @@ fn patterns_of(rt: &impl Host, numbers: &[u8]) -> Vec<PatternID> {
 
 #[test]
 fn codes_states(rt: HostRuntime) {
-    tells_all::<Making>(&rt, CODED);
+    reports_all::<Making>(&rt, CODED);
 }
 
 /// A call.
@@ -181,21 +181,21 @@ impl Caller for Maker {
         })
     }
 
-    fn answer(&mut self, _alloc: Global, call: Lead) -> Told {
+    fn answer(&mut self, _alloc: Global, call: Lead) -> Reported {
         match call {
-            Room => Told::of_growth(self.room()),
-            Start(mode, behind) => Told::of_growth(self.start(mode, behind)),
-            Step(byte) => Told::of_growth(self.next(Some(byte))),
-            Steps(bytes) => Told::of_growth(self.steps(bytes)),
-            End => Told::of_growth(self.next(None)),
-            Is(bytes) => Told::of_flag(self.state.as_bytes() == bytes),
+            Room => Reported::of_growth(self.room()),
+            Start(mode, behind) => Reported::of_growth(self.start(mode, behind)),
+            Step(byte) => Reported::of_growth(self.next(Some(byte))),
+            Steps(bytes) => Reported::of_growth(self.steps(bytes)),
+            End => Reported::of_growth(self.next(None)),
+            Is(bytes) => Reported::of_flag(self.state.as_bytes() == bytes),
         }
     }
 }
 
 #[test]
 fn makes_states_one_by_one(rt: HostRuntime) {
-    tells_all::<Maker>(&rt, LED);
+    reports_all::<Maker>(&rt, LED);
 }
 
 #[rattlefmt::skip]
@@ -251,12 +251,12 @@ impl Making {
         Ok(self.state.clone()? == self.state)
     }
 
-    fn build(&mut self) -> Told {
+    fn build(&mut self) -> Reported {
         self.builder.clear();
         match build_ab(&mut self.builder) {
-            Ok(nfa) => Told::of_flag(nfa.skips_lazily()),
-            Err(thompson::BuildError::OutOfMemory) => Told::Refused(BuildError::OutOfMemory),
-            Err(_) => Told::Word("another error"),
+            Ok(nfa) => Reported::of_flag(nfa.skips_lazily()),
+            Err(thompson::BuildError::OutOfMemory) => Reported::Refused(BuildError::OutOfMemory),
+            Err(_) => Reported::Word("another error"),
         }
     }
 
@@ -272,17 +272,17 @@ fn looks_of(parts: &Parts) -> (u32, u32, bool, bool) {
 }
 
 /// Whether what was made is right.
-fn told_of(is_right: Result<bool, AllocError>) -> Told {
+fn reported_of(is_right: Result<bool, AllocError>) -> Reported {
     match is_right {
-        Ok(is_right) => Told::of_flag(is_right),
-        Err(_) => Told::Refused(BuildError::OutOfMemory),
+        Ok(is_right) => Reported::of_flag(is_right),
+        Err(_) => Reported::Refused(BuildError::OutOfMemory),
     }
 }
 
-fn count_patterns(built: Result<DFA, BuildError>) -> Told {
+fn count_patterns(built: Result<DFA, BuildError>) -> Reported {
     match built {
-        Ok(dfa) => Told::Number("patterns ", dfa.pattern_len(), ""),
-        Err(error) => Told::Refused(error),
+        Ok(dfa) => Reported::Number("patterns ", dfa.pattern_len(), ""),
+        Err(error) => Reported::Refused(error),
     }
 }
 
@@ -303,14 +303,14 @@ impl Caller for Making {
         })
     }
 
-    fn answer(&mut self, alloc: Global, made: Made) -> Told {
+    fn answer(&mut self, alloc: Global, made: Made) -> Reported {
         match made {
             Always => count_patterns(DFA::always_match(alloc)),
             Never => count_patterns(DFA::never_match(alloc)),
-            Set => told_of(self.set(alloc)),
-            Encode => told_of(self.encode(alloc)),
-            Decode => told_of(self.decode(alloc)),
-            Made::Copy => told_of(self.copy()),
+            Set => reported_of(self.set(alloc)),
+            Encode => reported_of(self.encode(alloc)),
+            Decode => reported_of(self.decode(alloc)),
+            Made::Copy => reported_of(self.copy()),
             Build => self.build(),
         }
     }

@@ -1,7 +1,7 @@
 //! Scripts whose allocations fail. The test uses up all memory.
 
-use super::tells::{Caller, Short, refuse_each};
-use super::told::Told;
+use super::reported::Reported;
+use super::reports::{Caller, Short, refuse_each};
 use super::{Host, Sink, Source};
 use crate::error::RunError;
 use crate::run::run;
@@ -35,23 +35,23 @@ impl Caller for Runner {
     }
 
     /// Runs the script.
-    fn answer(&mut self, alloc: Global, _call: ()) -> Told {
+    fn answer(&mut self, alloc: Global, _call: ()) -> Reported {
         self.output.bytes.clear();
         let mut input = Source::new(self.script.as_bytes());
         if let Err(error) = run(alloc, &mut input, &mut self.output) {
             let is_refused = error == RunError::OutOfMemory && self.output.bytes.is_empty();
-            return Told::Word(if is_refused {
+            return Reported::Word(if is_refused {
                 "run memory"
             } else {
                 "another error"
             });
         }
-        for (output, told) in HEARD {
+        for (output, reported) in HEARD {
             if output.as_bytes() == self.output.bytes.as_slice() {
-                return Told::Word(*told);
+                return Reported::Word(*reported);
             }
         }
-        Told::Word("another output")
+        Reported::Word("another output")
     }
 }
 
@@ -67,6 +67,6 @@ const RUNS: &[Short<&'static str, ()>] = &[
 ];
 
 #[test]
-fn tells_each_refused_growth(rt: HostRuntime) {
+fn reports_each_refused_growth(rt: HostRuntime) {
     refuse_each::<Runner>(&rt, RUNS);
 }

@@ -21,13 +21,13 @@ mod random_paths;
 mod regex;
 mod regex_bench;
 mod replay_turns;
+mod reported;
+mod reports;
 mod reversed;
 mod rows;
 mod scripts;
 mod span_paths;
-mod tells;
 mod texts;
-mod told;
 mod walk_paths;
 mod walker;
 mod walks;
@@ -113,14 +113,14 @@ impl Write for Sink {
     }
 }
 
-/// Stops the test unless what was found is what is wanted, and names what the values belong to.
-fn same_of<T: PartialEq + Debug, D: Debug>(rt: &impl Host, found: &T, want: &T, of: &D) {
-    assert_eq!(rt; found, want, "{of:?}");
+/// Stops the test unless what was found is what was expected, and names what the values belong to.
+fn same_of<T: PartialEq + Debug, D: Debug>(rt: &impl Host, found: &T, expected: &T, of: &D) {
+    assert_eq!(rt; found, expected, "{of:?}");
 }
 
 /// The same as `same_of`, for texts.
-fn same_text(rt: &impl Host, found: &str, want: &str, of: &str) {
-    assert_eq!(rt; found, want, "{of}");
+fn same_text(rt: &impl Host, found: &str, expected: &str, of: &str) {
+    assert_eq!(rt; found, expected, "{of}");
 }
 
 /// Stops the test unless this holds.

@@ -50,10 +50,10 @@ fn describe_reverse(rt: &impl Host, entry: Entry) -> (bool, usize) {
 
 /// What the row shows, the states, the unanchored start, whether it skips lazily, and whether no cycle of epsilon edges
 /// passes a look.
-type Told = (Text, &'static [Shape], u8, bool, bool);
+type Reported = (Text, &'static [Shape], u8, bool, bool);
 
 #[rattlefmt::skip]
-const TOLD: &[Told] = &[
+const REPORTED: &[Reported] = &[
     ("the anchored start or any byte", &[Range(b'a', b'a', 1), Accept(0), Either(0, 3), Range(0x00, 0xFF, 2)], 2, true,
         true),
     ("equal starts", &[Range(b'a', b'a', 2), Accept(0), Either(0, 3), Range(0x00, 0xFF, 2)], 0, true, true),
@@ -77,11 +77,11 @@ const TOLD: &[Told] = &[
 ];
 
 #[test]
-fn tells_lazy_skipping_and_cycles_of_looks(rt: HostRuntime) {
-    tell_all(&rt, TOLD);
+fn reports_lazy_skipping_and_cycles_of_looks(rt: HostRuntime) {
+    report_all(&rt, REPORTED);
 }
 
-fn tell_all(rt: &impl Host, rows: &[Told]) {
+fn report_all(rt: &impl Host, rows: &[Reported]) {
     for row in rows {
         let (shows, states, start, skips, is_acyclic) = *row;
         let nfa = Plan::of(states, start).build(rt);
@@ -98,7 +98,7 @@ const EAGER: Plan = Plan {
 };
 
 #[test]
-fn tells_eager_skipping(rt: HostRuntime) {
+fn reports_eager_skipping(rt: HostRuntime) {
     let nfa = EAGER.build(&rt);
     let looks_at_start = nfa.look_set_any().contains(Look::Start);
     let said = (nfa.skips_lazily(), nfa.has_empty(), looks_at_start);
@@ -142,15 +142,15 @@ fn refuse_all(rt: &impl Host, rows: &[Refused]) {
 }
 
 fn refuse(rt: &impl Host, row: Refused) {
-    let (shows, states, patterns, want) = row;
+    let (shows, states, patterns, expected) = row;
     let start = patterns.first().copied().unwrap_or(0);
     let starts = (start, start);
-    match Plan::new(states, starts, patterns).door(rt) {
+    match Plan::new(states, starts, patterns).try_build(rt) {
         Ok(nfa) => {
             let counts = (nfa.states().len(), nfa.pattern_len());
             same_of(rt, &counts, &(states.len(), patterns.len()), &shows);
-            same_of(rt, &None, &want, &shows);
+            same_of(rt, &None, &expected, &shows);
         }
-        Err(error) => same_of(rt, &Some(error), &want, &shows),
+        Err(error) => same_of(rt, &Some(error), &expected, &shows),
     }
 }

@@ -65,7 +65,7 @@ impl Plan {
     }
 
     /// The NFA, if `NFA::from_states` accepts it.
-    pub fn door(&self, rt: &impl Host) -> Result<NFA, NfaError> {
+    pub fn try_build(&self, rt: &impl Host) -> Result<NFA, NfaError> {
         let patterns = ids_of(rt, self.patterns);
         let states = states_of(rt, self.states);
         let (anchored, unanchored) = self.starts;
@@ -75,7 +75,7 @@ impl Plan {
     }
 
     pub fn build(&self, rt: &impl Host) -> NFA {
-        self.door(rt).expect(rt, "an automaton")
+        self.try_build(rt).expect(rt, "an automaton")
     }
 }
 

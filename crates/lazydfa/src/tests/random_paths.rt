@@ -304,30 +304,30 @@ fn compare(rt: &impl Host, listed: &mut Listed, input: &Input<'_>, tally: &mut T
         tally.count_answer(&compare_ends(rt, listed, input));
         compare_members(rt, listed, input);
     }
-    tally.pairs = tally.pairs.saturating_add(listed.want.len());
+    tally.pairs = tally.pairs.saturating_add(listed.expected.len());
 }
 
 /// What is known of ends if a cycle of epsilon edges passes a look. It returns the answer by the paths.
 fn compare_ends(rt: &impl Host, listed: &mut Listed, input: &Input<'_>) -> Half {
     let dfa = listed.ample.dfa();
     let kind = dfa.get_config().get_match_kind();
-    let want = half(rt, dfa.get_nfa(), kind, input);
+    let expected = half(rt, dfa.get_nfa(), kind, input);
     let of = (listed.name, input);
     let found = listed.tight.find(input).expect(rt, "a search");
-    same_end(rt, listed.tight.dfa(), &of, &found, &want);
+    same_end(rt, listed.tight.dfa(), &of, &found, &expected);
     let found = listed.ample.find(input).expect(rt, "a search");
-    same_end(rt, listed.ample.dfa(), &of, &found, &want);
-    want
+    same_end(rt, listed.ample.dfa(), &of, &found, &expected);
+    expected
 }
 
 /// The nearest end, the farthest end, or whether there is a match.
-fn same_end(rt: &impl Host, dfa: &DFA, of: &(Name, &Input<'_>), found: &Half, want: &Half) {
+fn same_end(rt: &impl Host, dfa: &DFA, of: &(Name, &Input<'_>), found: &Half, expected: &Half) {
     let nfa = dfa.get_nfa();
     let is_all = dfa.get_config().get_match_kind() == MatchKind::All;
     if of.1.get_earliest() || is_all {
-        same_of(rt, &end_of(found), &end_of(want), of);
+        same_of(rt, &end_of(found), &end_of(expected), of);
     } else if !(nfa.is_utf8() && nfa.has_empty()) {
-        same_of(rt, &found.is_some(), &want.is_some(), of);
+        same_of(rt, &found.is_some(), &expected.is_some(), of);
     }
 }
 
@@ -342,7 +342,7 @@ fn end_of(half: &Half) -> Option<usize> {
 fn compare_members(rt: &impl Host, listed: &mut Listed, input: &Input<'_>) {
     let dfa = listed.ample.dfa();
     let kind = dfa.get_config().get_match_kind();
-    listed.want = list(rt, dfa.get_nfa(), kind, input);
+    listed.expected = list(rt, dfa.get_nfa(), kind, input);
     if kind == MatchKind::All {
         listed.tight.walk(rt, input, &mut listed.found);
         same_members(rt, listed, input);
@@ -353,15 +353,15 @@ fn compare_members(rt: &impl Host, listed: &mut Listed, input: &Input<'_>) {
 
 /// The same pairs, whatever their order.
 fn same_members(rt: &impl Host, listed: &Listed, input: &Input<'_>) {
-    let (found, want) = (listed.found.as_slice(), listed.want.as_slice());
+    let (found, expected) = (listed.found.as_slice(), listed.expected.as_slice());
     let of = (listed.name, input);
-    same_of(rt, &found.len(), &want.len(), &of);
-    same_of(rt, &are_among(found, want), &true, &of);
+    same_of(rt, &found.len(), &expected.len(), &of);
+    same_of(rt, &are_among(found, expected), &true, &of);
 }
 
-fn are_among(found: &[HalfMatch], want: &[HalfMatch]) -> bool {
+fn are_among(found: &[HalfMatch], expected: &[HalfMatch]) -> bool {
     for pair in found {
-        if !want.contains(pair) {
+        if !expected.contains(pair) {
             return false;
         }
     }

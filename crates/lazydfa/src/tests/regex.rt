@@ -4,7 +4,7 @@ ghost use Rattle.regex_automata.specs.Promises.{AreCachesOf};
 
 use super::plans::{Plan, Shape, pattern_id};
 use super::regex_bench::{Ask, Pair, RegexBench, Row};
-use super::tells::{Caller, tells_all};
+use super::reports::{Caller, reports_all};
 use super::texts::UNSUPPORTED;
 use super::{Host, same_of, same_text};
 use crate::catalogue::Entry;
@@ -124,11 +124,11 @@ const REFUSED: &[Row] = &[
 ];
 
 #[test]
-fn regexes_tell_their_rows(rt: HostRuntime) {
-    tells_all::<RegexBench>(&rt, AMPLE);
-    tells_all::<RegexBench>(&rt, STARTS);
-    tells_all::<RegexBench>(&rt, ENDS);
-    tells_all::<RegexBench>(&rt, REFUSED);
+fn regexes_report_their_rows(rt: HostRuntime) {
+    reports_all::<RegexBench>(&rt, AMPLE);
+    reports_all::<RegexBench>(&rt, STARTS);
+    reports_all::<RegexBench>(&rt, ENDS);
+    reports_all::<RegexBench>(&rt, REFUSED);
 }
 
 /// A cache of one regex serves another once it is reset to it.
@@ -136,15 +136,15 @@ fn regexes_tell_their_rows(rt: HostRuntime) {
 fn resets_to_another(rt: HostRuntime) {
     let mut text = String::new(rt.alloc());
     reset_dates(&rt, &mut text);
-    let want = "match 0 0..10, (0, 335, 0) (0, 335, 0), match 0 0..2, (0, 678, 2) (0, 335, 0)";
-    same_text(&rt, text.as_str(), want, "a reset");
+    let expected = "match 0 0..10, (0, 335, 0) (0, 335, 0), match 0 0..2, (0, 678, 2) (0, 335, 0)";
+    same_text(&rt, text.as_str(), expected, "a reset");
 }
 
 fn reset_dates(rt: &impl Host, text: &mut String) {
     let mut dates = RegexBench::new(rt, Of(Entry::Date).regex(rt, ""));
-    dates.tell(rt, &[Find(DATES)], text);
+    dates.report(rt, &[Find(DATES)], text);
     dates.reset_to(Of(Entry::Ab).regex(rt, ""));
-    dates.tell(rt, &[Counts, Find(b"ab"), Counts], text);
+    dates.report(rt, &[Counts, Find(b"ab"), Counts], text);
 }
 
 /// Both parts of a cache, lent for writing at once.

@@ -6,8 +6,8 @@ ghost use Rattle.regex_automata.specs.Promises.{AreCachesOf, IsSoundPair};
 use super::Host;
 use super::bench::counted;
 use super::plans::{Mode, Plan, Shape};
-use super::tells::{Automaton, Caller, RowOf, config};
-use super::told::{Counted, Item, Told};
+use super::reported::{Counted, Item, Reported};
+use super::reports::{Automaton, Caller, RowOf, config};
 use crate::catalogue::Entry;
 use regex_automata::hybrid::dfa::{Config, DFA};
 use regex_automata::hybrid::regex::{Builder, Cache, Regex, RegexBuildError};
@@ -179,38 +179,40 @@ impl RegexBench {
         RegexBench { regex, cache }
     }
 
-    fn call(&mut self, ask: Ask) -> Told {
+    fn call(&mut self, ask: Ask) -> Reported {
         match ask {
             Ask::Find(haystack) => self.find(&Input::new(haystack)),
             Ask::Learn(haystack, places, mode) => self.learn(haystack, places, mode),
-            Ask::Search(haystack) => Told::Span(self.search(&Input::new(haystack)), ""),
-            Ask::Is(haystack) => Told::Truth(self.holds(&Input::new(haystack))),
-            Ask::Items(haystack) => Told::Items(self.first_items(Input::new(haystack))),
-            Ask::ItemsFrom(haystack, start) => Told::Items(self.first_items(from(haystack, start))),
-            Ask::Tokens(haystack, start) => Told::Items(self.first_tokens(haystack, start)),
+            Ask::Search(haystack) => Reported::Span(self.search(&Input::new(haystack)), ""),
+            Ask::Is(haystack) => Reported::Truth(self.holds(&Input::new(haystack))),
+            Ask::Items(haystack) => Reported::Items(self.first_items(Input::new(haystack))),
+            Ask::ItemsFrom(haystack, start) => Reported::Items(self.first_items(from(
+                haystack, start,
+            ))),
+            Ask::Tokens(haystack, start) => Reported::Items(self.first_tokens(haystack, start)),
             Ask::Forward(haystack) => self.forward(&Input::new(haystack)),
             Ask::Reverse(haystack) => self.reverse(&Input::new(haystack)),
             Ask::Memory => self.memory(),
-            Ask::Counts => Told::Parts(self.counts()),
-            Ask::Patterns => Told::Number("", self.regex.pattern_len(), ""),
+            Ask::Counts => Reported::Parts(self.counts()),
+            Ask::Patterns => Reported::Number("", self.regex.pattern_len(), ""),
             _ => self.renew(ask),
         }
     }
 
     /// A call that makes a cache or a part of it as new.
-    fn renew(&mut self, ask: Ask) -> Told {
+    fn renew(&mut self, ask: Ask) -> Reported {
         match ask {
             Ask::Replace | Ask::ReplaceByNew | Ask::ReplaceByClone => {
                 let made = self.made(ask);
                 self.replace(ask, made)
             }
-            Ask::ReplaceForward => Told::of_growth(self.replace_forward()),
-            Ask::ReplaceReverse => Told::of_growth(self.replace_reverse()),
-            Ask::ResetByCache => Told::of_growth(self.cache.reset(&self.regex)),
-            Ask::ResetForward => Told::of_growth(self.reset_forward()),
-            Ask::ResetReverse => Told::of_growth(self.reset_reverse()),
+            Ask::ReplaceForward => Reported::of_growth(self.replace_forward()),
+            Ask::ReplaceReverse => Reported::of_growth(self.replace_reverse()),
+            Ask::ResetByCache => Reported::of_growth(self.cache.reset(&self.regex)),
+            Ask::ResetForward => Reported::of_growth(self.reset_forward()),
+            Ask::ResetReverse => Reported::of_growth(self.reset_reverse()),
             Ask::ResetOrFind(haystack) => self.reset_or_find(haystack),
-            _ => Told::of_growth(self.reset()),
+            _ => Reported::of_growth(self.reset()),
         }
     }
 
@@ -225,32 +227,32 @@ impl RegexBench {
         }
     }
 
-    fn replace(&mut self, ask: Ask, made: Result<Cache, AllocError>) -> Told
+    fn replace(&mut self, ask: Ask, made: Result<Cache, AllocError>) -> Reported
         requires { IfOk made (λ made. AreCachesOf made self.old.regex) }
     {
         match made {
             Ok(cache) => {
                 self.cache = cache;
-                Told::Word("-")
+                Reported::Word("-")
             }
-            Err(_) => told_of_refusal(ask, self.regex.forward()),
+            Err(_) => reported_of_refusal(ask, self.regex.forward()),
         }
     }
 
-    fn learn(&mut self, haystack: &[u8], places: &[usize], mode: Mode) -> Told {
+    fn learn(&mut self, haystack: &[u8], places: &[usize], mode: Mode) -> Reported {
         for place in places {
             let _ = self.search(&from(haystack, *place).anchored(mode.anchored()));
         }
-        Told::Word("-")
+        Reported::Word("-")
     }
 
-    fn reset_or_find(&mut self, haystack: &[u8]) -> Told {
+    fn reset_or_find(&mut self, haystack: &[u8]) -> Reported {
         let before = self.counts();
         if self.reset().is_ok() {
-            return Told::Word("-");
+            return Reported::Word("-");
         }
         if self.counts() != before {
-            return Told::Word("a refusal that changed a part");
+            return Reported::Word("a refusal that changed a part");
         }
         let is_forward = has_no_room(self.regex.forward());
         let found = self.regex.find(&mut self.cache, &Input::new(haystack));
@@ -259,7 +261,7 @@ impl RegexBench {
         } else {
             "; reverse memory"
         };
-        Told::Span(found, refused)
+        Reported::Span(found, refused)
     }
 
     fn search(&mut self, input: &Input<'_>) -> Result<Option<Match>, SearchError> {
@@ -305,18 +307,18 @@ impl RegexBench {
         &self.regex
     }
 
-    fn find(&mut self, input: &Input<'_>) -> Told {
-        Told::Span(self.regex.find(&mut self.cache, input), "")
+    fn find(&mut self, input: &Input<'_>) -> Reported {
+        Reported::Span(self.regex.find(&mut self.cache, input), "")
     }
 
-    fn forward(&mut self, input: &Input<'_>) -> Told {
+    fn forward(&mut self, input: &Input<'_>) -> Reported {
         let dfa = self.regex.forward();
-        Told::Half(dfa.try_search_fwd(self.cache.forward_mut(), input))
+        Reported::Half(dfa.try_search_fwd(self.cache.forward_mut(), input))
     }
 
-    fn reverse(&mut self, input: &Input<'_>) -> Told {
+    fn reverse(&mut self, input: &Input<'_>) -> Reported {
         let dfa = self.regex.reverse();
-        Told::Half(dfa.try_search_rev(self.cache.reverse_mut(), input))
+        Reported::Half(dfa.try_search_rev(self.cache.reverse_mut(), input))
     }
 
     fn replace_forward(&mut self) -> Result<(), AllocError> {
@@ -360,10 +362,10 @@ impl RegexBench {
         }
     }
 
-    fn memory(&self) -> Told {
+    fn memory(&self) -> Reported {
         let (forward, reverse) = self.cache.as_parts();
         let (forward, reverse) = (forward.memory_usage(), reverse.memory_usage());
-        Told::Counts((self.cache.memory_usage(), forward, reverse), "")
+        Reported::Counts((self.cache.memory_usage(), forward, reverse), "")
     }
 
     fn counts(&self) -> [Counted; 2] {
@@ -384,21 +386,21 @@ impl Caller for RegexBench {
         }
     }
 
-    fn answer(&mut self, _alloc: Global, ask: Ask) -> Told {
+    fn answer(&mut self, _alloc: Global, ask: Ask) -> Reported {
         let before = self.counts();
-        let told = self.call(ask);
-        if told.is_refusal() && self.counts() != before {
-            return Told::Word("a refusal that changed a part");
+        let reported = self.call(ask);
+        if reported.is_refusal() && self.counts() != before {
+            return Reported::Word("a refusal that changed a part");
         }
-        told
+        reported
     }
 }
 
 /// Why no cache was made: of two new parts, the reverse one was refused if the forward one can be made.
-fn told_of_refusal(ask: Ask, forward: &DFA) -> Told {
+fn reported_of_refusal(ask: Ask, forward: &DFA) -> Reported {
     match ask {
-        Ask::Replace if !has_no_room(forward) => Told::Word("reverse memory"),
-        _ => Told::Refused(BuildError::OutOfMemory),
+        Ask::Replace if !has_no_room(forward) => Reported::Word("reverse memory"),
+        _ => Reported::Refused(BuildError::OutOfMemory),
     }
 }
 

@@ -1,7 +1,7 @@
 //! A long script whose allocations fail in turn. Each test may use up all memory.
 
 use super::regex_bench::Pair;
-use super::tells::Turns;
+use super::reports::Turns;
 use super::{Host, check, same_of};
 use crate::catalogue::Entry;
 use crate::reply::Line;
@@ -79,27 +79,27 @@ impl History {
     /// Whether a reply is out of memory after a beginning of what is due. Otherwise it has to be the one that is due.
     fn hear(&mut self, rt: &impl Host, request: &Request<'_>, row: Row, reply: &str) -> bool {
         let own = row.1[self.current.min(1)];
-        let owed = self.owed(request, own);
-        if let Some(told) = reply.strip_suffix("memory") {
-            let is_owed = owed.starts_with(told.trim_end()) && !owed.starts_with("bad");
-            same_of(rt, &is_owed, &true, &(row.0, reply, owed));
+        let due = self.due(request, own);
+        if let Some(reported) = reply.strip_suffix("memory") {
+            let is_due = due.starts_with(reported.trim_end()) && !due.starts_with("bad");
+            same_of(rt, &is_due, &true, &(row.0, reply, due));
             return true;
         }
-        same_of(rt, &reply, &owed, &row.0);
+        same_of(rt, &reply, &due, &row.0);
         self.go_on(request, own);
         false
     }
 
-    fn owed(&self, request: &Request<'_>, own: &'static [&'static str]) -> &'static str {
+    fn due(&self, request: &Request<'_>, own: &'static [&'static str]) -> &'static str {
         match request {
             Request::BeginWalk { .. } => BEGUN[self.begun.min(3)],
-            Request::StepWalk(number) => self.owed_by_walk(*number),
+            Request::StepWalk(number) => self.due_by_walk(*number),
             Request::Reset(_) => "ok",
             _ => own.first().copied().unwrap_or("a reply"),
         }
     }
 
-    fn owed_by_walk(&self, number: usize) -> &'static str {
+    fn due_by_walk(&self, number: usize) -> &'static str {
         let (regex, left) = self.walks[number.min(3)];
         if number >= self.begun {
             return "bad walk";

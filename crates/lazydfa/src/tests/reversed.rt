@@ -2,7 +2,7 @@
 
 use super::plans::{Plan, Shape};
 use super::regex_bench::{Ask, Pair, RegexBench, alone};
-use super::tells::{Automaton, text_of};
+use super::reports::{Automaton, text_of};
 use super::{Host, Text, check, same_of, same_text};
 use crate::catalogue::Entry;
 use Shape::{Accept, Assert, Capture, Dense, Either, Range, Sparse, Union};
@@ -67,9 +67,9 @@ fn find_spans(rt: &impl Host, rows: &'static [Row]) {
 }
 
 /// The items of an iteration.
-fn finds(rt: &impl Host, pair: Pair, options: &str, haystack: Text, want: &str) {
+fn finds(rt: &impl Host, pair: Pair, options: &str, haystack: Text, expected: &str) {
     let found = text_of::<RegexBench>(rt, pair, options, &[Ask::Items(haystack.as_bytes())]);
-    same_text(rt, found.as_str(), want, haystack);
+    same_text(rt, found.as_str(), expected, haystack);
 }
 
 /// The spans are those that the reverse NFA of the catalogue gives, wherever the forward one keeps UTF-8.
@@ -91,10 +91,10 @@ fn compare_all(rt: &impl Host, entries: &[Entry], haystack: &'static [u8]) {
 /// No haystack has more than sixteen items.
 fn compare(rt: &impl Host, entry: Entry, haystack: &'static [u8]) {
     let asks = [Ask::Items(haystack), Ask::ItemsFrom(haystack, 8)];
-    let want = text_of::<RegexBench>(rt, Pair::Of(entry), "unicode", &asks);
+    let expected = text_of::<RegexBench>(rt, Pair::Of(entry), "unicode", &asks);
     let turned = Pair::Turned(Automaton::Forward(entry));
     let found = text_of::<RegexBench>(rt, turned, "unicode", &asks);
-    same_of(rt, &found, &want, &entry);
+    same_of(rt, &found, &expected, &entry);
 }
 
 /// NFAs, and why no regex of one can be built.
@@ -117,19 +117,19 @@ fn refuses_by_name(rt: HostRuntime) {
 
 fn refuse_all(rt: &impl Host, rows: &[(Automaton, &'static str)]) {
     for row in rows {
-        let (automaton, want) = *row;
-        refuse(rt, automaton, want);
+        let (automaton, expected) = *row;
+        refuse(rt, automaton, expected);
     }
 }
 
-fn refuse(rt: &impl Host, automaton: Automaton, want: &str) {
+fn refuse(rt: &impl Host, automaton: Automaton, expected: &str) {
     match alone(automaton.nfa(rt), Config::new()) {
         Ok(_) => check(rt, false),
-        Err(error) => tells(rt, &error, want),
+        Err(error) => reports(rt, &error, expected),
     }
 }
 
-fn tells(rt: &impl Host, error: &RegexBuildError, want: &str) {
+fn reports(rt: &impl Host, error: &RegexBuildError, expected: &str) {
     let text = error.to_string(rt.alloc()).expect(rt, "memory");
-    same_text(rt, text.as_str(), want, "an error");
+    same_text(rt, text.as_str(), expected, "an error");
 }

@@ -2,7 +2,7 @@
 
 use super::bench::{Bench, Call};
 use super::plans::{Mode, Plan, Shape};
-use super::tells::{Automaton, RowOf, tells_all};
+use super::reports::{Automaton, RowOf, reports_all};
 use super::texts::UNSUPPORTED;
 use crate::catalogue::Entry;
 use Automaton::{Always, Chain, Crowd, Forward, Never, Planned, Reverse};
@@ -273,22 +273,22 @@ const CLEARED: &[Row] = &[
 ];
 
 #[test]
-fn searches_tell_their_rows(rt: HostRuntime) {
-    tells_all::<Bench>(&rt, AMPLE);
-    tells_all::<Bench>(&rt, SEARCHED);
-    tells_all::<Bench>(&rt, ODD);
+fn searches_report_their_rows(rt: HostRuntime) {
+    reports_all::<Bench>(&rt, AMPLE);
+    reports_all::<Bench>(&rt, SEARCHED);
+    reports_all::<Bench>(&rt, ODD);
 }
 
 #[test]
-fn long_searches_tell_their_rows(rt: HostRuntime) {
-    tells_all::<Bench>(&rt, LONG);
+fn long_searches_report_their_rows(rt: HostRuntime) {
+    reports_all::<Bench>(&rt, LONG);
 }
 
 #[test]
-fn steps_tell_their_rows(rt: HostRuntime) {
-    tells_all::<Bench>(&rt, STEPPED);
-    tells_all::<Bench>(&rt, WALKED);
-    tells_all::<Bench>(&rt, CLEARED);
+fn steps_report_their_rows(rt: HostRuntime) {
+    reports_all::<Bench>(&rt, STEPPED);
+    reports_all::<Bench>(&rt, WALKED);
+    reports_all::<Bench>(&rt, CLEARED);
 }
 
 /// What is counted of a fresh cache, after each of two searches, after a reset, and after one search more: no clear, the
@@ -336,5 +336,5 @@ const COUNTED: &[Row] = &[
 
 #[test]
 fn counts_memory_and_searched_bytes(rt: HostRuntime) {
-    tells_all::<Bench>(&rt, COUNTED);
+    reports_all::<Bench>(&rt, COUNTED);
 }

@@ -31,8 +31,8 @@ fn answers_scripts(rt: HostRuntime) {
 
 fn answer_all(rt: &impl Host, rows: &[(&'static str, &'static str)]) {
     for row in rows {
-        let (script, want) = *row;
-        ends_with(rt, script, want, None);
+        let (script, expected) = *row;
+        ends_with(rt, script, expected, None);
     }
 }
 
@@ -69,7 +69,7 @@ const BAD: &[(&str, usize)] = &[
 ];
 
 #[test]
-fn tells_the_first_bad_line(rt: HostRuntime) {
+fn reports_the_first_bad_line(rt: HostRuntime) {
     refuse_all(&rt, BAD);
 }
 
@@ -81,10 +81,10 @@ fn refuse_all(rt: &impl Host, rows: &[(&'static str, usize)]) {
 }
 
 /// Runs a script, and looks at what it prints and at its fault.
-fn ends_with(rt: &impl Host, script: &str, want: &str, fault: Option<RunError>) {
+fn ends_with(rt: &impl Host, script: &str, expected: &str, fault: Option<RunError>) {
     let (text, found) = printed(rt, script);
     same_of(rt, &found, &fault, &script);
-    same_text(rt, text.as_str(), want, script);
+    same_text(rt, text.as_str(), expected, script);
 }
 
 /// Lines at the edge of what is allowed.
@@ -119,7 +119,7 @@ fn take_all(rt: &impl Host, scripts: &[&'static str]) {
 const READ: &[(&str, usize)] = &[("regex ab\n", 4), ("regex ab\nwalk fwd 6162\nstep 0\nreset 0", 14)];
 
 #[test]
-fn tells_failed_reads(rt: HostRuntime) {
+fn reports_failed_reads(rt: HostRuntime) {
     for row in READ {
         let (script, calls) = *row;
         for call in 1..=calls {
@@ -130,13 +130,13 @@ fn tells_failed_reads(rt: HostRuntime) {
 }
 
 /// Nothing is written if a read fails.
-fn fails_to_read(rt: &impl Host, script: &str, call: usize, want: Option<RunError>) {
+fn fails_to_read(rt: &impl Host, script: &str, call: usize, expected: Option<RunError>) {
     let mut input = Source::new(script.as_bytes());
     input.fails_at = call;
     let mut output = Sink::new(rt.alloc());
     let fault = run(rt.alloc(), &mut input, &mut output).err();
-    same_of(rt, &fault, &want, &call);
-    same_of(rt, &output.bytes.is_empty(), &want.is_some(), &call);
+    same_of(rt, &fault, &expected, &call);
+    same_of(rt, &output.bytes.is_empty(), &expected.is_some(), &call);
 }
 
 /// A script, its output, and the calls that write it, five bytes a call and a flush.
@@ -149,7 +149,7 @@ const WRITTEN: &[Written] = &[
 ];
 
 #[test]
-fn tells_failed_writes(rt: HostRuntime) {
+fn reports_failed_writes(rt: HostRuntime) {
     for row in WRITTEN {
         let (row, calls) = (*row, row.2);
         for call in 1..=calls {
@@ -160,28 +160,28 @@ fn tells_failed_writes(rt: HostRuntime) {
 }
 
 /// A beginning of the output is out if a write fails.
-fn fails_to_write(rt: &impl Host, row: Written, call: usize, want: Option<RunError>) {
+fn fails_to_write(rt: &impl Host, row: Written, call: usize, expected: Option<RunError>) {
     let (script, whole, _) = row;
     let mut input = Source::new(script.as_bytes());
     let mut output = Sink::new(rt.alloc());
     output.fails_at = call;
     let fault = run(rt.alloc(), &mut input, &mut output).err();
-    same_of(rt, &fault, &want, &call);
+    same_of(rt, &fault, &expected, &call);
     let is_beginning = whole.as_bytes().starts_with(output.bytes.as_slice());
     same_of(rt, &is_beginning, &true, &call);
 }
 
 /// A bad line is reported before a failed write, and a failed read before a bad line.
 #[test]
-fn tells_faults_in_order(rt: HostRuntime) {
-    for (fails_at, want) in [(0, RunError::BadLine(1)), (2, RunError::Failed)] {
+fn reports_faults_in_order(rt: HostRuntime) {
+    for (fails_at, expected) in [(0, RunError::BadLine(1)), (2, RunError::Failed)] {
         let mut input = Source::new(b"bad\n");
         input.fails_at = fails_at;
         let mut output = Sink::new(rt.alloc());
         output.fails_at = 1;
         let fault = run(rt.alloc(), &mut input, &mut output).err();
         let found = (fault, output.bytes.is_empty());
-        same_of(&rt, &found, &(Some(want), true), &fails_at);
+        same_of(&rt, &found, &(Some(expected), true), &fails_at);
     }
 }
 
@@ -207,8 +207,8 @@ fn answers_long_scripts(rt: HostRuntime) {
 
 fn answer_long(rt: &impl Host, row: &Long) {
     let script = long_script(rt, row);
-    let want = long_output(rt, row);
-    ends_with(rt, script.as_str(), want.as_str(), None);
+    let expected = long_output(rt, row);
+    ends_with(rt, script.as_str(), expected.as_str(), None);
 }
 
 fn long_script(rt: &impl Host, row: &Long) -> String {

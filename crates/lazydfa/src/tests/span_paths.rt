@@ -3,7 +3,7 @@
 use super::bench::within;
 use super::paths::{CHARACTERS, EMPTY, LITERALS, LOOKS, MODES, REPEATED, Row, answer, haystacks};
 use super::regex_bench::{Pair, RegexBench};
-use super::told::Item;
+use super::reported::Item;
 use super::{Host, same_of};
 use crate::catalogue::Entry;
 use regex_automata::nfa::thompson::NFA;
@@ -102,10 +102,10 @@ impl Listed {
     fn compare(&mut self, rt: &impl Host, input: &Input<'_>) {
         let nfa = self.ample.regex().forward().get_nfa();
         let spans = list(rt, (nfa, self.kind), input);
-        let want = (&spans, has_path(rt, nfa, self.kind, input));
+        let expected = (&spans, has_path(rt, nfa, self.kind, input));
         let of = (self.entry, self.kind, input);
-        compare_with(rt, &mut self.tight, input, want, &of);
-        compare_with(rt, &mut self.ample, input, want, &of);
+        compare_with(rt, &mut self.tight, input, expected, &of);
+        compare_with(rt, &mut self.ample, input, expected, &of);
     }
 }
 
@@ -114,13 +114,13 @@ fn compare_with(
     rt: &impl Host,
     bench: &mut RegexBench,
     input: &Input<'_>,
-    (want, has_path): (&[Item; 8], bool),
+    (expected, has_path): (&[Item; 8], bool),
     of: &(Entry, MatchKind, &Input<'_>),
 ) {
-    same_of(rt, &bench.first(input), &want[0], of);
+    same_of(rt, &bench.first(input), &expected[0], of);
     same_of(rt, &bench.holds(input), &Ok(has_path), of);
     let found = bench.first_items(input.clone().expect(rt, "an input"));
-    same_of(rt, &found, want, of);
+    same_of(rt, &found, expected, of);
 }
 
 /// A match kind, and its options for caches of the least capacity and of an ample one.

@@ -4,7 +4,7 @@
 use super::paths::{
     CHARACTERS, EMPTY, LITERALS, LOOKS, MODES, REPEATED, Row, accepting, half, haystacks, splits,
 };
-use super::tells::Automaton;
+use super::reports::Automaton;
 use super::walker::{Over, Walker};
 use super::{Host, same_of};
 use crate::catalogue::Entry;
@@ -44,7 +44,7 @@ fn list_at(
     for (number, path) in paths.iter().enumerate() {
         if path.offset() == place {
             let is_first = number < least;
-            if !is_passed && tells(kind, is_first, path, pairs) {
+            if !is_passed && reports(kind, is_first, path, pairs) {
                 pairs.push(*path).expect(rt, "memory");
             }
             least = least.min(number);
@@ -54,7 +54,7 @@ fn list_at(
 }
 
 /// Whether a pair is told: under `MatchKind::All` once.
-fn tells(kind: MatchKind, is_first: bool, path: &HalfMatch, pairs: &Vec<HalfMatch>) -> bool {
+fn reports(kind: MatchKind, is_first: bool, path: &HalfMatch, pairs: &Vec<HalfMatch>) -> bool {
     if kind == MatchKind::All {
         !pairs.contains(path)
     } else {
@@ -86,7 +86,7 @@ pub struct Listed {
     pub name: Name,
     pub tight: Walker,
     pub ample: Walker,
-    pub want: Vec<HalfMatch>,
+    pub expected: Vec<HalfMatch>,
     pub found: Vec<HalfMatch>,
 }
 
@@ -124,13 +124,13 @@ impl Listed {
     pub fn compare_halves(&mut self, rt: &impl Host, input: &Input<'_>) -> Option<HalfMatch> {
         let dfa = self.ample.dfa();
         let kind = dfa.get_config().get_match_kind();
-        let want = half(rt, dfa.get_nfa(), kind, input);
+        let expected = half(rt, dfa.get_nfa(), kind, input);
         let of = (self.name, kind, input);
         let found = self.tight.find(input).expect(rt, "a search");
-        same_of(rt, &found, &want, &of);
+        same_of(rt, &found, &expected, &of);
         let found = self.ample.find(input).expect(rt, "a search");
-        same_of(rt, &found, &want, &of);
-        want
+        same_of(rt, &found, &expected, &of);
+        expected
     }
 
     /// Walks, and forward the sets of their patterns.
@@ -138,12 +138,12 @@ impl Listed {
         let dfa = self.ample.dfa();
         let kind = dfa.get_config().get_match_kind();
         let is_reverse = dfa.get_nfa().is_reverse();
-        self.want = list(rt, dfa.get_nfa(), kind, input);
+        self.expected = list(rt, dfa.get_nfa(), kind, input);
         let of = (self.name, kind, input);
         self.ample.walk(rt, input, &mut self.found);
-        same_of(rt, &self.found.as_slice(), &self.want.as_slice(), &of);
+        same_of(rt, &self.found.as_slice(), &self.expected.as_slice(), &of);
         self.tight.walk(rt, input, &mut self.found);
-        same_of(rt, &self.found.as_slice(), &self.want.as_slice(), &of);
+        same_of(rt, &self.found.as_slice(), &self.expected.as_slice(), &of);
         if !is_reverse {
             self.compare_sets(rt, input);
         }
@@ -151,10 +151,20 @@ impl Listed {
 
     fn compare_sets(&mut self, rt: &impl Host, input: &Input<'_>) {
         for capacity in 1..4usize {
-            let want = patterns_of(self.want.as_slice(), input.get_earliest(), capacity);
+            let expected = patterns_of(self.expected.as_slice(), input.get_earliest(), capacity);
             let of = (self.name, capacity, input);
-            same_of(rt, &self.ample.patterns(rt, input, capacity), &want, &of);
-            same_of(rt, &self.tight.patterns(rt, input, capacity), &want, &of);
+            same_of(
+                rt,
+                &self.ample.patterns(rt, input, capacity),
+                &expected,
+                &of,
+            );
+            same_of(
+                rt,
+                &self.tight.patterns(rt, input, capacity),
+                &expected,
+                &of,
+            );
         }
     }
 }
@@ -167,12 +177,12 @@ pub fn prepare(rt: &impl Host, name: Name, nfa: NFA, kind: MatchKind) -> Listed 
     let least = config.cache_capacity(0).skip_cache_capacity_check(true);
     let tight = walker(rt, nfa.clone().expect(rt, "a copy"), least);
     let ample = walker(rt, nfa, config);
-    let (want, found) = (Vec::new(rt.alloc()), Vec::new(rt.alloc()));
+    let (expected, found) = (Vec::new(rt.alloc()), Vec::new(rt.alloc()));
     Listed {
         name,
         tight,
         ample,
-        want,
+        expected,
         found,
     }
 }

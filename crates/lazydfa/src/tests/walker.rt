@@ -6,8 +6,8 @@ ghost use Rattle.regex_automata.specs.Promises.{IsCacheOf};
 
 use super::bench::{counted, search, within};
 use super::plans::pattern_id;
-use super::tells::{Automaton, Caller, Short, Turns, write_told};
-use super::told::Told;
+use super::reported::Reported;
+use super::reports::{Automaton, Caller, Short, Turns, write_reported};
 use super::{Host, check};
 use regex_automata::hybrid::dfa::{Cache, DFA, OverlappingState};
 use regex_automata::hybrid::{BuildError, SearchError};
@@ -169,7 +169,7 @@ impl Walker {
     }
 
     /// Writes what the calls of a walk over this input report, and those between them.
-    fn tell_turns(
+    fn report_turns(
         &mut self,
         rt: &impl Host,
         input: &Input<'_>,
@@ -180,7 +180,7 @@ impl Walker {
         requires { IsWalkOver self.old.dfa input.now walk.old }
     {
         for turn in turns {
-            write_told(rt, text, &self.turn(rt.alloc(), input, *turn, walk));
+            write_reported(rt, text, &self.turn(rt.alloc(), input, *turn, walk));
         }
     }
 
@@ -199,12 +199,12 @@ impl Walker {
             self.hear(rt, input, *turn, walk, turns);
         }
         turns.lend(rt);
-        for (number, owed) in row.4.iter().enumerate() {
-            self.hear(rt, input, owed.0, walk, turns);
-            if turns.refuses(rt, number, owed.1, row.5) {
-                self.hear(rt, input, owed.0, walk, turns);
+        for (number, due) in row.4.iter().enumerate() {
+            self.hear(rt, input, due.0, walk, turns);
+            if turns.refuses(rt, number, due.1, row.5) {
+                self.hear(rt, input, due.0, walk, turns);
             }
-            turns.has_told(rt, owed.1, row.0);
+            turns.has_reported(rt, due.1, row.0);
         }
     }
 
@@ -230,44 +230,44 @@ impl Walker {
         input: &Input<'_>,
         turn: Turn,
         walk: &mut OverlappingState,
-    ) -> Told
+    ) -> Reported
         requires { IsWalkOver self.old.dfa input.now walk.old }
         ensures { IsWalkOver self.new.dfa input.now walk.new }
     {
         match turn {
             Turn::Next => {
                 let stepped = step(&self.dfa, &mut self.cache, input, walk);
-                told_of_step(stepped, walk.get_match())
+                reported_of_step(stepped, walk.get_match())
             }
             Turn::Begin => {
                 *walk = OverlappingState::start();
-                Told::Word("-")
+                Reported::Word("-")
             }
-            Turn::Match => Told::Half(Ok(walk.get_match())),
-            Turn::Copy => told_of_copy(walk),
+            Turn::Match => Reported::Half(Ok(walk.get_match())),
+            Turn::Copy => reported_of_copy(walk),
             _ => self.call(alloc, input, turn),
         }
     }
 
     /// A call that leaves the walk unchanged.
-    fn call(&mut self, alloc: Global, input: &Input<'_>, turn: Turn) -> Told
+    fn call(&mut self, alloc: Global, input: &Input<'_>, turn: Turn) -> Reported
         ensures { self.new.dfa ≡ self.old.dfa }
     {
         match turn {
             Turn::Which(capacity) => self.which(alloc, input, capacity, None),
             Turn::Join(capacity, pattern) => self.which(alloc, input, capacity, Some(pattern)),
             Turn::Insert(pattern) => {
-                Told::of_flag(self.set.try_insert(pattern_id(pattern)) == Ok(true))
+                Reported::of_flag(self.set.try_insert(pattern_id(pattern)) == Ok(true))
             }
             Turn::Fill => join(&self.dfa, &mut self.cache, input, &mut self.set, None),
-            Turn::Find(haystack) => Told::Half(self.find(&Input::new(haystack.as_bytes()))),
+            Turn::Find(haystack) => Reported::Half(self.find(&Input::new(haystack.as_bytes()))),
             Turn::Switch => {
                 self.switch();
-                Told::Word("-")
+                Reported::Word("-")
             }
-            Turn::Reset => Told::of_growth(self.dfa.reset_cache(&mut self.cache)),
-            Turn::Counts => Told::Counts(counted(&self.cache), ""),
-            _ => Told::of_flag(Vec::<u8>::with_capacity(alloc, 1).is_ok()),
+            Turn::Reset => Reported::of_growth(self.dfa.reset_cache(&mut self.cache)),
+            Turn::Counts => Reported::Counts(counted(&self.cache), ""),
+            _ => Reported::of_flag(Vec::<u8>::with_capacity(alloc, 1).is_ok()),
         }
     }
 
@@ -285,12 +285,12 @@ impl Walker {
         input: &Input<'_>,
         capacity: usize,
         given: Option<u8>,
-    ) -> Told
+    ) -> Reported
         ensures { self.new.dfa ≡ self.old.dfa }
     {
         match PatternSet::new(alloc, capacity) {
             Ok(mut set) => join(&self.dfa, &mut self.cache, input, &mut set, given),
-            Err(_) => Told::Refused(BuildError::OutOfMemory),
+            Err(_) => Reported::Refused(BuildError::OutOfMemory),
         }
     }
 
@@ -330,19 +330,19 @@ fn step(
 }
 
 /// What a call of a walk reports. If it fails, the walk has no match.
-fn told_of_step(stepped: Result<(), SearchError>, found: Option<HalfMatch>) -> Told {
+fn reported_of_step(stepped: Result<(), SearchError>, found: Option<HalfMatch>) -> Reported {
     match stepped {
-        Err(_) if found.is_some() => Told::Word("a refusal with a match"),
-        Err(error) => Told::Half(Err(error)),
-        Ok(()) => Told::Half(Ok(found)),
+        Err(_) if found.is_some() => Reported::Word("a refusal with a match"),
+        Err(error) => Reported::Half(Err(error)),
+        Ok(()) => Reported::Half(Ok(found)),
     }
 }
 
 /// The match of a copy, which shares the state of the walk.
-fn told_of_copy(walk: &OverlappingState) -> Told {
+fn reported_of_copy(walk: &OverlappingState) -> Reported {
     match walk.clone() {
-        Ok(copy) => Told::Half(Ok(copy.get_match())),
-        Err(_) => Told::Refused(BuildError::OutOfMemory),
+        Ok(copy) => Reported::Half(Ok(copy.get_match())),
+        Err(_) => Reported::Refused(BuildError::OutOfMemory),
     }
 }
 
@@ -354,7 +354,7 @@ fn join(
     input: &Input<'_>,
     set: &mut PatternSet,
     given: Option<u8>,
-) -> Told
+) -> Reported
     requires { IsCacheOf cache.old dfa.now }
     ensures { IsCacheOf cache.new dfa.now }
 {
@@ -362,8 +362,8 @@ fn join(
         let _ = set.try_insert(pattern_id(pattern));
     }
     match fill(dfa, cache, input, set) {
-        (has, Ok(())) => Told::Word(names(has)),
-        (has, Err(error)) => Told::Names(names(has), error),
+        (has, Ok(())) => Reported::Word(names(has)),
+        (has, Err(error)) => Reported::Names(names(has), error),
     }
 }
 
@@ -395,15 +395,15 @@ impl Caller for Walker {
     }
 
     /// A call that leaves the walk unchanged.
-    fn answer(&mut self, alloc: Global, turn: Turn) -> Told {
+    fn answer(&mut self, alloc: Global, turn: Turn) -> Reported {
         let input = self.over.input();
         self.call(alloc, &input, turn)
     }
 
-    fn tell(&mut self, rt: &impl Host, turns: &[Turn], text: &mut String) {
+    fn report(&mut self, rt: &impl Host, turns: &[Turn], text: &mut String) {
         let input = self.over.input();
         let mut walk = OverlappingState::start();
-        self.tell_turns(rt, &input, turns, &mut walk, text);
+        self.report_turns(rt, &input, turns, &mut walk, text);
     }
 
     fn take(&mut self, rt: &impl Host, row: &Short<Walked, Turn>, turns: &mut Turns) {

@@ -1,8 +1,8 @@
 //! Overlapping walks and sets of patterns: the worked rows.
 
 use super::plans::Shape;
+use super::reports::{Automaton, RowOf, reports_all};
 use super::rows::TWO_WAYS;
-use super::tells::{Automaton, RowOf, tells_all};
 use super::walker::{Over, Turn, Walked, Walker};
 use crate::catalogue::Entry;
 use Automaton::{Forward, Planned, Reverse};
@@ -135,8 +135,8 @@ const SETS: &[Row] = &[
 ];
 
 #[test]
-fn walks_and_sets_tell_their_rows(rt: HostRuntime) {
+fn walks_and_sets_report_their_rows(rt: HostRuntime) {
     for table in [PAIRS, CACHES, CLEARED, SETS] {
-        tells_all::<Walker>(&rt, table);
+        reports_all::<Walker>(&rt, table);
     }
 }

@@ -15,7 +15,7 @@ use Rattle.automata_hybrid.specs.Machines.Machine.{Machine}
 use Rattle.automata_hybrid.specs.Searches.Contracts.{IsSearchEffect}
 use Rattle.automata_hybrid.specs.Walks.Contracts.{IsCallEffect, IsWhichEffect}
 use Rattle.automata_hybrid.specs.Searches.Passes.{IsRefused}
-use Rattle.automata_hybrid.specs.Walks.Answers.{HasTold, IsWalkRefusal, TellsNext}
+use Rattle.automata_hybrid.specs.Walks.Answers.{HasReported, IsWalkRefusal, ReportsNext}
 use Rattle.automata_hybrid.specs.Walks.State.{States, Walk}
 use Rattle.automata_hybrid.specs.Walks.Sets.{IsWhichRefusal}
 use Rattle.regex_automata.specs.Replay.Histories.{Begun, History, after, start}
@@ -91,12 +91,13 @@ AreTokensSearched m h end place old new (t ∷ ts) error =
 
 -- a call of a walk that has reported so many pairs: if it returns Ok, the walk goes on to the next one
 abbrev pub IsCalled :
-    Direction → Machine → Input → (told : ℕ) → (old new : CacheView) → Result (Option HalfMatch) SearchError → Type 0
-IsCalled way m input told old new result =
-    (walk : Walk) × (next : Walk) × (call : Result (Unit {0}) SearchError) × HasTold way m input walk told
-    × OnOk call (TellsNext way m input walk next)
+    Direction → Machine → Input → (reported : ℕ) → (old new : CacheView)
+    → Result (Option HalfMatch) SearchError → Type 0
+IsCalled way m input reported old new result =
+    (walk : Walk) × (next : Walk) × (call : Result (Unit {0}) SearchError) × HasReported way m input walk reported
+    × OnOk call (ReportsNext way m input walk next)
     × IsCallEffect States way m input walk next old new call × (result_err result ≡ result_err call)
-    × IfErr call (IsWalkRefusal States way m new.store input walk told)
+    × IfErr call (IsWalkRefusal States way m new.store input walk reported)
 
 -- the cache of the DFA of a direction, and the other one
 abbrev pub own_of : (reverse : Bool) → Cache → CacheView
@@ -111,7 +112,8 @@ other_of true c = c.forward
 abbrev pub IsWalkStepped : Regex → Option Begun → (old new : Cache) → Result (Option HalfMatch) SearchError → Type 0
 IsWalkStepped r None old new result = ⊥
 IsWalkStepped r (Some w) old new result =
-    IsCalled (direction_of w.reverse) (dfa_of w.reverse r) w.input w.told (own_of w.reverse old) (own_of w.reverse new)
+    IsCalled (direction_of w.reverse) (dfa_of w.reverse r) w.input w.reported
+    (own_of w.reverse old) (own_of w.reverse new)
     result
     × (other_of w.reverse new ≡ other_of w.reverse old)
 

@@ -11,7 +11,7 @@ pub record Begun : Type 0 where
   pub regex : ℕ
   pub reverse : Bool
   pub input : Input
-  pub told : ℕ
+  pub reported : ℕ
 
 -- the number of the current regex, and the walks by their numbers
 pub record History : Type 0 where
@@ -24,7 +24,7 @@ start = record { current = 0; walks = [] }
 
 -- a walk after one more Ok step
 abbrev pub stepped : Begun → Begun
-stepped w = record w { told = w.told + 1 }
+stepped w = record w { reported = w.reported + 1 }
 
 -- the walks, after one more Ok step of walk `k`
 abbrev pub step_at : ℕ → List Begun → List Begun
@@ -37,7 +37,7 @@ abbrev pub after_begin : History → (reverse : Bool) → Input → Reply → Hi
 after_begin h reverse input (reply.Begun (Ok k)) =
     record {
       current = h.current;
-      walks = h.walks ++ record { regex = h.current; reverse = reverse; input = input; told = 0 } ∷ [];
+      walks = h.walks ++ record { regex = h.current; reverse = reverse; input = input; reported = 0 } ∷ [];
     }
 after_begin h reverse input r = h
 

@@ -9,7 +9,7 @@ use Rattle.automata_base.specs.Haystacks.Tapes.{Direction}
 use Rattle.automata_config.specs.declared.error.SearchError.{SearchError}
 use Rattle.automata_hybrid.specs.Cache.Caches.{CacheView}
 use Rattle.automata_hybrid.specs.Machines.Machine.{Machine}
-use Rattle.automata_hybrid.specs.Walks.Answers.{AreWalked, HasTold}
+use Rattle.automata_hybrid.specs.Walks.Answers.{AreWalked, HasReported}
 use Rattle.automata_hybrid.specs.Walks.State.{Walk, Ended}
 use Rattle.regex_automata.specs.Replay.Histories.{Begun, History, after}
 use Rattle.regex_automata.specs.Spans.Contracts.{IsStep}
@@ -25,14 +25,14 @@ use Rattle.regex_automata.specs.declared.replay.walks.KeptWalk.{KeptWalk}
 
 -- a walk has answered so many calls; after its last pair it has ended
 pub record HasAnswered (way : Direction) (m : Machine) (input : Input) (w : Walk) (k : ℕ) : Type 0 where
-  pub told : HasTold way m input w k
+  pub reported : HasReported way m input w k
   pub ended : (pairs : List Pair) → AreWalked way m input pairs → length pairs < k → w.stage ≡ Ended
 
 -- one more call of it: what it returns, and what it leaves
 pub record IsCall (way : Direction) (m : Machine) (input : Input) (old new : Walk)
     (result : Result (Option HalfMatch) SearchError) : Type 0 where
   pub step : (k : ℕ) → HasAnswered way m input old k → IsStep way m input k result
-  pub told : (k : ℕ) → HasAnswered way m input old k → OnOk result (HasAnswered way m input new (k + 1))
+  pub reported : (k : ℕ) → HasAnswered way m input old k → OnOk result (HasAnswered way m input new (k + 1))
   pub kept : (k : ℕ) → HasAnswered way m input old k → OnErr result (HasAnswered way m input new k)
 
 -- and what it does to its cache
@@ -55,7 +55,7 @@ pub record Goes (r : Regex) (old new : KeptWalk) (result : Result (Option HalfMa
   pub reverse : new.reverse ≡ old.reverse
   pub input : new.input ≡ old.input
   pub step : (k : ℕ) → HasAnsweredBy r old k → IsStepFrom r old k result
-  pub told : (k : ℕ) → HasAnsweredBy r old k → OnOk result (HasAnsweredBy r new (k + 1))
+  pub reported : (k : ℕ) → HasAnsweredBy r old k → OnOk result (HasAnsweredBy r new (k + 1))
   pub kept : (k : ℕ) → HasAnsweredBy r old k → OnErr result (HasAnsweredBy r new k)
 
 -- the walk of this number; and one more call of it, which leaves the others
@@ -84,7 +84,7 @@ pub record IsWalk (regexes : List Regex) (w : Begun) (kept : KeptWalk) : Type 0 
   pub regex : kept.regex ≡ w.regex
   pub reverse : kept.reverse ≡ w.reverse
   pub input : kept.input ≡ w.input
-  pub told : (r : Regex) → nth regexes w.regex ≡ Some r → HasAnsweredBy r kept w.told
+  pub reported : (r : Regex) → nth regexes w.regex ≡ Some r → HasAnsweredBy r kept w.reported
 
 -- one for each
 abbrev pub AreWalks : List Regex → List Begun → List KeptWalk → Type 0

@@ -87,7 +87,7 @@ dfa_of true r = r.reverse
 -- the step of a walk
 abbrev pub IsStepOf : Regex → Option Begun → Result (Option HalfMatch) SearchError → Type 0
 IsStepOf r None result = ⊥
-IsStepOf r (Some w) result = IsStep (direction_of w.reverse) (dfa_of w.reverse r) w.input w.told result
+IsStepOf r (Some w) result = IsStep (direction_of w.reverse) (dfa_of w.reverse r) w.input w.reported result
 
 -- a walk takes the next number
 abbrev pub IsNumber : ℕ → Result ℕ SearchError → Type 0
@@ -96,27 +96,27 @@ IsNumber n (Err e) = IsMemory e
 
 -- the reply is the value of its request, by the current regex alone, and of a step by its walk alone; or an error that
 -- the request's own call may give
-abbrev pub IsOwed : Regex → (walks : List Begun) → Request → Reply → Type 0
-IsOwed r walks (request.SearchFwd input) = OnHalf (IsHalf Forward r.forward input)
-IsOwed r walks (request.SearchRev input) = OnHalf (IsHalf Backward r.reverse input)
-IsOwed r walks (request.Find input) = OnSpan (IsSpanOf r input)
-IsOwed r walks (request.IsMatch input) = OnTruth (IsTruthOf r input)
-IsOwed r walks (request.Iterate input) = OnSpans (AreMatchesUpto r input)
-IsOwed r walks (request.Tokenise input) = OnTokens (AreTokensUpto r.forward input)
-IsOwed r walks (request.BeginWalk reverse input) = OnBegun (IsNumber (length walks))
-IsOwed r walks (request.StepWalk k) = OnHalf (IsStepOf r (nth walks k))
-IsOwed r walks (request.Which capacity input) = OnPatterns (ArePatternsUpto r.forward input capacity)
-IsOwed r walks (request.Reset k) = OnDone (λ result. IfErr result IsMemory)
+abbrev pub IsOwnValue : Regex → (walks : List Begun) → Request → Reply → Type 0
+IsOwnValue r walks (request.SearchFwd input) = OnHalf (IsHalf Forward r.forward input)
+IsOwnValue r walks (request.SearchRev input) = OnHalf (IsHalf Backward r.reverse input)
+IsOwnValue r walks (request.Find input) = OnSpan (IsSpanOf r input)
+IsOwnValue r walks (request.IsMatch input) = OnTruth (IsTruthOf r input)
+IsOwnValue r walks (request.Iterate input) = OnSpans (AreMatchesUpto r input)
+IsOwnValue r walks (request.Tokenise input) = OnTokens (AreTokensUpto r.forward input)
+IsOwnValue r walks (request.BeginWalk reverse input) = OnBegun (IsNumber (length walks))
+IsOwnValue r walks (request.StepWalk k) = OnHalf (IsStepOf r (nth walks k))
+IsOwnValue r walks (request.Which capacity input) = OnPatterns (ArePatternsUpto r.forward input capacity)
+IsOwnValue r walks (request.Reset k) = OnDone (λ result. IfErr result IsMemory)
 
-abbrev pub IsOwedBy : Option Regex → (walks : List Begun) → Request → Reply → Type 0
-IsOwedBy None walks q answer = ⊥
-IsOwedBy (Some r) walks q answer = IsOwed r walks q answer
+abbrev pub IsOwnValueBy : Option Regex → (walks : List Begun) → Request → Reply → Type 0
+IsOwnValueBy None walks q answer = ⊥
+IsOwnValueBy (Some r) walks q answer = IsOwnValue r walks q answer
 
 -- a reply after this history: bad exactly for the request's fault, and otherwise its own value
 abbrev pub IsReply : List Regex → History → Request → Reply → Type 0
 IsReply regexes h q answer =
     MatchOption (fault_of regexes h q)
-    (IsOwedBy (nth regexes h.current) h.walks q answer)
+    (IsOwnValueBy (nth regexes h.current) h.walks q answer)
     (λ why. answer ≡ reply.Bad why)
 
 -- one reply for each request, each after the history that the ones before it made
@@ -131,34 +131,35 @@ abbrev pub AreReplies : List Regex → List Request → List Reply → Type 0
 AreReplies regexes script replies = AreRepliesAfter regexes start script replies
 
 -- the Ok reply to a step of walk `k`, before those that come later
-abbrev pub tell : ℕ → Request → Reply → List (Option HalfMatch) → List (Option HalfMatch)
-tell k (request.StepWalk j) (reply.Half (Ok found)) later = if j == k then found ∷ later else later
-tell k (request.StepWalk j) other later = later
-tell k q r later = later
+abbrev pub report : ℕ → Request → Reply → List (Option HalfMatch) → List (Option HalfMatch)
+report k (request.StepWalk j) (reply.Half (Ok found)) later = if j == k then found ∷ later else later
+report k (request.StepWalk j) other later = later
+report k q r later = later
 
 -- the Ok replies to the steps of walk `k`, in their order
-abbrev pub told_to : ℕ → List Request → List Reply → List (Option HalfMatch)
-told_to k [] replies = []
-told_to k (q ∷ qs) [] = []
-told_to k (q ∷ qs) (r ∷ rs) = tell k q r (told_to k qs rs)
+abbrev pub reported_to : ℕ → List Request → List Reply → List (Option HalfMatch)
+reported_to k [] replies = []
+reported_to k (q ∷ qs) [] = []
+reported_to k (q ∷ qs) (r ∷ rs) = report k q r (reported_to k qs rs)
 
--- they are the pairs of a list from number `told` on, and then none
-abbrev pub AreToldFrom : ℕ → List Pair → List (Option HalfMatch) → Type 0
-AreToldFrom told pairs [] = Unit {0}
-AreToldFrom told pairs (found ∷ later) = (found ≡ half_nth pairs told) × AreToldFrom (suc told) pairs later
+-- they are the pairs of a list from number `reported` on, and then none
+abbrev pub AreReportedFrom : ℕ → List Pair → List (Option HalfMatch) → Type 0
+AreReportedFrom reported pairs [] = Unit {0}
+AreReportedFrom reported pairs (found ∷ later) =
+    (found ≡ half_nth pairs reported) × AreReportedFrom (suc reported) pairs later
 
 -- they are the pairs of the walk over an input, and then none: for every NFA those that its passes report (there is one
 -- such list), and without a look cycle those of the ordered paths
-pub record TellWalk (way : Direction) (m : Machine) (input : Input) (steps : List (Option HalfMatch)) : Type 0 where
-  pub told : (pairs : List Pair) → AreWalked way m input pairs → AreToldFrom 0 pairs steps
+pub record ReportWalk (way : Direction) (m : Machine) (input : Input) (steps : List (Option HalfMatch)) : Type 0 where
+  pub reported : (pairs : List Pair) → AreWalked way m input pairs → AreReportedFrom 0 pairs steps
   pub paths :
       IsLookAcyclic (nfa_of m.nfa)
       → (pairs : List Pair) → IsOverlapping way (engine_of m.nfa (match_kind_of m.config)) input pairs
-      → AreToldFrom 0 pairs steps
+      → AreReportedFrom 0 pairs steps
 
 -- the Ok replies to the steps of each walk, in their order, are the pairs of its list, and then none
-abbrev pub TellWalks : List Regex → List Request → List Reply → Type 0
-TellWalks regexes script replies =
+abbrev pub ReportWalks : List Regex → List Request → List Reply → Type 0
+ReportWalks regexes script replies =
     (k : ℕ) (w : Begun) (r : Regex)
     → nth (history start script replies).walks k ≡ Some w → nth regexes w.regex ≡ Some r
-    → TellWalk (direction_of w.reverse) (dfa_of w.reverse r) w.input (told_to k script replies)
+    → ReportWalk (direction_of w.reverse) (dfa_of w.reverse r) w.input (reported_to k script replies)

@@ -4,7 +4,7 @@ use Rattle.automata_base.specs.Haystacks.Input.{Input}
 use Rattle.automata_base.specs.Haystacks.Matches.{Match}
 use Rattle.automata_hybrid.specs.Machines.Machine.{Machine}
 use Rattle.automata_hybrid.specs.Searches.Passes.{Skips}
-use Rattle.regex_automata.specs.Spans.IsMatch.{IsMatchTold}
+use Rattle.regex_automata.specs.Spans.IsMatch.{IsMatchReported}
 use Rattle.regex_automata.specs.Spans.Outcomes.{FindsMatch}
 use Rattle.regex_automata.specs.declared.hybrid.regex.Regex.{Regex}
 use Rattle.automata_config.specs.Options.{match_kind_of}
@@ -28,7 +28,7 @@ abbrev pub TruthsAgree : Type 0
 TruthsAgree =
     (m other : Machine) (input : Input) (first second : Bool)
     → m.nfa ≡ other.nfa → match_kind_of m.config ≡ match_kind_of other.config
-    → IsMatchTold m input first → IsMatchTold other input second
+    → IsMatchReported m input first → IsMatchReported other input second
     → first ≡ second
 
 -- if the input is not earliest or no place is skipped, there is a match exactly if a search finds one
@@ -36,4 +36,4 @@ abbrev pub TruthIffFound : Type 0
 TruthIffFound =
     (p : Regex) (input : Input) (truth : Bool) (answer : Option Match)
     → (input.earliest ≡ false) ⊎ (Skips p.forward → ⊥)
-    → IsMatchTold p.forward input truth → FindsMatch p input answer → truth ≡ is_some answer
+    → IsMatchReported p.forward input truth → FindsMatch p input answer → truth ≡ is_some answer

@@ -20,12 +20,12 @@ use Rattle.automata_hybrid.specs.Searches.Contracts.{IsMemory, IsStoreOf, IsUnhi
 use Rattle.automata_hybrid.specs.Searches.Contracts.{unsupported_error}
 use Rattle.automata_hybrid.specs.Walks.Contracts.{MayRefuseCall, MayRefuseWhich}
 use Rattle.automata_hybrid.specs.Walks.Progress.{IsOpenAfter}
-use Rattle.automata_hybrid.specs.Walks.Answers.{AreWalked, HasTold, half_nth}
+use Rattle.automata_hybrid.specs.Walks.Answers.{AreWalked, HasReported, half_nth}
 use Rattle.automata_hybrid.specs.Walks.State.{Ended, Walk}
-use Rattle.automata_hybrid.specs.Searches.Within.{LiesIn}
+use Rattle.automata_hybrid.specs.Searches.Bounds.{LiesIn}
 use Rattle.regex_automata.specs.Spans.Iteration.{AreCollected, IsBeginning, IsNextRefusal}
 use Rattle.automata_hybrid.specs.Searches.Passes.{Skips}
-use Rattle.regex_automata.specs.Spans.IsMatch.{IsMatchRefused, IsMatchTold, IsNearestThere, IsTruthFound}
+use Rattle.regex_automata.specs.Spans.IsMatch.{IsMatchRefused, IsMatchReported, IsNearestThere, IsTruthFound}
 use Rattle.regex_automata.specs.Spans.Outcomes.{FindsMatch, MatchLiesIn}
 use Rattle.regex_automata.specs.Spans.Errors.{IsFree, IsOfMemory, IsRegexRefusal}
 use Rattle.regex_automata.specs.Regexes.SoundPairs.{AreLookAcyclic, IsSoundPair, forward_engine, reverse_engine}
@@ -38,29 +38,30 @@ abbrev pub AreStoresOf : Cache → Regex → Type 0
 AreStoresOf c p = IsStoreOf c.forward.store p.forward × IsStoreOf c.reverse.store p.reverse
 
 -- some cache of the DFA, within its settings, gives this error to a call of a walk that has reported so many pairs
-abbrev pub MayRefuseStep : Direction → Machine → Input → (told : ℕ) → SearchError → Type 0
-MayRefuseStep way m input told e = (w : Walk) × HasTold way m input w told × MayRefuseCall way m input w told e
+abbrev pub MayRefuseStep : Direction → Machine → Input → (reported : ℕ) → SearchError → Type 0
+MayRefuseStep way m input reported e =
+    (w : Walk) × HasReported way m input w reported × MayRefuseCall way m input w reported e
 
 -- what a call of a walk returns after so many that returned Ok
-pub record IsStep (way : Direction) (m : Machine) (input : Input) (told : ℕ)
+pub record IsStep (way : Direction) (m : Machine) (input : Input) (reported : ℕ)
     (result : Result (Option HalfMatch) SearchError) : Type 0 where
   -- for every NFA, the next pair of the list that its passes report, and none after the last one
   pub pair : IfOk result (λ found. (pairs : List Pair) → AreWalked way m input pairs
-      → found ≡ half_nth pairs told)
+      → found ≡ half_nth pairs reported)
   -- without a look cycle, that of the list of the ordered paths
   pub paths :
       IsLookAcyclic (nfa_of m.nfa)
       → IfOk result (λ found.
       (pairs : List Pair) → IsOverlapping way (engine_of m.nfa (match_kind_of m.config)) input pairs
-      → found ≡ half_nth pairs told)
+      → found ≡ half_nth pairs reported)
   -- with it the walk has reported so many, and no unit that it read is a quit byte
-  pub clean : IfOk result (λ found. (w : Walk) × HasTold way m input w (suc told))
+  pub clean : IfOk result (λ found. (w : Walk) × HasReported way m input w (suc reported))
   -- it lies in the input's span, and its pattern is one of the NFA's
   pub within : IfOk result (λ found. IfSome found (LiesIn m input))
   -- an error is one that some cache may give
-  pub errors : IfErr result (MayRefuseStep way m input told)
+  pub errors : IfErr result (MayRefuseStep way m input reported)
   -- after the end there is none
-  pub ended : (pairs : List Pair) → AreWalked way m input pairs → length pairs < told → IfErr result (λ e. ⊥)
+  pub ended : (pairs : List Pair) → AreWalked way m input pairs → length pairs < reported → IfErr result (λ e. ⊥)
   -- an anchored mode that is not supported is reported
   pub unsupported : IsUnsupported way m input → result ≡ Err (unsupported_error input)
   -- if nothing prevents it, the only error is out of memory
@@ -71,7 +72,7 @@ abbrev pub MayRefuseSpan : Regex → Input → SearchError → Type 0
 MayRefuseSpan p input e = (c : Cache) × AreStoresOf c p × IsRegexRefusal p c input e
 
 -- what a search for a span returns by the passes of its two DFAs
-pub record IsSpanTold (p : Regex) (input : Input) (result : Result (Option Match) SearchError) : Type 0 where
+pub record IsSpanReported (p : Regex) (input : Input) (result : Result (Option Match) SearchError) : Type 0 where
   -- what the passes of both report
   pub found : IfOk result (FindsMatch p input)
   -- it lies in the input's span, and its pattern is one of the NFAs'
@@ -86,7 +87,7 @@ pub record IsSpanTold (p : Regex) (input : Input) (result : Result (Option Match
 -- what a search for a span returns
 pub record IsSpanOf (p : Regex) (input : Input) (result : Result (Option Match) SearchError) : Type 0 where
   -- for every two NFAs, what the passes of both report
-  pub told : IsSpanTold p input result
+  pub reported : IsSpanReported p input result
   -- without a look cycle, what the ordered paths through both define
   pub answer : AreLookAcyclic p → IfOk result (TryFinds (forward_engine p) (reverse_engine p) input)
   -- over a sound pair, the span of the path that the forward search chose
@@ -105,7 +106,7 @@ pub record IsTruthOf (p : Regex) (input : Input) (result : Result Bool SearchErr
   -- for every NFA, whether its search finds a match, and whether the passes over an input that is not earliest report
   -- one
   pub found : IfOk result (IsTruthFound p.forward input)
-  pub told : IfOk result (IsMatchTold p.forward input)
+  pub reported : IfOk result (IsMatchReported p.forward input)
   -- without a look cycle, whether the ordered paths have an answer
   pub answer : IsLookAcyclic (nfa_of p.forward.nfa) → IfOk result (IsMatch (forward_engine p) input)
   -- for every NFA too, if no place is skipped: whether an earliest search has a nearest end
@@ -120,26 +121,26 @@ pub record IsTruthOf (p : Regex) (input : Input) (result : Result Bool SearchErr
   pub done : input.end < input.start → result ≡ Ok false
 
 -- an item of an iteration that goes on, if the anchored mode is not supported
-abbrev pub TellsUnsupported : Regex → Input → (ended : Bool) → Option (Result Match SearchError) → Type 0
-TellsUnsupported p input ended item =
+abbrev pub ReportsUnsupported : Regex → Input → (ended : Bool) → Option (Result Match SearchError) → Type 0
+ReportsUnsupported p input ended item =
     ended ≡ false → IsUnsupported Forward p.forward input → item ≡ Some (Err (unsupported_error input))
 
 -- where the search for a match after these begins, and where the last of these ended
-abbrev pub place_behind : ℕ → List Match → ℕ
-place_behind start [] = start
-place_behind start (m ∷ ms) = place_behind m.end ms
+abbrev pub place_after : ℕ → List Match → ℕ
+place_after start [] = start
+place_after start (m ∷ ms) = place_after m.end ms
 
-abbrev pub end_behind : Option ℕ → List Match → Option ℕ
-end_behind last [] = last
-end_behind last (m ∷ ms) = end_behind (Some m.end) ms
+abbrev pub end_after : Option ℕ → List Match → Option ℕ
+end_after last [] = last
+end_after last (m ∷ ms) = end_after (Some m.end) ms
 
 -- caches give this error to the search for the match after these
-abbrev pub IsRefusedBehind : Regex → Cache → Input → List Match → SearchError → Type 0
-IsRefusedBehind p c input ms e = IsNextRefusal p c (from (place_behind input.start ms) input) (end_behind None ms) e
+abbrev pub IsRefusedAfter : Regex → Cache → Input → List Match → SearchError → Type 0
+IsRefusedAfter p c input ms e = IsNextRefusal p c (from (place_after input.start ms) input) (end_after None ms) e
 
 -- some caches of the regex give this error; or it is out of memory, there or for the list
 abbrev pub MayRefuseNext : Regex → Input → List Match → SearchError → Type 0
-MayRefuseNext p input ms e = IsMemory e ⊎ ((c : Cache) × AreStoresOf c p × IsRefusedBehind p c input ms e)
+MayRefuseNext p input ms e = IsMemory e ⊎ ((c : Cache) × AreStoresOf c p × IsRefusedAfter p c input ms e)
 
 -- the matches of an input, one after another; or the first ones, and the error that ended them
 pub record AreMatchesUpto (p : Regex) (input : Input) (ms : List Match) (error : Option SearchError) : Type 0 where
@@ -180,9 +181,9 @@ MayRefusePatterns m input capacity found e =
 
 -- the walk of a set has made calls as long as the set could take more, until it ended or the set takes no more; no unit
 -- that it read is a quit byte
-abbrev pub HasToldSet : Machine → Input → (set : List Bool) → Type 0
-HasToldSet m input set =
-    (calls : ℕ) × (walk : Walk) × HasTold Forward m input walk calls
+abbrev pub HasReportedSet : Machine → Input → (set : List Bool) → Type 0
+HasReportedSet m input set =
+    (calls : ℕ) × (walk : Walk) × HasReported Forward m input walk calls
     × ((k : ℕ) → k < calls → IsOpenAfter m input set k)
     × ((walk.stage ≡ Ended)
     ⊎ ((pairs : List Pair) → AreWalked Forward m input pairs → IsOpen input set (take calls pairs) → ⊥))
@@ -194,13 +195,13 @@ pub record ArePatternsUpto (m : Machine) (input : Input) (capacity : ℕ) (found
   -- in increasing order
   pub rise : AreRising 0 found
   -- for every NFA, those that the walk reports
-  pub told : error ≡ None → ArePatterns (AreWalked Forward m input) input capacity [] found
+  pub reported : error ≡ None → ArePatterns (AreWalked Forward m input) input capacity [] found
   -- without a look cycle, those of the ordered paths
   pub paths :
       IsLookAcyclic (nfa_of m.nfa) → error ≡ None
       → ArePatternsFound (engine_of m.nfa (match_kind_of m.config)) input capacity [] found
   -- no unit that was read up to the last one is a quit byte
-  pub clean : error ≡ None → HasToldSet m input (empty_set capacity)
+  pub clean : error ≡ None → HasReportedSet m input (empty_set capacity)
   -- an error is one that some cache may give
   pub errors : IfSome error (MayRefusePatterns m input capacity found)
   -- if the anchored mode is not supported there are none, and that is reported, or out of memory for the set or the

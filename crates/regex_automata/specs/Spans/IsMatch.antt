@@ -5,7 +5,7 @@ use Rattle.automata_base.specs.Nfas.Engines.{engine_of}
 use Rattle.automata_base.specs.Haystacks.Input.{Input}
 use Rattle.automata_base.specs.Answers.Spans.{in_full}
 use Rattle.automata_base.specs.Haystacks.Tapes.{Forward}
-use Rattle.automata_base.specs.Answers.OfPasses.{IsNearestAnswer, IsTold}
+use Rattle.automata_base.specs.Answers.OfPasses.{IsNearestAnswer, IsReported}
 use Rattle.automata_config.specs.declared.error.SearchError.{SearchError}
 use Rattle.automata_hybrid.specs.Cache.Caches.{CacheView}
 use Rattle.automata_hybrid.specs.Searches.Costs.{IsCostOfSearch}
@@ -30,9 +30,9 @@ IsTruthFound m input truth =
     (asked : Input) × (o : Option Half) × IsAsked m input asked × IsFound Forward m asked o × (truth ≡ is_some o)
 
 -- by what passes report of the input when it is not earliest
-abbrev pub IsMatchTold : Machine → Input → Bool → Type 0
-IsMatchTold m input truth =
-    (o : Option Half) × IsTold Forward m.nfa (match_kind_of m.config) (in_full input) o × (truth ≡ is_some o)
+abbrev pub IsMatchReported : Machine → Input → Bool → Type 0
+IsMatchReported m input truth =
+    (o : Option Half) × IsReported Forward m.nfa (match_kind_of m.config) (in_full input) o × (truth ≡ is_some o)
 
 -- and by the nearest end of an accepting path, which an earliest search finds
 abbrev pub IsNearestThere : Machine → Input → Bool → Type 0

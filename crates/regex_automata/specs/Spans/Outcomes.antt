@@ -3,7 +3,7 @@ use Rattle.std.specs.Prelude.{ℕ, ◌<◌, ◌≤◌, Option, length}
 use Rattle.automata_base.specs.Answers.Answers.{Half}
 use Rattle.automata_base.specs.Haystacks.Input.{Input}
 use Rattle.automata_base.specs.Haystacks.Matches.{Match}
-use Rattle.automata_base.specs.Answers.Spans.{FindsStartBy, Outcome, Found, TellsBy}
+use Rattle.automata_base.specs.Answers.Spans.{FindsStartBy, Outcome, Found, ReportsBy}
 use Rattle.automata_base.specs.Haystacks.Tapes.{Forward, Backward}
 use Rattle.automata_hybrid.specs.Searches.Passes.{IsFound}
 use Rattle.regex_automata.specs.declared.hybrid.regex.Regex.{Regex}
@@ -15,7 +15,7 @@ IsStartFound p input half start = FindsStartBy (IsFound Backward p.reverse) (for
 
 abbrev pub IsOutcome : Regex → Input → Outcome → Type 0
 IsOutcome p input outcome =
-    TellsBy (IsFound Forward p.forward) (IsFound Backward p.reverse) (forward_engine p) input outcome
+    ReportsBy (IsFound Forward p.forward) (IsFound Backward p.reverse) (forward_engine p) input outcome
 
 -- it returns this match, or none
 abbrev pub FindsMatch : Regex → Input → Option Match → Type 0

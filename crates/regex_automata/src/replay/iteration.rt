@@ -5,12 +5,12 @@ ghost use Rattle.automata_hybrid.specs.Cache.Caches.{IsCacheOf};
 ghost use Rattle.automata_hybrid.specs.Searches.Contracts.{IsMemory, IsUnsupported, unsupported_error};
 ghost use Rattle.regex_automata.specs.Spans.Iteration.{AreCollected};
 ghost use Rattle.regex_automata.specs.Spans.Outcomes.{FindsMatch};
-ghost use Rattle.regex_automata.specs.Spans.Contracts.{AreMatchesUpto, IsRefusedBehind};
+ghost use Rattle.regex_automata.specs.Spans.Contracts.{AreMatchesUpto, IsRefusedAfter};
 ghost use Rattle.regex_automata.specs.Regexes.Caches.{AreCachesOf};
 ghost use Rattle.regex_automata.specs.Replay.Caches.{AreSearched};
 
 use crate::hybrid::regex::{Cache, Regex};
-use automata_base::laws::{start_is_right, told_is_right};
+use automata_base::laws::{reported_is_right, start_is_right};
 use automata_base::util::search::{Input, Match};
 use automata_config::error::SearchError;
 use std::alloc::Global;
@@ -24,11 +24,11 @@ pub fn matches_upto(
 ) -> (Vec<Match>, Option<SearchError>)
     requires { AreCachesOf cache.old regex.now }
     ensures of { AreCachesOf cache.new regex.now }
-    ensures owed { AreMatchesUpto regex.now input.entry result.0.items result.1 }
+    ensures returned { AreMatchesUpto regex.now input.entry result.0.items result.1 }
     ensures made { AreSearched regex.now cache.old cache.new input.entry None result.0.items result.1 }
 {
-    told_is_right(regex.forward().get_nfa());
-    told_is_right(regex.reverse().get_nfa());
+    reported_is_right(regex.forward().get_nfa());
+    reported_is_right(regex.reverse().get_nfa());
     start_is_right();
     let _haystack = input.haystack();
     let all = take_matches(alloc, regex, cache, input);
@@ -47,7 +47,7 @@ fn take_matches(
     ensures forward { IsCacheOf cache.new.forward regex.now.forward }
     ensures reverse { IsCacheOf cache.new.reverse regex.now.reverse }
     ensures found { AreCollected (FindsMatch regex.now) input.entry result.0.items result.1 }
-    ensures refusal { IfSome result.1 (λ e. IsMemory e ⊎ IsRefusedBehind regex.now cache.new input.entry result.0.items
+    ensures refusal { IfSome result.1 (λ e. IsMemory e ⊎ IsRefusedAfter regex.now cache.new input.entry result.0.items
         e) }
     ensures unsupported { IsUnsupported Forward regex.now.forward input.entry
         → (result.0.items ≡ []) × (result.1 ≡ Some (unsupported_error input.entry)) }

@@ -1,7 +1,7 @@
 //! A list of requests, answered in turn over one cache.
 ghost use Rattle.std.specs.Prelude.{[], IfOk};
 ghost use Rattle.regex_automata.specs.Replay.Histories.{start};
-ghost use Rattle.regex_automata.specs.Replay.Replies.{AreReplies, TellWalks};
+ghost use Rattle.regex_automata.specs.Replay.Replies.{AreReplies, ReportWalks};
 ghost use Rattle.regex_automata.specs.Replay.Caches.{AreAnswered, AreAnsweredAfter};
 ghost use Rattle.regex_automata.specs.Replay.Players.{HasPlayed};
 
@@ -31,7 +31,7 @@ pub fn replay(
     ensures replies { IfOk result (λ replies. AreReplies regexes.now script.now replies.items) }
 
     // The Ok replies to the steps of a walk are, in order, the matches of its list, and then none.
-    ensures walks { IfOk result (λ replies. TellWalks regexes.now script.now replies.items) }
+    ensures walks { IfOk result (λ replies. ReportWalks regexes.now script.now replies.items) }
 
     // One cache serves all requests. It is fresh at first and after an Ok reset. An error is that of a call on the
     // cache as the request before left it.
@@ -50,7 +50,7 @@ fn answer_all<'h>(
     script: &[Request<'h>],
 ) -> Result<Vec<Reply>, AllocError>
     requires { HasPlayed start player }
-    ensures owed { IfOk result (λ replies. AreReplies player.entry.regexes.now script.now replies.items) }
+    ensures returned { IfOk result (λ replies. AreReplies player.entry.regexes.now script.now replies.items) }
     ensures made { IfOk result (λ replies. AreAnsweredAfter player.entry.regexes.now start player.entry.cache script.now
         replies.items) }
 {

@@ -23,15 +23,15 @@ pub fn patterns_below(
 ) -> (Vec<PatternID>, Option<SearchError>)
     requires { IsCacheOf cache.old dfa.now }
     ensures of { IsCacheOf cache.new dfa.now }
-    ensures owed { ArePatternsUpto dfa.now input.now capacity result.0.items result.1 }
+    ensures returned { ArePatternsUpto dfa.now input.now capacity result.0.items result.1 }
     ensures made { ArePatternsSearched dfa.now input.now capacity cache.old cache.new result.0.items result.1 }
 {
     let Ok(mut set) = PatternSet::new(alloc, capacity) else {
         return (Vec::new(alloc), Some(SearchError::OutOfMemory));
     };
-    let told = dfa.try_which_overlapping_matches(cache, input, &mut set);
+    let reported = dfa.try_which_overlapping_matches(cache, input, &mut set);
     match list_members(alloc, &set) {
-        Ok(found) => (found, told.err()),
+        Ok(found) => (found, reported.err()),
         Err(_) => (Vec::new(alloc), Some(SearchError::OutOfMemory)),
     }
 }

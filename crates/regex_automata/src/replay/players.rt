@@ -30,7 +30,7 @@ pub struct Player<'r, 'h> {
 
 impl<'r, 'h> Player<'r, 'h> {
     /// Before the first request: regex 0 is current.
-    #[tactic(auto, using(crate::proofs::Owed::fresh_caches))]
+    #[tactic(auto, using(crate::proofs::Replies::Contracts::fresh_caches))]
     pub fn new(
         alloc: Global,
         regexes: &'r [Regex],
@@ -139,7 +139,7 @@ impl<'r, 'h> Player<'r, 'h> {
     }
 
     /// Makes another regex current. An error changes nothing.
-    #[tactic(auto, using(crate::proofs::Owed::fresh_caches))]
+    #[tactic(auto, using(crate::proofs::Replies::Contracts::fresh_caches))]
     fn reset(&mut self, number: usize) -> Reply
         requires { (h : History) × HasPlayed h self.old }
         ensures regexes { self.new.regexes.now ≡ self.old.regexes.now }

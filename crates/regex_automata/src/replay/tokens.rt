@@ -19,7 +19,7 @@ pub fn tokens_upto(
 ) -> (Vec<Match>, Option<TokenError>)
     requires { AreCachesOf cache.old regex.now }
     ensures of { AreCachesOf cache.new regex.now }
-    ensures owed { AreTokensUpto regex.now.forward input.entry result.0.items result.1 }
+    ensures returned { AreTokensUpto regex.now.forward input.entry result.0.items result.1 }
     ensures made { AreTokensSearched regex.now.forward input.entry.haystack input.entry.end input.entry.start
         cache.old cache.new result.0.items result.1 }
 {

@@ -32,7 +32,7 @@ fn step_fwd(
     state: &mut OverlappingState,
 ) -> Result<Option<HalfMatch>, SearchError>
     requires of { IsCacheOf cache.old dfa.now }
-    requires told { (k : ℕ) × HasAnswered Forward dfa.now input.now state.old k }
+    requires reported { (k : ℕ) × HasAnswered Forward dfa.now input.now state.old k }
     ensures of { IsCacheOf cache.new dfa.now }
     ensures call { IsCall Forward dfa.now input.now state.old state.new result }
     ensures made { MakesCall Forward dfa.now input.now state.old cache.old cache.new result }
@@ -51,7 +51,7 @@ fn step_rev(
     state: &mut OverlappingState,
 ) -> Result<Option<HalfMatch>, SearchError>
     requires of { IsCacheOf cache.old dfa.now }
-    requires told { (k : ℕ) × HasAnswered Backward dfa.now input.now state.old k }
+    requires reported { (k : ℕ) × HasAnswered Backward dfa.now input.now state.old k }
     ensures of { IsCacheOf cache.new dfa.now }
     ensures call { IsCall Backward dfa.now input.now state.old state.new result }
     ensures made { MakesCall Backward dfa.now input.now state.old cache.old cache.new result }
@@ -71,7 +71,7 @@ fn step(
     state: &mut OverlappingState,
 ) -> Result<Option<HalfMatch>, SearchError>
     requires of { AreCachesOf cache.old regex.now }
-    requires told { (k : ℕ) × HasAnswered (direction_of reverse) (dfa_of reverse regex.now) input.now state.old k }
+    requires reported { (k : ℕ) × HasAnswered (direction_of reverse) (dfa_of reverse regex.now) input.now state.old k }
     ensures of { AreCachesOf cache.new regex.now }
     ensures call { IsCall (direction_of reverse) (dfa_of reverse regex.now) input.now state.old state.new result }
     ensures made { MakesCall (direction_of reverse) (dfa_of reverse regex.now) input.now state.old
@@ -93,7 +93,7 @@ pub fn step_at(
 ) -> Result<Option<HalfMatch>, SearchError>
     requires number { number < length walks.old }
     requires of { AreCachesOf cache.old regex.now }
-    requires told { (old : KeptWalk) → IsKept walks.old number old → (k : ℕ) × HasAnsweredBy regex.now old k }
+    requires reported { (old : KeptWalk) → IsKept walks.old number old → (k : ℕ) × HasAnsweredBy regex.now old k }
     ensures of { AreCachesOf cache.new regex.now }
     ensures goes { GoesAt regex.now number walks.old walks.new result }
     ensures made { MakesStepAt regex.now number walks.old cache.old cache.new result }

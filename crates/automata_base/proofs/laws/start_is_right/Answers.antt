@@ -1,9 +1,9 @@
 -- The theorems are lemmas.
-use Rattle.automata_base.proofs.Spans.Right.{far_right, span_right}
-use Rattle.automata_base.proofs.Spans.Total.{span_found}
-use Rattle.automata_base.proofs.Spans.Once.{span_once, answer_once, spans_once, match_iff_find}
-use Rattle.automata_base.proofs.Spans.Rising.{spans_right, spans_rise, found_rise}
-use Rattle.automata_base.proofs.Spans.Units.{back_meets_none}
+use Rattle.automata_base.proofs.Answers.Right.{far_right, span_right}
+use Rattle.automata_base.proofs.Answers.Total.{span_found}
+use Rattle.automata_base.proofs.Answers.Once.{span_once, answer_once, spans_once, match_iff_find}
+use Rattle.automata_base.proofs.Answers.Rising.{spans_right, spans_rise, found_rise}
+use Rattle.automata_base.proofs.Answers.Units.{back_meets_none}
 use Rattle.automata_base.proofs.laws.start_is_right.Goals as goal
 
 pub returns-clause-starts : goal.returns-clause-starts

@@ -1,5 +1,5 @@
-use Rattle.automata_base.proofs.Determinizing.Alike.{behind_alike, dead_stays}
-use Rattle.automata_base.proofs.Determinizing.AlikeClasses.{class_step, class_quits}
+use Rattle.automata_base.proofs.Powersets.Alike.{behind_alike, dead_stays}
+use Rattle.automata_base.proofs.Powersets.AlikeClasses.{class_step, class_quits}
 use Rattle.automata_base.proofs.laws.steps_are_alike.Goals as goal
 
 pub returns-clause-classes : goal.returns-clause-classes

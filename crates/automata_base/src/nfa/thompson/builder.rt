@@ -36,9 +36,10 @@ impl Builder {
     ghost use Rattle.automata_base.specs.Nfas.Drafts.{blank, default_flags, with_states, with_flags, started, finished};
     ghost use Rattle.automata_base.specs.Nfas.Drafts.{prefix_of};
     ghost use Rattle.automata_base.specs.Nfas.Drafts.{IsAdding, IsAddingOf, AreBuilt, outline, built};
-    ghost use Rattle.automata_base.specs.Nfas.Errors.{door_refusal};
+    ghost use Rattle.automata_base.specs.Nfas.Errors.{states_refusal};
     ghost use Rattle.automata_base.specs.Nfas.Shapes.{Shape, shape_added, patched, EmptyShape, RangeShape, SparseShape};
-    ghost use Rattle.automata_base.specs.Nfas.Shapes.{LookShape, UnionShape, UnionReverseShape, CaptureShape, FailShape};
+    ghost use Rattle.automata_base.specs.Nfas.Shapes.{LookShape, UnionShape, UnionReverseShape, CaptureShape};
+    ghost use Rattle.automata_base.specs.Nfas.Shapes.{FailShape};
     ghost use Rattle.automata_base.specs.Nfas.Shapes.{MatchShape};
 
     /// A builder without states, whose NFA is neither in UTF-8 mode nor reversed, and whose lines end in `\n`.
@@ -313,10 +314,10 @@ impl Builder {
         ensures same { IfOk result (λ nfa. outline nfa ≡ built self.now start_anchored start_unanchored) }
         ensures unfinished { (p : ℕ) → self.now.pattern ≡ Some p → result ≡ Err BuildError.UnfinishedPattern }
         ensures refused { (states : List State) (error : NfaError) → self.now.pattern ≡ None → AreBuilt self.now states
-            → door_refusal states start_anchored start_unanchored self.now.starts ≡ Some error
+            → states_refusal states start_anchored start_unanchored self.now.starts ≡ Some error
             → (result ≡ Err (BuildError.NFA error)) ⊎ (result ≡ Err BuildError.OutOfMemory) }
         ensures memory { (states : List State) → self.now.pattern ≡ None → AreBuilt self.now states
-            → door_refusal states start_anchored start_unanchored self.now.starts ≡ None
+            → states_refusal states start_anchored start_unanchored self.now.starts ≡ None
             → IsOkUnless result BuildError.OutOfMemory }
     {
         if self.pattern.is_some() {

@@ -2,9 +2,9 @@
 
 mod builder;
 mod building;
+mod checks;
 mod copies;
 mod cycles;
-mod door;
 mod finishing;
 mod reach;
 pub(crate) mod reading;
@@ -14,8 +14,8 @@ mod utf8;
 
 pub use crate::nfa::thompson::builder::Builder;
 pub use crate::nfa::thompson::building::BuildError;
+use crate::nfa::thompson::checks::{looks_of, room_of, test};
 use crate::nfa::thompson::cycles::are_looks_acyclic;
-use crate::nfa::thompson::door::{looks_of, room_of, test};
 use crate::nfa::thompson::reach::{reaches_match, skips_lazily};
 use crate::nfa::thompson::reverse::{Mirror, reverse_error, reverse_states};
 use crate::nfa::thompson::utf8::{BACKWARD, Class, FORWARD, ends_at_boundaries};
@@ -197,7 +197,7 @@ pub struct NFA {
 impl Model for NFA {
     ghost use Rattle.std.specs.Prelude.{◌≡◌};
     ghost use Rattle.automata_base.specs.Nfas.Nodes.{Automaton, stack_room};
-    ghost use Rattle.automata_base.specs.Nfas.Accepted.{IsDoor, IsLooks};
+    ghost use Rattle.automata_base.specs.Nfas.Accepted.{IsChecked, IsLooks};
     ghost use Rattle.automata_base.specs.Nfas.Automata.{automaton_of, IsConsistent};
 
     ghost Value = { Automaton };
@@ -227,7 +227,7 @@ impl NFA {
     ghost use Rattle.std.specs.Prelude.{slice_get, slice_index_or};
     ghost use Rattle.automata_base.specs.Powersets.Cuts.{MatchKind};
     ghost use Rattle.automata_base.specs.Nfas.Decoders.{EndsAtBoundaries, classes_below};
-    ghost use Rattle.automata_base.specs.Nfas.Accepted.{IsDoor, IsLooks};
+    ghost use Rattle.automata_base.specs.Nfas.Accepted.{IsChecked, IsLooks};
     ghost use Rattle.automata_base.specs.Nfas.Engines.{engine_of};
     ghost use Rattle.automata_base.specs.Nfas.Getters.{HasEmpty, IsAlwaysStartAnchored, SkipsLazily};
     ghost use Rattle.automata_base.specs.Haystacks.Looks.{Look};
@@ -237,7 +237,7 @@ impl NFA {
     ghost use Rattle.automata_base.specs.Nfas.Nodes.{nfa_of, stack_room};
     ghost use Rattle.automata_base.specs.Powersets.Passes.{Occurs};
     ghost use Rattle.automata_base.specs.Paths.Paths.{IsLookAcyclic};
-    ghost use Rattle.automata_base.specs.Nfas.Errors.{door_refusal};
+    ghost use Rattle.automata_base.specs.Nfas.Errors.{states_refusal};
     ghost use Rattle.automata_base.specs.Nfas.ReversedSizes.{most_states, most_alternates, MayBeTooLarge};
     ghost use Rattle.automata_base.specs.Paths.Starts.{mode_start};
     ghost use Rattle.automata_base.specs.Haystacks.Tapes.{Forward, Backward};
@@ -261,9 +261,9 @@ impl NFA {
         ensures same { IfOk result (λ nfa. nfa ≡ automaton
             states.items start_anchored start_unanchored start_pattern.items flags) }
         ensures refused { (error : NfaError)
-            → door_refusal states.items start_anchored start_unanchored start_pattern.items ≡ Some error
+            → states_refusal states.items start_anchored start_unanchored start_pattern.items ≡ Some error
             → result ≡ Err error }
-        ensures memory { door_refusal states.items start_anchored start_unanchored start_pattern.items ≡ None
+        ensures memory { states_refusal states.items start_anchored start_unanchored start_pattern.items ≡ None
             → IsOkUnless result NfaError.OutOfMemory }
     {
         let room = test(
@@ -292,7 +292,7 @@ impl NFA {
         flags: Flags,
         room: usize,
     ) -> Result<NFA, NfaError>
-        requires passed { door_refusal states.items start_anchored start_unanchored start_pattern.items ≡ None }
+        requires passed { states_refusal states.items start_anchored start_unanchored start_pattern.items ≡ None }
         requires room { room ≡ stack_room states.items }
         ensures same { IfOk result (λ nfa. nfa ≡ automaton
             states.items start_anchored start_unanchored start_pattern.items flags) }
@@ -328,7 +328,7 @@ impl NFA {
     /// The states, state k at index k.
     pub fn states(&self) -> &[State]
         ensures same { result.now ≡ self.now.states }
-        ensures door { IsDoor self.now }
+        ensures checked { IsChecked self.now }
     {
         self.data.states.as_slice()
     }
@@ -337,7 +337,7 @@ impl NFA {
     pub fn state(&self, id: StateID) -> &State
         requires { id < length self.now.states }
         ensures same { result.now ≡ slice_index_or self.now.states id result.now }
-        ensures door { IsDoor self.now }
+        ensures checked { IsChecked self.now }
     {
         &self.data.states[id.as_usize()]
     }
@@ -495,7 +495,7 @@ impl NFA {
         requires { classes_below classes.now ≡ true }
         ensures ends { IfOk result (λ reads. IsTrue reads
             ↔ EndsAtBoundaries classes.now self.now.states (self.now.start_anchored ∷ self.now.start_pattern)) }
-        ensures door { IsDoor self.now }
+        ensures checked { IsChecked self.now }
     {
         ends_at_boundaries(
             self.alloc,

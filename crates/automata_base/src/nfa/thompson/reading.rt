@@ -1,6 +1,6 @@
 ghost use Rattle.std.specs.Prelude.{◌≡◌, ◌<◌, ◌||◌, eqb, Some};
 ghost use Rattle.std.specs.Prelude.{None, length, slice_index_or};
-ghost use Rattle.automata_base.specs.Nfas.Accepted.{IsDoor};
+ghost use Rattle.automata_base.specs.Nfas.Accepted.{IsChecked};
 ghost use Rattle.automata_base.specs.Lists.{nth};
 ghost use Rattle.automata_base.specs.Paths.Paths.{all_true};
 ghost use Rattle.automata_base.specs.Powersets.Closure.{children_at};
@@ -26,7 +26,7 @@ pub fn state_at<'a>(nfa: &NFA, states: &'a [State], id: StateID) -> &'a State
     requires states { states.now ≡ nfa.now.states }
     requires id { id < length states.now }
     ensures same { result.now ≡ slice_index_or nfa.now.states id result.now }
-    ensures door { IsDoor nfa.now }
+    ensures checked { IsChecked nfa.now }
 {
     let _door = nfa.states();
     &states[id.as_usize()]

@@ -48,7 +48,7 @@ fn turned_states(
 {
     let mut turning = EdgesByTarget::new(alloc, states.len())?;
     turning.turn_states(states, reached)?;
-    turning.tell(first)?;
+    turning.report(first)?;
     let turned = turning.into_states(alloc)?;
     if turned.len() > MAX_STATES {
         return Err(MakeError::TooLarge);

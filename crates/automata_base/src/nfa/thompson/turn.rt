@@ -361,7 +361,7 @@ impl EdgesByTarget {
     }
 
     /// Adds a match as an alternate of the state: backward, paths end where they begin forward.
-    pub fn tell(&mut self, first: StateID) -> Result<(), MakeError>
+    pub fn report(&mut self, first: StateID) -> Result<(), MakeError>
         requires { first < length self.old.lists.items }
         ensures turned { OnOk result (turns_of self.new ≡ turn_by (turns_of self.old) (State.Match 0) first) }
         ensures few { OnOk result (length self.new.lists.items ≡ length self.old.lists.items) }

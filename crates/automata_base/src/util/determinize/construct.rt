@@ -2,7 +2,7 @@ ghost use Rattle.std.specs.Prelude.{◌≡◌, ◌<◌, ◌≤◌, [], ◌∷◌
 ghost use Rattle.std.specs.Prelude.{Option, Some, None, ◌&&◌, vec_capacity};
 ghost use Rattle.automata_base.specs.Retraced.ComputedPass.{known_looks, any_node, is_full};
 ghost use Rattle.automata_base.specs.Powersets.Cuts.{cut, cut_for, targets};
-ghost use Rattle.automata_base.specs.Nfas.Accepted.{IsDoor};
+ghost use Rattle.automata_base.specs.Nfas.Accepted.{IsChecked};
 ghost use Rattle.automata_base.specs.Lists.{In, cons_some};
 ghost use Rattle.automata_base.specs.Haystacks.Looks.{Look, is_word, is_byte, first_half};
 ghost use Rattle.automata_base.specs.Powersets.Results.{AreMatched, IsClosureMade, IsStartMade, IsStepMade};
@@ -205,7 +205,7 @@ pub fn start_into(
     set: &mut SparseSet,
     parts: &mut Parts,
 )
-    requires door { IsDoor nfa.now }
+    requires checked { IsChecked nfa.now }
     requires room { IsClosureRoom nfa.now stack.old set.old }
     requires parts { IsPartsRoom nfa.now parts.old }
     ensures made { IsStartMade nfa.now mode prev (powerset_of parts.new) }
@@ -343,7 +343,7 @@ pub fn next_into(
     two: &mut SparseSet,
     parts: &mut Parts,
 )
-    requires door { IsDoor nfa.now }
+    requires checked { IsChecked nfa.now }
     requires is_of { IsOf nfa.now from.now }
     requires list { list.now ≡ from.now.nfa }
     requires room { IsStepRoom nfa.now stack.old one.old two.old parts.old }

@@ -1,10 +1,10 @@
 use Rattle.std.proofs.Common.{subst}
-use Rattle.automata_base.specs.Laws.Walks.{AllPairsAreTold, WalksAreTold}
+use Rattle.automata_base.specs.Laws.Walks.{AllPairsAreReported, WalksAreReported}
 use Rattle.automata_base.specs.Answers.Within.{WalkLiesWithin}
-use Rattle.automata_hybrid.proofs.Accepting.{sets_have_matching}
+use Rattle.automata_hybrid.proofs.Walks.SetsByPaths.{sets_have_matching}
 use Rattle.automata_hybrid.proofs.laws.sets_have_matching.Goals as goal
 
 pub returns : goal.returns
 returns c =
-    sets_have_matching c.args.dfa.now (subst AllPairsAreTold c.get_nfa.ensures c.walk_is_right.ensures.all)
-    (subst WalksAreTold c.get_nfa.ensures c.walk_is_right.ensures.told) (subst WalkLiesWithin c.get_nfa.ensures c.walk_is_right.ensures.within)
+    sets_have_matching c.args.dfa.now (subst AllPairsAreReported c.get_nfa.ensures c.walk_is_right.ensures.all)
+    (subst WalksAreReported c.get_nfa.ensures c.walk_is_right.ensures.reported) (subst WalkLiesWithin c.get_nfa.ensures c.walk_is_right.ensures.within)

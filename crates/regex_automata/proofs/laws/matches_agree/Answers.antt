@@ -1,4 +1,4 @@
-use Rattle.regex_automata.proofs.Agreeing.{matches_agree}
+use Rattle.regex_automata.proofs.Spans.Agreement.{matches_agree}
 use Rattle.regex_automata.proofs.laws.matches_agree.Goals as goal
 
 pub returns : goal.returns

@@ -1,5 +1,5 @@
-use Rattle.regex_automata.proofs.Agreeing.{truths_agree}
+use Rattle.regex_automata.proofs.Spans.Agreement.{truths_agree}
 use Rattle.regex_automata.proofs.laws.truths_agree.Goals as goal
 
 pub returns : goal.returns
-returns c = truths_agree c.passes_tell_paths.ensures.one
+returns c = truths_agree c.passes_report_paths.ensures.one

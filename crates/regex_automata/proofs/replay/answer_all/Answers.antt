@@ -3,7 +3,7 @@ use Rattle.regex_automata.specs.declared.hybrid.regex.Regex.{Regex}
 use Rattle.regex_automata.specs.Replay.Histories.{after}
 use Rattle.regex_automata.specs.Replay.Caches.{AreMade}
 use Rattle.regex_automata.specs.Replay.Replies.{IsReply}
-use Rattle.regex_automata.proofs.Folding.{completes_turn, completes_end, continues_turn, continues_end}
+use Rattle.regex_automata.proofs.Replies.Lists.{completes_turn, completes_end, continues_turn, continues_end}
 use Rattle.regex_automata.proofs.replay.answer_all.Goals as goal
 
 pub loop-request-preserved : goal.loop-request-preserved
@@ -33,6 +33,6 @@ returns c =
     let regexes = c.args.player.regexes.now in
     let i = c.loop-request.request-index in
     record {
-      owed = completes_end regexes c.args.script.now c.loop-request.replies.items h i c.loop-request-test.false all;
+      returned = completes_end regexes c.args.script.now c.loop-request.replies.items h i c.loop-request-test.false all;
       made = continues_end regexes c.args.script.now c.args.player.cache c.loop-request.replies.items h c.loop-request.player.cache i c.loop-request-test.false made;
     }

@@ -1,7 +1,7 @@
 use Rattle.std.proofs.Common.{◌≡◌, drop}
 use Rattle.regex_automata.specs.Replay.Histories.{History}
 use Rattle.regex_automata.specs.Replay.Players.{HasPlayed}
-use Rattle.regex_automata.proofs.Folding.{Completes, Continues}
+use Rattle.regex_automata.proofs.Replies.Lists.{Completes, Continues}
 use Rattle.regex_automata.proofs.replay.answer_all.Given as goal
 
 abbrev pub invariant-loop-request : goal.invariant-loop-request

@@ -1,4 +1,4 @@
-use Rattle.regex_automata.proofs.Folding.{all_bad_turn, all_bad_end}
+use Rattle.regex_automata.proofs.Replies.Lists.{all_bad_turn, all_bad_end}
 use Rattle.regex_automata.proofs.replay.refuse_all.Goals as goal
 
 pub loop-request-preserved : goal.loop-request-preserved

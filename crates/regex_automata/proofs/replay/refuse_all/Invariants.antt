@@ -1,5 +1,5 @@
 use Rattle.std.proofs.Common.{drop}
-use Rattle.regex_automata.proofs.Folding.{AllBad}
+use Rattle.regex_automata.proofs.Replies.Lists.{AllBad}
 use Rattle.regex_automata.proofs.replay.refuse_all.Given as goal
 
 abbrev pub invariant-loop-request : goal.invariant-loop-request

@@ -6,7 +6,7 @@ ghost use Rattle.automata_base.specs.Haystacks.Tapes.{Forward};
 ghost use Rattle.automata_hybrid.specs.Searches.Contracts.{IsUnsupported, unsupported_error};
 ghost use Rattle.regex_automata.specs.Spans.Iteration.{GivesItem, GoesPast, IsNextMatch, IsNextRefusal};
 ghost use Rattle.regex_automata.specs.Spans.Iteration.{LiesInHaystack, input_at, most_items};
-ghost use Rattle.regex_automata.specs.Spans.Contracts.{TellsUnsupported};
+ghost use Rattle.regex_automata.specs.Spans.Contracts.{ReportsUnsupported};
 ghost use Rattle.regex_automata.specs.Spans.Effects.{IsItemEffect, IsNextEffect};
 ghost use Rattle.regex_automata.specs.Regexes.Caches.{AreCachesOf};
 
@@ -156,7 +156,7 @@ impl<'r, 'c, 'h> Iterator for FindMatches<'r, 'c, 'h> {
         × (t.regex.now ≡ s.regex.now) × (t.cache.ghost_name ≡ s.cache.ghost_name)
         × IsItemEffect s.regex.now (input_at s.haystack.now s.start s.end s.anchored s.earliest) s.last s.ended
         s.cache.now t.cache.now r
-        × TellsUnsupported s.regex.now (input_at s.haystack.now s.start s.end s.anchored s.earliest) s.ended r
+        × ReportsUnsupported s.regex.now (input_at s.haystack.now s.start s.end s.anchored s.earliest) s.ended r
         × (t.haystack.now ≡ s.haystack.now) × LiesInHaystack s.haystack.now r };
 
     ghost remaining = { λ s.

@@ -6,7 +6,7 @@ ghost use Rattle.regex_automata.specs.Spans.Effects.{IsTruthEffect};
 ghost use Rattle.regex_automata.specs.Regexes.Caches.{AreCachesOf};
 
 use crate::hybrid::regex::{Cache, Regex};
-use automata_base::laws::told_is_right;
+use automata_base::laws::reported_is_right;
 use automata_base::util::search::Input;
 use automata_config::error::SearchError;
 
@@ -37,13 +37,13 @@ impl Regex {
         ensures of { AreCachesOf cache.new self.now }
 
         // What it returns, whatever the caches; and why it fails.
-        ensures owed { IsTruthOf self.now input.now result }
+        ensures returned { IsTruthOf self.now input.now result }
         ensures refusal { IfErr result (IsMatchRefused self.now.forward cache.new.forward.store input.now) }
 
         // What it does to the caches.
         ensures effect { IsTruthEffect self.now input.now cache.old cache.new result }
     {
-        told_is_right(self.forward.get_nfa());
+        reported_is_right(self.forward.get_nfa());
         let _haystack = input.haystack();
         let asked = self.asked(input);
         let found = self.forward.try_search_fwd(&mut cache.forward, &asked)?;

@@ -3,10 +3,10 @@ ghost use Rattle.automata_base.specs.Answers.Spans.{IsShort, back};
 ghost use Rattle.automata_hybrid.specs.Cache.Caches.{IsCacheOf};
 ghost use Rattle.automata_hybrid.specs.Searches.Contracts.{IsMemory};
 ghost use Rattle.automata_hybrid.specs.Searches.Passes.{NoQuitInReach, with_base};
-ghost use Rattle.automata_hybrid.specs.Searches.Within.{LiesPast};
+ghost use Rattle.automata_hybrid.specs.Searches.Bounds.{LiesPast};
 ghost use Rattle.regex_automata.specs.Regexes.SoundPairs.{forward_engine};
 ghost use Rattle.regex_automata.specs.Spans.Outcomes.{IsStartFound};
-ghost use Rattle.regex_automata.specs.Spans.Contracts.{IsSpanOf, IsSpanTold};
+ghost use Rattle.regex_automata.specs.Spans.Contracts.{IsSpanOf, IsSpanReported};
 ghost use Rattle.regex_automata.specs.Spans.Effects.{IsBackEffect, IsSpanEffect};
 ghost use Rattle.regex_automata.specs.Regexes.Caches.{AreCachesOf};
 ghost use Rattle.regex_automata.specs.Spans.Errors.{HasReason, IsBackRefused, IsRegexRefusal};
@@ -14,7 +14,7 @@ ghost use Rattle.automata_config.specs.Options.{minimum_cache_clear_count_of};
 
 use crate::hybrid::dfa;
 use crate::hybrid::regex::{Cache, Regex};
-use automata_base::laws::{start_is_right, told_is_right};
+use automata_base::laws::{reported_is_right, start_is_right};
 use automata_base::util::search::{Anchored, HalfMatch, Input, Match, Span};
 use automata_config::error::SearchError;
 use automata_hybrid::laws::answers_agree;
@@ -58,14 +58,14 @@ impl Regex {
         ensures of { AreCachesOf cache.new self.now }
 
         // What it returns, whatever the caches; and why it fails.
-        ensures owed { IsSpanOf self.now input.now result }
+        ensures returned { IsSpanOf self.now input.now result }
         ensures refusal { IfErr result (IsRegexRefusal self.now cache.new input.now) }
 
         // What it does to the caches.
         ensures effect { IsSpanEffect self.now input.now cache.old cache.new result }
     {
-        told_is_right(self.forward.get_nfa());
-        told_is_right(self.reverse.get_nfa());
+        reported_is_right(self.forward.get_nfa());
+        reported_is_right(self.reverse.get_nfa());
         start_is_right();
         let _haystack = input.haystack();
         let found = self.search(cache, input);
@@ -79,7 +79,7 @@ impl Regex {
         ensures of { AreCachesOf cache.new self.now }
 
         // What it returns, whatever the caches; and why it fails.
-        ensures owed { IsSpanOf self.now input.now result }
+        ensures returned { IsSpanOf self.now input.now result }
         ensures refusal { IfErr result (IsRegexRefusal self.now cache.new input.now) }
 
         // What it does to the caches.
@@ -136,7 +136,7 @@ impl Regex {
     fn search(&self, cache: &mut Cache, input: &Input<'_>) -> Result<Option<Match>, SearchError>
         requires { AreCachesOf cache.old self.now }
         ensures of { AreCachesOf cache.new self.now }
-        ensures told { IsSpanTold self.now input.now result }
+        ensures reported { IsSpanReported self.now input.now result }
         ensures refusal { IfErr result (HasReason self.now cache.new input.now) }
         ensures effect { IsSpanEffect self.now input.now cache.old cache.new result }
     {

@@ -2,7 +2,7 @@ use Rattle.std.proofs.Common.{true, false, sym, ap, ◌∙◌, arith, replicate}
 use Rattle.std.proofs.lemmas.List.{get_or-replicate}
 use Rattle.automata_base.specs.ByteClasses.Classes.{states_bound}
 use Rattle.automata_base.specs.Retraced.Boundaries.{Adds}
-use Rattle.automata_base.proofs.Values.Marking.{adds_like, bounded_off, bounded_on}
+use Rattle.automata_base.proofs.ByteClasses.Marking.{adds_like, bounded_off, bounded_on}
 use Rattle.automata_base.proofs.util.alphabet.boundaries.Goals as goal
 
 pub returns-then-not-on : goal.returns-then-not-on

@@ -1,7 +1,7 @@
 use Rattle.std.proofs.Common.{◌+◌, ◌*◌, sym, ◌∙◌, arith, refl, replicate}
 use Rattle.automata_base.specs.Retraced.Boundaries.{is_marked}
-use Rattle.automata_base.proofs.Values.Boundaries.{counted_next, counted_same, counted_at, count_none, first_counted}
-use Rattle.automata_base.proofs.Values.Boundaries.{from_bool-cond, from_bool-small}
+use Rattle.automata_base.proofs.ByteClasses.Boundaries.{counted_next, counted_same, counted_at, count_none, first_counted}
+use Rattle.automata_base.proofs.ByteClasses.Boundaries.{from_bool-cond, from_bool-small}
 use Rattle.automata_base.proofs.util.alphabet.counts.Goals as goal
 use Rattle.automata_base.proofs.util.alphabet.counts.Goals.{then-has_mark+else-loop-i-test, else-has_mark+else-loop-i-else-has_mark-test}
 

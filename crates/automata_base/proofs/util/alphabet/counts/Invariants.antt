@@ -1,6 +1,6 @@
 use Rattle.std.proofs.Common.{◌+◌, ◌*◌}
 use Rattle.automata_base.specs.Retraced.Boundaries.{is_marked}
-use Rattle.automata_base.proofs.Values.Boundaries.{Counted}
+use Rattle.automata_base.proofs.ByteClasses.Boundaries.{Counted}
 use Rattle.automata_base.proofs.util.alphabet.counts.Given as goal
 
 abbrev pub invariant-loop-byte : goal.invariant-loop-byte

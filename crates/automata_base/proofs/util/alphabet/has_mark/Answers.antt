@@ -1,6 +1,6 @@
 use Rattle.std.proofs.Common.{arith, ◌+◌}
 use Rattle.automata_base.specs.Retraced.Boundaries.{is_marked}
-use Rattle.automata_base.proofs.Values.Marking.{unmarked_next}
+use Rattle.automata_base.proofs.ByteClasses.Marking.{unmarked_next}
 use Rattle.automata_base.proofs.util.alphabet.has_mark.Goals as goal
 
 pub loop-i-init : goal.loop-i-init

@@ -1,5 +1,5 @@
 use Rattle.std.proofs.Common.{arith, refl}
-use Rattle.automata_base.proofs.Values.Marking.{none_next}
+use Rattle.automata_base.proofs.ByteClasses.Marking.{none_next}
 use Rattle.automata_base.proofs.util.alphabet.has_quit.Goals as goal
 
 pub loop-byte-preserved : goal.loop-byte-preserved

@@ -2,7 +2,7 @@ use Rattle.std.proofs.Common.{◌≡◌, ◌⊎◌, ◌||◌, refl, inl, inr}
 use Rattle.automata_base.specs.ByteClasses.Classes.{bounds, look_bounds}
 use Rattle.automata_base.specs.Haystacks.Looks.{Start, End, StartLF, EndLF, StartCRLF, EndCRLF}
 use Rattle.automata_base.specs.Retraced.Boundaries.{Adds}
-use Rattle.automata_base.proofs.Values.Marking.{adds_none, adds_both, word_bounds}
+use Rattle.automata_base.proofs.ByteClasses.Marking.{adds_none, adds_both, word_bounds}
 use Rattle.automata_base.proofs.util.alphabet.mark_look.Goals as goal
 
 pub returns-in-Start : goal.returns-in-Start

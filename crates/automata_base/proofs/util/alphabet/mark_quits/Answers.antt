@@ -1,5 +1,5 @@
 use Rattle.automata_base.specs.ByteClasses.Classes.{quits_bound}
-use Rattle.automata_base.proofs.Values.Marking.{runs_next, adds_no_quits}
+use Rattle.automata_base.proofs.ByteClasses.Marking.{runs_next, adds_no_quits}
 use Rattle.automata_base.proofs.util.alphabet.mark_quits.Goals as goal
 
 pub loop-byte-preserved : goal.loop-byte-preserved

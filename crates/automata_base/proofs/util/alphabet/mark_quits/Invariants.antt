@@ -1,6 +1,6 @@
 use Rattle.automata_base.specs.ByteClasses.Classes.{quits_bound}
 use Rattle.automata_base.specs.Retraced.Boundaries.{Adds}
-use Rattle.automata_base.proofs.Values.Marking.{upto}
+use Rattle.automata_base.proofs.ByteClasses.Marking.{upto}
 use Rattle.automata_base.proofs.util.alphabet.mark_quits.Given as goal
 
 abbrev pub invariant-loop-byte : goal.invariant-loop-byte

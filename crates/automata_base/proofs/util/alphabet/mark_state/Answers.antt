@@ -1,6 +1,6 @@
 use Rattle.std.proofs.Common.{refl, sym, ap, ◌∙◌}
 use Rattle.automata_base.specs.ByteClasses.Classes.{state_bounds, transitions_bound}
-use Rattle.automata_base.proofs.Values.Marking.{adds_none, adds_like}
+use Rattle.automata_base.proofs.ByteClasses.Marking.{adds_none, adds_like}
 use Rattle.automata_base.proofs.util.alphabet.mark_state.Goals as goal
 
 pub returns-in-ByteRange : goal.returns-in-ByteRange

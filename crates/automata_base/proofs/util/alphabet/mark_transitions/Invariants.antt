@@ -1,5 +1,5 @@
 use Rattle.automata_base.specs.ByteClasses.Classes.{transitions_bound}
-use Rattle.automata_base.proofs.Values.Marking.{Left}
+use Rattle.automata_base.proofs.ByteClasses.Marking.{Left}
 use Rattle.automata_base.proofs.util.alphabet.mark_transitions.Given as goal
 
 abbrev pub invariant-loop-t : goal.invariant-loop-t

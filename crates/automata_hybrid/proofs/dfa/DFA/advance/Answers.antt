@@ -12,16 +12,16 @@ use Rattle.automata_hybrid.specs.Searches.Passes.{HasReadNoQuit, state_in, tape_
 use Rattle.automata_hybrid.specs.Cache.Table.{Names}
 use Rattle.automata_hybrid.specs.Walks.Answers.{IsSilent, WalkReads}
 use Rattle.automata_hybrid.specs.Walks.State.{way_of}
-use Rattle.automata_hybrid.proofs.Following.{followed_clean, followed_silent}
-use Rattle.automata_hybrid.proofs.Growing.{grown_same, grown_trans, nothing_first, nothing_second}
-use Rattle.automata_hybrid.proofs.KnowingWalks.{unit_knows, units_more, units_none}
-use Rattle.automata_hybrid.proofs.Reading.{at_err}
-use Rattle.automata_hybrid.proofs.SearchedWalks.{arrived_read, call_stopped}
-use Rattle.automata_hybrid.proofs.UnitsRead.{AreReadTo, left_then, read_exactly, read_none, read_then}
-use Rattle.automata_hybrid.proofs.Searching.{false_true, if_err}
-use Rattle.automata_hybrid.proofs.Stepping.{dead_tagged}
-use Rattle.automata_hybrid.proofs.Walked.{clean_more, finish_dead, finish_read, silent_same, silent_step}
-use Rattle.automata_hybrid.proofs.Directions.{units_in}
+use Rattle.automata_hybrid.proofs.Searches.QuietRuns.{followed_clean, followed_silent}
+use Rattle.automata_hybrid.proofs.Cache.Growth.{grown_same, grown_trans, nothing_first, nothing_second}
+use Rattle.automata_hybrid.proofs.Walks.Cached.{unit_knows, units_more, units_none}
+use Rattle.automata_hybrid.proofs.Searches.Reads.{at_err}
+use Rattle.automata_hybrid.proofs.Walks.Progress.{arrived_read, call_stopped}
+use Rattle.automata_hybrid.proofs.Searches.UnitsRead.{AreReadTo, left_then, read_exactly, read_none, read_then}
+use Rattle.automata_hybrid.proofs.Searches.PassState.{false_true, if_err}
+use Rattle.automata_hybrid.proofs.Steps.Ids.{dead_tagged}
+use Rattle.automata_hybrid.proofs.Walks.Reports.{clean_more, finish_dead, finish_read, silent_same, silent_step}
+use Rattle.automata_hybrid.proofs.Searches.Directions.{units_in}
 use Rattle.automata_hybrid.proofs.dfa.DFA.advance.Goals as goal
 
 pub loop-read-init : goal.loop-read-init
@@ -35,7 +35,7 @@ loop-read-init c =
       grown = grown_same c.args.cache.now c.args.cache.now refl;
       named = c.requires.from.named;
       clean = c.requires.clean;
-      idle = λ n told knows. refl;
+      idle = λ n reported knows. refl;
       learned = λ nothing. units_none d c.args.self.now c.args.cache.now.store c.args.input.now c.args.units;
       silent = silent_same d c.args.self.now c.args.input.now c.args.units;
       progress = read_none d c.args.self.now c.args.input.now c.args.units c.args.cache.now.store c.args.cache.now.store refl;
@@ -52,7 +52,7 @@ loop-read-preserved c =
     let clean : HasReadNoQuit d c.args.self.now c.args.input.now (suc k) = clean_more d c.args.self.now c.args.input.now k (followed_clean f c.loop-read.invariant.clean) c.in_ok-next.ensures.clean in
     let silent : IsSilent d c.args.self.now c.args.input.now c.args.units (suc k) =
     silent_step d c.args.self.now c.args.input.now c.args.units k (followed_silent f c.loop-read.invariant.silent)
-    (⊎_elim (λ s. inl s) (λ none. inr (none (state_in d c.args.self.now c.args.input.now (suc k)) named)) (c.tells.ensures.no c.if-tells.false)) in
+    (⊎_elim (λ s. inl s) (λ none. inr (none (state_in d c.args.self.now c.args.input.now (suc k)) named)) (c.reports.ensures.no c.if-reports.false)) in
     record {
       of = c.in_ok-next.ensures.of;
       counted = omega (arith, c.loop-read.invariant.counted, c.in_ok-next.ensures.effect.counted, f.more);
@@ -61,10 +61,10 @@ loop-read-preserved c =
       grown = grown_trans c.args.cache.now c.loop-read.cache c.read_unit.new.cache c.loop-read.invariant.grown c.in_ok-next.ensures.effect.grown;
       named = subst (λ n. Names c.read_unit.new.cache.store.table c.in_ok-next.next (state_in d c.args.self.now c.args.input.now n)) more named;
       clean = subst (HasReadNoQuit d c.args.self.now c.args.input.now) more clean;
-      idle = λ n told knows. (
+      idle = λ n reported knows. (
           let from : c.args.units ≤ k = omega (arith, c.loop-read.invariant.from, f.more) in
-          let count : c.loop-read.cache.count ≡ c.args.cache.now.count = c.loop-read.invariant.idle n told knows in
-          let here = c.in_ok-next.ensures.effect.known (unit_knows d c.args.self.now c.args.cache.now c.loop-read.cache c.args.input.now c.args.units k n c.loop-read.invariant.grown count knows from c.in_ok-next.ensures.reads (followed_clean f c.loop-read.invariant.clean) (followed_silent f c.loop-read.invariant.silent n told)) in
+          let count : c.loop-read.cache.count ≡ c.args.cache.now.count = c.loop-read.invariant.idle n reported knows in
+          let here = c.in_ok-next.ensures.effect.known (unit_knows d c.args.self.now c.args.cache.now c.loop-read.cache c.args.input.now c.args.units k n c.loop-read.invariant.grown count knows from c.in_ok-next.ensures.reads (followed_clean f c.loop-read.invariant.clean) (followed_silent f c.loop-read.invariant.silent n reported)) in
           here.0 ∙ count);
       learned = λ nothing. (
           let second : ClearedNothing c.loop-read.cache.store c.read_unit.new.cache.store = nothing_second c.args.cache.now c.loop-read.cache c.read_unit.new.cache c.loop-read.invariant.grown c.in_ok-next.ensures.effect.grown nothing in
@@ -96,23 +96,23 @@ returns-then-is_dead-clause-arrives c =
     finish_dead d c.args.self.now c.args.input.now c.args.units k _ (omega (arith, c.loop-read.invariant.from, f.more)) (omega (arith, units, c.follow_walk-stop.ensures.within)) (omega arith)
     (clean_more d c.args.self.now c.args.input.now k (followed_clean f c.loop-read.invariant.clean) c.in_ok-next.ensures.clean) dies (followed_silent f c.loop-read.invariant.silent)
 
-pub returns-then-tells-clause-arrives : goal.returns-then-tells-clause-arrives
-returns-then-tells-clause-arrives c =
+pub returns-then-reports-clause-arrives : goal.returns-then-reports-clause-arrives
+returns-then-reports-clause-arrives c =
     let d : Direction = way_of c.args.way in
     let k : ℕ = c.follow_walk-stop.result.at in
     let f : IsFollowed d c.args.self.now c.loop-read.cache.store c.args.input.now c.loop-read.read k c.follow_walk-stop.result.id = c.follow_walk-stop.ensures.followed in
     let units : c.args.input.now.end - c.args.input.now.start ≡ length (tape_in d c.args.input.now).bytes = units_in d c.args.input.now c.requires.from.undone c.haystack-haystack.ensures.within.1 in
     let more : suc k ≡ k + 1 = omega arith in
     let named : Names c.read_unit.new.cache.store.table c.in_ok-next.next (state_in d c.args.self.now c.args.input.now (suc k)) = (dead_tagged c.read_unit.new.cache.store.table c.in_ok-next.next (c.see_store.ensures.low c.in_ok-next.next) c.see_store.ensures.small _ c.in_ok-next.ensures.leads).1 (λ b. false_true (c.if-is_dead.ensures.1 b)) in
-    let yes = c.tells.ensures.yes c.if-tells.true in
+    let yes = c.reports.ensures.yes c.if-reports.true in
     record {
       place = k;
-      behind = sym more;
+      one_after = sym more;
       more = omega (arith, c.loop-read.invariant.from, f.more);
       within = omega (arith, units, c.follow_walk-stop.ensures.within);
       named = subst (λ n. Names c.read_unit.new.cache.store.table c.in_ok-next.next (state_in d c.args.self.now c.args.input.now n)) more named;
       clean = subst (HasReadNoQuit d c.args.self.now c.args.input.now) more (clean_more d c.args.self.now c.args.input.now k (followed_clean f c.loop-read.invariant.clean) c.in_ok-next.ensures.clean);
-      tells = yes.1;
+      reports = yes.1;
       unskipped = yes.0;
       silent = followed_silent f c.loop-read.invariant.silent;
     }
@@ -135,9 +135,9 @@ returns-in_err-next-clause-effect c =
       grown = grown_trans c.args.cache.now c.loop-read.cache c.read_unit.new.cache c.loop-read.invariant.grown c.in_err-next.ensures.effect.grown;
       cost = tt;
       most = omega (arith, c.in_err-next.ensures.effect.counted, c.loop-read.invariant.counted, f.more, c.follow_walk-stop.ensures.within);
-      known = λ n told knows. (
-          let count : c.loop-read.cache.count ≡ c.args.cache.now.count = c.loop-read.invariant.idle n told knows in
-          let here = c.in_err-next.ensures.effect.known (unit_knows d c.args.self.now c.args.cache.now c.loop-read.cache c.args.input.now c.args.units k n c.loop-read.invariant.grown count knows from c.in_err-next.ensures.reads (followed_clean f c.loop-read.invariant.clean) (followed_silent f c.loop-read.invariant.silent n told)) in
+      known = λ n reported knows. (
+          let count : c.loop-read.cache.count ≡ c.args.cache.now.count = c.loop-read.invariant.idle n reported knows in
+          let here = c.in_err-next.ensures.effect.known (unit_knows d c.args.self.now c.args.cache.now c.loop-read.cache c.args.input.now c.args.units k n c.loop-read.invariant.grown count knows from c.in_err-next.ensures.reads (followed_clean f c.loop-read.invariant.clean) (followed_silent f c.loop-read.invariant.silent n reported)) in
           (here.0 ∙ count, here.1));
       learned = λ nothing. tt;
       read = tt;
@@ -158,9 +158,9 @@ returns-then-is_dead-clause-effect c =
       grown = grown_trans c.args.cache.now c.loop-read.cache c.read_unit.new.cache c.loop-read.invariant.grown c.in_ok-next.ensures.effect.grown;
       cost = omega (arith, c.in_ok-next.ensures.effect.counted, c.loop-read.invariant.counted, f.more);
       most = omega (arith, c.in_ok-next.ensures.effect.counted, c.loop-read.invariant.counted, f.more, c.follow_walk-stop.ensures.within);
-      known = λ n told knows. (
-          let count : c.loop-read.cache.count ≡ c.args.cache.now.count = c.loop-read.invariant.idle n told knows in
-          let here = c.in_ok-next.ensures.effect.known (unit_knows d c.args.self.now c.args.cache.now c.loop-read.cache c.args.input.now c.args.units k n c.loop-read.invariant.grown count knows from c.in_ok-next.ensures.reads (followed_clean f c.loop-read.invariant.clean) (followed_silent f c.loop-read.invariant.silent n told)) in
+      known = λ n reported knows. (
+          let count : c.loop-read.cache.count ≡ c.args.cache.now.count = c.loop-read.invariant.idle n reported knows in
+          let here = c.in_ok-next.ensures.effect.known (unit_knows d c.args.self.now c.args.cache.now c.loop-read.cache c.args.input.now c.args.units k n c.loop-read.invariant.grown count knows from c.in_ok-next.ensures.reads (followed_clean f c.loop-read.invariant.clean) (followed_silent f c.loop-read.invariant.silent n reported)) in
           (here.0 ∙ count, tt));
       learned = λ nothing. (
           let second : ClearedNothing c.loop-read.cache.store c.read_unit.new.cache.store = nothing_second c.args.cache.now c.loop-read.cache c.read_unit.new.cache c.loop-read.invariant.grown c.in_ok-next.ensures.effect.grown nothing in
@@ -174,8 +174,8 @@ returns-then-is_dead-clause-effect c =
       left = tt;
     }
 
-pub returns-then-tells-clause-effect : goal.returns-then-tells-clause-effect
-returns-then-tells-clause-effect c =
+pub returns-then-reports-clause-effect : goal.returns-then-reports-clause-effect
+returns-then-reports-clause-effect c =
     let d : Direction = way_of c.args.way in
     let k : ℕ = c.follow_walk-stop.result.at in
     let f : IsFollowed d c.args.self.now c.loop-read.cache.store c.args.input.now c.loop-read.read k c.follow_walk-stop.result.id = c.follow_walk-stop.ensures.followed in
@@ -185,9 +185,9 @@ returns-then-tells-clause-effect c =
       grown = grown_trans c.args.cache.now c.loop-read.cache c.read_unit.new.cache c.loop-read.invariant.grown c.in_ok-next.ensures.effect.grown;
       cost = omega (arith, c.in_ok-next.ensures.effect.counted, c.loop-read.invariant.counted, f.more);
       most = omega (arith, c.in_ok-next.ensures.effect.counted, c.loop-read.invariant.counted, f.more, c.follow_walk-stop.ensures.within);
-      known = λ n told knows. (
-          let count : c.loop-read.cache.count ≡ c.args.cache.now.count = c.loop-read.invariant.idle n told knows in
-          let here = c.in_ok-next.ensures.effect.known (unit_knows d c.args.self.now c.args.cache.now c.loop-read.cache c.args.input.now c.args.units k n c.loop-read.invariant.grown count knows from c.in_ok-next.ensures.reads (followed_clean f c.loop-read.invariant.clean) (followed_silent f c.loop-read.invariant.silent n told)) in
+      known = λ n reported knows. (
+          let count : c.loop-read.cache.count ≡ c.args.cache.now.count = c.loop-read.invariant.idle n reported knows in
+          let here = c.in_ok-next.ensures.effect.known (unit_knows d c.args.self.now c.args.cache.now c.loop-read.cache c.args.input.now c.args.units k n c.loop-read.invariant.grown count knows from c.in_ok-next.ensures.reads (followed_clean f c.loop-read.invariant.clean) (followed_silent f c.loop-read.invariant.silent n reported)) in
           (here.0 ∙ count, tt));
       learned = λ nothing. (
           let second : ClearedNothing c.loop-read.cache.store c.read_unit.new.cache.store = nothing_second c.args.cache.now c.loop-read.cache c.read_unit.new.cache c.loop-read.invariant.grown c.in_ok-next.ensures.effect.grown nothing in
@@ -210,7 +210,7 @@ returns-clause-effect c =
       grown = c.loop-read.invariant.grown;
       cost = c.loop-read.invariant.counted;
       most = omega (arith, c.loop-read.invariant.counted, c.loop-read.invariant.within);
-      known = λ n told knows. (c.loop-read.invariant.idle n told knows, tt);
+      known = λ n reported knows. (c.loop-read.invariant.idle n reported knows, tt);
       learned = c.loop-read.invariant.learned;
       read =
           arrived_read d c.args.self.now c.args.input.now c.args.units last.0 c.loop-read.read c.args.cache.now.store c.loop-read.cache.store (omega (arith, less, last.1)) (sym last.1) last.2

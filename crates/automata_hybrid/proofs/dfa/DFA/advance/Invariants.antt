@@ -4,9 +4,9 @@ use Rattle.automata_hybrid.specs.Cache.Growth.{ClearedNothing, IsGrown}
 use Rattle.automata_hybrid.specs.Walks.Cached.{HasLearnedUnits, KnowsUnits}
 use Rattle.automata_hybrid.specs.Searches.Passes.{HasReadNoQuit, state_in}
 use Rattle.automata_hybrid.specs.Cache.Table.{Names}
-use Rattle.automata_hybrid.specs.Walks.Answers.{HasToldBy, IsSilent, WalkReads}
+use Rattle.automata_hybrid.specs.Walks.Answers.{HasReportedBy, IsSilent, WalkReads}
 use Rattle.automata_hybrid.specs.Walks.State.{way_of}
-use Rattle.automata_hybrid.proofs.UnitsRead.{AreReadTo}
+use Rattle.automata_hybrid.proofs.Searches.UnitsRead.{AreReadTo}
 use Rattle.automata_hybrid.proofs.dfa.DFA.advance.Given as goal
 
 abbrev pub invariant-loop-read : goal.invariant-loop-read
@@ -18,7 +18,7 @@ invariant-loop-read l = record {
   grown : IsGrown l.fn.cache l.cache;
   named : Names l.cache.store.table l.id (state_in (way_of l.way) l.self l.input l.read);
   clean : HasReadNoQuit (way_of l.way) l.self l.input l.read;
-  idle : (k : ℕ) → HasToldBy (way_of l.way) l.self l.input l.units k → KnowsUnits (way_of l.way) l.self l.fn.cache.store l.input l.units k → l.cache.count ≡ l.fn.cache.count;
+  idle : (k : ℕ) → HasReportedBy (way_of l.way) l.self l.input l.units k → KnowsUnits (way_of l.way) l.self l.fn.cache.store l.input l.units k → l.cache.count ≡ l.fn.cache.count;
   learned : ClearedNothing l.fn.cache.store l.cache.store → HasLearnedUnits (way_of l.way) l.self l.cache.store l.input l.units l.read;
   silent : IsSilent (way_of l.way) l.self l.input l.units l.read;
   progress : AreReadTo (way_of l.way) l.self l.input l.units l.read l.fn.cache.store l.cache.store;

@@ -1,5 +1,5 @@
 use Rattle.std.proofs.Common.{◌∙◌, ◌++◌, ◌∷◌, [], ap, List, ℕ, refl}
-use Rattle.automata_hybrid.proofs.OneState.{match_settles}
+use Rattle.automata_hybrid.proofs.Machines.OneState.{match_settles}
 use Rattle.automata_hybrid.proofs.dfa.DFA.always_match.Goals as goal
 
 pub of_state-requires : goal.of_state-requires

@@ -12,13 +12,13 @@ use Rattle.automata_hybrid.specs.Searches.Progress.{EndsAtLast, IsStoppedAt, wit
 use Rattle.automata_hybrid.specs.Searches.Passes.{Reads, state_in}
 use Rattle.automata_hybrid.specs.Cache.Table.{Rows, Names}
 use Rattle.automata_hybrid.specs.Walks.State.{way_of}
-use Rattle.automata_hybrid.proofs.Directions.{begins_alive, begins_dead}
-use Rattle.automata_hybrid.proofs.Knowing.{learned_none}
-use Rattle.automata_hybrid.proofs.Passed.{pass_rest, pass_unstarted, rest_dead}
-use Rattle.automata_hybrid.proofs.Reading.{at_err}
-use Rattle.automata_hybrid.proofs.UnitsRead.{ended_here, pass_dies, start_had}
-use Rattle.automata_hybrid.proofs.Searching.{at_reads, clean_start, false_true, if_both, place_refuses, starts_at}
-use Rattle.automata_hybrid.proofs.Searching.{starts_dead, stops_start}
+use Rattle.automata_hybrid.proofs.Searches.Directions.{begins_alive, begins_dead}
+use Rattle.automata_hybrid.proofs.Searches.Cached.{learned_none}
+use Rattle.automata_hybrid.proofs.Searches.PassContracts.{pass_rest, pass_unstarted, rest_dead}
+use Rattle.automata_hybrid.proofs.Searches.Reads.{at_err}
+use Rattle.automata_hybrid.proofs.Searches.UnitsRead.{ended_here, pass_dies, start_had}
+use Rattle.automata_hybrid.proofs.Searches.PassState.{at_reads, clean_start, false_true, if_both, place_refuses, starts_at}
+use Rattle.automata_hybrid.proofs.Searches.PassState.{starts_dead, stops_start}
 use Rattle.automata_hybrid.proofs.dfa.DFA.begin.Goals as goal
 
 pub returns-then-is_dead-clause-answer : goal.returns-then-is_dead-clause-answer

@@ -1,19 +1,19 @@
 use Rattle.std.proofs.Common.{ℕ, sym, subst}
 use Rattle.std.specs.Prelude.{IfErr}
 use Rattle.automata_hybrid.specs.Walks.Contracts.{IsCallEffect, IsWalkCall}
-use Rattle.automata_hybrid.specs.Walks.Answers.{HasTold, IsWalkOf, IsWalkRefusal}
+use Rattle.automata_hybrid.specs.Walks.Answers.{HasReported, IsWalkOf, IsWalkRefusal}
 use Rattle.automata_hybrid.specs.Walks.State.{States, Walk, way_of}
 use Rattle.automata_hybrid.proofs.dfa.DFA.call.Goals as goal
 
 pub call_held-requires-clause-walk : goal.call_held-requires-clause-walk
 call_held-requires-clause-walk c =
     record {
-      told = subst (IsWalkOf (way_of c.args.way) c.args.self.now c.args.input.now) (sym c.walk.view_is) c.requires.walk;
+      reported = subst (IsWalkOf (way_of c.args.way) c.args.self.now c.args.input.now) (sym c.walk.view_is) c.requires.walk;
       itself = c.walk.invariant;
     }
 
 pub returns-clause-walk : goal.returns-clause-walk
-returns-clause-walk c = c.call_held.ensures.walk.told
+returns-clause-walk c = c.call_held.ensures.walk.reported
 
 pub returns-clause-call : goal.returns-clause-call
 returns-clause-call c =
@@ -22,7 +22,7 @@ returns-clause-call c =
 
 pub returns-clause-refusal : goal.returns-clause-refusal
 returns-clause-refusal c =
-    subst (λ (w : Walk). (k : ℕ) → HasTold (way_of c.args.way) c.args.self.now c.args.input.now w k → IfErr c.call_held.result (IsWalkRefusal States (way_of c.args.way) c.args.self.now c.call_held.new.cache.store c.args.input.now w k)) c.walk.view_is
+    subst (λ (w : Walk). (k : ℕ) → HasReported (way_of c.args.way) c.args.self.now c.args.input.now w k → IfErr c.call_held.result (IsWalkRefusal States (way_of c.args.way) c.args.self.now c.call_held.new.cache.store c.args.input.now w k)) c.walk.view_is
     c.call_held.ensures.refusal
 
 pub returns-clause-effect : goal.returns-clause-effect

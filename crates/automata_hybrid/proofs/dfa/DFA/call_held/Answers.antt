@@ -1,7 +1,7 @@
 use Rattle.std.proofs.Common.{suc, ◌∙◌, ap, subst, sym}
 use Rattle.std.specs.Prelude.{Err, Ok, Result}
 use Rattle.automata_base.specs.Haystacks.Tapes.{Direction}
-use Rattle.automata_base.specs.Laws.Walks.{OverlappingIsTold, WalksAreTold}
+use Rattle.automata_base.specs.Laws.Walks.{OverlappingIsReported, WalksAreReported}
 use Rattle.automata_base.specs.Answers.Within.{WalkLiesWithin}
 use Rattle.automata_config.specs.Options.{match_kind_of}
 use Rattle.automata_config.specs.declared.error.SearchError.{SearchError}
@@ -9,16 +9,16 @@ use Rattle.automata_hybrid.specs.Walks.State.{IsHeldItself, States, Walk, way_of
 use Rattle.automata_hybrid.specs.Walks.Contracts.{IsCallEffect}
 use Rattle.automata_hybrid.specs.Walks.Parts.{IsCallRefused}
 use Rattle.automata_hybrid.specs.declared.search.walk.Held.{Held}
-use Rattle.automata_hybrid.proofs.Owing.{is_store}
-use Rattle.automata_hybrid.proofs.Resuming.{held_itself, itself_held, supported_call}
-use Rattle.automata_hybrid.proofs.WalkAnswers.{walk_memory}
-use Rattle.automata_hybrid.proofs.WalkCalls.{still_walk}
-use Rattle.automata_hybrid.proofs.WalkWithin.{told_lies}
+use Rattle.automata_hybrid.proofs.Searches.Contracts.{is_store}
+use Rattle.automata_hybrid.proofs.Walks.Parts.{held_itself, itself_held, supported_call}
+use Rattle.automata_hybrid.proofs.Walks.Reach.{walk_memory}
+use Rattle.automata_hybrid.proofs.Walks.Calls.{still_walk}
+use Rattle.automata_hybrid.proofs.Walks.Bounds.{reported_lies}
 use Rattle.automata_hybrid.proofs.dfa.DFA.call_held.Goals as goal
 
 pub go_on-requires-clause-walk : goal.go_on-requires-clause-walk
 go_on-requires-clause-walk c =
-    record { told = c.requires.walk.told; holds = (held_itself c.args.cache.now.store.table c.args.walk.now.stage c.args.held.now c.requires.walk.itself).0 }
+    record { reported = c.requires.walk.reported; holds = (held_itself c.args.cache.now.store.table c.args.walk.now.stage c.args.held.now c.requires.walk.itself).0 }
 
 pub release-requires : goal.release-requires
 release-requires c =
@@ -27,29 +27,29 @@ release-requires c =
 
 pub returns-in-Ok-clause-walk : goal.returns-in-Ok-clause-walk
 returns-in-Ok-clause-walk c =
-    let walk = c.requires.walk.told in
-    record { told = (suc walk.0, (c.in-Ok.ensures.answer.tells walk.0 walk.1).0); itself = c.release.ensures }
+    let walk = c.requires.walk.reported in
+    record { reported = (suc walk.0, (c.in-Ok.ensures.answer.reports walk.0 walk.1).0); itself = c.release.ensures }
 
 pub returns-in-Ok-clause-call : goal.returns-in-Ok-clause-call
 returns-in-Ok-clause-call c =
     let d : Direction = way_of c.args.way in
     let m = c.args.self.now in
     let input = c.args.input.now in
-    let tells = c.in-Ok.ensures.answer.tells in
+    let reports = c.in-Ok.ensures.answer.reports in
     let answered : Result (Unit {0}) SearchError = Ok tt in
     let haystack = c.haystack-haystack.ensures in
-    let law : OverlappingIsTold m.nfa = subst OverlappingIsTold c.get_nfa.ensures c.walk_is_right.ensures.overlapping in
+    let law : OverlappingIsReported m.nfa = subst OverlappingIsReported c.get_nfa.ensures c.walk_is_right.ensures.overlapping in
     record {
-      tells = tells;
-      paths = λ free k pairs told overlapping.
-          ((tells k told).1 pairs (law d (match_kind_of m.config) input pairs free (haystack.bytes, haystack.within.1) overlapping)).0;
+      reports = reports;
+      paths = λ free k pairs reported overlapping.
+          ((reports k reported).1 pairs (law d (match_kind_of m.config) input pairs free (haystack.bytes, haystack.within.1) overlapping)).0;
       within =
-          told_lies d m input (subst WalksAreTold c.get_nfa.ensures c.walk_is_right.ensures.told)
+          reported_lies d m input (subst WalksAreReported c.get_nfa.ensures c.walk_is_right.ensures.reported)
           (subst WalkLiesWithin c.get_nfa.ensures c.walk_is_right.ensures.within) haystack.within.1
-          c.args.walk.now c.go_on.new.walk answered c.requires.walk.told tells tt;
+          c.args.walk.now c.go_on.new.walk answered c.requires.walk.reported reports tt;
       refused = tt;
-      errors = λ k told. tt;
-      unsupported = λ fresh u. absurd (supported_call d m input c.args.walk.now c.go_on.new.walk c.requires.walk.told tells u);
+      errors = λ k reported. tt;
+      unsupported = λ fresh u. absurd (supported_call d m input c.args.walk.now c.go_on.new.walk c.requires.walk.reported reports u);
       free = λ f. tt;
       ready = λ none. tt;
     }
@@ -62,18 +62,18 @@ returns-in-Ok-clause-effect c =
 pub returns-in-Err-clause-walk : goal.returns-in-Err-clause-walk
 returns-in-Err-clause-walk c =
     record {
-      told =
+      reported =
           still_walk (way_of c.args.way) c.args.self.now c.args.input.now c.args.walk.now SearchError (Err c.in-Err.error) c.go_on.new.walk
-          c.requires.walk.told tt c.in-Err.ensures.err.0;
+          c.requires.walk.reported tt c.in-Err.ensures.err.0;
       itself =
           subst (λ (h : Held). IsHeldItself c.go_on.new.walk.stage h) (sym c.in-Err.ensures.err.1)
           (subst (λ (w : Walk). IsHeldItself w.stage c.args.held.now) (sym c.in-Err.ensures.err.0) c.requires.walk.itself);
     }
 
 pub returns-in-Err-clause-refusal : goal.returns-in-Err-clause-refusal
-returns-in-Err-clause-refusal c = λ k told.
+returns-in-Err-clause-refusal c = λ k reported.
     (subst (λ n. IsCallRefused n (way_of c.args.way) c.args.self.now c.args.input.now c.args.walk.now c.go_on.new.cache.store c.in-Err.error)
-    (held_itself c.args.cache.now.store.table c.args.walk.now.stage c.args.held.now c.requires.walk.itself).1 c.in-Err.ensures.refusal).why k told
+    (held_itself c.args.cache.now.store.table c.args.walk.now.stage c.args.held.now c.requires.walk.itself).1 c.in-Err.ensures.refusal).why k reported
 
 pub returns-in-Err-clause-effect : goal.returns-in-Err-clause-effect
 returns-in-Err-clause-effect c =
@@ -92,17 +92,17 @@ returns-in-Err-clause-call c =
     let cache = c.go_on.new.cache.store in
     let haystack = c.haystack-haystack.ensures in
     record {
-      tells = tt;
-      paths = λ free k pairs told overlapping. tt;
+      reports = tt;
+      paths = λ free k pairs reported overlapping. tt;
       within =
-          told_lies d m input (subst WalksAreTold c.get_nfa.ensures c.walk_is_right.ensures.told)
+          reported_lies d m input (subst WalksAreReported c.get_nfa.ensures c.walk_is_right.ensures.reported)
           (subst WalkLiesWithin c.get_nfa.ensures c.walk_is_right.ensures.within) haystack.within.1
-          c.args.walk.now c.go_on.new.walk refused c.requires.walk.told tt c.in-Err.ensures.err.0;
+          c.args.walk.now c.go_on.new.walk refused c.requires.walk.reported tt c.in-Err.ensures.err.0;
       refused = c.in-Err.ensures.err.0;
-      errors = λ k told. (cache, is_store cache m c.in-Err.ensures.of c.see_bounds.ensures, r.why k told);
+      errors = λ k reported. (cache, is_store cache m c.in-Err.ensures.of c.see_bounds.ensures, r.why k reported);
       unsupported = λ fresh u. ap Err (r.unsupported fresh u);
       free = λ f.
           walk_memory d m cache input haystack.within.1 c.in-Err.ensures.of f.reach f.supported f.clears States c.args.walk.now
-          c.requires.walk.told.0 c.in-Err.error (r.why c.requires.walk.told.0 c.requires.walk.told.1);
+          c.requires.walk.reported.0 c.in-Err.error (r.why c.requires.walk.reported.0 c.requires.walk.reported.1);
       ready = r.ready;
     }

@@ -6,25 +6,25 @@ use Rattle.automata_base.specs.Haystacks.Input.{Input}
 use Rattle.automata_base.specs.Haystacks.PatternSet.{members}
 use Rattle.automata_base.specs.Paths.Selections.{Pair}
 use Rattle.automata_base.specs.Haystacks.Tapes.{Forward}
-use Rattle.automata_base.specs.Laws.Walks.{WalkIsRight, WalksAreTold}
+use Rattle.automata_base.specs.Laws.Walks.{WalkIsRight, WalksAreReported}
 use Rattle.automata_config.specs.declared.error.SearchError.{SearchError}
 use Rattle.automata_hybrid.specs.Cache.Caches.{CacheView}
 use Rattle.automata_hybrid.specs.Cache.Growth.{ClearedNothing, IsGrown}
 use Rattle.automata_hybrid.specs.Machines.Machine.{Machine}
-use Rattle.automata_hybrid.specs.Walks.Contracts.{IsCallEffect, IsSetTold, IsWhichEffect}
+use Rattle.automata_hybrid.specs.Walks.Contracts.{IsCallEffect, IsSetReported, IsWhichEffect}
 use Rattle.automata_hybrid.specs.Walks.Parts.{IsCallRefused}
 use Rattle.automata_hybrid.specs.Walks.Progress.{HaveCalled}
 use Rattle.automata_hybrid.specs.Walks.Answers.{AreWalked}
 use Rattle.automata_hybrid.specs.Walks.State.{Ended, Ids, Walk}
-use Rattle.automata_hybrid.proofs.Growing.{clears_none, grown_same, grown_trans, nothing_first, nothing_second}
-use Rattle.automata_hybrid.proofs.LearningSets.{half_none, learned_call, open_stops, set_knows}
-use Rattle.automata_hybrid.proofs.Reading.{at_err}
-use Rattle.automata_hybrid.proofs.Resuming.{supported_call}
-use Rattle.automata_hybrid.proofs.Searching.{false_true, if_err}
-use Rattle.automata_hybrid.proofs.WalkSets.{IsLacking, Joins, StandsWell, begun_state, calls_more, closes, joins_all}
-use Rattle.automata_hybrid.proofs.WalkSets.{joins_begin, joins_first, joins_full, joined_more, joins_more, lacking}
-use Rattle.automata_hybrid.proofs.WalkSets.{on_found, open_after, patterns_of, stands_well, steps_less, told_undone}
-use Rattle.automata_hybrid.proofs.WalkSets.{which_still, which_walk}
+use Rattle.automata_hybrid.proofs.Cache.Growth.{clears_none, grown_same, grown_trans, nothing_first, nothing_second}
+use Rattle.automata_hybrid.proofs.Walks.CachedSets.{half_none, learned_call, open_stops, set_knows}
+use Rattle.automata_hybrid.proofs.Searches.Reads.{at_err}
+use Rattle.automata_hybrid.proofs.Walks.Parts.{supported_call}
+use Rattle.automata_hybrid.proofs.Searches.PassState.{false_true, if_err}
+use Rattle.automata_hybrid.proofs.Walks.Sets.{IsLacking, Joins, StandsWell, begun_state, calls_more, closes, joins_all}
+use Rattle.automata_hybrid.proofs.Walks.Sets.{joins_begin, joins_first, joins_full, joined_more, joins_more, lacking}
+use Rattle.automata_hybrid.proofs.Walks.Sets.{on_found, open_after, patterns_of, stands_well, steps_less, reported_undone}
+use Rattle.automata_hybrid.proofs.Walks.Sets.{which_still, which_walk}
 use Rattle.automata_hybrid.proofs.dfa.DFA.collect.Goals as goal
 use Rattle.automata_config.specs.Options.{match_kind_of}
 
@@ -34,20 +34,20 @@ returns-in_err-go_on-clause-refusal c =
     if_err c.from_residual.result _ _ c.from_residual.ensures.1 (
       c.walk.walk,
       j.k,
-      j.told,
-      (subst (λ k. IsCallRefused k Forward c.args.self.now c.args.input.now c.walk.walk c.go_on.new.cache.store c.in_err-go_on.field-0.0) c.walk.invariant.keeping c.in_err-go_on.ensures.refusal).why j.k j.told,
+      j.reported,
+      (subst (λ k. IsCallRefused k Forward c.args.self.now c.args.input.now c.walk.walk c.go_on.new.cache.store c.in_err-go_on.field-0.0) c.walk.invariant.keeping c.in_err-go_on.ensures.refusal).why j.k j.reported,
       j.joined,
       open_after c.args.self.now c.args.input.now c.walk.walk c.args.patset.now c.walk.patset j,
     )
 
-pub returns-in_err-go_on-clause-told : goal.returns-in_err-go_on-clause-told
-returns-in_err-go_on-clause-told c =
+pub returns-in_err-go_on-clause-reported : goal.returns-in_err-go_on-clause-reported
+returns-in_err-go_on-clause-reported c =
     let m : Machine = c.args.self.now in
     let input : Input = c.args.input.now in
     let walk : Walk = c.walk.walk in
     let v = c.walk.invariant in
     let r = c.in_err-go_on.ensures.refusal in
-    at_err c.from_residual.result _ (λ (x : Result (Unit {0}) SearchError). IsSetTold m input c.args.patset.now c.walk.patset x) c.from_residual.ensures.1
+    at_err c.from_residual.result _ (λ (x : Result (Unit {0}) SearchError). IsSetReported m input c.args.patset.now c.walk.patset x) c.from_residual.ensures.1
     (record {
       found = tt;
       paths = λ free. tt;
@@ -67,8 +67,8 @@ returns-in_err-go_on-clause-effect c =
     let next : Walk = c.go_on.new.walk in
     let v = c.walk.invariant in
     let j = v.joins.0 in
-    let told : WalksAreTold m.nfa = subst WalksAreTold c.get_nfa.ensures c.walk_is_right.ensures.told in
-    let list : (pairs : List Pair) × AreWalked Forward m input pairs = told Forward (match_kind_of m.config) input in
+    let reported : WalksAreReported m.nfa = subst WalksAreReported c.get_nfa.ensures c.walk_is_right.ensures.reported in
+    let list : (pairs : List Pair) × AreWalked Forward m input pairs = reported Forward (match_kind_of m.config) input in
     let e : IsCallEffect {T = Unit {0}} Ids Forward m input walk next mid new (Err c.in_err-go_on.field-0.0) =
     subst (λ k. IsCallEffect {T = Unit {0}} k Forward m input walk next mid new (Err c.in_err-go_on.field-0.0)) v.keeping c.in_err-go_on.ensures.effect in
     let stepped : IsGrown mid new = e.there v.there in
@@ -93,24 +93,24 @@ returns-in_err-go_on-clause-effect c =
       done = λ past. e.ready (inr (inr (omega (arith, past)))) ∙ (v.done past).0;
     })
 
-pub returns-in_default-clause-told : goal.returns-in_default-clause-told
-returns-in_default-clause-told c =
+pub returns-in_default-clause-reported : goal.returns-in_default-clause-reported
+returns-in_default-clause-reported c =
     let m : Machine = c.args.self.now in
     let input : Input = c.args.input.now in
     let old : List Bool = c.args.patset.now in
     let set : List Bool = c.walk.patset in
     let v = c.walk.invariant in
     let j = v.joins.0 in
-    let tells = c.in_ok-go_on.ensures.answer.tells in
-    let told : WalksAreTold m.nfa = subst WalksAreTold c.get_nfa.ensures c.walk_is_right.ensures.told in
-    let list : (pairs : List Pair) × AreWalked Forward m input pairs = told Forward (match_kind_of m.config) input in
-    let found = joins_all m input old c.walk.walk c.go_on.new.walk set j tells list (sym c.get_match.ensures ∙ c.in_default.«is») in
+    let reports = c.in_ok-go_on.ensures.answer.reports in
+    let reported : WalksAreReported m.nfa = subst WalksAreReported c.get_nfa.ensures c.walk_is_right.ensures.reported in
+    let list : (pairs : List Pair) × AreWalked Forward m input pairs = reported Forward (match_kind_of m.config) input in
+    let found = joins_all m input old c.walk.walk c.go_on.new.walk set j reports list (sym c.get_match.ensures ∙ c.in_default.«is») in
     record {
       found = found;
       paths = λ free. patterns_of m input (subst WalkIsRight c.get_nfa.ensures c.walk_is_right.ensures.right)
           (c.haystack-haystack.ensures.bytes, c.haystack-haystack.ensures.within.1) old set free found;
       capacity = j.capacity;
-      unsupported = λ u. absurd (supported_call Forward m input c.walk.walk c.go_on.new.walk (j.k, j.told) tells u);
+      unsupported = λ u. absurd (supported_call Forward m input c.walk.walk c.go_on.new.walk (j.k, j.reported) reports u);
       done = λ past. (refl, (v.done past).1);
     }
 
@@ -125,14 +125,14 @@ returns-in_default-clause-effect c =
     let next : Walk = c.go_on.new.walk in
     let v = c.walk.invariant in
     let j = v.joins.0 in
-    let told : WalksAreTold m.nfa = subst WalksAreTold c.get_nfa.ensures c.walk_is_right.ensures.told in
-    let list : (pairs : List Pair) × AreWalked Forward m input pairs = told Forward (match_kind_of m.config) input in
+    let reported : WalksAreReported m.nfa = subst WalksAreReported c.get_nfa.ensures c.walk_is_right.ensures.reported in
+    let list : (pairs : List Pair) × AreWalked Forward m input pairs = reported Forward (match_kind_of m.config) input in
     let e = c.in_ok-go_on.ensures.effect in
     let stepped : IsGrown mid new = e.there v.there in
     let grown : IsGrown old new = grown_trans old mid new v.grown stepped in
     let cost : new.count ≤ old.count + (input.end - input.start + 2) = omega (arith, e.most, v.counted, v.few) in
     let a = c.in_ok-go_on.ensures.answer in
-    let after = (a.tells j.k j.told).1 list.0 list.1 in
+    let after = (a.reports j.k j.reported).1 list.0 list.1 in
     let last : next.stage ≡ Ended = after.1 (half_none list.0 j.k (sym after.0 ∙ (sym c.get_match.ensures ∙ c.in_default.«is»))) in
     record {
       cost = cost;
@@ -144,7 +144,7 @@ returns-in_default-clause-effect c =
       learned = λ nothing undone may. (
           let first : ClearedNothing old.store mid.store = nothing_first old mid new v.grown stepped nothing in
           let second : ClearedNothing mid.store new.store = nothing_second old mid new v.grown stepped nothing in
-          let all = learned_call m input mid new walk next j.k stepped second j.told undone may (v.learned first undone may) (e.learned second) (a.learned second) in
+          let all = learned_call m input mid new walk next j.k stepped second j.reported undone may (v.learned first undone may) (e.learned second) (a.learned second) in
           set_knows m new.store input c.args.patset.now next all
           (λ n pairs l reads unsplit is_open. a.stops undone v.on last n l reads));
       known = λ knows. (
@@ -155,15 +155,15 @@ returns-in_default-clause-effect c =
       ended = (
         suc j.k,
         next,
-        (walk, mid.store, v.joins.1, open_after m input walk c.args.patset.now c.walk.patset j, a.tells, e.ended),
+        (walk, mid.store, v.joins.1, open_after m input walk c.args.patset.now c.walk.patset j, a.reports, e.ended),
         inl last,
       );
       left = tt;
       done = λ past. e.ready (inr (inr (omega (arith, past)))) ∙ (v.done past).0;
     }
 
-pub returns-then-is_full-clause-told : goal.returns-then-is_full-clause-told
-returns-then-is_full-clause-told c =
+pub returns-then-is_full-clause-reported : goal.returns-then-is_full-clause-reported
+returns-then-is_full-clause-reported c =
     let m : Machine = c.args.self.now in
     let input : Input = c.args.input.now in
     let old : List Bool = c.args.patset.now in
@@ -173,22 +173,22 @@ returns-then-is_full-clause-told c =
     let next : Walk = c.go_on.new.walk in
     let j = c.walk.invariant.joins.0 in
     let a = c.in_ok-go_on.ensures.answer in
-    let told : WalksAreTold m.nfa = subst WalksAreTold c.get_nfa.ensures c.walk_is_right.ensures.told in
-    let list : (pairs : List Pair) × AreWalked Forward m input pairs = told Forward (match_kind_of m.config) input in
+    let reported : WalksAreReported m.nfa = subst WalksAreReported c.get_nfa.ensures c.walk_is_right.ensures.reported in
+    let list : (pairs : List Pair) × AreWalked Forward m input pairs = reported Forward (match_kind_of m.config) input in
     let seen : next.found ≡ Some half = sym c.get_match.ensures ∙ c.in-Some.«is» in
     let put : c.try_insert.new.self ≡ set before half.pattern true = c.try_insert.ensures.inserted ∙ ap (λ n. set before n true) c.pattern.ensures in
     let on = on_found walk next half a.goes_on seen in
     let found : ArePatterns (AreWalked Forward m input) input (length old) (members old) (members c.try_insert.new.self) =
     subst (λ (s : List Bool). ArePatterns (AreWalked Forward m input) input (length old) (members old) (members s)) (sym put)
-    (joins_full m input old walk next before j a.tells list half seen
+    (joins_full m input old walk next before j a.reports list half seen
     (subst (λ (s : List Bool). length (members s) ≡ length s) put (c.is_full.ensures.0 c.if-is_full.true))) in
     record {
       found = found;
       paths = λ free. patterns_of m input (subst WalkIsRight c.get_nfa.ensures c.walk_is_right.ensures.right)
           (c.haystack-haystack.ensures.bytes, c.haystack-haystack.ensures.within.1) old c.try_insert.new.self free found;
       capacity = ap length put ∙ (length-set before half.pattern true ∙ j.capacity);
-      unsupported = λ u. absurd (supported_call Forward m input walk next (j.k, j.told) a.tells u);
-      done = λ past. (let undone = told_undone m input next j.k (a.tells j.k j.told).0 on.0 in absurd (omega (arith, past, undone)));
+      unsupported = λ u. absurd (supported_call Forward m input walk next (j.k, j.reported) a.reports u);
+      done = λ past. (let undone = reported_undone m input next j.k (a.reports j.k j.reported).0 on.0 in absurd (omega (arith, past, undone)));
     }
 
 pub returns-then-is_full-clause-effect : goal.returns-then-is_full-clause-effect
@@ -202,8 +202,8 @@ returns-then-is_full-clause-effect c =
     let next : Walk = c.go_on.new.walk in
     let v = c.walk.invariant in
     let j = v.joins.0 in
-    let told : WalksAreTold m.nfa = subst WalksAreTold c.get_nfa.ensures c.walk_is_right.ensures.told in
-    let list : (pairs : List Pair) × AreWalked Forward m input pairs = told Forward (match_kind_of m.config) input in
+    let reported : WalksAreReported m.nfa = subst WalksAreReported c.get_nfa.ensures c.walk_is_right.ensures.reported in
+    let list : (pairs : List Pair) × AreWalked Forward m input pairs = reported Forward (match_kind_of m.config) input in
     let e = c.in_ok-go_on.ensures.effect in
     let stepped : IsGrown mid new = e.there v.there in
     let grown : IsGrown old new = grown_trans old mid new v.grown stepped in
@@ -223,10 +223,10 @@ returns-then-is_full-clause-effect c =
       learned = λ nothing undone may. (
           let first : ClearedNothing old.store mid.store = nothing_first old mid new v.grown stepped nothing in
           let second : ClearedNothing mid.store new.store = nothing_second old mid new v.grown stepped nothing in
-          let all = learned_call m input mid new walk next j.k stepped second j.told undone may (v.learned first undone may) (e.learned second) (a.learned second) in
+          let all = learned_call m input mid new walk next j.k stepped second j.reported undone may (v.learned first undone may) (e.learned second) (a.learned second) in
           set_knows m new.store input c.args.patset.now next all
-          (open_stops m input next j.k (a.tells j.k j.told).0 on.0 c.args.patset.now (set c.walk.patset c.in-Some.half.pattern true) list.0 undone list.1 capacity
-          (joined_more m input c.args.patset.now walk next c.walk.patset j a.tells list c.in-Some.half found)
+          (open_stops m input next j.k (a.reports j.k j.reported).0 on.0 c.args.patset.now (set c.walk.patset c.in-Some.half.pattern true) list.0 undone list.1 capacity
+          (joined_more m input c.args.patset.now walk next c.walk.patset j a.reports list c.in-Some.half found)
           (inr (subst (λ (s : List Bool). length (members s) ≡ length s) put (c.is_full.ensures.0 c.if-is_full.true)))));
       known = λ knows. (
           let count : mid.count ≡ old.count = v.idle knows in
@@ -236,19 +236,19 @@ returns-then-is_full-clause-effect c =
       ended = (
         suc j.k,
         next,
-        (walk, mid.store, v.joins.1, open_after m input walk c.args.patset.now c.walk.patset j, a.tells, e.ended),
+        (walk, mid.store, v.joins.1, open_after m input walk c.args.patset.now c.walk.patset j, a.reports, e.ended),
         inr (λ pairs walked.
             closes input c.args.patset.now (set c.walk.patset c.in-Some.half.pattern true) pairs j.k c.in-Some.half
-            (sym ((a.tells j.k j.told).1 pairs walked).0 ∙ found) capacity
-            (joined_more m input c.args.patset.now walk next c.walk.patset j a.tells (pairs, walked) c.in-Some.half found)
+            (sym ((a.reports j.k j.reported).1 pairs walked).0 ∙ found) capacity
+            (joined_more m input c.args.patset.now walk next c.walk.patset j a.reports (pairs, walked) c.in-Some.half found)
             (inr (subst (λ (s : List Bool). length (members s) ≡ length s) put (c.is_full.ensures.0 c.if-is_full.true)))),
       );
       left = tt;
       done = λ past. e.ready (inr (inr (omega (arith, past)))) ∙ (v.done past).0;
     }
 
-pub returns-then-get_earliest-clause-told : goal.returns-then-get_earliest-clause-told
-returns-then-get_earliest-clause-told c =
+pub returns-then-get_earliest-clause-reported : goal.returns-then-get_earliest-clause-reported
+returns-then-get_earliest-clause-reported c =
     let m : Machine = c.args.self.now in
     let input : Input = c.args.input.now in
     let old : List Bool = c.args.patset.now in
@@ -258,21 +258,21 @@ returns-then-get_earliest-clause-told c =
     let next : Walk = c.go_on.new.walk in
     let j = c.walk.invariant.joins.0 in
     let a = c.in_ok-go_on.ensures.answer in
-    let told : WalksAreTold m.nfa = subst WalksAreTold c.get_nfa.ensures c.walk_is_right.ensures.told in
-    let list : (pairs : List Pair) × AreWalked Forward m input pairs = told Forward (match_kind_of m.config) input in
+    let reported : WalksAreReported m.nfa = subst WalksAreReported c.get_nfa.ensures c.walk_is_right.ensures.reported in
+    let list : (pairs : List Pair) × AreWalked Forward m input pairs = reported Forward (match_kind_of m.config) input in
     let seen : next.found ≡ Some half = sym c.get_match.ensures ∙ c.in-Some.«is» in
     let put : c.try_insert.new.self ≡ set before half.pattern true = c.try_insert.ensures.inserted ∙ ap (λ n. set before n true) c.pattern.ensures in
     let on = on_found walk next half a.goes_on seen in
     let found : ArePatterns (AreWalked Forward m input) input (length old) (members old) (members c.try_insert.new.self) =
     subst (λ (s : List Bool). ArePatterns (AreWalked Forward m input) input (length old) (members old) (members s)) (sym put)
-    (joins_first m input old walk next before j a.tells list half seen (sym c.get_earliest.ensures ∙ c.if-get_earliest.true)) in
+    (joins_first m input old walk next before j a.reports list half seen (sym c.get_earliest.ensures ∙ c.if-get_earliest.true)) in
     record {
       found = found;
       paths = λ free. patterns_of m input (subst WalkIsRight c.get_nfa.ensures c.walk_is_right.ensures.right)
           (c.haystack-haystack.ensures.bytes, c.haystack-haystack.ensures.within.1) old c.try_insert.new.self free found;
       capacity = ap length put ∙ (length-set before half.pattern true ∙ j.capacity);
-      unsupported = λ u. absurd (supported_call Forward m input walk next (j.k, j.told) a.tells u);
-      done = λ past. (let undone = told_undone m input next j.k (a.tells j.k j.told).0 on.0 in absurd (omega (arith, past, undone)));
+      unsupported = λ u. absurd (supported_call Forward m input walk next (j.k, j.reported) a.reports u);
+      done = λ past. (let undone = reported_undone m input next j.k (a.reports j.k j.reported).0 on.0 in absurd (omega (arith, past, undone)));
     }
 
 pub returns-then-get_earliest-clause-effect : goal.returns-then-get_earliest-clause-effect
@@ -286,8 +286,8 @@ returns-then-get_earliest-clause-effect c =
     let next : Walk = c.go_on.new.walk in
     let v = c.walk.invariant in
     let j = v.joins.0 in
-    let told : WalksAreTold m.nfa = subst WalksAreTold c.get_nfa.ensures c.walk_is_right.ensures.told in
-    let list : (pairs : List Pair) × AreWalked Forward m input pairs = told Forward (match_kind_of m.config) input in
+    let reported : WalksAreReported m.nfa = subst WalksAreReported c.get_nfa.ensures c.walk_is_right.ensures.reported in
+    let list : (pairs : List Pair) × AreWalked Forward m input pairs = reported Forward (match_kind_of m.config) input in
     let e = c.in_ok-go_on.ensures.effect in
     let stepped : IsGrown mid new = e.there v.there in
     let grown : IsGrown old new = grown_trans old mid new v.grown stepped in
@@ -307,10 +307,10 @@ returns-then-get_earliest-clause-effect c =
       learned = λ nothing undone may. (
           let first : ClearedNothing old.store mid.store = nothing_first old mid new v.grown stepped nothing in
           let second : ClearedNothing mid.store new.store = nothing_second old mid new v.grown stepped nothing in
-          let all = learned_call m input mid new walk next j.k stepped second j.told undone may (v.learned first undone may) (e.learned second) (a.learned second) in
+          let all = learned_call m input mid new walk next j.k stepped second j.reported undone may (v.learned first undone may) (e.learned second) (a.learned second) in
           set_knows m new.store input c.args.patset.now next all
-          (open_stops m input next j.k (a.tells j.k j.told).0 on.0 c.args.patset.now (set c.walk.patset c.in-Some.half.pattern true) list.0 undone list.1 capacity
-          (joined_more m input c.args.patset.now walk next c.walk.patset j a.tells list c.in-Some.half found)
+          (open_stops m input next j.k (a.reports j.k j.reported).0 on.0 c.args.patset.now (set c.walk.patset c.in-Some.half.pattern true) list.0 undone list.1 capacity
+          (joined_more m input c.args.patset.now walk next c.walk.patset j a.reports list c.in-Some.half found)
           (inl (sym c.get_earliest.ensures ∙ c.if-get_earliest.true))));
       known = λ knows. (
           let count : mid.count ≡ old.count = v.idle knows in
@@ -320,11 +320,11 @@ returns-then-get_earliest-clause-effect c =
       ended = (
         suc j.k,
         next,
-        (walk, mid.store, v.joins.1, open_after m input walk c.args.patset.now c.walk.patset j, a.tells, e.ended),
+        (walk, mid.store, v.joins.1, open_after m input walk c.args.patset.now c.walk.patset j, a.reports, e.ended),
         inr (λ pairs walked.
             closes input c.args.patset.now (set c.walk.patset c.in-Some.half.pattern true) pairs j.k c.in-Some.half
-            (sym ((a.tells j.k j.told).1 pairs walked).0 ∙ found) capacity
-            (joined_more m input c.args.patset.now walk next c.walk.patset j a.tells (pairs, walked) c.in-Some.half found)
+            (sym ((a.reports j.k j.reported).1 pairs walked).0 ∙ found) capacity
+            (joined_more m input c.args.patset.now walk next c.walk.patset j a.reports (pairs, walked) c.in-Some.half found)
             (inl (sym c.get_earliest.ensures ∙ c.if-get_earliest.true))),
       );
       left = tt;
@@ -338,7 +338,7 @@ walk-smaller c =
     let on = on_found c.walk.walk c.go_on.new.walk c.in-Some.half c.in_ok-go_on.ensures.answer.goes_on found in
     let j = c.walk.invariant.joins.0 in
     steps_less c.args.self.now c.args.input.now c.haystack-haystack.ensures.within.1 c.walk.walk c.go_on.new.walk
-    (stands_well c.args.self.now c.args.input.now c.haystack-haystack.ensures.within.1 c.go_on.new.walk j.k (c.in_ok-go_on.ensures.answer.tells j.k j.told).0 on.0) on.1
+    (stands_well c.args.self.now c.args.input.now c.haystack-haystack.ensures.within.1 c.go_on.new.walk j.k (c.in_ok-go_on.ensures.answer.reports j.k j.reported).0 on.0) on.1
 
 pub walk-init : goal.walk-init
 walk-init c = record {
@@ -360,14 +360,14 @@ walk-init c = record {
 
 pub walk-preserved : goal.walk-preserved
 walk-preserved c =
-    let told : WalksAreTold c.args.self.now.nfa = subst WalksAreTold c.get_nfa.ensures c.walk_is_right.ensures.told in
-    let list : (pairs : List Pair) × AreWalked Forward c.args.self.now c.args.input.now pairs = told Forward (match_kind_of c.args.self.now.config) c.args.input.now in
+    let reported : WalksAreReported c.args.self.now.nfa = subst WalksAreReported c.get_nfa.ensures c.walk_is_right.ensures.reported in
+    let list : (pairs : List Pair) × AreWalked Forward c.args.self.now c.args.input.now pairs = reported Forward (match_kind_of c.args.self.now.config) c.args.input.now in
     let found : c.go_on.new.walk.found ≡ Some c.in-Some.half = sym c.get_match.ensures ∙ c.in-Some.«is» in
     let put : c.try_insert.new.self ≡ set c.walk.patset c.in-Some.half.pattern true = c.try_insert.ensures.inserted ∙ ap (λ n. set c.walk.patset n true) c.pattern.ensures in
     let on = on_found c.walk.walk c.go_on.new.walk c.in-Some.half c.in_ok-go_on.ensures.answer.goes_on found in
     let j = c.walk.invariant.joins.0 in
     let well : StandsWell c.args.self.now c.args.input.now c.haystack-haystack.ensures.within.1 c.go_on.new.walk =
-    stands_well c.args.self.now c.args.input.now c.haystack-haystack.ensures.within.1 c.go_on.new.walk j.k (c.in_ok-go_on.ensures.answer.tells j.k j.told).0 on.0 in
+    stands_well c.args.self.now c.args.input.now c.haystack-haystack.ensures.within.1 c.go_on.new.walk j.k (c.in_ok-go_on.ensures.answer.reports j.k j.reported).0 on.0 in
     let lacks : IsLacking (set c.walk.patset c.in-Some.half.pattern true) = lacking _ 0 (λ full.
     let whole : IsTrue c.is_full.result = c.is_full.ensures.1 (subst (λ (s : List Bool). length (members s) ≡ length s) (sym put) full) in
     false_true (sym c.if-is_full.false ∙ whole)) in
@@ -378,8 +378,8 @@ walk-preserved c =
       counted = omega (arith, well.begun, c.in_ok-go_on.ensures.effect.cost, c.walk.invariant.counted);
       few = well.units;
       idle = λ knows. (
-          let told : WalksAreTold c.args.self.now.nfa = subst WalksAreTold c.get_nfa.ensures c.walk_is_right.ensures.told in
-          let list : (pairs : List Pair) × AreWalked Forward c.args.self.now c.args.input.now pairs = told Forward (match_kind_of c.args.self.now.config) c.args.input.now in
+          let reported : WalksAreReported c.args.self.now.nfa = subst WalksAreReported c.get_nfa.ensures c.walk_is_right.ensures.reported in
+          let list : (pairs : List Pair) × AreWalked Forward c.args.self.now c.args.input.now pairs = reported Forward (match_kind_of c.args.self.now.config) c.args.input.now in
           let count : c.walk.cache.count ≡ c.args.cache.now.count = c.walk.invariant.idle knows in
           let here = c.in_ok-go_on.ensures.effect.known (which_walk c.args.self.now c.walk.cache.store c.args.input.now c.walk.walk c.args.patset.now c.walk.patset c.walk.invariant.joins.0 list c.walk.invariant.there
           (which_still c.args.self.now c.args.input.now c.args.patset.now c.args.cache.now c.walk.cache c.walk.invariant.grown count knows)) in
@@ -391,19 +391,19 @@ walk-preserved c =
           let stepped : IsGrown c.walk.cache c.go_on.new.cache = c.in_ok-go_on.ensures.effect.there c.walk.invariant.there in
           let first : ClearedNothing c.args.cache.now.store c.walk.cache.store = nothing_first c.args.cache.now c.walk.cache c.go_on.new.cache c.walk.invariant.grown stepped nothing in
           let second : ClearedNothing c.walk.cache.store c.go_on.new.cache.store = nothing_second c.args.cache.now c.walk.cache c.go_on.new.cache c.walk.invariant.grown stepped nothing in
-          let all = learned_call c.args.self.now c.args.input.now c.walk.cache c.go_on.new.cache c.walk.walk c.go_on.new.walk j.k stepped second j.told undone may (c.walk.invariant.learned first undone may) (c.in_ok-go_on.ensures.effect.learned second) (c.in_ok-go_on.ensures.answer.learned second) in
+          let all = learned_call c.args.self.now c.args.input.now c.walk.cache c.go_on.new.cache c.walk.walk c.go_on.new.walk j.k stepped second j.reported undone may (c.walk.invariant.learned first undone may) (c.in_ok-go_on.ensures.effect.learned second) (c.in_ok-go_on.ensures.answer.learned second) in
           inr all);
       started = λ knows. (
           let less = (c.in_ok-go_on.ensures.effect.started (begun_state c.args.self.now c.args.input.now c.walk.walk.stage c.args.cache.now c.walk.cache c.walk.invariant.grown c.walk.invariant.there knows)).1 in
           omega (arith, less, c.walk.invariant.started knows));
       done = λ past. (
-          let undone = told_undone c.args.self.now c.args.input.now c.go_on.new.walk j.k (c.in_ok-go_on.ensures.answer.tells j.k j.told).0 on.0 in
+          let undone = reported_undone c.args.self.now c.args.input.now c.go_on.new.walk j.k (c.in_ok-go_on.ensures.answer.reports j.k j.reported).0 on.0 in
           absurd (omega (arith, past, undone)));
-      begins = λ u. absurd (supported_call Forward c.args.self.now c.args.input.now c.walk.walk c.go_on.new.walk (j.k, j.told) c.in_ok-go_on.ensures.answer.tells u);
+      begins = λ u. absurd (supported_call Forward c.args.self.now c.args.input.now c.walk.walk c.go_on.new.walk (j.k, j.reported) c.in_ok-go_on.ensures.answer.reports u);
       joins =
           subst (λ (s : List Bool). (i : Joins c.args.self.now c.args.input.now c.go_on.new.walk c.args.patset.now s) × HaveCalled c.args.self.now c.args.input.now c.args.patset.now i.k c.args.cache.now.store c.go_on.new.walk c.go_on.new.cache.store) (sym put) (
-            joins_more c.args.self.now c.args.input.now c.args.patset.now c.walk.walk c.go_on.new.walk c.walk.patset c.walk.invariant.joins.0 c.in_ok-go_on.ensures.answer.tells list c.in-Some.half found (sym c.get_earliest.ensures ∙ c.if-get_earliest.false) lacks,
-            calls_more c.args.self.now c.args.input.now c.args.patset.now c.walk.walk c.go_on.new.walk c.walk.patset c.walk.invariant.joins.0 c.in_ok-go_on.ensures.answer.tells list c.in-Some.half found (sym c.get_earliest.ensures ∙ c.if-get_earliest.false) lacks c.args.cache.now.store c.go_on.new.cache.store
-                (c.walk.walk, c.walk.cache.store, c.walk.invariant.joins.1, open_after c.args.self.now c.args.input.now c.walk.walk c.args.patset.now c.walk.patset j, c.in_ok-go_on.ensures.answer.tells, c.in_ok-go_on.ensures.effect.ended),
+            joins_more c.args.self.now c.args.input.now c.args.patset.now c.walk.walk c.go_on.new.walk c.walk.patset c.walk.invariant.joins.0 c.in_ok-go_on.ensures.answer.reports list c.in-Some.half found (sym c.get_earliest.ensures ∙ c.if-get_earliest.false) lacks,
+            calls_more c.args.self.now c.args.input.now c.args.patset.now c.walk.walk c.go_on.new.walk c.walk.patset c.walk.invariant.joins.0 c.in_ok-go_on.ensures.answer.reports list c.in-Some.half found (sym c.get_earliest.ensures ∙ c.if-get_earliest.false) lacks c.args.cache.now.store c.go_on.new.cache.store
+                (c.walk.walk, c.walk.cache.store, c.walk.invariant.joins.1, open_after c.args.self.now c.args.input.now c.walk.walk c.args.patset.now c.walk.patset j, c.in_ok-go_on.ensures.answer.reports, c.in_ok-go_on.ensures.effect.ended),
           );
     }

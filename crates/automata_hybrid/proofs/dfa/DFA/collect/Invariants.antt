@@ -10,8 +10,8 @@ use Rattle.automata_hybrid.specs.Searches.Passes.{tape_in}
 use Rattle.automata_hybrid.specs.Steps.Starts.{MayStart}
 use Rattle.automata_hybrid.specs.Walks.Answers.{HasItsState, start_count}
 use Rattle.automata_hybrid.specs.Walks.State.{Ended, Fresh, Ids, IsHeldAt, keeping_of}
-use Rattle.automata_hybrid.proofs.LearningSets.{HasLearnedWalk}
-use Rattle.automata_hybrid.proofs.WalkSets.{Joins, steps_left}
+use Rattle.automata_hybrid.proofs.Walks.CachedSets.{HasLearnedWalk}
+use Rattle.automata_hybrid.proofs.Walks.Sets.{Joins, steps_left}
 use Rattle.automata_hybrid.proofs.dfa.DFA.collect.Given as goal
 
 abbrev pub invariant-walk : goal.invariant-walk

@@ -8,18 +8,18 @@ use Rattle.automata_hybrid.specs.Searches.Cached.{KnowsPass}
 use Rattle.automata_hybrid.specs.Searches.PassState.{HasLearned, IsAt}
 use Rattle.automata_hybrid.specs.Steps.Steps.{known_step}
 use Rattle.automata_hybrid.specs.Searches.Passes.{Reads, given_up_offset, tape_in}
-use Rattle.automata_hybrid.proofs.Growing.{grown_same, grown_trans, nothing_first, nothing_second}
-use Rattle.automata_hybrid.proofs.Knowing.{knows_here, knows_still, learned_step}
+use Rattle.automata_hybrid.proofs.Cache.Growth.{grown_same, grown_trans, nothing_first, nothing_second}
+use Rattle.automata_hybrid.proofs.Searches.Cached.{knows_here, knows_still, learned_step}
 use Rattle.std.proofs.lemmas.Result.{IfErr-weaker, IfOk-weaker}
-use Rattle.automata_hybrid.proofs.Passed.{dead_answer, dead_stops, first_answer, first_stops, rest_read, rest_refused}
-use Rattle.automata_hybrid.proofs.Passed.{rest_then}
-use Rattle.automata_hybrid.proofs.UnitsRead.{AreReadTo, ended_here, pass_last, pass_left_then, pass_stopped, read_exactly}
-use Rattle.automata_hybrid.proofs.UnitsRead.{read_known, read_none, read_then, refused_here, taken_here}
-use Rattle.automata_hybrid.proofs.Searching.{at_reads, stops_dead, stops_ends, stops_last, more_leads, more_at}
-use Rattle.automata_hybrid.proofs.Searching.{place_refuses, step_refuses, unit_refuses, if_both, false_true}
-use Rattle.automata_hybrid.proofs.Searching.{some_is, none_is}
-use Rattle.automata_hybrid.proofs.Directions.{not_behind, quit_free, span_unit, units_in}
-use Rattle.automata_hybrid.proofs.Stepping.{dead_tagged}
+use Rattle.automata_hybrid.proofs.Searches.PassContracts.{dead_answer, dead_stops, first_answer, first_stops, rest_read, rest_refused}
+use Rattle.automata_hybrid.proofs.Searches.PassContracts.{rest_then}
+use Rattle.automata_hybrid.proofs.Searches.UnitsRead.{AreReadTo, ended_here, pass_last, pass_left_then, pass_stopped, read_exactly}
+use Rattle.automata_hybrid.proofs.Searches.UnitsRead.{read_known, read_none, read_then, refused_here, taken_here}
+use Rattle.automata_hybrid.proofs.Searches.PassState.{at_reads, stops_dead, stops_ends, stops_last, more_leads, more_at}
+use Rattle.automata_hybrid.proofs.Searches.PassState.{place_refuses, step_refuses, unit_refuses, if_both, false_true}
+use Rattle.automata_hybrid.proofs.Searches.PassState.{some_is, none_is}
+use Rattle.automata_hybrid.proofs.Searches.Directions.{not_behind, quit_free, span_unit, units_in}
+use Rattle.automata_hybrid.proofs.Steps.Ids.{dead_tagged}
 use Rattle.automata_hybrid.specs.Walks.State.{way_of}
 use Rattle.automata_hybrid.proofs.dfa.DFA.find.Goals as goal
 use Rattle.automata_hybrid.proofs.dfa.DFA.find.Goals.{else-get_earliest-via-then-get_earliest+else-is_some}

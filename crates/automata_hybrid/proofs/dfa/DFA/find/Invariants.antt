@@ -4,7 +4,7 @@ use Rattle.automata_hybrid.specs.Cache.Growth.{IsGrown, ClearedNothing}
 use Rattle.automata_hybrid.specs.Searches.Cached.{KnowsItsStart, KnowsPass}
 use Rattle.automata_hybrid.specs.Searches.PassState.{HasLearned, IsAt}
 use Rattle.automata_hybrid.specs.Walks.State.{way_of}
-use Rattle.automata_hybrid.proofs.UnitsRead.{AreReadBehind}
+use Rattle.automata_hybrid.proofs.Searches.UnitsRead.{AreReadBehind}
 use Rattle.automata_hybrid.proofs.dfa.DFA.find.Given as goal
 
 abbrev pub invariant-loop-at : goal.invariant-loop-at

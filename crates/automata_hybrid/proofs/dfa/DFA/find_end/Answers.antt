@@ -12,10 +12,10 @@ use Rattle.automata_hybrid.specs.Searches.Passes.{given_up_offset, state_in, tap
 use Rattle.automata_config.specs.Options.{match_kind_of}
 use Rattle.automata_hybrid.specs.Cache.Table.{IsValid, Rows, Leads, Names}
 use Rattle.automata_hybrid.specs.Walks.State.{way_of}
-use Rattle.automata_hybrid.proofs.Directions.{units_in}
-use Rattle.automata_hybrid.proofs.Passed.{last_answer, rest_read, rest_refused, stands_alive}
-use Rattle.automata_hybrid.proofs.UnitsRead.{ended_here, last_left, last_read, refused_here, taken_here}
-use Rattle.automata_hybrid.proofs.Searching.{unit_refuses, stops_last}
+use Rattle.automata_hybrid.proofs.Searches.Directions.{units_in}
+use Rattle.automata_hybrid.proofs.Searches.PassContracts.{last_answer, rest_read, rest_refused, stands_alive}
+use Rattle.automata_hybrid.proofs.Searches.UnitsRead.{ended_here, last_left, last_read, refused_here, taken_here}
+use Rattle.automata_hybrid.proofs.Searches.PassState.{unit_refuses, stops_last}
 use Rattle.automata_hybrid.proofs.dfa.DFA.find_end.Goals as goal
 
 pub read-requires-clause-valid : goal.read-requires-clause-valid

@@ -6,11 +6,11 @@ use Rattle.automata_config.specs.declared.error.SearchError.{SearchError}
 use Rattle.automata_hybrid.specs.Searches.PassContracts.{IsRestEffect}
 use Rattle.automata_hybrid.specs.Searches.Passes.{tape_in}
 use Rattle.automata_hybrid.specs.Walks.State.{way_of}
-use Rattle.automata_hybrid.proofs.Directions.{none_empty, units_in}
-use Rattle.automata_hybrid.proofs.Passed.{last_answer, rest_read, rest_refused}
-use Rattle.automata_hybrid.proofs.Reading.{at_err}
-use Rattle.automata_hybrid.proofs.Searching.{unit_refuses, stops_last, if_err}
-use Rattle.automata_hybrid.proofs.UnitsRead.{step_reads}
+use Rattle.automata_hybrid.proofs.Searches.Directions.{none_empty, units_in}
+use Rattle.automata_hybrid.proofs.Searches.PassContracts.{last_answer, rest_read, rest_refused}
+use Rattle.automata_hybrid.proofs.Searches.Reads.{at_err}
+use Rattle.automata_hybrid.proofs.Searches.PassState.{unit_refuses, stops_last, if_err}
+use Rattle.automata_hybrid.proofs.Searches.UnitsRead.{step_reads}
 use Rattle.automata_hybrid.proofs.dfa.DFA.find_still.Goals as goal
 
 pub found_at-requires-clause-leads : goal.found_at-requires-clause-leads

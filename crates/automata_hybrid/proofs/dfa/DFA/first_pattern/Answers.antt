@@ -1,7 +1,7 @@
 use Rattle.std.proofs.Common.{◌≡◌, ◌∙◌, ◌<◌, length, sym, subst}
 use Rattle.automata_hybrid.specs.Machines.Machine.{Machine}
 use Rattle.automata_hybrid.specs.Machines.OwnStates.{IsOwn}
-use Rattle.automata_hybrid.proofs.Stepping.{only_pattern}
+use Rattle.automata_hybrid.proofs.Steps.Ids.{only_pattern}
 use Rattle.automata_hybrid.proofs.dfa.DFA.first_pattern.Goals as goal
 
 pub returns-then-pattern_len-eq1 : goal.returns-then-pattern_len-eq1

@@ -1,7 +1,7 @@
 use Rattle.std.proofs.Common.{◌∙◌, ap, sym, refl, arith}
 use Rattle.automata_hybrid.specs.Steps.Steps.{known_step}
 use Rattle.automata_hybrid.specs.Walks.State.{way_of}
-use Rattle.automata_hybrid.proofs.Following.{followed_none}
+use Rattle.automata_hybrid.proofs.Searches.QuietRuns.{followed_none}
 use Rattle.automata_hybrid.proofs.dfa.DFA.follow.Goals as goal
 
 pub follow_tag-requires-clause-at : goal.follow_tag-requires-clause-at

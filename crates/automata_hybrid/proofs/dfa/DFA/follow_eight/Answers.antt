@@ -1,5 +1,5 @@
 use Rattle.std.proofs.Common.{◌≡◌, ◌+◌, refl, arith}
-use Rattle.automata_hybrid.proofs.Leading.{run_at, run_none, run_on, run_to}
+use Rattle.automata_hybrid.proofs.Searches.Runs.{run_at, run_none, run_on, run_to}
 use Rattle.automata_hybrid.proofs.dfa.DFA.follow_eight.Goals as goal
 
 pub loop-k-init : goal.loop-k-init

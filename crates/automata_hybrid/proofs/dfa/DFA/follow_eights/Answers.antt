@@ -1,5 +1,5 @@
 use Rattle.std.proofs.Common.{refl, arith}
-use Rattle.automata_hybrid.proofs.SelfLoops.{run_none, run_over}
+use Rattle.automata_hybrid.proofs.Searches.SelfLoops.{run_none, run_over}
 use Rattle.automata_hybrid.proofs.dfa.DFA.follow_eights.Goals as goal
 
 pub eights-init : goal.eights-init

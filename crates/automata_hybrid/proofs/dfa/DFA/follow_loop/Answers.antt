@@ -1,5 +1,5 @@
 use Rattle.std.proofs.Common.{arith}
-use Rattle.automata_hybrid.proofs.SelfLoops.{loop_along}
+use Rattle.automata_hybrid.proofs.Searches.SelfLoops.{loop_along}
 use Rattle.automata_hybrid.proofs.dfa.DFA.follow_loop.Goals as goal
 
 pub returns-clause-within : goal.returns-clause-within

@@ -1,5 +1,5 @@
 use Rattle.std.proofs.Common.{arith}
-use Rattle.automata_hybrid.proofs.SelfLoops.{run_none, run_on, run_over}
+use Rattle.automata_hybrid.proofs.Searches.SelfLoops.{run_none, run_on, run_over}
 use Rattle.automata_hybrid.proofs.dfa.DFA.follow_many.Goals as goal
 
 pub returns-then-few-wait : goal.returns-then-few-wait

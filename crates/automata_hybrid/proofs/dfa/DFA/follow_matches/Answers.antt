@@ -1,8 +1,8 @@
 use Rattle.std.proofs.Common.{◌^◌, refl, arith}
 use Rattle.automata_hybrid.specs.Cache.Ids.{HasOnly}
 use Rattle.automata_hybrid.specs.Walks.State.{way_of}
-use Rattle.automata_hybrid.proofs.Leading.{led_none, led_on}
-use Rattle.automata_hybrid.proofs.Places.{match_tagged}
+use Rattle.automata_hybrid.proofs.Searches.Runs.{led_none, led_on}
+use Rattle.automata_hybrid.proofs.Cache.Places.{match_tagged}
 use Rattle.automata_hybrid.proofs.dfa.DFA.follow_matches.Goals as goal
 
 pub returns-then-not-has_only-clause-led : goal.returns-then-not-has_only-clause-led
@@ -32,5 +32,5 @@ returns-clause-led c =
     let led = c.see_byte.ensures.led c.args.next (omega (arith, only.below)) (c.requires.met (omega (arith, only.below))).1 in
     led_on led (λ n. c.follow_tag.ensures.run.led)
 
-pub returns-clause-tells : goal.returns-clause-tells
-returns-clause-tells c = λ l. match_tagged c.follow_tag.result.id c.follow_tag.ensures.run.only
+pub returns-clause-reports : goal.returns-clause-reports
+returns-clause-reports c = λ l. match_tagged c.follow_tag.result.id c.follow_tag.ensures.run.only

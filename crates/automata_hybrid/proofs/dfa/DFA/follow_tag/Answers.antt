@@ -1,6 +1,6 @@
 use Rattle.std.proofs.Common.{arith}
-use Rattle.automata_hybrid.proofs.Leading.{run_at, run_none, run_on}
-use Rattle.automata_hybrid.proofs.SelfLoops.{run_loop}
+use Rattle.automata_hybrid.proofs.Searches.Runs.{run_at, run_none, run_on}
+use Rattle.automata_hybrid.proofs.Searches.SelfLoops.{run_loop}
 use Rattle.automata_hybrid.proofs.dfa.DFA.follow_tag.Goals as goal
 
 pub eights-init : goal.eights-init

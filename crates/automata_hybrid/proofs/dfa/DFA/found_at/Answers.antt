@@ -1,7 +1,7 @@
 use Rattle.std.proofs.Common.{sym, ap}
 use Rattle.automata_hybrid.specs.Searches.PassState.{half_at}
-use Rattle.automata_hybrid.proofs.Stepping.{Leads-untagged}
-use Rattle.automata_hybrid.proofs.Searching.{false_true}
+use Rattle.automata_hybrid.proofs.Steps.Ids.{Leads-untagged}
+use Rattle.automata_hybrid.proofs.Searches.PassState.{false_true}
 use Rattle.automata_hybrid.proofs.dfa.DFA.found_at.Goals as goal
 
 pub returns : goal.returns

@@ -8,14 +8,14 @@ use Rattle.automata_hybrid.specs.Machines.Machine.{Machine}
 use Rattle.automata_hybrid.specs.Walks.Contracts.{IsCallEffect}
 use Rattle.automata_hybrid.specs.Walks.Parts.{IsCallAnswer, IsCallRefused}
 use Rattle.automata_hybrid.specs.Searches.Passes.{tape_in}
-use Rattle.automata_hybrid.specs.Walks.Answers.{TellsNext}
+use Rattle.automata_hybrid.specs.Walks.Answers.{ReportsNext}
 use Rattle.automata_hybrid.specs.Walks.State.{At, Ended, Walk, ended_walk, keeping_of, way_of, with_match}
 use Rattle.automata_hybrid.specs.Walks.State.{without_match}
-use Rattle.automata_hybrid.proofs.KnowingWalks.{units_none}
+use Rattle.automata_hybrid.proofs.Walks.Cached.{units_none}
 use Rattle.std.proofs.lemmas.Result.{IfErr-weaker, on_ok_weaker}
-use Rattle.automata_hybrid.proofs.Resuming.{answer_matched, effect_matched, effect_none, refused_matched}
-use Rattle.automata_hybrid.proofs.WalkCalls.{ended_at, next_done, next_ended, next_read, next_same, undone}
-use Rattle.automata_hybrid.proofs.Directions.{units_in}
+use Rattle.automata_hybrid.proofs.Walks.Parts.{answer_matched, effect_matched, effect_none, refused_matched}
+use Rattle.automata_hybrid.proofs.Walks.Calls.{ended_at, next_done, next_ended, next_read, next_same, undone}
+use Rattle.automata_hybrid.proofs.Searches.Directions.{units_in}
 use Rattle.automata_hybrid.proofs.dfa.DFA.go_on.Goals as goal
 
 pub returns-then-has_ended-clause-answer : goal.returns-then-has_ended-clause-answer
@@ -25,7 +25,7 @@ returns-then-has_ended-clause-answer c =
     let ended : w.stage ≡ Ended = subst (λ (v : Walk). v.stage ≡ Ended) c.forget_match.ensures (c.has_ended.ensures.yes c.if-has_ended.true) in
     subst (λ (x : Walk). IsCallAnswer d c.args.self.now c.args.input.now w x c.args.cache.now.store c.args.cache.now.store) (sym c.forget_match.ensures)
     (record {
-      tells = next_ended d c.args.self.now c.args.input.now w ended;
+      reports = next_ended d c.args.self.now c.args.input.now w ended;
       goes_on = inl refl;
       stops = λ undone on. absurd (on ended);
       there = λ there. there;
@@ -46,7 +46,7 @@ returns-then-is_done-clause-answer c =
     let same : c.end.new.self ≡ ended_walk w w.units = c.end.ensures ∙ ap (ended_walk w) (c.units.ensures ∙ ap (λ (v : Walk). v.units) c.forget_match.ensures) in
     subst (λ (x : Walk). IsCallAnswer d c.args.self.now c.args.input.now w x c.args.cache.now.store c.args.cache.now.store) (sym same)
     (record {
-      tells =
+      reports =
           next_done d c.args.self.now c.args.input.now w w w.units done
           (subst (λ (v : Walk). v.stage ≡ Ended → ⊥) c.forget_match.ensures (c.has_ended.ensures.no c.if-has_ended.false));
       goes_on = inl refl;
@@ -70,13 +70,13 @@ returns-in-Some-clause-answer c =
     let w : Walk = c.args.walk.now in
     let left = c.in-Some.ensures.left in
     let stage : w.stage ≡ At left.0 = subst (λ (v : Walk). v.stage ≡ At left.0) c.forget_match.ensures left.1 in
-    let few : w.told < length left.0.patterns = subst (λ (v : Walk). v.told < length left.0.patterns) c.forget_match.ensures left.2 in
-    let same : c.tell.new.self ≡ with_match (without_match w) c.new.result = c.tell.ensures ∙ ap (λ (v : Walk). with_match v c.new.result) c.forget_match.ensures in
+    let few : w.reported < length left.0.patterns = subst (λ (v : Walk). v.reported < length left.0.patterns) c.forget_match.ensures left.2 in
+    let same : c.report.new.self ≡ with_match (without_match w) c.new.result = c.report.ensures ∙ ap (λ (v : Walk). with_match v c.new.result) c.forget_match.ensures in
     subst (λ (x : Walk). IsCallAnswer d m input w x c.args.cache.now.store c.args.cache.now.store) (sym same)
     (record {
-      tells =
+      reports =
           next_same d m input (without_match w) left.0 c.new.result stage few
-          (subst (λ (v : Walk). c.new.result.pattern ≡ get_or left.0.patterns v.told 0) c.forget_match.ensures (ap (λ (h : HalfMatch). h.pattern) c.new.ensures ∙ left.3))
+          (subst (λ (v : Walk). c.new.result.pattern ≡ get_or left.0.patterns v.reported 0) c.forget_match.ensures (ap (λ (h : HalfMatch). h.pattern) c.new.ensures ∙ left.3))
           (ap (λ (h : HalfMatch). h.offset) c.new.ensures ∙ (c.place_offset-place.ensures ∙ ap (λ n. offset_in d input (n - 1)) (c.units-in-Some.ensures ∙ ap (λ (v : Walk). v.units) c.forget_match.ensures)));
       goes_on = inr (λ ended. ended_at left.0 (sym ended ∙ stage), inr (refl, refl));
       stops = λ undone on ended. absurd (ended_at left.0 (sym ended ∙ stage));
@@ -87,13 +87,13 @@ returns-in-Some-clause-answer c =
 pub returns-in-Some-clause-effect : goal.returns-in-Some-clause-effect
 returns-in-Some-clause-effect c =
     let left = c.in-Some.ensures.left in
-    effect_none (keeping_of c.args.held.now) (way_of c.args.way) c.args.self.now c.args.input.now c.args.walk.now c.tell.new.self c.args.cache.now
+    effect_none (keeping_of c.args.held.now) (way_of c.args.way) c.args.self.now c.args.input.now c.args.walk.now c.report.new.self c.args.cache.now
     (inr (inl (
       left.0,
       subst (λ (v : Walk). v.stage ≡ At left.0) c.forget_match.ensures left.1,
-      subst (λ (v : Walk). v.told < length left.0.patterns) c.forget_match.ensures left.2,
+      subst (λ (v : Walk). v.reported < length left.0.patterns) c.forget_match.ensures left.2,
     )))
-    (ap (λ (v : Walk). v.units) c.tell.ensures ∙ ap (λ (v : Walk). v.units) c.forget_match.ensures)
+    (ap (λ (v : Walk). v.units) c.report.ensures ∙ ap (λ (v : Walk). v.units) c.forget_match.ensures)
 
 pub returns-then-units-last_place-clause-answer : goal.returns-then-units-last_place-clause-answer
 returns-then-units-last_place-clause-answer c =
@@ -108,8 +108,8 @@ returns-then-units-last_place-clause-answer c =
     let same : c.end-then-units-last_place.new.self ≡ ended_walk w w.units = c.end-then-units-last_place.ensures ∙ ap (ended_walk w) (c.units-then-units-last_place.ensures ∙ ap (λ (v : Walk). v.units) c.forget_match.ensures) in
     subst (λ (x : Walk). IsCallAnswer d m input w x c.args.cache.now.store c.args.cache.now.store) (sym same)
     (record {
-      tells =
-          subst (λ (v : Walk). TellsNext d m input v (ended_walk w w.units)) c.forget_match.ensures
+      reports =
+          subst (λ (v : Walk). ReportsNext d m input v (ended_walk w w.units)) c.forget_match.ensures
           (next_read d m input c.forget_match.new.self w w.units (c.has_ended.ensures.no c.if-has_ended.false) c.in_default.ensures.none past);
       goes_on = inl refl;
       stops = λ undone on ended j l reads. (let few : j ≤ length (tape_in d input).bytes = reads.0 in absurd (omega (arith, few, l, more)));

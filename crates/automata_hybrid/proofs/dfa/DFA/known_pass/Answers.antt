@@ -5,10 +5,10 @@ use Rattle.automata_hybrid.specs.Searches.PassContracts.{IsKnownEnd, IsKnownUpto
 use Rattle.automata_hybrid.specs.Searches.Passes.{tape_in}
 use Rattle.automata_hybrid.specs.Walks.State.{way_of}
 use Rattle.automata_hybrid.specs.declared.search.known.Known.{Known}
-use Rattle.automata_hybrid.proofs.Directions.{units_in}
-use Rattle.automata_hybrid.proofs.Knowing.{learned_none}
-use Rattle.automata_hybrid.proofs.KnownPasses.{known_dead, known_first, known_last, known_leads, known_more}
-use Rattle.automata_hybrid.proofs.Searching.{false_true, none_is, some_is}
+use Rattle.automata_hybrid.proofs.Searches.Directions.{units_in}
+use Rattle.automata_hybrid.proofs.Searches.Cached.{learned_none}
+use Rattle.automata_hybrid.proofs.Searches.KnownPasses.{known_dead, known_first, known_last, known_leads, known_more}
+use Rattle.automata_hybrid.proofs.Searches.PassState.{false_true, none_is, some_is}
 use Rattle.automata_hybrid.proofs.dfa.DFA.known_pass.Goals as goal
 use Rattle.automata_hybrid.proofs.dfa.DFA.known_pass.Goals.{else-get_earliest-via-then-get_earliest+else-is_some}
 use Rattle.automata_hybrid.proofs.dfa.DFA.known_pass.Goals.{else-get_earliest-via-else-get_earliest}

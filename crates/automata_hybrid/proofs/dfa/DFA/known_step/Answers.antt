@@ -2,8 +2,8 @@ use Rattle.std.proofs.Common.{◌∙◌, ◌<◌, ◌^◌, ap, subst, refl}
 use Rattle.automata_hybrid.specs.Cache.Stores.{cell_of}
 use Rattle.automata_hybrid.specs.Machines.Machine.{Machine, table_stride}
 use Rattle.automata_hybrid.specs.Machines.OwnStates.{IsOwn}
-use Rattle.automata_hybrid.proofs.Reading.{read_answered}
-use Rattle.automata_hybrid.proofs.StepCalls.{known_answer, same_effect}
+use Rattle.automata_hybrid.proofs.Searches.Reads.{read_answered}
+use Rattle.automata_hybrid.proofs.Steps.Steps.{known_answer, same_effect}
 use Rattle.automata_hybrid.proofs.dfa.DFA.known_step.Goals as goal
 
 pub returns-clause-answer : goal.returns-clause-answer

@@ -1,5 +1,5 @@
 use Rattle.std.proofs.Common.{ℕ, ◌<◌, ◌≤◌}
-use Rattle.automata_hybrid.proofs.SelfLoops.{LoopsIn}
+use Rattle.automata_hybrid.proofs.Searches.SelfLoops.{LoopsIn}
 use Rattle.automata_hybrid.proofs.dfa.DFA.loops_between.Given as goal
 
 abbrev pub invariant-loop-class : goal.invariant-loop-class

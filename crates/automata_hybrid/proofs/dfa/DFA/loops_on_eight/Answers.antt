@@ -1,7 +1,7 @@
 use Rattle.std.proofs.Common.{◌≡◌, ◌+◌, refl, subst, arith}
 use Rattle.automata_hybrid.specs.Searches.SelfLoops.{LoopsOn, LoopsOver}
 use Rattle.automata_hybrid.specs.Walks.State.{way_of}
-use Rattle.automata_hybrid.proofs.SelfLoops.{over_more}
+use Rattle.automata_hybrid.proofs.Searches.SelfLoops.{over_more}
 use Rattle.automata_hybrid.proofs.dfa.DFA.loops_on_eight.Goals as goal
 
 pub loop-k-preserved : goal.loop-k-preserved

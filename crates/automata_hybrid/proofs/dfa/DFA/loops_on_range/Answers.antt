@@ -1,5 +1,5 @@
 use Rattle.std.proofs.Common.{refl, arith}
-use Rattle.automata_hybrid.proofs.SelfLoops.{range_past, range_within}
+use Rattle.automata_hybrid.proofs.Searches.SelfLoops.{range_past, range_within}
 use Rattle.automata_hybrid.proofs.dfa.DFA.loops_on_range.Goals as goal
 
 pub returns-then-to-le256 : goal.returns-then-to-le256

@@ -1,5 +1,5 @@
 use Rattle.std.proofs.Common.{◌<◌, subst, sym}
-use Rattle.automata_hybrid.proofs.Stepping.{HasRow-matched}
+use Rattle.automata_hybrid.proofs.Steps.Ids.{HasRow-matched}
 use Rattle.automata_hybrid.proofs.dfa.DFA.match_len.Goals as goal
 
 pub match_len-requires : goal.match_len-requires

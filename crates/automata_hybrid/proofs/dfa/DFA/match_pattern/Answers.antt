@@ -1,4 +1,4 @@
-use Rattle.automata_hybrid.proofs.Stepping.{HasRow-matched}
+use Rattle.automata_hybrid.proofs.Steps.Ids.{HasRow-matched}
 use Rattle.automata_hybrid.proofs.dfa.DFA.match_pattern.Goals as goal
 
 pub match_pattern-requires-clause-valid : goal.match_pattern-requires-clause-valid

@@ -5,7 +5,7 @@ use Rattle.automata_base.specs.Retraced.Steps.{start_state_of}
 use Rattle.automata_base.specs.declared.util.search.Anchored.{Anchored}
 use Rattle.automata_hybrid.specs.Machines.Machine.{slot_count}
 use Rattle.automata_hybrid.specs.Machines.StartSlots.{slot_of}
-use Rattle.automata_hybrid.proofs.SlotStarts.{past_patterns, few_slots}
+use Rattle.automata_hybrid.proofs.Machines.StartSlots.{past_patterns, few_slots}
 use Rattle.automata_hybrid.proofs.dfa.DFA.mode_slot.Goals as goal
 use Rattle.automata_config.specs.Options.{starts_for_each_pattern_of}
 

@@ -1,5 +1,5 @@
 use Rattle.std.proofs.Common.{refl}
-use Rattle.automata_hybrid.proofs.OneState.{fail_settles}
+use Rattle.automata_hybrid.proofs.Machines.OneState.{fail_settles}
 use Rattle.automata_hybrid.proofs.dfa.DFA.never_match.Goals as goal
 
 pub of_state-requires : goal.of_state-requires

@@ -1,6 +1,6 @@
 use Rattle.std.proofs.Common.{arith}
 use Rattle.std.proofs.lemmas.Grind.{common_steps}
-use Rattle.automata_hybrid.proofs.Building.{IsBuilt-IsMachine}
+use Rattle.automata_hybrid.proofs.Machines.Builds.{IsBuilt-IsMachine}
 use Rattle.automata_hybrid.proofs.dfa.DFA.of_settled.Goals as goal
 
 pub invariant_of-result : goal.invariant_of-result

@@ -13,12 +13,12 @@ use Rattle.automata_hybrid.specs.Searches.PassContracts.{IsKnownUpto, IsRestEffe
 use Rattle.automata_hybrid.specs.Searches.Progress.{EndsAtLast, IsStoppedAt, with_search_begun}
 use Rattle.automata_hybrid.specs.Searches.Passes.{tape_in}
 use Rattle.automata_hybrid.specs.Walks.State.{way_of}
-use Rattle.automata_hybrid.proofs.Directions.{begins_alive}
-use Rattle.automata_hybrid.proofs.KnownPasses.{known_ended, known_rest}
-use Rattle.automata_hybrid.proofs.Passed.{pass_rest}
-use Rattle.automata_hybrid.proofs.Searching.{starts_at}
-use Rattle.automata_hybrid.proofs.UnitsRead.{start_had}
-use Rattle.automata_hybrid.proofs.Stepping.{low_bit}
+use Rattle.automata_hybrid.proofs.Searches.Directions.{begins_alive}
+use Rattle.automata_hybrid.proofs.Searches.KnownPasses.{known_ended, known_rest}
+use Rattle.automata_hybrid.proofs.Searches.PassContracts.{pass_rest}
+use Rattle.automata_hybrid.proofs.Searches.PassState.{starts_at}
+use Rattle.automata_hybrid.proofs.Searches.UnitsRead.{start_had}
+use Rattle.automata_hybrid.proofs.Steps.Ids.{low_bit}
 use Rattle.automata_hybrid.proofs.dfa.DFA.pass.Goals as goal
 
 pub known_pass-ended-requires-clause-at : goal.known_pass-ended-requires-clause-at

@@ -4,9 +4,9 @@ use Rattle.automata_base.proofs.Paths.Orders.{none_some}
 use Rattle.automata_hybrid.specs.Cache.Changes.{IsAddedStart}
 use Rattle.automata_hybrid.specs.Walks.Parts.{IsPutBackEffect}
 use Rattle.automata_hybrid.specs.Cache.Table.{IsNewState, id_of}
-use Rattle.automata_hybrid.proofs.Adding.{new_state}
-use Rattle.automata_hybrid.proofs.Growing.{grown_less, grown_same}
-use Rattle.automata_hybrid.proofs.Reading.{at_err}
+use Rattle.automata_hybrid.proofs.Cache.Additions.{new_state}
+use Rattle.automata_hybrid.proofs.Cache.Growth.{grown_less, grown_same}
+use Rattle.automata_hybrid.proofs.Searches.Reads.{at_err}
 use Rattle.automata_hybrid.proofs.dfa.DFA.put_back.Goals as goal
 
 pub returns-in-Some-clause-effect : goal.returns-in-Some-clause-effect

@@ -1,4 +1,4 @@
-use Rattle.automata_hybrid.proofs.SelfLoops.{range_none}
+use Rattle.automata_hybrid.proofs.Searches.SelfLoops.{range_none}
 use Rattle.automata_hybrid.proofs.dfa.DFA.range_around.Goals as goal
 
 pub returns : goal.returns

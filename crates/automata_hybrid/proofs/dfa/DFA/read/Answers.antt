@@ -1,6 +1,6 @@
 use Rattle.std.proofs.Common.{None, refl, sym, subst}
 use Rattle.automata_hybrid.specs.Searches.Units.{IsReadEffect, IsReadStep}
-use Rattle.automata_hybrid.proofs.Reading.{end_step, read_after}
+use Rattle.automata_hybrid.proofs.Searches.Reads.{end_step, read_after}
 use Rattle.automata_hybrid.proofs.dfa.DFA.read.Goals as goal
 
 pub returns-in-None-clause-effect : goal.returns-in-None-clause-effect

@@ -1,6 +1,6 @@
 use Rattle.std.proofs.Common.{refl, ap}
 use Rattle.automata_hybrid.specs.Cache.Caches.{CacheView}
-use Rattle.automata_hybrid.proofs.Reading.{read_answered, read_refused, step_taken, told_refusal}
+use Rattle.automata_hybrid.proofs.Searches.Reads.{read_answered, read_refused, step_taken, reported_refusal}
 use Rattle.automata_hybrid.proofs.dfa.DFA.read_end.Goals as goal
 
 pub returns-in-Ok-clause-answer : goal.returns-in-Ok-clause-answer
@@ -14,14 +14,14 @@ returns-in-Ok-clause-effect c =
 
 pub returns-in-Err-clause-refusal : goal.returns-in-Err-clause-refusal
 returns-in-Err-clause-refusal c =
-    told_refusal c.args.self.now c.args.id _ c.args.at c.args.at c.args.cache.now c.next_eoi_state.new.cache c.refusal.result
-    (record { error = c.in-Err.error; refused = c.in-Err.ensures.refusal; told = c.refusal.ensures })
+    reported_refusal c.args.self.now c.args.id _ c.args.at c.args.at c.args.cache.now c.next_eoi_state.new.cache c.refusal.result
+    (record { error = c.in-Err.error; refused = c.in-Err.ensures.refusal; reported = c.refusal.ensures })
 
 pub returns-in-Err-clause-effect : goal.returns-in-Err-clause-effect
 returns-in-Err-clause-effect c =
     read_refused c.args.self.now c.args.id _ c.args.cache.now c.args.cache.now c.next_eoi_state.new.cache {s = c.args.cache.now.store.searched} refl
     (c.see_store.ensures.alive c.args.id) c.see_machine.ensures.end c.in-Err.ensures.effect c.args.at c.refusal.result
-    (record { error = c.in-Err.error; refused = c.in-Err.ensures.refusal; told = c.refusal.ensures })
+    (record { error = c.in-Err.error; refused = c.in-Err.ensures.refusal; reported = c.refusal.ensures })
 
 pub returns-in-Ok-clause-taken : goal.returns-in-Ok-clause-taken
 returns-in-Ok-clause-taken c =

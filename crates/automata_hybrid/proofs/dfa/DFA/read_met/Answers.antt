@@ -3,10 +3,10 @@ use Rattle.automata_base.specs.ByteClasses.Classes.{is_quit}
 use Rattle.automata_hybrid.specs.Searches.Units.{IsReadEffect, IsReadStep}
 use Rattle.automata_hybrid.specs.Searches.Passes.{IsStepRefusal}
 use Rattle.automata_hybrid.specs.Cache.Table.{Rows, Names}
-use Rattle.automata_hybrid.proofs.Reading.{at_err, left_step, quit_step, read_answered, read_quits, read_refused}
-use Rattle.automata_hybrid.proofs.Reading.{step_taken, took_step}
-use Rattle.automata_hybrid.proofs.Searching.{false_true}
-use Rattle.automata_hybrid.proofs.Stepping.{quits, unquit}
+use Rattle.automata_hybrid.proofs.Searches.Reads.{at_err, left_step, quit_step, read_answered, read_quits, read_refused}
+use Rattle.automata_hybrid.proofs.Searches.Reads.{step_taken, took_step}
+use Rattle.automata_hybrid.proofs.Searches.PassState.{false_true}
+use Rattle.automata_hybrid.proofs.Steps.Ids.{quits, unquit}
 use Rattle.automata_hybrid.proofs.dfa.DFA.read_met.Goals as goal
 
 pub returns-clause-answer : goal.returns-clause-answer

@@ -4,9 +4,9 @@ use Rattle.automata_config.specs.declared.error.SearchError.{SearchError}
 use Rattle.automata_hybrid.specs.Cache.Caches.{CacheView}
 use Rattle.automata_hybrid.specs.Searches.Units.{IsReadAnswer, IsReadEffect, IsStepTaken}
 use Rattle.automata_hybrid.specs.Searches.Passes.{IsStepRefusal}
-use Rattle.automata_hybrid.proofs.Reading.{at_err, read_answered, read_quits, read_refused, step_taken}
-use Rattle.automata_hybrid.proofs.Searching.{false_true}
-use Rattle.automata_hybrid.proofs.Stepping.{quits, unquit}
+use Rattle.automata_hybrid.proofs.Searches.Reads.{at_err, read_answered, read_quits, read_refused, step_taken}
+use Rattle.automata_hybrid.proofs.Searches.PassState.{false_true}
+use Rattle.automata_hybrid.proofs.Steps.Ids.{quits, unquit}
 use Rattle.automata_hybrid.proofs.dfa.DFA.read_still.Goals as goal
 
 pub returns-else-is_quit-clause-answer : goal.returns-else-is_quit-clause-answer

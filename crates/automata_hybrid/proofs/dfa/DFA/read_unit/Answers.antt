@@ -5,9 +5,9 @@ use Rattle.automata_base.specs.Haystacks.Tapes.{Direction}
 use Rattle.automata_hybrid.specs.Searches.Passes.{state_in}
 use Rattle.automata_hybrid.specs.Cache.Table.{Leads}
 use Rattle.automata_hybrid.specs.Walks.State.{way_of}
-use Rattle.automata_hybrid.proofs.Resuming.{unit_effect}
-use Rattle.automata_hybrid.proofs.Searching.{state_more}
-use Rattle.automata_hybrid.proofs.UnitsRead.{refused_here, taken_here}
+use Rattle.automata_hybrid.proofs.Walks.Parts.{unit_effect}
+use Rattle.automata_hybrid.proofs.Searches.PassState.{state_more}
+use Rattle.automata_hybrid.proofs.Searches.UnitsRead.{refused_here, taken_here}
 use Rattle.automata_hybrid.proofs.dfa.DFA.read_unit.Goals as goal
 use Rattle.automata_config.specs.Options.{match_kind_of}
 

@@ -1,7 +1,7 @@
 use Rattle.std.proofs.Common.{ℕ, ◌≡◌, ◌∙◌, Option, Some, ap}
 use Rattle.automata_hybrid.specs.Machines.Machine.{Machine, slot_count}
 use Rattle.automata_hybrid.specs.Walks.State.{way_of}
-use Rattle.automata_hybrid.proofs.Resuming.{back_effect, row_effect, start_answer, start_effect, start_refusal}
+use Rattle.automata_hybrid.proofs.Walks.Parts.{back_effect, row_effect, start_answer, start_effect, start_refusal}
 use Rattle.automata_hybrid.specs.declared.search.walk.Handle.{Handle}
 use Rattle.automata_hybrid.specs.declared.search.walk.Held.TheVariants as held
 use Rattle.automata_hybrid.proofs.dfa.DFA.resume.Goals as goal
@@ -9,7 +9,7 @@ use Rattle.automata_hybrid.proofs.dfa.DFA.resume.Goals as goal
 pub returns-then-is_fresh-clause-answer : goal.returns-then-is_fresh-clause-answer
 returns-then-is_fresh-clause-answer c =
     start_answer (way_of c.args.way) c.args.self.now c.args.input.now c.args.walk.now c.args.cache.now c.walk_start.new.cache c.walk_start.result
-    (c.is_fresh.ensures.yes c.if-is_fresh.true) c.requires.walk.told c.walk_start.ensures.answer
+    (c.is_fresh.ensures.yes c.if-is_fresh.true) c.requires.walk.reported c.walk_start.ensures.answer
 
 pub returns-then-is_fresh-clause-refusal : goal.returns-then-is_fresh-clause-refusal
 returns-then-is_fresh-clause-refusal c =
@@ -19,13 +19,13 @@ returns-then-is_fresh-clause-refusal c =
 pub returns-then-is_fresh-clause-effect : goal.returns-then-is_fresh-clause-effect
 returns-then-is_fresh-clause-effect c =
     start_effect (way_of c.args.way) c.args.self.now c.args.input.now c.args.walk.now c.args.cache.now c.walk_start.new.cache c.walk_start.result
-    (c.is_fresh.ensures.yes c.if-is_fresh.true) c.requires.walk.told c.walk_start.ensures.answer (c.see_bounds.ensures.slots ∙ ap (λ (m : Machine). slot_count m) c.requires.of) c.walk_start.ensures.refusal c.walk_start.ensures.effect
+    (c.is_fresh.ensures.yes c.if-is_fresh.true) c.requires.walk.reported c.walk_start.ensures.answer (c.see_bounds.ensures.slots ∙ ap (λ (m : Machine). slot_count m) c.requires.of) c.walk_start.ensures.refusal c.walk_start.ensures.effect
 
 pub returns-in-Ok-clause-effect : goal.returns-in-Ok-clause-effect
 returns-in-Ok-clause-effect c =
     back_effect (way_of c.args.way) c.args.self.now c.args.input.now c.args.cache.now.store.table c.args.walk.now c.args.held.now c.in-State-Some.handle
     c.args.cache.now c.put_back.new.cache c.in-Ok.id
-    c.requires.walk.told (c.is_fresh.ensures.no c.if-is_fresh.false) c.requires.walk.reads.on c.requires.walk.holds (c.in-State-Some.is ∙ ap (λ (h : Option Handle). held.State h) (rw c.in-State-Some.is at c.in-State-Some.field-0-is))
+    c.requires.walk.reported (c.is_fresh.ensures.no c.if-is_fresh.false) c.requires.walk.reads.on c.requires.walk.holds (c.in-State-Some.is ∙ ap (λ (h : Option Handle). held.State h) (rw c.in-State-Some.is at c.in-State-Some.field-0-is))
     (record { id = c.in-Ok.id; named = c.in-Ok.ensures.named }) c.in-Ok.ensures.effect
 
 pub returns-in-Row-Some-clause-effect : goal.returns-in-Row-Some-clause-effect

@@ -1,6 +1,6 @@
 use Rattle.std.proofs.Common.{suc, ◌≡◌, ◌∙◌, ◌-◌, ◌<◌, inr, sym, arith}
-use Rattle.automata_hybrid.proofs.Following.{followed_at, followed_learned}
-use Rattle.automata_hybrid.proofs.Leading.{known_after, led_at, led_learned}
+use Rattle.automata_hybrid.proofs.Searches.QuietRuns.{followed_at, followed_learned}
+use Rattle.automata_hybrid.proofs.Searches.Runs.{known_after, led_at, led_learned}
 use Rattle.automata_hybrid.proofs.dfa.DFA.run.Goals as goal
 
 pub returns-then-get_earliest-clause-at : goal.returns-then-get_earliest-clause-at
@@ -24,7 +24,7 @@ returns-clause-at c =
     let further : c.follow-quiet.result.at < c.follow_matches-stop.result.at = omega (arith, led.more, c.if-stop-quiet.false) in
     let here : c.follow_matches-stop.result.at ≡ suc (c.follow_matches-stop.result.at - 1) = omega (arith, further) in
     led_at led (c.follow_matches-stop.result.at - 1) c.place_offset-offset.result (sym c.get_earliest.ensures ∙ c.if-get_earliest.false) here c.place_offset-offset.ensures
-    ((c.see_store.ensures.tagged _ _ led.named).0 (c.follow_matches-stop.ensures.tells further)) c.found_at.ensures (followed_at c.follow-quiet.ensures.followed c.requires.at)
+    ((c.see_store.ensures.tagged _ _ led.named).0 (c.follow_matches-stop.ensures.reports further)) c.found_at.ensures (followed_at c.follow-quiet.ensures.followed c.requires.at)
 
 pub returns-clause-learned : goal.returns-clause-learned
 returns-clause-learned c = λ learned. led_learned c.follow_matches-stop.ensures.led (followed_learned c.follow-quiet.ensures.followed learned)

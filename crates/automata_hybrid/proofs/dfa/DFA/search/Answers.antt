@@ -10,20 +10,20 @@ use Rattle.automata_hybrid.specs.Machines.StartSlots.{supports}
 use Rattle.automata_hybrid.specs.Cache.Growth.{ClearedNothing}
 use Rattle.automata_hybrid.specs.Searches.Costs.{IsCostOfPasses}
 use Rattle.automata_hybrid.specs.Searches.Progress.{HaveEnded}
-use Rattle.automata_hybrid.proofs.Growing.{grown_same, grown_trans}
-use Rattle.automata_hybrid.proofs.Costing.{AreCounted}
-use Rattle.automata_hybrid.proofs.Knowing.{LearnedSpans}
-use Rattle.automata_hybrid.proofs.Directions.{later_anchored, later_none, later_on, later_start, skipped, skipped_last}
-use Rattle.automata_hybrid.proofs.Directions.{skipped_more, skipped_within}
+use Rattle.automata_hybrid.proofs.Cache.Growth.{grown_same, grown_trans}
+use Rattle.automata_hybrid.proofs.Searches.Costs.{AreCounted}
+use Rattle.automata_hybrid.proofs.Searches.Cached.{LearnedSpans}
+use Rattle.automata_hybrid.proofs.Searches.Directions.{later_anchored, later_none, later_on, later_start, skipped, skipped_last}
+use Rattle.automata_hybrid.proofs.Searches.Directions.{skipped_more, skipped_within}
 use Rattle.automata_hybrid.specs.Searches.Contracts.{IsUnsupported, unsupported_error}
 use Rattle.std.specs.Prelude.{Err}
-use Rattle.automata_hybrid.proofs.Owing.{err_to}
+use Rattle.automata_hybrid.proofs.Searches.Contracts.{err_to}
 use Rattle.automata_hybrid.specs.Walks.State.{way_of}
-use Rattle.automata_hybrid.proofs.Searching.{false_true}
-use Rattle.automata_hybrid.proofs.Skipping.{anchored_stops, none_stops, some_stops, finds_none, finds_no_more}
-use Rattle.automata_hybrid.proofs.Skipping.{finds_some, finds_split, tries_on, refuses}
-use Rattle.automata_hybrid.proofs.Spans.{effect_after, effect_before, effect_refused, spans_cost, spans_counted}
-use Rattle.automata_hybrid.proofs.Spans.{spans_ended, spans_known, spans_learned}
+use Rattle.automata_hybrid.proofs.Searches.PassState.{false_true}
+use Rattle.automata_hybrid.proofs.Searches.Skips.{anchored_stops, none_stops, some_stops, finds_none, finds_no_more}
+use Rattle.automata_hybrid.proofs.Searches.Skips.{finds_some, finds_split, tries_on, refuses}
+use Rattle.automata_hybrid.proofs.Searches.SpanEffects.{effect_after, effect_before, effect_refused, spans_cost, spans_counted}
+use Rattle.automata_hybrid.proofs.Searches.SpanEffects.{spans_ended, spans_known, spans_learned}
 use Rattle.automata_hybrid.proofs.dfa.DFA.search.Goals as goal
 
 pub returns-in-Err-clause-refusal : goal.returns-in-Err-clause-refusal

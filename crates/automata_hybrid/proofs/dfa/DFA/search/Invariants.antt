@@ -7,9 +7,9 @@ use Rattle.automata_hybrid.specs.Searches.Progress.{HaveEnded}
 use Rattle.automata_hybrid.specs.Searches.Passes.{Finds, Skips}
 use Rattle.automata_hybrid.specs.Machines.StartSlots.{supports}
 use Rattle.automata_hybrid.specs.Walks.State.{way_of}
-use Rattle.automata_hybrid.proofs.Costing.{AreCounted}
-use Rattle.automata_hybrid.proofs.Directions.{skipped}
-use Rattle.automata_hybrid.proofs.Knowing.{LearnedSpans}
+use Rattle.automata_hybrid.proofs.Searches.Costs.{AreCounted}
+use Rattle.automata_hybrid.proofs.Searches.Directions.{skipped}
+use Rattle.automata_hybrid.proofs.Searches.Cached.{LearnedSpans}
 use Rattle.automata_hybrid.proofs.dfa.DFA.search.Given as goal
 
 abbrev pub invariant-loop-later : goal.invariant-loop-later

@@ -6,8 +6,8 @@ use Rattle.automata_hybrid.specs.Cache.Stores.{IsKnownTransition}
 use Rattle.automata_hybrid.specs.Machines.Machine.{Machine, table_stride}
 use Rattle.automata_hybrid.specs.Searches.PassState.{IsFollowed, IsLed}
 use Rattle.automata_hybrid.specs.Walks.State.{way_of}
-use Rattle.automata_hybrid.proofs.Following.{followed_more, followed_none}
-use Rattle.automata_hybrid.proofs.Leading.{led_more, led_none}
+use Rattle.automata_hybrid.proofs.Searches.QuietRuns.{followed_more, followed_none}
+use Rattle.automata_hybrid.proofs.Searches.Runs.{led_more, led_none}
 use Rattle.automata_hybrid.proofs.dfa.DFA.see_byte.Goals as goal
 
 pub next_state_known-next-requires-clause-valid : goal.next_state_known-next-requires-clause-valid

@@ -7,7 +7,7 @@ use Rattle.automata_config.specs.declared.error.StartError.TheVariants.{Unsuppor
 use Rattle.automata_hybrid.specs.Machines.Machine.{Machine, slot_count}
 use Rattle.automata_hybrid.specs.Machines.StartSlots.{slot_behind, supports}
 use Rattle.automata_hybrid.specs.Steps.Starts.{IsStartSlot, KnowsStart, quit_behind}
-use Rattle.automata_hybrid.proofs.Starting.{knows_slot, known_answer, known_effect}
+use Rattle.automata_hybrid.proofs.Steps.Starts.{knows_slot, known_answer, known_effect}
 use Rattle.automata_hybrid.proofs.dfa.DFA.start_state_known.Goals as goal
 
 is_none : (o : Option ℕ) → is_some o ≡ false → o ≡ None

@@ -26,7 +26,7 @@ returns-in-Err-clause-refusal c =
       refused =
           subst (λ (s : StartConfig). IsStartRefused c.args.self.now s.anchored s.look_behind c.args.cache.now c.start_state.new.cache e)
           c.from_input_reverse-config.ensures c.in-Err.ensures.refusal;
-      told =
+      reported =
           c.search_refusal.ensures
           ∙ (ap (λ (n : ℕ). search_refusal e n c.end-in-Err.result) c.end.ensures.end ∙ ap (search_refusal e c.args.input.now.end) c.end-in-Err.ensures.end);
     }

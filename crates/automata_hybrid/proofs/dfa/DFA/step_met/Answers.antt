@@ -6,7 +6,7 @@ use Rattle.automata_hybrid.specs.Machines.OwnStates.{IsOwn}
 use Rattle.automata_hybrid.specs.Steps.Steps.{IsStepAnswer}
 use Rattle.automata_hybrid.specs.Cache.Stores.{cell_of}
 use Rattle.automata_hybrid.specs.Cache.Table.{Names}
-use Rattle.automata_hybrid.proofs.StepCalls.{known_answer, same_effect}
+use Rattle.automata_hybrid.proofs.Steps.Steps.{known_answer, same_effect}
 use Rattle.automata_hybrid.proofs.dfa.DFA.step_met.Goals as goal
 
 pub returns-clause-answer : goal.returns-clause-answer

@@ -3,7 +3,7 @@ use Rattle.std.specs.Prelude.{Ok}
 use Rattle.automata_base.specs.Haystacks.Matches.{HalfMatch}
 use Rattle.automata_base.specs.Haystacks.Tapes.{Forward}
 use Rattle.automata_hybrid.specs.Searches.Contracts.{IsHalf}
-use Rattle.automata_hybrid.proofs.Owing.{effect_err, effect_ok, half_err, half_none, half_some}
+use Rattle.automata_hybrid.proofs.Searches.Contracts.{effect_err, effect_ok, half_err, half_none, half_some}
 use Rattle.automata_hybrid.proofs.dfa.DFA.try_search_fwd.Goals as goal
 
 pub returns-in_err-half-clause-half : goal.returns-in_err-half-clause-half

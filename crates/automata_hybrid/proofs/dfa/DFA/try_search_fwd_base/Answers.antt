@@ -2,12 +2,12 @@ use Rattle.std.proofs.Common.{refl, subst}
 use Rattle.std.proofs.lemmas.Result.{IfErr-weaker, IfOk-weaker}
 use Rattle.automata_base.specs.Nfas.Nodes.{Automaton}
 use Rattle.automata_base.specs.Haystacks.Tapes.{Forward}
-use Rattle.automata_base.specs.Answers.OfPasses.{ToldEndsAreRight, ToldIsRight}
-use Rattle.automata_base.specs.Answers.Within.{ToldLiesWithin}
-use Rattle.automata_hybrid.proofs.Answering.{refused_memory}
-use Rattle.automata_hybrid.proofs.Owing.{is_store, may_refuse}
-use Rattle.automata_hybrid.proofs.Skipping.{found_told}
-use Rattle.automata_hybrid.proofs.Within.{lies_past}
+use Rattle.automata_base.specs.Answers.OfPasses.{ReportedEndsAreRight, ReportedIsRight}
+use Rattle.automata_base.specs.Answers.Within.{ReportedLiesWithin}
+use Rattle.automata_hybrid.proofs.Searches.Reach.{refused_memory}
+use Rattle.automata_hybrid.proofs.Searches.Contracts.{is_store, may_refuse}
+use Rattle.automata_hybrid.proofs.Searches.Skips.{found_reported}
+use Rattle.automata_hybrid.proofs.Searches.Bounds.{lies_past}
 use Rattle.automata_hybrid.proofs.dfa.DFA.try_search_fwd_base.Goals as goal
 use Rattle.automata_config.specs.Options.{match_kind_of}
 
@@ -19,22 +19,22 @@ returns-clause-based c =
     let r = c.search-found.result in
     let cache = c.search-found.new.cache.store in
     let haystack = c.haystack-haystack.ensures in
-    let told = subst (λ (a : Automaton). ToldIsRight a) c.get_nfa.ensures c.told_is_right.ensures.answer in
-    let ends = subst (λ (a : Automaton). ToldEndsAreRight a) c.get_nfa.ensures c.told_is_right.ensures.ends in
-    let lies = subst ToldLiesWithin c.get_nfa.ensures c.told_is_right.ensures.within in
+    let reported = subst (λ (a : Automaton). ReportedIsRight a) c.get_nfa.ensures c.reported_is_right.ensures.answer in
+    let ends = subst (λ (a : Automaton). ReportedEndsAreRight a) c.get_nfa.ensures c.reported_is_right.ensures.ends in
+    let lies = subst ReportedLiesWithin c.get_nfa.ensures c.reported_is_right.ensures.within in
     record {
       found = s.found;
       answer = λ acyclic.
           IfOk-weaker r _ _
-          (λ o found. told Forward (match_kind_of m.config) input _ acyclic (haystack.bytes, haystack.within.1) (found_told Forward m input _ found))
+          (λ o found. reported Forward (match_kind_of m.config) input _ acyclic (haystack.bytes, haystack.within.1) (found_reported Forward m input _ found))
           s.found;
       nearest = λ early.
           IfOk-weaker r _ _
-          (λ o found. (ends Forward (match_kind_of m.config) input _ (haystack.bytes, haystack.within.1) (found_told Forward m input _ found)).0 early)
+          (λ o found. (ends Forward (match_kind_of m.config) input _ (haystack.bytes, haystack.within.1) (found_reported Forward m input _ found)).0 early)
           s.found;
       farthest = λ late all.
           IfOk-weaker r _ _
-          (λ o found. (ends Forward (match_kind_of m.config) input _ (haystack.bytes, haystack.within.1) (found_told Forward m input _ found)).1 late all)
+          (λ o found. (ends Forward (match_kind_of m.config) input _ (haystack.bytes, haystack.within.1) (found_reported Forward m input _ found)).1 late all)
           s.found;
       within = lies_past m input lies haystack.within.1 r s.found;
       errors = may_refuse r Forward m cache input (is_store cache m s.of c.see_bounds.ensures) s.refusal;

@@ -3,15 +3,15 @@ use Rattle.std.specs.Prelude.{IfErr}
 use Rattle.std.proofs.lemmas.Result.{IfErr-weaker, IfOk-weaker}
 use Rattle.automata_base.specs.Nfas.Nodes.{Automaton}
 use Rattle.automata_base.specs.Haystacks.Tapes.{Backward}
-use Rattle.automata_base.specs.Answers.OfPasses.{ToldEndsAreRight, ToldIsRight}
-use Rattle.automata_base.specs.Answers.Within.{ToldLiesWithin}
+use Rattle.automata_base.specs.Answers.OfPasses.{ReportedEndsAreRight, ReportedIsRight}
+use Rattle.automata_base.specs.Answers.Within.{ReportedLiesWithin}
 use Rattle.automata_config.specs.Options.{match_kind_of}
 use Rattle.automata_hybrid.specs.Searches.Contracts.{IsHalf, IsSearchEffect, halves}
 use Rattle.automata_hybrid.specs.Searches.Passes.{IsFound, IsRefused}
-use Rattle.automata_hybrid.proofs.Answering.{refused_memory}
-use Rattle.automata_hybrid.proofs.Owing.{halves_effect, halves_err, halves_ok, is_store, may_refuse}
-use Rattle.automata_hybrid.proofs.Skipping.{found_told}
-use Rattle.automata_hybrid.proofs.Within.{lies_in}
+use Rattle.automata_hybrid.proofs.Searches.Reach.{refused_memory}
+use Rattle.automata_hybrid.proofs.Searches.Contracts.{halves_effect, halves_err, halves_ok, is_store, may_refuse}
+use Rattle.automata_hybrid.proofs.Searches.Skips.{found_reported}
+use Rattle.automata_hybrid.proofs.Searches.Bounds.{lies_in}
 use Rattle.automata_hybrid.proofs.dfa.DFA.try_search_rev.Goals as goal
 
 pub returns-clause-half : goal.returns-clause-half
@@ -22,24 +22,24 @@ returns-clause-half c =
     let r = c.search-found.result in
     let cache = c.search-found.new.cache.store in
     let haystack = c.haystack-haystack.ensures in
-    let told = subst (λ (a : Automaton). ToldIsRight a) c.get_nfa.ensures c.told_is_right.ensures.answer in
-    let ends = subst (λ (a : Automaton). ToldEndsAreRight a) c.get_nfa.ensures c.told_is_right.ensures.ends in
-    let lies = subst ToldLiesWithin c.get_nfa.ensures c.told_is_right.ensures.within in
+    let reported = subst (λ (a : Automaton). ReportedIsRight a) c.get_nfa.ensures c.reported_is_right.ensures.answer in
+    let ends = subst (λ (a : Automaton). ReportedEndsAreRight a) c.get_nfa.ensures c.reported_is_right.ensures.ends in
+    let lies = subst ReportedLiesWithin c.get_nfa.ensures c.reported_is_right.ensures.within in
     let found = halves_ok (IsFound Backward m input) r s.found in
     subst (λ v. IsHalf Backward m input v) (sym c.without_base.ensures)
     (record {
       found = found;
       answer = λ acyclic.
           halves_ok _ r (IfOk-weaker r _ _
-          (λ o found. told Backward (match_kind_of m.config) input _ acyclic (haystack.bytes, haystack.within.1) (found_told Backward m input _ found))
+          (λ o found. reported Backward (match_kind_of m.config) input _ acyclic (haystack.bytes, haystack.within.1) (found_reported Backward m input _ found))
           s.found);
       nearest = λ early.
           halves_ok _ r (IfOk-weaker r _ _
-          (λ o found. (ends Backward (match_kind_of m.config) input _ (haystack.bytes, haystack.within.1) (found_told Backward m input _ found)).0 early)
+          (λ o found. (ends Backward (match_kind_of m.config) input _ (haystack.bytes, haystack.within.1) (found_reported Backward m input _ found)).0 early)
           s.found);
       farthest = λ late all.
           halves_ok _ r (IfOk-weaker r _ _
-          (λ o found. (ends Backward (match_kind_of m.config) input _ (haystack.bytes, haystack.within.1) (found_told Backward m input _ found)).1 late all)
+          (λ o found. (ends Backward (match_kind_of m.config) input _ (haystack.bytes, haystack.within.1) (found_reported Backward m input _ found)).1 late all)
           s.found);
       within = lies_in m input lies haystack.within.1 Backward (halves r) found;
       errors = halves_err _ r (may_refuse r Backward m cache input (is_store cache m s.of c.see_bounds.ensures) s.refusal);

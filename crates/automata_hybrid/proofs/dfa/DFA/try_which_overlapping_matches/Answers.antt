@@ -1,8 +1,8 @@
 use Rattle.std.proofs.lemmas.Result.{IfErr-weaker}
 use Rattle.automata_base.specs.Haystacks.Tapes.{Forward}
-use Rattle.automata_hybrid.proofs.Owing.{is_store}
-use Rattle.automata_hybrid.proofs.OwingWalks.{may_refuse_which}
-use Rattle.automata_hybrid.proofs.WalkAnswers.{walk_memory}
+use Rattle.automata_hybrid.proofs.Searches.Contracts.{is_store}
+use Rattle.automata_hybrid.proofs.Walks.Contracts.{may_refuse_which}
+use Rattle.automata_hybrid.proofs.Walks.Reach.{walk_memory}
 use Rattle.automata_hybrid.specs.Walks.State.{Ids}
 use Rattle.automata_hybrid.proofs.dfa.DFA.try_which_overlapping_matches.Goals as goal
 
@@ -10,13 +10,13 @@ pub returns-clause-which : goal.returns-clause-which
 returns-clause-which c =
     let m = c.args.self.now in
     let input = c.args.input.now in
-    let s = c.collect-told.ensures in
-    let r = c.collect-told.result in
-    let cache = c.collect-told.new.cache.store in
+    let s = c.collect-reported.ensures in
+    let r = c.collect-reported.result in
+    let cache = c.collect-reported.new.cache.store in
     record {
-      told = s.told;
+      reported = s.reported;
       errors =
-          may_refuse_which r m cache input c.args.patset.now c.collect-told.new.patset (is_store cache m s.of c.see_bounds.ensures)
+          may_refuse_which r m cache input c.args.patset.now c.collect-reported.new.patset (is_store cache m s.of c.see_bounds.ensures)
           s.refusal;
       free = λ f.
           IfErr-weaker r _ _ (λ e x.

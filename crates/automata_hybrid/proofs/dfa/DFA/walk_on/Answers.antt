@@ -16,21 +16,21 @@ use Rattle.automata_hybrid.specs.Walks.Progress.{IsCallStopped}
 use Rattle.automata_hybrid.specs.Searches.Passes.{HasReadNoQuit, given_up_offset, state_in, tape_in}
 use Rattle.automata_hybrid.specs.Cache.Stores.{Stored, with_searched}
 use Rattle.automata_hybrid.specs.Cache.Table.{Rows, Leads, Names}
-use Rattle.automata_hybrid.specs.Walks.Answers.{Arrives, Finishes, HasItsState, HasToldBy, IsAdvanceRefusal, IsArrival}
+use Rattle.automata_hybrid.specs.Walks.Answers.{Arrives, Finishes, HasItsState, HasReportedBy, IsAdvanceRefusal, IsArrival}
 use Rattle.automata_hybrid.specs.Walks.State.{Holds, Ids, IsHeldAt, Stage, Walk, ended_walk, keeping_of, way_of}
 use Rattle.automata_hybrid.specs.declared.search.advance.Arrival.{Arrival}
-use Rattle.automata_hybrid.proofs.Growing.{grown_after, grown_moved, grown_trans}
-use Rattle.automata_hybrid.proofs.KnowingWalks.{has_state, state_after, still_same, unit_knows, units_none}
-use Rattle.automata_hybrid.proofs.Reading.{at_err}
-use Rattle.automata_hybrid.proofs.Resuming.{known_refusal, refused_on}
-use Rattle.automata_hybrid.proofs.SearchedWalks.{call_leaves, reads_some, step_refuses}
-use Rattle.automata_hybrid.proofs.UnitsRead.{ended_here}
-use Rattle.automata_hybrid.proofs.Searching.{dead_more, if_err}
-use Rattle.automata_hybrid.proofs.Stepping.{dead_tagged}
-use Rattle.automata_hybrid.proofs.WalkCalls.{clean_here, ended_at, next_finishes, told_here, walk_clears_none}
-use Rattle.automata_hybrid.proofs.Walked.{finish_start}
-use Rattle.automata_hybrid.proofs.Directions.{units_in}
-use Rattle.automata_hybrid.proofs.WalkingOn.{effect_on, effect_unheld, learned_on, refused_unheld}
+use Rattle.automata_hybrid.proofs.Cache.Growth.{grown_after, grown_moved, grown_trans}
+use Rattle.automata_hybrid.proofs.Walks.Cached.{has_state, state_after, still_same, unit_knows, units_none}
+use Rattle.automata_hybrid.proofs.Searches.Reads.{at_err}
+use Rattle.automata_hybrid.proofs.Walks.Parts.{known_refusal, refused_on}
+use Rattle.automata_hybrid.proofs.Walks.Progress.{call_leaves, reads_some, step_refuses}
+use Rattle.automata_hybrid.proofs.Searches.UnitsRead.{ended_here}
+use Rattle.automata_hybrid.proofs.Searches.PassState.{dead_more, if_err}
+use Rattle.automata_hybrid.proofs.Steps.Ids.{dead_tagged}
+use Rattle.automata_hybrid.proofs.Walks.Calls.{clean_here, ended_at, next_finishes, reported_here, walk_clears_none}
+use Rattle.automata_hybrid.proofs.Walks.Reports.{finish_start}
+use Rattle.automata_hybrid.proofs.Searches.Directions.{units_in}
+use Rattle.automata_hybrid.proofs.Walks.Units.{effect_on, effect_unheld, learned_on, refused_unheld}
 use Rattle.automata_hybrid.proofs.dfa.DFA.walk_on.Goals as goal
 
 pub returns-in_err-from-clause-refusal : goal.returns-in_err-from-clause-refusal
@@ -39,8 +39,8 @@ returns-in_err-from-clause-refusal c =
     let w : Walk = c.args.walk.now in
     let r = c.requires.walk.reads in
     if_err c.from_residual.result _ _ c.from_residual.ensures.1
-    (refused_on (keeping_of c.args.held.now) d c.args.self.now c.args.input.now w _ _ c.requires.walk.told r (λ k t.
-    (r.undone, inl (told_here d c.args.self.now c.args.input.now w k c.see_skips.ensures t r.on r.all_told, c.in_err-from.ensures.refusal))))
+    (refused_on (keeping_of c.args.held.now) d c.args.self.now c.args.input.now w _ _ c.requires.walk.reported r (λ k t.
+    (r.undone, inl (reported_here d c.args.self.now c.args.input.now w k c.see_skips.ensures t r.on r.all_reported, c.in_err-from.ensures.refusal))))
 
 pub returns-in_err-from-clause-effect : goal.returns-in_err-from-clause-effect
 returns-in_err-from-clause-effect c =
@@ -63,7 +63,7 @@ returns-in_err-from-clause-effect c =
       there = e.there;
       put_back = λ q at lacks. inl (e.put_back q at lacks).1;
       learned = λ nothing. tt;
-      known = λ knows. (let same = e.known (λ may. (knows c.requires.walk.told.0 c.requires.walk.told.1 r may).0) in (still_same c.args.cache.now c.resume.new.cache same.0, known_refusal (keeping_of c.args.held.now) d m input w c.in_err-from.field-0.0 same.1));
+      known = λ knows. (let same = e.known (λ may. (knows c.requires.walk.reported.0 c.requires.walk.reported.1 r may).0) in (still_same c.args.cache.now c.resume.new.cache same.0, known_refusal (keeping_of c.args.held.now) d m input w c.in_err-from.field-0.0 same.1));
       ended = tt;
       left = inl (c.in_err-from.ensures.refusal, e.err);
       ready = λ none. absurd (reads_some input w r none);
@@ -79,14 +79,14 @@ returns-then-is_dead-clause-answer c =
     let units : input.end - input.start ≡ length (tape_in d input).bytes = units_in d input r.undone c.haystack-haystack.ensures.within.1 in
     let leads : Leads c.search_start.new.self.store.table c.in_ok-from.from (state_in d m input w.units) = subst (λ (t : Rows). Leads t c.in_ok-from.from (state_in d m input w.units)) (sym c.search_start.ensures.table) c.in_ok-from.ensures.answer.leads in
     let dies : state_in d m input w.units ≡ dead = (dead_tagged c.search_start.new.self.store.table c.in_ok-from.from (c.see_store.ensures.low c.in_ok-from.from) c.see_store.ensures.small _ leads).0 (c.if-is_dead.ensures.0 refl) in
-    let clean : HasReadNoQuit d m input w.units = clean_here d m input w c.requires.walk.told.0 c.requires.walk.told.1 r.on in
+    let clean : HasReadNoQuit d m input w.units = clean_here d m input w c.requires.walk.reported.0 c.requires.walk.reported.1 r.on in
     let ends : Finishes d m input w.units w.units = finish_start d m input w.units (omega (arith, units, r.left)) clean dies in
     let same : c.end.new.self ≡ ended_walk w w.units = c.end.ensures ∙ ap (ended_walk w) c.units-then-is_dead.ensures in
     subst (λ (x : Walk). IsCallAnswer d m input w x c.args.cache.now.store c.end_search.new.self.store) (sym same)
     (record {
-      tells =
+      reports =
           next_finishes d m input w w w.units r.undone c.in_ok-from.ensures.answer.may
-          (λ k t. told_here d m input w k c.see_skips.ensures t r.on r.all_told) ends;
+          (λ k t. reported_here d m input w k c.see_skips.ensures t r.on r.all_reported) ends;
       goes_on = inl refl;
       stops = λ undone on ended. ends.stops;
       there = λ there. tt;
@@ -128,12 +128,12 @@ returns-then-is_dead-clause-effect c =
       grown = grown;
       there = there;
       put_back = λ q at lacks. inr (between, (e.put_back q at lacks).0, moved);
-      learned = λ nothing k told ready may. (
+      learned = λ nothing k reported ready may. (
         state_after d m old between new input w.stage e.grown moved nothing c.in_ok-from.ensures.answer.learned,
         λ j l reads clean by. absurd (reads.1 (dead_more d m input w.units j l dies)),
       );
       known = λ knows. (
-          let all = knows c.requires.walk.told.0 c.requires.walk.told.1 r c.in_ok-from.ensures.answer.may in
+          let all = knows c.requires.walk.reported.0 c.requires.walk.reported.1 r c.in_ok-from.ensures.answer.may in
           let still = e.known (λ may. all.0) in
           ((there (has_state d m old.store input w.stage all.0)).idle (count ∙ ap (λ (v : CacheView). v.count) still.0), tt));
       ended = inr (
@@ -161,8 +161,8 @@ returns-in_err-arrival-clause-refusal c =
     let s = c.requires.walk.reads in
     let r : IsAdvanceRefusal d c.args.self.now c.advance.new.cache.store c.args.input.now w.units c.in_err-arrival.field-0.0 = subst (λ n. IsAdvanceRefusal d c.args.self.now c.advance.new.cache.store c.args.input.now n c.in_err-arrival.field-0.0) c.units-2.ensures c.in_err-arrival.ensures.refusal in
     if_err c.from_residual-in_err-arrival.result _ _ c.from_residual-in_err-arrival.ensures.1
-    (refused_on (keeping_of c.args.held.now) d c.args.self.now c.args.input.now w _ _ c.requires.walk.told s (λ k t.
-    (s.undone, inr (c.in_ok-from.ensures.answer.may, (r.0, r.1, r.2, r.3, r.4 k (told_here d c.args.self.now c.args.input.now w k c.see_skips.ensures t s.on s.all_told), step_refuses (keeping_of c.args.held.now) d c.args.self.now c.advance.new.cache.store c.args.input.now r.0 c.in_err-arrival.field-0.0 r.5)))))
+    (refused_on (keeping_of c.args.held.now) d c.args.self.now c.args.input.now w _ _ c.requires.walk.reported s (λ k t.
+    (s.undone, inr (c.in_ok-from.ensures.answer.may, (r.0, r.1, r.2, r.3, r.4 k (reported_here d c.args.self.now c.args.input.now w k c.see_skips.ensures t s.on s.all_reported), step_refuses (keeping_of c.args.held.now) d c.args.self.now c.advance.new.cache.store c.args.input.now r.0 c.in_err-arrival.field-0.0 r.5)))))
 
 pub returns-in_err-arrival-clause-effect : goal.returns-in_err-arrival-clause-effect
 returns-in_err-arrival-clause-effect c =
@@ -201,14 +201,14 @@ returns-in_err-arrival-clause-effect c =
       put_back = λ q at lacks. inr (between, (e.put_back q at lacks).0, moved);
       learned = λ nothing. tt;
       known = λ knows. (
-          let k : ℕ = c.requires.walk.told.0 in
-          let all = knows k c.requires.walk.told.1 r c.in_ok-from.ensures.answer.may in
+          let k : ℕ = c.requires.walk.reported.0 in
+          let all = knows k c.requires.walk.reported.1 r c.in_ok-from.ensures.answer.may in
           let same = e.known (λ may. all.0) in
           let count : begun.count ≡ old.count = c.search_start.ensures.counted ∙ ap (λ (v : CacheView). v.count) same.0 in
           let has = has_state d m old.store input w.stage all.0 in
           let to : IsGrown old begun = grown_trans old between begun (e.there has) began in
-          let here : HasToldBy d m input c.units-2.result k = subst (λ n. HasToldBy d m input n k) (sym c.units-2.ensures) (told_here d m input w k c.see_skips.ensures c.requires.walk.told.1 r.on r.all_told) in
-          let idle = a.known k here (λ j l reads clean told. unit_knows d m old begun input w.units j k to count all.1 (subst (λ n. n ≤ j) c.units-2.ensures l) reads clean told) in
+          let here : HasReportedBy d m input c.units-2.result k = subst (λ n. HasReportedBy d m input n k) (sym c.units-2.ensures) (reported_here d m input w k c.see_skips.ensures c.requires.walk.reported.1 r.on r.all_reported) in
+          let idle = a.known k here (λ j l reads clean reported. unit_knows d m old begun input w.units j k to count all.1 (subst (λ n. n ≤ j) c.units-2.ensures l) reads clean reported) in
           ((there has).idle (idle.0 ∙ count), known_refusal (keeping_of c.args.held.now) d m input w c.in_err-arrival.field-0.0 idle.1));
       ended = tt;
       left =
@@ -239,13 +239,13 @@ returns-in_default-clause-answer c =
     let finish : Finishes d m input w.units arrival.units = subst (λ (o : Option ℕ). IsArrival d m c.advance.new.cache.store.table input w.units o arrival.units) c.in_default.«is» arrives in
     subst (λ (x : Walk). IsCallAnswer d m input w x c.args.cache.now.store c.end_search-in_default.new.self.store) (sym ended)
     (record {
-      tells = next_finishes d m input w w arrival.units r.undone c.in_ok-from.ensures.answer.may (λ k t. told_here d m input w k c.see_skips.ensures t r.on r.all_told) finish;
+      reports = next_finishes d m input w w arrival.units r.undone c.in_ok-from.ensures.answer.may (λ k t. reported_here d m input w k c.see_skips.ensures t r.on r.all_reported) finish;
       goes_on = inl refl;
       stops = λ undone on ends. finish.stops;
       there = λ there. tt;
       learned =
           learned_on d m input w c.in_ok-from.from c.args.cache.now c.resume.new.cache c.search_start.new.self c.advance.new.cache
-          c.haystack-haystack.ensures.within.1 c.see_skips.ensures c.requires.walk.told r c.in_ok-from.ensures.effect c.in_ok-from.ensures.answer begins arrival advanced arrives
+          c.haystack-haystack.ensures.within.1 c.see_skips.ensures c.requires.walk.reported r c.in_ok-from.ensures.effect c.in_ok-from.ensures.answer begins arrival advanced arrives
           arrival.units c.end_search-in_default.new.self refl c.end_search-in_default.ensures.value;
     })
 
@@ -268,7 +268,7 @@ returns-in_default-clause-effect c =
     let finish : Finishes d m input w.units arrival.units = subst (λ (o : Option ℕ). IsArrival d m c.advance.new.cache.store.table input w.units o arrival.units) c.in_default.«is» arrives in
     subst (λ (x : Walk). IsCallEffect {T = Unit {0}} (keeping_of c.args.held.now) d m input w x c.args.cache.now c.end_search-in_default.new.self (Ok tt)) (sym ended)
     (effect_on d m input w c.in_ok-from.from c.args.cache.now c.resume.new.cache c.search_start.new.self c.advance.new.cache
-    c.haystack-haystack.ensures.within.1 c.see_skips.ensures c.requires.walk.told r c.in_ok-from.ensures.effect c.in_ok-from.ensures.answer begins arrival advanced arrives
+    c.haystack-haystack.ensures.within.1 c.see_skips.ensures c.requires.walk.reported r c.in_ok-from.ensures.effect c.in_ok-from.ensures.answer begins arrival advanced arrives
     (keeping_of c.args.held.now) (ended_walk w arrival.units) c.end_search-in_default.new.self c.span_offset-last.result refl c.span_offset-last.ensures c.end_search-in_default.ensures.value
     (λ e. (
       refl,
@@ -294,7 +294,7 @@ returns-in_err-next-clause-refusal c =
     if_err c.from_residual-in_err-next.result search.OutOfMemory _ c.from_residual-in_err-next.ensures.1
     (subst (λ k. IsCallRefused k d m input w c.advance.new.cache.store search.OutOfMemory) (sym c.in_err-next.ensures.refused)
     (refused_unheld d m input w c.in_ok-from.from c.args.cache.now c.resume.new.cache c.search_start.new.self c.advance.new.cache
-    c.haystack-haystack.ensures.within.1 c.see_skips.ensures c.requires.walk.told r c.in_ok-from.ensures.effect c.in_ok-from.ensures.answer begins arrival advanced arrives c.in-Some.id arrived))
+    c.haystack-haystack.ensures.within.1 c.see_skips.ensures c.requires.walk.reported r c.in_ok-from.ensures.effect c.in_ok-from.ensures.answer begins arrival advanced arrives c.in-Some.id arrived))
 
 pub returns-in_err-next-clause-effect : goal.returns-in_err-next-clause-effect
 returns-in_err-next-clause-effect c =
@@ -315,11 +315,11 @@ returns-in_err-next-clause-effect c =
     at_err c.from_residual-in_err-next.result search.OutOfMemory (λ (x : Result (Unit {0}) SearchError). IsCallEffect (keeping_of c.args.held.now) d m input w w c.args.cache.now c.advance.new.cache x) c.from_residual-in_err-next.ensures.1
     (subst (λ k. IsCallEffect {T = Unit {0}} k d m input w w c.args.cache.now c.advance.new.cache (Err search.OutOfMemory)) (sym c.in_err-next.ensures.refused)
     (effect_unheld d m input w c.in_ok-from.from c.args.cache.now c.resume.new.cache c.search_start.new.self c.advance.new.cache
-    c.haystack-haystack.ensures.within.1 c.see_skips.ensures c.requires.walk.told r c.in_ok-from.ensures.effect c.in_ok-from.ensures.answer begins arrival advanced arrives c.in-Some.id arrived w))
+    c.haystack-haystack.ensures.within.1 c.see_skips.ensures c.requires.walk.reported r c.in_ok-from.ensures.effect c.in_ok-from.ensures.answer begins arrival advanced arrives c.in-Some.id arrived w))
 
 pub stand-requires-clause-here : goal.stand-requires-clause-here
 stand-requires-clause-here c = λ k t.
-    told_here (way_of c.args.way) c.args.self.now c.args.input.now c.args.walk.now k c.see_skips.ensures t c.requires.walk.reads.on c.requires.walk.reads.all_told
+    reported_here (way_of c.args.way) c.args.self.now c.args.input.now c.args.walk.now k c.see_skips.ensures t c.requires.walk.reads.on c.requires.walk.reads.all_reported
 
 pub stand-requires-clause-arrives : goal.stand-requires-clause-arrives
 stand-requires-clause-arrives c =
@@ -357,13 +357,13 @@ returns-clause-answer c =
     let s = c.stand.ensures in
     let arrived : Arrives d m c.advance.new.cache.store.table input w.units c.in-Some.id arrival.units = subst (λ (o : Option ℕ). IsArrival d m c.advance.new.cache.store.table input w.units o arrival.units) c.in-Some.«is» arrives in
     record {
-      tells = s.tells;
-      goes_on = inr (λ ended. ended_at s.at.0 (sym ended ∙ s.at.1), inl (omega (arith, s.units, arrived.behind, arrived.more)));
+      reports = s.reports;
+      goes_on = inr (λ ended. ended_at s.at.0 (sym ended ∙ s.at.1), inl (omega (arith, s.units, arrived.one_after, arrived.more)));
       stops = λ undone on ended. absurd (ended_at s.at.0 (sym ended ∙ s.at.1));
       there = λ there. subst (λ (x : Stage). HasItsState c.end_search-2.new.self.store.table x) (sym s.at.1) (record { id = c.in-Some.id; named = s.at.2 });
       learned =
           learned_on d m input w c.in_ok-from.from c.args.cache.now c.resume.new.cache c.search_start.new.self c.advance.new.cache
-          c.haystack-haystack.ensures.within.1 c.see_skips.ensures c.requires.walk.told r c.in_ok-from.ensures.effect c.in_ok-from.ensures.answer begins arrival advanced arrives
+          c.haystack-haystack.ensures.within.1 c.see_skips.ensures c.requires.walk.reported r c.in_ok-from.ensures.effect c.in_ok-from.ensures.answer begins arrival advanced arrives
           c.stand.new.walk.units c.end_search-2.new.self s.units c.end_search-2.ensures.value;
     }
 
@@ -384,7 +384,7 @@ returns-clause-effect c =
     subst (λ n. IsArrival d m c.advance.new.cache.store.table input n arrival.id arrival.units) c.units-2.ensures c.in_ok-arrival.ensures.arrives in
     let s = c.stand.ensures in
     effect_on d m input w c.in_ok-from.from c.args.cache.now c.resume.new.cache c.search_start.new.self c.advance.new.cache
-    c.haystack-haystack.ensures.within.1 c.see_skips.ensures c.requires.walk.told r c.in_ok-from.ensures.effect c.in_ok-from.ensures.answer begins arrival advanced arrives
+    c.haystack-haystack.ensures.within.1 c.see_skips.ensures c.requires.walk.reported r c.in_ok-from.ensures.effect c.in_ok-from.ensures.answer begins arrival advanced arrives
     (keeping_of c.args.held.now) c.stand.new.walk c.end_search-2.new.self c.span_offset-last.result s.units c.span_offset-last.ensures c.end_search-2.ensures.value
     (λ ended. absurd (ended_at s.at.0 (sym ended ∙ s.at.1)))
 

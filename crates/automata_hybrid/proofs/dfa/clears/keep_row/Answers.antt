@@ -2,7 +2,7 @@ use Rattle.std.proofs.Common.{◌≡◌, ◌≤◌, sym, None, subst, rules}
 use Rattle.automata_base.specs.Powersets.Powerset.{cost}
 use Rattle.automata_hybrid.specs.Machines.Machine.{IsStateOf, Machine, greatest}
 use Rattle.automata_hybrid.specs.Cache.Table.{Rows, id_of}
-use Rattle.automata_hybrid.proofs.Keeping.{absent-more}
+use Rattle.automata_hybrid.proofs.Cache.Clears.{absent-more}
 use Rattle.automata_hybrid.proofs.dfa.clears.keep_row.Goals as goal
 
 pub returns-clause-absent : goal.returns-clause-absent

@@ -1,6 +1,6 @@
 use Rattle.std.proofs.Common.{◌^◌, ◌<◌, ◌≤◌, arith}
 use Rattle.std.proofs.lemmas.Grind.{common_steps}
-use Rattle.automata_hybrid.proofs.Keeping.{keeps_fixed, keeps_row}
+use Rattle.automata_hybrid.proofs.Cache.Clears.{keeps_fixed, keeps_row}
 use Rattle.automata_hybrid.proofs.dfa.clears.keep_slot.Goals as goal
 
 pub returns-then-is_fixed : goal.returns-then-is_fixed

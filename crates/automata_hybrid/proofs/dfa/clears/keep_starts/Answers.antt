@@ -9,7 +9,7 @@ use Rattle.std.specs.Prelude.{sum_by}
 use Rattle.automata_hybrid.specs.Machines.Machine.{Machine, start_of, greatest, table_stride}
 use Rattle.automata_hybrid.specs.Cache.Table.{Rows, fresh, MayLead, row_cost}
 use Rattle.automata_hybrid.specs.Cache.Clears.{keep_slot, keep_slots, kept, Kept}
-use Rattle.automata_hybrid.proofs.Keeping.{kept_step, AllStarts-none}
+use Rattle.automata_hybrid.proofs.Cache.Clears.{kept_step, AllStarts-none}
 use Rattle.automata_hybrid.proofs.dfa.clears.keep_starts.Goals as goal
 
 pub loop-id-init : goal.loop-id-init

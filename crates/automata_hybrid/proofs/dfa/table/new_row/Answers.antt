@@ -2,7 +2,7 @@ use Rattle.std.proofs.Common.{◌≡◌, ◌∙◌, ap, sym, length, refl, arith
 use Rattle.std.proofs.lemmas.List.{length-replicate}
 use Rattle.std.proofs.lemmas.Grind.{common_steps}
 use Rattle.automata_base.specs.ByteClasses.Classes.{class_in}
-use Rattle.automata_hybrid.proofs.NewRows.{marked-zero, marked-step, marked-none, length-cond}
+use Rattle.automata_hybrid.proofs.Cache.NewRows.{marked-zero, marked-step, marked-none, length-cond}
 use Rattle.automata_hybrid.proofs.dfa.table.new_row.Goals as goal
 
 pub loop-byte-init : goal.loop-byte-init

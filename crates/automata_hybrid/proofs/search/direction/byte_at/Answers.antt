@@ -1,5 +1,5 @@
 use Rattle.automata_hybrid.specs.Walks.State.{way_of}
-use Rattle.automata_hybrid.proofs.Directions.{unit_read}
+use Rattle.automata_hybrid.proofs.Searches.Directions.{unit_read}
 use Rattle.automata_hybrid.proofs.search.direction.byte_at.Goals as goal
 
 pub returns : goal.returns

@@ -1,4 +1,4 @@
-use Rattle.automata_hybrid.proofs.Directions.{units_backward, units_forward}
+use Rattle.automata_hybrid.proofs.Searches.Directions.{units_backward, units_forward}
 use Rattle.automata_hybrid.proofs.search.direction.bytes_from.Goals as goal
 
 pub returns-in-Forward-clause-units : goal.returns-in-Forward-clause-units

@@ -1,7 +1,7 @@
 use Rattle.std.proofs.Common.{ℕ, ◌≡◌, ◌∙◌, ◌-◌, List, length, get_or, sym, ap, arith}
 use Rattle.automata_base.specs.Haystacks.Tapes.{byte_before}
-use Rattle.automata_hybrid.proofs.Units.{nth_past, nth_read}
-use Rattle.automata_hybrid.proofs.Directions.{backward_within, before_read, unit_backward, unit_forward}
+use Rattle.automata_hybrid.proofs.Searches.Units.{nth_past, nth_read}
+use Rattle.automata_hybrid.proofs.Searches.Directions.{backward_within, before_read, unit_backward, unit_forward}
 use Rattle.automata_hybrid.proofs.search.direction.unit_at.Goals as goal
 
 pub returns-then-at-eq0 : goal.returns-then-at-eq0

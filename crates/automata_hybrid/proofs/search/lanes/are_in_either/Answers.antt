@@ -1,7 +1,7 @@
 use Rattle.std.proofs.lemmas.Bool.{eqb-true}
 use Rattle.automata_hybrid.specs.Searches.SelfLoops.{HasEither}
 use Rattle.automata_hybrid.specs.Walks.State.{way_of}
-use Rattle.automata_hybrid.proofs.Lanes.{all_near}
+use Rattle.automata_hybrid.proofs.Searches.Lanes.{all_near}
 use Rattle.automata_hybrid.proofs.search.lanes.are_in_either.Goals as goal
 
 pub returns : goal.returns

@@ -3,7 +3,7 @@ use Rattle.std.specs.Int.{bit_at}
 use Rattle.automata_hybrid.specs.Searches.SelfLoops.{HasEither, lane_of}
 use Rattle.automata_hybrid.specs.Walks.State.{way_of}
 use Rattle.automata_hybrid.specs.declared.search.direction.Way.{Way}
-use Rattle.automata_hybrid.proofs.Lanes.{all_near, leading_clear, near_upto, trailing_clear, trailing_few}
+use Rattle.automata_hybrid.proofs.Searches.Lanes.{all_near, leading_clear, near_upto, trailing_clear, trailing_few}
 use Rattle.automata_hybrid.proofs.search.lanes.count_in_either.Goals as goal
 
 pub returns-then-outside-eq0-clause-near : goal.returns-then-outside-eq0-clause-near

@@ -3,7 +3,7 @@ use Rattle.std.specs.Int.{bit_at}
 use Rattle.std.proofs.lemmas.Nat.{and_le_l}
 use Rattle.automata_hybrid.specs.Searches.SelfLoops.{lane_of}
 use Rattle.automata_hybrid.specs.Walks.State.{way_of}
-use Rattle.automata_hybrid.proofs.Lanes.{both_clear}
+use Rattle.automata_hybrid.proofs.Searches.Lanes.{both_clear}
 use Rattle.automata_hybrid.proofs.search.lanes.outside_both.Goals as goal
 
 pub returns-clause-small : goal.returns-clause-small

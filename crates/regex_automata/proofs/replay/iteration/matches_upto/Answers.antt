@@ -1,22 +1,22 @@
 use Rattle.std.proofs.Common.{◌∙◌, ap, subst}
 use Rattle.automata_base.specs.Nfas.Nodes.{Automaton}
 use Rattle.automata_base.specs.Answers.Spans.{Found, IsSpan, TryFinds, from}
-use Rattle.automata_base.specs.Answers.OfPasses.{ToldEndsAreRight, ToldIsRight}
+use Rattle.automata_base.specs.Answers.OfPasses.{ReportedEndsAreRight, ReportedIsRight}
 use Rattle.automata_hybrid.specs.Machines.Machine.{Machine}
 use Rattle.regex_automata.specs.Spans.Outcomes.{FindsMatch}
 use Rattle.regex_automata.specs.Regexes.SoundPairs.{IsSoundPair, forward_engine, reverse_engine}
-use Rattle.regex_automata.proofs.Collecting.{collected_begins, collected_right}
-use Rattle.regex_automata.proofs.MatchLists.{may_refuse_next, memory_behind}
-use Rattle.regex_automata.proofs.Owed.{are_stores}
-use Rattle.regex_automata.proofs.Right.{match_right, outcome_right}
-use Rattle.regex_automata.proofs.Rising.{collected_first, first_few, first_place, first_rise}
+use Rattle.regex_automata.proofs.Spans.Lists.{collected_begins, collected_right}
+use Rattle.regex_automata.proofs.Replies.MatchLists.{may_refuse_next, memory_after}
+use Rattle.regex_automata.proofs.Replies.Contracts.{are_stores}
+use Rattle.regex_automata.proofs.Spans.ByPaths.{match_right, outcome_right}
+use Rattle.regex_automata.proofs.Spans.Ends.{collected_first, first_few, first_place, first_rise}
 use Rattle.regex_automata.proofs.replay.iteration.matches_upto.Goals as goal
 
 pub returns-clause-of : goal.returns-clause-of
 returns-clause-of c = (c.take_matches-all.ensures.forward, c.take_matches-all.ensures.reverse)
 
-pub returns-clause-owed : goal.returns-clause-owed
-returns-clause-owed c =
+pub returns-clause-returned : goal.returns-clause-returned
+returns-clause-returned c =
     let p = c.args.regex.now in
     let input = c.args.input in
     let s = c.take_matches-all.ensures in
@@ -24,9 +24,9 @@ returns-clause-owed c =
     let error = c.take_matches-all.result.1 in
     let cache = c.take_matches-all.new.cache in
     let within = c.haystack-haystack.ensures.within.1 in
-    let front = subst (λ (a : Automaton). ToldIsRight a) (c.get_nfa.ensures ∙ ap (λ (m : Machine). m.nfa) c.forward.ensures) c.told_is_right.ensures.answer in
-    let rear = subst (λ (a : Automaton). ToldIsRight a) (c.get_nfa-2.ensures ∙ ap (λ (m : Machine). m.nfa) c.reverse.ensures) c.told_is_right-2.ensures.answer in
-    let ends = subst (λ (a : Automaton). ToldEndsAreRight a) (c.get_nfa-2.ensures ∙ ap (λ (m : Machine). m.nfa) c.reverse.ensures) c.told_is_right-2.ensures.ends in
+    let front = subst (λ (a : Automaton). ReportedIsRight a) (c.get_nfa.ensures ∙ ap (λ (m : Machine). m.nfa) c.forward.ensures) c.reported_is_right.ensures.answer in
+    let rear = subst (λ (a : Automaton). ReportedIsRight a) (c.get_nfa-2.ensures ∙ ap (λ (m : Machine). m.nfa) c.reverse.ensures) c.reported_is_right-2.ensures.answer in
+    let ends = subst (λ (a : Automaton). ReportedEndsAreRight a) (c.get_nfa-2.ensures ∙ ap (λ (m : Machine). m.nfa) c.reverse.ensures) c.reported_is_right-2.ensures.ends in
     let right = λ (sound : IsSoundPair p). collected_right (FindsMatch p) (IsSpan (forward_engine p)) input
     (λ start o f. match_right p front ends c.start_is_right.ensures.starts sound (from start input) (c.haystack-haystack.ensures.bytes, within) o f)
     ms error s.found in
@@ -43,5 +43,5 @@ returns-clause-owed c =
       few = first_few p input within ms first;
       errors = may_refuse_next p cache input ms error of s.refusal;
       unsupported = s.unsupported;
-      free = memory_behind p input ms error (first_place p input within ms first) (may_refuse_next p cache input ms error of s.refusal);
+      free = memory_after p input ms error (first_place p input within ms first) (may_refuse_next p cache input ms error of s.refusal);
     }

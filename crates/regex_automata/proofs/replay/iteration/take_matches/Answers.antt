@@ -4,12 +4,12 @@ use Rattle.automata_base.specs.Haystacks.Matches.{Match}
 use Rattle.automata_config.specs.declared.error.SearchError.TheVariants as search
 use Rattle.regex_automata.specs.Spans.Iteration.{AreFirst, IsNextRefusal, input_at}
 use Rattle.regex_automata.specs.Spans.Outcomes.{FindsMatch}
-use Rattle.regex_automata.proofs.Collecting.{collected, comes_first, comes_turn, input_turn, item_match, item_none}
-use Rattle.regex_automata.proofs.Collecting.{turn}
-use Rattle.regex_automata.proofs.MatchLists.{item_refused, match_error, none_error, refused_behind, same_error}
-use Rattle.regex_automata.proofs.MatchLists.{untold_turn}
+use Rattle.regex_automata.proofs.Spans.Lists.{collected, comes_first, comes_turn, input_turn, item_match, item_none}
+use Rattle.regex_automata.proofs.Spans.Lists.{turn}
+use Rattle.regex_automata.proofs.Replies.MatchLists.{item_refused, match_error, none_error, refused_after, same_error}
+use Rattle.regex_automata.proofs.Replies.MatchLists.{unreported_turn}
 use Rattle.regex_automata.specs.declared.hybrid.regex.Regex.{Regex}
-use Rattle.regex_automata.proofs.Searched.{effect_turn, searches_end, searches_turn}
+use Rattle.regex_automata.proofs.Spans.Effects.{effect_turn, searches_end, searches_turn}
 use Rattle.regex_automata.proofs.replay.iteration.take_matches.Goals as goal
 
 pub loop-item-preserved : goal.loop-item-preserved
@@ -27,8 +27,8 @@ loop-item-preserved c =
           (turn s.regex.now c.args.regex.now c.args.input now s.last (Some c.in-Ok.next) i.regex i.input step.0) items (ap (λ (v : Input). v.start) step.1) step.2;
       regex = steps.1 ∙ i.regex;
       input = input_turn c.args.input now rest c.in-Ok.next.end i.input step.1;
-      untold = λ u. absurd (match_error (untold_turn s.regex.now c.args.regex.now c.args.input now s.ended (Some (Ok c.in-Ok.next)) c.loop-item.found.items
-          i.regex i.input i.going steps.4 i.untold u).1);
+      unreported = λ u. absurd (match_error (unreported_turn s.regex.now c.args.regex.now c.args.input now s.ended (Some (Ok c.in-Ok.next)) c.loop-item.found.items
+          i.regex i.input i.going steps.4 i.unreported u).1);
       going = step.4;
       made = searches_turn c.args.regex.now c.args.cache.now s.cache.now t.cache.now c.args.input now rest s.last t.last c.loop-item.found.items c.push.new.self.items c.in-Ok.next i.made
           (effect_turn s.regex.now c.args.regex.now now s.last s.ended s.cache.now t.cache.now (Some (Ok c.in-Ok.next)) i.regex i.going steps.3) step.1 step.2 items;
@@ -59,7 +59,7 @@ returns-in-Err-clause-refusal c =
     let now = input_at s.haystack.now s.start s.end s.anchored s.earliest in
     let rest = input_at t.haystack.now t.start t.end t.anchored t.earliest in
     let steps = rw c.in-Err.is at c.in-Some.ensures.steps in
-    inr (refused_behind s.regex.now c.args.regex.now t.cache.now _ c.args.input now c.loop-item.found.items s.last c.in-Err.error
+    inr (refused_after s.regex.now c.args.regex.now t.cache.now _ c.args.input now c.loop-item.found.items s.last c.in-Err.error
     i.regex (search rules) i.input i.comes
     (item_refused s.regex.now t.cache.now now rest s.last t.last s.ended t.ended c.in-Err.error steps.0 i.going))
 
@@ -80,7 +80,7 @@ returns-in_default-clause-unsupported c =
     let s = c.loop-item.item-iterator in
     let now = input_at s.haystack.now s.start s.end s.anchored s.earliest in
     let steps = rw c.in-Ok.is at c.in-Some.ensures.steps in
-    λ u. absurd (match_error (untold_turn s.regex.now c.args.regex.now c.args.input now s.ended (Some (Ok c.in-Ok.next)) c.loop-item.found.items i.regex i.input i.going steps.4 i.untold u).1)
+    λ u. absurd (match_error (unreported_turn s.regex.now c.args.regex.now c.args.input now s.ended (Some (Ok c.in-Ok.next)) c.loop-item.found.items i.regex i.input i.going steps.4 i.unreported u).1)
 
 pub returns-in-Err-clause-unsupported : goal.returns-in-Err-clause-unsupported
 returns-in-Err-clause-unsupported c =
@@ -88,14 +88,14 @@ returns-in-Err-clause-unsupported c =
     let s = c.loop-item.item-iterator in
     let now = input_at s.haystack.now s.start s.end s.anchored s.earliest in
     let steps = rw c.in-Err.is at c.in-Some.ensures.steps in
-    λ u. (let told = untold_turn s.regex.now c.args.regex.now c.args.input now s.ended (Some (Err c.in-Err.error)) c.loop-item.found.items i.regex i.input i.going steps.4 i.untold u in (told.0, same_error told.1))
+    λ u. (let reported = unreported_turn s.regex.now c.args.regex.now c.args.input now s.ended (Some (Err c.in-Err.error)) c.loop-item.found.items i.regex i.input i.going steps.4 i.unreported u in (reported.0, same_error reported.1))
 
 pub returns-clause-unsupported : goal.returns-clause-unsupported
 returns-clause-unsupported c =
     let i = c.loop-item.invariant in
     let s = c.loop-item.item-iterator in
     let now = input_at s.haystack.now s.start s.end s.anchored s.earliest in
-    λ u. absurd (none_error (untold_turn s.regex.now c.args.regex.now c.args.input now s.ended (None) c.loop-item.found.items i.regex i.input i.going c.in-None.ensures.steps.4 i.untold u).1)
+    λ u. absurd (none_error (unreported_turn s.regex.now c.args.regex.now c.args.input now s.ended (None) c.loop-item.found.items i.regex i.input i.going c.in-None.ensures.steps.4 i.unreported u).1)
 
 pub returns-in_default-clause-made : goal.returns-in_default-clause-made
 returns-in_default-clause-made c =

@@ -4,9 +4,9 @@ use Rattle.automata_base.specs.Haystacks.Matches.{Match}
 use Rattle.automata_config.specs.declared.error.SearchError.TheVariants as search
 use Rattle.regex_automata.specs.Tokens.{AreGiven, IsRefusedAt, match_of}
 use Rattle.regex_automata.specs.declared.tokens.error.TokenError.TheVariants.{Search}
-use Rattle.regex_automata.proofs.Completing.{at_end, completes_end, completes_on, item_turn, match_is}
+use Rattle.regex_automata.proofs.TokenLists.Lists.{at_end, completes_end, completes_on, item_turn, match_is}
 use Rattle.regex_automata.specs.declared.hybrid.regex.Regex.{Regex}
-use Rattle.regex_automata.proofs.Searched.{token_made_turn, tokens_end, tokens_left, tokens_turn}
+use Rattle.regex_automata.proofs.Spans.Effects.{token_made_turn, tokens_end, tokens_left, tokens_turn}
 use Rattle.regex_automata.proofs.replay.tokens.take_tokens.Goals as goal
 
 pub loop-item-preserved : goal.loop-item-preserved

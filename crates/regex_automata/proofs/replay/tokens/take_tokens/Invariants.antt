@@ -1,6 +1,6 @@
 use Rattle.std.proofs.Common.{◌≡◌, false}
-use Rattle.regex_automata.proofs.Completing.{Completes}
-use Rattle.regex_automata.proofs.Searched.{TokensSearch}
+use Rattle.regex_automata.proofs.TokenLists.Lists.{Completes}
+use Rattle.regex_automata.proofs.Spans.Effects.{TokensSearch}
 use Rattle.regex_automata.proofs.replay.tokens.take_tokens.Given as goal
 
 abbrev pub invariant-loop-item : goal.invariant-loop-item

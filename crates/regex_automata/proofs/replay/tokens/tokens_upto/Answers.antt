@@ -2,7 +2,7 @@ use Rattle.automata_base.specs.Answers.Answers.{IsAnswer}
 use Rattle.automata_base.specs.Nfas.Engines.{engine_of}
 use Rattle.automata_base.specs.Haystacks.Tapes.{Forward}
 use Rattle.automata_hybrid.specs.Searches.Passes.{IsFound, WithoutBase}
-use Rattle.regex_automata.proofs.Tiling.{begins, found_by, free_of, tiles}
+use Rattle.regex_automata.proofs.TokenLists.Tiling.{begins, found_by, free_of, tiles}
 use Rattle.std.proofs.Common.{Option, subst, arith}
 use Rattle.regex_automata.specs.Tokens.{AreGiven}
 use Rattle.regex_automata.specs.declared.tokens.error.TokenError.{TokenError}
@@ -12,8 +12,8 @@ use Rattle.automata_config.specs.Options.{match_kind_of}
 pub returns-clause-of : goal.returns-clause-of
 returns-clause-of c = (c.take_tokens.ensures.forward, c.take_tokens.ensures.reverse)
 
-pub returns-clause-owed : goal.returns-clause-owed
-returns-clause-owed c =
+pub returns-clause-returned : goal.returns-clause-returned
+returns-clause-returned c =
     let m = c.args.regex.now.forward in
     let input = c.args.input in
     let ts = c.take_tokens.result.0.items in
@@ -22,10 +22,10 @@ returns-clause-owed c =
     let given = c.take_tokens.ensures.given in
     record {
       given = given;
-      found = found_by m input.haystack input.end few (λ i. WithoutBase (IsFound Forward m i)) (λ place o owed. owed.found)
+      found = found_by m input.haystack input.end few (λ i. WithoutBase (IsFound Forward m i)) (λ place o returned. returned.found)
           input.start ts error given;
       paths = λ acyclic. found_by m input.haystack input.end few (λ i. WithoutBase (IsAnswer Forward (engine_of m.nfa (match_kind_of m.config)) i))
-          (λ place o owed. owed.answer acyclic) input.start ts error given;
+          (λ place o returned. returned.answer acyclic) input.start ts error given;
       beginning = begins m input.haystack input.end few input.start ts error given;
       whole = λ none. tiles m input.haystack input.end few input.start ts
           (subst (λ (e : Option TokenError). AreGiven m input.haystack input.end input.start ts e) none given);

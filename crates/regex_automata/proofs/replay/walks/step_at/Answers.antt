@@ -1,7 +1,7 @@
 use Rattle.std.proofs.Common.{◌≡◌, ◌∙◌, get_or, refl, subst, sym}
 use Rattle.regex_automata.specs.Replay.Players.{Goes, MakesStep}
 use Rattle.regex_automata.specs.declared.replay.walks.KeptWalk.{KeptWalk}
-use Rattle.regex_automata.proofs.KeptWalks.{any_default}
+use Rattle.regex_automata.proofs.Replies.KeptWalks.{any_default}
 use Rattle.regex_automata.proofs.replay.walks.step_at.Goals as goal
 
 pub returns-clause-goes : goal.returns-clause-goes
@@ -12,7 +12,7 @@ returns-clause-goes c = λ old is.
     let new : KeptWalk = record at { state = c.step.new.state } in
     let s = c.step.ensures.call in
     let g : Goes r at new c.step.result =
-    record { regex = refl; reverse = refl; input = refl; step = s.step; told = s.told; kept = s.kept } in
+    record { regex = refl; reverse = refl; input = refl; step = s.step; reported = s.reported; kept = s.kept } in
     (new, subst (λ (x : KeptWalk). Goes r x new c.step.result) e g, refl)
 
 pub returns-clause-made : goal.returns-clause-made

@@ -8,11 +8,11 @@ use Rattle.automata_hybrid.specs.Machines.Machine.{Machine}
 use Rattle.automata_hybrid.specs.Searches.Contracts.{IsHalf, IsSearchEffect}
 use Rattle.automata_hybrid.specs.Searches.Passes.{IsRefused}
 use Rattle.regex_automata.specs.Tokens.{HasLearnedAt, IsGivenAt, LeavesAt, asked, match_of}
-use Rattle.automata_hybrid.proofs.Searching.{if_err}
-use Rattle.regex_automata.proofs.Finding.{cost_anchored}
+use Rattle.automata_hybrid.proofs.Searches.PassState.{if_err}
+use Rattle.regex_automata.proofs.Spans.Costs.{cost_anchored}
 use Rattle.regex_automata.proofs.Results.{is_err}
-use Rattle.regex_automata.proofs.Tiling.{error_is_given, token_is_given}
-use Rattle.regex_automata.proofs.Tokenising.{error_learns, error_leaves, error_of_input, token_learns, token_leaves}
+use Rattle.regex_automata.proofs.TokenLists.Tiling.{error_is_given, token_is_given}
+use Rattle.regex_automata.proofs.TokenLists.Refusals.{error_learns, error_leaves, error_of_input, token_learns, token_leaves}
 use Rattle.regex_automata.proofs.tokens.iterate.token_at.Goals as goal
 
 -- matches with equal parts are equal
@@ -28,14 +28,14 @@ returns-in_err-token-clause-item c =
     let h = c.args.haystack.now in
     let place = c.args.place in
     let found = c.try_search_fwd-found.result in
-    let owed =
+    let returned =
     subst (λ i. IsHalf Forward m i found) c.asked-input.ensures
     (subst (λ n. IsHalf Forward n c.asked-input.result found) c.forward-dfa.ensures c.try_search_fwd-found.ensures.half) in
     let errors =
     subst (λ i. IfErr found (IsRefused Forward m store i)) c.asked-input.ensures
     (subst (λ n. IfErr found (IsRefused Forward n store c.asked-input.result)) c.forward-dfa.ensures c.try_search_fwd-found.ensures.refusal) in
     let given =
-    error_is_given m h c.args.end c.requires.within.1 store place found c.in_err-token.field-0.0 c.requires.ahead owed errors
+    error_is_given m h c.args.end c.requires.within.1 store place found c.in_err-token.field-0.0 c.requires.ahead returned errors
     (sym c.in_err-token.was ∙ c.item.ensures) in
     subst (IsGivenAt m store h c.args.end place) (sym (is_err c.from_residual.result _ c.from_residual.ensures.1)) given
 
@@ -44,13 +44,13 @@ returns-clause-item c =
     let m = c.args.regex.now.forward in
     let found = c.try_search_fwd-found.result in
     let token = c.in_ok-token.token in
-    let owed =
+    let returned =
     subst (λ i. IsHalf Forward m i found) c.asked-input.ensures
     (subst (λ n. IsHalf Forward n c.asked-input.result found) c.forward-dfa.ensures c.try_search_fwd-found.ensures.half) in
     let same : match_of c.new.result ≡ token =
     c.new.ensures.found
     ∙ same_match _ token.pattern _ token.start _ token.end c.pattern.ensures c.span.ensures.start c.span.ensures.end in
-    token_is_given m c.args.haystack.now c.args.end c.requires.within.1 c.args.place c.new.result found c.requires.ahead owed
+    token_is_given m c.args.haystack.now c.args.end c.requires.within.1 c.args.place c.new.result found c.requires.ahead returned
     (ap (λ (t : Match). Ok t) same ∙ sym c.in_ok-token.was ∙ c.item.ensures) c.new.ensures.bytes
 
 pub returns-in_err-token-clause-effect : goal.returns-in_err-token-clause-effect

@@ -6,15 +6,15 @@ use Rattle.automata_base.specs.Nfas.Engines.{engine_of}
 use Rattle.automata_base.specs.Haystacks.Tapes.{Backward}
 use Rattle.automata_base.specs.Answers.TruePairs.{KeepsUtf8}
 use Rattle.automata_base.specs.Nfas.Utf8.{HasNoLook}
-use Rattle.automata_base.proofs.Utf8.Answering.{IsAnswer, if_ok, answer_keeps, answer_exact, walked_backward}
-use Rattle.automata_base.proofs.Utf8.Tables.{backward}
+use Rattle.automata_base.proofs.Nfas.Utf8.Answering.{IsAnswer, if_ok, answer_keeps, answer_exact, walked_backward}
+use Rattle.automata_base.proofs.Nfas.Utf8.Tables.{backward}
 use Rattle.automata_base.proofs.nfa.thompson.NFA.keeps_utf8_reverse.Goals as goal
 
 pub returns-clause-reads : goal.returns-clause-reads
 returns-clause-reads c =
     let a = c.args.self.now in
     if_ok c.reads_utf8.result (λ b. IsTrue b ↔ EndsAtBoundaries backward a.states (a.start_anchored ∷ a.start_pattern)) (IsAnswer Backward a)
-    (walked_backward a c.reads_utf8.ensures.door (sym c.is_utf8.ensures ∙ c.if-not-is_utf8.false)) c.reads_utf8.ensures.ends
+    (walked_backward a c.reads_utf8.ensures.checked (sym c.is_utf8.ensures ∙ c.if-not-is_utf8.false)) c.reads_utf8.ensures.ends
 
 pub returns-clause-keeps : goal.returns-clause-keeps
 returns-clause-keeps c =

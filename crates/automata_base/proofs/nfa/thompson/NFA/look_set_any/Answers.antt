@@ -1,7 +1,7 @@
 use Rattle.std.proofs.Common.{subst, sym}
 use Rattle.automata_base.specs.declared.nfa.thompson.Data.{Data}
 use Rattle.automata_base.specs.Nfas.Accepted.{IsLooks}
-use Rattle.automata_base.proofs.Reaching.Occurring.{occurs_is}
+use Rattle.automata_base.proofs.Nfas.Reach.Occurring.{occurs_is}
 use Rattle.automata_base.proofs.nfa.thompson.NFA.look_set_any.Goals as goal
 
 pub returns-clause-occurs : goal.returns-clause-occurs

@@ -8,8 +8,8 @@ use Rattle.automata_base.specs.Nfas.Nodes.{nodes_of}
 use Rattle.automata_base.specs.Nfas.Reach.{AreLooksAcyclic, ReachesMatch, SkipsFrom}
 use Rattle.automata_base.specs.Nfas.Errors.{states_below}
 use Rattle.automata_base.specs.declared.nfa.thompson.Data.{Data}
-use Rattle.automata_base.proofs.Determinizing.Sound.{sound}
-use Rattle.automata_base.proofs.Reaching.Refused.{passing}
+use Rattle.automata_base.proofs.Powersets.Sound.{sound}
+use Rattle.automata_base.proofs.Nfas.Reach.Refused.{passing}
 use Rattle.automata_base.proofs.nfa.thompson.NFA.make.Goals as goal
 
 pub reaches_match-requires : goal.reaches_match-requires

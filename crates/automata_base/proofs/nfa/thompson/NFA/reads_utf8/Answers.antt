@@ -3,22 +3,22 @@ use Rattle.std.specs.Prelude.{IsTrue}
 use Rattle.automata_base.specs.Nfas.Decoders.{EndsAtBoundaries}
 use Rattle.automata_base.specs.Lists.{all_below}
 use Rattle.automata_base.specs.Nfas.Errors.{states_below}
-use Rattle.automata_base.proofs.Reaching.InRange.{below_each, door_below}
+use Rattle.automata_base.proofs.Nfas.Reach.InRange.{below_each, checked_below}
 use Rattle.automata_base.proofs.nfa.thompson.NFA.reads_utf8.Goals as goal
 
 pub ends_at_boundaries-requires : goal.ends_at_boundaries-requires
 ends_at_boundaries-requires c =
-    let door = c.states.ensures.door in
+    let checked = c.states.ensures.checked in
     record {
-      few = subst (λ s. length s ≤ 134217728) (sym c.states.ensures.same) door.small;
-      range = subst (λ s. states_below (length s) s ≡ true) (sym c.states.ensures.same) (door_below c.args.self.now door);
+      few = subst (λ s. length s ≤ 134217728) (sym c.states.ensures.same) checked.small;
+      range = subst (λ s. states_below (length s) s ≡ true) (sym c.states.ensures.same) (checked_below c.args.self.now checked);
       anchored =
           subst (λ s. c.start_anchored.result < length s) (sym c.states.ensures.same)
-          (subst (λ q. q < length c.args.self.now.states) (sym c.start_anchored.ensures) door.anchored);
+          (subst (λ q. q < length c.args.self.now.states) (sym c.start_anchored.ensures) checked.anchored);
       patterns =
           subst (λ s. all_below (length s) c.pattern_starts.result.now ≡ true) (sym c.states.ensures.same)
           (subst (λ p. all_below (length c.args.self.now.states) p ≡ true) (sym c.pattern_starts.ensures.same)
-          (below_each (length c.args.self.now.states) c.args.self.now.start_pattern door.starts));
+          (below_each (length c.args.self.now.states) c.args.self.now.start_pattern checked.starts));
       classes = c.requires;
     }
 

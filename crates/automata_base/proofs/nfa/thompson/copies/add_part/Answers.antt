@@ -1,9 +1,9 @@
 use Rattle.std.proofs.Common.{◌≡◌, ◌<◌, ◌≤◌, length, refl, sym, ap, ◌∙◌, subst, arith}
 use Rattle.automata_base.specs.declared.nfa.thompson.reach.Edges.TheVariants.{Every}
 use Rattle.automata_base.specs.Nfas.Nodes.{nodes_of}
-use Rattle.automata_base.proofs.Determinizing.Walking.{nodes_length}
-use Rattle.automata_base.proofs.Mirrors.Copies.{reached_closed, reached_roots, id_length}
-use Rattle.automata_base.proofs.Mirrors.Fits.{copied_length, part_added}
+use Rattle.automata_base.proofs.Powersets.Walking.{nodes_length}
+use Rattle.automata_base.proofs.Nfas.Mirrors.Copies.{reached_closed, reached_roots, id_length}
+use Rattle.automata_base.proofs.Nfas.Mirrors.Fits.{copied_length, part_added}
 use Rattle.automata_base.proofs.nfa.thompson.copies.add_part.Goals as goal
 
 pub copy_all-requires-clause-closed : goal.copy_all-requires-clause-closed

@@ -4,8 +4,8 @@ use Rattle.automata_base.specs.Lists.{In}
 use Rattle.automata_base.specs.Nfas.Nodes.{node_of, nodes_of}
 use Rattle.automata_base.specs.Nfas.Reach.{node_in, targets_at}
 use Rattle.automata_base.specs.Retraced.ReversedEdges.{copy_of, copies}
-use Rattle.automata_base.proofs.Determinizing.Walking.{node_at}
-use Rattle.automata_base.proofs.Mirrors.Copies.{in_slice, copies_next, copies_done}
+use Rattle.automata_base.proofs.Powersets.Walking.{node_at}
+use Rattle.automata_base.proofs.Nfas.Mirrors.Copies.{in_slice, copies_next, copies_done}
 use Rattle.automata_base.proofs.nfa.thompson.copies.copy_all.Goals as goal
 
 pub bounds-turned-as_usize : goal.bounds-turned-as_usize

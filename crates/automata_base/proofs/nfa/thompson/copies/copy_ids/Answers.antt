@@ -1,6 +1,6 @@
 use Rattle.std.proofs.Common.{map}
 use Rattle.automata_base.specs.Retraced.ReversedEdges.{copy_of}
-use Rattle.automata_base.proofs.Mirrors.Copies.{in_slice, map_next, map_done}
+use Rattle.automata_base.proofs.Nfas.Mirrors.Copies.{in_slice, map_next, map_done}
 use Rattle.automata_base.proofs.nfa.thompson.copies.copy_ids.Goals as goal
 
 pub copy_id-copy-requires-clause-member : goal.copy_id-copy-requires-clause-member

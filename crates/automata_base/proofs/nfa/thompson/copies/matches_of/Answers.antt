@@ -1,7 +1,7 @@
 use Rattle.std.proofs.Common.{ℕ, cond, [], ◌∷◌, ◌++◌, ◌≡◌, length, Vec, ap, sym, ◌∙◌, append-nil, arith}
 use Rattle.automata_base.specs.Retraced.ReversedEdges.{is_of, matches_in}
-use Rattle.automata_base.proofs.Mirrors.Copies.{matches_next}
-use Rattle.automata_base.proofs.Reaching.Adding.{id_below}
+use Rattle.automata_base.proofs.Nfas.Mirrors.Copies.{matches_next}
+use Rattle.automata_base.proofs.Nfas.Reach.Adding.{id_below}
 use Rattle.std.specs.declared.alloc.Global.{Global}
 use Rattle.automata_base.proofs.nfa.thompson.copies.matches_of.Goals as goal
 use Rattle.automata_base.proofs.nfa.thompson.copies.matches_of.Goals.{then-is_of+in_ok-push, else-is_of}

@@ -3,10 +3,10 @@ use Rattle.automata_base.specs.Retraced.Copies.{IsPartAdded}
 use Rattle.automata_base.specs.Lists.{all_below}
 use Rattle.automata_base.specs.Nfas.Nodes.{nodes_of}
 use Rattle.automata_base.specs.Retraced.ReversedEdges.{HasCopies}
-use Rattle.automata_base.proofs.Determinizing.Walking.{nodes_length}
-use Rattle.automata_base.proofs.Mirrors.Copies.{have_more, matches_below, matches_few}
-use Rattle.automata_base.proofs.Mirrors.Fits.{added_copies, added_more, added_nodes, part_fits, part_large}
-use Rattle.automata_base.proofs.Mirrors.Lists.{err_is}
+use Rattle.automata_base.proofs.Powersets.Walking.{nodes_length}
+use Rattle.automata_base.proofs.Nfas.Mirrors.Copies.{have_more, matches_below, matches_few}
+use Rattle.automata_base.proofs.Nfas.Mirrors.Fits.{added_copies, added_more, added_nodes, part_fits, part_large}
+use Rattle.automata_base.proofs.Nfas.Mirrors.Lists.{err_is}
 use Rattle.automata_base.proofs.nfa.thompson.copies.parts_of.Goals as goal
 
 pub add_part-requires-clause-roots : goal.add_part-requires-clause-roots

@@ -1,7 +1,7 @@
 use Rattle.std.proofs.Common.{sym, subst}
 use Rattle.automata_base.specs.Lists.{In}
-use Rattle.automata_base.proofs.Determinizing.Distinct.{In-get_or}
-use Rattle.automata_base.proofs.Reaching.Cycles.{none_tried, one_tried, one_back, all_tried}
+use Rattle.automata_base.proofs.Powersets.Distinct.{In-get_or}
+use Rattle.automata_base.proofs.Nfas.Reach.Cycles.{none_tried, one_tried, one_back, all_tried}
 use Rattle.automata_base.proofs.nfa.thompson.cycles.are_acyclic_in.Goals as goal
 
 pub loop-q-init : goal.loop-q-init

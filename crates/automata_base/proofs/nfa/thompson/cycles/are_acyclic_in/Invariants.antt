@@ -1,5 +1,5 @@
 use Rattle.std.proofs.Common.{◌≡◌, length}
-use Rattle.automata_base.proofs.Reaching.Cycles.{IsTried}
+use Rattle.automata_base.proofs.Nfas.Reach.Cycles.{IsTried}
 use Rattle.automata_base.proofs.nfa.thompson.cycles.are_acyclic_in.Given as goal
 
 abbrev pub invariant-loop-q : goal.invariant-loop-q

@@ -1,6 +1,6 @@
 use Rattle.std.proofs.Common.{◌≡◌, ◌+◌, ◌≤◌, ◌++◌, [], ◌∷◌, length, length-append, ap, sym, ◌∙◌, subst, inl, refl, arith}
 use Rattle.automata_base.specs.Lists.{In}
-use Rattle.automata_base.proofs.Reaching.Adding.{inserted_new}
+use Rattle.automata_base.proofs.Nfas.Reach.Adding.{inserted_new}
 use Rattle.automata_base.proofs.nfa.thompson.finishing.mark.Goals as goal
 use Rattle.automata_base.proofs.Paths.Walks.{in_left}
 use Rattle.automata_base.proofs.Paths.FirstVisits.{in_right}

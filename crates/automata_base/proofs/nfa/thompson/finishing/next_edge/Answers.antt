@@ -7,11 +7,11 @@ use Rattle.automata_base.specs.Nfas.Nodes.{node_of}
 use Rattle.automata_base.specs.Paths.Paths.{all_true}
 use Rattle.automata_base.specs.Nfas.Errors.{state_below}
 use Rattle.automata_base.specs.Powersets.Closure.{children_at}
-use Rattle.automata_base.proofs.Determinizing.Distinct.{Contains-In, In-Contains}
-use Rattle.automata_base.proofs.Determinizing.Tests_of_lists.{node_fits}
+use Rattle.automata_base.proofs.Powersets.Distinct.{Contains-In, In-Contains}
+use Rattle.automata_base.proofs.Powersets.ListTests.{node_fits}
 use Rattle.automata_base.proofs.Paths.Checked.{children_below}
 use Rattle.automata_base.proofs.Paths.Orders.{none_some}
-use Rattle.automata_base.proofs.Reaching.DepthFirst.{nth_none, take_next}
+use Rattle.automata_base.proofs.Nfas.Reach.DepthFirst.{nth_none, take_next}
 use Rattle.automata_base.proofs.nfa.thompson.finishing.next_edge.Goals as goal
 use Rattle.automata_base.proofs.Paths.Searches.{nth_inside}
 use Rattle.automata_base.proofs.Paths.Sets.{nth_in}

@@ -3,7 +3,7 @@ use Rattle.std.proofs.Math.Nat.{eq-or-lt_of_le}
 use Rattle.automata_base.specs.declared.nfa.thompson.reach.Edges.TheVariants.{Epsilon}
 use Rattle.automata_base.specs.Lists.{In}
 use Rattle.automata_base.specs.Nfas.Reach.{targets_of}
-use Rattle.automata_base.proofs.Reaching.DepthFirst.{search_whole}
+use Rattle.automata_base.proofs.Nfas.Reach.DepthFirst.{search_whole}
 use Rattle.automata_base.proofs.nfa.thompson.finishing.search_all.Goals as goal
 
 one_more : (q : ℕ) (old new : _) → ((r : ℕ) → r < q → In r old) → ((r : ℕ) → In r old → In r new) → In q new → (r : ℕ) → r < q + 1 → In r new

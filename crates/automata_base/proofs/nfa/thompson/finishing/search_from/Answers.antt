@@ -4,8 +4,8 @@ use Rattle.automata_base.specs.declared.nfa.thompson.finishing.Frame.{Frame}
 use Rattle.automata_base.specs.declared.nfa.thompson.reach.Edges.TheVariants.{Epsilon}
 use Rattle.automata_base.specs.Retraced.DepthFirst.{IsUnderSearch}
 use Rattle.automata_base.specs.Nfas.Reach.{targets_of}
-use Rattle.automata_base.proofs.Determinizing.Distinct.{Contains-In, In-Contains}
-use Rattle.automata_base.proofs.Reaching.DepthFirst.{search_starts, stack_top}
+use Rattle.automata_base.proofs.Powersets.Distinct.{Contains-In, In-Contains}
+use Rattle.automata_base.proofs.Nfas.Reach.DepthFirst.{search_starts, stack_top}
 use Rattle.automata_base.proofs.nfa.thompson.finishing.search_from.Goals as goal
 
 pub returns-then-contains-clause-root : goal.returns-then-contains-clause-root

@@ -5,8 +5,8 @@ use Rattle.automata_base.specs.Retraced.DepthFirst.{IsUnderSearch}
 use Rattle.automata_base.specs.Lists.{In, nth}
 use Rattle.automata_base.specs.Nfas.Reach.{targets_of}
 use Rattle.automata_base.specs.Nfas.Errors.{states_below}
-use Rattle.automata_base.proofs.Reaching.Adding.{state_at_below}
-use Rattle.automata_base.proofs.Reaching.DepthFirst.{search_done, search_enters, stack_two, read_at, edges_at}
+use Rattle.automata_base.proofs.Nfas.Reach.Adding.{state_at_below}
+use Rattle.automata_base.proofs.Nfas.Reach.DepthFirst.{search_done, search_enters, stack_two, read_at, edges_at}
 use Rattle.automata_base.proofs.nfa.thompson.finishing.step.Goals as goal
 
 pub next_edge-requires-clause-range : goal.next_edge-requires-clause-range

@@ -1,4 +1,4 @@
-use Rattle.automata_base.proofs.Reaching.Adding.{inserted}
+use Rattle.automata_base.proofs.Nfas.Reach.Adding.{inserted}
 use Rattle.automata_base.proofs.nfa.thompson.reach.add.Goals as goal
 
 pub returns-clause-items : goal.returns-clause-items

@@ -3,7 +3,7 @@ use Rattle.automata_base.specs.Nfas.Nodes.{dense_from}
 use Rattle.automata_base.specs.Retraced.Once.{once_from}
 use Rattle.automata_base.specs.Nfas.Reach.{nexts}
 use Rattle.automata_base.specs.Lists.{all_below}
-use Rattle.automata_base.proofs.Reaching.Adding.{id_below, dense_next}
+use Rattle.automata_base.proofs.Nfas.Reach.Adding.{id_below, dense_next}
 use Rattle.automata_base.proofs.nfa.thompson.reach.add_all_dense.Goals as goal
 
 pub add_dense-requires : goal.add_dense-requires

@@ -1,6 +1,6 @@
 use Rattle.std.proofs.Common.{ap, ◌∙◌}
 use Rattle.automata_base.specs.Lists.{all_below}
-use Rattle.automata_base.proofs.Reaching.Adding.{id_below}
+use Rattle.automata_base.proofs.Nfas.Reach.Adding.{id_below}
 use Rattle.automata_base.proofs.nfa.thompson.reach.add_ids.Goals as goal
 
 pub add-requires : goal.add-requires

@@ -1,6 +1,6 @@
 use Rattle.std.proofs.Common.{ap, ◌∙◌}
 use Rattle.automata_base.specs.Nfas.Errors.{transitions_below}
-use Rattle.automata_base.proofs.Reaching.Adding.{next_below}
+use Rattle.automata_base.proofs.Nfas.Reach.Adding.{next_below}
 use Rattle.automata_base.proofs.nfa.thompson.reach.add_nexts.Goals as goal
 
 pub add_next-requires : goal.add_next-requires

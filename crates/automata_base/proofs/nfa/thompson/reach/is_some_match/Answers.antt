@@ -1,7 +1,7 @@
 use Rattle.std.proofs.Common.{◌≡◌, ◌<◌, ◌∙◌, length, sym, arith}
 use Rattle.std.proofs.lemmas.Bool.{false≢true}
-use Rattle.automata_base.proofs.Determinizing.Keeping.{below_at}
-use Rattle.automata_base.proofs.Reaching.Matched.{match_here, match_next, match_none}
+use Rattle.automata_base.proofs.Powersets.Keeping.{below_at}
+use Rattle.automata_base.proofs.Nfas.Reach.Matched.{match_here, match_next, match_none}
 use Rattle.automata_base.proofs.nfa.thompson.reach.is_some_match.Goals as goal
 
 pub bounds-states-as_usize : goal.bounds-states-as_usize

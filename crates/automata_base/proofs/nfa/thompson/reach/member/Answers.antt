@@ -1,6 +1,6 @@
 use Rattle.std.proofs.Common.{◌≡◌, ◌<◌, ◌≤◌, length, get_or, subst, arith}
-use Rattle.automata_base.proofs.Determinizing.Keeping.{below_at}
-use Rattle.automata_base.proofs.Determinizing.Tests_of_lists.{some_same}
+use Rattle.automata_base.proofs.Powersets.Keeping.{below_at}
+use Rattle.automata_base.proofs.Powersets.ListTests.{some_same}
 use Rattle.automata_base.proofs.nfa.thompson.reach.member.Goals as goal
 
 pub returns-clause-some : goal.returns-clause-some

@@ -1,6 +1,6 @@
 use Rattle.std.proofs.Common.{◌<◌, subst}
 use Rattle.automata_base.specs.Lists.{In}
-use Rattle.automata_base.proofs.Reaching.Matched.{match_found}
+use Rattle.automata_base.proofs.Nfas.Reach.Matched.{match_found}
 use Rattle.automata_base.proofs.nfa.thompson.reach.reaches_match.Goals as goal
 
 pub is_some_match-requires : goal.is_some_match-requires

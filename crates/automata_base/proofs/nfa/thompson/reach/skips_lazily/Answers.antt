@@ -1,6 +1,6 @@
 use Rattle.std.proofs.Common.{◌≡◌, ◌<◌, length, sym, ◌∙◌, arith}
 use Rattle.std.proofs.lemmas.Bool.{eqb-false}
-use Rattle.automata_base.proofs.Reaching.Looped.{second_below, skips_no_union, skips_no_range, skips_unless}
+use Rattle.automata_base.proofs.Nfas.Reach.Looped.{second_below, skips_no_union, skips_no_range, skips_unless}
 use Rattle.automata_base.proofs.nfa.thompson.reach.skips_lazily.Goals as goal
 
 pub bounds-states-as_usize-in-Some : goal.bounds-states-as_usize-in-Some

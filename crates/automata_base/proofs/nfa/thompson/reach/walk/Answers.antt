@@ -1,5 +1,5 @@
 use Rattle.automata_base.specs.Nfas.Reach.{targets_of}
-use Rattle.automata_base.proofs.Reaching.Walked.{roots_once}
+use Rattle.automata_base.proofs.Nfas.Reach.Walked.{roots_once}
 use Rattle.automata_base.proofs.nfa.thompson.reach.walk.Goals as goal
 
 pub returns-clause-reached : goal.returns-clause-reached

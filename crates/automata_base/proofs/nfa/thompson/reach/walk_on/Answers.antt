@@ -3,9 +3,9 @@ use Rattle.automata_base.specs.Nfas.Nodes.{node_of}
 use Rattle.automata_base.specs.Retraced.Once.{once_from}
 use Rattle.automata_base.specs.Nfas.Reach.{node_in, targets_at, targets_of}
 use Rattle.automata_base.specs.Nfas.Errors.{states_below}
-use Rattle.automata_base.proofs.Determinizing.Walking.{node_at}
-use Rattle.automata_base.proofs.Reaching.Adding.{state_at_below}
-use Rattle.automata_base.proofs.Reaching.Walked.{walk_starts, walk_steps, walk_ends}
+use Rattle.automata_base.proofs.Powersets.Walking.{node_at}
+use Rattle.automata_base.proofs.Nfas.Reach.Adding.{state_at_below}
+use Rattle.automata_base.proofs.Nfas.Reach.Walked.{walk_starts, walk_steps, walk_ends}
 use Rattle.automata_base.proofs.nfa.thompson.reach.walk_on.Goals as goal
 
 pub loop-id-init : goal.loop-id-init

@@ -1,6 +1,6 @@
 use Rattle.std.proofs.Common.{◌≡◌, ◌-◌, length}
 use Rattle.automata_base.specs.Nfas.Reach.{targets_of}
-use Rattle.automata_base.proofs.Reaching.Walked.{IsWalked}
+use Rattle.automata_base.proofs.Nfas.Reach.Walked.{IsWalked}
 use Rattle.automata_base.proofs.nfa.thompson.reach.walk_on.Given as goal
 
 abbrev pub invariant-loop-id : goal.invariant-loop-id

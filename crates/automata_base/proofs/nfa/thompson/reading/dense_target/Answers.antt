@@ -1,7 +1,7 @@
 use Rattle.std.proofs.Common.{◌≡◌, ◌<◌, get_or, sym, ap, ◌∙◌, arith, length}
 use Rattle.std.proofs.lemmas.Bool.{eqb-true, eqb-false}
 use Rattle.std.proofs.lemmas.List.{get_or_read}
-use Rattle.automata_base.proofs.Determinizing.Dense.{some_unless, dense_takes, none_at_zero, some_at_other}
+use Rattle.automata_base.proofs.Powersets.Dense.{some_unless, dense_takes, none_at_zero, some_at_other}
 use Rattle.automata_base.proofs.nfa.thompson.reading.dense_target.Goals as goal
 
 pub returns-then-is_zero : goal.returns-then-is_zero

@@ -10,13 +10,13 @@ use Rattle.automata_base.specs.Retraced.Copies.{AreCopyable}
 use Rattle.automata_base.specs.Nfas.Reach.{IsReached}
 use Rattle.automata_base.specs.Nfas.Errors.{alternates_of}
 use Rattle.automata_base.specs.Retraced.ReversedEdges.{HaveCopies}
-use Rattle.automata_base.proofs.Determinizing.Walking.{nodes_length}
-use Rattle.automata_base.proofs.Mirrors.Fits.{made_fits, parts_large, root_large, turned_large}
-use Rattle.automata_base.proofs.Mirrors.Lists.{err_is}
-use Rattle.automata_base.proofs.Mirrors.Ranges.{states_whole, states_in_range}
-use Rattle.automata_base.proofs.Mirrors.Sizes.{turned_length, turned_ordered, turned_alternates}
+use Rattle.automata_base.proofs.Powersets.Walking.{nodes_length}
+use Rattle.automata_base.proofs.Nfas.Mirrors.Fits.{made_fits, parts_large, root_large, turned_large}
+use Rattle.automata_base.proofs.Nfas.Mirrors.Lists.{err_is}
+use Rattle.automata_base.proofs.Nfas.Mirrors.Ranges.{states_whole, states_in_range}
+use Rattle.automata_base.proofs.Nfas.Mirrors.Sizes.{turned_length, turned_ordered, turned_alternates}
 use Rattle.automata_base.proofs.nfa.thompson.reverse.reverse_states.Goals as goal
-use Rattle.automata_base.proofs.Determinizing.Belows.{all_below_from}
+use Rattle.automata_base.proofs.Powersets.Belows.{all_below_from}
 
 pub turned_states-requires-clause-below : goal.turned_states-requires-clause-below
 turned_states-requires-clause-below c =

@@ -1,6 +1,6 @@
 use Rattle.std.proofs.Common.{◌≡◌, ◌+◌, length, length-append, ap, ◌∙◌, arith}
 use Rattle.automata_base.specs.Nfas.Nodes.{nodes_of}
-use Rattle.automata_base.proofs.Determinizing.Walking.{nodes_length}
+use Rattle.automata_base.proofs.Powersets.Walking.{nodes_length}
 use Rattle.automata_base.proofs.nfa.thompson.reverse.rooted.Goals as goal
 
 pub returns-clause-small : goal.returns-clause-small

@@ -1,5 +1,5 @@
 use Rattle.std.proofs.Math.ListN.{length-set}
-use Rattle.automata_base.proofs.Mirrors.Lists.{lists_push}
+use Rattle.automata_base.proofs.Nfas.Mirrors.Lists.{lists_push}
 use Rattle.automata_base.proofs.nfa.thompson.turn.push_at.Goals as goal
 
 pub returns-clause-pushed : goal.returns-clause-pushed

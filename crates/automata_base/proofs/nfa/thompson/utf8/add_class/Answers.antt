@@ -1,5 +1,5 @@
 use Rattle.std.proofs.Common.{◌<◌, sym, subst, arith}
-use Rattle.automata_base.proofs.Utf8.Adding.{entry_below}
+use Rattle.automata_base.proofs.Nfas.Utf8.Adding.{entry_below}
 use Rattle.automata_base.proofs.nfa.thompson.utf8.add_class.Goals as goal
 
 pub add_pair-requires-clause-decoder : goal.add_pair-requires-clause-decoder

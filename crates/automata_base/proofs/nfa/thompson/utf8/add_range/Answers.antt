@@ -2,7 +2,7 @@ use Rattle.std.proofs.Common.{[], ◌∙◌}
 use Rattle.automata_base.specs.Nfas.Decoders.{range_pairs}
 use Rattle.automata_base.specs.Nfas.Nodes.{range_of}
 use Rattle.automata_base.specs.Retraced.Once.{once_from}
-use Rattle.automata_base.proofs.Utf8.Adding.{class_below, class_next}
+use Rattle.automata_base.proofs.Nfas.Utf8.Adding.{class_below, class_next}
 use Rattle.automata_base.proofs.nfa.thompson.utf8.add_range.Goals as goal
 
 pub add_class-requires-clause-class : goal.add_class-requires-clause-class

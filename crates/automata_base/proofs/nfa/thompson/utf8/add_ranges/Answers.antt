@@ -3,8 +3,8 @@ use Rattle.automata_base.specs.Nfas.Decoders.{ranges_pairs}
 use Rattle.automata_base.specs.Nfas.Nodes.{ranges_of}
 use Rattle.automata_base.specs.Retraced.Once.{once_from}
 use Rattle.automata_base.specs.Nfas.Errors.{transitions_below}
-use Rattle.automata_base.proofs.Reaching.Adding.{next_below}
-use Rattle.automata_base.proofs.Utf8.Adding.{range_next}
+use Rattle.automata_base.proofs.Nfas.Reach.Adding.{next_below}
+use Rattle.automata_base.proofs.Nfas.Utf8.Adding.{range_next}
 use Rattle.automata_base.proofs.nfa.thompson.utf8.add_ranges.Goals as goal
 
 pub add_range-requires-clause-below : goal.add_range-requires-clause-below

@@ -4,7 +4,7 @@ use Rattle.automata_base.specs.Nfas.Nodes.{node_of}
 use Rattle.automata_base.specs.Retraced.Once.{once_from}
 use Rattle.automata_base.specs.Paths.Paths.{all_true}
 use Rattle.automata_base.specs.Powersets.Closure.{children_at}
-use Rattle.automata_base.proofs.Utf8.Adding.{once_append}
+use Rattle.automata_base.proofs.Nfas.Utf8.Adding.{once_append}
 use Rattle.automata_base.proofs.nfa.thompson.utf8.add_state.Goals as goal
 
 pub returns-clause-items : goal.returns-clause-items

@@ -1,6 +1,6 @@
 use Rattle.std.proofs.Common.{ap, ◌∙◌, sym}
 use Rattle.automata_base.specs.Retraced.Once.{once_from}
-use Rattle.automata_base.proofs.Utf8.Adding.{no_target, one_target}
+use Rattle.automata_base.proofs.Nfas.Utf8.Adding.{no_target, one_target}
 use Rattle.automata_base.proofs.nfa.thompson.utf8.add_target.Goals as goal
 
 pub returns-then-as_usize-eq0-clause-items : goal.returns-then-as_usize-eq0-clause-items

@@ -3,8 +3,8 @@ use Rattle.automata_base.specs.Nfas.Decoders.{ranges_pairs}
 use Rattle.automata_base.specs.Lists.{all_below}
 use Rattle.automata_base.specs.Nfas.Nodes.{dense_from}
 use Rattle.automata_base.specs.Retraced.Once.{once_from}
-use Rattle.automata_base.proofs.Reaching.Adding.{id_below}
-use Rattle.automata_base.proofs.Utf8.Adding.{target_next}
+use Rattle.automata_base.proofs.Nfas.Reach.Adding.{id_below}
+use Rattle.automata_base.proofs.Nfas.Utf8.Adding.{target_next}
 use Rattle.automata_base.proofs.nfa.thompson.utf8.add_targets.Goals as goal
 
 pub add_target-requires-clause-below : goal.add_target-requires-clause-below

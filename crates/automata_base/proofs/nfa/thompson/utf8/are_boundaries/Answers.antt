@@ -2,8 +2,8 @@ use Rattle.std.proofs.Common.{subst, sym, ◌∙◌}
 use Rattle.std.proofs.lemmas.Bool.{false≢true}
 use Rattle.automata_base.specs.Nfas.Decoders.{IsBoundary}
 use Rattle.automata_base.specs.Lists.{In}
-use Rattle.automata_base.proofs.Determinizing.Distinct.{In-get_or}
-use Rattle.automata_base.proofs.Utf8.Product.{each_fails, each_next, each_done}
+use Rattle.automata_base.proofs.Powersets.Distinct.{In-get_or}
+use Rattle.automata_base.proofs.Nfas.Utf8.Product.{each_fails, each_next, each_done}
 use Rattle.automata_base.proofs.nfa.thompson.utf8.are_boundaries.Goals as goal
 
 pub is_boundary-requires : goal.is_boundary-requires

@@ -2,7 +2,7 @@ use Rattle.std.proofs.Common.{◌≡◌, ◌<◌, ◌*◌, ◌/◌, [], ◌∷�
 use Rattle.automata_base.specs.Nfas.Decoders.{pair, pairs_at, pairs_of, IsBoundary}
 use Rattle.automata_base.specs.Lists.{In}
 use Rattle.automata_base.specs.Retraced.Once.{once_from}
-use Rattle.automata_base.proofs.Utf8.Product.{test_reached}
+use Rattle.automata_base.proofs.Nfas.Utf8.Product.{test_reached}
 use Rattle.automata_base.proofs.nfa.thompson.utf8.ends_at_boundaries.Goals as goal
 
 pub are_boundaries-requires : goal.are_boundaries-requires

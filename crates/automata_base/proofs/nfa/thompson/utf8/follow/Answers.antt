@@ -4,10 +4,10 @@ use Rattle.automata_base.specs.Nfas.Nodes.{node_of}
 use Rattle.automata_base.specs.Retraced.Once.{once_from}
 use Rattle.automata_base.specs.Nfas.Reach.{node_in}
 use Rattle.automata_base.specs.Nfas.Errors.{states_below}
-use Rattle.automata_base.proofs.Determinizing.Walking.{node_at}
-use Rattle.automata_base.proofs.Reaching.Adding.{state_at_below}
-use Rattle.automata_base.proofs.Reaching.Walked.{walk_steps, walk_ends}
-use Rattle.automata_base.proofs.Utf8.Product.{walk_from}
+use Rattle.automata_base.proofs.Powersets.Walking.{node_at}
+use Rattle.automata_base.proofs.Nfas.Reach.Adding.{state_at_below}
+use Rattle.automata_base.proofs.Nfas.Reach.Walked.{walk_steps, walk_ends}
+use Rattle.automata_base.proofs.Nfas.Utf8.Product.{walk_from}
 use Rattle.automata_base.proofs.nfa.thompson.utf8.follow.Goals as goal
 
 pub loop-id-init : goal.loop-id-init

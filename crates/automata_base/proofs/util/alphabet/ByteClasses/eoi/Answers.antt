@@ -1,6 +1,6 @@
 use Rattle.std.proofs.Common.{◌+◌, ◌<◌, arith}
 use Rattle.automata_base.specs.ByteClasses.Classes.{alphabet_length, class_in}
-use Rattle.automata_base.proofs.Values.Boundaries.{stride_for-enough}
+use Rattle.automata_base.proofs.ByteClasses.Boundaries.{stride_for-enough}
 use Rattle.automata_base.proofs.util.alphabet.ByteClasses.eoi.Goals as goal
 
 pub returns-clause-below : goal.returns-clause-below

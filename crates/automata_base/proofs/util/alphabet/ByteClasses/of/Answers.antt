@@ -1,8 +1,8 @@
 use Rattle.std.proofs.Common.{sym, ap, ◌∙◌, arith}
 use Rattle.automata_base.specs.Retraced.Boundaries.{is_marked}
 use Rattle.automata_base.specs.ByteClasses.Classes.{is_boundary, class_of}
-use Rattle.automata_base.proofs.Determinizing.AlikeClasses.{class_quits, class_off}
-use Rattle.automata_base.proofs.Values.Boundaries.{are_classes, count-same}
+use Rattle.automata_base.proofs.Powersets.AlikeClasses.{class_quits, class_off}
+use Rattle.automata_base.proofs.ByteClasses.Boundaries.{are_classes, count-same}
 use Rattle.automata_base.proofs.util.alphabet.ByteClasses.of.Goals as goal
 
 pub invariant_of-result : goal.invariant_of-result

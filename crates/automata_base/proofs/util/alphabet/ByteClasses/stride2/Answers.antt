@@ -1,6 +1,6 @@
 use Rattle.std.proofs.Common.{ap, ◌∙◌}
 use Rattle.automata_base.specs.ByteClasses.Classes.{stride_for}
-use Rattle.automata_base.proofs.Values.Boundaries.{stride_for-is, log_few}
+use Rattle.automata_base.proofs.ByteClasses.Boundaries.{stride_for-is, log_few}
 use Rattle.automata_base.proofs.util.alphabet.ByteClasses.stride2.Goals as goal
 
 pub returns-clause-power : goal.returns-clause-power

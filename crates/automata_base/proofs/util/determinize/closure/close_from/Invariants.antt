@@ -1,5 +1,5 @@
 use Rattle.std.proofs.Common.{◌≡◌, ◌≤◌, ◌∷◌, length, reverse, vec_capacity}
-use Rattle.automata_base.proofs.Determinizing.Walking.{Walking, work}
+use Rattle.automata_base.proofs.Powersets.Walking.{Walking, work}
 use Rattle.automata_base.proofs.util.determinize.closure.close_from.Given as goal
 
 abbrev pub invariant-visit : goal.invariant-visit

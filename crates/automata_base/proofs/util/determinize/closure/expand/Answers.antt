@@ -6,7 +6,7 @@ use Rattle.automata_base.specs.Haystacks.LookSets.{truth_of}
 use Rattle.automata_base.specs.Nfas.Nodes.{nfa_of, node_of}
 use Rattle.automata_base.specs.Powersets.Closure.{children_at}
 use Rattle.automata_base.specs.Retraced.Expanding.{IsExpanded}
-use Rattle.automata_base.proofs.Determinizing.Leaves.{visited_some, pushed_left}
+use Rattle.automata_base.proofs.Powersets.Leaves.{visited_some, pushed_left}
 use Rattle.automata_base.proofs.util.determinize.closure.expand.Goals as goal
 
 pub visit_leaves-visited-requires-clause-below : goal.visit_leaves-visited-requires-clause-below

@@ -2,9 +2,9 @@ use Rattle.std.proofs.Common.{arith, ap, sym, ◌∙◌, subst, refl, ◌++◌, 
 use Rattle.std.proofs.lemmas.List.{drop_all}
 use Rattle.automata_base.specs.Nfas.Nodes.{nfa_of}
 use Rattle.automata_base.specs.Powersets.Closure.{IsUnderWay}
-use Rattle.automata_base.proofs.Determinizing.Keeping.{below_at, next_drop}
-use Rattle.automata_base.proofs.Determinizing.Leaves.{leaf_on, extends_on}
-use Rattle.automata_base.proofs.Determinizing.Walking.{read_children}
+use Rattle.automata_base.proofs.Powersets.Keeping.{below_at, next_drop}
+use Rattle.automata_base.proofs.Powersets.Leaves.{leaf_on, extends_on}
+use Rattle.automata_base.proofs.Powersets.Walking.{read_children}
 use Rattle.automata_base.proofs.util.determinize.closure.visit_leaves.Goals as goal
 
 pub state_at-requires-clause-id : goal.state_at-requires-clause-id

@@ -3,7 +3,7 @@ use Rattle.automata_base.specs.Powersets.Cuts.{cut_for, targets}
 use Rattle.automata_base.specs.Powersets.Results.{IsClosureMade}
 use Rattle.automata_base.specs.Nfas.Nodes.{nfa_of}
 use Rattle.automata_base.specs.Powersets.Parts.{powerset_of}
-use Rattle.automata_base.proofs.Determinizing.Made.{closure_made}
+use Rattle.automata_base.proofs.Powersets.Made.{closure_made}
 use Rattle.automata_base.proofs.util.determinize.construct.advance.Goals as goal
 
 pub returns-clause-made : goal.returns-clause-made

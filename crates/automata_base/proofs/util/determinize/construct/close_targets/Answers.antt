@@ -7,8 +7,8 @@ use Rattle.automata_base.specs.Nfas.Nfa.{takes, takes_at}
 use Rattle.automata_base.specs.Powersets.Cuts.{targets}
 use Rattle.automata_base.specs.Powersets.Closure.{IsUnderWay}
 use Rattle.automata_base.proofs.Paths.Loops.{under_way_done, under_way_start}
-use Rattle.automata_base.proofs.Determinizing.Walking.{node_at, nodes_length}
-use Rattle.automata_base.proofs.Determinizing.Keeping.{below_at, pick_next}
+use Rattle.automata_base.proofs.Powersets.Walking.{node_at, nodes_length}
+use Rattle.automata_base.proofs.Powersets.Keeping.{below_at, pick_next}
 use Rattle.automata_base.proofs.util.determinize.construct.close_targets.Goals as goal
 
 pub state-requires : goal.state-requires
@@ -26,7 +26,7 @@ close_maybe-requires-clause-start c = λ q s.
     let below = below_at c.args.list.now (length c.args.nfa.now.states) c.loop-i.i c.index-list-i.result c.requires.below c.loop-i-test.true c.index-list-i.is in
     let here : takes (nfa_of c.args.nfa.now) c.index-list-i.result c.args.u ≡ c.target.result =
     ap (λ m. takes_at m c.args.u) (node_at c.args.nfa.now.states c.index-list-i.result c.state.result.now c.state.result.now below c.state.ensures.same) ∙ sym c.target.ensures in
-    subst (λ z. q < z) (nodes_length c.args.nfa.now.states) (c.state.ensures.door.range.1 c.index-list-i.result c.args.u q (here ∙ s))
+    subst (λ z. q < z) (nodes_length c.args.nfa.now.states) (c.state.ensures.checked.range.1 c.index-list-i.result c.args.u q (here ∙ s))
 
 pub loop-i-preserved : goal.loop-i-preserved
 loop-i-preserved c =

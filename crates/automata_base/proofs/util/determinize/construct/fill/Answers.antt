@@ -6,8 +6,8 @@ use Rattle.automata_base.specs.Retraced.ComputedPass.{any_state, any_node, is_fu
 use Rattle.automata_base.specs.Powersets.Passes.{is_word_look, is_crlf_look}
 use Rattle.automata_base.specs.Nfas.Nodes.{nfa_of}
 use Rattle.automata_base.specs.Haystacks.LookSets.{truth_of}
-use Rattle.automata_base.proofs.Determinizing.Keeping.{kept_in}
-use Rattle.automata_base.proofs.Determinizing.Making.{made, some_state}
+use Rattle.automata_base.proofs.Powersets.Keeping.{kept_in}
+use Rattle.automata_base.proofs.Powersets.Making.{made, some_state}
 use Rattle.automata_base.proofs.util.determinize.construct.fill.Goals as goal
 
 pub returns-clause-make : goal.returns-clause-make

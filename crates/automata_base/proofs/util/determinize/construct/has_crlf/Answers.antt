@@ -2,7 +2,7 @@ use Rattle.automata_base.specs.Nfas.Nodes.{nfa_of}
 use Rattle.std.proofs.Common.{ap, ◌∙◌}
 use Rattle.automata_base.specs.Powersets.Passes.{is_crlf_look}
 use Rattle.automata_base.specs.Haystacks.LookSets.{truth_of}
-use Rattle.automata_base.proofs.Determinizing.Making.{masked, crlf_mask}
+use Rattle.automata_base.proofs.Powersets.Making.{masked, crlf_mask}
 use Rattle.automata_base.proofs.util.determinize.construct.has_crlf.Goals as goal
 
 pub returns : goal.returns

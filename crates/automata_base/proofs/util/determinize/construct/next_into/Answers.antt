@@ -7,8 +7,8 @@ use Rattle.automata_base.specs.Powersets.Results.{AreMatched, IsClosureMade}
 use Rattle.automata_base.specs.Paths.Paths.{IsClosure}
 use Rattle.automata_base.specs.Powersets.Cuts.{cut_for, targets}
 use Rattle.automata_base.specs.Powersets.Passes.{true_looks}
-use Rattle.automata_base.proofs.Determinizing.Keeping.{all_in}
-use Rattle.automata_base.proofs.Determinizing.Made.{step_made}
+use Rattle.automata_base.proofs.Powersets.Keeping.{all_in}
+use Rattle.automata_base.proofs.Powersets.Made.{step_made}
 use Rattle.automata_base.proofs.util.determinize.construct.next_into.Goals as goal
 
 pub close-requires-clause-roots : goal.close-requires-clause-roots
@@ -25,7 +25,7 @@ advance-requires-in-None-clause-below c = λ q i. c.requires.is_of q (subst (λ 
 pub returns-in-Some-clause-made : goal.returns-in-Some-clause-made
 returns-in-Some-clause-made c =
     step_made c.args.nfa.now c.args.kind c.args.from.now c.args.unit c.close.new.set.items (powerset_of c.advance.new.parts)
-    c.requires.door c.requires.is_of
+    c.requires.checked c.requires.is_of
     (inl (
       c.in-Some.ensures.news,
       subst (λ xs. IsClosure (nfa_of c.args.nfa.now) (true_looks (nfa_of c.args.nfa.now) c.args.from.now c.args.unit) xs c.close.new.set.items) c.requires.list
@@ -39,7 +39,7 @@ returns-in-Some-clause-made c =
 pub returns-in-None-clause-made : goal.returns-in-None-clause-made
 returns-in-None-clause-made c =
     step_made c.args.nfa.now c.args.kind c.args.from.now c.args.unit c.args.from.now.nfa (powerset_of c.advance-in-None.new.parts)
-    c.requires.door c.requires.is_of (inr (c.in-None.ensures.none refl, refl))
+    c.requires.checked c.requires.is_of (inr (c.in-None.ensures.none refl, refl))
     (subst (λ xs. AreMatched c.args.nfa.now (cut_for c.args.kind (nfa_of c.args.nfa.now) xs) c.advance-in-None.new.parts.patterns.items)
     c.requires.list c.advance-in-None.ensures.matched)
     (subst (λ xs. IsClosureMade c.args.nfa.now c.advance-in-None.new.parts.patterns.items (targets (nfa_of c.args.nfa.now) c.args.unit (cut_for c.args.kind (nfa_of c.args.nfa.now) xs)) c.args.unit (powerset_of c.advance-in-None.new.parts))

@@ -8,10 +8,10 @@ use Rattle.automata_base.specs.Nfas.Nfa.{takes, takes_at, accepts, accepts_at}
 use Rattle.automata_base.specs.Powersets.Cuts.{cut, targets}
 use Rattle.automata_base.specs.Powersets.Closure.{IsUnderWay}
 use Rattle.automata_base.proofs.Paths.Loops.{under_way_done, under_way_start}
-use Rattle.automata_base.proofs.Determinizing.Walking.{node_at, nodes_length}
-use Rattle.automata_base.proofs.Determinizing.Keeping.{below_at, cut_picks_next, cut_picks_here, cut_picks_done}
-use Rattle.automata_base.proofs.Determinizing.Keeping.{cut_targets_next, cut_targets_here, cut_targets_done}
-use Rattle.automata_base.proofs.Determinizing.Keeping.{matched_one, matched_none}
+use Rattle.automata_base.proofs.Powersets.Walking.{node_at, nodes_length}
+use Rattle.automata_base.proofs.Powersets.Keeping.{below_at, cut_picks_next, cut_picks_here, cut_picks_done}
+use Rattle.automata_base.proofs.Powersets.Keeping.{cut_targets_next, cut_targets_here, cut_targets_done}
+use Rattle.automata_base.proofs.Powersets.Keeping.{matched_one, matched_none}
 use Rattle.automata_base.proofs.util.determinize.construct.read_first.Goals as goal
 
 pub state_at-state-requires-clause-id : goal.state_at-state-requires-clause-id
@@ -38,7 +38,7 @@ push_reserved-requires c =
     let low = below_at c.args.list.now (length c.args.nfa.now.states) c.loop-i.i c.index-list-i.result c.requires.below c.loop-i-test.true c.index-list-i.is in
     let here : accepts (nfa_of c.args.nfa.now) c.index-list-i.result ≡ Some c.in-Some.pattern =
     ap accepts_at (node_at c.args.nfa.now.states c.index-list-i.result c.state_at-state.result.now c.state_at-state.result.now low c.state_at-state.ensures.same) ∙ (sym c.pattern_of.ensures ∙ c.in-Some.is) in
-    let below : c.in-Some.pattern < length c.args.nfa.now.start_pattern = c.state_at-state.ensures.door.patterns c.index-list-i.result c.in-Some.pattern here in
+    let below : c.in-Some.pattern < length c.args.nfa.now.start_pattern = c.state_at-state.ensures.checked.patterns c.index-list-i.result c.in-Some.pattern here in
     let none : length c.loop-i.patterns.items ≡ 0 = ap length c.loop-i.invariant.none in
     let len : vec_len c.loop-i.patterns ≡ length c.loop-i.patterns.items = c.loop-i.patterns.ok.0 in
     let kept : vec_capacity c.args.patterns.now ≤ vec_capacity c.loop-i.patterns = c.loop-i.invariant.capacity in
@@ -50,7 +50,7 @@ returns-in-Some-clause-matched c =
     let low = below_at c.args.list.now (length c.args.nfa.now.states) c.loop-i.i c.index-list-i.result c.requires.below c.loop-i-test.true c.index-list-i.is in
     let here : accepts (nfa_of c.args.nfa.now) c.index-list-i.result ≡ Some c.in-Some.pattern =
     ap accepts_at (node_at c.args.nfa.now.states c.index-list-i.result c.state_at-state.result.now c.state_at-state.result.now low c.state_at-state.ensures.same) ∙ (sym c.pattern_of.ensures ∙ c.in-Some.is) in
-    let below : c.in-Some.pattern < length c.args.nfa.now.start_pattern = c.state_at-state.ensures.door.patterns c.index-list-i.result c.in-Some.pattern here in
+    let below : c.in-Some.pattern < length c.args.nfa.now.start_pattern = c.state_at-state.ensures.checked.patterns c.index-list-i.result c.in-Some.pattern here in
     let one : c.push_reserved.new.self.items ≡ c.in-Some.pattern ∷ [] = c.push_reserved.ensures.items ∙ ap (λ z. z ++ c.in-Some.pattern ∷ []) c.loop-i.invariant.none in
     subst (AreMatched c.args.nfa.now (cut (nfa_of c.args.nfa.now) c.args.list.now)) (sym one)
     (matched_one c.args.nfa.now (cut (nfa_of c.args.nfa.now) c.args.list.now) c.in-Some.pattern below
@@ -72,7 +72,7 @@ close_maybe-requires-clause-start c = λ q s.
     let at = node_at c.args.nfa.now.states c.index-list-i.result c.state_at-state.result.now c.state_at-state.result.now low c.state_at-state.ensures.same in
     let none : accepts (nfa_of c.args.nfa.now) c.index-list-i.result ≡ None = ap accepts_at at ∙ (sym c.pattern_of.ensures ∙ c.in-None.is) in
     let here : takes (nfa_of c.args.nfa.now) c.index-list-i.result c.args.u ≡ c.target.result = ap (λ m. takes_at m c.args.u) at ∙ sym c.target.ensures in
-    subst (λ z. q < z) (nodes_length c.args.nfa.now.states) (c.state_at-state.ensures.door.range.1 c.index-list-i.result c.args.u q (here ∙ s))
+    subst (λ z. q < z) (nodes_length c.args.nfa.now.states) (c.state_at-state.ensures.checked.range.1 c.index-list-i.result c.args.u q (here ∙ s))
 
 pub loop-i-preserved : goal.loop-i-preserved
 loop-i-preserved c =

@@ -1,7 +1,7 @@
 use Rattle.std.proofs.Common.{[], ◌∷◌, subst}
 use Rattle.automata_base.specs.Powersets.Results.{IsClosureMade}
 use Rattle.automata_base.specs.Powersets.Parts.{powerset_of}
-use Rattle.automata_base.proofs.Determinizing.Made.{closure_made}
+use Rattle.automata_base.proofs.Powersets.Made.{closure_made}
 use Rattle.automata_base.proofs.util.determinize.construct.start_at.Goals as goal
 
 pub returns-clause-made : goal.returns-clause-made

@@ -1,6 +1,6 @@
 use Rattle.automata_base.specs.Haystacks.LookSets.{truth_of}
 use Rattle.std.proofs.Common.{sym, ◌∙◌}
-use Rattle.automata_base.proofs.Determinizing.Bits_of_looks.{unnews_next}
+use Rattle.automata_base.proofs.Powersets.LookBits.{unnews_next}
 use Rattle.automata_base.proofs.util.determinize.deciding.finds_news.Goals as goal
 
 pub loop-index-preserved : goal.loop-index-preserved

@@ -1,5 +1,5 @@
 use Rattle.automata_base.specs.Haystacks.LookSets.{truth_of}
-use Rattle.automata_base.proofs.Determinizing.Bits_of_looks.{Unnews}
+use Rattle.automata_base.proofs.Powersets.LookBits.{Unnews}
 use Rattle.automata_base.proofs.util.determinize.deciding.finds_news.Given as goal
 
 abbrev pub invariant-loop-index : goal.invariant-loop-index

@@ -1,7 +1,7 @@
 use Rattle.std.proofs.Common.{false}
 use Rattle.automata_base.specs.Retraced.ComputedPass.{known_looks}
 use Rattle.automata_base.specs.Nfas.Nodes.{nfa_of}
-use Rattle.automata_base.proofs.Determinizing.Bits_of_looks.{sofar_next}
+use Rattle.automata_base.proofs.Powersets.LookBits.{sofar_next}
 use Rattle.automata_base.proofs.util.determinize.deciding.known_behind.Goals as goal
 
 pub loop-index-preserved : goal.loop-index-preserved

@@ -2,7 +2,7 @@ use Rattle.std.proofs.Common.{ap, ◌∙◌}
 use Rattle.automata_base.specs.declared.nfa.thompson.Flags.{Flags}
 use Rattle.automata_base.specs.Powersets.Passes.{decided}
 use Rattle.automata_base.specs.Haystacks.LookSets.{truth_of}
-use Rattle.automata_base.proofs.Determinizing.Bits_of_looks.{sofar_next}
+use Rattle.automata_base.proofs.Powersets.LookBits.{sofar_next}
 use Rattle.automata_base.proofs.util.determinize.deciding.looks_true.Goals as goal
 
 pub loop-index-preserved : goal.loop-index-preserved

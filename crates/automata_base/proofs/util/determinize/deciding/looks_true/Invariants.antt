@@ -1,6 +1,6 @@
 use Rattle.automata_base.specs.Powersets.Passes.{decided}
 use Rattle.automata_base.specs.Haystacks.LookSets.{truth_of}
-use Rattle.automata_base.proofs.Determinizing.Bits_of_looks.{Sofar}
+use Rattle.automata_base.proofs.Powersets.LookBits.{Sofar}
 use Rattle.automata_base.proofs.util.determinize.deciding.looks_true.Given as goal
 
 abbrev pub invariant-loop-index : goal.invariant-loop-index

@@ -1,6 +1,6 @@
 use Rattle.std.proofs.Common.{ap}
 use Rattle.automata_base.specs.Powersets.Code.{code}
-use Rattle.automata_base.proofs.Coding.Inverse.{same_from_code}
+use Rattle.automata_base.proofs.Powersets.Code.Inverse.{same_from_code}
 use Rattle.automata_base.proofs.util.determinize.laws.one_code.Goals as goal
 
 pub returns : goal.returns

@@ -5,9 +5,9 @@ use Rattle.automata_base.specs.Haystacks.LookSets.{truth_of}
 use Rattle.automata_base.specs.Nfas.Nfa.{stays_at, node, keep}
 use Rattle.automata_base.specs.Retraced.ComputedPass.{looks_at, any_state}
 use Rattle.automata_base.specs.Haystacks.Looks.{look_index}
-use Rattle.automata_base.proofs.Determinizing.Walking.{node_at}
-use Rattle.automata_base.proofs.Determinizing.Keeping.{below_at, keep_next, room_next, looks_next}
-use Rattle.automata_base.proofs.Determinizing.Keeping.{looks_done, kept_done}
+use Rattle.automata_base.proofs.Powersets.Walking.{node_at}
+use Rattle.automata_base.proofs.Powersets.Keeping.{below_at, keep_next, room_next, looks_next}
+use Rattle.automata_base.proofs.Powersets.Keeping.{looks_done, kept_done}
 use Rattle.automata_base.proofs.util.determinize.lists.keep_states.Goals as goal
 use Rattle.automata_base.proofs.Paths.LookSets.{truth_of_none}
 

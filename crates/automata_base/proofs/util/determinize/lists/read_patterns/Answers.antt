@@ -1,9 +1,9 @@
 use Rattle.std.proofs.Common.{◌≡◌, ◌<◌, ◌≤◌, length, sym, ap, ◌∙◌, arith, vec_len, vec_capacity}
 use Rattle.automata_base.specs.Nfas.Nodes.{nfa_of}
 use Rattle.automata_base.specs.Nfas.Nfa.{accepts, accepts_at}
-use Rattle.automata_base.proofs.Determinizing.Walking.{node_at}
-use Rattle.automata_base.proofs.Determinizing.Distinct.{distinct_below}
-use Rattle.automata_base.proofs.Determinizing.Keeping.{below_at, pattern_next, pattern_room, once_done}
+use Rattle.automata_base.proofs.Powersets.Walking.{node_at}
+use Rattle.automata_base.proofs.Powersets.Distinct.{distinct_below}
+use Rattle.automata_base.proofs.Powersets.Keeping.{below_at, pattern_next, pattern_room, once_done}
 use Rattle.automata_base.proofs.util.determinize.lists.read_patterns.Goals as goal
 
 pub state-requires : goal.state-requires
@@ -16,7 +16,7 @@ add_maybe-requires c = λ p s new.
     ap accepts_at (node_at c.args.nfa.now.states c.index-list-i.result c.state.result.now c.state.result.now below c.state.ensures.same) ∙ sym c.pattern_of.ensures in
     let room : length c.loop-i.patterns.items < length c.args.nfa.now.start_pattern =
     pattern_room c.loop-i.patterns.items p (length c.args.nfa.now.start_pattern) c.loop-i.invariant.0.1 c.loop-i.invariant.0.2
-    (c.state.ensures.door.patterns c.index-list-i.result p (here ∙ s)) new in
+    (c.state.ensures.checked.patterns c.index-list-i.result p (here ∙ s)) new in
     let len : vec_len c.loop-i.patterns ≡ length c.loop-i.patterns.items = c.loop-i.patterns.ok.0 in
     let kept : vec_capacity c.args.patterns.now ≤ vec_capacity c.loop-i.patterns = c.loop-i.invariant.1 in
     omega (arith, room, len, kept, c.requires.room)
@@ -30,7 +30,7 @@ loop-i-preserved c =
     let more : vec_capacity c.loop-i.patterns ≤ vec_capacity c.add_maybe.new.patterns = c.add_maybe.ensures.room in (
       pattern_next (accepts (nfa_of c.args.nfa.now)) c.args.list.now c.loop-i.i c.index-list-i.result (length c.args.nfa.now.start_pattern) c.pattern_of.result
           c.loop-i.patterns.items c.add_maybe.new.patterns.items c.loop-i-test.true c.index-list-i.is here
-          (λ p s. c.state.ensures.door.patterns c.index-list-i.result p (here ∙ s)) c.add_maybe.ensures.some c.add_maybe.ensures.none c.loop-i.invariant.0,
+          (λ p s. c.state.ensures.checked.patterns c.index-list-i.result p (here ∙ s)) c.add_maybe.ensures.some c.add_maybe.ensures.none c.loop-i.invariant.0,
       omega arith,
     )
 

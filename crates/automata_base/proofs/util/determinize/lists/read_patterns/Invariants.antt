@@ -1,7 +1,7 @@
 use Rattle.std.proofs.Common.{◌≤◌, length, vec_capacity}
 use Rattle.automata_base.specs.Nfas.Nfa.{accepts}
 use Rattle.automata_base.specs.Nfas.Nodes.{nfa_of}
-use Rattle.automata_base.proofs.Determinizing.Keeping.{Patterns}
+use Rattle.automata_base.proofs.Powersets.Keeping.{Patterns}
 use Rattle.automata_base.proofs.util.determinize.lists.read_patterns.Given as goal
 
 abbrev pub invariant-loop-i : goal.invariant-loop-i

@@ -1,5 +1,5 @@
 use Rattle.std.proofs.Common.{rules, arith, ◌<◌, ◌^◌, ◌/◌, ◌∙◌, get_or}
-use Rattle.automata_base.proofs.Coding.Groups.{split_bytes, front_last_of, front_more_of, front_none}
+use Rattle.automata_base.proofs.Powersets.Code.Groups.{split_bytes, front_last_of, front_more_of, front_none}
 use Rattle.automata_base.proofs.util.determinize.read.+groups_in.Goals as goal
 
 pub returns-then-first-lt128 : goal.returns-then-first-lt128

@@ -1,5 +1,5 @@
 use Rattle.std.proofs.Common.{arith, ◌+◌, ◌≤◌, length, ◌*◌, sym, ◌∙◌}
-use Rattle.automata_base.proofs.Coding.Reading.{whole, ids_from}
+use Rattle.automata_base.proofs.Powersets.Code.Reading.{whole, ids_from}
 use Rattle.automata_base.proofs.util.determinize.read.ids_in.Goals as goal
 
 pub slice_bounds-result-count : goal.slice_bounds-result-count

@@ -1,5 +1,5 @@
 use Rattle.std.proofs.Common.{arith}
-use Rattle.automata_base.proofs.Coding.Groups.{counted-next, counted-all}
+use Rattle.automata_base.proofs.Powersets.Code.Groups.{counted-next, counted-all}
 use Rattle.automata_base.proofs.util.determinize.read.number_count.Goals as goal
 
 pub loop-byte-preserved : goal.loop-byte-preserved

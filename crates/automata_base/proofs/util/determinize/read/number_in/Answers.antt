@@ -1,5 +1,5 @@
 use Rattle.std.proofs.Common.{◌∙◌, get_or}
-use Rattle.automata_base.proofs.Coding.Groups.{split_bytes, front_last_of}
+use Rattle.automata_base.proofs.Powersets.Code.Groups.{split_bytes, front_last_of}
 use Rattle.automata_base.proofs.util.determinize.read.number_in.Goals as goal
 
 pub returns-then-first-lt128 : goal.returns-then-first-lt128

@@ -3,7 +3,7 @@ use Rattle.std.proofs.lemmas.List.Elements.{All-from_recursion}
 use Rattle.automata_base.specs.Powersets.Powerset.{IsId}
 use Rattle.automata_base.specs.Powersets.Code.{patterns_of}
 use Rattle.std.proofs.Common.{arith, sym, ◌∙◌}
-use Rattle.automata_base.proofs.Coding.Reading.{whole, pattern-listed}
+use Rattle.automata_base.proofs.Powersets.Code.Reading.{whole, pattern-listed}
 use Rattle.automata_base.proofs.util.determinize.read.pattern_at.Goals as goal
 
 pub overflow_mul-index : goal.overflow_mul-index

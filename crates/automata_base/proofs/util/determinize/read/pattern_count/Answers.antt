@@ -1,5 +1,5 @@
 use Rattle.std.proofs.Common.{sym, ◌∙◌}
-use Rattle.automata_base.proofs.Coding.Reading.{whole}
+use Rattle.automata_base.proofs.Powersets.Code.Reading.{whole}
 use Rattle.automata_base.proofs.util.determinize.read.pattern_count.Goals as goal
 
 pub returns-then-lists_patterns : goal.returns-then-lists_patterns

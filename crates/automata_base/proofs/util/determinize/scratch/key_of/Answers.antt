@@ -1,4 +1,4 @@
-use Rattle.automata_base.proofs.Determinizing.Repeats.{is_distinct}
+use Rattle.automata_base.proofs.Powersets.Repeats.{is_distinct}
 use Rattle.automata_base.proofs.util.determinize.scratch.key_of.Goals as goal
 
 pub write-requires : goal.write-requires

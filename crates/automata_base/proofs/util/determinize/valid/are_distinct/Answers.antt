@@ -1,7 +1,7 @@
 use Rattle.std.proofs.Common.{sym, ◌∙◌, refl}
 use Rattle.std.proofs.lemmas.Bool.{false≢true}
-use Rattle.automata_base.proofs.Coding.Groups.{split_at_item}
-use Rattle.automata_base.proofs.Coding.Distinct.{distinct_up, distinct_down, distinct_short}
+use Rattle.automata_base.proofs.Powersets.Code.Groups.{split_at_item}
+use Rattle.automata_base.proofs.Powersets.Code.Distinct.{distinct_up, distinct_down, distinct_short}
 use Rattle.automata_base.proofs.util.determinize.valid.are_distinct.Goals as goal
 
 pub returns-then-not-is_apart : goal.returns-then-not-is_apart

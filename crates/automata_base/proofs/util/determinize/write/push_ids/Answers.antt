@@ -3,7 +3,7 @@ use borrow.Author.Count.{below_more}
 use Rattle.std.proofs.Common.{ℕ, ap, ◌∙◌, subst, get_or, arith}
 use Rattle.automata_base.specs.Powersets.Code.{difference}
 use Rattle.automata_base.specs.Powersets.Powerset.{IsId}
-use Rattle.automata_base.proofs.Coding.Groups.{ids-step, ids-end}
+use Rattle.automata_base.proofs.Powersets.Code.Groups.{ids-step, ids-end}
 use Rattle.automata_base.proofs.util.determinize.write.push_ids.Goals as goal
 
 pub loop-id-preserved : goal.loop-id-preserved

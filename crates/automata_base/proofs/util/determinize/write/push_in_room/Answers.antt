@@ -1,5 +1,5 @@
 use Rattle.std.proofs.Common.{ap, sym, ◌∙◌, List, ◌++◌, ℕ}
-use Rattle.automata_base.proofs.Coding.Groups.{varint-last}
+use Rattle.automata_base.proofs.Powersets.Code.Groups.{varint-last}
 use Rattle.automata_base.proofs.util.determinize.write.push_in_room.Goals as goal
 
 pub returns-then-n-lt128-clause-ok : goal.returns-then-n-lt128-clause-ok

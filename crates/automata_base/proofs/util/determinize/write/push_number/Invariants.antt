@@ -5,7 +5,7 @@ use Rattle.automata_base.proofs.util.determinize.write.push_number.Given as goal
 abbrev pub invariant-loop-rest : goal.invariant-loop-rest
 invariant-loop-rest l = record {
   bound : l.rest < 2 ^ 35;
-  told : l.out.items ++ varint l.rest ≡ l.fn.out.items ++ varint l.fn.n;
+  reported : l.out.items ++ varint l.rest ≡ l.fn.out.items ++ varint l.fn.n;
 }
 
 abbrev pub decreases-loop-rest : goal.decreases-loop-rest

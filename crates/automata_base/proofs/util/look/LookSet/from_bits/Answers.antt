@@ -1,7 +1,7 @@
 use Rattle.std.proofs.Common.{ap, arith, eqb}
 use Rattle.std.proofs.lemmas.Nat.{and_le_r}
 use Rattle.automata_base.specs.Haystacks.Looks.{look_index}
-use Rattle.automata_base.proofs.Determinizing.Bits_of_looks.{low_bits, code_below}
+use Rattle.automata_base.proofs.Powersets.LookBits.{low_bits, code_below}
 use Rattle.automata_base.proofs.util.look.LookSet.from_bits.Goals as goal
 
 pub returns : goal.returns

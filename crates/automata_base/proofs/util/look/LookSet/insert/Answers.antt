@@ -2,7 +2,7 @@ use Rattle.std.proofs.Common.{ap, ◌∙◌, subst, ◌≡◌, ◌||◌, ◌*◌
 use Rattle.std.specs.Int.RustNames.{bit_or}
 use Rattle.automata_base.specs.Haystacks.LookSets.{truth_of}
 use Rattle.automata_base.specs.Haystacks.Looks.{look_index}
-use Rattle.automata_base.proofs.Determinizing.Bits_of_looks.{insert_bit, bit_small}
+use Rattle.automata_base.proofs.Powersets.LookBits.{insert_bit, bit_small}
 use Rattle.std.proofs.lemmas.Nat.{or_lt}
 use Rattle.automata_base.proofs.util.look.LookSet.insert.Goals as goal
 

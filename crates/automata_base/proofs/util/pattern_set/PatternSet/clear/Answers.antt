@@ -1,7 +1,7 @@
 use Rattle.std.proofs.Common.{rules, ◌≡◌, ◌<◌, ◌≤◌, false, length, replicate, sym, ap, ◌∙◌, subst, arith}
 use Rattle.std.proofs.Math.ListN.{set}
 use Rattle.automata_base.specs.Haystacks.PatternSet.{IsCounted}
-use Rattle.automata_base.proofs.Values.PatternsInSets.{all_out, empty_counted, taken_out}
+use Rattle.automata_base.proofs.ByteClasses.PatternsInSets.{all_out, empty_counted, taken_out}
 use Rattle.automata_base.proofs.util.pattern_set.PatternSet.clear.Goals as goal
 
 pub loop-at-preserved : goal.loop-at-preserved

@@ -1,5 +1,5 @@
 use Rattle.std.proofs.Common.{◌≡◌, false, replicate}
-use Rattle.automata_base.proofs.Values.PatternsInSets.{empty_counted, members_from-replicate}
+use Rattle.automata_base.proofs.ByteClasses.PatternsInSets.{empty_counted, members_from-replicate}
 use Rattle.automata_base.proofs.util.pattern_set.PatternSet.new.Goals as goal
 
 pub invariant_of-result : goal.invariant_of-result

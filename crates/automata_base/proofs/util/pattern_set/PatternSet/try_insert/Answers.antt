@@ -1,7 +1,7 @@
 use Rattle.std.proofs.Common.{◌≡◌, ◌<◌, false, get_or, length, sym, ◌∙◌, arith}
 use Rattle.std.proofs.lemmas.Grind.{common_steps}
 use Rattle.std.proofs.lemmas.List.{get_or_read}
-use Rattle.automata_base.proofs.Values.PatternsInSets.{set_counted, few_more}
+use Rattle.automata_base.proofs.ByteClasses.PatternsInSets.{set_counted, few_more}
 use Rattle.automata_base.proofs.util.pattern_set.PatternSet.try_insert.Goals as goal
 
 pub overflow_add-self : goal.overflow_add-self

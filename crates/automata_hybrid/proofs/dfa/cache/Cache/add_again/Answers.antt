@@ -1,9 +1,9 @@
 use Rattle.std.proofs.Common.{◌≡◌, false, ap, inl}
 use Rattle.automata_hybrid.specs.declared.dfa.row.Row.{Row}
 use Rattle.automata_hybrid.specs.Cache.Caches.{CacheView, counted}
-use Rattle.automata_hybrid.proofs.Growing.{grown_again, grown_counted}
-use Rattle.automata_hybrid.proofs.Searched.{added_progress}
-use Rattle.automata_hybrid.proofs.StartTags.{again_adds, again_keeps, tagged_none}
+use Rattle.automata_hybrid.proofs.Cache.Growth.{grown_again, grown_counted}
+use Rattle.automata_hybrid.proofs.Searches.Progress.{added_progress}
+use Rattle.automata_hybrid.proofs.Steps.StartTags.{again_adds, again_keeps, tagged_none}
 use Rattle.automata_hybrid.proofs.dfa.cache.Cache.add_again.Goals as goal
 
 pub returns-clause-effect : goal.returns-clause-effect

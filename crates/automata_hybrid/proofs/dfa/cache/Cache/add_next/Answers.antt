@@ -6,8 +6,8 @@ use Rattle.automata_hybrid.specs.Cache.Changes.{AddsNext, put_found}
 use Rattle.automata_hybrid.specs.Cache.Clears.{row_of}
 use Rattle.automata_hybrid.specs.Cache.Stores.{with_table}
 use Rattle.automata_hybrid.specs.Cache.Table.{IsNewState, Names, id_of}
-use Rattle.automata_hybrid.proofs.Adding.{new_there, next_clears, next_fits}
-use Rattle.automata_hybrid.proofs.Searching.{false_true}
+use Rattle.automata_hybrid.proofs.Cache.Additions.{new_there, next_clears, next_fits}
+use Rattle.automata_hybrid.proofs.Searches.PassState.{false_true}
 use Rattle.automata_hybrid.proofs.dfa.cache.Cache.add_next.Goals as goal
 
 pub returns-then-fits-clause-answer : goal.returns-then-fits-clause-answer

@@ -4,8 +4,8 @@ use Rattle.automata_hybrid.specs.Cache.Caches.{CacheView}
 use Rattle.automata_hybrid.specs.Cache.Usage.{Fits}
 use Rattle.automata_hybrid.specs.Cache.Changes.{AddsStart}
 use Rattle.automata_hybrid.specs.Cache.Table.{IsNewState}
-use Rattle.automata_hybrid.proofs.Adding.{new_there, start_clears, start_fits}
-use Rattle.automata_hybrid.proofs.Searching.{false_true}
+use Rattle.automata_hybrid.proofs.Cache.Additions.{new_there, start_clears, start_fits}
+use Rattle.automata_hybrid.proofs.Searches.PassState.{false_true}
 use Rattle.automata_hybrid.proofs.dfa.cache.Cache.add_start.Goals as goal
 
 pub returns-then-fits-clause-answer : goal.returns-then-fits-clause-answer

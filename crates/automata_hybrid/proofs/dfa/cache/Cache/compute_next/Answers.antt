@@ -6,9 +6,9 @@ use Rattle.automata_hybrid.specs.Cache.Caches.{CacheView}
 use Rattle.automata_hybrid.specs.Cache.LookUps.{IsLookedUp}
 use Rattle.automata_hybrid.specs.Cache.Table.{IsNewState, Leads}
 use Rattle.automata_hybrid.specs.declared.dfa.cache.Found.TheVariants.{Known, New}
-use Rattle.automata_hybrid.proofs.Adding.{cheap, looked_up, new_state}
-use Rattle.automata_hybrid.proofs.StepCalls.{ComputesStep, computed_answer, computed_effect, computes_known}
-use Rattle.automata_hybrid.proofs.StepCalls.{computes_new, refused_effect}
+use Rattle.automata_hybrid.proofs.Cache.Additions.{cheap, looked_up, new_state}
+use Rattle.automata_hybrid.proofs.Steps.Steps.{ComputesStep, computed_answer, computed_effect, computes_known}
+use Rattle.automata_hybrid.proofs.Steps.Steps.{computes_new, refused_effect}
 use Rattle.automata_hybrid.proofs.dfa.cache.Cache.compute_next.Goals.{After-see_store-in-Known, After-see_store-in-New}
 use Rattle.automata_hybrid.proofs.dfa.cache.Cache.compute_next.Goals as goal
 

@@ -6,9 +6,9 @@ use Rattle.automata_hybrid.specs.Cache.LookUps.{IsLookedUp}
 use Rattle.automata_hybrid.specs.Machines.Machine.{Machine, slot_count}
 use Rattle.automata_hybrid.specs.Cache.Table.{IsNewState, Leads}
 use Rattle.automata_hybrid.specs.declared.dfa.cache.Found.TheVariants.{Known, New}
-use Rattle.automata_hybrid.proofs.Adding.{cheap, looked_up, new_state}
-use Rattle.automata_hybrid.proofs.Starting.{ComputesStart, computed_answer, computed_effect, computes_known}
-use Rattle.automata_hybrid.proofs.Starting.{computes_new, refused_effect, slot_leads}
+use Rattle.automata_hybrid.proofs.Cache.Additions.{cheap, looked_up, new_state}
+use Rattle.automata_hybrid.proofs.Steps.Starts.{ComputesStart, computed_answer, computed_effect, computes_known}
+use Rattle.automata_hybrid.proofs.Steps.Starts.{computes_new, refused_effect, slot_leads}
 use Rattle.automata_hybrid.proofs.dfa.cache.Cache.compute_start.Goals.{After-see_store-in-Known, After-see_store-in-New}
 use Rattle.automata_hybrid.proofs.dfa.cache.Cache.compute_start.Goals as goal
 

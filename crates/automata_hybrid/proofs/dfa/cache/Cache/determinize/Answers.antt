@@ -2,7 +2,7 @@ use Rattle.std.proofs.Common.{◌≡◌, ◌∙◌, ap, subst, suc, sym}
 use Rattle.std.proofs.Math.Logic.{∥∥₁_map}
 use Rattle.automata_base.specs.Nfas.Nodes.{Automaton}
 use Rattle.automata_base.specs.Paths.Starts.{IsOf}
-use Rattle.automata_base.specs.Answers.Within.{TellsOwn}
+use Rattle.automata_base.specs.Answers.Within.{ReportsOwn}
 use Rattle.automata_base.specs.Retraced.Steps.{NeedsOwnLooks, successor}
 use Rattle.automata_hybrid.specs.Machines.OwnStates.{IsOwn}
 use Rattle.automata_hybrid.specs.Machines.Machine.{IsStateOf, Machine, next_of}
@@ -37,7 +37,7 @@ returns-clause-is_of c = record {
   own = (
     subst (λ (a : Automaton). IsOf a c.in_ok-key.key) c.get_nfa.ensures c.in_ok-key.ensures.made.is_of,
     subst (λ (a : Automaton). NeedsOwnLooks a c.in_ok-key.key) c.get_nfa.ensures c.in_ok-key.ensures.made.looks,
-    subst (λ (a : Automaton). TellsOwn a c.in_ok-key.key) c.get_nfa.ensures c.in_ok-key.ensures.made.own,
+    subst (λ (a : Automaton). ReportsOwn a c.in_ok-key.key) c.get_nfa.ensures c.in_ok-key.ensures.made.own,
   );
   reached =
       ∥∥₁_map (from_row c).reached

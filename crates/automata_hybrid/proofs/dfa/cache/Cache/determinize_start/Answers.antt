@@ -1,11 +1,11 @@
 use Rattle.std.proofs.Common.{◌≡◌, ◌∙◌, ap, subst}
 use Rattle.automata_base.specs.Nfas.Nodes.{Automaton}
 use Rattle.automata_base.specs.Paths.Starts.{IsOf}
-use Rattle.automata_base.specs.Answers.Within.{TellsOwn}
+use Rattle.automata_base.specs.Answers.Within.{ReportsOwn}
 use Rattle.automata_base.specs.Retraced.Steps.{NeedsOwnLooks, start_state_of}
 use Rattle.automata_hybrid.specs.Machines.Machine.{start_of}
 use Rattle.automata_hybrid.specs.Machines.OwnStates.{IsOwn}
-use Rattle.automata_hybrid.proofs.Starting.{slot_state}
+use Rattle.automata_hybrid.proofs.Steps.Starts.{slot_state}
 use Rattle.automata_hybrid.proofs.dfa.cache.Cache.determinize_start.Goals as goal
 
 -- the key is the start state of the slot
@@ -20,7 +20,7 @@ returns-clause-is_of c = record {
   own = (
     subst (λ (a : Automaton). IsOf a c.in_ok-key.key) c.get_nfa.ensures c.in_ok-key.ensures.made.is_of,
     subst (λ (a : Automaton). NeedsOwnLooks a c.in_ok-key.key) c.get_nfa.ensures c.in_ok-key.ensures.made.looks,
-    subst (λ (a : Automaton). TellsOwn a c.in_ok-key.key) c.get_nfa.ensures c.in_ok-key.ensures.made.own,
+    subst (λ (a : Automaton). ReportsOwn a c.in_ok-key.key) c.get_nfa.ensures c.in_ok-key.ensures.made.own,
   );
   reached = ∣ (0, (c.requires.slot.0, c.requires.slot.1.within, from_slot c)) ∣₁;
 }

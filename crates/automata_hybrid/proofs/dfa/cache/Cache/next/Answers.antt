@@ -4,10 +4,10 @@ use Rattle.automata_base.specs.Powersets.Powerset.{Powerset}
 use Rattle.automata_hybrid.specs.Machines.Machine.{Machine}
 use Rattle.automata_hybrid.specs.Machines.OwnStates.{IsOwn}
 use Rattle.automata_hybrid.specs.Cache.Table.{IsValid, Names}
-use Rattle.automata_hybrid.proofs.Standing.{stands_step}
-use Rattle.automata_hybrid.proofs.StepCalls.{cell_known, fixed_answer, known_answer, same_effect, unknown_clean}
-use Rattle.automata_hybrid.proofs.StepCalls.{unknown_free}
-use Rattle.automata_hybrid.proofs.Stepping.{HasRow-valid}
+use Rattle.automata_hybrid.proofs.Steps.BySteps.{stands_step}
+use Rattle.automata_hybrid.proofs.Steps.Steps.{cell_known, fixed_answer, known_answer, same_effect, unknown_clean}
+use Rattle.automata_hybrid.proofs.Steps.Steps.{unknown_free}
+use Rattle.automata_hybrid.proofs.Steps.Ids.{HasRow-valid}
 use Rattle.automata_hybrid.proofs.dfa.cache.Cache.next.Goals as goal
 
 pub returns-then-is_fixed-clause-answer : goal.returns-then-is_fixed-clause-answer

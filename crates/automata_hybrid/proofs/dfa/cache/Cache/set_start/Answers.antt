@@ -3,7 +3,7 @@ use Rattle.std.proofs.lemmas.List.{get_or-set_same}
 use Rattle.automata_hybrid.specs.declared.dfa.cache.Cache.TheInside.{Inside}
 use Rattle.automata_hybrid.specs.Machines.Machine.{start_of}
 use Rattle.automata_hybrid.specs.Cache.Caches.{CacheView}
-use Rattle.automata_hybrid.proofs.Bounding.{Leads-known}
+use Rattle.automata_hybrid.proofs.Cache.Usage.{Leads-known}
 use Rattle.automata_hybrid.proofs.dfa.cache.Cache.set_start.Goals as goal
 
 pub returns-clause-found : goal.returns-clause-found

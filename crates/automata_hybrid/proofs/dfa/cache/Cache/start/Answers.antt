@@ -3,7 +3,7 @@ use Rattle.std.proofs.lemmas.Grind.{common_steps}
 use Rattle.automata_hybrid.specs.Machines.Machine.{Machine, slot_count}
 use Rattle.automata_hybrid.specs.Steps.Starts.{IsStartRefused, KnowsStart}
 use Rattle.automata_hybrid.specs.Cache.Stores.{IsKnownStart}
-use Rattle.automata_hybrid.proofs.Starting.{knows_slot, known_answer, known_effect}
+use Rattle.automata_hybrid.proofs.Steps.Starts.{knows_slot, known_answer, known_effect}
 use Rattle.automata_hybrid.proofs.dfa.cache.Cache.start.Goals as goal
 
 pub returns-then-not-is_unknown-clause-answer : goal.returns-then-not-is_unknown-clause-answer

@@ -2,7 +2,7 @@ use Rattle.std.proofs.Common.{subst, sym}
 use Rattle.automata_base.specs.Powersets.Powerset.{cost}
 use Rattle.automata_hybrid.specs.Cache.Stores.{Stored}
 use Rattle.automata_hybrid.specs.Cache.Usage.{Fits}
-use Rattle.automata_hybrid.proofs.Bounding.{IsCache-grown}
+use Rattle.automata_hybrid.proofs.Cache.Usage.{IsCache-grown}
 use Rattle.automata_hybrid.proofs.dfa.store.Store.add_row.Goals as goal
 
 pub invariant_of-self-2 : goal.invariant_of-self-2

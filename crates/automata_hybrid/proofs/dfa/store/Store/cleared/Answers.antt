@@ -2,7 +2,7 @@ use Rattle.std.proofs.Common.{◌≡◌, ◌+◌, ◌≤◌, ◌∙◌, ap, sym,
 use Rattle.automata_hybrid.specs.Cache.Clears.{KeepsAllStarts}
 use Rattle.automata_hybrid.specs.Cache.Stores.{Stored}
 use Rattle.automata_hybrid.specs.Cache.Usage.{cleared}
-use Rattle.automata_hybrid.proofs.Bounding.{Fits-few, IsCache-cleared}
+use Rattle.automata_hybrid.proofs.Cache.Usage.{Fits-few, IsCache-cleared}
 use Rattle.automata_hybrid.proofs.dfa.store.Store.cleared.Goals as goal
 
 pub invariant_of-result : goal.invariant_of-result

@@ -4,8 +4,8 @@ use Rattle.automata_hybrid.specs.Cache.Stores.{Stored, with_table}
 use Rattle.automata_hybrid.specs.Cache.Table.{Rows}
 use Rattle.automata_hybrid.specs.Cache.Clears.{AllStarts}
 use Rattle.automata_hybrid.specs.Cache.Usage.{IsCache}
-use Rattle.automata_hybrid.proofs.Bounding.{Fits-few, IsCache-few}
-use Rattle.automata_hybrid.proofs.Keeping.{AllStarts-put, IsPut-length, IsPut-of}
+use Rattle.automata_hybrid.proofs.Cache.Usage.{Fits-few, IsCache-few}
+use Rattle.automata_hybrid.proofs.Cache.Clears.{AllStarts-put, IsPut-length, IsPut-of}
 use Rattle.automata_hybrid.proofs.dfa.store.Store.keep_saved.Goals as goal
 
 kept_of : (c : goal.After-see_rows-2) → c.keep_row.new.kept.of ≡ c.self.inside.table.of

@@ -5,7 +5,7 @@ use Rattle.automata_hybrid.specs.Machines.Machine.{Machine, greatest, table_stri
 use Rattle.automata_hybrid.specs.Cache.Stores.{fresh_store}
 use Rattle.automata_hybrid.specs.Cache.Usage.{IsCache}
 use Rattle.automata_hybrid.specs.declared.dfa.settings.Settings.{Settings}
-use Rattle.automata_hybrid.proofs.Bounding.{IsCache-fresh}
+use Rattle.automata_hybrid.proofs.Cache.Usage.{IsCache-fresh}
 use Rattle.automata_hybrid.proofs.dfa.store.Store.new.Goals as goal
 
 pub invariant_of-result : goal.invariant_of-result

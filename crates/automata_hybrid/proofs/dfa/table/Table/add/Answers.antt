@@ -1,8 +1,8 @@
 use Rattle.std.proofs.Common.{◌≡◌, sym, List, [], ◌∷◌, ◌++◌, ◌^◌, ◌<◌, ◌≤◌, length, cond, Some, arith, subst, None}
 use Rattle.std.specs.HashMap.{get}
 use Rattle.std.proofs.lemmas.Grind.{common_steps}
-use Rattle.automata_hybrid.proofs.Rows.{IsTable-with_row, IsTable-map, Names-new, Names-more}
-use Rattle.automata_hybrid.proofs.Keeping.{AllStarts-more}
+use Rattle.automata_hybrid.proofs.Cache.Rows.{IsTable-with_row, IsTable-map, Names-new, Names-more}
+use Rattle.automata_hybrid.proofs.Cache.Clears.{AllStarts-more}
 use Rattle.automata_hybrid.specs.Machines.Machine.{IsStateOf, greatest, template_of}
 use Rattle.automata_hybrid.specs.Cache.Clears.{AllStarts}
 use Rattle.automata_hybrid.specs.Cache.Table.{Rows, Names, id_of, row_id}

@@ -1,6 +1,6 @@
 use Rattle.std.proofs.Common.{◌≡◌, ◌∙◌, ℕ, List, sym, ap, ◌+◌, ◌%◌, ◌^◌, ◌<◌, length, get_or, arith, subst}
 use Rattle.std.proofs.lemmas.Grind.{common_steps}
-use Rattle.automata_hybrid.proofs.Places.{Names-Placed, Placed-cell, Placed-IsCell}
+use Rattle.automata_hybrid.proofs.Cache.Places.{Names-Placed, Placed-cell, Placed-IsCell}
 use Rattle.automata_hybrid.specs.Cache.Table.{Rows, IsTable, IsCell, cell_at}
 use Rattle.automata_hybrid.proofs.dfa.table.Table.cell_in_row.Goals as goal
 

@@ -1,5 +1,5 @@
 use Rattle.std.proofs.Common.{subst}
-use Rattle.automata_hybrid.proofs.Places.{IsTable-costs}
+use Rattle.automata_hybrid.proofs.Cache.Places.{IsTable-costs}
 use Rattle.automata_hybrid.specs.Cache.Table.{Rows, IsTable}
 use Rattle.automata_hybrid.proofs.dfa.table.Table.costs.Goals as goal
 

@@ -3,7 +3,7 @@ use Rattle.std.proofs.Common.{length, vec_len, get_or, slice_get, Some}
 use Rattle.std.proofs.lemmas.Bool.{eqb-true, eq-eqb}
 use Rattle.std.proofs.lemmas.Option.{slice_get_read}
 use Rattle.automata_hybrid.specs.declared.dfa.row.Row.{Row}
-use Rattle.automata_hybrid.proofs.Places.{placed_valid, valid_at, some_inj}
+use Rattle.automata_hybrid.proofs.Cache.Places.{placed_valid, valid_at, some_inj}
 use Rattle.automata_hybrid.specs.Cache.Table.{Rows, IsTable, IsValid, row_id}
 use Rattle.automata_hybrid.proofs.dfa.table.Table.has_row.Goals as goal
 use Rattle.automata_hybrid.proofs.dfa.table.Table.has_row.Goals.{then-index-lt3-via-then-index-lt3}

@@ -1,5 +1,5 @@
 use Rattle.std.proofs.Common.{◌≡◌, ◌∙◌, ap, ◌+◌, ◌/◌, ◌%◌, ◌^◌, arith, subst, refl}
-use Rattle.automata_hybrid.proofs.Places.{Names-Placed, Placed-place, Placed-HasState}
+use Rattle.automata_hybrid.proofs.Cache.Places.{Names-Placed, Placed-place, Placed-HasState}
 use Rattle.automata_hybrid.specs.Cache.Table.{Rows, IsTable}
 use Rattle.automata_hybrid.proofs.dfa.table.Table.row_index.Goals as goal
 use Rattle.automata_hybrid.specs.Machines.Machine.{table_stride}

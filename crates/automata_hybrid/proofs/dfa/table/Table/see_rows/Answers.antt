@@ -1,6 +1,6 @@
 use Rattle.std.proofs.Common.{subst}
-use Rattle.automata_hybrid.proofs.Places.{Names-Placed, Names-alive, Names-own, Names-tagged, Placed-cell}
-use Rattle.automata_hybrid.proofs.Places.{IsTable-costs, IsTable-ids}
+use Rattle.automata_hybrid.proofs.Cache.Places.{Names-Placed, Names-alive, Names-own, Names-tagged, Placed-cell}
+use Rattle.automata_hybrid.proofs.Cache.Places.{IsTable-costs, IsTable-ids}
 use Rattle.automata_hybrid.specs.Cache.Table.{Rows, IsTable}
 use Rattle.automata_hybrid.proofs.dfa.table.Table.see_rows.Goals as goal
 

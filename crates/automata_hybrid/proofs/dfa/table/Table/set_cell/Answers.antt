@@ -1,6 +1,6 @@
 use Rattle.std.proofs.Common.{◌≡◌, ap, ℕ, ◌+◌, ◌%◌, ◌^◌, ◌<◌, length, set, arith, subst, refl}
 use Rattle.std.proofs.lemmas.Grind.{common_steps}
-use Rattle.automata_hybrid.proofs.Places.{Names-Placed, Placed-cell, IsTable-with_cell}
+use Rattle.automata_hybrid.proofs.Cache.Places.{Names-Placed, Placed-cell, IsTable-with_cell}
 use Rattle.automata_hybrid.specs.Cache.Table.{Rows, IsTable, cell_at, with_cell}
 use Rattle.automata_hybrid.proofs.dfa.table.Table.set_cell.Goals as goal
 

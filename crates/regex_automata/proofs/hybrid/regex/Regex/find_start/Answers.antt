@@ -5,11 +5,11 @@ use Rattle.automata_hybrid.specs.Searches.Cached.{Knows}
 use Rattle.automata_hybrid.specs.Machines.StartSlots.{supports}
 use Rattle.automata_hybrid.specs.Searches.Progress.{EndsProgress, LeavesProgress}
 use Rattle.automata_hybrid.specs.Searches.Passes.{IsFound, IsRefused, NoQuitInReach, with_base}
-use Rattle.automata_hybrid.specs.Searches.Within.{LiesIn}
-use Rattle.automata_hybrid.proofs.Growing.{grown_same}
-use Rattle.automata_hybrid.proofs.Searching.{if_err}
-use Rattle.regex_automata.proofs.Finding.{back_none, back_reach, back_some, cost_back}
-use Rattle.regex_automata.proofs.Nexts.{some_of}
+use Rattle.automata_hybrid.specs.Searches.Bounds.{LiesIn}
+use Rattle.automata_hybrid.proofs.Cache.Growth.{grown_same}
+use Rattle.automata_hybrid.proofs.Searches.PassState.{if_err}
+use Rattle.regex_automata.proofs.Spans.Costs.{back_none, back_reach, back_some, cost_back}
+use Rattle.regex_automata.proofs.Spans.NextMatches.{some_of}
 use Rattle.regex_automata.proofs.Results.{on_ok}
 use Rattle.regex_automata.proofs.hybrid.regex.Regex.find_start.Goals as goal
 

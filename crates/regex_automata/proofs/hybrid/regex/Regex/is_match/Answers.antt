@@ -5,19 +5,19 @@ use Rattle.automata_base.specs.Haystacks.Matches.{HalfMatch}
 use Rattle.automata_base.specs.Nfas.Nodes.{Automaton}
 use Rattle.automata_base.specs.Haystacks.Tapes.{Forward, byte_before}
 use Rattle.automata_base.specs.declared.util.search.MatchErrorKind.TheVariants.{UnsupportedAnchored as UnsupportedMode}
-use Rattle.automata_base.specs.Answers.OfPasses.{ToldIsRight}
+use Rattle.automata_base.specs.Answers.OfPasses.{ReportedIsRight}
 use Rattle.automata_config.specs.declared.error.SearchError.{SearchError}
 use Rattle.automata_config.specs.declared.error.SearchError.TheVariants as search
 use Rattle.automata_hybrid.specs.Searches.Cached.{Knows}
 use Rattle.automata_hybrid.specs.Searches.Passes.{NoQuitInReach}
 use Rattle.automata_hybrid.specs.Machines.StartSlots.{supports}
 use Rattle.automata_hybrid.specs.Steps.Starts.{quit_behind}
-use Rattle.automata_hybrid.proofs.Growing.{grown_same}
-use Rattle.automata_hybrid.proofs.Searching.{if_err}
-use Rattle.regex_automata.proofs.Finding.{cache_of}
-use Rattle.regex_automata.proofs.Matching.{asked_from, asked_to, match_right, same_asked, truth_found, truth_nearest}
-use Rattle.regex_automata.proofs.Matching.{truth_told}
-use Rattle.regex_automata.proofs.Owed.{may_refuse_truth, truth_owed}
+use Rattle.automata_hybrid.proofs.Cache.Growth.{grown_same}
+use Rattle.automata_hybrid.proofs.Searches.PassState.{if_err}
+use Rattle.regex_automata.proofs.Spans.Costs.{cache_of}
+use Rattle.regex_automata.proofs.Spans.Truths.{asked_from, asked_to, match_right, same_asked, truth_found, truth_nearest}
+use Rattle.regex_automata.proofs.Spans.Truths.{truth_reported}
+use Rattle.regex_automata.proofs.Replies.Contracts.{may_refuse_truth, truth_returned}
 use Rattle.regex_automata.proofs.Results.{err_ok, if_ok, is_err, ok_err, on_ok, same_err, same_ok}
 use Rattle.regex_automata.proofs.hybrid.regex.Regex.is_match.Goals as goal
 
@@ -29,9 +29,9 @@ pub returns-in_err-found-clause-refusal : goal.returns-in_err-found-clause-refus
 returns-in_err-found-clause-refusal c =
     if_err c.from_residual.result _ _ c.from_residual.ensures.1 (c.asked-asked.result, c.asked-asked.ensures, c.in_err-found.ensures.refusal)
 
-pub returns-in_err-found-clause-owed : goal.returns-in_err-found-clause-owed
-returns-in_err-found-clause-owed c =
-    truth_owed c.args.self.now c.args.input.now c.from_residual.result
+pub returns-in_err-found-clause-returned : goal.returns-in_err-found-clause-returned
+returns-in_err-found-clause-returned c =
+    truth_returned c.args.self.now c.args.input.now c.from_residual.result
     (if_ok c.from_residual.result _ _ c.from_residual.ensures.1)
     (if_ok c.from_residual.result _ _ c.from_residual.ensures.1)
     (λ acyclic. if_ok c.from_residual.result _ _ c.from_residual.ensures.1)
@@ -66,13 +66,13 @@ pub returns-clause-of : goal.returns-clause-of
 returns-clause-of c =
     (c.try_search_fwd.ensures.of, c.requires.1)
 
-pub returns-clause-owed : goal.returns-clause-owed
-returns-clause-owed c =
-    let told = truth_told c.args.self.now.forward c.args.input.now c.asked-asked.result c.asked-asked.ensures c.in_ok-found.found c.is_some.result c.in_ok-found.ensures.half.found c.is_some.ensures in
-    truth_owed c.args.self.now c.args.input.now (Ok c.is_some.result)
+pub returns-clause-returned : goal.returns-clause-returned
+returns-clause-returned c =
+    let reported = truth_reported c.args.self.now.forward c.args.input.now c.asked-asked.result c.asked-asked.ensures c.in_ok-found.found c.is_some.result c.in_ok-found.ensures.half.found c.is_some.ensures in
+    truth_returned c.args.self.now c.args.input.now (Ok c.is_some.result)
     (truth_found c.args.self.now.forward c.args.input.now c.asked-asked.result c.asked-asked.ensures c.in_ok-found.found c.is_some.result c.in_ok-found.ensures.half.found c.is_some.ensures)
-    told
-    (λ acyclic. match_right c.args.self.now.forward (subst (λ (a : Automaton). ToldIsRight a) c.get_nfa.ensures c.told_is_right.ensures.answer) c.args.input.now c.is_some.result acyclic (c.haystack-haystack.ensures.bytes, c.haystack-haystack.ensures.within.1) (truth_told c.args.self.now.forward c.args.input.now c.asked-asked.result c.asked-asked.ensures c.in_ok-found.found c.is_some.result c.in_ok-found.ensures.half.found c.is_some.ensures))
+    reported
+    (λ acyclic. match_right c.args.self.now.forward (subst (λ (a : Automaton). ReportedIsRight a) c.get_nfa.ensures c.reported_is_right.ensures.answer) c.args.input.now c.is_some.result acyclic (c.haystack-haystack.ensures.bytes, c.haystack-haystack.ensures.within.1) (truth_reported c.args.self.now.forward c.args.input.now c.asked-asked.result c.asked-asked.ensures c.in_ok-found.found c.is_some.result c.in_ok-found.ensures.half.found c.is_some.ensures))
     (truth_nearest c.args.self.now.forward c.args.input.now c.asked-asked.result c.asked-asked.ensures c.in_ok-found.found c.is_some.result c.in_ok-found.ensures.half.nearest c.is_some.ensures)
     tt
     (λ ahead behind mode. absurd (ok_err

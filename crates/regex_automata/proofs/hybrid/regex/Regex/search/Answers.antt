@@ -2,13 +2,13 @@ use Rattle.std.proofs.Common.{rules, ◌∙◌, ◌≤◌, inl, inr, refl, sym, 
 use Rattle.std.specs.Prelude.{Err}
 use Rattle.automata_config.specs.declared.error.SearchError.{SearchError}
 use Rattle.automata_hybrid.specs.Searches.Passes.{with_base}
-use Rattle.automata_hybrid.specs.Searches.Within.{LiesPast}
-use Rattle.automata_hybrid.proofs.Growing.{grown_same}
-use Rattle.automata_hybrid.proofs.Searching.{if_err}
+use Rattle.automata_hybrid.specs.Searches.Bounds.{LiesPast}
+use Rattle.automata_hybrid.proofs.Cache.Growth.{grown_same}
+use Rattle.automata_hybrid.proofs.Searches.PassState.{if_err}
 use Rattle.regex_automata.specs.Spans.Outcomes.{IsStartFound}
-use Rattle.regex_automata.proofs.Finding.{cache_of, front_none, front_some, knows_both, knows_front, match_of}
-use Rattle.regex_automata.proofs.Finding.{match_within, start_within}
-use Rattle.regex_automata.proofs.Nexts.{some_of}
+use Rattle.regex_automata.proofs.Spans.Costs.{cache_of, front_none, front_some, knows_both, knows_front, match_of}
+use Rattle.regex_automata.proofs.Spans.Costs.{match_within, start_within}
+use Rattle.regex_automata.proofs.Spans.NextMatches.{some_of}
 use Rattle.regex_automata.proofs.Results.{err_ok, if_ok, is_err, ok_err, on_ok, same_err, same_ok, some_none}
 use Rattle.regex_automata.proofs.hybrid.regex.Regex.search.Goals as goal
 
@@ -20,8 +20,8 @@ pub returns-in_err-front-clause-of : goal.returns-in_err-front-clause-of
 returns-in_err-front-clause-of c =
     (c.try_search_fwd_base.ensures.of, c.requires.1)
 
-pub returns-in_err-front-clause-told : goal.returns-in_err-front-clause-told
-returns-in_err-front-clause-told c = record {
+pub returns-in_err-front-clause-reported : goal.returns-in_err-front-clause-reported
+returns-in_err-front-clause-reported c = record {
   found = if_ok c.from_residual.result _ _ c.from_residual.ensures.1;
   within = if_ok c.from_residual.result _ _ c.from_residual.ensures.1;
   unsupported = λ u. is_err c.from_residual.result _ c.from_residual.ensures.1 ∙ ap (λ (e : SearchError). Err e) (same_err (c.in_err-front.ensures.based.unsupported u));
@@ -48,8 +48,8 @@ pub returns-in_default-clause-of : goal.returns-in_default-clause-of
 returns-in_default-clause-of c =
     (c.try_search_fwd_base.ensures.of, c.requires.1)
 
-pub returns-in_default-clause-told : goal.returns-in_default-clause-told
-returns-in_default-clause-told c = record {
+pub returns-in_default-clause-reported : goal.returns-in_default-clause-reported
+returns-in_default-clause-reported c = record {
   found = front_none c.args.self.now.forward c.args.input.now c.in_ok-front.field-0 c.in_ok-front.ensures.based.found c.in_default.is;
   within = search rules;
   unsupported = λ u. absurd (ok_err (c.in_ok-front.ensures.based.unsupported u));
@@ -80,8 +80,8 @@ pub returns-in_err-start-clause-of : goal.returns-in_err-start-clause-of
 returns-in_err-start-clause-of c =
     (c.try_search_fwd_base.ensures.of, c.find_start.ensures.of)
 
-pub returns-in_err-start-clause-told : goal.returns-in_err-start-clause-told
-returns-in_err-start-clause-told c = record {
+pub returns-in_err-start-clause-reported : goal.returns-in_err-start-clause-reported
+returns-in_err-start-clause-reported c = record {
   found = if_ok c.from_residual-in_err-start.result _ _ c.from_residual-in_err-start.ensures.1;
   within = if_ok c.from_residual-in_err-start.result _ _ c.from_residual-in_err-start.ensures.1;
   unsupported = λ u. absurd (ok_err (c.in_ok-front.ensures.based.unsupported u));
@@ -120,8 +120,8 @@ pub returns-in_default-2-clause-refusal : goal.returns-in_default-2-clause-refus
 returns-in_default-2-clause-refusal c =
     inr (inr (refl, ((with_base c.in-Some.front.0 c.in-Some.front.1), (front_some c.args.self.now.forward c.args.input.now c.in_ok-front.field-0 c.in-Some.front.0 c.in-Some.front.1 c.in_ok-front.ensures.based.found c.in-Some.is), subst (IsStartFound c.args.self.now c.args.input.now (with_base c.in-Some.front.0 c.in-Some.front.1)) c.in_default-2.is c.in_ok-start.ensures.found)))
 
-pub returns-in_default-2-clause-told : goal.returns-in_default-2-clause-told
-returns-in_default-2-clause-told c = record {
+pub returns-in_default-2-clause-reported : goal.returns-in_default-2-clause-reported
+returns-in_default-2-clause-reported c = record {
   found = search rules;
   within = search rules;
   unsupported = λ u. absurd (ok_err (c.in_ok-front.ensures.based.unsupported u));
@@ -155,8 +155,8 @@ pub returns-clause-of : goal.returns-clause-of
 returns-clause-of c =
     (c.try_search_fwd_base.ensures.of, c.find_start.ensures.of)
 
-pub returns-clause-told : goal.returns-clause-told
-returns-clause-told c = record {
+pub returns-clause-reported : goal.returns-clause-reported
+returns-clause-reported c = record {
   found = match_of c.args.self.now c.args.input.now (with_base c.in-Some.front.0 c.in-Some.front.1) c.in-Some-2.start c.offset.result c.pattern.result c.new.result (front_some c.args.self.now.forward c.args.input.now c.in_ok-front.field-0 c.in-Some.front.0 c.in-Some.front.1 c.in_ok-front.ensures.based.found c.in-Some.is) (subst (IsStartFound c.args.self.now c.args.input.now (with_base c.in-Some.front.0 c.in-Some.front.1)) c.in-Some-2.is c.in_ok-start.ensures.found) c.pattern.ensures c.offset.ensures c.new.ensures;
   within = match_within c.args.self.now c.args.input.now c.in-Some.front.0 c.in-Some.front.1 c.in-Some-2.start c.offset.result c.pattern.result c.new.result (some_of c.in_ok-front.field-0 c.in-Some.front (λ p. LiesPast c.args.self.now.forward c.args.input.now p.0 p.1) c.in_ok-front.ensures.based.within c.in-Some.is)
       (start_within (c.in-Some.front.1) (c.in-Some.front.0.offset) c.in_ok-start.field-0 c.in-Some-2.start c.in_ok-start.ensures.within c.in-Some-2.is) c.pattern.ensures c.offset.ensures c.new.ensures;

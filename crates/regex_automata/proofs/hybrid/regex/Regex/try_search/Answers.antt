@@ -2,9 +2,9 @@ use Rattle.std.proofs.Common.{subst}
 use Rattle.std.proofs.lemmas.Result.{IfOk-weaker}
 use Rattle.automata_base.specs.Nfas.Nodes.{Automaton}
 use Rattle.automata_base.specs.Answers.Spans.{Found}
-use Rattle.automata_base.specs.Answers.OfPasses.{ToldEndsAreRight, ToldIsRight}
-use Rattle.regex_automata.proofs.Owed.{are_stores, span_owed}
-use Rattle.regex_automata.proofs.Right.{match_right, outcome_right, refusals}
+use Rattle.automata_base.specs.Answers.OfPasses.{ReportedEndsAreRight, ReportedIsRight}
+use Rattle.regex_automata.proofs.Replies.Contracts.{are_stores, span_returned}
+use Rattle.regex_automata.proofs.Spans.ByPaths.{match_right, outcome_right, refusals}
 use Rattle.regex_automata.proofs.hybrid.regex.Regex.try_search.Goals as goal
 
 pub returns-clause-of : goal.returns-clause-of
@@ -12,25 +12,25 @@ returns-clause-of c = c.search-found.ensures.of
 
 pub returns-clause-refusal : goal.returns-clause-refusal
 returns-clause-refusal c =
-    let front = subst (λ (a : Automaton). ToldIsRight a) c.get_nfa.ensures c.told_is_right.ensures.answer in
-    let rear = subst (λ (a : Automaton). ToldIsRight a) c.get_nfa-2.ensures c.told_is_right-2.ensures.answer in
-    let ends = subst (λ (a : Automaton). ToldEndsAreRight a) c.get_nfa-2.ensures c.told_is_right-2.ensures.ends in
+    let front = subst (λ (a : Automaton). ReportedIsRight a) c.get_nfa.ensures c.reported_is_right.ensures.answer in
+    let rear = subst (λ (a : Automaton). ReportedIsRight a) c.get_nfa-2.ensures c.reported_is_right-2.ensures.answer in
+    let ends = subst (λ (a : Automaton). ReportedEndsAreRight a) c.get_nfa-2.ensures c.reported_is_right-2.ensures.ends in
     refusals c.args.self.now front rear ends c.start_is_right.ensures.starts c.start_is_right.ensures.quits c.search-found.new.cache c.args.input.now
-    (c.haystack-haystack.ensures.bytes, c.haystack-haystack.ensures.within.1) c.search-found.result c.search-found.ensures.refusal c.search-found.ensures.told.free
+    (c.haystack-haystack.ensures.bytes, c.haystack-haystack.ensures.within.1) c.search-found.result c.search-found.ensures.refusal c.search-found.ensures.reported.free
 
-pub returns-clause-owed : goal.returns-clause-owed
-returns-clause-owed c =
+pub returns-clause-returned : goal.returns-clause-returned
+returns-clause-returned c =
     let s = c.search-found.ensures in
-    let front = subst (λ (a : Automaton). ToldIsRight a) c.get_nfa.ensures c.told_is_right.ensures.answer in
-    let rear = subst (λ (a : Automaton). ToldIsRight a) c.get_nfa-2.ensures c.told_is_right-2.ensures.answer in
-    let ends = subst (λ (a : Automaton). ToldEndsAreRight a) c.get_nfa-2.ensures c.told_is_right-2.ensures.ends in
-    span_owed c.args.self.now c.args.input.now c.search-found.result c.search-found.new.cache
+    let front = subst (λ (a : Automaton). ReportedIsRight a) c.get_nfa.ensures c.reported_is_right.ensures.answer in
+    let rear = subst (λ (a : Automaton). ReportedIsRight a) c.get_nfa-2.ensures c.reported_is_right-2.ensures.answer in
+    let ends = subst (λ (a : Automaton). ReportedEndsAreRight a) c.get_nfa-2.ensures c.reported_is_right-2.ensures.ends in
+    span_returned c.args.self.now c.args.input.now c.search-found.result c.search-found.new.cache
     (are_stores c.search-found.new.cache c.args.self.now s.of c.see_bounds.ensures.forward c.see_bounds.ensures.reverse)
-    s.told
+    s.reported
     (λ acyclic. IfOk-weaker c.search-found.result _ _
     (λ o found. outcome_right c.args.self.now front rear c.args.input.now (Found o) acyclic (c.haystack-haystack.ensures.bytes, c.haystack-haystack.ensures.within.1) found)
-    s.told.found)
+    s.reported.found)
     (λ sound. IfOk-weaker c.search-found.result _ _
     (match_right c.args.self.now front ends c.start_is_right.ensures.starts sound c.args.input.now (c.haystack-haystack.ensures.bytes, c.haystack-haystack.ensures.within.1))
-    s.told.found)
+    s.reported.found)
     (returns-clause-refusal c)

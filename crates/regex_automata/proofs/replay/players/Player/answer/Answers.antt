@@ -8,7 +8,7 @@ use Rattle.regex_automata.specs.declared.hybrid.regex.caches.Cache.{Cache}
 use Rattle.regex_automata.specs.declared.replay.requests.Request.{Request}
 use Rattle.regex_automata.specs.declared.replay.requests.Request.TheVariants as request
 use Rattle.regex_automata.specs.declared.replay.requests.Reply.TheVariants as reply
-use Rattle.regex_automata.proofs.Replying.{is_made, is_own}
+use Rattle.regex_automata.proofs.Replies.Histories.{is_made, is_own}
 use Rattle.regex_automata.proofs.replay.players.Player.answer.Goals as goal
 
 pub returns-in-Which-clause-reply : goal.returns-in-Which-clause-reply
@@ -17,21 +17,21 @@ returns-in-Which-clause-reply c = λ h a.
     let answer = reply.Patterns c.patterns_below-found.result.0 c.patterns_below-found.result.1 in
     subst (λ (q : Request). IsReply s.regexes.now h q answer) (sym c.in-Which.is)
     (is_own s.regexes.now h (request.Which c.in-Which.capacity c.in-Which.input) answer s.regex.now a.regex refl
-    (subst (λ (m : Machine). ArePatternsUpto m c.in-Which.input c.in-Which.capacity c.patterns_below-found.result.0.items c.patterns_below-found.result.1) c.forward-in-Which.ensures c.patterns_below-found.ensures.owed))
+    (subst (λ (m : Machine). ArePatternsUpto m c.in-Which.input c.in-Which.capacity c.patterns_below-found.result.0.items c.patterns_below-found.result.1) c.forward-in-Which.ensures c.patterns_below-found.ensures.returned))
 
 pub returns-in-Find-clause-reply : goal.returns-in-Find-clause-reply
 returns-in-Find-clause-reply c = λ h a.
     let s = c.args.self.now in
     let answer = reply.Span c.find.result in
     subst (λ (q : Request). IsReply s.regexes.now h q answer) (sym c.in-Find.is)
-    (is_own s.regexes.now h (request.Find c.in-Find.input) answer s.regex.now a.regex refl c.find.ensures.owed)
+    (is_own s.regexes.now h (request.Find c.in-Find.input) answer s.regex.now a.regex refl c.find.ensures.returned)
 
 pub returns-in-IsMatch-clause-reply : goal.returns-in-IsMatch-clause-reply
 returns-in-IsMatch-clause-reply c = λ h a.
     let s = c.args.self.now in
     let answer = reply.Truth c.is_match.result in
     subst (λ (q : Request). IsReply s.regexes.now h q answer) (sym c.in-IsMatch.is)
-    (is_own s.regexes.now h (request.IsMatch c.in-IsMatch.input) answer s.regex.now a.regex refl c.is_match.ensures.owed)
+    (is_own s.regexes.now h (request.IsMatch c.in-IsMatch.input) answer s.regex.now a.regex refl c.is_match.ensures.returned)
 
 pub returns-in-Which-clause-made : goal.returns-in-Which-clause-made
 returns-in-Which-clause-made c = λ h a.

@@ -1,7 +1,7 @@
 use Rattle.std.proofs.Common.{refl, sym, subst, ◌∙◌, List, ◌++◌, ◌∷◌, []}
-use Rattle.regex_automata.proofs.Replying.{is_own}
-use Rattle.regex_automata.proofs.WalkCalls.{fresh_answered}
-use Rattle.regex_automata.proofs.KeptWalks.{walks_push, length-walks}
+use Rattle.regex_automata.proofs.Replies.Histories.{is_own}
+use Rattle.regex_automata.proofs.Replies.WalkCalls.{fresh_answered}
+use Rattle.regex_automata.proofs.Replies.KeptWalks.{walks_push, length-walks}
 use Rattle.regex_automata.specs.Replay.Replies.{dfa_of, direction_of}
 use Rattle.regex_automata.specs.Replay.Players.{AreWalks}
 use Rattle.regex_automata.specs.declared.replay.walks.KeptWalk.{KeptWalk}
@@ -15,6 +15,6 @@ returns-clause-at c = λ h a. record {
   current = a.current;
   regex = a.regex;
   of = a.of;
-  walks = subst (λ (ks : List KeptWalk). AreWalks c.args.self.now.regexes.now (h.walks ++ record { regex = h.current; reverse = c.args.reverse; input = c.args.input.now; told = 0 } ∷ []) ks) (sym c.in-Ok.ensures.items)
-      (walks_push c.args.self.now.regexes.now h.walks c.args.self.now.walks.items _ _ a.walks (record { regex = a.current; reverse = refl; input = c.same.ensures; told = λ r at. fresh_answered (direction_of c.args.reverse) (dfa_of c.args.reverse r) c.same.result c.start.result c.start.ensures }));
+  walks = subst (λ (ks : List KeptWalk). AreWalks c.args.self.now.regexes.now (h.walks ++ record { regex = h.current; reverse = c.args.reverse; input = c.args.input.now; reported = 0 } ∷ []) ks) (sym c.in-Ok.ensures.items)
+      (walks_push c.args.self.now.regexes.now h.walks c.args.self.now.walks.items _ _ a.walks (record { regex = a.current; reverse = refl; input = c.same.ensures; reported = λ r at. fresh_answered (direction_of c.args.reverse) (dfa_of c.args.reverse r) c.same.result c.start.result c.start.ensures }));
 }

@@ -1,4 +1,4 @@
-use Rattle.regex_automata.proofs.Replying.{refused_reset}
+use Rattle.regex_automata.proofs.Replies.Histories.{refused_reset}
 use Rattle.regex_automata.proofs.replay.players.Player.reset.Goals as goal
 
 pub returns-in-Err-clause-reply : goal.returns-in-Err-clause-reply

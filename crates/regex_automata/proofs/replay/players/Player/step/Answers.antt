@@ -1,7 +1,7 @@
 use Rattle.std.proofs.Common.{◌≡◌, ◌<◌, List, length, get_or, ap, refl, sym, ◌∙◌, arith, rules}
 use Rattle.std.proofs.lemmas.Grind.{common_steps}
 use Rattle.regex_automata.specs.declared.replay.walks.KeptWalk.{KeptWalk}
-use Rattle.regex_automata.proofs.WalkReplies.{told_at, no_walk_reply, other_reply, step_made, step_reply, at_stepped}
+use Rattle.regex_automata.proofs.Replies.WalkReplies.{reported_at, no_walk_reply, other_reply, step_made, step_reply, at_stepped}
 use Rattle.regex_automata.proofs.replay.players.Player.step.Goals as goal
 
 pub returns-in-None-clause-reply : goal.returns-in-None-clause-reply
@@ -10,12 +10,12 @@ returns-in-None-clause-reply c = λ h a. no_walk_reply h c.args.self.now _ a (se
 pub returns-then-of-self-clause-reply : goal.returns-then-of-self-clause-reply
 returns-then-of-self-clause-reply c = λ h a. other_reply h c.args.self.now _ c.in-Some.walk.now a (search rules) (search rules) c.if-of-self.true
 
-pub step_at-requires-clause-told : goal.step_at-requires-clause-told
-step_at-requires-clause-told c = λ old is.
+pub step_at-requires-clause-reported : goal.step_at-requires-clause-reported
+step_at-requires-clause-reported c = λ old is.
     let s = c.args.self.now in
     let lt : c.args.number < length s.walks.items = search rules in
     let at : c.in-Some.walk.now ≡ get_or s.walks.items c.args.number c.in-Some.walk.now = search rules in
-    told_at c.requires.0 s c.args.number c.in-Some.walk.now old c.deref_mut.result.now c.deref_mut.ensures.value c.requires.1 lt at c.if-of-self.false is
+    reported_at c.requires.0 s c.args.number c.in-Some.walk.now old c.deref_mut.result.now c.deref_mut.ensures.value c.requires.1 lt at c.if-of-self.false is
 
 pub returns-clause-reply : goal.returns-clause-reply
 returns-clause-reply c = λ h a.

@@ -1,6 +1,6 @@
 use Rattle.std.proofs.Common.{ap, ◌∙◌}
 use Rattle.automata_base.specs.Nfas.Drafts.{Draft}
-use Rattle.automata_base.proofs.Building.Refusals.{states_built, ok_unrefused, err_refused, err_memory, err_either}
+use Rattle.automata_base.proofs.Nfas.Building.Refusals.{states_built, ok_unrefused, err_refused, err_memory, err_either}
 use Rattle.automata_base.proofs.nfa.thompson.builder.Builder.build.Goals as goal
 
 pub returns-in-Ok-nfa-clause-refused : goal.returns-in-Ok-nfa-clause-refused

@@ -1,6 +1,6 @@
 use Rattle.std.proofs.Common.{◌<◌, length, ap, ◌∙◌, arith}
 use Rattle.automata_base.specs.Nfas.Shapes.{patched}
-use Rattle.automata_base.proofs.Building.Patches.{draft_read, draft_patched, draft_same}
+use Rattle.automata_base.proofs.Nfas.Building.Patches.{draft_read, draft_patched, draft_same}
 use Rattle.automata_base.proofs.nfa.thompson.builder.Builder.patch.Goals as goal
 
 pub returns-clause-patched : goal.returns-clause-patched

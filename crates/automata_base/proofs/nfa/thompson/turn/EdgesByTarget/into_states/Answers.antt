@@ -2,7 +2,7 @@ use Rattle.std.proofs.Common.{◌≡◌, sym, ◌∙◌}
 use Rattle.std.proofs.lemmas.List.{map-id}
 use Rattle.std.proofs.lemmas.Iterator.Adapters.{YieldsList-from_vec}
 use Rattle.std.proofs.lemmas.Iterator.Consumers.{YieldsList-end}
-use Rattle.automata_base.proofs.Mirrors.Lists.{heads_step, made_is}
+use Rattle.automata_base.proofs.Nfas.Mirrors.Lists.{heads_step, made_is}
 use Rattle.automata_base.proofs.nfa.thompson.turn.EdgesByTarget.into_states.Goals as goal
 
 pub loop-alternates-preserved : goal.loop-alternates-preserved

@@ -1,6 +1,6 @@
 use Rattle.std.proofs.Common.{[], ◌∷◌, ◌++◌, ◌+◌, length, length-append, ap, ap₂, sym, ◌∙◌}
 use Rattle.automata_base.specs.Retraced.ReversedEdges.{lists_of}
-use Rattle.automata_base.proofs.Mirrors.Lists.{lists_append, none_more}
+use Rattle.automata_base.proofs.Nfas.Mirrors.Lists.{lists_append, none_more}
 use Rattle.automata_base.proofs.nfa.thompson.turn.EdgesByTarget.new.Goals as goal
 
 pub loop-i-preserved : goal.loop-i-preserved

@@ -1,6 +1,6 @@
 use Rattle.std.proofs.Common.{◌≡◌, ◌+◌, ◌∙◌, leb, length, sym, arith}
 use Rattle.automata_base.specs.Retraced.ReversedEdges.{lists_of}
-use Rattle.automata_base.proofs.Mirrors.Lists.{lists_length, some_id, none_large}
+use Rattle.automata_base.proofs.Nfas.Mirrors.Lists.{lists_length, some_id, none_large}
 use Rattle.automata_base.proofs.nfa.thompson.turn.EdgesByTarget.next_helper.Goals as goal
 
 pub returns-clause-some : goal.returns-clause-some

@@ -1,7 +1,7 @@
 use Rattle.std.proofs.Common.{arith}
 use Rattle.automata_base.specs.Retraced.ReversedEdges.{turns_of}
-use Rattle.automata_base.proofs.Mirrors.Lists.{nothing}
-use Rattle.automata_base.proofs.Mirrors.Sizes.{size_by}
+use Rattle.automata_base.proofs.Nfas.Mirrors.Lists.{nothing}
+use Rattle.automata_base.proofs.Nfas.Mirrors.Sizes.{size_by}
 use Rattle.automata_base.proofs.nfa.thompson.turn.EdgesByTarget.turn_by.Goals as goal
 
 pub returns-in_default-clause-large : goal.returns-in_default-clause-large

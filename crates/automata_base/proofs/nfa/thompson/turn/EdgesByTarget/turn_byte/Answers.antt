@@ -1,8 +1,8 @@
 use Rattle.std.proofs.Common.{◌<◌, length, get_or, ap, subst, arith}
 use Rattle.automata_base.specs.Retraced.ReversedEdges.{turns_of}
-use Rattle.automata_base.proofs.Mirrors.Byte.{at_default, run_next, run_stays, run_large}
-use Rattle.automata_base.proofs.Mirrors.Lists.{err_is}
-use Rattle.automata_base.proofs.Reaching.Adding.{id_below}
+use Rattle.automata_base.proofs.Nfas.Mirrors.Byte.{at_default, run_next, run_stays, run_large}
+use Rattle.automata_base.proofs.Nfas.Mirrors.Lists.{err_is}
+use Rattle.automata_base.proofs.Nfas.Reach.Adding.{id_below}
 use Rattle.automata_base.proofs.nfa.thompson.turn.EdgesByTarget.turn_byte.Goals as goal
 
 pub turn_run-requires : goal.turn_run-requires

@@ -1,9 +1,9 @@
 use Rattle.std.proofs.Common.{ap, ◌∙◌}
 use Rattle.automata_base.specs.Nfas.Errors.{transitions_below}
 use Rattle.automata_base.specs.Retraced.ReversedEdges.{turns_of, turn_ranges}
-use Rattle.automata_base.proofs.Mirrors.Byte.{ranges_large}
-use Rattle.automata_base.proofs.Mirrors.Lists.{err_is}
-use Rattle.automata_base.proofs.Reaching.Adding.{next_below}
+use Rattle.automata_base.proofs.Nfas.Mirrors.Byte.{ranges_large}
+use Rattle.automata_base.proofs.Nfas.Mirrors.Lists.{err_is}
+use Rattle.automata_base.proofs.Nfas.Reach.Adding.{next_below}
 use Rattle.automata_base.proofs.nfa.thompson.turn.EdgesByTarget.turn_ranges.Goals as goal
 
 pub turn_range-requires : goal.turn_range-requires

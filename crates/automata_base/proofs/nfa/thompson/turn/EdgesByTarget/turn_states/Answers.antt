@@ -1,9 +1,9 @@
 use Rattle.std.proofs.Common.{◌<◌, length, ap, ◌∙◌, arith}
 use Rattle.automata_base.specs.Nfas.Errors.{states_below}
 use Rattle.automata_base.specs.Retraced.ReversedEdges.{turns_of, turn_states}
-use Rattle.automata_base.proofs.Mirrors.Lists.{err_is, states_next}
-use Rattle.automata_base.proofs.Mirrors.Sizes.{state_large}
-use Rattle.automata_base.proofs.Reaching.Adding.{id_below, state_at_below}
+use Rattle.automata_base.proofs.Nfas.Mirrors.Lists.{err_is, states_next}
+use Rattle.automata_base.proofs.Nfas.Mirrors.Sizes.{state_large}
+use Rattle.automata_base.proofs.Nfas.Reach.Adding.{id_below, state_at_below}
 use Rattle.automata_base.proofs.nfa.thompson.turn.EdgesByTarget.turn_states.Goals as goal
 
 pub bounds-states-as_usize : goal.bounds-states-as_usize

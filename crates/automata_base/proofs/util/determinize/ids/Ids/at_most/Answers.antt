@@ -1,6 +1,6 @@
 use Rattle.std.proofs.Common.{arith, subst, ◌≤◌, List, ℕ, length}
 use Rattle.automata_base.specs.Powersets.Code.{numbers, ids_of}
-use Rattle.automata_base.proofs.Coding.Groups.{length-ids_of, length-numbers_most}
+use Rattle.automata_base.proofs.Powersets.Code.Groups.{length-ids_of, length-numbers_most}
 use Rattle.automata_base.proofs.util.determinize.ids.Ids.at_most.Goals as goal
 
 pub returns : goal.returns

@@ -1,7 +1,7 @@
 use Rattle.std.proofs.Common.{rules, arith, ◌≡◌, ℕ, ◌<◌, length, List, ◌∷◌, ap, sym, ◌∙◌, subst}
 use Rattle.automata_base.specs.Powersets.Code.{AreIds, ids_of, numbers, id_at}
 use Rattle.automata_base.specs.Powersets.Powerset.{IsId}
-use Rattle.automata_base.proofs.Coding.Groups.{reads, nothing_left, fewer}
+use Rattle.automata_base.proofs.Powersets.Code.Groups.{reads, nothing_left, fewer}
 use Rattle.automata_base.proofs.util.determinize.ids.IdsIterator.next.Goals as goal
 
 pub returns-then-is_empty-clause-steps : goal.returns-then-is_empty-clause-steps

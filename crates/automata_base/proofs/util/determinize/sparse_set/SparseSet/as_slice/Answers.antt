@@ -2,8 +2,8 @@ use Rattle.std.proofs.Common.{subst, ℕ, ◌<◌}
 use Rattle.automata_base.specs.Lists.{In}
 use Rattle.automata_base.specs.Powersets.Members.{Members}
 use Rattle.automata_base.specs.Retraced.Once.{Distinct}
-use Rattle.automata_base.proofs.Determinizing.Holding.{members_below}
-use Rattle.automata_base.proofs.Mirrors.Copies.{members_distinct}
+use Rattle.automata_base.proofs.Powersets.Holding.{members_below}
+use Rattle.automata_base.proofs.Nfas.Mirrors.Copies.{members_distinct}
 use Rattle.automata_base.proofs.util.determinize.sparse_set.SparseSet.as_slice.Goals as goal
 
 pub returns-clause-below : goal.returns-clause-below

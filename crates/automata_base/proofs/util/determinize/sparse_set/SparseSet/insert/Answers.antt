@@ -1,5 +1,5 @@
 use Rattle.std.proofs.Common.{rules, arith, ℕ, ◌≡◌, ◌+◌, ◌<◌, ◌≤◌, length, set, get_or, sym, subst}
-use Rattle.automata_base.proofs.Determinizing.Sparsely.{room, below_more, back_more, items_more, lengths_more}
+use Rattle.automata_base.proofs.Powersets.Sparsely.{room, below_more, back_more, items_more, lengths_more}
 use Rattle.automata_base.proofs.util.determinize.sparse_set.SparseSet.insert.Goals as goal
 
 pub index_mut-requires : goal.index_mut-requires

@@ -3,7 +3,7 @@ use Rattle.std.proofs.lemmas.List.{get_or_default}
 use Rattle.automata_base.specs.Lists.{In}
 use Rattle.automata_base.specs.Powersets.Members.{Members}
 use Rattle.automata_base.specs.Retraced.ReversedEdges.{place_in}
-use Rattle.automata_base.proofs.Mirrors.Copies.{at_place, sparse_place}
+use Rattle.automata_base.proofs.Nfas.Mirrors.Copies.{at_place, sparse_place}
 use Rattle.automata_base.proofs.util.determinize.sparse_set.SparseSet.place.Goals as goal
 
 pub index-requires : goal.index-requires

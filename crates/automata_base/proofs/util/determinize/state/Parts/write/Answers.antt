@@ -4,7 +4,7 @@ use Rattle.std.proofs.lemmas.List.Elements.{recursion_from_All}
 use Rattle.automata_base.specs.Powersets.Code.{decoded}
 use Rattle.automata_base.specs.Powersets.Powerset.{IsPowerset, IsId}
 use Rattle.automata_base.specs.Powersets.Parts.{powerset_of}
-use Rattle.automata_base.proofs.Coding.Inverse.{count_fits, IsCode-code, decoded-code}
+use Rattle.automata_base.proofs.Powersets.Code.Inverse.{count_fits, IsCode-code, decoded-code}
 use Rattle.automata_base.proofs.util.determinize.state.Parts.write.Goals as goal
 
 pub push_state-requires : goal.push_state-requires

@@ -1,6 +1,6 @@
 use Rattle.std.proofs.Common.{arith, ap, sym, ◌∙◌, length}
 use Rattle.automata_base.specs.Powersets.Code.{code}
-use Rattle.automata_base.proofs.Coding.Inverse.{length-code}
+use Rattle.automata_base.proofs.Powersets.Code.Inverse.{length-code}
 use Rattle.automata_base.proofs.util.determinize.state.State.as_bytes.Goals as goal
 
 pub returns-clause-bytes : goal.returns-clause-bytes

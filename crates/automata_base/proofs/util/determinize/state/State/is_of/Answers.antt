@@ -1,7 +1,7 @@
 use Rattle.std.proofs.Common.{◌≡◌, ◌∙◌, length, ap, sym, List}
 use Rattle.automata_base.specs.declared.nfa.thompson.State.{State}
 use Rattle.automata_base.specs.Lists.{all_below}
-use Rattle.automata_base.proofs.Determinizing.Belows.{all_below_from}
+use Rattle.automata_base.proofs.Powersets.Belows.{all_below_from}
 use Rattle.automata_base.proofs.Paths.Checked.{below_in}
 use Rattle.automata_base.proofs.util.determinize.state.State.is_of.Goals as goal
 

@@ -1,7 +1,7 @@
 use Rattle.std.proofs.Common.{sym, ◌∙◌, ap, subst, List, ℕ}
 use Rattle.automata_base.specs.Powersets.Powerset.{Powerset}
 use Rattle.automata_base.specs.Powersets.Code.{AreIds, ids_bytes, ids_of, numbers}
-use Rattle.automata_base.proofs.Coding.Reading.{ids_are}
+use Rattle.automata_base.proofs.Powersets.Code.Reading.{ids_are}
 use Rattle.automata_base.proofs.util.determinize.state.State.nfa.Goals as goal
 
 pub new-requires : goal.new-requires

@@ -1,7 +1,7 @@
 use Rattle.std.proofs.Common.{sym, ◌∙◌, ap, List, ℕ, length}
 use Rattle.automata_base.specs.Powersets.Powerset.{Powerset}
 use Rattle.automata_base.specs.Powersets.Code.{ids_bytes, numbers}
-use Rattle.automata_base.proofs.Coding.Groups.{length-ids_of}
+use Rattle.automata_base.proofs.Powersets.Code.Groups.{length-ids_of}
 use Rattle.automata_base.proofs.util.determinize.state.State.nfa_len.Goals as goal
 
 pub returns : goal.returns

@@ -1,4 +1,4 @@
-use Rattle.regex_automata.proofs.Reversing.{sound_is}
+use Rattle.regex_automata.proofs.Regexes.Reversals.{sound_is}
 use Rattle.regex_automata.proofs.hybrid.regex.build.Builder.build_from_nfa.Goals as goal
 
 pub returns-in-Ok-build_from_nfas-clause-sound : goal.returns-in-Ok-build_from_nfas-clause-sound

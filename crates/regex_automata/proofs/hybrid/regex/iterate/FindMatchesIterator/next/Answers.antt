@@ -3,12 +3,12 @@ use Rattle.std.specs.Prelude.{Ok, Err}
 use Rattle.automata_base.specs.Haystacks.Input.{Input}
 use Rattle.automata_base.specs.Answers.Spans.{from}
 use Rattle.regex_automata.specs.Spans.Iteration.{AreCostsTwice, GoesPast, IsNextMatch, IsNextRefusal, input_at}
-use Rattle.regex_automata.proofs.Items.{fewer_left, gives_error, gives_match, gives_none, learns_next, lies_in_haystack, some_left}
-use Rattle.regex_automata.proofs.Items.{tells_error, tells_found}
-use Rattle.regex_automata.proofs.Leaving.{item_error, item_match, item_none}
-use Rattle.regex_automata.proofs.Nexts.{some_of}
+use Rattle.regex_automata.proofs.Spans.Items.{fewer_left, gives_error, gives_match, gives_none, learns_next, lies_in_haystack, some_left}
+use Rattle.regex_automata.proofs.Spans.Items.{reports_error, reports_found}
+use Rattle.regex_automata.proofs.Spans.Progress.{item_error, item_match, item_none}
+use Rattle.regex_automata.proofs.Spans.NextMatches.{some_of}
 use Rattle.regex_automata.proofs.hybrid.regex.iterate.FindMatchesIterator.next.Goals as goal
-use Rattle.automata_hybrid.proofs.Searching.{false_true}
+use Rattle.automata_hybrid.proofs.Searches.PassState.{false_true}
 
 pub returns-in-Ok-Some-clause-steps : goal.returns-in-Ok-Some-clause-steps
 returns-in-Ok-Some-clause-steps c =
@@ -28,7 +28,7 @@ returns-in-Ok-Some-clause-steps c =
             c.in-Ok-Some.ensures.effect.known (λ nothing good. c.in-Ok-Some.ensures.effect.learned nothing);
         progress = item_match s.regex.now c.input-input.result now s.last s.cache.now c.next_match.new.cache c.input-input.ensures s.ended c.in-Ok-Some.field-0 c.in-Ok-Some.found c.if-self.false c.in-Ok-Some.field-0-is c.in-Ok-Some.ensures.effect.ended;
       },
-      tells_found s.regex.now c.input-input.result now s.ended _ (Some (Ok c.in-Ok-Some.found)) c.input-input.ensures c.in-Ok-Some.ensures.unsupported,
+      reports_found s.regex.now c.input-input.result now s.ended _ (Some (Ok c.in-Ok-Some.found)) c.input-input.ensures c.in-Ok-Some.ensures.unsupported,
       refl,
       lies_in_haystack s.regex.now now c.in-Ok-Some.found goes.0 s.within.1,
     )
@@ -59,7 +59,7 @@ returns-in-Err-clause-steps c =
             c.in-Err.ensures.effect.known (λ nothing good. absurd (false_true good));
         progress = item_error s.regex.now c.input-input.result now s.last s.cache.now c.next_match.new.cache c.input-input.ensures s.ended c.in-Err.error c.if-self.false c.in-Err.ensures.effect.left;
       },
-      tells_error s.regex.now c.input-input.result now s.ended c.in-Err.error c.input-input.ensures c.in-Err.ensures.unsupported,
+      reports_error s.regex.now c.input-input.result now s.ended c.in-Err.error c.input-input.ensures c.in-Err.ensures.unsupported,
       refl,
       tt,
     )
@@ -87,7 +87,7 @@ returns-in-Ok-None-clause-steps c =
             c.in-Ok-None.ensures.effect.known (λ nothing good. c.in-Ok-None.ensures.effect.learned nothing);
         progress = item_none s.regex.now c.input-input.result now s.last s.cache.now c.next_match.new.cache c.input-input.ensures s.ended c.in-Ok-None.field-0 c.if-self.false c.in-Ok-None.field-0-is c.in-Ok-None.ensures.effect.ended;
       },
-      tells_found s.regex.now c.input-input.result now s.ended _ None c.input-input.ensures c.in-Ok-None.ensures.unsupported,
+      reports_found s.regex.now c.input-input.result now s.ended _ None c.input-input.ensures c.in-Ok-None.ensures.unsupported,
       refl,
       tt,
     )

@@ -1,0 +1,77 @@
+-- A path of one tape is one of another that has the same bytes as far as the path goes.
+use Rattle.std.proofs.Common.{ℕ, suc, ◌≡◌, ◌<◌, ◌≤◌, ◌+◌, ◌-◌, true, List, [], ◌∷◌, length, inl, inr, sym, ap, ◌∙◌}
+use Rattle.std.proofs.Common.{subst, arith}
+use Rattle.automata_base.specs.Haystacks.Looks.{holds}
+use Rattle.automata_base.specs.Lists.{nth}
+use Rattle.automata_base.specs.Nfas.Nfa.{Nfa}
+use Rattle.automata_base.specs.Paths.Paths.{Tape, prev, next, truth, IsPathFrom}
+use Rattle.automata_base.proofs.Paths.Walks.{hop_more}
+use Rattle.automata_base.proofs.Paths.Places.{path_grows}
+use Rattle.automata_base.specs.Haystacks.Tapes.{forward_tape, reverse_tape, byte_before}
+use Rattle.automata_base.proofs.Answers.Bytes.{forward_next, forward_prev, forward_byte, reverse_next, reverse_prev}
+use Rattle.automata_base.proofs.Answers.Bytes.{reverse_byte}
+use Rattle.automata_base.proofs.Paths.Included.{Includes}
+
+-- Place `i` of `t` and place `i'` of `t'` are one if `a + i ≡ b + i'`; up to place `m` of `t` the two show the same.
+abbrev pub AreAlike : Tape → Tape → (a b m : ℕ) → Type 0
+AreAlike t t' a b m =
+    (i i' : ℕ) → a + i ≡ b + i' → i ≤ m
+    → (prev t i ≡ prev t' i') × (next t i ≡ next t' i') × (i < m → nth t.bytes i ≡ nth t'.bytes i')
+
+truth_same :
+    (n : Nfa) (t t' : Tape) (i i' : ℕ) → prev t i ≡ prev t' i' → next t i ≡ next t' i'
+    → Includes (truth n t i) (truth n t' i')
+truth_same n t t' i i' p q look h =
+    subst (λ v. holds n.terminator n.reverse look (prev t' i') v ≡ true) q
+    (subst (λ v. holds n.terminator n.reverse look v (next t i) ≡ true) p h)
+
+pub path_alike :
+    (n : Nfa) (t t' : Tape) (a b m : ℕ) → AreAlike t t' a b m
+    → (i i' : ℕ) (seen : List ℕ) (q : ℕ) (p : List ℕ) (j j' z : ℕ)
+    → a + i ≡ b + i' → a + j ≡ b + j' → j ≤ m
+    → IsPathFrom n t i seen q p j z → IsPathFrom n t' i' seen q p j' z
+path_alike n t t' a b m f i i' seen q [] j j' z c d l h = (let k = h.0 in omega (arith, c, d, k), h.1)
+path_alike n t t' a b m f i i' seen q (e ∷ p) j j' z c d l (inl h) =
+    let g = path_grows n t i (q ∷ seen) h.0 p j z h.3 in
+    let s = f i i' c (omega (arith, l, g)) in
+    inl (
+      h.0,
+      hop_more n (truth n t i) (truth n t' i') q e h.0 (truth_same n t t' i i' s.0 s.1) h.1,
+      h.2,
+      path_alike n t t' a b m f i i' (q ∷ seen) h.0 p j j' z c d l h.3,
+    )
+path_alike n t t' a b m f i i' seen q (e ∷ p) j j' z c d l (inr h) =
+    let g = path_grows n t (suc i) [] h.0 p j z h.3 in
+    let s = f i i' c (omega (arith, l, g)) in
+    inr (
+      h.0,
+      h.1,
+      (h.2.0, sym (s.2 (omega (arith, l, g))) ∙ h.2.1, h.2.2),
+      path_alike n t t' a b m f (suc i) (suc i') [] h.0 p j j' z (omega (arith, c)) d l h.3,
+    )
+
+-- Two forward tapes of a haystack, up to the offset `m` to which both go.
+pub forward_alike :
+    (h : List ℕ) (s e s' e' m : ℕ) → s + m ≤ e → s + m ≤ e' → e ≤ length h → e' ≤ length h
+    → AreAlike (forward_tape h s e) (forward_tape h s' e') s s' m
+forward_alike h s e s' e' m k k' l l' i i' c b = (
+  forward_prev h s e i (omega (arith, k, b))
+      ∙ (ap (λ v. byte_before h v) c ∙ sym (forward_prev h s' e' i' (omega (arith, k', c, b)))),
+  forward_next h s e i (omega (arith, k, b)) l
+      ∙ (ap (λ v. nth h v) c ∙ sym (forward_next h s' e' i' (omega (arith, k', c, b)) l')),
+  λ d. forward_byte h s e i (omega (arith, k, d))
+      ∙ (ap (λ v. nth h v) c ∙ sym (forward_byte h s' e' i' (omega (arith, k', c, d)))),
+)
+
+-- Two reverse tapes from one end.
+pub reverse_alike :
+    (h : List ℕ) (s s' e m : ℕ) → s + m ≤ e → s' + m ≤ e → e ≤ length h
+    → AreAlike (reverse_tape h s e) (reverse_tape h s' e) 0 0 m
+reverse_alike h s s' e m k k' l i i' c b = (
+  reverse_prev h s e i (e - i) (omega (arith, k, b)) (omega (arith, k, b)) l
+      ∙ sym (reverse_prev h s' e i' (e - i) (omega (arith, k', b, c)) (omega (arith, k', b, c)) l),
+  reverse_next h s e i (e - i) (omega (arith, k, b)) (omega (arith, k, b)) l
+      ∙ sym (reverse_next h s' e i' (e - i) (omega (arith, k', b, c)) (omega (arith, k', b, c)) l),
+  λ d. reverse_byte h s e i (e - suc i) (omega (arith, k, d)) (omega (arith, k, d)) l
+      ∙ sym (reverse_byte h s' e i' (e - suc i) (omega (arith, k', d, c)) (omega (arith, k', d, c)) l),
+)

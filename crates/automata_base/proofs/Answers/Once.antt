@@ -1,0 +1,269 @@
+-- Searches have one answer, and spans have one start.
+use Rattle.std.proofs.Common.{ℕ, suc, ◌≡◌, ◌<◌, ◌+◌, Bool, true, false, List, [], ◌∷◌, ◌++◌, ◌⊎◌, Option, Some, None}
+use Rattle.std.proofs.Common.{is_some, inl, inr, refl, sym, ap, ap₂, ◌∙◌, subst, arith, ⊎_elim}
+use Rattle.automata_base.specs.Paths.Order.{Begins}
+use Rattle.automata_base.specs.Nfas.Nfa.{Nfa, accepts}
+use Rattle.automata_base.specs.Paths.Paths.{Tape, IsPath}
+use Rattle.automata_base.specs.Powersets.Cuts.{MatchKind, All, LeftmostFirst}
+use Rattle.automata_base.specs.Paths.Selections.{Accepts, Pair, IsChosen, Selects}
+use Rattle.automata_base.proofs.Paths.Orders.{some_inj, cons_head, cons_tail}
+use Rattle.automata_base.specs.Answers.Spans.{IsPathStart, Chooses, IsSpan, in_full, IsMatch, from, IsEmptyAt}
+use Rattle.automata_base.specs.Answers.Spans.{IsNextItem, AreMatches, AreSpans}
+use Rattle.automata_base.specs.Haystacks.Matches.{Match}
+use Rattle.automata_base.proofs.Paths.Places.{path_end}
+use Rattle.automata_base.specs.Haystacks.Tapes.{Direction, Forward, tape_of, forward_tape}
+use Rattle.automata_base.specs.Nfas.Engines.{Engine, Anchored, No, Yes, Pattern, first_state, IsSkipping}
+use Rattle.automata_base.specs.Answers.Answers.{Half, SelectsFrom, SelectsOver, later, IsAnswer}
+use Rattle.automata_base.specs.Haystacks.Input.{Input}
+use Rattle.automata_base.proofs.Answers.Answered.{answers_once}
+use Rattle.automata_base.proofs.Answers.Starts.{no_pair}
+use Rattle.automata_base.proofs.Answers.Tried.{ComesTo, IsSplitAnswer}
+use Rattle.automata_base.proofs.Paths.Unique.{upto_both}
+
+pub chosen_once :
+    (kind : MatchKind) (earliest : Bool) (i j : ℕ) (path other : List ℕ)
+    → IsChosen kind earliest i path j other → IsChosen kind earliest j other i path → path ≡ other
+chosen_once All true i j path other (inl h) (inl k) = absurd (omega (arith, h, k))
+chosen_once All true i j path other (inl h) (inr k) = absurd (omega (arith, h, k.0))
+chosen_once All true i j path other (inr h) (inl k) = absurd (omega (arith, h.0, k))
+chosen_once All true i j path other (inr h) (inr k) = upto_both path other h.1 k.1
+chosen_once LeftmostFirst true i j path other (inl h) (inl k) = absurd (omega (arith, h, k))
+chosen_once LeftmostFirst true i j path other (inl h) (inr k) = absurd (omega (arith, h, k.0))
+chosen_once LeftmostFirst true i j path other (inr h) (inl k) = absurd (omega (arith, h.0, k))
+chosen_once LeftmostFirst true i j path other (inr h) (inr k) = upto_both path other h.1 k.1
+chosen_once LeftmostFirst false i j path other h k = upto_both path other h k
+chosen_once All false i j path other (inl h) (inl k) = absurd (omega (arith, h, k))
+chosen_once All false i j path other (inl h) (inr k) = absurd (omega (arith, h, k.0))
+chosen_once All false i j path other (inr h) (inl k) = absurd (omega (arith, h.0, k))
+chosen_once All false i j path other (inr h) (inr k) = upto_both path other h.1 k.1
+
+-- One path accepts one pattern at one place.
+pub accepting_once :
+    (n : Nfa) (t : Tape) (q i j p p' : ℕ) (path path' : List ℕ)
+    → Accepts n t q i p path → Accepts n t q j p' path' → path ≡ path' → (i ≡ j) × (p ≡ p')
+accepting_once n t q i j p p' path path' a b e =
+    (ends.0, some_inj (sym a.2 ∙ (ap (λ v. accepts n v) ends.1 ∙ b.2)))
+  where
+    ends : (i ≡ j) × (a.0 ≡ b.0)
+    ends = path_end n t 0 [] q path i a.0 j b.0 a.1 (subst (λ v. IsPath n t q j b.0 v) (sym e) b.1)
+
+pub sel_once :
+    (kind : MatchKind) (earliest : Bool) (n : Nfa) (t : Tape) (q : ℕ) (a b : Option Pair)
+    → Selects kind earliest n t q a → Selects kind earliest n t q b → a ≡ b
+sel_once kind earliest n t q None None s s' = refl
+sel_once kind earliest n t q None (Some b) s s' = absurd (s b.place b.pattern s'.0 s'.1)
+sel_once kind earliest n t q (Some a) None s s' = absurd (s' a.place a.pattern s.0 s.1)
+sel_once kind earliest n t q (Some a) (Some b) s s' =
+    let e =
+    accepting_once n t q a.place b.place a.pattern b.pattern s.0 s'.0 s.1 s'.1
+    (chosen_once kind earliest a.place b.place s.0 s'.0 (s.2 b.place b.pattern s'.0 s'.1) (s'.2 a.place a.pattern s.0 s.1)) in
+    ap₂ pair_of e.1 e.0
+  where
+    pair_of : ℕ → ℕ → Option Pair
+    pair_of p i = Some (record { pattern = p; place = i })
+
+pub sel_from_once :
+    (d : Engine) (earliest : Bool) (t : Tape) (o : Option ℕ) (a b : Option Pair)
+    → SelectsFrom d earliest t o a → SelectsFrom d earliest t o b → a ≡ b
+sel_from_once d earliest t None a b s s' = s ∙ sym s'
+sel_from_once d earliest t (Some q) a b s s' = sel_once d.kind earliest d.nfa t q a b s s'
+
+sel_over_once :
+    (way : Direction) (d : Engine) (input : Input) (a b : Option Pair)
+    → SelectsOver way d input a → SelectsOver way d input b → a ≡ b
+sel_over_once way d input a b s s' =
+    sel_from_once d input.earliest (tape_of way input.haystack input.start input.end) (first_state d input.anchored) a b s s'
+
+-- A search has one answer.
+pub answer_once :
+    (way : Direction) (d : Engine) (input : Input) (o o' : Option Half) → IsAnswer way d input o → IsAnswer way d input o' → o ≡ o'
+answer_once way d input o o' = answers_once (SelectsOver way d) (IsSkipping d) way input (sel_over_once way d) o o'
+
+-- Two beginnings of one list.
+prefixes : (a b c d : List ℕ) → a ++ c ≡ b ++ d → (a ≡ b) ⊎ (Begins a b ⊎ Begins b a)
+prefixes [] [] c d e = inl refl
+prefixes [] (y ∷ b) c d e = inr (inl (y, b, refl))
+prefixes (x ∷ a) [] c d e = inr (inr (x, a, refl))
+prefixes (x ∷ a) (y ∷ b) c d e = go (prefixes a b c d (cons_tail e))
+  where
+    go : (a ≡ b) ⊎ (Begins a b ⊎ Begins b a) → (x ∷ a ≡ y ∷ b) ⊎ (Begins (x ∷ a) (y ∷ b) ⊎ Begins (y ∷ b) (x ∷ a))
+    go (inl g) = inl (ap₂ ◌∷◌ (cons_head e) g)
+    go (inr (inl g)) = inr (inl (g.0, g.1, ap₂ ◌∷◌ (sym (cons_head e)) g.2))
+    go (inr (inr g)) = inr (inr (g.0, g.1, ap₂ ◌∷◌ (cons_head e) g.2))
+
+-- A path has one start.
+pub start_once :
+    (d : Engine) (m : Anchored) (t : Tape) (path : List ℕ) (k k' : ℕ) → IsPathStart d m t path k → IsPathStart d m t path k' → k ≡ k'
+start_once d No t path k k' s s' = go (prefixes s.0 s'.0 s.1 s'.1 (sym s.2 ∙ s'.2))
+  where
+    go : (s.0 ≡ s'.0) ⊎ (Begins s.0 s'.0 ⊎ Begins s'.0 s.0) → k ≡ k'
+    go (inl e) =
+        (path_end d.nfa t 0 [] d.unanchored s.0 k d.anchored k' d.anchored s.3
+        (subst (λ v. IsPath d.nfa t d.unanchored k' d.anchored v) (sym e) s'.3)).0
+    go (inr (inl b)) = absurd (s'.4 s.0 k b s.3)
+    go (inr (inr b)) = absurd (s.4 s'.0 k' b s'.3)
+start_once d Yes t path k k' s s' = s ∙ sym s'
+start_once d (Pattern p) t path k k' s s' = s ∙ sym s'
+
+pub no_half : {x : Half} → ◌≡◌ {A = Option Half} None (Some x) → ⊥
+no_half e = cc
+
+same_half : {x y : Half} → ◌≡◌ {A = Option Half} (Some x) (Some y) → x ≡ y
+same_half e = cc
+
+no_match : {x : Match} → ◌≡◌ {A = Option Match} None (Some x) → ⊥
+no_match e = cc
+
+same_match : {x y : Match} → ◌≡◌ {A = Option Match} (Some x) (Some y) → x ≡ y
+same_match e = cc
+
+-- A span for a forward answer.
+abbrev pub SpanOf : Engine → Input → Match → Half → Type 0
+SpanOf d input m half =
+    (q i place : ℕ) × (path : List ℕ)
+    × (first_state d input.anchored ≡ Some q) × (half.offset ≡ half.base + i)
+    × Chooses d input.earliest (forward_tape input.haystack half.base input.end) q i half.pattern path
+    × IsPathStart d input.anchored (forward_tape input.haystack half.base input.end) path place
+    × (m.pattern ≡ half.pattern) × (m.start ≡ half.base + place) × (m.end ≡ half.offset)
+
+span_of_once : (d : Engine) (input : Input) (half : Half) (m m' : Match) → SpanOf d input m half → SpanOf d input m' half → m ≡ m'
+span_of_once d input half m m' s s' =
+    match_is m m' (s.8 ∙ sym s'.8) (s.9 ∙ (ap (λ v. half.base + v) start ∙ sym s'.9)) (s.10 ∙ sym s'.10)
+  where
+    t : Tape
+    t = forward_tape input.haystack half.base input.end
+
+    q_same : s'.0 ≡ s.0
+    q_same = some_inj (sym s'.4 ∙ s.4)
+
+    there : Chooses d input.earliest t s.0 s'.1 half.pattern s'.3
+    there = subst (λ v. Chooses d input.earliest t v s'.1 half.pattern s'.3) q_same s'.6
+
+    path_same : s.3 ≡ s'.3
+    path_same =
+        chosen_once d.kind input.earliest s.1 s'.1 s.3 s'.3 (s.6.1 s'.1 half.pattern s'.3 there.0)
+        (there.1 s.1 half.pattern s.3 s.6.0)
+
+    start : s.2 ≡ s'.2
+    start = start_once d input.anchored t s.3 s.2 s'.2 s.7 (subst (λ v. IsPathStart d input.anchored t v s'.2) (sym path_same) s'.7)
+
+    match_is : (a b : Match) → a.pattern ≡ b.pattern → a.start ≡ b.start → a.end ≡ b.end → a ≡ b
+    match_is a b x y z = ap₂ (λ v w. v w) (ap₂ match_of x y) z
+      where
+        match_of : ℕ → ℕ → ℕ → Match
+        match_of p s e = record { pattern = p; start = s; end = e }
+
+-- An input has one span.
+pub span_once : (d : Engine) (input : Input) (a b : Option Match) → IsSpan d input a → IsSpan d input b → a ≡ b
+span_once d input None None s s' = refl
+span_once d input None (Some b) s s' = absurd (no_half (answer_once Forward d input None (Some s'.0) s s'.5))
+span_once d input (Some a) None s s' = absurd (no_half (answer_once Forward d input None (Some s.0) s' s.5))
+span_once d input (Some a) (Some b) s s' =
+    ap (λ v. Some v)
+    (span_of_once d input s.0 a b (s.1, s.2, s.3, s.4, s.6, s.7, s.8, s.9, s.10, s.11, s.12)
+    (subst (λ v. SpanOf d input b v) (sym (same_half (answer_once Forward d input (Some s.0) (Some s'.0) s.5 s'.5)))
+    (s'.1, s'.2, s'.3, s'.4, s'.6, s'.7, s'.8, s'.9, s'.10, s'.11, s'.12)))
+
+-- What finds one answer finds one list.
+abbrev pub FindsOnce : (Input → Option Match → Type 0) → Type 0
+FindsOnce Finds = (input : Input) (a b : Option Match) → Finds input a → Finds input b → a ≡ b
+
+next_none :
+    (Finds : Input → Option Match → Type 0) (input : Input) (start : ℕ) (last : Option ℕ) (m : Match)
+    → FindsOnce Finds → IsNextItem Finds input start last None → IsNextItem Finds input start last (Some m) → ⊥
+next_none Finds input start last m once (inl s) (inl s') = no_match (once (from start input) None (Some m) s s'.0)
+next_none Finds input start last m once (inl s) (inr s') = no_match (once (from start input) None (Some s'.0) s s'.1)
+next_none Finds input start last m once (inr s) (inl s') =
+    s'.1 (subst (λ v. IsEmptyAt last v) (same_match (once (from start input) (Some s.0) (Some m) s.1 s'.0)) s.2)
+next_none Finds input start last m once (inr s) (inr s') =
+    no_match (once (from (suc start) input) None (Some m) s.3 s'.3)
+
+next_some :
+    (Finds : Input → Option Match → Type 0) (input : Input) (start : ℕ) (last : Option ℕ) (m m' : Match)
+    → FindsOnce Finds → IsNextItem Finds input start last (Some m) → IsNextItem Finds input start last (Some m') → m ≡ m'
+next_some Finds input start last m m' once (inl s) (inl s') =
+    same_match (once (from start input) (Some m) (Some m') s.0 s'.0)
+next_some Finds input start last m m' once (inl s) (inr s') =
+    absurd
+    (s.1 (subst (λ v. IsEmptyAt last v) (same_match (once (from start input) (Some s'.0) (Some m) s'.1 s.0)) s'.2))
+next_some Finds input start last m m' once (inr s) (inl s') =
+    absurd
+    (s'.1 (subst (λ v. IsEmptyAt last v) (same_match (once (from start input) (Some s.0) (Some m') s.1 s'.0)) s.2))
+next_some Finds input start last m m' once (inr s) (inr s') =
+    same_match (once (from (suc start) input) (Some m) (Some m') s.3 s'.3)
+
+pub matches_once :
+    (Finds : Input → Option Match → Type 0) (input : Input) (start : ℕ) (last : Option ℕ) (ms ms' : List Match)
+    → FindsOnce Finds → AreMatches Finds input start last ms → AreMatches Finds input start last ms' → ms ≡ ms'
+matches_once Finds input start last [] [] once s s' = refl
+matches_once Finds input start last [] (m ∷ ms) once s s' = absurd (next_none Finds input start last m once s s'.0)
+matches_once Finds input start last (m ∷ ms) [] once s s' = absurd (next_none Finds input start last m once s' s.0)
+matches_once Finds input start last (m ∷ ms) (m' ∷ ms') once s s' =
+    ap₂ ◌∷◌ e
+    (matches_once Finds input m.end (Some m.end) ms ms' once s.1
+    (subst (λ v. AreMatches Finds input v.end (Some v.end) ms') (sym e) s'.1))
+  where
+    e : m ≡ m'
+    e = next_some Finds input start last m m' once s.0 s'.0
+
+-- An input has one list of spans.
+pub spans_once : (d : Engine) (input : Input) (ms ms' : List Match) → AreSpans d input ms → AreSpans d input ms' → ms ≡ ms'
+spans_once d input ms ms' s s' =
+    matches_once (IsSpan d) input input.start None ms ms' (λ input a b. span_once d input a b) s s'
+
+-- A search that does not skip is made once.
+plain : (way : Direction) (d : Engine) (input : Input) (k : ℕ) → (IsSkipping d → ⊥) → ComesTo way d input k → k ≡ 0
+plain way d input k f c = ⊎_elim (λ (z : k ≡ 0). z) (λ (z : IsSkipping d × (input.anchored ≡ No)). absurd (f z.0)) c.0
+
+clash_from :
+    (d : Engine) (v w : Bool) (t : Tape) (o : Option ℕ) (pair : Pair) → SelectsFrom d v t o None → SelectsFrom d w t o (Some pair) → ⊥
+clash_from d v w t None pair s s' = no_pair s'
+clash_from d v w t (Some q) pair s s' = s pair.place pair.pattern s'.0 s'.1
+
+abbrev pub with_earliest : Bool → Input → Input
+with_earliest v input = record input { earliest = v }
+
+clash :
+    (d : Engine) (v w : Bool) (input : Input) (half : Half) → (IsSkipping d → ⊥)
+    → IsAnswer Forward d (with_earliest v input) None → IsAnswer Forward d (with_earliest w input) (Some half) → ⊥
+clash d v w input half f a b = go a.2
+  where
+    zero_a : a.0 ≡ 0
+    zero_a = plain Forward d (with_earliest v input) a.0 f a.1
+
+    zero_b : b.0 ≡ 0
+    zero_b = plain Forward d (with_earliest w input) b.0 f b.2
+
+    go :
+        (input.end < input.start + a.0)
+        ⊎ (SelectsOver Forward d (later Forward a.0 (with_earliest v input)) None
+        ⊎ (IsSkipping d × (input.anchored ≡ No → ⊥) × IsSplitAnswer Forward d (later Forward a.0 (with_earliest v input))))
+        → ⊥
+    go (inl l) = omega (arith, l, zero_a, zero_b, b.3)
+    go (inr (inl s)) =
+        clash_from d v w (forward_tape input.haystack (input.start + 0) input.end) (first_state d input.anchored) b.1
+        (subst (λ x. SelectsOver Forward d (later Forward x (with_earliest v input)) None) zero_a s)
+        (subst (λ x. SelectsOver Forward d (later Forward x (with_earliest w input)) (Some b.1)) zero_b b.4)
+    go (inr (inr s)) = f s.0
+
+-- If the input is not earliest or nothing is skipped, there is a match exactly if the search that is not earliest has
+-- one.
+pub match_iff_find :
+    (d : Engine) (input : Input) (truth : Bool) (answer : Option Match)
+    → (input.earliest ≡ false) ⊎ (IsSkipping d → ⊥) → IsMatch d input truth → IsSpan d input answer → truth ≡ is_some answer
+match_iff_find d input truth answer premise m s = m.2 ∙ go answer s m.0 m.1 premise
+  where
+    same : (o : Option Half) → input.earliest ≡ false → IsAnswer Forward d input o → IsAnswer Forward d (in_full input) o
+    same o e a = subst (λ v. IsAnswer Forward d (with_earliest v input) o) e a
+
+    go :
+        (answer : Option Match) → IsSpan d input answer → (o : Option Half) → IsAnswer Forward d (in_full input) o
+        → (input.earliest ≡ false) ⊎ (IsSkipping d → ⊥) → is_some o ≡ is_some answer
+    go None s None a p = refl
+    go (Some m) s (Some half) a p = refl
+    go None s (Some half) a (inl e) =
+        absurd (no_half (answer_once Forward d (in_full input) None (Some half) (same None e s) a))
+    go None s (Some half) a (inr f) = absurd (clash d input.earliest false input half f s a)
+    go (Some m) s None a (inl e) =
+        absurd (no_half (answer_once Forward d (in_full input) None (Some s.0) a (same (Some s.0) e s.5)))
+    go (Some m) s None a (inr f) = absurd (clash d false input.earliest input s.0 f a s.5)

@@ -1,0 +1,209 @@
+-- Matches of an iteration lie in the span, and their ends rise.
+use Rattle.std.proofs.Common.{ℕ, suc, ◌≡◌, ◌<◌, ◌≤◌, ◌+◌, ◌-◌, Bool, List, [], ◌∷◌, ◌++◌, ◌⊎◌, length, Option, Some}
+use Rattle.std.proofs.Common.{None, inl, inr, refl, sym, ap, ◌∙◌, subst, arith, eq-or-lt_of_le}
+use Rattle.automata_base.specs.Paths.Paths.{Tape, IsPathFrom, IsPath}
+use Rattle.automata_base.proofs.Paths.Orders.{some_inj}
+use Rattle.automata_base.proofs.Paths.Places.{path_grows, resume}
+use Rattle.automata_base.proofs.Paths.Searches.{accepting_inside}
+use Rattle.automata_base.specs.Haystacks.Tapes.{IsHaystack, Forward, Backward, forward_tape, reverse_tape}
+use Rattle.automata_base.specs.Nfas.Engines.{Engine, Anchored, No, Yes, Pattern, IsSkipping, first_state}
+use Rattle.automata_base.specs.Answers.Answers.{Half, IsAnswer, SelectsOver}
+use Rattle.automata_base.specs.Haystacks.Input.{Input}
+use Rattle.automata_base.specs.Answers.TruePairs.{IsTruePair, KeepsUtf8}
+use Rattle.automata_base.specs.Answers.Spans.{IsPathStart, Chooses, IsSpan, FindsStart, Outcome, Found, IsTrySearch}
+use Rattle.automata_base.specs.Answers.Spans.{from, IsNextItem, AreMatches, AreSpans, TryFinds, AreFound, Rise}
+use Rattle.automata_base.specs.Haystacks.Matches.{Match}
+use Rattle.automata_base.proofs.Answers.Backs.{end_inside}
+use Rattle.automata_base.proofs.Answers.Bytes.{tape_length}
+use Rattle.automata_base.proofs.Answers.Starts.{Answered, answered, anchored_back, only_once}
+use Rattle.automata_base.proofs.Answers.Right.{span_right}
+
+-- A path starts at no later place than it ends.
+start_inside :
+    (d : Engine) (m : Anchored) (t : Tape) (q i pattern place : ℕ) (earliest : Bool) (path : List ℕ)
+    → first_state d m ≡ Some q → Chooses d earliest t q i pattern path → IsPathStart d m t path place → place ≤ i
+start_inside d No t q i pattern place earliest path f c s =
+    path_grows d.nfa t place on.0 d.anchored s.1 i c.0.0 on.1
+  where
+    whole : IsPath d.nfa t d.unanchored i c.0.0 (s.0 ++ s.1)
+    whole =
+        subst (λ v. IsPath d.nfa t d.unanchored i c.0.0 v) s.2
+        (subst (λ v. IsPath d.nfa t v i c.0.0 path) (sym (some_inj f)) c.0.1)
+
+    on : (seen : List ℕ) × IsPathFrom d.nfa t place seen d.anchored s.1 i c.0.0
+    on = resume d.nfa t 0 [] d.unanchored s.0 place d.anchored s.1 i c.0.0 s.3 whole
+start_inside d Yes t q i pattern place earliest path f c s = omega (arith, s)
+start_inside d (Pattern k) t q i pattern place earliest path f c s = omega (arith, s)
+
+pub span_inside :
+    (d : Engine) (input : Input) (m : Match) → input.end ≤ length input.haystack → IsSpan d input (Some m)
+    → (input.start ≤ m.start) × (m.start ≤ m.end) × (m.end ≤ input.end)
+span_inside d input m w s =
+    let a = answered d input s.0 s.5 in
+    let l =
+    start_inside d input.anchored (forward_tape input.haystack s.0.base input.end) s.1 s.2 s.0.pattern s.3 input.earliest s.4
+    s.6 s.8 s.9 in
+    let g =
+    end_inside d input.haystack s.0.base input.end s.1 s.2 s.0.pattern s.4 a.3.4 w s.8.0 in
+    (omega (arith, a.3.3, s.11), omega (arith, l, s.7, s.11, s.12), omega (arith, g, s.7, s.12))
+
+-- A reverse answer lies in its span.
+back_inside :
+    (r : Engine) (h : List ℕ) (b e : ℕ) (found : Half) → e ≤ length h → IsAnswer Backward r (anchored_back h b e) (Some found)
+    → (b ≤ found.offset) × (found.offset ≤ e)
+back_inside r h b e found w a =
+    let z = only_once (SelectsOver Backward r) (IsSkipping r) h b e a.0 a.2 in
+    let g = accepting_inside r.nfa (reverse_tape h b (e - a.0)) r.anchored a.1.place a.1.pattern a.4.0 a.4.1 in
+    let n = tape_length h b (e - a.0) (omega (arith, z, a.3)) (omega (arith, w)) in
+    (omega (arith, a.7, z, g, n, a.3), omega (arith, a.7))
+
+-- Any two DFAs find matches that lie in the span.
+pub try_inside :
+    (f r : Engine) (input : Input) (m : Match) → input.end ≤ length input.haystack → IsTrySearch f r input (Found (Some m))
+    → (input.start ≤ m.start) × (m.start ≤ m.end) × (m.end ≤ input.end)
+try_inside f r input m w s = go s.2
+  where
+    half : Half
+    half = s.0
+
+    a : (q i : ℕ) × (path : List ℕ) × Answered f input half q i path
+    a = answered f input half s.1
+
+    low : input.start ≤ half.base
+    low = a.3.3
+
+    mid : half.base ≤ half.offset
+    mid = let e = a.3.1 in omega (arith, e)
+
+    high : half.offset ≤ input.end
+    high =
+        let g = end_inside f input.haystack half.base input.end a.0 a.1 half.pattern a.2 a.3.4 w a.3.2.0 in
+        let e = a.3.1 in
+        omega (arith, g, e)
+
+    go : FindsStart f r input half (Some m.start) → (input.start ≤ m.start) × (m.start ≤ m.end) × (m.end ≤ input.end)
+    go (inl h) = (omega (arith, low, h.1), omega (arith, mid, h.1, s.4), omega (arith, high, s.4))
+    go (inr h) =
+        let g = back_inside r input.haystack half.base half.offset h.1.0 (omega (arith, high, w)) h.1.1 in
+        (omega (arith, low, h.1.2, g.0), omega (arith, g.1, h.1.2, s.4), omega (arith, high, s.4))
+
+-- What is found lies in the span.
+abbrev pub StaysInside : (Input → Option Match → Type 0) → Type 0
+StaysInside Finds =
+    (input : Input) (m : Match) → input.end ≤ length input.haystack → Finds input (Some m)
+    → (input.start ≤ m.start) × (m.start ≤ m.end) × (m.end ≤ input.end)
+
+pub spans_inside : (d : Engine) → StaysInside (IsSpan d)
+spans_inside d input m w s = span_inside d input m w s
+
+pub tries_inside : (f r : Engine) → StaysInside (TryFinds f r)
+tries_inside f r input m w s = try_inside f r input m w s
+
+-- The next match ends in the span, and past the last end if the iteration stands there.
+next_inside :
+    (Finds : Input → Option Match → Type 0) (input : Input) (start : ℕ) (last : Option ℕ) (m : Match)
+    → StaysInside Finds → input.end ≤ length input.haystack → IsNextItem Finds input start last (Some m)
+    → (start ≤ m.start) × (m.start ≤ m.end) × (m.end ≤ input.end) × (last ≡ Some start → start < m.end)
+next_inside Finds input start last m stays w (inl s) =
+    let f = stays (from start input) m w s.0 in
+    (f.0, f.1, f.2, λ e. past e (eq-or-lt_of_le (both f.0 f.1)))
+  where
+    both : start ≤ m.start → m.start ≤ m.end → start ≤ m.end
+    both a b = omega (arith, a, b)
+
+    past : last ≡ Some start → (start ≡ m.end) ⊎ (start < m.end) → start < m.end
+    past e (inr l) = l
+    past e (inl c) =
+        let f = stays (from start input) m w s.0 in
+        absurd (s.1 (omega (arith, f.0, f.1, c), e ∙ ap (λ v. Some v) c))
+next_inside Finds input start last m stays w (inr s) =
+    let f = stays (from (suc start) input) m w s.3 in
+    (omega (arith, f.0), f.1, f.2, λ e. omega (arith, f.0, f.1))
+
+rise_from :
+    (Finds : Input → Option Match → Type 0) (input : Input) (start : ℕ) (ms : List Match)
+    → StaysInside Finds → input.end ≤ length input.haystack → AreMatches Finds input start (Some start) ms
+    → Rise input.end (Some start) ms
+rise_from Finds input start [] stays w s = tt
+rise_from Finds input start (m ∷ ms) stays w s =
+    let f = next_inside Finds input start (Some start) m stays w s.0 in
+    (f.0, f.1, f.3 refl, f.2, rise_from Finds input m.end ms stays w s.1)
+
+pub matches_rise :
+    (Finds : Input → Option Match → Type 0) (input : Input) (ms : List Match)
+    → StaysInside Finds → input.end ≤ length input.haystack → AreMatches Finds input input.start None ms
+    → Rise input.end None ms
+matches_rise Finds input [] stays w s = tt
+matches_rise Finds input (m ∷ ms) stays w s =
+    let f = next_inside Finds input input.start None m stays w s.0 in
+    (f.1, f.2, rise_from Finds input m.end ms stays w s.1)
+
+count_from : (end start : ℕ) (ms : List Match) → start ≤ end → Rise end (Some start) ms → start + length ms ≤ end
+count_from end start [] l r = omega (arith, l)
+count_from end start (m ∷ ms) l r =
+    let g = count_from end m.end ms r.3 r.4 in omega (arith, g, r.2)
+
+-- At most one match more than the span has bytes.
+pub matches_count :
+    (Finds : Input → Option Match → Type 0) (input : Input) (ms : List Match)
+    → StaysInside Finds → input.end ≤ length input.haystack → AreMatches Finds input input.start None ms
+    → length ms ≤ suc (input.end - input.start)
+matches_count Finds input [] stays w s = omega arith
+matches_count Finds input (m ∷ ms) stays w s =
+    let f = next_inside Finds input input.start None m stays w s.0 in
+    let g = count_from input.end m.end ms f.2 (rise_from Finds input m.end ms stays w s.1) in
+    omega (arith, g, f.0, f.1)
+
+pub spans_rise :
+    (d : Engine) (input : Input) (ms : List Match)
+    → input.end ≤ length input.haystack → AreSpans d input ms
+    → Rise input.end None ms × (length ms ≤ suc (input.end - input.start))
+spans_rise d input ms w s =
+    (matches_rise (IsSpan d) input ms (spans_inside d) w s, matches_count (IsSpan d) input ms (spans_inside d) w s)
+
+-- So too for two DFAs that are no pair.
+pub found_rise :
+    (f r : Engine) (input : Input) (ms : List Match)
+    → input.end ≤ length input.haystack → AreFound f r input ms
+    → Rise input.end None ms × (length ms ≤ suc (input.end - input.start))
+found_rise f r input ms w s = (
+  matches_rise (TryFinds f r) input ms (tries_inside f r) w s,
+  matches_count (TryFinds f r) input ms (tries_inside f r) w s,
+)
+
+-- Over a true pair under the UTF-8 promise what is found is the spans.
+next_right :
+    (f r : Engine) (input : Input) (start : ℕ) (last : Option ℕ) (o : Option Match)
+    → IsTruePair f r → KeepsUtf8 Forward f → IsHaystack input.haystack → input.end ≤ length input.haystack
+    → IsNextItem (TryFinds f r) input start last o → IsNextItem (IsSpan f) input start last o
+next_right f r input start last o pair keeps bytes w s = go o s
+  where
+    span : (start : ℕ) (o : Option Match) → TryFinds f r (from start input) o → IsSpan f (from start input) o
+    span start o s =
+        let g = span_right f r (from start input) (Found o) pair keeps bytes w s in
+        subst (λ v. IsSpan f (from start input) v) (same_found g.1) g.2
+      where
+        same_found : {a b : Option Match} → ◌≡◌ {A = Outcome} (Found a) (Found b) → b ≡ a
+        same_found e = cc
+
+    go : (o : Option Match) → IsNextItem (TryFinds f r) input start last o → IsNextItem (IsSpan f) input start last o
+    go None (inl s) = inl (span start None s)
+    go None (inr s) = inr (s.0, span start (Some s.0) s.1, s.2, span (suc start) None s.3)
+    go (Some m) (inl s) = inl (span start (Some m) s.0, s.1)
+    go (Some m) (inr s) = inr (s.0, span start (Some s.0) s.1, s.2, span (suc start) (Some m) s.3)
+
+matches_right :
+    (f r : Engine) (input : Input) (start : ℕ) (last : Option ℕ) (ms : List Match)
+    → IsTruePair f r → KeepsUtf8 Forward f → IsHaystack input.haystack → input.end ≤ length input.haystack
+    → AreMatches (TryFinds f r) input start last ms → AreMatches (IsSpan f) input start last ms
+matches_right f r input start last [] pair keeps bytes w s = next_right f r input start last None pair keeps bytes w s
+matches_right f r input start last (m ∷ ms) pair keeps bytes w s = (
+  next_right f r input start last (Some m) pair keeps bytes w s.0,
+  matches_right f r input m.end (Some m.end) ms pair keeps bytes w s.1,
+)
+
+pub spans_right :
+    (f r : Engine) (input : Input) (ms : List Match)
+    → IsTruePair f r → KeepsUtf8 Forward f → IsHaystack input.haystack → input.end ≤ length input.haystack
+    → AreFound f r input ms → AreSpans f input ms
+spans_right f r input ms pair keeps bytes w s = matches_right f r input input.start None ms pair keeps bytes w s

@@ -1,0 +1,4 @@
+pub mod Building
+pub mod Mirrors
+pub mod Reach
+pub mod Utf8

@@ -1,0 +1,273 @@
+ghost use Rattle.std.specs.Prelude.{◌≡◌, ◌<◌, ◌-◌, ◌+◌, ltb, leb, ◌&&◌, ℕ, Some};
+ghost use Rattle.automata_base.specs.Lists.{all_below};
+ghost use Rattle.automata_base.specs.Retraced.ComputedPass.{any_node};
+ghost use Rattle.automata_base.specs.Haystacks.Looks.{look_index};
+ghost use Rattle.automata_base.specs.Nfas.Nodes.{nodes_of, stack_room};
+ghost use Rattle.automata_base.specs.Nfas.Errors.{transitions_below, state_below, states_below, match_below};
+ghost use Rattle.automata_base.specs.Nfas.Errors.{matches_below};
+ghost use Rattle.automata_base.specs.Nfas.Errors.{ordered_from, state_ordered, states_ordered, alternates_of};
+ghost use Rattle.automata_base.specs.Nfas.Errors.{is_small, is_narrow, starts_below, states_refusal};
+ghost use Rattle.automata_base.specs.Haystacks.LookSets.{truth_of};
+ghost use Rattle.automata_base.specs.Haystacks.Looks.{Look};
+ghost use Rattle.std.specs.Prelude.{eqb, false, true, None, Option};
+
+use crate::nfa::thompson::reading::add_look;
+use crate::nfa::thompson::{NfaError, State, Transition};
+use crate::util::look::LookSet;
+use crate::util::primitives::{PatternID, StateID};
+
+// 2^27 and 2^31.
+const MAX_STATES: usize = 134_217_728;
+
+const MAX_ALTERNATES: usize = 2_147_483_648;
+
+fn is_below(id: StateID, n: usize) -> bool
+    ensures { result ≡ ltb id n }
+{
+    id.as_usize() < n
+}
+
+fn pattern_below(p: PatternID, n: usize) -> bool
+    ensures { result ≡ ltb p n }
+{
+    p.as_usize() < n
+}
+
+fn next_below(t: &Transition, n: usize) -> bool
+    ensures { result ≡ ltb t.now.next n }
+{
+    t.next.as_usize() < n
+}
+
+fn ids_below(xs: &[StateID], n: usize) -> bool
+    ensures { result ≡ all_below n xs.now }
+{
+    for i in 0..xs.len() {
+        if !is_below(xs[i], n) {
+            return false;
+        }
+    }
+    true
+}
+
+fn targets_below(xs: &[Transition], n: usize) -> bool
+    ensures { result ≡ transitions_below n xs.now }
+{
+    for i in 0..xs.len() {
+        if !next_below(&xs[i], n) {
+            return false;
+        }
+    }
+    true
+}
+
+fn is_state_below(state: &State, n: usize) -> bool
+    ensures { result ≡ state_below n state.now }
+{
+    match state {
+        State::ByteRange { next, .. } => is_below(*next, n),
+        State::Sparse(transitions) => targets_below(transitions, n),
+        State::Dense(targets) => ids_below(targets.as_slice(), n),
+        State::Look { next, .. } => is_below(*next, n),
+        State::Union { alternates } => ids_below(alternates, n),
+        State::BinaryUnion { alt1, alt2 } => is_below(*alt1, n) && is_below(*alt2, n),
+        State::Capture { next, .. } => is_below(*next, n),
+        State::Fail => true,
+        State::Match { .. } => true,
+    }
+}
+
+fn is_match_below(state: &State, n: usize) -> bool
+    ensures { result ≡ match_below n state.now }
+{
+    match state {
+        State::Match { pattern } => pattern_below(*pattern, n),
+        State::ByteRange { .. } => true,
+        State::Sparse(_) => true,
+        State::Dense(_) => true,
+        State::Look { .. } => true,
+        State::Union { .. } => true,
+        State::BinaryUnion { .. } => true,
+        State::Capture { .. } => true,
+        State::Fail => true,
+    }
+}
+
+fn are_below(states: &[State], n: usize) -> bool
+    ensures { result ≡ states_below n states.now }
+{
+    for i in 0..states.len() {
+        if !is_state_below(&states[i], n) {
+            return false;
+        }
+    }
+    true
+}
+
+fn are_matches_below(states: &[State], n: usize) -> bool
+    ensures { result ≡ matches_below n states.now }
+{
+    for i in 0..states.len() {
+        if !is_match_below(&states[i], n) {
+            return false;
+        }
+    }
+    true
+}
+
+/// The looks that occur.
+pub fn looks_of(states: &[State]) -> LookSet
+    ensures { (other : Look) → truth_of result other
+        ≡ any_node (λ look. eqb (look_index look) (look_index other)) (nodes_of states.now) }
+{
+    let mut looks = LookSet::empty();
+    for i in 0..states.len() {
+        looks = add_look(looks, &states[i]);
+    }
+    looks
+}
+
+fn fits(t: &Transition, low: usize) -> bool
+    ensures { result ≡ (leb low t.now.lo && leb t.now.lo t.now.hi) }
+{
+    low <= usize::from(t.lo) && t.lo <= t.hi
+}
+
+fn above(hi: u8) -> usize
+    ensures { result ≡ hi + 1 }
+{
+    usize::from(hi) + 1
+}
+
+fn is_ordered(xs: &[Transition]) -> bool
+    ensures { result ≡ ordered_from 0 xs.now }
+{
+    let mut low = 0;
+    for i in 0..xs.len() {
+        let t = xs[i];
+        if !fits(&t, low) {
+            return false;
+        }
+        low = above(t.hi);
+    }
+    true
+}
+
+fn is_range(lo: u8, hi: u8) -> bool
+    ensures { result ≡ leb lo hi }
+{
+    lo <= hi
+}
+
+fn is_state_ordered(state: &State) -> bool
+    ensures { result ≡ state_ordered state.now }
+{
+    match state {
+        State::ByteRange { lo, hi, .. } => is_range(*lo, *hi),
+        State::Sparse(transitions) => is_ordered(transitions),
+        State::Dense(_) => true,
+        State::Look { .. } => true,
+        State::Union { .. } => true,
+        State::BinaryUnion { .. } => true,
+        State::Capture { .. } => true,
+        State::Fail => true,
+        State::Match { .. } => true,
+    }
+}
+
+fn are_ordered(states: &[State]) -> bool
+    ensures { result ≡ states_ordered states.now }
+{
+    for i in 0..states.len() {
+        if !is_state_ordered(&states[i]) {
+            return false;
+        }
+    }
+    true
+}
+
+fn count_alternates(state: &State) -> usize
+    ensures count { result ≡ alternates_of state.now }
+{
+    match state {
+        State::Union { alternates } => alternates.len(),
+        State::BinaryUnion { .. } => 2,
+        State::ByteRange { .. } => 0,
+        State::Sparse(_) => 0,
+        State::Dense(_) => 0,
+        State::Look { .. } => 0,
+        State::Capture { .. } => 0,
+        State::Fail => 0,
+        State::Match { .. } => 0,
+    }
+}
+
+fn less_one(n: usize) -> usize
+    ensures { result ≡ n - 1 }
+{
+    if n == 0 { 0 } else { n - 1 }
+}
+
+/// The room that a stack needs, if the unions have at most 2^31 alternates in all.
+pub fn room_of(states: &[State]) -> Option<usize>
+    ensures some { (room : ℕ) → result ≡ Some room → room ≡ stack_room states.now }
+    ensures few { (room : ℕ) → result ≡ Some room → is_narrow states.now ≡ true }
+    ensures none { result ≡ None → is_narrow states.now ≡ false }
+{
+    let mut total: usize = 0;
+    let mut room: usize = 1;
+    for i in 0..states.len() {
+        let more = count_alternates(&states[i]);
+        if more > MAX_ALTERNATES - total {
+            return None;
+        }
+        total = total + more;
+        room = room + less_one(more);
+    }
+    Some(room)
+}
+
+fn has_few(states: &[State], starts: &[StateID]) -> bool
+    ensures { result ≡ is_small states.now starts.now }
+{
+    states.len() <= MAX_STATES && starts.len() <= MAX_STATES
+}
+
+fn are_starts(n: usize, anchored: StateID, unanchored: StateID, starts: &[StateID]) -> bool
+    ensures { result ≡ starts_below n anchored unanchored starts.now }
+{
+    is_below(anchored, n) && is_below(unanchored, n) && ids_below(starts, n)
+}
+
+/// The room that a stack needs, unless a test fails.
+pub fn test(
+    states: &[State],
+    anchored: StateID,
+    unanchored: StateID,
+    starts: &[StateID],
+) -> Result<usize, NfaError>
+    ensures refused { (error : NfaError)
+        → states_refusal states.now anchored unanchored starts.now ≡ Some error → result ≡ Err error }
+    ensures passed { states_refusal states.now anchored unanchored starts.now ≡ None
+        → result ≡ Ok (stack_room states.now) }
+{
+    if !has_few(states, starts) {
+        return Err(NfaError::TooLarge);
+    }
+    let Some(room) = room_of(states) else {
+        return Err(NfaError::TooLarge);
+    };
+    if !are_starts(states.len(), anchored, unanchored, starts) {
+        return Err(NfaError::StartRange);
+    }
+    if !are_below(states, states.len()) {
+        return Err(NfaError::StateRange);
+    }
+    if !are_ordered(states) {
+        return Err(NfaError::Ranges);
+    }
+    if !are_matches_below(states, starts.len()) {
+        return Err(NfaError::PatternRange);
+    }
+    Ok(room)
+}

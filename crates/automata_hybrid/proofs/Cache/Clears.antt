@@ -1,0 +1,175 @@
+use Rattle.std.proofs.Common.{◌≡◌, ℕ, ◌+◌, ◌*◌, ◌^◌, ◌<◌, ◌≤◌, zero, suc, List, [], ◌∷◌, ◌++◌, length, true, false}
+use Rattle.std.proofs.Common.{cond, Option, None, Some, get_or, take, slice_get, refl, sym, ap, ◌∙◌, subst, ◌⊎◌, inl}
+use Rattle.std.proofs.Common.{inr, ⊎_elim, arith, length-append}
+use Rattle.std.proofs.lemmas.List.{get_or_append_left}
+use Rattle.std.specs.Prelude.{nat_le}
+use Rattle.std.proofs.lemmas.List.{take_more}
+use Rattle.std.proofs.lemmas.Bool.Decides.{nat_tests}
+use Rattle.std.proofs.lemmas.Grind.{get_or_default_zero}
+use Rattle.std.proofs.lemmas.Bool.{cases_Bool}
+use Rattle.automata_base.specs.Powersets.Powerset.{Powerset}
+use Rattle.automata_base.specs.Powersets.Equal.{powerset_eq, powerset_eq-Decides}
+use Rattle.automata_hybrid.specs.declared.dfa.row.Row.{Row}
+use Rattle.automata_hybrid.specs.Cache.Ids.{dead_id}
+use Rattle.automata_hybrid.specs.Machines.Machine.{Machine, start_of, table_stride}
+use Rattle.automata_hybrid.specs.Cache.Table.{Rows, id_of, Names, MayLead, with_row}
+use Rattle.automata_hybrid.specs.Cache.Clears.{AllStarts, row_of, put_if, put, or_unknown, Kept, KeepsSlot, keep_found}
+use Rattle.automata_hybrid.specs.Cache.Clears.{keep_slot, keep_slots, IsPut}
+use Rattle.automata_hybrid.proofs.Cache.Rows.{Names-more, find_id-push_other}
+
+pub keep_slots-push : (old : Rows) (k : Kept) (ids : List ℕ) (id : ℕ) → keep_slots old k (ids ++ id ∷ []) ≡ keep_slot old (keep_slots old k ids) id
+unfolding keep_slots
+keep_slots-push old k [] id = refl
+keep_slots-push old k (x ∷ ids) id = keep_slots-push old (keep_slot old k x) ids id
+
+pub put-of : (t : Rows) (r : Row) → (put t r).of ≡ t.of
+put-of t r = go (id_of t r.state) where
+  go : (o : Option ℕ) → (put_if o t r).of ≡ t.of
+  go None = refl
+  go (Some n) = refl
+
+pub put-length : (t : Rows) (r : Row) → length (put t r).rows ≤ length t.rows + 1
+put-length t r = go (id_of t r.state) where
+  go : (o : Option ℕ) → length (put_if o t r).rows ≤ length t.rows + 1
+  go None = omega (arith, length-append t.rows (r ∷ []))
+  go (Some n) = omega arith
+
+-- a slot's ID without a high tag is that of a row
+pub MayLead-row : (t : Rows) (id : ℕ) (q : Powerset) → MayLead t id q → id < 2 ^ 29 → Names t id q
+MayLead-row t id q (inl e) l = absurd (omega (arith, e, l))
+MayLead-row t id q (inr (inl (e, d))) l = absurd (omega (arith, e, l))
+MayLead-row t id q (inr (inr h)) l = h
+
+at_push : (xs : List ℕ) (y k x : ℕ) → slice_get (xs ++ y ∷ []) k ≡ Some x → (slice_get xs k ≡ Some x) ⊎ ((k ≡ length xs) × (y ≡ x))
+at_push [] y zero x h = inr (refl, cc)
+at_push [] y (suc k) x h = cc
+at_push (z ∷ xs) y zero x h = inl h
+at_push (z ∷ xs) y (suc k) x h = go (at_push xs y k x h) where
+  go : (slice_get xs k ≡ Some x) ⊎ ((k ≡ length xs) × (y ≡ x)) → (slice_get xs k ≡ Some x) ⊎ ((suc k ≡ suc (length xs)) × (y ≡ x))
+  go (inl e) = inl e
+  go (inr (e, f)) = inr (ap suc e, f)
+
+-- one more slot
+pub AllStarts-push : (t : Rows) (xs : List ℕ) (y : ℕ) → AllStarts t xs → MayLead t y (start_of t.of (length xs)) → AllStarts t (xs ++ y ∷ [])
+AllStarts-push t xs y all h slot id e = go (at_push xs y slot id e) where
+  go : (slice_get xs slot ≡ Some id) ⊎ ((slot ≡ length xs) × (y ≡ id)) → MayLead t id (start_of t.of slot)
+  go (inl e) = all slot id e
+  go (inr (e, f)) = subst (λ n. MayLead t n (start_of t.of slot)) f (subst (λ n. MayLead t y (start_of t.of n)) (sym e) h)
+
+pub AllStarts-more : (t : Rows) (r : Row) (xs : List ℕ) → AllStarts t xs → AllStarts (with_row t r) xs
+AllStarts-more t r xs all slot id e = go (all slot id e) where
+  go : MayLead t id (start_of t.of slot) → MayLead (with_row t r) id (start_of t.of slot)
+  go (inl f) = inl f
+  go (inr (inl f)) = inr (inl f)
+  go (inr (inr h)) = inr (inr (Names-more t r id (start_of t.of slot) h))
+
+pub AllStarts-put : (t : Rows) (r : Row) (xs : List ℕ) → AllStarts t xs → AllStarts (put t r) xs
+AllStarts-put t r xs all = go (id_of t r.state) where
+  go : (o : Option ℕ) → AllStarts (put_if o t r) xs
+  go None = AllStarts-more t r xs all
+  go (Some n) = all
+
+put_id : (before after : Rows) (starts : List ℕ) (r : Row) (n : ℕ) → after ≡ put before r → Names after n r.state → keep_found (Some r) (record { table = before; starts = starts }) ≡ record { table = after; starts = starts ++ n ∷ [] }
+put_id before after starts r n e named =
+    let f : id_of (put before r) r.state ≡ Some n = subst (λ (u : Rows). id_of u r.state ≡ Some n) e named in
+    λ i. record { table = sym e i; starts = starts ++ or_unknown (f i) ∷ [] }
+
+-- a slot that names a row
+pub kept_row : (old before after : Rows) (starts : List ℕ) (id n : ℕ) → IsPut old before after id n → id < 2 ^ 29 → keep_slot old (record { table = before; starts = starts }) id ≡ record { table = after; starts = starts ++ n ∷ [] }
+kept_row old before after starts id n p l =
+    let t : nat_le (2 ^ 29) id ≡ false = grind (arith, nat_tests) in
+    ap (λ b. cond b (record { table = before; starts = starts ++ id ∷ [] }) (keep_found (row_of old id) (record { table = before; starts = starts }))) t
+    ∙ ap (λ o. keep_found o (record { table = before; starts = starts })) p.at ∙ put_id before after starts p.row n p.put_there p.named
+
+pub IsPut-of : (old before after : Rows) (id n : ℕ) → IsPut old before after id n → after.of ≡ before.of
+IsPut-of old before after id n p = ap (λ (u : Rows). u.of) p.put_there ∙ put-of before p.row
+
+pub IsPut-length : (old before after : Rows) (id n : ℕ) → IsPut old before after id n → length after.rows ≤ length before.rows + 1
+IsPut-length old before after id n p = subst (λ (u : Rows). length u.rows ≤ length before.rows + 1) (sym p.put_there) (put-length before p.row)
+
+pub IsPut-AllStarts : (old before after : Rows) (starts : List ℕ) (id n : ℕ) → IsPut old before after id n → AllStarts before starts → Names after n (start_of after.of (length starts)) → AllStarts after (starts ++ n ∷ [])
+IsPut-AllStarts old before after starts id n p all named =
+    AllStarts-push after starts n (subst (λ (u : Rows). AllStarts u starts) (sym p.put_there) (AllStarts-put before p.row starts all)) (inr (inr named))
+
+-- a step of the loop over the slots
+pub kept_step : (old : Rows) (k : Kept) (xs : List ℕ) (i id : ℕ) (table : Rows) (starts : List ℕ) → i < length xs → id ≡ get_or xs i id → table ≡ (keep_slots old k (take i xs)).table → starts ≡ (keep_slots old k (take i xs)).starts
+    → keep_slot old (record { table = table; starts = starts }) id ≡ keep_slots old k (take (i + 1) xs)
+kept_step old k xs i id table starts l is e f =
+    let at : get_or xs i 0 ≡ id = sym (is ∙ get_or_default_zero xs i id l) in
+    let more : take (i + 1) xs ≡ take i xs ++ id ∷ [] = take_more xs i 0 l ∙ ap (λ n. take i xs ++ n ∷ []) at in
+    let now : record { table = table; starts = starts } ≡ keep_slots old k (take i xs) = λ j. record { table = e j; starts = f j } in
+    ap (λ (u : Kept). keep_slot old u id) now ∙ sym (keep_slots-push old k (take i xs) id) ∙ ap (keep_slots old k) (sym more)
+
+pub AllStarts-none : (t : Rows) (xs : List ℕ) → xs ≡ [] → AllStarts t xs
+AllStarts-none t xs e = subst (λ ys. AllStarts t ys) (sym e) none where
+  none : AllStarts t []
+  none slot id h = cc
+
+-- a state that another table lacks is not brought by one of its rows
+pub absent-more : (old t : Rows) (r : Row) (q : Powerset) → (id_of old r.state ≡ None → ⊥) → id_of old q ≡ None → id_of t q ≡ None → id_of (with_row t r) q ≡ None
+absent-more old t r q had o n = ⊎_elim
+    (λ (e : powerset_eq q r.state ≡ true). absurd (had (subst (λ p. id_of old p ≡ None) ((powerset_eq-Decides q r.state).0 e) o)))
+    (λ (e : powerset_eq q r.state ≡ false). find_id-push_other (table_stride t.of) (3 * table_stride t.of) q t.rows r e ∙ n)
+    (cases_Bool (powerset_eq q r.state))
+
+last_pushed : (xs : List ℕ) (y : ℕ) → get_or (xs ++ y ∷ []) (length xs) 0 ≡ y
+last_pushed [] y = refl
+last_pushed (x ∷ xs) y = last_pushed xs y
+
+-- a slot that names no row is kept as it is
+pub keeps_fixed :
+    (old t : Rows) (starts after : List ℕ) (id : ℕ)
+    → ((n : ℕ) (q : Powerset) → Names old n q → n < 2 ^ 29) → 2 ^ 29 ≤ id → after ≡ starts ++ id ∷ []
+    → t.of ≡ old.of → AllStarts t starts → MayLead old id (start_of old.of (length starts))
+    → KeepsSlot old id (record { table = t; starts = starts }) (record { table = t; starts = after })
+keeps_fixed old t starts after id low high push of all leads =
+    subst (λ (xs : List ℕ). KeepsSlot old id (record { table = t; starts = starts }) (record { table = t; starts = xs })) (sym push)
+    (record {
+      value = sym (ap (λ b. cond b (record { table = t; starts = starts ++ id ∷ [] }) (keep_found (row_of old id) (record { table = t; starts = starts }))) fixed);
+      named = AllStarts-push t starts id all (there leads);
+      few = omega arith;
+      slots = length-append starts (id ∷ []);
+      front = λ slot l. get_or_append_left starts (id ∷ []) 0 slot l;
+      known = λ k. subst (λ n. n < 2 ^ 31) (sym (last_pushed starts id)) k;
+      absent = λ q o n. n;
+      of = refl;
+    })
+  where
+    fixed : nat_le (2 ^ 29) id ≡ true
+    fixed = grind (arith, nat_tests)
+
+    there : MayLead old id (start_of old.of (length starts)) → MayLead t id (start_of t.of (length starts))
+    there (inl e) = inl e
+    there (inr (inl (e, d))) =
+        inr (inl (e ∙ ap (λ (m : Machine). dead_id (table_stride m)) (sym of), ap (λ (m : Machine). start_of m (length starts)) of ∙ d))
+    there (inr (inr n)) = let l : id < 2 ^ 29 = low id _ n in absurd (omega (arith, l, high))
+
+-- the row that a slot names is kept
+pub keeps_row :
+    (old before after : Rows) (starts slots : List ℕ) (id n : ℕ)
+    → id < 2 ^ 29 → ((k : ℕ) (q : Powerset) → Names after k q → k < 2 ^ 29) → slots ≡ starts ++ n ∷ []
+    → before.of ≡ old.of → AllStarts before starts → MayLead old id (start_of old.of (length starts))
+    → IsPut old before after id n → ((q : Powerset) → Names old id q → Names after n q)
+    → ((q : Powerset) → id_of old q ≡ None → id_of before q ≡ None → id_of after q ≡ None)
+    → KeepsSlot old id (record { table = before; starts = starts }) (record { table = after; starts = slots })
+keeps_row old before after starts slots id n below low push of all leads put names absent =
+    subst (λ (xs : List ℕ). KeepsSlot old id (record { table = before; starts = starts }) (record { table = after; starts = xs })) (sym push)
+    (record {
+      value = sym (kept_row old before after starts id n put below);
+      named = IsPut-AllStarts old before after starts id n put all there;
+      few = IsPut-length old before after id n put;
+      slots = length-append starts (n ∷ []);
+      front = λ slot l. get_or_append_left starts (n ∷ []) 0 slot l;
+      known = λ _. subst (λ k. k < 2 ^ 31) (sym (last_pushed starts n)) (omega (arith, small));
+      absent = absent;
+      of = IsPut-of old before after id n put;
+    })
+  where
+    named : Names after n (start_of old.of (length starts))
+    named = names _ (MayLead-row old id _ leads below)
+
+    there : Names after n (start_of after.of (length starts))
+    there = subst (λ (m : Machine). Names after n (start_of m (length starts))) (sym (IsPut-of old before after id n put ∙ of)) named
+
+    small : n < 2 ^ 29
+    small = low n _ named

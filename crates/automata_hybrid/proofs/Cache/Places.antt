@@ -1,0 +1,263 @@
+use Rattle.std.proofs.Common.{◌≡◌, ℕ, ◌+◌, ◌-◌, ◌*◌, ◌/◌, ◌%◌, ◌^◌, ◌<◌, ◌≤◌, suc, List, [], ◌∷◌, length, Bool, true}
+use Rattle.std.proofs.Common.{false, cond, Some, get_or, set, slice_get, refl, sym, ap, ◌∙◌, subst, inr, ⊎_elim, arith}
+use Rattle.std.proofs.Common.{length-set}
+use Rattle.std.proofs.lemmas.Bool.{cases_eq, ltb-true, lt-ltb}
+use Rattle.std.proofs.lemmas.Option.{slice_get_within}
+use Rattle.std.proofs.lemmas.Nat.{div-mul-add, mod-mul-add, bit_set_by_shift}
+use Rattle.std.specs.Prelude.{IsBitSet, bit_and, ◌↔◌}
+use Rattle.std.proofs.lemmas.List.{get_or-set_same, get_or-set_other, take-set-le}
+use Rattle.std.proofs.Math.Nat.{mul-le-mul_right}
+use Rattle.automata_base.specs.Powersets.Powerset.{Powerset, cost, dead}
+use Rattle.automata_base.specs.Powersets.Equal.{powerset_eq, powerset_eq-Decides}
+use Rattle.automata_hybrid.specs.declared.dfa.row.Row.{Row}
+use Rattle.automata_hybrid.specs.Cache.Ids.{HasOnly, tags}
+use Rattle.automata_hybrid.specs.Machines.Machine.{IsStateOf, next_of, greatest, template_of, table_stride}
+use Rattle.std.specs.List.{sum_by}
+use Rattle.std.proofs.lemmas.List.Sums.{sum_by-cons}
+use Rattle.automata_hybrid.specs.Cache.Table.{Rows, has_patterns, find_id, Names, IsValid, Leads, IsCell, row_id}
+use Rattle.automata_hybrid.specs.Cache.Table.{with_cell, cell_at, HasRowIds, IsTable, IsStepped, HasState, StateMap}
+use Rattle.automata_hybrid.specs.Cache.Table.{row_cost}
+use Rattle.automata_hybrid.proofs.Cache.Rows.{inside}
+
+-- the row that a look-up met
+pub record Found (s at : ℕ) (q : Powerset) (rs : List Row) (id : ℕ) : Type 0 where
+  pub place : ℕ
+  pub row : Row
+  pub has : slice_get rs place ≡ Some row
+  pub state : row.state ≡ q
+  pub «is» : id ≡ row_id (at + place * s) row
+
+pub find_id-Found : (s at : ℕ) (q : Powerset) (rs : List Row) (id : ℕ) → find_id s at q rs ≡ Some id → Found s at q rs id
+find_id-Found s at q [] id h = cc
+find_id-Found s at q (r ∷ rs) id h = go (powerset_eq q r.state) refl h (λ e. find_id-Found s (at + s) q rs id e) where
+  go : (b : Bool) → powerset_eq q r.state ≡ b → cond b (Some (row_id at r)) (find_id s (at + s) q rs) ≡ Some id → (find_id s (at + s) q rs ≡ Some id → Found s (at + s) q rs id) → Found s at q (r ∷ rs) id
+  go true e h again =
+      let i : row_id at r ≡ id = cc in
+      let z : at ≡ at + 0 * s = omega arith in
+      record { place = 0; row = r; has = refl; state = sym ((powerset_eq-Decides q r.state).0 e); «is» = sym i ∙ ap (λ n. row_id n r) z }
+  go false e h again =
+      let f = again h in
+      let z : at + s + f.place * s ≡ at + suc f.place * s = omega arith in
+      record { place = suc f.place; row = f.row; has = f.has; state = f.state; «is» = f.«is» ∙ ap (λ n. row_id n f.row) z }
+
+pub tags_mod : (x : ℕ) (a b : Bool) → x < 2 ^ 27 → (x + tags a b) % 2 ^ 27 ≡ x
+tags_mod x true true h = let e : x + (2 ^ 28 + 2 ^ 27) ≡ 3 * 2 ^ 27 + x = omega arith in ap (λ n. n % 2 ^ 27) e ∙ mod-mul-add 3 (2 ^ 27) x h
+tags_mod x true false h = let e : x + (2 ^ 28 + 0) ≡ 2 * 2 ^ 27 + x = omega arith in ap (λ n. n % 2 ^ 27) e ∙ mod-mul-add 2 (2 ^ 27) x h
+tags_mod x false true h = let e : x + (0 + 2 ^ 27) ≡ 1 * 2 ^ 27 + x = omega arith in ap (λ n. n % 2 ^ 27) e ∙ mod-mul-add 1 (2 ^ 27) x h
+tags_mod x false false h = let e : x + (0 + 0) ≡ 0 * 2 ^ 27 + x = omega arith in ap (λ n. n % 2 ^ 27) e ∙ mod-mul-add 0 (2 ^ 27) x h
+
+pub tags_low : (x : ℕ) (a b : Bool) → x < 2 ^ 27 → x + tags a b < 2 ^ 29
+tags_low x true true h = omega arith
+tags_low x true false h = omega arith
+tags_low x false true h = omega arith
+tags_low x false false h = omega arith
+
+-- where the row of an ID stands
+pub record Placed (t : Rows) (id : ℕ) (q : Powerset) : Type 0 where
+  pub place : ℕ
+  pub row : Row
+  pub has : slice_get t.rows place ≡ Some row
+  pub state : row.state ≡ q
+  pub within : place < length t.rows
+  pub offset : id % 2 ^ 27 ≡ (place + 3) * table_stride t.of
+  pub low : id < 2 ^ 29
+
+pub Names-Placed : (t : Rows) (m : StateMap) (costs id : ℕ) (q : Powerset) → IsTable t m costs → Names t id q → Placed t id q
+Names-Placed t m costs id q i h =
+    let f = find_id-Found (table_stride t.of) (3 * table_stride t.of) q t.rows id h in
+    let within : f.place < length t.rows = slice_get_within t.rows f.place f.row f.has in
+    let le : (f.place + 4) * table_stride t.of ≤ (length t.rows + 3) * table_stride t.of = mul-le-mul_right (table_stride t.of) (omega (arith, within)) in
+    let low : (f.place + 3) * table_stride t.of < 2 ^ 27 = omega (arith, le, i.whole, i.small) in
+    let at : 3 * table_stride t.of + f.place * table_stride t.of ≡ (f.place + 3) * table_stride t.of = omega arith in
+    record {
+      place = f.place;
+      row = f.row;
+      has = f.has;
+      state = f.state;
+      within = within;
+      offset = ap (λ n. n % 2 ^ 27) (f.«is» ∙ ap (λ n. row_id n f.row) at) ∙ tags_mod _ f.row.started (has_patterns f.row.state) low;
+      low = rw (f.«is») (tags_low _ f.row.started (has_patterns f.row.state) (omega (arith, low, at)));
+    }
+
+pub Placed-cell : (t : Rows) (m : StateMap) (costs id class : ℕ) (q : Powerset) → IsTable t m costs → Placed t id q → class < table_stride t.of → cell_at id class < length t.cells
+Placed-cell t m costs id class q i p l = rw (p.offset, i.whole) (inside p.place (length t.rows) (table_stride t.of) class p.within l)
+
+pub Placed-place : (t : Rows) (m : StateMap) (costs id : ℕ) (q : Powerset) → IsTable t m costs → (p : Placed t id q) → (id % 2 ^ 27) / table_stride t.of ≡ p.place + 3
+Placed-place t m costs id q i p =
+    let e : (p.place + 3) * table_stride t.of ≡ (p.place + 3) * table_stride t.of + 0 = omega arith in
+    ap (λ n. n / table_stride t.of) (p.offset ∙ e) ∙ div-mul-add (p.place + 3) (table_stride t.of) 0 i.template.positive
+
+pub Placed-HasState : (t : Rows) (m : StateMap) (costs id k : ℕ) (q : Powerset) → IsTable t m costs → Placed t id q → k ≡ (id % 2 ^ 27) / table_stride t.of - 3 → HasState t k q
+Placed-HasState t m costs id k q i p e =
+    let same : k ≡ p.place = omega (arith, Placed-place t m costs id q i p, e) in
+    (p.row, subst (λ n. slice_get t.rows n ≡ Some p.row) (sym same) p.has, p.state)
+
+pub Placed-IsCell : (t : Rows) (m : StateMap) (costs id class : ℕ) (q : Powerset) → IsTable t m costs → Placed t id q → class < table_stride t.of → IsCell t q class (get_or t.cells (cell_at id class) 0)
+Placed-IsCell t m costs id class q i p l =
+    subst (λ n. IsCell t q class (get_or t.cells (n + class) 0)) (sym p.offset) (subst (λ w. IsCell t w class (get_or t.cells ((p.place + 3) * table_stride t.of + class) 0)) p.state (i.stepped p.place class p.row p.has l))
+
+pub some_inj : (x y : Row) → Some x ≡ Some y → x ≡ y
+some_inj x y e = cc
+
+-- one cell, one row and one class
+pub one_cell : (a b c d s : ℕ) → c < s → d < s → a * s + c ≡ b * s + d → (a ≡ b) × (c ≡ d)
+one_cell a b c d s l m e =
+    let f : a ≡ b = sym (div-mul-add a s c l) ∙ ap (λ n. n / s) e ∙ div-mul-add b s d m in
+    let g : c ≡ d = sym (mod-mul-add a s c l) ∙ ap (λ n. n % s) e ∙ mod-mul-add b s d m in
+    (f, g)
+
+-- a cell that is written with what names the next state
+pub IsTable-with_cell : (t : Rows) (m : StateMap) (costs id class next : ℕ) (q : Powerset) → IsTable t m costs → Names t id q → class < table_stride t.of → get_or (template_of t.of) class 0 ≡ 2 ^ 31 → Leads t next (next_of t.of q class) → IsTable (with_cell t id class next) m costs
+IsTable-with_cell t m costs id class next q i h l free leads =
+    let p = Names-Placed t m costs id q i h in
+    let far : 3 * table_stride t.of ≤ cell_at id class = omega (arith, p.offset, mul-le-mul_right (table_stride t.of) (le3 p.place)) in
+    record {
+      template = i.template;
+      whole = length-set t.cells (cell_at id class) next ∙ i.whole;
+      small = rw length-set i.small;
+      fixed = take-set-le (3 * table_stride t.of) t.cells (cell_at id class) next far ∙ i.fixed;
+      stepped = stepped p;
+      distinct = i.distinct;
+      alive = i.alive;
+      mapped = i.mapped;
+      costs_of = i.costs_of;
+    } where
+      le3 : (k : ℕ) → 3 ≤ k + 3
+      le3 k = omega arith
+
+      stepped : Placed t id q → IsStepped (with_cell t id class next)
+      stepped p k c r has lc = ⊎_elim
+          (λ (e : (k + 3) * table_stride t.of + c ≡ cell_at id class). same e)
+          (λ (ne : (k + 3) * table_stride t.of + c ≡ cell_at id class → ⊥). subst (IsCell t r.state c) (sym (get_or-set_other t.cells (cell_at id class) ((k + 3) * table_stride t.of + c) next 0 ne)) (i.stepped k c r has lc))
+          (cases_eq ((k + 3) * table_stride t.of + c) (cell_at id class)) where
+            same : (k + 3) * table_stride t.of + c ≡ cell_at id class → IsCell t r.state c (get_or (set t.cells (cell_at id class) next) ((k + 3) * table_stride t.of + c) 0)
+            same e =
+                let both = one_cell (k + 3) (p.place + 3) c class (table_stride t.of) lc l (e ∙ ap (λ n. n + class) p.offset) in
+                let place : k ≡ p.place = omega (arith, both.0) in
+                let row : Some r ≡ Some p.row = sym has ∙ ap (slice_get t.rows) place ∙ p.has in
+                let state : r.state ≡ q = ap (λ (x : Row). x.state) (some_inj r p.row row) ∙ p.state in
+                let read : next ≡ get_or (set t.cells (cell_at id class) next) ((k + 3) * table_stride t.of + c) 0 = sym (get_or-set_same t.cells (cell_at id class) next 0 (Placed-cell t m costs id class q i p l)) ∙ ap (λ n. get_or (set t.cells (cell_at id class) next) n 0) (sym e) in
+                subst (IsCell t r.state c) read (subst (λ d. IsCell t r.state d next) (sym both.1) (subst (λ w. IsCell t w class next) (sym state) (inr (free, inr leads))))
+
+pub costs_le : (rs : List Row) (m : ℕ) → ((k : ℕ) (r : Row) → slice_get rs k ≡ Some r → cost r.state ≤ m) → sum_by row_cost rs ≤ length rs * m
+costs_le [] m all = omega arith
+costs_le (r ∷ rs) m all =
+    let one : cost r.state ≤ m = all 0 r refl in
+    let more : sum_by row_cost rs ≤ length rs * m = costs_le rs m (λ k x h. all (suc k) x h) in
+    let e : suc (length rs) * m ≡ m + length rs * m = omega arith in
+    let f : sum_by row_cost (r ∷ rs) ≡ cost r.state + sum_by row_cost rs = sum_by-cons row_cost r rs in
+    omega (arith, one, more, e, f)
+
+pub IsTable-costs : (t : Rows) (m : StateMap) (costs : ℕ) → IsTable t m costs → sum_by row_cost t.rows ≤ length t.rows * greatest t.of
+IsTable-costs t m costs i = costs_le t.rows (greatest t.of) (λ k r h. (i.alive k r h).1)
+
+-- an ID at a row's offset, with that row's tags, is the row's
+pub placed_valid :
+    (t : Rows) (m : StateMap) (costs id index : ℕ) (r : Row)
+    → IsTable t m costs → 3 ≤ index → slice_get t.rows (index - 3) ≡ Some r → index * table_stride t.of ≡ id % 2 ^ 27 → id ≡ row_id (id % 2 ^ 27) r
+    → IsValid t id
+placed_valid t m costs id index r i three has at same =
+    let place : index - 3 + 3 ≡ index = omega (arith, three) in
+    let e : id ≡ row_id ((index - 3 + 3) * table_stride t.of) r = same ∙ ap (λ n. row_id n r) (sym at ∙ ap (λ n. n * table_stride t.of) (sym place)) in
+    (r.state, i.distinct (index - 3) r has ∙ ap Some (sym e))
+
+-- and a valid ID is at its row's offset, with its tags
+pub record IsAtRow (t : Rows) (id index : ℕ) : Type 0 where
+  pub row : Row
+  pub behind : 3 ≤ index
+  pub within : index < length t.rows + 3
+  pub has : slice_get t.rows (index - 3) ≡ Some row
+  pub at : index * table_stride t.of ≡ id % 2 ^ 27
+  pub same : id ≡ row_id (id % 2 ^ 27) row
+
+pub valid_at :
+    (t : Rows) (m : StateMap) (costs id : ℕ) → IsTable t m costs → IsValid t id → IsAtRow t id ((id % 2 ^ 27) / table_stride t.of)
+valid_at t m costs id i v =
+    let f = find_id-Found (table_stride t.of) (3 * table_stride t.of) v.0 t.rows id v.1 in
+    let within : f.place < length t.rows = slice_get_within t.rows f.place f.row f.has in
+    let le : (f.place + 4) * table_stride t.of ≤ (length t.rows + 3) * table_stride t.of = mul-le-mul_right (table_stride t.of) (omega (arith, within)) in
+    let low : (f.place + 3) * table_stride t.of < 2 ^ 27 = omega (arith, le, i.whole, i.small) in
+    let at : 3 * table_stride t.of + f.place * table_stride t.of ≡ (f.place + 3) * table_stride t.of = omega arith in
+    let offset : id % 2 ^ 27 ≡ (f.place + 3) * table_stride t.of =
+    ap (λ n. n % 2 ^ 27) (f.«is» ∙ ap (λ n. row_id n f.row) at) ∙ tags_mod _ f.row.started (has_patterns f.row.state) low in
+    let whole : (f.place + 3) * table_stride t.of ≡ (f.place + 3) * table_stride t.of + 0 = omega arith in
+    let index : (id % 2 ^ 27) / table_stride t.of ≡ f.place + 3 =
+    ap (λ n. n / table_stride t.of) (offset ∙ whole) ∙ div-mul-add (f.place + 3) (table_stride t.of) 0 i.template.positive in
+    let behind : (id % 2 ^ 27) / table_stride t.of - 3 ≡ f.place = omega (arith, index) in
+    record {
+      row = f.row;
+      behind = omega (arith, index);
+      within = omega (arith, index, within);
+      has = subst (λ n. slice_get t.rows n ≡ Some f.row) (sym behind) f.has;
+      at = ap (λ n. n * table_stride t.of) index ∙ sym offset;
+      same = f.«is» ∙ ap (λ n. row_id n f.row) (at ∙ sym offset);
+    }
+
+-- a bit, by the number above it
+pub bit_of : (k x c n : ℕ) → x < 2 ^ k → n ≡ c * 2 ^ k + x → IsBitSet n k ↔ (bit_and c 1 ≡ 1)
+bit_of k x c n h e =
+    let d : n / 2 ^ k ≡ c = ap (λ v. v / 2 ^ k) e ∙ div-mul-add c (2 ^ k) x h in
+    (λ b. subst (λ v. bit_and v 1 ≡ 1) d ((bit_set_by_shift n k).1 b), λ b. (bit_set_by_shift n k).0 (subst (λ v. bit_and v 1 ≡ 1) (sym d) b))
+
+pub zero_one : ◌≡◌ {A = ℕ} 0 1 → ⊥
+zero_one e = cc
+
+-- the match tag of an ID at a row's offset
+tags_bit : (x : ℕ) (a b : Bool) → x < 2 ^ 27 → IsBitSet (x + tags a b) 27 ↔ (b ≡ true)
+tags_bit x true true h = let i = bit_of 27 x 3 (x + tags true true) h (omega arith) in (λ s. refl, λ e. i.1 refl)
+tags_bit x true false h = let i = bit_of 27 x 2 (x + tags true false) h (omega arith) in (λ s. absurd (zero_one (i.0 s)), λ e. absurd (cc))
+tags_bit x false true h = let i = bit_of 27 x 1 (x + tags false true) h (omega arith) in (λ s. refl, λ e. i.1 refl)
+tags_bit x false false h = let i = bit_of 27 x 0 (x + tags false false) h (omega arith) in (λ s. absurd (zero_one (i.0 s)), λ e. absurd (cc))
+
+has_some : (q : Powerset) → has_patterns q ≡ true ↔ (0 < length q.patterns)
+has_some q = (λ e. ltb-true 0 (length q.patterns) e, λ l. lt-ltb 0 (length q.patterns) l)
+
+-- an ID with the match tag alone has it
+pub match_tagged : (id : ℕ) → HasOnly (2 ^ 27) id → IsBitSet id 27
+match_tagged id only =
+    let i = bit_of 27 (id - 2 ^ 27) 1 id (omega (arith, only.from, only.below)) (omega (arith, only.from)) in
+    i.1 refl
+
+pub Names-tagged : (t : Rows) (m : StateMap) (costs id : ℕ) (q : Powerset) → IsTable t m costs → Names t id q → IsBitSet id 27 ↔ (0 < length q.patterns)
+Names-tagged t m costs id q i h =
+    let f = find_id-Found (table_stride t.of) (3 * table_stride t.of) q t.rows id h in
+    let within : f.place < length t.rows = slice_get_within t.rows f.place f.row f.has in
+    let le : (f.place + 4) * table_stride t.of ≤ (length t.rows + 3) * table_stride t.of = mul-le-mul_right (table_stride t.of) (omega (arith, within)) in
+    let low : 3 * table_stride t.of + f.place * table_stride t.of < 2 ^ 27 = omega (arith, le, i.whole, i.small) in
+    let bit = tags_bit (3 * table_stride t.of + f.place * table_stride t.of) f.row.started (has_patterns f.row.state) low in
+    let some = has_some q in
+    let s : has_patterns f.row.state ≡ has_patterns q = ap has_patterns f.state in
+    (λ b. some.0 (sym s ∙ bit.0 (subst (λ v. IsBitSet v 27) f.«is» b)), λ l. subst (λ v. IsBitSet v 27) (sym f.«is») (bit.1 (s ∙ some.1 l)))
+
+pub no_patterns : (ps : List ℕ) → (0 < length ps → ⊥) → ps ≡ []
+no_patterns [] n = refl
+no_patterns (p ∷ ps) n = absurd (n (omega arith))
+
+-- an ID without the match tag names a state without patterns
+pub Names-silent : (t : Rows) (id : ℕ) (q : Powerset) → Names t id q → id < 2 ^ 27 → q.patterns ≡ []
+Names-silent t id q h l =
+    let f = find_id-Found (table_stride t.of) (3 * table_stride t.of) q t.rows id h in
+    let s : has_patterns f.row.state ≡ has_patterns q = ap has_patterns f.state in
+    no_patterns q.patterns (λ some. heavy f.row.started (has_patterns f.row.state) (3 * table_stride t.of + f.place * table_stride t.of) (s ∙ (has_some q).1 some) (subst (λ v. v < 2 ^ 27) f.«is» l)) where
+      heavy : (a b : Bool) (x : ℕ) → b ≡ true → x + tags a b < 2 ^ 27 → ⊥
+      heavy true true x e l = omega (arith, l)
+      heavy false true x e l = omega (arith, l)
+      heavy a false x e l = cc
+
+-- no row has the dead state
+pub Names-alive : (t : Rows) (m : StateMap) (costs id : ℕ) (q : Powerset) → IsTable t m costs → Names t id q → q ≡ dead → ⊥
+Names-alive t m costs id q i h d =
+    let p = Names-Placed t m costs id q i h in (i.alive p.place p.row p.has).0 (p.state ∙ d)
+
+-- the states of rows are the DFA's
+pub Names-own : (t : Rows) (m : StateMap) (costs id : ℕ) (q : Powerset) → IsTable t m costs → Names t id q → IsStateOf t.of q
+Names-own t m costs id q i h =
+    let p = Names-Placed t m costs id q i h in
+    subst (IsStateOf t.of) p.state (i.alive p.place p.row p.has).2
+
+-- each row is found by its state, and stands below the limit of offsets
+pub IsTable-ids : (t : Rows) (m : StateMap) (costs : ℕ) → IsTable t m costs → HasRowIds t
+IsTable-ids t m costs i k r h =
+    let within : k < length t.rows = slice_get_within t.rows k r h in
+    let le : (k + 4) * table_stride t.of ≤ (length t.rows + 3) * table_stride t.of = mul-le-mul_right (table_stride t.of) (omega (arith, within)) in
+    (i.distinct k r h, omega (arith, le, i.whole, i.small))

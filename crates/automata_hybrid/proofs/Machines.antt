@@ -1,0 +1,3 @@
+pub mod StartSlots
+pub mod Builds
+pub mod OneState

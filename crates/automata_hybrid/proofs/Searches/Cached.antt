@@ -1,0 +1,215 @@
+-- Searches whose start and transitions are all cached.
+use Rattle.std.proofs.Common.{ℕ, suc, ◌≡◌, ◌∙◌, ◌+◌, ◌^◌, ◌<◌, ◌≤◌, ◌⊎◌, inl, inr, Bool, true, false, length, Option}
+use Rattle.std.proofs.Common.{Some, None, refl, sym, subst, arith}
+use Rattle.std.specs.Prelude.{Result, IfErr}
+use Rattle.std.proofs.lemmas.Result.{IfErr-weaker}
+use Rattle.automata_base.specs.Answers.Answers.{Tries, later}
+use Rattle.automata_base.specs.Haystacks.Input.{Input}
+use Rattle.automata_base.specs.Haystacks.Matches.{HalfMatch}
+use Rattle.automata_base.specs.Paths.Paths.{next}
+use Rattle.automata_base.specs.Powersets.Powerset.{Powerset, dead}
+use Rattle.automata_base.specs.Haystacks.Tapes.{Direction}
+use Rattle.automata_base.specs.declared.util.search.Anchored.{Anchored}
+use Rattle.automata_base.proofs.Paths.Orders.{none_some}
+use Rattle.automata_config.specs.declared.error.StartError.{StartError}
+use Rattle.automata_config.specs.declared.error.StartError.TheVariants as start
+use Rattle.automata_config.specs.declared.error.SearchError.{SearchError}
+use Rattle.automata_hybrid.specs.declared.dfa.progress.Searched.{Searched}
+use Rattle.automata_hybrid.specs.Cache.Stores.{Stored, IsKnownStart, IsKnownTransition, with_searched}
+use Rattle.automata_hybrid.specs.Cache.Caches.{CacheView, with_store}
+use Rattle.automata_hybrid.specs.Cache.Growth.{IsGrown, ClearedNothing, Keeps}
+use Rattle.automata_hybrid.specs.Searches.Cached.{IsOfInput, Knows, KnowsItsStart, KnowsPass, KnowsUnit}
+use Rattle.automata_hybrid.specs.Steps.Steps.{unit_class}
+use Rattle.automata_hybrid.specs.Machines.Machine.{Machine, table_stride, slot_count}
+use Rattle.automata_hybrid.specs.Searches.PassState.{HasLearned, HasLearnedAll, HasLearnedUnit, IsAt}
+use Rattle.automata_hybrid.specs.Searches.Passes.{Finds, Reads, Skips, state_in, tape_in}
+use Rattle.automata_hybrid.specs.Machines.StartSlots.{slot_behind, supports}
+use Rattle.automata_hybrid.specs.Steps.Starts.{HasSlot, IsStartEffect, IsStartRefusal, IsStartRefusedAt, KnowsStart}
+use Rattle.automata_hybrid.specs.Steps.Starts.{MayStart, quit_behind, search_refusal}
+use Rattle.automata_hybrid.specs.Cache.Table.{Names}
+use Rattle.automata_hybrid.proofs.Searches.PassState.{at_reads, false_true}
+use Rattle.std.proofs.lemmas.Bool.{cases_lt}
+use Rattle.automata_hybrid.proofs.Steps.Effects.{one_id}
+
+-- where nothing is determinized, what a pass has cached it still has cached
+pub knows_still :
+    (way : Direction) (m : Machine) (input : Input) (old new : CacheView)
+    → IsGrown old new → new.count ≡ old.count → KnowsPass way m old.store input → KnowsPass way m new.store input
+knows_still way m input old new g same h = subst (λ (c : Stored). KnowsPass way m c input) (sym (g.idle same).1) h
+
+-- the transition that a pass takes where it stands is cached
+pub knows_here :
+    (way : Direction) (m : Machine) (c : Stored) (input : Input) (k id : ℕ) (found : Option HalfMatch) (u : Option ℕ)
+    → KnowsPass way m c input → MayStart m input.anchored (tape_in way input).before
+    → IsAt way m c.table input k id found → k ≤ length (tape_in way input).bytes
+    → ((q : Powerset) → Names c.table id q → q ≡ dead → ⊥)
+    → next (tape_in way input) k ≡ u → IsKnownTransition c id (unit_class m u)
+knows_here way m c input k id found u knows may at few alive unit =
+    let here : KnowsUnit way m c input k = (knows may).1 k (at_reads way m c.table input k id found at few alive) at.clean in
+    let same : here.0 ≡ id = one_id c.table here.0 id (state_in way m input k) here.1 at.named in
+    subst (λ v. IsKnownTransition c id (unit_class m v)) unit
+    (subst (λ i. IsKnownTransition c i (unit_class m (next (tape_in way input) k))) same here.2)
+
+-- at its start a pass has taken no transition
+pub learned_none : (way : Direction) (m : Machine) (c : Stored) (input : Input) → HasLearned way m c input 0
+learned_none way m c input = λ j l. absurd (omega (arith, l))
+
+-- where nothing is lost, what was learned is cached
+module _ (way : Direction) (m : Machine) (old new : Stored) (input : Input) (of : new.table.of ≡ old.table.of) (keeps : Keeps old new) where
+  pub unit_still : (j : ℕ) → HasLearnedUnit way m old input j → HasLearnedUnit way m new input j
+  unit_still j had =
+      let unit : KnowsUnit way m old input j = had.0 in
+      let below : unit_class m (next (tape_in way input) j) < table_stride old.table.of = had.1 in
+      let row : Names new.table unit.0 (state_in way m input j) = keeps.rows unit.0 (state_in way m input j) unit.1 in
+      let cell = keeps.cells unit.0 (unit_class m (next (tape_in way input) j)) (state_in way m input j, unit.1) below unit.2 in
+      ((unit.0, row, subst (λ n. n < 2 ^ 31) (sym cell) unit.2), subst (λ (n : Machine). unit_class m (next (tape_in way input) j) < table_stride n) (sym of) below)
+
+  pub learned_still : (k : ℕ) → HasLearned way m old input k → HasLearned way m new input k
+  learned_still k learned = λ j l reads. unit_still j (learned j l reads)
+
+  pub begin_still : KnowsItsStart way m old input → KnowsItsStart way m new input
+  begin_still begin = λ l. subst (λ n. n < 2 ^ 31) (sym (keeps.starts _ (begin l))) (begin l)
+
+  pub all_still : HasLearnedAll way m old input → HasLearnedAll way m new input
+  all_still all = (begin_still all.0, λ j reads. unit_still j (all.1 j reads))
+
+-- one unit more
+pub learned_more :
+    (way : Direction) (m : Machine) (c : Stored) (input : Input) (k id : ℕ) (u : Option ℕ)
+    → HasLearned way m c input k → Names c.table id (state_in way m input k) → next (tape_in way input) k ≡ u
+    → IsKnownTransition c id (unit_class m u) → unit_class m u < table_stride c.table.of → HasLearned way m c input (suc k)
+learned_more way m c input k id u learned named unit known below = λ j l reads. go j reads (cases_lt j k) l where
+  go : (j : ℕ) → Reads way m input j → (j < k) ⊎ (k ≤ j) → j < suc k → HasLearnedUnit way m c input j
+  go j reads (inl less) l = learned j less reads
+  go j reads (inr more) l =
+      let same : k ≡ j = omega (arith, more, l) in
+      subst (HasLearnedUnit way m c input) same
+      ((id, named, subst (λ v. IsKnownTransition c id (unit_class m v)) (sym unit) known), subst (λ v. unit_class m v < table_stride c.table.of) (sym unit) below)
+
+-- a pass that reads nothing more has learned all
+pub learned_all :
+    (way : Direction) (m : Machine) (c : Stored) (input : Input) (k : ℕ)
+    → KnowsItsStart way m c input → HasLearned way m c input k → ((j : ℕ) → k ≤ j → Reads way m input j → ⊥) → HasLearnedAll way m c input
+learned_all way m c input k begin learned stops = (begin, λ j reads. go j reads (cases_lt j k)) where
+  go : (j : ℕ) → Reads way m input j → (j < k) ⊎ (k ≤ j) → HasLearnedUnit way m c input j
+  go j reads (inl less) = learned j less reads
+  go j reads (inr more) = absurd (stops j more reads)
+
+-- what a pass has learned it has cached
+pub learned_knows : (way : Direction) (m : Machine) (c : Stored) (input : Input) → HasLearnedAll way m c input → KnowsPass way m c input
+learned_knows way m c input all = λ may. (all.0, λ k reads clean. (all.1 k reads).0)
+
+-- a pass that steps on learns the transition that it takes
+pub learned_step :
+    (way : Direction) (m : Machine) (old new : CacheView) (input : Input) (k id : ℕ) (u : Option ℕ)
+    → IsGrown old new → new.store.table.of ≡ m → ClearedNothing old.store new.store
+    → KnowsItsStart way m old.store input → HasLearned way m old.store input k
+    → Names old.store.table id (state_in way m input k) → next (tape_in way input) k ≡ u
+    → IsKnownTransition new.store id (unit_class m u) → unit_class m u < table_stride m
+    → KnowsItsStart way m new.store input × HasLearned way m new.store input (suc k)
+learned_step way m old new input k id u g of nothing begin learned named unit known below =
+    let keeps : Keeps old.store new.store = g.kept nothing in (
+      begin_still way m old.store new.store input g.of keeps begin,
+      learned_more way m new.store input k id u (learned_still way m old.store new.store input g.of keeps k learned)
+          (keeps.rows id (state_in way m input k) named) unit known (subst (λ (n : Machine). unit_class m u < table_stride n) (sym of) below),
+    )
+
+-- a pass that reads nothing after this unit has learned all
+pub learned_ends :
+    (way : Direction) (m : Machine) (old new : CacheView) (input : Input) (k id : ℕ) (u : Option ℕ)
+    → IsGrown old new → new.store.table.of ≡ m
+    → Names old.store.table id (state_in way m input k) → next (tape_in way input) k ≡ u
+    → (ClearedNothing old.store new.store → IsKnownTransition new.store id (unit_class m u)) → unit_class m u < table_stride m
+    → ((j : ℕ) → suc k ≤ j → Reads way m input j → ⊥)
+    → KnowsItsStart way m old.store input → HasLearned way m old.store input k → ClearedNothing old.store new.store
+    → HasLearnedAll way m new.store input
+learned_ends way m old new input k id u g of named unit known below stops begin learned nothing =
+    let step : KnowsItsStart way m new.store input × HasLearned way m new.store input (suc k) =
+    learned_step way m old new input k id u g of nothing begin learned named unit (known nothing) below in
+    learned_all way m new.store input (suc k) step.0 step.1 stops
+
+-- what was learned stays where a search moves on
+pub learned_moved :
+    (way : Direction) (m : Machine) (input : Input) (old between new : CacheView) {s : Searched}
+    → new ≡ with_store between (with_searched between.store s)
+    → (ClearedNothing old.store between.store → HasLearnedAll way m between.store input)
+    → ClearedNothing old.store new.store → HasLearnedAll way m new.store input
+learned_moved way m input old between new e f =
+    subst (λ (c : CacheView). ClearedNothing old.store c.store → HasLearnedAll way m c.store input) (sym e) f
+
+pub begun_moved :
+    (way : Direction) (m : Machine) (input : Input) (old between new : CacheView) (k : ℕ) {s : Searched}
+    → new ≡ with_store between (with_searched between.store s)
+    → (ClearedNothing old.store between.store → KnowsItsStart way m between.store input × HasLearned way m between.store input k)
+    → ClearedNothing old.store new.store → KnowsItsStart way m new.store input × HasLearned way m new.store input k
+begun_moved way m input old between new k e f =
+    subst (λ (c : CacheView). ClearedNothing old.store c.store → KnowsItsStart way m c.store input × HasLearned way m c.store input k) (sym e) f
+
+-- a start state that is cached, where it may be asked for, changes nothing and does not fail for lack of room
+module _ (m : Machine) (old new : CacheView) (mode : Anchored) (behind : Option ℕ) (r : Result ℕ SearchError) (behind_at start_at : ℕ)
+    (slots : length old.store.starts ≡ slot_count m)
+    (refusal : IfErr r (IsStartRefusedAt m mode behind behind_at start_at old new))
+    (effect : IsStartEffect m mode behind old new)
+    (begin : MayStart m mode behind → HasSlot m mode behind → IsKnownStart old.store (slot_behind m mode behind)) where
+  knows : MayStart m mode behind → HasSlot m mode behind → KnowsStart m old.store mode behind
+  knows may l = (may, (omega (arith, l, slots), begin may l))
+
+  of_input : (e : SearchError) → IsStartRefusedAt m mode behind behind_at start_at old new e → IsOfInput e
+  of_input e h = subst IsOfInput (sym h.reported) (go h.error h.refused.why) where
+    not : MayStart m mode behind → ⊥
+    not may = h.refused.unknown (knows may (h.refused.slot may))
+
+    go : (error : StartError) → IsStartRefusal m old.store mode behind error → IsOfInput (search_refusal error behind_at start_at)
+    go (start.Quit byte) why = tt
+    go (start.UnsupportedAnchored reported) why = tt
+    go (start.Cache err) why = absurd (not why.0)
+    go start.OutOfMemory why = absurd (not why)
+
+  same : new ≡ old
+  same = go (quit_behind m behind) refl (supports m mode) refl where
+    in_slot : MayStart m mode behind → (slot_behind m mode behind < slot_count m) ⊎ (slot_count m ≤ slot_behind m mode behind) → new ≡ old
+    in_slot may (inl l) = effect.known (knows may l)
+    in_slot may (inr l) = effect.past may l
+
+    go : (o : Option ℕ) → quit_behind m behind ≡ o → (b : Bool) → supports m mode ≡ b → new ≡ old
+    go None e true f = in_slot (e, f) (cases_lt (slot_behind m mode behind) (slot_count m))
+    go None e false f = effect.barred (λ may. false_true (sym f ∙ may.1))
+    go (Some byte) e b f = effect.barred (λ may. none_some (sym may.0 ∙ e))
+
+  pub start_idle : (new ≡ old) × IfErr r IsOfInput
+  start_idle = (same, IfErr-weaker r _ _ of_input refusal)
+
+-- what a search has learned over the spans that it tried so far
+abbrev pub LearnedSpans : Direction → Machine → Stored → Input → ℕ → Type 0
+LearnedSpans way m c input k = (j : ℕ) → j < k → HasLearnedAll way m c (later way j input)
+
+pub spans_still :
+    (way : Direction) (m : Machine) (old new : Stored) (input : Input) (k : ℕ)
+    → new.table.of ≡ old.table.of → Keeps old new → LearnedSpans way m old input k → LearnedSpans way m new input k
+spans_still way m old new input k of keeps spans = λ j l. all_still way m old new (later way j input) of keeps (spans j l)
+
+pub spans_more :
+    (way : Direction) (m : Machine) (c : Stored) (input now : Input) (k : ℕ)
+    → now ≡ later way k input → LearnedSpans way m c input k → HasLearnedAll way m c now → LearnedSpans way m c input (suc k)
+spans_more way m c input now k same spans all = λ j l. go j (cases_lt j k) l where
+  go : (j : ℕ) → (j < k) ⊎ (k ≤ j) → j < suc k → HasLearnedAll way m c (later way j input)
+  go j (inl less) l = spans j less
+  go j (inr more) l =
+      let here : k ≡ j = omega (arith, more, l) in
+      subst (λ i. HasLearnedAll way m c (later way i input)) here (subst (HasLearnedAll way m c) same all)
+
+-- a search that tries no other span has cached all that it used
+pub spans_all :
+    (way : Direction) (m : Machine) (c : Stored) (input : Input) (k : ℕ)
+    → LearnedSpans way m c input k
+    → ((j : ℕ) → k ≤ j → Tries (Finds way m) (Skips m) way input j → input.start + j ≤ input.end → ⊥) → Knows way m c input
+spans_all way m c input k spans stops = λ j tries within. go j tries within (cases_lt j k) where
+  go : (j : ℕ) → Tries (Finds way m) (Skips m) way input j → input.start + j ≤ input.end → (j < k) ⊎ (k ≤ j) → KnowsPass way m c (later way j input)
+  go j tries within (inl less) = learned_knows way m c (later way j input) (spans j less)
+  go j tries within (inr more) = absurd (stops j more tries within)
+
+-- where nothing is determinized, what a search has cached it still has cached
+pub search_still :
+    (way : Direction) (m : Machine) (input : Input) (old new : CacheView)
+    → IsGrown old new → new.count ≡ old.count → Knows way m old.store input → Knows way m new.store input
+search_still way m input old new g same h = subst (λ (c : Stored). Knows way m c input) (sym (g.idle same).1) h

@@ -1,0 +1,144 @@
+-- What searches return whatever the cache, and what they make of it.
+use Rattle.std.proofs.Common.{ℕ, ◌≡◌, Option, Some, None, refl, sym, ap, subst}
+use Rattle.std.specs.Prelude.{Result, Ok, Err, IfErr, IfOk}
+use Rattle.std.specs.Result.{IsErrAnd}
+use Rattle.automata_base.specs.Answers.Answers.{Half}
+use Rattle.automata_base.specs.Haystacks.Input.{Input}
+use Rattle.automata_base.specs.Haystacks.Matches.{HalfMatch}
+use Rattle.automata_base.specs.Haystacks.Tapes.{Direction, Forward}
+use Rattle.automata_config.specs.declared.error.SearchError.{SearchError}
+use Rattle.automata_hybrid.specs.Cache.Stores.{Stored}
+use Rattle.automata_hybrid.specs.Cache.Caches.{CacheView}
+use Rattle.automata_hybrid.specs.Searches.Cached.{IsOfInput}
+use Rattle.automata_hybrid.specs.Machines.Machine.{Machine}
+use Rattle.automata_hybrid.specs.Searches.Contracts.{IsBased, IsHalf, IsSearchEffect, IsStoreOf, MayRefuse, based_half}
+use Rattle.automata_hybrid.specs.Searches.Contracts.{halves}
+use Rattle.automata_hybrid.specs.Searches.Progress.{LeavesProgress}
+use Rattle.automata_hybrid.specs.Searches.Passes.{IsRefused, WithoutBase, with_base}
+use Rattle.automata_hybrid.proofs.Searches.PassState.{ok_err}
+
+-- a cache that is of its DFA and keeps its bounds is one of it, within its settings
+pub is_store : (c : Stored) (m : Machine) → c.table.of ≡ m → IsStoreOf c c.table.of → IsStoreOf c m
+is_store c m of bounds = subst (λ (n : Machine). IsStoreOf c n) of bounds
+
+-- a refusal over some cache
+pub may_refuse :
+    {T : Type 0} (r : Result T SearchError) (way : Direction) (m : Machine) (c : Stored) (input : Input)
+    → IsStoreOf c m → IfErr r (IsRefused way m c input) → IfErr r (MayRefuse way m input)
+may_refuse (Ok x) way m c input of h = h
+may_refuse (Err e) way m c input of h = (c, of, h)
+
+same_err : {A E : Type 0} {e f : E} → ◌≡◌ {A = Result A E} (Err e) (Err f) → e ≡ f
+same_err h = cc
+
+pub err_to :
+    {A B E : Type 0} {e f : E} → ◌≡◌ {A = Result A E} (Err e) (Err f) → ◌≡◌ {A = Result B E} (Err e) (Err f)
+err_to h = ap (λ v. Err v) (same_err h)
+
+err_ok : {A E : Type 0} {a : A} {e : E} → ◌≡◌ {A = Result A E} (Err e) (Ok a) → ⊥
+err_ok h = cc
+
+some_none : {A E : Type 0} {a : A} → ◌≡◌ {A = Result (Option A) E} (Ok (Some a)) (Ok None) → ⊥
+some_none h = cc
+
+-- an answer without its base
+module _ (m : Machine) (input : Input) where
+  pub half_some :
+      (o : Option (HalfMatch × ℕ)) (p : HalfMatch × ℕ) → o ≡ Some p
+      → IsBased m input (Ok o) → IsHalf Forward m input (Ok (Some p.0))
+  half_some o p is based = go (subst (λ (v : Option (HalfMatch × ℕ)). IsBased m input (Ok v)) is based) where
+    go : IsBased m input (Ok (Some p)) → IsHalf Forward m input (Ok (Some p.0))
+    go b = record {
+      found = (Some (with_base p.0 p.1), b.found, refl);
+      answer = λ acyclic. (Some (with_base p.0 p.1), b.answer acyclic, refl);
+      nearest = λ early. (Some (with_base p.0 p.1), b.nearest early, refl);
+      farthest = λ late all. (Some (with_base p.0 p.1), b.farthest late all, refl);
+      within = b.within.lies;
+      errors = tt;
+      unsupported = λ u. absurd (ok_err (b.unsupported u));
+      free = λ f. tt;
+      done = λ past. absurd (some_none (b.done past));
+    }
+
+  pub half_none :
+      (o : Option (HalfMatch × ℕ)) → o ≡ None → IsBased m input (Ok o) → IsHalf Forward m input (Ok None)
+  half_none o is based = go (subst (λ (v : Option (HalfMatch × ℕ)). IsBased m input (Ok v)) is based) where
+    go : IsBased m input (Ok None) → IsHalf Forward m input (Ok None)
+    go b = record {
+      found = (None, b.found, refl);
+      answer = λ acyclic. (None, b.answer acyclic, refl);
+      nearest = λ early. (None, b.nearest early, refl);
+      farthest = λ late all. (None, b.farthest late all, refl);
+      within = tt;
+      errors = tt;
+      unsupported = λ u. absurd (ok_err (b.unsupported u));
+      free = λ f. tt;
+      done = λ past. refl;
+    }
+
+  pub half_err :
+      (r : Result (Option HalfMatch) SearchError) (e : SearchError) → IsErrAnd r (λ x. x ≡ e)
+      → IsBased m input (Err e) → IsHalf Forward m input r
+  half_err (Ok o) e is based = absurd is
+  half_err (Err x) e is based = go (subst (λ (v : SearchError). IsBased m input (Err v)) (sym is) based) where
+    go : IsBased m input (Err x) → IsHalf Forward m input (Err x)
+    go b = record {
+      found = tt;
+      answer = λ acyclic. tt;
+      nearest = λ early. tt;
+      farthest = λ late all. tt;
+      within = tt;
+      errors = b.errors;
+      unsupported = λ u. err_to (b.unsupported u);
+      free = b.free;
+      done = λ past. absurd (err_ok (b.done past));
+    }
+
+-- what is made of the cache, by another answer of the same kind
+module _ {T U : Type 0} (way : Direction) (m : Machine) (input : Input) (old new : CacheView) where
+  pub effect_ok :
+      (a : T) (b : U) → IsSearchEffect way m input old new (Ok a)
+      → IsSearchEffect way m input old new (Ok b)
+  effect_ok a b s = record {
+    cost = s.cost;
+    grown = s.grown;
+    learned = s.learned;
+    known = λ knows. ((s.known knows).0, tt);
+    ended = s.ended;
+    left = tt;
+    done = s.done;
+  }
+
+  pub effect_err :
+      (r : Result U SearchError) (e : SearchError) → IsErrAnd r (λ x. x ≡ e)
+      → IsSearchEffect {T = T} way m input old new (Err e) → IsSearchEffect way m input old new r
+  effect_err (Ok b) e is s = absurd is
+  effect_err (Err x) e is s = record {
+    cost = s.cost;
+    grown = s.grown;
+    learned = λ nothing. tt;
+    known = λ knows. ((s.known knows).0, subst IsOfInput (sym is) (s.known knows).1);
+    ended = tt;
+    left = subst (LeavesProgress way m input old.store new.store) (sym is) s.left;
+    done = s.done;
+  }
+
+-- answers without their bases
+pub halves_ok :
+    (P : Option Half → Type 0) (r : Result (Option (HalfMatch × ℕ)) SearchError)
+    → IfOk r (λ o. P (based_half o)) → IfOk (halves r) (WithoutBase P)
+halves_ok P (Ok None) h = (None, h, refl)
+halves_ok P (Ok (Some p)) h = (Some (with_base p.0 p.1), h, refl)
+halves_ok P (Err e) h = tt
+
+pub halves_err :
+    (Q : SearchError → Type 0) (r : Result (Option (HalfMatch × ℕ)) SearchError) → IfErr r Q → IfErr (halves r) Q
+halves_err Q (Ok o) h = tt
+halves_err Q (Err e) h = h
+
+pub halves_effect :
+    (way : Direction) (m : Machine) (input : Input) (old new : CacheView)
+    (r : Result (Option (HalfMatch × ℕ)) SearchError)
+    → IsSearchEffect way m input old new r → IsSearchEffect way m input old new (halves r)
+halves_effect way m input old new (Ok o) s = effect_ok way m input old new o _ s
+halves_effect way m input old new (Err e) s = effect_err way m input old new (Err e) e refl s

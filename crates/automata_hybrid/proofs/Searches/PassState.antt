@@ -1,0 +1,393 @@
+-- What a pass has found so far, unit by unit.
+use Rattle.std.proofs.Common.{ℕ, zero, suc, ◌≡◌, ◌<◌, ◌≤◌, ◌⊎◌, inl, inr, Bool, true, false, List, [], ◌∷◌, length}
+use Rattle.std.proofs.Common.{Option, Some, None, refl, sym, ap, ◌∙◌, subst, arith, eq-or-lt_of_le}
+use Rattle.automata_base.specs.Answers.Answers.{offset_in}
+use Rattle.automata_base.specs.Retraced.ComputedPass.{pair_at, earlier_or}
+use Rattle.automata_base.specs.declared.util.search.MatchKind.{MatchKind}
+use Rattle.automata_base.specs.declared.util.search.Anchored.{Anchored}
+use Rattle.automata_base.specs.Haystacks.Input.{Input}
+use Rattle.automata_base.specs.Haystacks.Matches.{HalfMatch}
+use Rattle.automata_base.specs.Nfas.Nodes.{Automaton}
+use Rattle.automata_base.specs.Paths.Paths.{Tape, next}
+use Rattle.automata_base.specs.Powersets.Powerset.{Powerset, dead}
+use Rattle.automata_base.specs.Paths.Selections.{Pair}
+use Rattle.automata_base.specs.Retraced.Steps.{start_state_of, successor}
+use Rattle.automata_base.specs.Haystacks.Tapes.{Direction}
+use Rattle.automata_base.specs.Retraced.Passes.{state_after, reported_at, last_reported, first_reported, reported_upto}
+use Rattle.automata_base.proofs.Powersets.Alike.{dead_stays}
+use Rattle.std.specs.Prelude.{Result, Ok, Err, IfErr, is_some}
+use Rattle.std.specs.Result.{IsErrAnd}
+use Rattle.automata_config.specs.declared.error.SearchError.{SearchError}
+use Rattle.automata_hybrid.specs.Cache.Stores.{Stored}
+use Rattle.automata_hybrid.specs.Machines.Machine.{Machine}
+use Rattle.automata_hybrid.specs.Searches.PassState.{half_of, half_at, found_over, IsAt}
+use Rattle.automata_hybrid.specs.Searches.Passes.{IsPassRefusal, IsStepRefusal, IsUnitRefusal, MeetsNoQuit, Reads}
+use Rattle.automata_hybrid.specs.Searches.Passes.{given_up_offset, state_in, tape_in, reported_in, unit_offset}
+use Rattle.automata_hybrid.specs.Steps.Starts.{quit_behind}
+use Rattle.automata_hybrid.specs.Cache.Table.{Rows, Leads, Names}
+use Rattle.automata_base.specs.ByteClasses.Classes.{is_quit}
+use Rattle.automata_config.specs.Options.{match_kind_of}
+use Rattle.std.proofs.lemmas.Bool.{cases_lt}
+
+-- one unit more
+pub state_more :
+    (way : Direction) (m : Machine) (input : Input) (k : ℕ)
+    → state_in way m input (suc k) ≡ successor m.nfa (match_kind_of m.config) (state_in way m input k) (next (tape_in way input) k)
+unfolding state_after
+state_more way m input k = refl
+
+pub ok_err : {A E : Type 0} {a : A} {e : E} → ◌≡◌ {A = Result A E} (Ok a) (Err e) → ⊥
+ok_err h = cc
+
+pub false_true : false ≡ true → ⊥
+false_true e = cc
+
+pub half_none : (way : Direction) (input : Input) (o : Option Pair) → half_of way input o ≡ None → o ≡ None
+half_none way input None e = refl
+half_none way input (Some pair) e = cc
+
+pair_half :
+    (way : Direction) (input : Input) (ps : List ℕ) (k : ℕ) (o : Option Pair)
+    → half_of way input (pair_at ps k o) ≡ half_at ps (offset_in way input k) (half_of way input o)
+pair_half way input [] k o = refl
+pair_half way input (p ∷ ps) k o = refl
+
+found_by :
+    (way : Direction) (input : Input) (kind : MatchKind) (e : Bool) (a : Automaton) (mode : Anchored) (t : Tape) (k : ℕ)
+    → (e ≡ true → half_of way input (reported_upto kind e a mode t k) ≡ None)
+    → half_of way input (reported_upto kind e a mode t (suc k))
+    ≡ half_at (reported_at a kind mode t k) (offset_in way input k) (half_of way input (reported_upto kind e a mode t k))
+unfolding last_reported first_reported
+found_by way input kind false a mode t k first = pair_half way input (reported_at a kind mode t k) k (last_reported a kind mode t k)
+found_by way input kind true a mode t k first =
+    let none : first_reported a kind mode t k ≡ None = half_none way input (first_reported a kind mode t k) (first refl) in
+    ap (λ o. half_of way input (earlier_or o (pair_at (reported_at a kind mode t k) k None))) none
+    ∙ (pair_half way input (reported_at a kind mode t k) k None
+    ∙ ap (λ o. half_at (reported_at a kind mode t k) (offset_in way input k) (half_of way input o)) (sym none))
+
+-- after one unit more a pass has found what the state there reports, or what it had
+pub found_more :
+    (way : Direction) (m : Machine) (input : Input) (k : ℕ)
+    → (input.earliest ≡ true → half_of way input (reported_in way m input k) ≡ None)
+    → half_of way input (reported_in way m input (suc k))
+    ≡ half_at (state_in way m input (suc k)).patterns (offset_in way input k) (half_of way input (reported_in way m input k))
+found_more way m input k first = found_by way input (match_kind_of m.config) input.earliest m.nfa input.anchored (tape_in way input) k first
+
+-- the dead state stays, and reports nothing
+pub dead_more :
+    (way : Direction) (m : Machine) (input : Input) (k n : ℕ)
+    → k ≤ n → state_in way m input k ≡ dead → state_in way m input n ≡ dead
+dead_more way m input k zero l e =
+    let z : k ≡ 0 = omega (arith, l) in subst (λ i. state_in way m input i ≡ dead) z e
+dead_more way m input k (suc n) l e = go (λ more. dead_more way m input k n more e) (eq-or-lt_of_le l) where
+  go : (k ≤ n → state_in way m input n ≡ dead) → (k ≡ suc n) ⊎ (k < suc n) → state_in way m input (suc n) ≡ dead
+  go before (inl same) = subst (λ i. state_in way m input i ≡ dead) same e
+  go before (inr less) =
+      state_more way m input n
+      ∙ (ap (λ q. successor m.nfa (match_kind_of m.config) q (next (tape_in way input) n)) (before (omega (arith, less)))
+      ∙ dead_stays m.nfa (match_kind_of m.config) (next (tape_in way input) n))
+
+earlier_none : (o : Option Pair) → earlier_or o None ≡ o
+earlier_none None = refl
+earlier_none (Some pair) = refl
+
+silent :
+    (kind : MatchKind) (e : Bool) (a : Automaton) (mode : Anchored) (t : Tape) (k : ℕ)
+    → reported_at a kind mode t k ≡ [] → reported_upto kind e a mode t (suc k) ≡ reported_upto kind e a mode t k
+unfolding last_reported first_reported
+silent kind false a mode t k n = ap (λ ps. pair_at ps k (last_reported a kind mode t k)) n
+silent kind true a mode t k n =
+    ap (λ ps. earlier_or (first_reported a kind mode t k) (pair_at ps k None)) n ∙ earlier_none (first_reported a kind mode t k)
+
+-- a unit after which the state has no patterns reports nothing
+pub reported_quiet :
+    (way : Direction) (m : Machine) (input : Input) (k : ℕ)
+    → (state_in way m input (suc k)).patterns ≡ [] → reported_in way m input (suc k) ≡ reported_in way m input k
+reported_quiet way m input k e = silent (match_kind_of m.config) input.earliest m.nfa input.anchored (tape_in way input) k e
+
+quiet :
+    (way : Direction) (m : Machine) (input : Input) (k n : ℕ)
+    → k ≤ n → state_in way m input (suc k) ≡ dead → reported_in way m input (suc n) ≡ reported_in way m input n
+quiet way m input k n l e =
+    silent (match_kind_of m.config) input.earliest m.nfa input.anchored (tape_in way input) n
+    (ap (λ (q : Powerset). q.patterns) (dead_more way m input (suc k) (suc n) (omega (arith, l)) e))
+
+dead_reports :
+    (way : Direction) (m : Machine) (input : Input) (k n : ℕ)
+    → k ≤ n → state_in way m input (suc k) ≡ dead → reported_in way m input (suc n) ≡ reported_in way m input k
+dead_reports way m input k zero l e =
+    let z : 0 ≡ k = omega (arith, l) in quiet way m input k zero l e ∙ ap (reported_in way m input) z
+dead_reports way m input k (suc n) l e = go (λ more. dead_reports way m input k n more e) (eq-or-lt_of_le l) where
+  go :
+      (k ≤ n → reported_in way m input (suc n) ≡ reported_in way m input k) → (k ≡ suc n) ⊎ (k < suc n)
+      → reported_in way m input (suc (suc n)) ≡ reported_in way m input k
+  go before (inl same) = quiet way m input k (suc n) l e ∙ ap (reported_in way m input) (sym same)
+  go before (inr less) = quiet way m input k (suc n) l e ∙ before (omega (arith, less))
+
+-- a pass that dies has found what it had
+pub found_dead :
+    (way : Direction) (m : Machine) (input : Input) (k : ℕ)
+    → k ≤ length (tape_in way input).bytes → state_in way m input (suc k) ≡ dead
+    → half_of way input (reported_in way m input k) ≡ found_over way m input
+found_dead way m input k l e =
+    ap (half_of way input) (sym (dead_reports way m input k (length (tape_in way input).bytes) l e))
+
+first_stays :
+    (kind : MatchKind) (a : Automaton) (mode : Anchored) (t : Tape) (k n : ℕ) (pair : Pair)
+    → k ≤ n → first_reported a kind mode t k ≡ Some pair → first_reported a kind mode t n ≡ Some pair
+unfolding first_reported
+first_stays kind a mode t k zero pair l e =
+    let z : k ≡ 0 = omega (arith, l) in subst (λ i. first_reported a kind mode t i ≡ Some pair) z e
+first_stays kind a mode t k (suc n) pair l e = go (λ more. first_stays kind a mode t k n pair more e) (eq-or-lt_of_le l) where
+  go :
+      (k ≤ n → first_reported a kind mode t n ≡ Some pair) → (k ≡ suc n) ⊎ (k < suc n)
+      → first_reported a kind mode t (suc n) ≡ Some pair
+  go before (inl same) = subst (λ i. first_reported a kind mode t i ≡ Some pair) same e
+  go before (inr less) =
+      ap (λ o. earlier_or o (pair_at (reported_at a kind mode t n) n None)) (before (omega (arith, less)))
+
+some_none : {pair : Pair} → Some pair ≡ None → ⊥
+some_none e = cc
+
+reported_stays :
+    (kind : MatchKind) (e : Bool) (a : Automaton) (mode : Anchored) (t : Tape) (k n : ℕ) (o : Option Pair)
+    → k ≤ n → e ≡ true → reported_upto kind e a mode t k ≡ o → (o ≡ None → ⊥)
+    → reported_upto kind e a mode t n ≡ reported_upto kind e a mode t k
+reported_stays kind false a mode t k n o l f e some = absurd (false_true f)
+reported_stays kind true a mode t k n None l f e some = absurd (some refl)
+reported_stays kind true a mode t k n (Some pair) l f e some = first_stays kind a mode t k n pair l e ∙ sym e
+
+-- an earliest pass that has found something has found all
+pub found_first :
+    (way : Direction) (m : Machine) (input : Input) (k : ℕ)
+    → k ≤ suc (length (tape_in way input).bytes) → input.earliest ≡ true
+    → (half_of way input (reported_in way m input k) ≡ None → ⊥)
+    → half_of way input (reported_in way m input k) ≡ found_over way m input
+found_first way m input k l e some =
+    ap (half_of way input)
+    (sym (reported_stays (match_kind_of m.config) input.earliest m.nfa input.anchored (tape_in way input) k
+    (suc (length (tape_in way input).bytes)) (reported_in way m input k) l e refl (λ f. some (ap (half_of way input) f))))
+
+-- a pass has met no quit byte if it does not have up to a place, and reads nothing from there on
+clean_all :
+    (way : Direction) (m : Machine) (input : Input) (k : ℕ)
+    → quit_behind m (tape_in way input).before ≡ None
+    → ((j byte : ℕ) → j < k → next (tape_in way input) j ≡ Some byte → is_quit m.quits byte ≡ false)
+    → ((j : ℕ) → k ≤ j → Reads way m input j → ⊥) → MeetsNoQuit way m input
+clean_all way m input k behind clean stops = (behind, λ j byte reads e. go j byte reads e (cases_lt j k)) where
+  go :
+      (j byte : ℕ) → Reads way m input j → next (tape_in way input) j ≡ Some byte → (j < k) ⊎ (k ≤ j)
+      → is_quit m.quits byte ≡ false
+  go j byte reads e (inl l) = clean j byte l e
+  go j byte reads e (inr l) = absurd (stops j l reads)
+
+-- what a pass that stands at a place reads
+pub at_reads :
+    (way : Direction) (m : Machine) (t : Rows) (input : Input) (k id : ℕ) (found : Option HalfMatch)
+    → IsAt way m t input k id found → k ≤ length (tape_in way input).bytes
+    → ((q : Powerset) → Names t id q → q ≡ dead → ⊥) → Reads way m input k
+at_reads way m t input k id found at l alive =
+    (l, alive (state_in way m input k) at.named, λ e. half_none way input (reported_in way m input k) (sym at.reported ∙ at.nothing e))
+
+-- it reads the units before one that it reads
+pub reads_before :
+    (way : Direction) (m : Machine) (input : Input) (j k : ℕ) → j ≤ k → Reads way m input k → Reads way m input j
+reads_before way m input j k l reads = (
+  omega (arith, l, reads.0),
+  λ dies. reads.1 (dead_more way m input j k l dies),
+  λ early. none early (reported_in way m input j) refl,
+) where
+  none : input.earliest ≡ true → (o : Option Pair) → reported_in way m input j ≡ o → reported_in way m input j ≡ None
+  none early None e = e
+  none early (Some pair) e =
+      let stays : reported_in way m input k ≡ reported_in way m input j =
+      reported_stays (match_kind_of m.config) input.earliest m.nfa input.anchored (tape_in way input) j k (Some pair) l early e some_none in
+      absurd (some_none (sym e ∙ (sym stays ∙ reads.2 early)))
+
+-- nothing is read after the last unit
+pub stops_last :
+    (way : Direction) (m : Machine) (input : Input) (k : ℕ)
+    → k ≡ length (tape_in way input).bytes → (j : ℕ) → suc k ≤ j → Reads way m input j → ⊥
+stops_last way m input k l j less r = let f : j ≤ length (tape_in way input).bytes = r.0 in absurd (omega (arith, l, less, f))
+
+-- a pass that stands at a place reads one unit more, which is no quit byte
+module _ (way : Direction) (m : Machine) (t t' : Rows) (input : Input) (k id id' : ℕ) (u : Option ℕ)
+    (found found' : Option HalfMatch) (at : IsAt way m t input k id found) (unit : next (tape_in way input) k ≡ u)
+    (reads : (q : Powerset) → Names t id q → Leads t' id' (successor m.nfa (match_kind_of m.config) q u))
+    (free : (byte : ℕ) → u ≡ Some byte → is_quit m.quits byte ≡ false) where
+  -- the ID found reports its patterns at the offset of the place
+  abbrev pub Reports : Type 0
+  Reports = (o : ℕ) × (o ≡ offset_in way input k) × ((q : Powerset) → Leads t' id' q → found' ≡ half_at q.patterns o found)
+
+  pub more_leads : Leads t' id' (state_in way m input (suc k))
+  more_leads =
+      subst (λ q. Leads t' id' q) (sym (state_more way m input k ∙ ap (successor m.nfa (match_kind_of m.config) (state_in way m input k)) unit))
+      (reads (state_in way m input k) at.named)
+
+  more_first : input.earliest ≡ true → half_of way input (reported_in way m input k) ≡ None
+  more_first e = sym at.reported ∙ at.nothing e
+
+  more_clean : (j byte : ℕ) → j < suc k → next (tape_in way input) j ≡ Some byte → is_quit m.quits byte ≡ false
+  more_clean j byte l e = go (cases_lt j k) where
+    go : (j < k) ⊎ (k ≤ j) → is_quit m.quits byte ≡ false
+    go (inl less) = at.clean j byte less e
+    go (inr more) =
+        let same : k ≡ j = omega (arith, l, more) in
+        free byte (sym unit ∙ (ap (next (tape_in way input)) same ∙ e))
+
+  pub more_found :
+      Reports
+      → found' ≡ half_of way input (reported_in way m input (suc k))
+  more_found reports =
+      reports.2 (state_in way m input (suc k)) more_leads
+      ∙ (ap (λ v. half_at (state_in way m input (suc k)).patterns v found) reports.1
+      ∙ (ap (half_at (state_in way m input (suc k)).patterns (offset_in way input k)) at.reported
+      ∙ sym (found_more way m input k more_first)))
+
+  -- and stands after it
+  pub more_at :
+      Reports
+      → (input.earliest ≡ true → found' ≡ None) → (Leads t' id' (state_in way m input (suc k)) → Names t' id' (state_in way m input (suc k)))
+      → IsAt way m t' input (suc k) id' found'
+  more_at reports first alive =
+      record { named = alive more_leads; reported = more_found reports; nothing = first; clean = more_clean }
+
+  -- or dies
+  pub more_dead :
+      (Leads t' id' (state_in way m input (suc k)) → state_in way m input (suc k) ≡ dead) → k ≤ length (tape_in way input).bytes
+      → found ≡ found_over way m input
+  more_dead dies l = at.reported ∙ found_dead way m input k l (dies more_leads)
+
+  pub stops_dead :
+      (Leads t' id' (state_in way m input (suc k)) → state_in way m input (suc k) ≡ dead)
+      → (j : ℕ) → suc k ≤ j → Reads way m input j → ⊥
+  stops_dead dies j l r = r.1 (dead_more way m input (suc k) j l (dies more_leads))
+
+  pub clean_dead :
+      (Leads t' id' (state_in way m input (suc k)) → state_in way m input (suc k) ≡ dead)
+      → quit_behind m (tape_in way input).before ≡ None → MeetsNoQuit way m input
+  clean_dead dies behind = clean_all way m input (suc k) behind more_clean (stops_dead dies)
+
+  -- or an earliest pass ends
+  pub more_ends :
+      Reports
+      → k ≤ length (tape_in way input).bytes → input.earliest ≡ true → (found' ≡ None → ⊥) → found' ≡ found_over way m input
+  more_ends reports l e some =
+      more_found reports
+      ∙ found_first way m input (suc k) (omega (arith, l)) e (λ f. some (more_found reports ∙ f))
+
+  pub stops_ends :
+      Reports → input.earliest ≡ true → (found' ≡ None → ⊥) → (j : ℕ) → suc k ≤ j → Reads way m input j → ⊥
+  stops_ends reports e some j l r =
+      some (more_found reports ∙ ap (half_of way input)
+      (sym (reported_stays (match_kind_of m.config) input.earliest m.nfa input.anchored (tape_in way input) (suc k) j (reported_in way m input (suc k)) l e refl
+      (λ f. some (more_found reports ∙ ap (half_of way input) f))) ∙ r.2 e))
+
+  pub clean_ends :
+      Reports
+      → input.earliest ≡ true → (found' ≡ None → ⊥) → quit_behind m (tape_in way input).before ≡ None → MeetsNoQuit way m input
+  clean_ends reports e some behind = clean_all way m input (suc k) behind more_clean (stops_ends reports e some)
+
+  -- or it was the last unit
+  pub more_last :
+      Reports
+      → k ≡ length (tape_in way input).bytes → found' ≡ found_over way m input
+  more_last reports l = more_found reports ∙ ap (λ i. half_of way input (reported_in way m input (suc i))) l
+
+  pub clean_last : k ≡ length (tape_in way input).bytes → quit_behind m (tape_in way input).before ≡ None → MeetsNoQuit way m input
+  clean_last l behind = clean_all way m input (suc k) behind more_clean (stops_last way m input k l)
+
+-- a pass begins at its start
+pub starts_at :
+    (way : Direction) (m : Machine) (t : Rows) (input : Input) (id : ℕ)
+    → Names t id (state_in way m input 0) → IsAt way m t input 0 id None
+unfolding last_reported first_reported
+starts_at way m t input id n =
+    record { named = n; reported = go input.earliest; nothing = λ e. refl; clean = λ j byte l e. absurd (omega (arith, l)) } where
+      go : (e : Bool) → None ≡ half_of way input (reported_upto (match_kind_of m.config) e m.nfa input.anchored (tape_in way input) 0)
+      go true = refl
+      go false = refl
+
+-- a pass that is dead from its start on finds nothing, and meets no quit byte
+pub starts_dead :
+    (way : Direction) (m : Machine) (input : Input)
+    → state_in way m input 0 ≡ dead → None ≡ found_over way m input
+unfolding last_reported first_reported
+starts_dead way m input d =
+    go input.earliest ∙ found_dead way m input 0 (omega arith) (dead_more way m input 0 1 (omega arith) d) where
+      go : (e : Bool) → None ≡ half_of way input (reported_upto (match_kind_of m.config) e m.nfa input.anchored (tape_in way input) 0)
+      go true = refl
+      go false = refl
+
+pub stops_start :
+    (way : Direction) (m : Machine) (input : Input)
+    → state_in way m input 0 ≡ dead → (j : ℕ) → 0 ≤ j → Reads way m input j → ⊥
+stops_start way m input d j l r = r.1 (dead_more way m input 0 j l d)
+
+pub clean_start :
+    (way : Direction) (m : Machine) (input : Input)
+    → state_in way m input 0 ≡ dead → quit_behind m (tape_in way input).before ≡ None → MeetsNoQuit way m input
+clean_start way m input d behind =
+    clean_all way m input 0 behind (λ j byte l e. absurd (omega (arith, l))) (stops_start way m input d)
+
+-- a failed step from an ID refuses the unit of its place
+pub unit_refuses :
+    (way : Direction) (m : Machine) (t : Rows) (c : Stored) (input : Input) (k id quit_at given_up_at : ℕ) (u : Option ℕ)
+    (found : Option HalfMatch) (e : SearchError)
+    → IsAt way m t input k id found
+    → next (tape_in way input) k ≡ u → unit_offset way input k ≡ quit_at → given_up_offset way input k ≡ given_up_at
+    → ((q : Powerset) → Names t id q → IsStepRefusal m c q u quit_at given_up_at e) → IsUnitRefusal way m c input k e
+unit_refuses way m t c input k id quit_at given_up_at u found e at unit first second refused =
+    subst (λ a. IsStepRefusal m c (state_in way m input k) (next (tape_in way input) k) a (given_up_offset way input k) e) (sym first)
+    (subst (λ b. IsStepRefusal m c (state_in way m input k) (next (tape_in way input) k) quit_at b e) (sym second)
+    (subst (λ v. IsStepRefusal m c (state_in way m input k) v quit_at given_up_at e) (sym unit) (refused (state_in way m input k) at.named)))
+
+-- and the pass
+pub step_refuses :
+    (way : Direction) (m : Machine) (t : Rows) (c : Stored) (input : Input) (k id quit_at given_up_at : ℕ) (u : Option ℕ)
+    (found : Option HalfMatch) (e : SearchError)
+    → IsAt way m t input k id found → k ≤ length (tape_in way input).bytes → ((q : Powerset) → Names t id q → q ≡ dead → ⊥)
+    → next (tape_in way input) k ≡ u → unit_offset way input k ≡ quit_at → given_up_offset way input k ≡ given_up_at
+    → ((q : Powerset) → Names t id q → IsStepRefusal m c q u quit_at given_up_at e)
+    → quit_behind m (tape_in way input).before ≡ None → IsPassRefusal way m c input e
+step_refuses way m t c input k id quit_at given_up_at u found e at l alive unit first second refused behind =
+    inr (
+      k,
+      behind,
+      at_reads way m t input k id found at l alive,
+      at.clean,
+      unit_refuses way m t c input k id quit_at given_up_at u found e at unit first second refused,
+    )
+
+-- as a refused unit does
+pub place_refuses :
+    (way : Direction) (m : Machine) (t : Rows) (c : Stored) (input : Input) (k id : ℕ) (found : Option HalfMatch) (e : SearchError)
+    → IsAt way m t input k id found → k ≤ length (tape_in way input).bytes → ((q : Powerset) → Names t id q → q ≡ dead → ⊥)
+    → quit_behind m (tape_in way input).before ≡ None → IsUnitRefusal way m c input k e → IsPassRefusal way m c input e
+place_refuses way m t c input k id found e at l alive behind refused =
+    inr (k, behind, at_reads way m t input k id found at l alive, at.clean, refused)
+
+pub if_err :
+    {A E : Type 0} (r : Result A E) (e : E) (P : E → Type 0) → IsErrAnd r (λ x. x ≡ e) → P e → IfErr r P
+if_err (Ok a) e P h p = tt
+if_err (Err x) e P h p = subst P (sym h) p
+
+pub if_both :
+    {A E : Type 0} (r : Result A E) (P Q R : E → Type 0) → ((e : E) → P e → Q e → R e) → IfErr r P → IfErr r Q → IfErr r R
+if_both (Ok a) P Q R f p q = tt
+if_both (Err e) P Q R f p q = f e p q
+
+pub some_is : (o : Option HalfMatch) → true ≡ is_some o → o ≡ None → ⊥
+some_is None h e = false_true (sym h)
+some_is (Some half) h e = cc
+
+pub none_is : (o : Option HalfMatch) → is_some o ≡ false → o ≡ None
+none_is None h = refl
+none_is (Some half) h = absurd (false_true (sym h))
+
+-- a pass begins in its start state
+pub state_first :
+    (way : Direction) (m : Machine) (input : Input)
+    → start_state_of m.nfa input.anchored (tape_in way input).before ≡ state_in way m input 0
+unfolding state_after
+state_first way m input = refl

@@ -1,0 +1,129 @@
+-- Where no quit byte is in reach, no clear limit is set and the mode is supported, a search fails by memory alone.
+use Rattle.std.proofs.Common.{ℕ, zero, suc, ◌≡◌, ◌∙◌, ◌≤◌, ◌+◌, ◌-◌, inl, inr, Bool, true, false, cond, length, Option}
+use Rattle.std.proofs.Common.{Some, None, refl, sym, ap, subst, arith}
+use Rattle.automata_base.specs.Answers.Answers.{later}
+use Rattle.automata_base.specs.ByteClasses.Classes.{is_quit}
+use Rattle.automata_base.specs.Haystacks.Input.{Input}
+use Rattle.automata_base.specs.Lists.{nth}
+use Rattle.automata_base.specs.Paths.Paths.{next}
+use Rattle.automata_base.specs.Powersets.Powerset.{Powerset}
+use Rattle.automata_base.specs.Haystacks.Tapes.{Direction, Forward, Backward, byte_before}
+use Rattle.automata_base.specs.declared.util.search.MatchErrorKind.TheVariants.{Quit as QuitAt, GaveUp}
+use Rattle.automata_base.specs.declared.util.search.MatchErrorKind.TheVariants.{UnsupportedAnchored as UnsupportedMode}
+use Rattle.automata_base.proofs.Paths.Orders.{some_inj, none_some}
+use Rattle.automata_config.specs.declared.error.StartError.TheVariants as start
+use Rattle.automata_config.specs.declared.error.SearchError.{SearchError}
+use Rattle.automata_config.specs.declared.error.SearchError.TheVariants as search
+use Rattle.automata_hybrid.specs.Cache.Stores.{Stored}
+use Rattle.automata_hybrid.specs.Cache.Usage.{GivesUp, refuses_at}
+use Rattle.automata_hybrid.specs.Machines.Machine.{Machine}
+use Rattle.automata_hybrid.specs.Searches.Passes.{tape_in, NoQuitInReach, IsRefused, IsPassRefusal, IsStepRefusal}
+use Rattle.automata_hybrid.specs.Machines.StartSlots.{supports}
+use Rattle.automata_hybrid.specs.Steps.Starts.{quit_behind, IsStartRefusalAt}
+use Rattle.automata_hybrid.proofs.Searches.PassState.{false_true}
+use Rattle.automata_hybrid.proofs.Searches.Units.{forward_unit, forward_units, backward_unit, backward_units}
+use Rattle.automata_config.specs.Options.{minimum_cache_clear_count_of}
+use Rattle.automata_hybrid.proofs.Searches.Directions.{later_anchored}
+
+-- a byte of the haystack in reach of a span
+abbrev pub InReach : Input → ℕ → Type 0
+InReach input byte = (at : ℕ) × (input.start ≤ at + 1) × (at ≤ input.end) × (nth input.haystack at ≡ Some byte)
+
+before_reach : (input : Input) (o byte : ℕ) → input.start ≤ o → o ≤ input.end → byte_before input.haystack o ≡ Some byte → InReach input byte
+before_reach input zero byte s e h = absurd (none_some h)
+before_reach input (suc o) byte s e h = (o, omega (arith, s), omega (arith, e), h)
+
+-- the look-behind byte of a pass is in reach
+pub behind_reach :
+    (way : Direction) (input : Input) (byte : ℕ) → input.start ≤ input.end → (tape_in way input).before ≡ Some byte → InReach input byte
+behind_reach Forward input byte l h = before_reach input input.start byte (omega arith) l h
+behind_reach Backward input byte l h = (input.end, omega (arith, l), omega arith, h)
+
+-- and each unit that it reads
+pub unit_reach :
+    (way : Direction) (input : Input) (k byte : ℕ)
+    → input.start ≤ input.end → input.end ≤ length input.haystack → k ≤ length (tape_in way input).bytes
+    → next (tape_in way input) k ≡ Some byte → InReach input byte
+unit_reach Forward input k byte l w n h =
+    let u : input.end - input.start ≡ length (tape_in Forward input).bytes = forward_units input l w in
+    let e : input.start + k - input.start ≡ k = omega arith in
+    let read : nth input.haystack (input.start + k) ≡ Some byte =
+    sym (forward_unit input (input.start + k) (omega arith) (omega (arith, u, n, l)) w)
+    ∙ (ap (next (tape_in Forward input)) e ∙ h) in
+    (input.start + k, omega arith, omega (arith, u, n, l), read)
+unit_reach Backward input k byte l w n h =
+    let u : input.end - input.start ≡ length (tape_in Backward input).bytes = backward_units input l w in
+    let e : input.end - (input.end - k) ≡ k = omega (arith, u, n, l) in
+    let read : byte_before input.haystack (input.end - k) ≡ Some byte =
+    sym (backward_unit input (input.end - k) (omega (arith, u, n, l)) (omega arith) w)
+    ∙ (ap (next (tape_in Backward input)) e ∙ h) in
+    before_reach input (input.end - k) byte (omega (arith, u, n, l)) (omega arith) read
+
+later_reach :
+    (way : Direction) (k : ℕ) (input : Input) (byte : ℕ) → input.start + k ≤ input.end → InReach (later way k input) byte → InReach input byte
+later_reach Forward k input byte l r = (r.0, (let a : input.start + k ≤ r.0 + 1 = r.1 in omega (arith, a)), r.2, r.3)
+later_reach Backward k input byte l r = (r.0, r.1, (let a : r.0 ≤ input.end - k = r.2 in omega (arith, a)), r.3)
+
+pub is_behind : (m : Machine) (o : Option ℕ) (byte : ℕ) → quit_behind m o ≡ Some byte → (o ≡ Some byte) × (is_quit m.quits byte ≡ true)
+is_behind m None byte e = absurd (none_some e)
+is_behind m (Some b) byte e = go (is_quit m.quits b) refl e where
+  go :
+      (v : Bool) → is_quit m.quits b ≡ v → ◌≡◌ {A = Option ℕ} (cond v (Some b) None) (Some byte)
+      → (◌≡◌ {A = Option ℕ} (Some b) (Some byte)) × (is_quit m.quits byte ≡ true)
+  go true f e = (e, subst (λ n. is_quit m.quits n ≡ true) (some_inj e) f)
+  go false f e = absurd (none_some e)
+
+pub no_limit : (m : Machine) (c : Stored) (q : Powerset) → c.table.of ≡ m → minimum_cache_clear_count_of m.config ≡ None → GivesUp c q → ⊥
+no_limit m c q same free gives =
+    let limit : minimum_cache_clear_count_of c.table.of.config ≡ None = ap (λ (n : Machine). minimum_cache_clear_count_of n.config) same ∙ free in
+    let rule : refuses_at (minimum_cache_clear_count_of c.table.of.config) c ≡ true = gives.2 in
+    false_true (subst (λ o. refuses_at o c ≡ true) limit rule)
+
+module _ (way : Direction) (m : Machine) (c : Stored) (input : Input) (k : ℕ) (within : input.start + k ≤ input.end)
+    (few : input.end ≤ length input.haystack) (same : c.table.of ≡ m) (reach : NoQuitInReach m input)
+    (mode : supports m input.anchored ≡ true) (free : minimum_cache_clear_count_of m.config ≡ None) where
+  unquit : (byte : ℕ) → InReach (later way k input) byte → is_quit m.quits byte ≡ true → ⊥
+  unquit byte r q =
+      let o : InReach input byte = later_reach way k input byte within r in
+      false_true (sym (reach o.0 byte o.1 o.2 o.3) ∙ q)
+
+  ahead : ((later way k input).start ≤ (later way k input).end) × ((later way k input).end ≤ length (later way k input).haystack)
+  ahead = go way where
+    go : (w : Direction) → ((later w k input).start ≤ (later w k input).end) × ((later w k input).end ≤ length (later w k input).haystack)
+    go Forward = (within, few)
+    go Backward = (omega (arith, within), omega (arith, few))
+
+  start_memory :
+      (behind_at start_at : ℕ) (e : SearchError)
+      → IsStartRefusalAt m c (later way k input).anchored (tape_in way (later way k input)).before behind_at start_at e
+      → e ≡ search.OutOfMemory
+  start_memory behind_at start_at e (start.Quit byte, r, reported, unknown) =
+      let b : ((tape_in way (later way k input)).before ≡ Some byte) × (is_quit m.quits byte ≡ true) =
+      is_behind m (tape_in way (later way k input)).before byte r in
+      absurd (unquit byte (behind_reach way (later way k input) byte ahead.0 b.0) b.1)
+  start_memory behind_at start_at e (start.UnsupportedAnchored mode', r, reported, unknown) =
+      absurd (false_true (sym r.1 ∙ (ap (supports m) (later_anchored way k input) ∙ mode)))
+  start_memory behind_at start_at e (start.Cache err, r, reported, unknown) = absurd (no_limit m c _ same free r.1)
+  start_memory behind_at start_at e (start.OutOfMemory, r, reported, unknown) = reported
+
+  step_memory :
+      (j quit_at given_up_at : ℕ) (q : Powerset) (e : SearchError)
+      → j ≤ length (tape_in way (later way k input)).bytes
+      → IsStepRefusal m c q (next (tape_in way (later way k input)) j) quit_at given_up_at e → e ≡ search.OutOfMemory
+  step_memory j quit_at given_up_at q (search.Match (QuitAt byte offset)) l r =
+      absurd (unquit byte (unit_reach way (later way k input) j byte ahead.0 ahead.1 l r.0) r.1)
+  step_memory j quit_at given_up_at q (search.Match (UnsupportedMode reported)) l r = absurd r
+  step_memory j quit_at given_up_at q (search.Match (GaveUp offset)) l r = absurd (no_limit m c _ same free r.1)
+  step_memory j quit_at given_up_at q search.OutOfMemory l r = refl
+  step_memory j quit_at given_up_at q search.NotAPair l r = absurd r
+
+  pub pass_memory : (e : SearchError) → IsPassRefusal way m c (later way k input) e → e ≡ search.OutOfMemory
+  pass_memory e (inl r) = start_memory _ _ e r
+  pass_memory e (inr r) = step_memory r.0 _ _ _ e r.2.0 r.4
+
+-- a search that no named cause forbids fails by out of memory alone
+pub refused_memory :
+    (way : Direction) (m : Machine) (c : Stored) (input : Input) (e : SearchError)
+    → input.end ≤ length input.haystack → c.table.of ≡ m → NoQuitInReach m input → supports m input.anchored ≡ true
+    → minimum_cache_clear_count_of m.config ≡ None → IsRefused way m c input e → e ≡ search.OutOfMemory
+refused_memory way m c input e few same reach mode free r = pass_memory way m c input r.0 r.2 few same reach mode free e r.3

@@ -1,0 +1,155 @@
+-- Spans tried one after another.
+use Rattle.std.proofs.Common.{ℕ, suc, ◌≡◌, ◌<◌, ◌≤◌, ◌+◌, ◌⊎◌, inl, inr, true, Option, Some, None, false, refl, sym, ap}
+use Rattle.std.proofs.Common.{ap₂, ◌∙◌, subst, arith}
+use Rattle.automata_base.specs.Answers.Answers.{Half, later, offset_in, IsSplit, Tries}
+use Rattle.automata_base.specs.declared.util.search.Anchored.TheVariants.{No}
+use Rattle.automata_base.specs.Haystacks.Input.{Input}
+use Rattle.automata_base.specs.Haystacks.Matches.{HalfMatch}
+use Rattle.automata_base.specs.Paths.Selections.{Pair}
+use Rattle.automata_base.specs.Haystacks.Tapes.{Direction, is_split}
+use Rattle.automata_base.specs.Answers.OfPasses.{ReportsOver, IsReported, reported_over}
+use Rattle.automata_base.proofs.Answers.Turning.{turn_answers}
+use Rattle.automata_config.specs.declared.error.SearchError.{SearchError}
+use Rattle.automata_hybrid.specs.Cache.Stores.{Stored}
+use Rattle.automata_hybrid.specs.Machines.Machine.{Machine}
+use Rattle.automata_hybrid.specs.Searches.PassState.{half_of, found_over}
+use Rattle.automata_hybrid.specs.Searches.Passes.{Finds, Skips, IsFound, IsRefused, IsPassRefusal, MeetsNoQuit}
+use Rattle.automata_hybrid.specs.Searches.Passes.{with_base}
+use Rattle.automata_hybrid.proofs.Searches.PassState.{false_true, half_none}
+use Rattle.automata_config.specs.Options.{match_kind_of}
+use Rattle.automata_base.proofs.Answers.Answered.{haystack_later}
+
+-- the pair that a half match stands for
+pub record Stands (way : Direction) (input : Input) (o : Option Pair) (half : HalfMatch) : Type 0 where
+  pub pair : Pair
+  pub reported : o ≡ Some pair
+  pub pattern : half.pattern ≡ pair.pattern
+  pub offset : half.offset ≡ offset_in way input pair.place
+
+pub half_stands :
+    (way : Direction) (input : Input) (o : Option Pair) (half : HalfMatch) → Some half ≡ half_of way input o → Stands way input o half
+half_stands way input None half e = absurd (cc)
+half_stands way input (Some pair) half e =
+    let h : half ≡ record { pattern = pair.pattern; offset = offset_in way input pair.place } = cc in
+    record { pair = pair; reported = refl; pattern = ap (λ (v : HalfMatch). v.pattern) h; offset = ap (λ (v : HalfMatch). v.offset) h }
+
+some_none : {A : Type 0} {a : A} → ◌≡◌ {A = Option A} (Some a) None → ⊥
+some_none e = cc
+
+some_eq : {A : Type 0} {a b : A} → ◌≡◌ {A = Option A} (Some a) (Some b) → a ≡ b
+some_eq e = cc
+
+module _ (T : Input → Option Pair → Type 0) (S : Type 0) (way : Direction) (input : Input) where
+  pub tries_more :
+      (k : ℕ) → Tries T S way input k → S → input.anchored ≡ No → input.start + k ≤ input.end
+      → IsSplit T way (later way k input) → Tries T S way input (suc k)
+  tries_more k tries s free l split = (inr (s, free), before) where
+    before : (j : ℕ) → j < suc k → (input.start + j ≤ input.end) × IsSplit T way (later way j input)
+    before j less = go (eq_or_less j k less) where
+      eq_or_less : (j k : ℕ) → j < suc k → (j ≡ k) ⊎ (j < k)
+      eq_or_less j k h = grind (arith, h)
+
+      go : (j ≡ k) ⊎ (j < k) → (input.start + j ≤ input.end) × IsSplit T way (later way j input)
+      go (inl e) = (omega (arith, l, e), subst (λ i. IsSplit T way (later way i input)) (sym e) split)
+      go (inr h) = tries.1 j h
+
+-- a pass over the span that begins `k` places later was made
+module _ (way : Direction) (m : Machine) (input now : Input) (k : ℕ) (same : now ≡ later way k input)
+    (tries : Tries (Finds way m) (Skips m) way input k) (within : input.start + k ≤ input.end) where
+  there : (o : Option HalfMatch) → o ≡ found_over way m now → o ≡ found_over way m (later way k input)
+  there o e = e ∙ ap (found_over way m) same
+
+  clear : MeetsNoQuit way m now → MeetsNoQuit way m (later way k input)
+  clear c = subst (MeetsNoQuit way m) same c
+
+  -- it found nothing
+  pub finds_none : None ≡ found_over way m now → MeetsNoQuit way m now → IsFound way m input None
+  finds_none e c =
+      let none : reported_over way m.nfa (match_kind_of m.config) (later way k input) ≡ None = half_none way (later way k input) _ (sym (there None e)) in
+      (k, tries, inr (inl (sym none, clear c)))
+
+  stands : (half : HalfMatch) → Some half ≡ found_over way m now → Stands way (later way k input) (reported_over way m.nfa (match_kind_of m.config) (later way k input)) half
+  stands half e = half_stands way (later way k input) (reported_over way m.nfa (match_kind_of m.config) (later way k input)) half (there (Some half) e)
+
+  split_at : (half : HalfMatch) (s : Stands way (later way k input) (reported_over way m.nfa (match_kind_of m.config) (later way k input)) half) → is_split now.haystack half.offset ≡ is_split input.haystack (offset_in way (later way k input) s.pair.place)
+  split_at half s =
+      ap₂ is_split (ap (λ (i : Input). i.haystack) same ∙ haystack_later way k input) s.offset
+
+  -- it found what is not left out
+  pub finds_some :
+      (half : HalfMatch) → Some half ≡ found_over way m now → MeetsNoQuit way m now
+      → (Skips m → is_split now.haystack half.offset ≡ false) → IsFound way m input (Some (with_base half now.start))
+  finds_some half e c keeps =
+      let s : Stands way (later way k input) (reported_over way m.nfa (match_kind_of m.config) (later way k input)) half = stands half e in
+      (k, s.pair, tries, within, (sym s.reported, clear c), (λ skips. sym (split_at half s) ∙ keeps skips), s.pattern, s.offset, ap (λ (i : Input). i.start) same)
+
+  split_there :
+      (half : HalfMatch) → Some half ≡ found_over way m now → MeetsNoQuit way m now
+      → is_split now.haystack half.offset ≡ true → IsSplit (Finds way m) way (later way k input)
+  split_there half e c split =
+      let s : Stands way (later way k input) (reported_over way m.nfa (match_kind_of m.config) (later way k input)) half = stands half e in (
+        s.pair,
+        (sym s.reported, clear c),
+        ap (λ h. is_split h (offset_in way (later way k input) s.pair.place)) (haystack_later way k input) ∙ (sym (split_at half s) ∙ split),
+      )
+
+  -- it found what is left out: an anchored search ends
+  pub finds_split :
+      (half : HalfMatch) → Some half ≡ found_over way m now → MeetsNoQuit way m now → Skips m
+      → is_split now.haystack half.offset ≡ true → (input.anchored ≡ No → ⊥) → IsFound way m input None
+  finds_split half e c skips split anchored = (k, tries, inr (inr (skips, anchored, split_there half e c split)))
+
+  -- and another one goes on
+  pub tries_on :
+      (half : HalfMatch) → Some half ≡ found_over way m now → MeetsNoQuit way m now → Skips m
+      → is_split now.haystack half.offset ≡ true → input.anchored ≡ No → Tries (Finds way m) (Skips m) way input (suc k)
+  tries_on half e c skips split free =
+      tries_more (Finds way m) (Skips m) way input k tries skips free within (split_there half e c split)
+
+  -- after it no other span is tried, where it found nothing
+  pub none_stops : None ≡ found_over way m now → (j : ℕ) → k < j → Tries (Finds way m) (Skips m) way input j → ⊥
+  none_stops e j less tried =
+      let split : IsSplit (Finds way m) way (later way k input) = (tried.1 k less).1 in
+      let none : reported_over way m.nfa (match_kind_of m.config) (later way k input) ≡ None = half_none way (later way k input) _ (sym (there None e)) in
+      some_none (split.1.0 ∙ none)
+
+  -- or what is not left out
+  pub some_stops :
+      (half : HalfMatch) → Some half ≡ found_over way m now → (Skips m → is_split now.haystack half.offset ≡ false)
+      → (j : ℕ) → k < j → Tries (Finds way m) (Skips m) way input j → ⊥
+  some_stops half e keeps j less tried = go tried.0 where
+    go : (j ≡ 0) ⊎ (Skips m × (input.anchored ≡ No)) → ⊥
+    go (inl z) = omega (arith, z, less)
+    go (inr skips) =
+        let split : IsSplit (Finds way m) way (later way k input) = (tried.1 k less).1 in
+        let s : Stands way (later way k input) (reported_over way m.nfa (match_kind_of m.config) (later way k input)) half = stands half e in
+        let same : split.0 ≡ s.pair = some_eq (split.1.0 ∙ s.reported) in
+        let place : is_split (later way k input).haystack (offset_in way (later way k input) s.pair.place) ≡ true =
+        subst (λ (p : Pair). is_split (later way k input).haystack (offset_in way (later way k input) p.place) ≡ true) same split.2 in
+        false_true
+        (sym (keeps skips.0) ∙ (split_at half s ∙ (ap (λ h. is_split h (offset_in way (later way k input) s.pair.place)) (sym (haystack_later way k input)) ∙ place)))
+
+  -- or where the search is anchored
+  pub anchored_stops : (input.anchored ≡ No → ⊥) → (j : ℕ) → k < j → Tries (Finds way m) (Skips m) way input j → ⊥
+  anchored_stops anchored j less tried = go tried.0 where
+    go : (j ≡ 0) ⊎ (Skips m × (input.anchored ≡ No)) → ⊥
+    go (inl z) = omega (arith, z, less)
+    go (inr skips) = anchored skips.1
+
+  -- or it failed
+  pub refuses :
+      (c : Stored) (e : SearchError) → IsPassRefusal way m c now e → IsRefused way m c input e
+  refuses c e r = (k, tries, within, subst (λ i. IsPassRefusal way m c i e) same r)
+
+-- no span is left
+pub finds_no_more :
+    (way : Direction) (m : Machine) (input : Input) (k : ℕ)
+    → Tries (Finds way m) (Skips m) way input k → input.end < input.start + k → IsFound way m input None
+finds_no_more way m input k tries past = (k, tries, inl past)
+
+-- what a search finds is what its passes report
+pub found_reported :
+    (way : Direction) (m : Machine) (input : Input) (o : Option Half)
+    → IsFound way m input o → IsReported way m.nfa (match_kind_of m.config) input o
+found_reported way m input o found =
+    turn_answers (Finds way m) (ReportsOver way m.nfa (match_kind_of m.config)) (Skips m) way input (λ k reported l f. f.0) o found

@@ -1,0 +1,65 @@
+-- The units that a pass reads are bytes of the haystack.
+use Rattle.std.proofs.Common.{ℕ, zero, suc, ◌≡◌, ◌<◌, ◌≤◌, ◌+◌, ◌-◌, List, [], ◌∷◌, length, Some, None, refl, sym, ap}
+use Rattle.std.proofs.Common.{ap₂, ◌∙◌, arith, get_or}
+use Rattle.automata_base.specs.Haystacks.Input.{Input}
+use Rattle.automata_base.specs.Lists.{nth}
+use Rattle.automata_base.specs.Paths.Paths.{next}
+use Rattle.automata_base.specs.Haystacks.Tapes.{Forward, Backward, byte_before}
+use Rattle.automata_base.proofs.Answers.Bytes.{forward_next, forward_length, reverse_next, tape_length}
+use Rattle.automata_hybrid.specs.Searches.Passes.{tape_in}
+
+-- forward the unit at an offset is the byte there
+pub forward_unit :
+    (input : Input) (at : ℕ) → input.start ≤ at → at ≤ input.end → input.end ≤ length input.haystack
+    → next (tape_in Forward input) (at - input.start) ≡ nth input.haystack at
+forward_unit input at s e l =
+    let n : input.start + (at - input.start) ≡ at = omega (arith, s) in
+    forward_next input.haystack input.start input.end (at - input.start) (omega (arith, n, e)) l ∙ ap (nth input.haystack) n
+
+pub forward_units :
+    (input : Input) → input.start ≤ input.end → input.end ≤ length input.haystack
+    → input.end - input.start ≡ length (tape_in Forward input).bytes
+forward_units input s l = sym (forward_length input.haystack input.start input.end s l)
+
+-- backward the unit at an offset is the byte before it
+pub backward_unit :
+    (input : Input) (at : ℕ) → input.start ≤ at → at ≤ input.end → input.end ≤ length input.haystack
+    → next (tape_in Backward input) (input.end - at) ≡ byte_before input.haystack at
+backward_unit input at s e l =
+    reverse_next input.haystack input.start input.end (input.end - at) at (omega (arith, e)) s l
+
+pub backward_units :
+    (input : Input) → input.start ≤ input.end → input.end ≤ length input.haystack
+    → input.end - input.start ≡ length (tape_in Backward input).bytes
+backward_units input s l = sym (tape_length input.haystack input.start input.end s l)
+
+pub nth_read : (xs : List ℕ) (k x d : ℕ) → k < length xs → x ≡ get_or xs k d → nth xs k ≡ Some x
+nth_read [] k x d l e = absurd (omega (arith, l))
+nth_read (y ∷ ys) zero x d l e = ap Some (sym e)
+nth_read (y ∷ ys) (suc k) x d l e = nth_read ys k x d (omega (arith, l)) e
+
+pub nth_past : (xs : List ℕ) (k : ℕ) → length xs ≤ k → nth xs k ≡ None
+nth_past [] k l = refl
+nth_past (y ∷ ys) zero l = absurd (omega (arith, l))
+nth_past (y ∷ ys) (suc k) l = nth_past ys k (omega (arith, l))
+
+-- what is read of the haystack at an offset is the unit there
+pub forward_read :
+    (input : Input) (xs : List ℕ) (at i : ℕ)
+    → input.start ≤ at → at ≤ input.end → input.end ≤ length input.haystack → at < length input.haystack → xs ≡ input.haystack → i ≡ at
+    → next (tape_in Forward input) (at - input.start) ≡ Some (get_or xs i 0)
+forward_read input xs at i s e l inside same here =
+    forward_unit input at s e l
+    ∙ (nth_read input.haystack at (get_or input.haystack at 0) 0 inside refl
+    ∙ ap₂ (λ (h : List ℕ) (n : ℕ). Some (get_or h n 0)) (sym same) (sym here))
+
+-- backward what is read of the haystack is the unit at the offset after it
+pub backward_read :
+    (input : Input) (xs : List ℕ) (at i : ℕ)
+    → input.start ≤ at → at ≤ input.end → input.end ≤ length input.haystack → xs ≡ input.haystack → suc i ≡ at
+    → next (tape_in Backward input) (input.end - at) ≡ Some (get_or xs i 0)
+backward_read input xs at i s e l same here =
+    backward_unit input at s e l
+    ∙ (ap (byte_before input.haystack) (sym here)
+    ∙ (nth_read input.haystack i (get_or input.haystack i 0) 0 (omega (arith, e, l, here)) refl
+    ∙ ap (λ (h : List ℕ). Some (get_or h i 0)) (sym same)))

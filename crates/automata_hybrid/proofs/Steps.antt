@@ -1,0 +1,6 @@
+pub mod Effects
+pub mod StartTags
+pub mod Ids
+pub mod Starts
+pub mod Steps
+pub mod BySteps

@@ -1,0 +1,111 @@
+use Rattle.std.proofs.Common.{◌≡◌, ℕ, List, ◌∷◌, length, Bool, true, false, Some, [], ◌+◌, ◌*◌, ◌^◌, ◌<◌, ◌≤◌, inl, inr}
+use Rattle.std.proofs.Common.{refl, sym, ap, subst, arith, get_or, Option}
+use Rattle.automata_base.specs.Lists.{In}
+use Rattle.automata_base.specs.Powersets.Powerset.{Powerset}
+use Rattle.automata_hybrid.specs.Machines.Machine.{Machine, table_stride}
+use Rattle.automata_hybrid.specs.Cache.Table.{Rows, IsValid, Leads, Names}
+use Rattle.automata_hybrid.specs.Cache.Ids.{quit_id}
+use Rattle.automata_hybrid.specs.Cache.Caches.{HasRow}
+use Rattle.automata_hybrid.specs.Cache.Stores.{Stored, IsCacheError}
+use Rattle.automata_hybrid.specs.Cache.Usage.{GivesUp}
+use Rattle.automata_hybrid.specs.Searches.PassState.{IsDeadTagged, step_refusal}
+use Rattle.automata_hybrid.specs.Searches.Passes.{IsNoQuit, IsStepRefusal, LacksStep}
+use Rattle.automata_config.specs.declared.error.StepError.{StepError}
+use Rattle.automata_config.specs.declared.error.StepError.TheVariants.{Cache, OutOfMemory}
+use Rattle.std.specs.Prelude.{IsBitSet, ◌↔◌}
+use Rattle.automata_hybrid.proofs.Cache.Places.{Names-silent, no_patterns, bit_of, zero_one}
+use Rattle.automata_base.specs.ByteClasses.Classes.{is_quit}
+use Rattle.automata_base.specs.Retraced.Steps.{successor}
+use Rattle.automata_config.specs.Options.{match_kind_of}
+
+-- an ID that is not fixed is that of a row
+pub HasRow-valid : (t : Rows) (id : ℕ) → HasRow t id → id < 2 ^ 29 → IsValid t id
+HasRow-valid t id (inl e) l = absurd (omega (arith, e, l))
+HasRow-valid t id (inr (inl e)) l = absurd (omega (arith, e, l))
+HasRow-valid t id (inr (inr h)) l = h
+
+-- an ID of a row with the match tag is neither dead nor quit
+pub HasRow-matched : (t : Rows) (id : ℕ) → table_stride t.of ≤ 512 → HasRow t id → IsBitSet id 27 → IsValid t id
+HasRow-matched t id small (inl e) b = absurd (zero_one ((bit_of 27 (table_stride t.of) 8 id (omega (arith, small)) (omega (arith, e))).0 b))
+HasRow-matched t id small (inr (inl e)) b = absurd (zero_one ((bit_of 27 (2 * table_stride t.of) 4 id (omega (arith, small)) (omega (arith, e))).0 b))
+HasRow-matched t id small (inr (inr v)) b = v
+
+-- an untagged ID names a state without patterns
+pub Leads-silent : (t : Rows) (id : ℕ) (q : Powerset) → Leads t id q → id < 2 ^ 27 → q.patterns ≡ []
+Leads-silent t id q (inl (e, d)) l = absurd (omega (arith, e, l))
+Leads-silent t id q (inr h) l = Names-silent t id q h l
+
+pub Leads-Names : (t : Rows) (id : ℕ) (q : Powerset) → Leads t id q → id < 2 ^ 29 → Names t id q
+Leads-Names t id q (inl (e, d)) l = absurd (omega (arith, e, l))
+Leads-Names t id q (inr h) l = h
+
+-- an ID without the match bit reports nothing
+pub Leads-untagged :
+    (t : Rows) (id : ℕ) (q : Powerset) → Leads t id q → (Names t id q → IsBitSet id 27 ↔ (0 < length q.patterns)) → (IsBitSet id 27 → ⊥)
+    → q.patterns ≡ []
+Leads-untagged t id q (inl (e, d)) tagged clear = ap (λ (p : Powerset). p.patterns) d
+Leads-untagged t id q (inr h) tagged clear = no_patterns q.patterns (λ some. clear ((tagged h).1 some))
+
+pub low_bit : (k n : ℕ) → n < 2 ^ k → IsBitSet n k → ⊥
+low_bit k n l b = let z : n ≡ 0 * 2 ^ k + n = omega arith in zero_one ((bit_of k n 0 n l z).0 b)
+
+-- the bit of quit IDs
+pub Leads-quit :
+    (t : Rows) (id : ℕ) (q : Powerset) → Leads t id q → (Names t id q → id < 2 ^ 29) → table_stride t.of ≤ 512 → IsBitSet id 29 → ⊥
+Leads-quit t id q (inl (e, d)) low small b =
+    let n : id ≡ 2 * 2 ^ 29 + table_stride t.of = omega (arith, e) in
+    zero_one ((bit_of 29 (table_stride t.of) 2 id (omega (arith, small)) n).0 b)
+Leads-quit t id q (inr h) low small b = low_bit 29 id (low h) b
+
+-- the bit of dead IDs
+pub dead_tagged :
+    (t : Rows) (id : ℕ) → ((q : Powerset) → Names t id q → id < 2 ^ 29) → table_stride t.of ≤ 512 → IsDeadTagged t id
+dead_tagged t id low small q (inl (e, d)) =
+    let n : id ≡ 1 * 2 ^ 30 + table_stride t.of = omega (arith, e) in
+    (λ b. d, λ clear. absurd (clear ((bit_of 30 (table_stride t.of) 1 id (omega (arith, small)) n).1 refl)))
+dead_tagged t id low small q (inr h) =
+    (λ b. absurd (let l : id < 2 ^ 29 = low q h in low_bit 30 id (omega (arith, l)) b), λ clear. h)
+
+-- a failed step, reported at an offset
+pub refused :
+    (m : Machine) (c c' : Stored) (q : Powerset) (unit : Option ℕ) (quit_at at : ℕ) (e : StepError)
+    → IsNoQuit m unit → LacksStep m c q unit → c' ≡ c → (IsCacheError e → GivesUp c (successor m.nfa (match_kind_of m.config) q unit))
+    → IsStepRefusal m c' q unit quit_at at (step_refusal e at)
+refused m c c' q unit quit_at at (Cache err) other lacks same gives =
+    (other, subst (λ (s : Stored). GivesUp s (successor m.nfa (match_kind_of m.config) q unit)) (sym same) (gives tt), refl)
+refused m c c' q unit quit_at at OutOfMemory other lacks same gives =
+    (other, subst (λ (s : Stored). LacksStep m s q unit) (sym same) lacks)
+
+pub quit_bit : (s : ℕ) → s ≤ 512 → IsBitSet (quit_id s) 29
+quit_bit s l =
+    let n : quit_id s ≡ 1 * 2 ^ 29 + 2 * s = omega arith in
+    (bit_of 29 (2 * s) 1 (quit_id s) (omega (arith, l)) n).1 refl
+
+-- a step that led to no quit state read no quit byte
+pub unquit :
+    (m : Machine) (t : Rows) (id' byte : ℕ)
+    → t.of ≡ m → table_stride t.of ≤ 512 → (IsBitSet id' 29 → ⊥)
+    → (is_quit m.quits byte ≡ true → id' ≡ quit_id (table_stride m)) → is_quit m.quits byte ≡ false
+unquit m t id' byte of small clear quit = go (is_quit m.quits byte) refl where
+  go : (b : Bool) → is_quit m.quits byte ≡ b → is_quit m.quits byte ≡ false
+  go false e = e
+  go true e =
+      let s : table_stride t.of ≡ table_stride m = ap (λ (n : Machine). table_stride n) of in
+      absurd (clear (subst (λ v. IsBitSet v 29) (sym (quit e)) (quit_bit (table_stride m) (omega (arith, s, small)))))
+
+-- and one that led there read one
+pub quits :
+    (m : Machine) (t t' : Rows) (id id' byte : ℕ) (q : Powerset)
+    → table_stride t'.of ≤ 512 → ((p : Powerset) → Names t' id' p → id' < 2 ^ 29) → IsBitSet id' 29
+    → (is_quit m.quits byte ≡ false → (p : Powerset) → Names t id p → Leads t' id' (successor m.nfa (match_kind_of m.config) p (Some byte)))
+    → Names t id q → is_quit m.quits byte ≡ true
+quits m t t' id id' byte q small low bit named h = go (is_quit m.quits byte) refl where
+  go : (b : Bool) → is_quit m.quits byte ≡ b → is_quit m.quits byte ≡ true
+  go true e = e
+  go false e =
+      absurd (Leads-quit t' id' (successor m.nfa (match_kind_of m.config) q (Some byte)) (named e q h) (low (successor m.nfa (match_kind_of m.config) q (Some byte))) small bit)
+
+-- of one pattern the first that a list reports is that one
+pub only_pattern : (ps : List ℕ) → 0 < length ps → ((p : ℕ) → In p ps → p < 1) → 0 ≡ get_or ps 0 0
+only_pattern [] some own = absurd (omega (arith, some))
+only_pattern (p ∷ ps) some own = let low : p < 1 = own p (inl refl) in omega (arith, low)

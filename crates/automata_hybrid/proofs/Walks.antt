@@ -1,0 +1,12 @@
+pub mod Reports
+pub mod Cached
+pub mod Progress
+pub mod Calls
+pub mod Sets
+pub mod Reach
+pub mod CachedSets
+pub mod Bounds
+pub mod Contracts
+pub mod Parts
+pub mod Units
+pub mod SetsByPaths

@@ -1,0 +1,272 @@
+-- What a call makes of a walk.
+use Rattle.std.proofs.Common.{ℕ, suc, ◌≡◌, ◌<◌, ◌≤◌, ◌+◌, ◌-◌, ◌⊎◌, ◌↔◌, inl, inr, Bool, false, List, [], ◌∷◌, ◌++◌}
+use Rattle.std.proofs.Common.{length, Some, None, refl, sym, ap, ap₂, ◌∙◌, subst, arith, length-append, get_or}
+use Rattle.std.specs.Prelude.{Err, IsTrue, Ok, OnErr, OnOk, Result}
+use Rattle.automata_base.specs.Answers.Answers.{offset_in}
+use Rattle.automata_base.specs.Haystacks.Input.{Input}
+use Rattle.automata_base.specs.Haystacks.Matches.{HalfMatch}
+use Rattle.automata_base.specs.Powersets.Powerset.{Powerset}
+use Rattle.automata_base.specs.Paths.Selections.{Pair, at_place}
+use Rattle.automata_base.specs.Haystacks.Tapes.{Direction, is_split}
+use Rattle.automata_base.specs.Retraced.Passes.{pairs_reported}
+use Rattle.automata_base.proofs.Powersets.WalkReports.{walks_one}
+use Rattle.automata_hybrid.specs.Cache.Caches.{CacheView, counted}
+use Rattle.automata_hybrid.specs.Cache.Growth.{HasRoom, IsGrown}
+use Rattle.automata_hybrid.specs.Machines.Machine.{Machine}
+use Rattle.automata_hybrid.specs.Searches.Passes.{HasReadNoQuit, Skips, state_in, tape_in}
+use Rattle.automata_hybrid.specs.Steps.Starts.{MayStart}
+use Rattle.automata_hybrid.specs.Cache.Table.{Rows}
+use Rattle.automata_hybrid.specs.Walks.Answers.{AreWalked, Arrives, Finishes, HasItsState, HasReported, HasReportedAll}
+use Rattle.automata_hybrid.specs.Walks.Answers.{HasReportedAt, HasReportedBy, IsRowState, Stands, ReportsNext, WalkMeetsNoQuit}
+use Rattle.automata_hybrid.specs.Walks.Answers.{half_nth, start_count}
+use Rattle.automata_hybrid.specs.Walks.State.{At, Ended, Fresh, Stage, Walk, ended_walk, with_match, without_match}
+use Rattle.automata_hybrid.proofs.Cache.Growth.{clears_none, clears_none_back}
+use Rattle.automata_hybrid.proofs.Searches.PassState.{false_true}
+use Rattle.automata_hybrid.proofs.Walks.Reports.{Begins, finish_all, half_at_place, half_after, half_past, place_length}
+use Rattle.automata_hybrid.proofs.Walks.Reports.{reported_more, walked_all, walked_begin}
+use Rattle.automata_config.specs.Options.{match_kind_of}
+use Rattle.std.proofs.lemmas.Bool.{cases_lt}
+
+pub fresh_at : (q : Powerset) → Fresh ≡ At q → ⊥
+fresh_at q e = cc
+
+pub ended_at : (q : Powerset) → Ended ≡ At q → ⊥
+ended_at q e = cc
+
+twice : (xs ys zs : List Pair) → (xs ++ ys) ++ zs ≡ xs ++ (ys ++ zs)
+twice [] ys zs = refl
+twice (x ∷ xs) ys zs = ap (λ (ws : List Pair). x ∷ ws) (twice xs ys zs)
+
+pub undone : (b : Bool) (s e : ℕ) → (IsTrue b ↔ (e < s)) → b ≡ false → s ≤ e
+undone b s e done «is» = go (cases_lt e s) where
+  go : (e < s) ⊎ (s ≤ e) → s ≤ e
+  go (inl l) = let f : IsTrue b = done.1 l in absurd (false_true (sym «is» ∙ f))
+  go (inr l) = l
+
+module _ (way : Direction) (m : Machine) (input : Input) where
+  -- nothing is reported by no unit
+  pub reported_none : Skips m ⊎ (Skips m → ⊥) → HasReportedBy way m input 0 0
+  unfolding pairs_reported
+  reported_none (inl s) = record { pairs = []; unsplit = inl (s, refl); count = refl }
+  reported_none (inr n) = record { pairs = []; unsplit = inr (n, refl); count = refl }
+
+  -- all that a place reports
+  pub reported_place :
+      (place e : ℕ)
+      → (Skips m → is_split input.haystack (offset_in way input place) ≡ false) → HasReportedBy way m input place e
+      → HasReportedBy way m input (suc place) (e + length (state_in way m input (suc place)).patterns)
+  reported_place place e free t =
+      let ps : List ℕ = (state_in way m input (suc place)).patterns in
+      let one : length (at_place (offset_in way input place) ps) ≡ length ps = place_length (offset_in way input place) ps in
+      let both : length (t.pairs ++ at_place (offset_in way input place) ps) ≡ length t.pairs + length (at_place (offset_in way input place) ps) = length-append t.pairs (at_place (offset_in way input place) ps) in
+      record {
+        pairs = t.pairs ++ at_place (offset_in way input place) ps;
+        unsplit = reported_more way m input place t.pairs free t.unsplit;
+        count = omega (arith, one, both, t.count);
+      }
+
+  -- a walk that has reported all of where it stands
+  pub reported_here :
+      (w : Walk) (k : ℕ)
+      → Skips m ⊎ (Skips m → ⊥) → HasReported way m input w k → (w.stage ≡ Ended → ⊥)
+      → ((q : Powerset) → w.stage ≡ At q → length q.patterns ≤ w.reported) → HasReportedBy way m input w.units k
+  reported_here w k skips t on all = go w.stage t on all where
+    go :
+        (s : Stage) → HasReportedAt way m input s w.units w.reported k → (s ≡ Ended → ⊥)
+        → ((q : Powerset) → s ≡ At q → length q.patterns ≤ w.reported) → HasReportedBy way m input w.units k
+    go Fresh (none, first) on all =
+        subst (λ n. HasReportedBy way m input n k) (sym first) (subst (λ n. HasReportedBy way m input 0 n) (sym none) (reported_none skips))
+    go (At q) s on all =
+        let same : state_in way m input (suc s.place) ≡ q = ap (state_in way m input) (sym s.one_after) ∙ sym s.state in
+        let count : length (state_in way m input (suc s.place)).patterns ≡ length q.patterns = ap (λ (p : Powerset). length p.patterns) same in
+        let most : length q.patterns ≤ w.reported = all q refl in
+        let sum : s.earlier + length (state_in way m input (suc s.place)).patterns ≡ k = omega (arith, count, most, s.few, s.count) in
+        subst (λ n. HasReportedBy way m input n k) (sym s.one_after) (subst (HasReportedBy way m input (suc s.place)) sum (reported_place s.place s.earlier s.unskipped s.before))
+    go Ended t on all = absurd (on refl)
+
+  -- none of its units was a quit byte
+  pub clean_here :
+      (w : Walk) (k : ℕ) → HasReported way m input w k → (w.stage ≡ Ended → ⊥) → HasReadNoQuit way m input w.units
+  clean_here w k t on = go w.stage t on where
+    go : (s : Stage) → HasReportedAt way m input s w.units w.reported k → (s ≡ Ended → ⊥) → HasReadNoQuit way m input w.units
+    go Fresh (none, first) on = λ j byte l e. absurd (omega (arith, l, first))
+    go (At q) s on = s.clean
+    go Ended t on = absurd (on refl)
+
+  -- the pair that a pattern of a place is
+  pub place_pair :
+      (place e t : ℕ) (pairs : List Pair)
+      → input.start ≤ input.end → place ≤ length (tape_in way input).bytes
+      → (Skips m → is_split input.haystack (offset_in way input place) ≡ false) → HasReportedBy way m input place e
+      → t < length (state_in way m input (suc place)).patterns → AreWalked way m input pairs
+      → (half_nth pairs (e + t) ≡ Some (record { pattern = get_or (state_in way m input (suc place)).patterns t 0; offset = offset_in way input place }))
+      × (e + t < length pairs)
+  place_pair place e t pairs s l free reported less walked =
+      let ps : List ℕ = (state_in way m input (suc place)).patterns in
+      let o : ℕ = offset_in way input place in
+      let b : Begins way m input (reported.pairs ++ at_place o ps) pairs =
+      walked_begin way m input (suc place) (reported.pairs ++ at_place o ps) pairs s (omega (arith, l)) (reported_more way m input place reported.pairs free reported.unsplit) walked in
+      let joined : pairs ≡ reported.pairs ++ (at_place o ps ++ b.rest) = b.joined ∙ twice reported.pairs (at_place o ps) b.rest in
+      let long : length pairs ≡ length reported.pairs + length (at_place o ps ++ b.rest) = ap (λ (zs : List Pair). length zs) joined ∙ length-append reported.pairs (at_place o ps ++ b.rest) in
+      let more : length (at_place o ps ++ b.rest) ≡ length (at_place o ps) + length b.rest = length-append (at_place o ps) b.rest in
+      let one : length (at_place o ps) ≡ length ps = place_length o ps in (
+        ap₂ (λ (zs : List Pair) n. half_nth zs (n + t)) joined reported.count
+            ∙ (half_after reported.pairs (at_place o ps ++ b.rest) t ∙ half_at_place o ps b.rest t less),
+        omega (arith, long, more, one, less, reported.count),
+      )
+
+  -- a walk that has reported all
+  all_none : (k : ℕ) (pairs : List Pair) → HasReportedAll way m input k → AreWalked way m input pairs → half_nth pairs k ≡ None
+  all_none k pairs t walked =
+      let same : pairs ≡ t.pairs = walks_one way m.nfa (match_kind_of m.config) input pairs t.pairs walked t.all in
+      half_past pairs k (subst (λ (zs : List Pair). length zs ≤ k) (sym same) t.none_left)
+
+  all_more : (k : ℕ) → HasReportedAll way m input k → HasReportedAll way m input (suc k)
+  all_more k t = record { clean = t.clean; pairs = t.pairs; all = t.all; none_left = omega (arith, t.none_left) }
+
+  pub next_ended : (w : Walk) → w.stage ≡ Ended → ReportsNext way m input w (without_match w)
+  next_ended w e k t =
+      let all : HasReportedAll way m input k = subst (λ (s : Stage). HasReportedAt way m input s w.units w.reported k) e t in (
+        subst (λ (s : Stage). HasReportedAt way m input s w.units w.reported (suc k)) (sym e) (all_more k all),
+        λ pairs walked. (sym (all_none k pairs all walked), λ l. e),
+      )
+
+  -- the walk ends where all is reported
+  ends : (w : Walk) (units k : ℕ) → HasReportedAll way m input k → HasReported way m input (ended_walk w units) (suc k) × ((pairs : List Pair) → AreWalked way m input pairs → ((ended_walk w units).found ≡ half_nth pairs k) × (length pairs ≤ k → Ended ≡ Ended))
+  ends w units k all = (all_more k all, λ pairs walked. (sym (all_none k pairs all walked), λ l. refl))
+
+  pub next_done : (w v : Walk) (units : ℕ) → input.end < input.start → (w.stage ≡ Ended → ⊥) → ReportsNext way m input w (ended_walk v units)
+  next_done w v units done on k t = go w.stage t on where
+    go : (s : Stage) → HasReportedAt way m input s w.units w.reported k → (s ≡ Ended → ⊥) → HasReported way m input (ended_walk v units) (suc k) × ((pairs : List Pair) → AreWalked way m input pairs → ((ended_walk v units).found ≡ half_nth pairs k) × (length pairs ≤ k → Ended ≡ Ended))
+    go Fresh (none, first) on =
+        ends v units k (record { clean = inl done; pairs = []; all = inl (done, refl); none_left = omega arith })
+    go (At q) s on = absurd (omega (arith, done, s.undone))
+    go Ended t on = absurd (on refl)
+
+  -- all units have reported these pairs
+  all_reported :
+      (k : ℕ) → input.start ≤ input.end → MayStart m input.anchored (tape_in way input).before
+      → WalkMeetsNoQuit way m input
+      → HasReportedBy way m input (suc (length (tape_in way input).bytes)) k → HasReportedAll way m input k
+  all_reported k s may clean t =
+      record {
+        clean = inr (may, clean);
+        pairs = t.pairs;
+        all = walked_all way m input t.pairs s t.unsplit;
+        none_left = omega (arith, t.count);
+      }
+
+  -- after the last unit nothing is left
+  pub next_read :
+      (w v : Walk) (units : ℕ)
+      → (w.stage ≡ Ended → ⊥) → ((q : Powerset) → w.stage ≡ At q → length q.patterns ≤ w.reported)
+      → length (tape_in way input).bytes < w.units → ReportsNext way m input w (ended_walk v units)
+  next_read w v units on all past k t = go w.stage refl t on where
+    go : (s : Stage) → w.stage ≡ s → HasReportedAt way m input s w.units w.reported k → (s ≡ Ended → ⊥) → HasReported way m input (ended_walk v units) (suc k) × ((pairs : List Pair) → AreWalked way m input pairs → ((ended_walk v units).found ≡ half_nth pairs k) × (length pairs ≤ k → Ended ≡ Ended))
+    go Fresh e (none, first) on = absurd (omega (arith, first, past))
+    go (At q) e s on =
+        let last : w.units ≡ suc (length (tape_in way input).bytes) = omega (arith, s.one_after, s.within, past) in
+        let same : state_in way m input (suc s.place) ≡ q = ap (state_in way m input) (sym s.one_after) ∙ sym s.state in
+        let count : length (state_in way m input (suc s.place)).patterns ≡ length q.patterns = ap (λ (p : Powerset). length p.patterns) same in
+        let most : length q.patterns ≤ w.reported = all q e in
+        let sum : s.earlier + length (state_in way m input (suc s.place)).patterns ≡ k = omega (arith, count, most, s.few, s.count) in
+        let reported : HasReportedBy way m input w.units k = subst (λ n. HasReportedBy way m input n k) (sym s.one_after) (subst (HasReportedBy way m input (suc s.place)) sum (reported_place s.place s.earlier s.unskipped s.before)) in
+        ends v units k (all_reported k s.undone s.may (finish_all way m input w.units last s.clean) (subst (λ n. HasReportedBy way m input n k) last reported))
+    go Ended e t on = absurd (on refl)
+
+  -- the next pattern of the same place
+  pub next_same :
+      (w : Walk) (q : Powerset) (half : HalfMatch)
+      → w.stage ≡ At q → w.reported < length q.patterns → half.pattern ≡ get_or q.patterns w.reported 0
+      → half.offset ≡ offset_in way input (w.units - 1) → ReportsNext way m input w (with_match w half)
+  next_same w q half e less pattern offset k t =
+      let s : Stands way m input q w.units w.reported k = subst (λ (st : Stage). HasReportedAt way m input st w.units w.reported k) e t in
+      let same : q ≡ state_in way m input (suc s.place) = s.state ∙ ap (state_in way m input) s.one_after in
+      let place : w.units - 1 ≡ s.place = omega (arith, s.one_after) in
+      let next : Stands way m input q w.units (suc w.reported) (suc k) = record {
+        undone = s.undone;
+        may = s.may;
+        place = s.place;
+        one_after = s.one_after;
+        within = s.within;
+        state = s.state;
+        row = s.row;
+        clean = s.clean;
+        unskipped = s.unskipped;
+        some = omega arith;
+        few = omega (arith, less);
+        earlier = s.earlier;
+        before = s.before;
+        count = omega (arith, s.count);
+      } in (
+        subst (λ (st : Stage). HasReportedAt way m input st w.units (suc w.reported) (suc k)) (sym e) next,
+        λ pairs walked. (
+            let p = place_pair s.place s.earlier w.reported pairs s.undone s.within s.unskipped s.before (subst (λ (x : Powerset). w.reported < length x.patterns) same less) walked in
+            let here : half ≡ record { pattern = get_or (state_in way m input (suc s.place)).patterns w.reported 0; offset = offset_in way input s.place } =
+            (λ i. record { pattern = (pattern ∙ ap (λ (x : Powerset). get_or x.patterns w.reported 0) same) i; offset = (offset ∙ ap (offset_in way input) place) i }) in
+            (ap Some here ∙ (sym p.0 ∙ ap (half_nth pairs) (sym s.count)), λ l. absurd (omega (arith, p.1, l, s.count)))),
+      )
+
+  -- a walk that goes on comes to its end
+  pub next_finishes :
+      (w v : Walk) (units : ℕ)
+      → input.start ≤ input.end → MayStart m input.anchored (tape_in way input).before
+      → ((k : ℕ) → HasReported way m input w k → HasReportedBy way m input w.units k)
+      → Finishes way m input w.units units → ReportsNext way m input w (ended_walk v units)
+  next_finishes w v units s may here f k t = ends v units k (all_reported k s may f.clean (f.silent k (here k t)))
+
+  -- or to a state that reports patterns, and reports the first one
+  pub next_arrives :
+      (w : Walk) (t : Rows) (id units : ℕ) (q : Powerset) (half : HalfMatch)
+      → input.start ≤ input.end → MayStart m input.anchored (tape_in way input).before
+      → ((k : ℕ) → HasReported way m input w k → HasReportedBy way m input w.units k)
+      → Arrives way m t input w.units id units → q ≡ state_in way m input units → IsRowState m q
+      → half.pattern ≡ get_or q.patterns 0 0 → half.offset ≡ offset_in way input (units - 1)
+      → ReportsNext way m input w (record { stage = At q; units = units; reported = 1; found = Some half })
+  next_arrives w t id units q half s may here a state row pattern offset k reported =
+      let same : q ≡ state_in way m input (suc a.place) = state ∙ ap (state_in way m input) a.one_after in
+      let place : units - 1 ≡ a.place = omega (arith, a.one_after) in
+      let before : HasReportedBy way m input a.place k = a.silent k (here k reported) in
+      let some : 0 < length q.patterns = subst (λ (x : Powerset). 0 < length x.patterns) (sym state) (a.reports (state_in way m input units) a.named) in
+      let next : Stands way m input q units 1 (suc k) = record {
+        undone = s;
+        may = may;
+        place = a.place;
+        one_after = a.one_after;
+        within = a.within;
+        state = state;
+        row = row;
+        clean = a.clean;
+        unskipped = a.unskipped;
+        some = omega arith;
+        few = omega (arith, some);
+        earlier = k;
+        before = before;
+        count = omega arith;
+      } in (
+        next,
+        λ pairs walked. (
+            let p = place_pair a.place k 0 pairs s a.within a.unskipped before (subst (λ (x : Powerset). 0 < length x.patterns) same some) walked in
+            let here : half ≡ record { pattern = get_or (state_in way m input (suc a.place)).patterns 0 0; offset = offset_in way input a.place } =
+            (λ i. record { pattern = (pattern ∙ ap (λ (x : Powerset). get_or x.patterns 0 0) same) i; offset = (offset ∙ ap (offset_in way input) place) i }) in
+            let first : k + 0 ≡ k = omega arith in
+            (ap Some here ∙ (sym p.0 ∙ ap (half_nth pairs) first), λ l. absurd (omega (arith, p.1, l)))),
+      )
+
+-- nothing is cleared where there is room for the units left and a start, or a state put back
+pub walk_clears_none :
+    (old new : CacheView) (s : Stage) (n : ℕ)
+    → IsGrown old (counted new) → (HasItsState old.store.table s → IsGrown old new) → new.count ≤ old.count + n + start_count s
+    → HasRoom old.store (n + 1) → new.store.clears ≡ old.store.clears
+walk_clears_none old new Fresh n g there few room = clears_none old new (n + 1) (there tt) (omega (arith, few)) room
+walk_clears_none old new (At q) n g there few room = clears_none_back old new n g (omega (arith, few)) room
+walk_clears_none old new Ended n g there few room = clears_none_back old new n g (omega (arith, few)) room
+
+-- it stays a walk over its input
+pub still_walk :
+    (way : Direction) (m : Machine) (input : Input) (w : Walk) (R : Type 0) (r : Result (Unit {0}) R) (next : Walk)
+    → ((k : ℕ) × HasReported way m input w k) → OnOk r (ReportsNext way m input w next) → OnErr r (next ≡ without_match w)
+    → (k : ℕ) × HasReported way m input next k
+still_walk way m input w R (Ok u) next reported reports same = (suc reported.0, (reports reported.0 reported.1).0)
+still_walk way m input w R (Err e) next reported reports same =
+    (reported.0, subst (λ (v : Walk). HasReported way m input v reported.0) (sym same) reported.1)

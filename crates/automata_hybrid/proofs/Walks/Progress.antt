@@ -1,0 +1,76 @@
+-- What the calls of a walk make of their cache and of the progress.
+use Rattle.std.proofs.Common.{ℕ, suc, ◌≡◌, ◌+◌, ◌≤◌, length, inl, inr, sym, subst, arith}
+use Rattle.automata_base.specs.Haystacks.Input.{Input}
+use Rattle.automata_base.specs.Haystacks.Tapes.{Direction}
+use Rattle.automata_config.specs.declared.error.SearchError.{SearchError}
+use Rattle.automata_hybrid.specs.Cache.Stores.{Stored}
+use Rattle.automata_hybrid.specs.Walks.Cached.{IsToRead}
+use Rattle.automata_hybrid.specs.Machines.Machine.{Machine}
+use Rattle.automata_hybrid.specs.Searches.Progress.{AreUnitsRead, IsLeftAt}
+use Rattle.automata_hybrid.specs.Walks.Progress.{IsCallLeftAt, IsCallStopped, ReadsNoUnit}
+use Rattle.automata_hybrid.specs.Searches.Passes.{HasReadNoQuit, IsUnitRefusal}
+use Rattle.automata_hybrid.specs.Walks.Answers.{IsRefusalAt, IsSilent, WalkReads}
+use Rattle.automata_hybrid.specs.Walks.State.{Ids, Keeping, States, Walk}
+use Rattle.automata_hybrid.proofs.Searches.PassState.{dead_more}
+use Rattle.automata_hybrid.proofs.Searches.UnitsRead.{AreReadTo, read_some}
+
+-- a walk reads the units before one that it reads
+pub walk_reads_before :
+    (way : Direction) (m : Machine) (input : Input) (j k : ℕ) → j ≤ k → WalkReads way m input k → WalkReads way m input j
+walk_reads_before way m input j k l reads =
+    (omega (arith, l, reads.0), λ dies. reads.1 (dead_more way m input j k l dies))
+
+-- a walk has read units up to where it is
+pub arrived_read :
+    (way : Direction) (m : Machine) (input : Input) (from k units : ℕ) (old new : Stored) → from ≤ k → suc k ≡ units
+    → WalkReads way m input k → AreReadTo way m input from (suc k) old new
+    → (n : ℕ) × (units ≡ suc (from + n)) × WalkReads way m input (from + n) × AreUnitsRead way m input from (suc n) old new
+arrived_read way m input from k units old new more same reads all = go (read_some way m input from k old new more all) where
+  go :
+      ((n : ℕ) × (from + n ≡ k) × AreUnitsRead way m input from (suc n) old new)
+      → (n : ℕ) × (units ≡ suc (from + n)) × WalkReads way m input (from + n)
+      × AreUnitsRead way m input from (suc n) old new
+  go (n, here, read) = (n, omega (arith, here, same), subst (WalkReads way m input) (sym here) reads, read)
+
+-- a call that failed at a unit
+pub call_stopped :
+    (way : Direction) (m : Machine) (input : Input) (from k : ℕ) (old new : Stored) (e : SearchError)
+    → WalkReads way m input k → HasReadNoQuit way m input k → IsSilent way m input from k
+    → IsUnitRefusal way m new input k e
+    → ((run : Stored) × AreReadTo way m input from k old run × IsLeftAt way m input k run new)
+    → IsCallStopped Ids way m input from old new e
+call_stopped way m input from k old new e reads clean silent refused (run, all, left) = (
+  all.units,
+  run,
+  subst (WalkReads way m input) (sym all.upto) reads,
+  subst (HasReadNoQuit way m input) (sym all.upto) clean,
+  subst (IsSilent way m input from) (sym all.upto) silent,
+  all.read,
+  subst (λ j. IsUnitRefusal way m new input j e × IsLeftAt way m input j run new) (sym all.upto) (refused, left),
+)
+
+-- a call that is to read units reads some
+pub reads_some : (input : Input) (w : Walk) → IsToRead input w.stage w.units w.reported → ReadsNoUnit input w → ⊥
+reads_some input w r (inl ended) = r.on ended
+reads_some input w r (inr (inl (q, at, few))) =
+    (let all : length q.patterns ≤ w.reported = r.all_reported q at in omega (arith, all, few))
+reads_some input w r (inr (inr past)) = omega (arith, r.undone, r.left, past)
+
+-- a failed step is a refusal at its unit, whatever is kept
+pub step_refuses :
+    (keeping : Keeping) (way : Direction) (m : Machine) (c : Stored) (input : Input) (j : ℕ) (e : SearchError)
+    → IsUnitRefusal way m c input j e → IsRefusalAt keeping way m c input j e
+step_refuses Ids way m c input j e r = r
+step_refuses States way m c input j e r = inl r
+
+step_leaves :
+    (keeping : Keeping) (way : Direction) (m : Machine) (input : Input) (k : ℕ) (old new : Stored) (e : SearchError)
+    → IsUnitRefusal way m new input k e × IsLeftAt way m input k old new → IsCallLeftAt keeping way m input k old new e
+step_leaves Ids way m input k old new e left = left
+step_leaves States way m input k old new e left = inl left
+
+pub call_leaves :
+    (keeping : Keeping) (way : Direction) (m : Machine) (input : Input) (from : ℕ) (old new : Stored) (e : SearchError)
+    → IsCallStopped Ids way m input from old new e → IsCallStopped keeping way m input from old new e
+call_leaves keeping way m input from old new e (n, mid, reads, clean, silent, all, left) =
+    (n, mid, reads, clean, silent, all, step_leaves keeping way m input (from + n) mid new e left)

@@ -1,0 +1,502 @@
+-- The patterns that a walk puts into a set.
+use Rattle.std.proofs.Common.{ℕ, zero, suc, ◌≡◌, ◌<◌, ◌≤◌, ◌+◌, ◌-◌, ◌*◌, ◌⊎◌, ◌↔◌, inl, inr, Bool, true, false, List}
+use Rattle.std.proofs.Common.{[], ◌∷◌, length, take, set, Option, Some, None, refl, sym, ap, ap₂, ◌∙◌, ◌++◌, subst}
+use Rattle.std.proofs.Common.{arith, length-set}
+use Rattle.std.proofs.lemmas.Bool.{cases_eq}
+use Rattle.std.proofs.lemmas.List.{get_or-set_other, get_or-set_same}
+use Rattle.automata_base.specs.Answers.Answers.{ArePatterns, ArePatternsFound, HasPattern, IsInput, first_alone}
+use Rattle.automata_base.specs.Nfas.Engines.{engine_of}
+use Rattle.automata_base.specs.Haystacks.Input.{Input}
+use Rattle.automata_base.specs.Lists.{In}
+use Rattle.automata_base.specs.Haystacks.Matches.{HalfMatch}
+use Rattle.automata_base.specs.Nfas.Nodes.{nfa_of}
+use Rattle.automata_base.specs.Paths.Paths.{IsLookAcyclic}
+use Rattle.automata_base.specs.Haystacks.PatternSet.{has, members, members_from}
+use Rattle.automata_base.specs.Paths.Selections.{Pair}
+use Rattle.automata_base.specs.Haystacks.Tapes.{Forward}
+use Rattle.automata_base.specs.Laws.Walks.{WalkIsRight}
+use Rattle.automata_config.specs.Options.{match_kind_of}
+use Rattle.automata_base.proofs.ByteClasses.PatternsInSets.{members-few}
+use Rattle.automata_hybrid.specs.Cache.Stores.{Stored}
+use Rattle.automata_hybrid.specs.Cache.Caches.{CacheView}
+use Rattle.automata_hybrid.specs.Cache.Growth.{IsGrown}
+use Rattle.automata_hybrid.specs.Searches.Cached.{KnowsItsStart}
+use Rattle.automata_hybrid.specs.Walks.Cached.{IsOpen, KnowsItsState, KnowsWalk, KnowsWhich}
+use Rattle.automata_hybrid.specs.Machines.Machine.{Machine, greatest}
+use Rattle.automata_base.specs.Powersets.Powerset.{Powerset, cost}
+use Rattle.automata_hybrid.specs.Walks.Progress.{HaveCalled}
+use Rattle.automata_hybrid.specs.Searches.Passes.{tape_in}
+use Rattle.automata_hybrid.specs.Walks.Answers.{AreWalked, GoesOn, HasItsState, HasReported, HasReportedAt, HasReportedBy}
+use Rattle.automata_hybrid.specs.Walks.Answers.{ReportsNext, half_nth, start_count}
+use Rattle.automata_hybrid.specs.Walks.State.{At, Ended, Fresh, Stage, Walk, fresh_walk}
+use Rattle.automata_hybrid.specs.Walks.Sets.{IsJoined}
+use Rattle.automata_hybrid.proofs.Searches.PassState.{false_true}
+use Rattle.automata_hybrid.proofs.Walks.Reports.{Begins, reported_rises, walked_begin}
+use Rattle.automata_hybrid.proofs.Searches.Directions.{units_in}
+use Rattle.std.proofs.Math.Nat.{mul-le-mul_right}
+
+-- members by their flags
+has_in : (xs : List Bool) (j i : ℕ) → has xs i ≡ true → In (j + i) (members_from j xs)
+has_in [] j i e = absurd (false_true e)
+has_in (true ∷ xs) j zero e = inl (omega arith)
+has_in (false ∷ xs) j zero e = absurd (false_true e)
+has_in (true ∷ xs) j (suc i) e =
+    let s : suc j + i ≡ j + suc i = omega arith in
+    inr (subst (λ n. In n (members_from (suc j) xs)) s (has_in xs (suc j) i e))
+has_in (false ∷ xs) j (suc i) e =
+    let s : suc j + i ≡ j + suc i = omega arith in
+    subst (λ n. In n (members_from (suc j) xs)) s (has_in xs (suc j) i e)
+
+pub record HasAt (xs : List Bool) (j p : ℕ) : Type 0 where
+  pub index : ℕ
+  pub place : p ≡ j + index
+  pub flag : has xs index ≡ true
+
+has_later : (x : Bool) (xs : List Bool) (j p : ℕ) → HasAt xs (suc j) p → HasAt (x ∷ xs) j p
+has_later x xs j p h = record { index = suc h.index; place = omega (arith, h.place); flag = h.flag }
+
+in_has : (xs : List Bool) (j p : ℕ) → In p (members_from j xs) → HasAt xs j p
+in_has [] j p i = absurd i
+in_has (true ∷ xs) j p (inl e) = record { index = 0; place = omega (arith, e); flag = refl }
+in_has (true ∷ xs) j p (inr i) = has_later true xs j p (in_has xs (suc j) p i)
+in_has (false ∷ xs) j p i = has_later false xs j p (in_has xs (suc j) p i)
+
+pub flag_in : (xs : List Bool) (p : ℕ) → has xs p ≡ true → In p (members xs)
+flag_in xs p e = let z : 0 + p ≡ p = omega arith in subst (λ n. In n (members xs)) z (has_in xs 0 p e)
+
+in_flag : (xs : List Bool) (p : ℕ) → In p (members xs) → has xs p ≡ true
+in_flag xs p i =
+    let h : HasAt xs 0 p = in_has xs 0 p i in
+    let z : h.index ≡ p = omega (arith, h.place) in
+    subst (λ n. has xs n ≡ true) z h.flag
+
+-- a full set has each pattern below its capacity
+pub full_at : (xs : List Bool) (j p : ℕ) → length (members_from j xs) ≡ length xs → p < length xs → has xs p ≡ true
+full_at [] j p e l = absurd (omega (arith, l))
+full_at (true ∷ xs) j zero e l = refl
+full_at (true ∷ xs) j (suc p) e l = full_at xs (suc j) p (omega (arith, e)) (omega (arith, l))
+full_at (false ∷ xs) j p e l = let few = members-few xs (suc j) in absurd (omega (arith, e, few))
+
+-- one pattern more
+insert_in :
+    (xs : List Bool) (i p : ℕ) → In p (members (set xs i true)) ↔ (In p (members xs) ⊎ ((p < length xs) × (p ≡ i)))
+insert_in xs i p = (λ h. there (in_flag (set xs i true) p h) (cases_eq p i), λ h. back h (cases_eq p i))
+  where
+    inside : (ys : List Bool) (n : ℕ) → has ys n ≡ true → n < length ys
+    inside [] n e = absurd (false_true e)
+    inside (y ∷ ys) zero e = omega arith
+    inside (y ∷ ys) (suc n) e = let l = inside ys n e in omega (arith, l)
+
+    there : has (set xs i true) p ≡ true → (p ≡ i) ⊎ (p ≡ i → ⊥) → In p (members xs) ⊎ ((p < length xs) × (p ≡ i))
+    there e (inl same) = let l = inside (set xs i true) p e in inr (omega (arith, l, length-set xs i true), same)
+    there e (inr other) = inl (flag_in xs p (sym (get_or-set_other xs i p true false other) ∙ e))
+
+    back : In p (members xs) ⊎ ((p < length xs) × (p ≡ i)) → (p ≡ i) ⊎ (p ≡ i → ⊥) → In p (members (set xs i true))
+    back (inl h) (inl same) =
+        let l : p < length xs = inside xs p (in_flag xs p h) in
+        flag_in (set xs i true) p (ap (λ n. has (set xs i true) n) same ∙ get_or-set_same xs i true false (omega (arith, l, same)))
+    back (inl h) (inr other) = flag_in (set xs i true) p (get_or-set_other xs i p true false other ∙ in_flag xs p h)
+    back (inr (l, e)) c = flag_in (set xs i true) p (ap (λ n. has (set xs i true) n) e ∙ get_or-set_same xs i true false (omega (arith, l, e)))
+
+-- the patterns of one pair more
+more_pattern :
+    (pairs : List Pair) (k p : ℕ) (half : HalfMatch)
+    → half_nth pairs k ≡ Some half → HasPattern p (take (suc k) pairs) ↔ (HasPattern p (take k pairs) ⊎ (p ≡ half.pattern))
+more_pattern [] k p half e = absurd (cc)
+more_pattern (x ∷ xs) zero p half e =
+    let same : x.pattern ≡ half.pattern = cc in
+    (λ h. first h same, λ h. last h same)
+  where
+    first : (p ≡ x.pattern) ⊎ HasPattern p (take 0 xs) → x.pattern ≡ half.pattern → ⊥ ⊎ (p ≡ half.pattern)
+    first (inl f) same = inr (f ∙ same)
+    first (inr h) same = absurd h
+
+    last : ⊥ ⊎ (p ≡ half.pattern) → x.pattern ≡ half.pattern → (p ≡ x.pattern) ⊎ HasPattern p (take 0 xs)
+    last (inl h) same = absurd h
+    last (inr f) same = inl (f ∙ sym same)
+more_pattern (x ∷ xs) (suc k) p half e = (λ h. first h (more_pattern xs k p half e), λ h. last h (more_pattern xs k p half e))
+  where
+    first :
+        (p ≡ x.pattern) ⊎ HasPattern p (take (suc k) xs)
+        → HasPattern p (take (suc k) xs) ↔ (HasPattern p (take k xs) ⊎ (p ≡ half.pattern))
+        → ((p ≡ x.pattern) ⊎ HasPattern p (take k xs)) ⊎ (p ≡ half.pattern)
+    first (inl f) again = inl (inl f)
+    first (inr h) again = go (again.0 h) where
+      go : HasPattern p (take k xs) ⊎ (p ≡ half.pattern) → ((p ≡ x.pattern) ⊎ HasPattern p (take k xs)) ⊎ (p ≡ half.pattern)
+      go (inl g) = inl (inr g)
+      go (inr g) = inr g
+
+    last :
+        ((p ≡ x.pattern) ⊎ HasPattern p (take k xs)) ⊎ (p ≡ half.pattern)
+        → HasPattern p (take (suc k) xs) ↔ (HasPattern p (take k xs) ⊎ (p ≡ half.pattern))
+        → (p ≡ x.pattern) ⊎ HasPattern p (take (suc k) xs)
+    last (inl (inl f)) again = inl f
+    last (inl (inr h)) again = inr (again.1 (inl h))
+    last (inr f) again = inr (again.1 (inr f))
+
+taken_pattern : (pairs : List Pair) (k p : ℕ) → HasPattern p (take k pairs) → HasPattern p pairs
+taken_pattern pairs zero p h = absurd h
+taken_pattern [] (suc k) p h = absurd h
+taken_pattern (x ∷ xs) (suc k) p (inl e) = inl e
+taken_pattern (x ∷ xs) (suc k) p (inr h) = inr (taken_pattern xs k p h)
+
+take_all : (pairs : List Pair) (k : ℕ) → half_nth pairs k ≡ None → take k pairs ≡ pairs
+take_all [] zero e = refl
+take_all [] (suc k) e = refl
+take_all (x ∷ xs) zero e = absurd (cc)
+take_all (x ∷ xs) (suc k) e = ap (λ (zs : List Pair). x ∷ zs) (take_all xs k e)
+
+all_of : (pairs : List Pair) → first_alone false pairs ≡ pairs
+all_of [] = refl
+all_of (x ∷ xs) = refl
+
+one_of : (pairs : List Pair) → first_alone true pairs ≡ take 1 pairs
+one_of [] = refl
+one_of (x ∷ xs) = refl
+
+-- some pattern below its capacity is not in a set
+pub record IsLacking (xs : List Bool) : Type 0 where
+  pub pattern : ℕ
+  pub below : pattern < length xs
+  pub absent : has xs pattern ≡ false
+
+pub lacking : (xs : List Bool) (j : ℕ) → (length (members_from j xs) ≡ length xs → ⊥) → IsLacking xs
+lacking [] j full = absurd (full refl)
+lacking (false ∷ xs) j full = record { pattern = 0; below = omega arith; absent = refl }
+lacking (true ∷ xs) j full =
+    let rest : IsLacking xs = lacking xs (suc j) (λ e. full (ap suc e)) in
+    record { pattern = suc rest.pattern; below = omega (arith, rest.below); absent = rest.absent }
+
+-- a set with the patterns of the first pairs of a walk, as many as the walk has reported; an earliest search goes on with none
+pub record Joins (m : Machine) (input : Input) (walk : Walk) (old new : List Bool) : Type 0 where
+  pub k : ℕ
+  pub reported : HasReported Forward m input walk k
+  pub first : input.earliest ≡ true → k ≡ 0
+  pub joined : (pairs : List Pair) → AreWalked Forward m input pairs → IsJoined (take k pairs) old new
+  pub capacity : length new ≡ length old
+  pub open_at : (k ≡ 0) ⊎ IsLacking new
+
+joined_none : (xs : List Bool) → IsJoined [] xs xs
+joined_none xs p = (λ h. inl h, λ h. go h) where
+  go : In p (members xs) ⊎ ((p < length xs) × ⊥) → In p (members xs)
+  go (inl h) = h
+  go (inr (l, h)) = absurd h
+
+module _ (m : Machine) (input : Input) (old : List Bool) where
+  module _ (walk next : Walk) (new : List Bool) (j : Joins m input walk old new) (reports : ReportsNext Forward m input walk next)
+      (list : (pairs : List Pair) × AreWalked Forward m input pairs) where
+    abbrev pairs : List Pair
+    pairs = list.0
+
+    found : next.found ≡ half_nth pairs j.k
+    found = ((reports j.k j.reported).1 pairs list.1).0
+
+    one_more :
+        (half : HalfMatch) (ps : List Pair) → half_nth ps j.k ≡ Some half → IsJoined (take j.k ps) old new → IsJoined (take (suc j.k) ps) old (set new half.pattern true)
+    one_more half ps e before p = (λ h. there ((insert_in new half.pattern p).0 h), λ h. back h)
+      where
+        more : HasPattern p (take (suc j.k) ps) ↔ (HasPattern p (take j.k ps) ⊎ (p ≡ half.pattern))
+        more = more_pattern ps j.k p half e
+
+        there :
+            In p (members new) ⊎ ((p < length new) × (p ≡ half.pattern))
+            → In p (members old) ⊎ ((p < length old) × HasPattern p (take (suc j.k) ps))
+        there (inl h) = go ((before p).0 h) where
+          go :
+              In p (members old) ⊎ ((p < length old) × HasPattern p (take j.k ps))
+              → In p (members old) ⊎ ((p < length old) × HasPattern p (take (suc j.k) ps))
+          go (inl g) = inl g
+          go (inr (l, g)) = inr (l, more.1 (inl g))
+        there (inr (l, e)) = inr (omega (arith, l, j.capacity), more.1 (inr e))
+
+        back :
+            In p (members old) ⊎ ((p < length old) × HasPattern p (take (suc j.k) ps)) → In p (members (set new half.pattern true))
+        back (inl h) = (insert_in new half.pattern p).1 (inl ((before p).1 (inl h)))
+        back (inr (l, h)) = go (more.0 h) where
+          go : HasPattern p (take j.k ps) ⊎ (p ≡ half.pattern) → In p (members (set new half.pattern true))
+          go (inl g) = (insert_in new half.pattern p).1 (inl ((before p).1 (inr (l, g))))
+          go (inr g) = (insert_in new half.pattern p).1 (inr (omega (arith, l, j.capacity), g))
+
+    -- no match is left
+    pub joins_all : next.found ≡ None → ArePatterns (AreWalked Forward m input) input (length old) (members old) (members new)
+    joins_all e = (pairs, list.1, go input.earliest refl)
+      where
+        whole : take j.k pairs ≡ pairs
+        whole = take_all pairs j.k (sym found ∙ e)
+
+        joined : IsJoined pairs old new
+        joined = subst (λ (ps : List Pair). IsJoined ps old new) whole (j.joined pairs list.1)
+
+        none : j.k ≡ 0 → pairs ≡ []
+        none z = sym whole ∙ ap (λ n. take n pairs) z
+
+        go :
+            (b : Bool) → input.earliest ≡ b
+            → (p : ℕ) → In p (members new) ↔ (In p (members old) ⊎ ((p < length old) × HasPattern p (first_alone b pairs)))
+        go false s p = subst (λ (ps : List Pair). In p (members new) ↔ (In p (members old) ⊎ ((p < length old) × HasPattern p ps))) (sym (all_of pairs)) (joined p)
+        go true s p =
+            let z : pairs ≡ [] = none (j.first s) in
+            let same : pairs ≡ first_alone true pairs = z ∙ ap (first_alone true) (sym z) in
+            subst (λ (ps : List Pair). In p (members new) ↔ (In p (members old) ⊎ ((p < length old) × HasPattern p ps))) same (joined p)
+
+    -- one is, and its pattern is put in
+    module _ (half : HalfMatch) (is_found : next.found ≡ Some half) where
+      here : half_nth pairs j.k ≡ Some half
+      here = sym found ∙ is_found
+
+      pub joined_more : IsJoined (take (suc j.k) pairs) old (set new half.pattern true)
+      joined_more = one_more half pairs here (j.joined pairs list.1)
+
+      -- a full set has nothing to gain
+      pub joins_full :
+          length (members (set new half.pattern true)) ≡ length (set new half.pattern true)
+          → ArePatterns (AreWalked Forward m input) input (length old) (members old) (members (set new half.pattern true))
+      joins_full full = (pairs, list.1, λ p. (λ h. there p ((joined_more p).0 h) input.earliest refl, λ h. back p h))
+        where
+          there :
+              (p : ℕ) → In p (members old) ⊎ ((p < length old) × HasPattern p (take (suc j.k) pairs))
+              → (b : Bool) → input.earliest ≡ b → In p (members old) ⊎ ((p < length old) × HasPattern p (first_alone b pairs))
+          there p (inl h) b s = inl h
+          there p (inr (l, h)) false s = inr (l, subst (HasPattern p) (sym (all_of pairs)) (taken_pattern pairs (suc j.k) p h))
+          there p (inr (l, h)) true s =
+              inr (l, subst (HasPattern p) (sym (one_of pairs)) (subst (λ n. HasPattern p (take (suc n) pairs)) (j.first s) h))
+
+          back :
+              (p : ℕ) → In p (members old) ⊎ ((p < length old) × HasPattern p (first_alone input.earliest pairs))
+              → In p (members (set new half.pattern true))
+          back p (inl h) = (joined_more p).1 (inl h)
+          back p (inr (l, h)) =
+              flag_in (set new half.pattern true) p
+              (full_at (set new half.pattern true) 0 p full (omega (arith, l, j.capacity, length-set new half.pattern true)))
+
+      -- an earliest search takes the first pair alone
+      pub joins_first :
+          input.earliest ≡ true → ArePatterns (AreWalked Forward m input) input (length old) (members old) (members (set new half.pattern true))
+      joins_first e =
+          let one : take (suc j.k) pairs ≡ first_alone input.earliest pairs =
+          ap (λ n. take (suc n) pairs) (j.first e) ∙ (sym (one_of pairs) ∙ ap (λ b. first_alone b pairs) (sym e)) in
+          (pairs, list.1, λ p. subst (λ (ps : List Pair). In p (members (set new half.pattern true)) ↔ (In p (members old) ⊎ ((p < length old) × HasPattern p ps))) one (joined_more p))
+
+      -- and any other goes on
+      pub joins_more : input.earliest ≡ false → IsLacking (set new half.pattern true) → Joins m input next old (set new half.pattern true)
+      joins_more e lacks =
+          record {
+            k = suc j.k;
+            reported = (reports j.k j.reported).0;
+            first = λ f. absurd (false_true (sym e ∙ f));
+            joined = λ ps walked. one_more half ps (sym (((reports j.k j.reported).1 ps walked).0) ∙ is_found) (j.joined ps walked);
+            capacity = length-set new half.pattern true ∙ j.capacity;
+            open_at = inr lacks;
+          }
+
+      -- by one call more
+      pub calls_more :
+          (e : input.earliest ≡ false) (lacks : IsLacking (set new half.pattern true)) (cache last : Stored)
+          → HaveCalled m input old (suc j.k) cache next last → HaveCalled m input old (joins_more e lacks).k cache next last
+      unfolding joins_more
+      calls_more e lacks cache last called = called
+
+-- a walk that has not begun has made no call
+pub joins_begin :
+    (m : Machine) (input : Input) (walk : Walk) (set : List Bool) (c : Stored) → walk ≡ fresh_walk
+    → (j : Joins m input walk set set) × HaveCalled m input set j.k c walk c
+joins_begin m input walk set c fresh = (
+  record {
+    k = 0;
+    reported = subst (λ (w : Walk). HasReported Forward m input w 0) (sym fresh) (refl, refl);
+    first = λ e. refl;
+    joined = λ pairs walked. joined_none set;
+    capacity = refl;
+    open_at = inl refl;
+  },
+  (fresh, refl),
+)
+
+-- how many steps a walk has left, at most: for each unit as many as a state has patterns, and one more
+abbrev pub steps_left : Machine → Input → Walk → ℕ
+steps_left m input w = (input.end - input.start + 2 - w.units) * (greatest m + 1) + (greatest m - w.reported)
+
+module _ (m : Machine) (input : Input) (inside : input.end ≤ length input.haystack) where
+  -- a walk that reports a pair stands where it may, with no more patterns reported than states may have
+  pub record StandsWell (w : Walk) : Type 0 where
+    pub units : w.units ≤ input.end - input.start + 1
+    pub reported : w.reported ≤ greatest m
+    pub begun : start_count w.stage ≡ 0
+
+  few_patterns : (q : Powerset) → cost q ≤ greatest m → length q.patterns ≤ greatest m
+  few_patterns q l = omega (arith, l)
+
+  pub stands_well : (w : Walk) (k : ℕ) → HasReported Forward m input w (suc k) → (w.stage ≡ Ended → ⊥) → StandsWell w
+  stands_well w k t on = go w.stage refl t on where
+    go : (s : Stage) → w.stage ≡ s → HasReportedAt Forward m input s w.units w.reported (suc k) → (s ≡ Ended → ⊥) → StandsWell w
+    go Fresh e (none, first) on = absurd (omega (arith, none))
+    go (At q) e s on =
+        let all : input.end - input.start ≡ length (tape_in Forward input).bytes = units_in Forward input s.undone inside in
+        record {
+          units = omega (arith, s.one_after, s.within, all);
+          reported = omega (arith, s.few, few_patterns q s.row.cheap);
+          begun = ap start_count e;
+        }
+    go Ended e t on = absurd (on refl)
+
+  pub steps_less :
+      (old new : Walk) → StandsWell new
+      → (old.units < new.units) ⊎ ((new.units ≡ old.units) × (new.reported ≡ suc old.reported)) → steps_left m input new < steps_left m input old
+  steps_less old new s (inl l) =
+      let x : ℕ = input.end - input.start + 2 - new.units in
+      let y : ℕ = input.end - input.start + 2 - old.units in
+      let more : x + 1 ≤ y = omega (arith, l, s.units) in
+      let times : (x + 1) * (greatest m + 1) ≤ y * (greatest m + 1) = mul-le-mul_right (greatest m + 1) more in
+      let one : (x + 1) * (greatest m + 1) ≡ x * (greatest m + 1) + (greatest m + 1) = grind arith in
+      omega (arith, times, one)
+  steps_less old new s (inr (same, more)) =
+      let units : input.end - input.start + 2 - new.units ≡ input.end - input.start + 2 - old.units = ap (λ n. input.end - input.start + 2 - n) same in
+      let times : (input.end - input.start + 2 - new.units) * (greatest m + 1) ≡ (input.end - input.start + 2 - old.units) * (greatest m + 1) = ap (λ n. n * (greatest m + 1)) units in
+      omega (arith, times, more, s.reported)
+
+-- what the walk reports is what the ordered paths do, where no cycle passes a look
+pub patterns_of :
+    (m : Machine) (input : Input) → WalkIsRight m.nfa → IsInput input → (old new : List Bool)
+    → IsLookAcyclic (nfa_of m.nfa)
+    → ArePatterns (AreWalked Forward m input) input (length old) (members old) (members new)
+    → ArePatternsFound (engine_of m.nfa (match_kind_of m.config)) input (length old) (members old) (members new)
+patterns_of m input law good old new free h = (h.0, law Forward (match_kind_of m.config) input h.0 free good h.1, h.2)
+
+none_half : (half : HalfMatch) → ◌≡◌ {A = Option HalfMatch} None (Some half) → ⊥
+none_half half e = cc
+
+pub on_found :
+    (old new : Walk) (half : HalfMatch)
+    → GoesOn old new → new.found ≡ Some half
+    → (new.stage ≡ Ended → ⊥) × ((old.units < new.units) ⊎ ((new.units ≡ old.units) × (new.reported ≡ suc old.reported)))
+on_found old new half (inl none) e = absurd (none_half half (sym none ∙ e))
+on_found old new half (inr h) e = h
+
+-- two counts of the pairs that a walk has reported are one
+reported_one :
+    (m : Machine) (input : Input) (w : Walk) (a b : ℕ)
+    → (w.stage ≡ Ended → ⊥) → HasReported Forward m input w a → HasReported Forward m input w b → a ≡ b
+reported_one m input w a b on t u = go w.stage on t u where
+  go : (s : Stage) → (s ≡ Ended → ⊥) → HasReportedAt Forward m input s w.units w.reported a → HasReportedAt Forward m input s w.units w.reported b → a ≡ b
+  go Fresh on (t, x) (u, y) = t ∙ sym u
+  go (At q) on t u =
+      let up : t.earlier ≤ u.earlier = reported_rises Forward m input t.place u.place t.earlier u.earlier (omega (arith, t.one_after, u.one_after)) t.before u.before in
+      let down : u.earlier ≤ t.earlier = reported_rises Forward m input u.place t.place u.earlier t.earlier (omega (arith, t.one_after, u.one_after)) u.before t.before in
+      omega (arith, up, down, t.count, u.count)
+  go Ended on t u = absurd (on refl)
+
+take_front : (xs ys : List Pair) → take (length xs) (xs ++ ys) ≡ xs
+take_front [] ys = refl
+take_front (x ∷ xs) ys = ap (λ (zs : List Pair). x ∷ zs) (take_front xs ys)
+
+no_pairs : (xs : List Pair) → length xs ≡ 0 → xs ≡ []
+no_pairs [] e = refl
+no_pairs (x ∷ xs) e = absurd (omega (arith, e))
+
+-- a set whose walk has cached all that it uses goes on by calls that know what they use
+module _ (m : Machine) (c : Stored) (input : Input) (walk : Walk) (old new : List Bool) (j : Joins m input walk old new)
+    (list : (pairs : List Pair) × AreWalked Forward m input pairs) where
+  still_open : (n : ℕ) (t : HasReportedBy Forward m input n j.k) → input.start ≤ input.end → n ≤ length (tape_in Forward input).bytes → IsOpen input old t.pairs
+  still_open n t s l = go j.open_at input.earliest refl where
+    none : j.k ≡ 0 → IsOpen input old t.pairs
+    none z = inl (no_pairs t.pairs (sym t.count ∙ z))
+
+    go : (j.k ≡ 0) ⊎ IsLacking new → (b : Bool) → input.earliest ≡ b → IsOpen input old t.pairs
+    go (inl z) b e = none z
+    go (inr lacks) true e = none (j.first e)
+    go (inr lacks) false e =
+        let b : Begins Forward m input t.pairs list.0 = walked_begin Forward m input n t.pairs list.0 s (omega (arith, l)) t.unsplit list.1 in
+        let front : take j.k list.0 ≡ t.pairs = ap₂ (λ i (zs : List Pair). take i zs) t.count b.joined ∙ take_front t.pairs b.rest in
+        let absent : In lacks.pattern (members new) → ⊥ = (λ i. false_true (sym lacks.absent ∙ in_flag new lacks.pattern i)) in
+        let below : lacks.pattern < length old = omega (arith, lacks.below, j.capacity) in
+        inr (
+          e,
+          (
+            lacks.pattern,
+            below,
+            λ i. absent ((j.joined list.0 list.1 lacks.pattern).1 (inl i)),
+            λ h. absent ((j.joined list.0 list.1 lacks.pattern).1 (inr (below, subst (HasPattern lacks.pattern) (sym front) h))),
+          ),
+        )
+
+  pub which_walk : HasItsState c.table walk.stage → KnowsWhich m c input old → KnowsWalk Forward m c input walk
+  which_walk holds knows k reported ready may =
+      let same : k ≡ j.k = reported_one m input walk k j.k ready.on reported j.reported in
+      let all = knows ready.undone may in (
+        state walk.stage holds all.0,
+        λ n l reads clean t.
+            (let t' : HasReportedBy Forward m input n j.k = subst (HasReportedBy Forward m input n) same t in
+            all.1 n t'.pairs reads clean t'.unsplit (still_open n t' ready.undone reads.0)),
+      )
+    where
+      state : (s : Stage) → HasItsState c.table s → KnowsItsStart Forward m c input → KnowsItsState Forward m c input s
+      state Fresh holds begins = begins
+      state (At q) holds begins = holds
+      state Ended holds begins = tt
+
+-- what its walk goes on from is cached, where its start was
+pub begun_state :
+    (m : Machine) (input : Input) (stage : Stage) (old mid : CacheView)
+    → IsGrown old mid → HasItsState mid.store.table stage → KnowsItsStart Forward m old.store input
+    → KnowsItsState Forward m mid.store input stage
+begun_state m input Fresh old mid grown holds begins = λ slot. grown.starts _ (begins slot)
+begun_state m input (At q) old mid grown holds begins = holds
+begun_state m input Ended old mid grown holds begins = tt
+
+-- a walk that has reported a pair has a span that is not done
+pub reported_undone :
+    (m : Machine) (input : Input) (w : Walk) (k : ℕ)
+    → HasReported Forward m input w (suc k) → (w.stage ≡ Ended → ⊥) → input.start ≤ input.end
+reported_undone m input w k t on = go w.stage t on where
+  go : (s : Stage) → HasReportedAt Forward m input s w.units w.reported (suc k) → (s ≡ Ended → ⊥) → input.start ≤ input.end
+  go Fresh (none, first) on = absurd (omega (arith, none))
+  go (At q) s on = s.undone
+  go Ended t on = absurd (on refl)
+
+pub which_still :
+    (m : Machine) (input : Input) (set : List Bool) (old new : CacheView)
+    → IsGrown old new → new.count ≡ old.count → KnowsWhich m old.store input set → KnowsWhich m new.store input set
+which_still m input set old new g same knows = subst (λ (c : Stored). KnowsWhich m c input set) (sym (g.idle same).1) knows
+
+-- a set that is gone on with is open after the pairs that its walk has reported
+pub open_after :
+    (m : Machine) (input : Input) (walk : Walk) (old new : List Bool) (j : Joins m input walk old new)
+    (pairs : List Pair) → AreWalked Forward m input pairs → IsOpen input old (take j.k pairs)
+open_after m input walk old new j pairs walked = go j.open_at input.earliest refl where
+  none : j.k ≡ 0 → IsOpen input old (take j.k pairs)
+  none z = inl (ap (λ n. take n pairs) z)
+
+  go : (j.k ≡ 0) ⊎ IsLacking new → (b : Bool) → input.earliest ≡ b → IsOpen input old (take j.k pairs)
+  go (inl z) b e = none z
+  go (inr lacks) true e = none (j.first e)
+  go (inr lacks) false e =
+      let absent : In lacks.pattern (members new) → ⊥ = (λ i. false_true (sym lacks.absent ∙ in_flag new lacks.pattern i)) in
+      let below : lacks.pattern < length old = omega (arith, lacks.below, j.capacity) in
+      inr (
+        e,
+        (
+          lacks.pattern,
+          below,
+          λ i. absent ((j.joined pairs walked lacks.pattern).1 (inl i)),
+          λ h. absent ((j.joined pairs walked lacks.pattern).1 (inr (below, h))),
+        ),
+      )
+
+-- an earliest set or a full one is not gone on with
+pub closes :
+    (input : Input) (old new : List Bool) (pairs : List Pair) (k : ℕ) (half : HalfMatch)
+    → half_nth pairs k ≡ Some half → length new ≡ length old → IsJoined (take (suc k) pairs) old new
+    → (input.earliest ≡ true) ⊎ (length (members new) ≡ length new) → IsOpen input old (take (suc k) pairs) → ⊥
+closes input old new pairs k half found capacity joined stop is_open = go is_open stop where
+  taken : (ps : List Pair) (n : ℕ) → half_nth ps n ≡ Some half → take (suc n) ps ≡ [] → ⊥
+  taken [] n f e = absurd (cc)
+  taken (x ∷ xs) n f e = absurd (cc)
+
+  go : IsOpen input old (take (suc k) pairs) → (input.earliest ≡ true) ⊎ (length (members new) ≡ length new) → ⊥
+  go (inl none) s = taken pairs k found none
+  go (inr (e, rest)) (inl early) = false_true (sym e ∙ early)
+  go (inr (e, (p, below, absent, other))) (inr full) =
+      among ((joined p).0 (flag_in new p (full_at new 0 p full (omega (arith, below, capacity))))) where
+        among : In p (members old) ⊎ ((p < length old) × HasPattern p (take (suc k) pairs)) → ⊥
+        among (inl i) = absent i
+        among (inr (b, h)) = other h

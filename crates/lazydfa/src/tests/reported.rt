@@ -1,0 +1,157 @@
+//! What calls report, in words.
+
+use crate::reply::{write_error, write_half, write_span};
+use regex_automata::hybrid::{BuildError, LazyStateID, SearchError, StartError, StepError};
+use regex_automata::tokens::TokenError;
+use regex_automata::util::search::{HalfMatch, Match};
+use std::alloc::AllocError;
+use std::fmt;
+
+/// An item of an iteration, or a token: its pattern, its start and its end.
+pub type Item = Option<Result<(usize, usize, usize), TokenError>>;
+
+/// What is counted of a cache: clears, memory, and bytes searched.
+pub type Counted = (usize, usize, usize);
+
+/// What a call reports.
+#[derive(Clone, Copy)]
+pub enum Reported {
+    Word(&'static str),
+    /// The match of a search of one DFA.
+    Half(Result<Option<HalfMatch>, SearchError>),
+    /// The match of a regex, with text after it.
+    Span(Result<Option<Match>, SearchError>, &'static str),
+    Truth(Result<bool, SearchError>),
+    /// Patterns, and why there are no more.
+    Names(&'static str, SearchError),
+    NoStart(StartError),
+    NoStep(StepError),
+    Refused(BuildError),
+    /// A number, with text before it and after it.
+    Number(&'static str, usize, &'static str),
+    /// How many patterns, and the last one.
+    Patterns(usize, usize),
+    /// The pattern and the end of a match, and where the last of its spans began.
+    Based(usize, usize, usize),
+    /// Three numbers, with text after them.
+    Counts(Counted, &'static str),
+    /// The counts of both parts.
+    Parts([Counted; 2]),
+    /// Items or tokens.
+    Items([Item; 8]),
+}
+
+impl Reported {
+    pub fn of_flag(yes: bool) -> Reported {
+        Reported::Word(if yes { "true" } else { "false" })
+    }
+
+    pub fn of_start(started: Result<(), StartError>) -> Reported {
+        match started {
+            Ok(()) => Reported::Word("-"),
+            Err(error) => Reported::NoStart(error),
+        }
+    }
+
+    pub fn of_step(stepped: Result<(), StepError>) -> Reported {
+        match stepped {
+            Ok(()) => Reported::Word("-"),
+            Err(error) => Reported::NoStep(error),
+        }
+    }
+
+    pub fn of_growth(grown: Result<(), AllocError>) -> Reported {
+        match grown {
+            Ok(()) => Reported::Word("-"),
+            Err(_) => Reported::Refused(BuildError::OutOfMemory),
+        }
+    }
+
+    /// Whether an allocation failed in a call that then has to leave the cache unchanged.
+    pub fn is_refusal(&self) -> bool {
+        matches!(
+            self,
+            Reported::NoStart(StartError::OutOfMemory)
+                | Reported::NoStep(StepError::OutOfMemory)
+                | Reported::Refused(BuildError::OutOfMemory)
+        )
+    }
+}
+
+impl fmt::Display for Reported {
+    fn fmt<W: fmt::Write>(&self, f: &mut fmt::Formatter<W>) -> fmt::Result {
+        match self {
+            Reported::Word(word) => write!(f, "{word}"),
+            Reported::Half(found) => write_half(f, found),
+            Reported::Span(found, behind) => {
+                write_span(f, found)?;
+                write!(f, "{behind}")
+            }
+            Reported::Truth(Ok(holds)) => write!(f, "{holds}"),
+            Reported::Truth(Err(error)) => write_error(f, error),
+            Reported::Names(names, error) => {
+                write!(f, "{names} ")?;
+                write_error(f, error)
+            }
+            Reported::NoStart(error) => write!(f, "{error}"),
+            Reported::NoStep(error) => write!(f, "{error}"),
+            Reported::Refused(error) => write!(f, "{error}"),
+            Reported::Number(before, number, behind) => write!(f, "{before}{number}{behind}"),
+            Reported::Patterns(count, last) => write!(f, "patterns {count} last {last}"),
+            Reported::Based(pattern, end, place) => write!(f, "{pattern} {end} at {place}"),
+            Reported::Counts((first, second, third), behind) => {
+                write!(f, "{first} {second} {third}{behind}")
+            }
+            Reported::Parts([forward, reverse]) => write!(f, "{forward:?} {reverse:?}"),
+            Reported::Items(items) => write_items(f, items),
+        }
+    }
+}
+
+/// The items before the end, if any. What comes after the end or an error is reported apart.
+fn write_items<W: fmt::Write>(f: &mut fmt::Formatter<W>, items: &[Item; 8]) -> fmt::Result {
+    if items[0].is_none() {
+        write!(f, "-")?;
+    }
+    let mut before = "";
+    for item in items {
+        if let Some(item) = *item {
+            write!(f, "{before}")?;
+            write_item(f, item)?;
+        }
+        before = if matches!(item, Some(Ok(_))) {
+            "; "
+        } else {
+            "; and then "
+        };
+    }
+    Ok(())
+}
+
+fn write_item<W: fmt::Write>(
+    f: &mut fmt::Formatter<W>,
+    item: Result<(usize, usize, usize), TokenError>,
+) -> fmt::Result {
+    match item {
+        Ok((pattern, start, end)) => write!(f, "{pattern} {start}..{end}"),
+        Err(TokenError::Search(error)) => write_error(f, &error),
+        Err(error) => write!(f, "{error}"),
+    }
+}
+
+/// What an ID says of its state.
+pub fn letter(id: LazyStateID) -> &'static str {
+    if id.is_unknown() {
+        "u"
+    } else if id.is_dead() {
+        "d"
+    } else if id.is_quit() {
+        "q"
+    } else if id.is_match() {
+        "m"
+    } else if id.is_start() {
+        "s"
+    } else {
+        ""
+    }
+}

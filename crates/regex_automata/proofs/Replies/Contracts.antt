@@ -1,0 +1,104 @@
+-- What calls return whatever the cache, from their clauses.
+use Rattle.std.proofs.Common.{◌≡◌, ◌<◌, ◌≤◌, Option, None, Result, Ok, Err, IfErr, IfOk, Bool, true, false, inl, inr}
+use Rattle.std.proofs.Common.{ap}
+use Rattle.automata_base.specs.Haystacks.Input.{Input}
+use Rattle.automata_base.specs.Haystacks.Matches.{Match}
+use Rattle.automata_base.specs.Nfas.Nodes.{nfa_of}
+use Rattle.automata_base.specs.Paths.Paths.{IsLookAcyclic}
+use Rattle.automata_base.specs.Answers.Spans.{IsMatch, IsSpan, TryFinds}
+use Rattle.automata_base.specs.Haystacks.Tapes.{Forward}
+use Rattle.automata_config.specs.declared.error.SearchError.{SearchError}
+use Rattle.automata_hybrid.specs.Cache.Caches.{CacheView}
+use Rattle.automata_hybrid.specs.Machines.Machine.{Machine}
+use Rattle.automata_hybrid.specs.Searches.Contracts.{IsMemory, IsStoreOf, MayRefuse, unsupported_error}
+use Rattle.automata_hybrid.specs.Searches.Passes.{NoQuitInReach, Skips, tape_in}
+use Rattle.automata_hybrid.specs.Machines.StartSlots.{supports}
+use Rattle.automata_hybrid.specs.Steps.Starts.{quit_behind}
+use Rattle.automata_hybrid.proofs.Searches.Contracts.{is_store}
+use Rattle.regex_automata.specs.Spans.IsMatch.{IsAsked, IsMatchReported, IsNearestThere, IsTruthFound}
+use Rattle.regex_automata.specs.Spans.Contracts.{AreStoresOf, IsSpanOf, IsSpanReported, IsTruthOf, MayRefuseSpan}
+use Rattle.regex_automata.specs.Spans.Contracts.{MayRefuseTruth}
+use Rattle.regex_automata.specs.Regexes.Caches.{AreCachesOf, AreFresh}
+use Rattle.regex_automata.specs.Spans.Errors.{IsFree, IsOfMemory, IsRegexRefusal}
+use Rattle.regex_automata.specs.Regexes.SoundPairs.{AreLookAcyclic, IsSoundPair, forward_engine, reverse_engine}
+use Rattle.regex_automata.specs.declared.hybrid.regex.Regex.{Regex}
+use Rattle.regex_automata.specs.declared.hybrid.regex.caches.Cache.{Cache}
+use Rattle.automata_config.specs.Options.{minimum_cache_clear_count_of}
+
+pub are_stores :
+    (c : Cache) (p : Regex) → AreCachesOf c p → IsStoreOf c.forward.store c.forward.store.table.of
+    → IsStoreOf c.reverse.store c.reverse.store.table.of → AreStoresOf c p
+are_stores c p of forward reverse =
+    (is_store c.forward.store p.forward of.0 forward, is_store c.reverse.store p.reverse of.1 reverse)
+
+-- an error over some caches
+pub may_refuse_span :
+    {T : Type 0} (r : Result T SearchError) (p : Regex) (c : Cache) (input : Input)
+    → AreStoresOf c p → IfErr r (IsRegexRefusal p c input) → IfErr r (MayRefuseSpan p input)
+may_refuse_span (Ok x) p c input of h = h
+may_refuse_span (Err e) p c input of h = (c, of, h)
+
+pub may_refuse_truth :
+    (m : Machine) (input asked : Input) (e : SearchError)
+    → IsAsked m input asked → MayRefuse Forward m asked e → MayRefuseTruth m input e
+may_refuse_truth m input asked e is h = (h.0, h.1, (asked, is, h.2))
+
+pub memory_of_sound :
+    (p : Regex) (c : Cache) (input : Input) (e : SearchError)
+    → IsSoundPair p → IsFree p input → IsRegexRefusal p c input e → IsMemory e
+memory_of_sound p c input e sound free h = go (h.free free) where
+  go : IsOfMemory e → IsMemory e
+  go (inl memory) = memory
+  go (inr apart) = absurd (h.sound sound apart)
+
+pub refused_sound :
+    {T : Type 0} (r : Result T SearchError) (p : Regex) (c : Cache) (input : Input)
+    → IsSoundPair p → IsFree p input → IfErr r (IsRegexRefusal p c input) → IfErr r IsMemory
+refused_sound (Ok x) p c input sound free h = tt
+refused_sound (Err e) p c input sound free h = memory_of_sound p c input e sound free h
+
+-- a search for a span
+pub span_returned :
+    (p : Regex) (input : Input) (r : Result (Option Match) SearchError) (c : Cache) → AreStoresOf c p
+    → IsSpanReported p input r
+    → (AreLookAcyclic p → IfOk r (TryFinds (forward_engine p) (reverse_engine p) input))
+    → (IsSoundPair p → IfOk r (IsSpan (forward_engine p) input))
+    → IfErr r (IsRegexRefusal p c input)
+    → IsSpanOf p input r
+span_returned p input r c of reported answer span errors = record {
+  reported = reported;
+  answer = answer;
+  span = span;
+  errors = may_refuse_span r p c input of errors;
+  free = λ sound free. refused_sound r p c input sound free errors;
+}
+
+-- a search for whether there is a match
+pub truth_returned :
+    (p : Regex) (input : Input) (r : Result Bool SearchError)
+    → IfOk r (IsTruthFound p.forward input)
+    → IfOk r (IsMatchReported p.forward input)
+    → (IsLookAcyclic (nfa_of p.forward.nfa) → IfOk r (IsMatch (forward_engine p) input))
+    → ((Skips p.forward → ⊥) → IfOk r (IsNearestThere p.forward input))
+    → IfErr r (MayRefuseTruth p.forward input)
+    → (input.start ≤ input.end → quit_behind p.forward (tape_in Forward input).before ≡ None
+    → supports p.forward input.anchored ≡ false → r ≡ Err (unsupported_error input))
+    → (NoQuitInReach p.forward input → supports p.forward input.anchored ≡ true → minimum_cache_clear_count_of p.forward.config ≡ None
+    → IfErr r IsMemory)
+    → (input.end < input.start → r ≡ Ok false)
+    → IsTruthOf p input r
+truth_returned p input r found reported answer nearest errors unsupported answers done = record {
+  found = found;
+  reported = reported;
+  answer = answer;
+  nearest = nearest;
+  errors = errors;
+  unsupported = λ u. unsupported u.undone u.behind u.mode;
+  free = λ f. answers f.reach f.supported f.clears;
+  done = done;
+}
+
+-- fresh caches of a regex belong to it
+pub fresh_caches : (p : Regex) (c : Cache) → AreFresh p c → AreCachesOf c p
+fresh_caches p c fresh =
+    (ap (λ (v : CacheView). v.store.table.of) fresh.0, ap (λ (v : CacheView). v.store.table.of) fresh.1)

@@ -1,0 +1,109 @@
+-- The list of the patterns of a set, and what walks say of it.
+use Rattle.std.proofs.Common.{◌≡◌, ◌∙◌, ◌<◌, ◌≤◌, ◌⊎◌, ℕ, zero, suc, Bool, true, false, List, [], ◌∷◌, Some, None}
+use Rattle.std.proofs.Common.{Result, Ok, Err, IfErr, OnOk, IfSome, arith, inl, inr, length, refl, subst, sym, ap}
+use Rattle.std.specs.Prelude.{IsOk}
+use Rattle.std.proofs.lemmas.List.{length-replicate}
+use Rattle.std.specs.Result.{result_err}
+use Rattle.automata_base.specs.Answers.Answers.{ArePatterns}
+use Rattle.automata_base.specs.Haystacks.Input.{Input}
+use Rattle.automata_base.specs.Haystacks.PatternSet.{members, members_from}
+use Rattle.automata_base.specs.Paths.Selections.{Pair}
+use Rattle.automata_base.specs.Haystacks.Tapes.{Forward}
+use Rattle.automata_config.specs.declared.error.SearchError.{SearchError}
+use Rattle.automata_config.specs.declared.error.SearchError.TheVariants as search
+use Rattle.automata_hybrid.specs.Machines.Machine.{Machine}
+use Rattle.automata_hybrid.specs.Searches.Contracts.{IsMemory}
+use Rattle.automata_hybrid.specs.Walks.Contracts.{MayRefuseWhich}
+use Rattle.automata_hybrid.specs.Walks.Progress.{EndsSet, HaveCalled, IsOpenAfter}
+use Rattle.automata_hybrid.specs.Cache.Stores.{Stored}
+use Rattle.automata_hybrid.specs.Walks.Answers.{HasReported}
+use Rattle.automata_hybrid.specs.Walks.State.{Walk}
+use Rattle.automata_hybrid.proofs.Searches.PassState.{false_true}
+use Rattle.regex_automata.proofs.Results.{some_none}
+use Rattle.regex_automata.specs.Spans.Contracts.{AreRising, ArePatternsUpto, HasReportedSet, MayRefusePatterns, empty_set}
+use Rattle.std.proofs.lemmas.Bool.{cases_lt}
+
+-- what rises from a number rises from a lower one
+rising_from : (low k : ℕ) (ks : List ℕ) → low ≤ k → AreRising k ks → AreRising low ks
+rising_from low k [] le all = tt
+rising_from low k (j ∷ ks) le all = let at = all.0 in (omega arith, all.1)
+
+members_rise_from : (k : ℕ) (set : List Bool) → AreRising k (members_from k set)
+members_rise_from k [] = tt
+members_rise_from k (true ∷ rest) = (omega arith, members_rise_from (suc k) rest)
+members_rise_from k (false ∷ rest) = rising_from k (suc k) (members_from (suc k) rest) (omega arith) (members_rise_from (suc k) rest)
+
+pub members_rise : (set : List Bool) (found : List ℕ) → found ≡ members set → AreRising 0 found
+members_rise set found is = subst (λ (ks : List ℕ). AreRising 0 ks) (sym is) (members_rise_from 0 set)
+
+-- a fresh set joined with the patterns that a walk reported
+pub patterns_reported :
+    (P : List Pair → Type 0) (input : Input) (capacity : ℕ) (old new : List Bool) (found : List ℕ)
+    → old ≡ empty_set capacity → members old ≡ [] → found ≡ members new
+    → ArePatterns P input (length old) (members old) (members new) → ArePatterns P input capacity [] found
+patterns_reported P input capacity old new found fresh none is reported =
+    subst (λ (ks : List ℕ). ArePatterns P input capacity [] ks) (sym is)
+    (subst (λ (ks : List ℕ). ArePatterns P input capacity ks (members new)) none
+    (subst (λ n. ArePatterns P input n (members old) (members new)) (ap length fresh ∙ length-replicate capacity false) reported))
+
+-- the same of a call that may have failed
+pub reported_where :
+    {E : Type 0} (r : Result (Unit {0}) E) (P : Type 0) → OnOk r P → result_err r ≡ None → P
+reported_where (Ok x) P h none = h
+reported_where (Err e) P h none = absurd (some_none none)
+
+pub refused_where :
+    (r : Result (Unit {0}) SearchError) (m : Machine) (input : Input) (capacity : ℕ) (old new : List Bool) (found : List ℕ)
+    → old ≡ empty_set capacity → found ≡ members new → IfErr r (MayRefuseWhich m input old new)
+    → IfSome (result_err r) (MayRefusePatterns m input capacity found)
+refused_where (Ok x) m input capacity old new found fresh is h = tt
+refused_where (Err e) m input capacity old new found fresh is h =
+    inr (new, is, subst (λ (set : List Bool). MayRefuseWhich m input set new e) fresh h)
+
+pub memory_where : (r : Result (Unit {0}) SearchError) → IfErr r IsMemory → IfSome (result_err r) IsMemory
+memory_where (Ok x) h = h
+memory_where (Err e) h = h
+
+-- what holds below a number and at it
+up_to : (P : ℕ → Type 0) (n : ℕ) → ((k : ℕ) → k < n → P k) → P n → (k : ℕ) → k < suc n → P k
+up_to P n below here k l = go (cases_lt k n) where
+  go : (k < n) ⊎ (n ≤ k) → P k
+  go (inl less) = below k less
+  go (inr most) = let same : n ≡ k = omega (arith, l, most) in subst P same here
+
+-- the calls that the walk of a set has made, one after another, have reported as many pairs, each if the set went on
+called_reported :
+    (m : Machine) (input : Input) (set : List Bool) (calls : ℕ) (old : Stored) (walk : Walk) (new : Stored)
+    → HaveCalled m input set calls old walk new
+    → HasReported Forward m input walk calls × ((k : ℕ) → k < calls → IsOpenAfter m input set k)
+called_reported m input set zero old walk new (fresh, same) =
+    (subst (λ (w : Walk). HasReported Forward m input w 0) (sym fresh) (refl, refl), λ k l. absurd (omega (arith, l)))
+called_reported m input set (suc calls) old walk new (before, mid, called, is_open, reports, ended) =
+    let reported = called_reported m input set calls old before mid called in
+    ((reports calls reported.0).0, up_to (IsOpenAfter m input set) calls reported.1 is_open)
+
+pub reported_set :
+    (m : Machine) (input : Input) (set : List Bool) (old new : Stored) → EndsSet m input set old new → HasReportedSet m input set
+reported_set m input set old new (calls, walk, called, last) =
+    let reported = called_reported m input set calls old walk new called in
+    (calls, walk, reported.0, reported.1, last)
+
+-- a call that returned Ok has no error
+pub none_where : (r : Result (Unit {0}) SearchError) → IsOk r → IfSome (result_err r) IsMemory
+none_where (Ok x) ok = tt
+none_where (Err e) ok = absurd (false_true ok)
+
+-- if there is no memory for the set or the list
+pub no_patterns :
+    (m : Machine) (input : Input) (capacity : ℕ) (found : List ℕ) → found ≡ []
+    → ArePatternsUpto m input capacity found (Some search.OutOfMemory)
+no_patterns m input capacity found none = record {
+  rise = subst (λ (ks : List ℕ). AreRising 0 ks) (sym none) tt;
+  reported = λ e. absurd (some_none e);
+  paths = λ acyclic e. absurd (some_none e);
+  clean = λ e. absurd (some_none e);
+  errors = inl (refl, none);
+  unsupported = λ u. (none, inr refl);
+  free = λ f. refl;
+  done = λ past. (none, refl);
+}

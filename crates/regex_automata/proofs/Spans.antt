@@ -1,0 +1,13 @@
+pub mod Agreement
+pub mod Quits
+pub mod Lists
+pub mod Costs
+pub mod Items
+pub mod Progress
+pub mod Truths
+pub mod NextMatches
+pub mod Cached
+pub mod ByPaths
+pub mod Ends
+pub mod Effects
+pub mod Reports

@@ -1,0 +1,121 @@
+-- What the passes of two DFAs report is what the ordered paths define.
+use Rattle.std.proofs.Common.{ℕ, ◌≡◌, ◌∙◌, inl, inr, Option, Some, refl, sym, subst, arith}
+use Rattle.std.specs.Prelude.{Result, Ok, Err, IfErr}
+use Rattle.automata_base.specs.Answers.Answers.{Half, IsAnswer, IsInput}
+use Rattle.automata_base.specs.Haystacks.Input.{Input}
+use Rattle.automata_base.specs.Haystacks.Matches.{Match}
+use Rattle.automata_base.specs.Nfas.Nodes.{nfa_of}
+use Rattle.automata_base.specs.Paths.Paths.{IsLookAcyclic}
+use Rattle.automata_base.specs.Answers.Spans.{FindsSpan, Found, IsFarSearch, IsSpan, IsTrySearch, NotAPair, Outcome}
+use Rattle.automata_base.specs.Answers.Spans.{back}
+use Rattle.automata_base.specs.Laws.StartIsRight.{BackMeetsNone, StartsAreRight}
+use Rattle.automata_base.specs.Haystacks.Tapes.{Forward, Backward}
+use Rattle.automata_base.specs.Answers.OfPasses.{IsFarthestAnswer, ReportedEndsAreRight, ReportedIsRight}
+use Rattle.automata_base.proofs.Answers.Turning.{turn_outcome}
+use Rattle.automata_base.specs.declared.util.search.MatchErrorKind.TheVariants.{Quit as QuitAt}
+use Rattle.automata_config.specs.declared.error.SearchError.{SearchError}
+use Rattle.automata_config.specs.declared.error.SearchError.TheVariants as search
+use Rattle.automata_hybrid.specs.Searches.Passes.{IsFound, IsRefused}
+use Rattle.automata_hybrid.proofs.Searches.Skips.{found_reported}
+use Rattle.automata_hybrid.proofs.Searches.Bounds.{found_within}
+use Rattle.regex_automata.specs.Spans.Outcomes.{FindsMatch, IsOutcome}
+use Rattle.regex_automata.specs.Spans.Errors.{HasReason, IsFree, IsOfMemory, IsRegexRefusal}
+use Rattle.regex_automata.specs.Regexes.SoundPairs.{AreLookAcyclic, IsSoundPair, forward_engine, reverse_engine}
+use Rattle.regex_automata.specs.declared.hybrid.regex.Regex.{Regex}
+use Rattle.regex_automata.specs.declared.hybrid.regex.caches.Cache.{Cache}
+use Rattle.regex_automata.proofs.Spans.Quits.{back_free, never_pair}
+use Rattle.automata_config.specs.Options.{match_kind_of}
+
+-- over NFAs without look cycles
+module _ (p : Regex) (front : ReportedIsRight p.forward.nfa) where
+  front_right :
+      (input : Input) (o : Option Half) → IsLookAcyclic (nfa_of p.forward.nfa) → IsInput input → IsFound Forward p.forward input o
+      → IsAnswer Forward (forward_engine p) input o
+  front_right input o acyclic given f = front Forward (match_kind_of p.forward.config) input o acyclic given (found_reported Forward p.forward input o f)
+
+  back_given : (input : Input) (half : Half) → IsInput input → IsFound Forward p.forward input (Some half) → IsInput (back input half)
+  back_given input half given f =
+      let w = (found_within Forward p.forward input half given.1 f).0.1 in
+      let few = given.1 in
+      (given.0, omega (arith, w, few))
+
+  pub outcome_right :
+      (rear : ReportedIsRight p.reverse.nfa) (input : Input) (outcome : Outcome) → AreLookAcyclic p → IsInput input → IsOutcome p input outcome
+      → IsTrySearch (forward_engine p) (reverse_engine p) input outcome
+  outcome_right rear input outcome acyclic given f =
+      turn_outcome (IsFound Forward p.forward) (IsAnswer Forward (forward_engine p)) (IsFound Backward p.reverse)
+      (IsAnswer Backward (reverse_engine p)) (forward_engine p) input
+      (λ o a. front_right input o acyclic.0 given a)
+      (λ half o a b.
+      rear Backward (match_kind_of p.reverse.config) (back input half) o acyclic.1 (back_given input half given a)
+      (found_reported Backward p.reverse (back input half) o b))
+      outcome f
+
+  -- and over a sound pair
+  module _ (ends : ReportedEndsAreRight p.reverse.nfa) (starts : StartsAreRight) (sound : IsSoundPair p) (input : Input)
+      (given : IsInput input) where
+    outcome_far : (outcome : Outcome) → IsOutcome p input outcome → IsFarSearch (forward_engine p) (reverse_engine p) input outcome
+    outcome_far outcome f =
+        turn_outcome (IsFound Forward p.forward) (IsAnswer Forward (forward_engine p)) (IsFound Backward p.reverse)
+        (IsFarthestAnswer Backward (reverse_engine p)) (forward_engine p) input
+        (λ o a. front_right input o sound.acyclic given a)
+        (λ half o a b.
+        (ends Backward (match_kind_of p.reverse.config) (back input half) o (back_given input half given a)
+        (found_reported Backward p.reverse (back input half) o b)).1 refl sound.pair.0)
+        outcome f
+
+    finds_span : (outcome : Outcome) → IsOutcome p input outcome → FindsSpan (forward_engine p) input outcome
+    finds_span outcome f =
+        starts.farthest (forward_engine p) (reverse_engine p) input outcome sound.pair sound.utf8 given (outcome_far outcome f)
+
+    pub match_right : (answer : Option Match) → FindsMatch p input answer → IsSpan (forward_engine p) input answer
+    match_right answer f =
+        let s = finds_span (Found answer) f in subst (λ (o : Option Match). IsSpan (forward_engine p) input o) (sym (same s.1)) s.2
+      where
+        same : {a b : Option Match} → ◌≡◌ {A = Outcome} (Found a) (Found b) → a ≡ b
+        same e = cc
+
+    pub no_pair_wrong : IsOutcome p input NotAPair → ⊥
+    no_pair_wrong f = apart (finds_span NotAPair f).1 where
+      apart : {a : Option Match} → ◌≡◌ {A = Outcome} NotAPair (Found a) → ⊥
+      apart e = cc
+
+  -- what a reason excludes
+  module _ (rear : ReportedIsRight p.reverse.nfa) (ends : ReportedEndsAreRight p.reverse.nfa) (starts : StartsAreRight) (law : BackMeetsNone)
+      (c : Cache) (input : Input) (given : IsInput input) (e : SearchError) (reason : HasReason p c input e) where
+    no_pair : e ≡ search.NotAPair → IsOutcome p input NotAPair
+    no_pair is = go (subst (HasReason p c input) is reason) where
+      go : HasReason p c input search.NotAPair → IsOutcome p input NotAPair
+      go (inl r) = absurd (never_pair Forward p.forward c.forward.store input r)
+      go (inr (inl r)) = absurd (never_pair Backward p.reverse c.reverse.store (back input r.0) r.2.1)
+      go (inr (inr r)) = r.1
+
+    pub refusal_of : (IsFree p input → IsOfMemory e) → IsRegexRefusal p c input e
+    refusal_of free =
+        record {
+          reason = reason;
+          free = free;
+          apart = λ acyclic is. outcome_right rear input NotAPair acyclic given (no_pair is);
+          sound = λ sound is. no_pair_wrong ends starts sound input given (no_pair is);
+          quits = λ same byte at is. quits same byte at is reason;
+        } where
+          quits : p.forward.quits ≡ p.reverse.quits → (byte at : ℕ) → e ≡ search.Match (QuitAt byte at) → HasReason p c input e
+              → IsRefused Forward p.forward c.forward.store input e
+          quits same byte at is (inl r) = r
+          quits same byte at is (inr (inl r)) =
+              absurd
+              (back_free law p.forward p.reverse c.reverse.store input r.0 byte at same given.1 (found_within Forward p.forward input r.0 given.1 r.1).2
+              (found_within Forward p.forward input r.0 given.1 r.1).0.1 r.1
+              (subst (λ (v : SearchError). IsRefused Backward p.reverse c.reverse.store (back input r.0) v) is r.2.1))
+          quits same byte at is (inr (inr r)) = absurd (not_quit (sym is ∙ r.0)) where
+            not_quit : ◌≡◌ {A = SearchError} (search.Match (QuitAt byte at)) search.NotAPair → ⊥
+            not_quit h = cc
+
+-- each error of a search
+pub refusals :
+    (p : Regex) (front : ReportedIsRight p.forward.nfa) (rear : ReportedIsRight p.reverse.nfa) (ends : ReportedEndsAreRight p.reverse.nfa)
+    (starts : StartsAreRight) (law : BackMeetsNone) (c : Cache) (input : Input) (given : IsInput input) (r : Result (Option Match) SearchError)
+    → IfErr r (HasReason p c input) → (IsFree p input → IfErr r IsOfMemory) → IfErr r (IsRegexRefusal p c input)
+refusals p front rear ends starts law c input given (Ok o) reason free = tt
+refusals p front rear ends starts law c input given (Err e) reason free =
+    refusal_of p front rear ends starts law c input given e reason free

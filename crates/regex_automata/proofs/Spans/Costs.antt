@@ -1,0 +1,154 @@
+-- What the search back costs, and what is cached for it.
+use Rattle.std.specs.Prelude.{IfSome}
+use Rattle.std.proofs.Common.{ℕ, ◌≡◌, ◌∙◌, ◌+◌, ◌-◌, ◌≤◌, inr, length, Option, Some, None, refl, sym, ap, subst, arith}
+use Rattle.std.specs.Option.{option_map}
+use Rattle.automata_base.specs.Answers.Answers.{Half}
+use Rattle.automata_base.specs.Haystacks.Input.{Input}
+use Rattle.automata_base.specs.Haystacks.Matches.{HalfMatch, Match}
+use Rattle.automata_base.specs.Answers.Spans.{IsShort, back}
+use Rattle.automata_base.specs.Haystacks.Tapes.{Backward, Forward}
+use Rattle.automata_base.specs.declared.util.search.Anchored.TheVariants.{No, Yes}
+use Rattle.automata_hybrid.specs.Searches.Agreement.{AnswersAgree}
+use Rattle.automata_hybrid.specs.Cache.Caches.{CacheView}
+use Rattle.automata_hybrid.specs.Searches.Costs.{IsCostOfSearch}
+use Rattle.automata_hybrid.specs.Cache.Growth.{IsGrown}
+use Rattle.automata_hybrid.specs.Searches.Cached.{Knows, KnowsItsStart}
+use Rattle.automata_hybrid.specs.Machines.Machine.{Machine}
+use Rattle.automata_hybrid.specs.Searches.Passes.{IsFound, NoQuitInReach, Skips, WithoutBase, with_base}
+use Rattle.automata_hybrid.specs.Searches.Bounds.{LiesPast}
+use Rattle.automata_hybrid.proofs.Searches.Costs.{cost_known, cost_once}
+use Rattle.automata_hybrid.proofs.Cache.Growth.{clears_none}
+use Rattle.automata_hybrid.proofs.Searches.Bounds.{found_within}
+use Rattle.regex_automata.specs.Spans.Costs.{IsBackCost, IsPassCost, KnowsBackStart}
+use Rattle.regex_automata.specs.Spans.Outcomes.{FindsMatch, IsStartFound, MatchLiesIn}
+use Rattle.regex_automata.specs.Regexes.Caches.{KnowsBack, KnowsBoth}
+use Rattle.regex_automata.specs.Regexes.SoundPairs.{forward_engine}
+use Rattle.regex_automata.specs.declared.hybrid.regex.Regex.{Regex}
+use Rattle.regex_automata.specs.declared.hybrid.regex.caches.Cache.{Cache}
+use Rattle.regex_automata.proofs.Results.{none_some, same_some, some_none}
+use Rattle.automata_base.proofs.Answers.Starts.{yes_no}
+
+-- what a pass costs
+pass_once :
+    (bytes : ℕ) (K : Type 0) (old new : CacheView)
+    → new.count ≤ old.count + (bytes + 2) → (K → new.count ≤ old.count + (bytes + 1)) → IsGrown old new
+    → IsPassCost bytes K old new
+pass_once bytes K old new once begun grown =
+    record { once = once; started = begun; room = λ r. clears_none old new (bytes + 2) grown once r }
+
+-- an anchored search is one pass
+pub cost_anchored :
+    (m : Machine) (input : Input) (old new : CacheView) → input.anchored ≡ Yes
+    → IsCostOfSearch Forward m input old new → IsGrown old new
+    → IsPassCost (input.end - input.start) (KnowsItsStart Forward m old.store input) old new
+cost_anchored m input old new anchored passes grown =
+    let whole : Skips m × (input.anchored ≡ No) → ⊥ = (λ s. yes_no (sym anchored ∙ s.1)) in
+    pass_once (input.end - input.start) (KnowsItsStart Forward m old.store input) old new
+    (cost_once Forward m input old new passes whole) (cost_known Forward m input old new passes whole) grown
+
+-- nothing is in reach of the search back that was not in reach before
+pub back_reach :
+    (m : Machine) (input : Input) (half : Half) → input.start ≤ half.base → half.offset ≤ input.end
+    → NoQuitInReach m input → NoQuitInReach m (back input half)
+back_reach m input half from within reach = λ at byte s e n. reach at byte (omega (arith, from, s)) (omega (arith, within, e)) n
+
+-- the search back is one pass, from the answer's end to its base
+pub cost_back :
+    (p : Regex) (input rest : Input) (half : Half) (old new : CacheView) → rest ≡ back input half
+    → (IsShort (forward_engine p) input half → ⊥)
+    → IsCostOfSearch Backward p.reverse rest old new → IsGrown old new → IsBackCost p input half old new
+cost_back p input rest half old new same long passes grown =
+    inr (
+      long,
+      pass_once (half.offset - half.base) (KnowsBackStart p old.store input half) old new
+          (cost_once Backward p.reverse (back input half) old new here whole)
+          (cost_known Backward p.reverse (back input half) old new here whole) grown,
+    )
+  where
+    here : IsCostOfSearch Backward p.reverse (back input half) old new
+    here = subst (λ (i : Input). IsCostOfSearch Backward p.reverse i old new) same passes
+
+    whole : Skips p.reverse × ((back input half).anchored ≡ No) → ⊥
+    whole s = yes_no s.1
+
+-- what the search back found, as a half match with its base
+pub back_some :
+    (m : Machine) (rest : Input) (o : Option HalfMatch) (found : HalfMatch) → WithoutBase (IsFound Backward m rest) o → o ≡ Some found
+    → (half : Half) × IsFound Backward m rest (Some half) × (found.offset ≡ half.offset)
+back_some m rest o found (None, f, e) is = absurd (some_none (sym is ∙ e))
+back_some m rest o found (Some half, f, e) is = (half, f, ap (λ (h : HalfMatch). h.offset) (same_some (sym is ∙ e)))
+
+pub back_none :
+    (m : Machine) (rest : Input) (o : Option HalfMatch) → WithoutBase (IsFound Backward m rest) o → o ≡ None → IsFound Backward m rest None
+back_none m rest o (None, f, e) is = f
+back_none m rest o (Some half, f, e) is = absurd (none_some (sym is ∙ e))
+
+-- it lies between the two
+pub back_within :
+    (m : Machine) (input : Input) (half found : Half) → half.offset ≤ input.end → input.end ≤ length input.haystack
+    → IsFound Backward m (back input half) (Some found) → (half.base ≤ found.offset) × (found.offset ≤ half.offset)
+back_within m input half found within few f =
+    (found_within Backward m (back input half) found (omega (arith, within, few)) f).0
+
+-- A forward search has one answer.
+module _ (agree : AnswersAgree) (p : Regex) (input : Input) where
+  pub same_half : (a b : Half) → IsFound Forward p.forward input (Some a) → IsFound Forward p.forward input (Some b) → a ≡ b
+  same_half a b f g = same_some (agree Forward p.forward p.forward input (Some a) (Some b) refl refl f g)
+
+  -- all that both searches use is cached
+  pub knows_both :
+      (c : Cache) (half : Half) → Knows Forward p.forward c.forward.store input → IsFound Forward p.forward input (Some half)
+      → KnowsBack p c.reverse.store input half → KnowsBoth p c input
+  knows_both c half knows found rest =
+      (knows, λ other f. subst (λ (h : Half). KnowsBack p c.reverse.store input h) (same_half half other found f) rest)
+
+  pub knows_front :
+      (c : Cache) → Knows Forward p.forward c.forward.store input → IsFound Forward p.forward input None → KnowsBoth p c input
+  knows_front c knows found =
+      (knows, λ other f. absurd (none_some (agree Forward p.forward p.forward input None (Some other) refl refl found f)))
+
+-- what the forward search found, with the start of the span that gave it
+pub front_some :
+    (m : Machine) (input : Input) (o : Option (HalfMatch × ℕ)) (half : HalfMatch) (base : ℕ)
+    → IsFound Forward m input (option_map (λ (p : HalfMatch × ℕ). with_base p.0 p.1) o) → o ≡ Some (half, base)
+    → IsFound Forward m input (Some (with_base half base))
+front_some m input o half base f is =
+    subst (λ (v : Option (HalfMatch × ℕ)). IsFound Forward m input (option_map (λ (p : HalfMatch × ℕ). with_base p.0 p.1) v)) is f
+
+pub front_none :
+    (m : Machine) (input : Input) (o : Option (HalfMatch × ℕ))
+    → IsFound Forward m input (option_map (λ (p : HalfMatch × ℕ). with_base p.0 p.1) o) → o ≡ None → IsFound Forward m input None
+front_none m input o f is =
+    subst (λ (v : Option (HalfMatch × ℕ)). IsFound Forward m input (option_map (λ (p : HalfMatch × ℕ). with_base p.0 p.1) v)) is f
+
+abbrev pub cache_of : CacheView → CacheView → Cache
+cache_of forward reverse = record { forward = forward; reverse = reverse }
+
+-- a start that was found lies between the two
+pub start_within :
+    (base end : ℕ) (o : Option ℕ) (start : ℕ) → IfSome o (λ s. (base ≤ s) × (s ≤ end)) → o ≡ Some start → (base ≤ start) × (start ≤ end)
+start_within base end None start w is = absurd (none_some is)
+start_within base end (Some s) start w is = subst (λ n. (base ≤ n) × (n ≤ end)) (same_some is) w
+
+-- the match of what both searches found
+abbrev match_at : (pattern start end : ℕ) → Match
+match_at pattern start end = record { pattern = pattern; start = start; end = end }
+
+pub match_of :
+    (p : Regex) (input : Input) (half : Half) (start end pattern : ℕ) (m : Match)
+    → IsFound Forward p.forward input (Some half) → IsStartFound p input half (Some start)
+    → pattern ≡ half.pattern → end ≡ half.offset → m ≡ match_at pattern start end → FindsMatch p input (Some m)
+match_of p input half start end pattern m found begun same_pattern same_end is =
+    subst (λ (v : Match). FindsMatch p input (Some v)) (sym is) (half, found, begun, same_pattern, same_end)
+
+pub match_within :
+    (p : Regex) (input : Input) (half : HalfMatch) (base start end pattern : ℕ) (m : Match)
+    → LiesPast p.forward input half base → (base ≤ start) × (start ≤ half.offset)
+    → pattern ≡ half.pattern → end ≡ half.offset → m ≡ match_at pattern start end → MatchLiesIn p input m
+match_within p input half base start end pattern m past between same_pattern same_end is =
+    subst (λ (v : Match). MatchLiesIn p input v) (sym is) (
+      omega (arith, past.from, between.0),
+      omega (arith, between.1, same_end),
+      omega (arith, past.lies.upto, same_end),
+      omega (arith, past.lies.pattern, same_pattern),
+    )

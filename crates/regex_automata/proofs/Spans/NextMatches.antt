@@ -1,0 +1,84 @@
+-- One match after another.
+use Rattle.std.proofs.Common.{ℕ, suc, ◌≡◌, ◌∙◌, ◌<◌, ◌≤◌, ◌⊎◌, inl, inr, Option, Some, None, sym, ap, subst, arith}
+use Rattle.std.specs.Prelude.{Result, Ok, Err, IfOk, IfErr, IfSome, OnErr}
+use Rattle.automata_base.specs.Haystacks.Input.{Input}
+use Rattle.automata_base.specs.Haystacks.Matches.{Match}
+use Rattle.automata_base.specs.Answers.Spans.{IsEmptyAt, from}
+use Rattle.automata_config.specs.declared.error.SearchError.{SearchError}
+use Rattle.automata_hybrid.proofs.Cache.Growth.{grown_trans}
+use Rattle.regex_automata.specs.Spans.Costs.{AreCostsOf}
+use Rattle.regex_automata.specs.Spans.Iteration.{AreCostsTwice, FindsEmptyAt, GoesPast, IsNextMatch, IsNextRefusal}
+use Rattle.regex_automata.specs.Spans.Outcomes.{FindsMatch, MatchLiesIn}
+use Rattle.regex_automata.specs.Regexes.Caches.{AreGrown}
+use Rattle.regex_automata.specs.Spans.Errors.{IsRegexRefusal}
+use Rattle.regex_automata.specs.declared.hybrid.regex.Regex.{Regex}
+use Rattle.regex_automata.specs.declared.hybrid.regex.caches.Cache.{Cache}
+use Rattle.regex_automata.proofs.Results.{err_ok, none_some, same_some}
+use Rattle.std.proofs.lemmas.Bool.{cases_lt}
+
+pub on_err : {A E : Type 0} (r : Result A E) (P : Type 0) → P → OnErr r P
+on_err (Ok a) P p = tt
+on_err (Err e) P p = p
+
+-- a search that failed had something to search
+pub ahead_of :
+    {A E : Type 0} (r : Result A E) (e : E) (a : A) (start end : ℕ) → (end < start → r ≡ Ok a) → r ≡ Err e → start ≤ end
+ahead_of r e a start end done is = go (cases_lt end start) where
+  go : (end < start) ⊎ (start ≤ end) → start ≤ end
+  go (inl past) = absurd (err_ok (sym is ∙ done past))
+  go (inr ahead) = ahead
+
+pub some_of : {A : Type 0} (o : Option A) (a : A) (P : A → Type 0) → IfSome o P → o ≡ Some a → P a
+some_of None a P h is = absurd (none_some is)
+some_of (Some b) a P h is = subst P (same_some is) h
+
+-- the match found first stands
+pub past_last :
+    (input : Input) (last : Option ℕ) (m : Match) → input.start ≤ m.start → m.start ≤ m.end → (IsEmptyAt last m → ⊥)
+    → last ≡ Some input.start → input.start < m.end
+past_last input last m a b full same = past (cases_lt input.start m.end) where
+  past : (input.start < m.end) ⊎ (m.end ≤ input.start) → input.start < m.end
+  past (inl l) = l
+  past (inr l) =
+      let e : input.start ≡ m.end = omega (arith, a, b, l) in
+      let f : m.start ≡ m.end = omega (arith, a, b, l) in
+      absurd (full (f, same ∙ ap (λ (n : ℕ). Some n) e))
+
+pub goes_first :
+    (p : Regex) (input : Input) (last : Option ℕ) (m : Match) → MatchLiesIn p input m → (IsEmptyAt last m → ⊥)
+    → GoesPast p input last m
+goes_first p input last m lies full = (lies, past_last input last m lies.0 lies.1 full)
+
+-- an empty match at the last end is replaced by what is found from one place later
+module _ (p : Regex) (input : Input) (last : Option ℕ) (m : Match) (found : FindsMatch p input (Some m)) (empty : IsEmptyAt last m) where
+  pub next_later : (r : Result (Option Match) SearchError) → IfOk r (FindsMatch p (from (suc input.start) input)) → IfOk r (IsNextMatch p input last)
+  next_later (Ok None) h = inr (m, found, empty, h)
+  next_later (Ok (Some n)) h = inr (m, found, empty, h)
+  next_later (Err e) h = tt
+
+  pub refused_later :
+      (c : Cache) (r : Result (Option Match) SearchError) → IfErr r (IsRegexRefusal p c (from (suc input.start) input))
+      → IfErr r (IsNextRefusal p c input last)
+  refused_later c (Ok o) h = tt
+  refused_later c (Err e) h = inr (m, found, empty, h)
+
+pub goes_later :
+    (p : Regex) (input : Input) (last : Option ℕ) (r : Result (Option Match) SearchError)
+    → IfOk r (λ o. IfSome o (MatchLiesIn p (from (suc input.start) input))) → IfOk r (λ o. IfSome o (GoesPast p input last))
+goes_later p input last (Ok None) h = tt
+goes_later p input last (Ok (Some n)) h =
+    let a : suc input.start ≤ n.start = h.0 in
+    let b : n.start ≤ n.end = h.1 in
+    ((omega (arith, a), b, h.2, h.3), λ same. omega (arith, a, b))
+goes_later p input last (Err e) h = tt
+
+-- what two searches cost
+pub costs_twice :
+    (p : Regex) (input rest : Input) (last : Option ℕ) (old between new : Cache) → rest ≡ from (suc input.start) input
+    → FindsEmptyAt p input last → AreCostsOf p input old between → AreCostsOf p rest between new
+    → AreCostsTwice p input last old new
+costs_twice p input rest last old between new same empty first second =
+    inr (empty, (between, first, subst (λ (i : Input). AreCostsOf p i between new) same second))
+
+pub grown_twice : (a b c : Cache) → AreGrown a b → AreGrown b c → AreGrown a c
+grown_twice a b c f g = (grown_trans a.forward b.forward c.forward f.0 g.0, grown_trans a.reverse b.reverse c.reverse f.1 g.1)

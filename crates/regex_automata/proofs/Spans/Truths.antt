@@ -1,0 +1,148 @@
+-- Whether there is a match: if nothing is skipped, the first match that is seen decides it as the whole search does.
+use Rattle.std.proofs.Common.{ℕ, zero, suc, ◌≡◌, ◌∙◌, ◌<◌, ◌≤◌, ◌+◌, ◌⊎◌, inl, inr, Bool, true, List, [], ◌∷◌, length}
+use Rattle.std.proofs.Common.{Option, Some, None, refl, sym, ap, subst, arith}
+use Rattle.std.specs.Prelude.{is_some}
+use Rattle.std.specs.Option.{option_map}
+use Rattle.automata_base.specs.Answers.Answers.{Half, IsInput, IsSplit, Tries, later, offset_in}
+use Rattle.automata_base.specs.Retraced.ComputedPass.{earlier_or, pair_at}
+use Rattle.automata_base.specs.Nfas.Engines.{engine_of}
+use Rattle.automata_base.specs.Haystacks.Input.{Input}
+use Rattle.automata_base.specs.Haystacks.Matches.{HalfMatch}
+use Rattle.automata_base.specs.Nfas.Nodes.{Automaton, nfa_of}
+use Rattle.automata_base.specs.Paths.Paths.{IsLookAcyclic, Tape}
+use Rattle.automata_base.specs.Paths.Selections.{Pair}
+use Rattle.automata_base.specs.Answers.Spans.{IsMatch, in_full}
+use Rattle.automata_base.specs.Haystacks.Tapes.{Forward, forward_tape}
+use Rattle.automata_base.specs.Retraced.Passes.{first_reported, last_reported, reported_at}
+use Rattle.automata_base.specs.Answers.OfPasses.{IsNearestAnswer, IsReported, ReportsOver, ReportedIsRight, reported_over}
+use Rattle.automata_base.specs.declared.util.search.Anchored.{Anchored}
+use Rattle.automata_base.specs.declared.util.search.Anchored.TheVariants.{No}
+use Rattle.automata_base.specs.declared.util.search.MatchKind.{MatchKind}
+use Rattle.automata_hybrid.specs.Machines.Machine.{Machine}
+use Rattle.automata_hybrid.specs.Searches.Passes.{IsFound, Skips, WithoutBase, without_base}
+use Rattle.automata_hybrid.proofs.Searches.Skips.{found_reported}
+use Rattle.regex_automata.specs.Spans.IsMatch.{IsAsked, IsMatchReported, IsNearestThere, IsTruthFound, in_part}
+use Rattle.automata_config.specs.Options.{match_kind_of}
+use Rattle.std.proofs.lemmas.Bool.{cases_lt}
+
+-- the first match is there if the last one is
+some_same : (ps : List ℕ) (i : ℕ) (f l : Option Pair) → is_some f ≡ is_some l → is_some (earlier_or f (pair_at ps i None)) ≡ is_some (pair_at ps i l)
+some_same [] i None l e = e
+some_same [] i (Some pair) l e = e
+some_same (p ∷ ps) i None l e = refl
+some_same (p ∷ ps) i (Some pair) l e = refl
+
+both_reported : (kind : MatchKind) (a : Automaton) (mode : Anchored) (t : Tape) (k : ℕ) → is_some (first_reported a kind mode t k) ≡ is_some (last_reported a kind mode t k)
+unfolding first_reported last_reported
+both_reported kind a mode t zero = refl
+both_reported kind a mode t (suc i) = some_same (reported_at a kind mode t i) i (first_reported a kind mode t i) (last_reported a kind mode t i) (both_reported kind a mode t i)
+
+-- so either decides it for a search that skips nothing
+module _ (m : Machine) (input : Input) (whole : Skips m → ⊥) where
+  same_reported :
+      (k : ℕ)
+      → is_some (reported_over Forward m.nfa (match_kind_of m.config) (later Forward k (in_part input))) ≡ is_some (reported_over Forward m.nfa (match_kind_of m.config) (later Forward k (in_full input)))
+  same_reported k =
+      both_reported (match_kind_of m.config) m.nfa input.anchored (forward_tape input.haystack (input.start + k) input.end)
+      (suc (length (forward_tape input.haystack (input.start + k) input.end).bytes))
+
+  first_try : (k : ℕ) → Tries (ReportsOver Forward m.nfa (match_kind_of m.config)) (Skips m) Forward (in_part input) k → k ≡ 0
+  first_try k tries = go tries.0 where
+    go : (k ≡ 0) ⊎ (Skips m × (input.anchored ≡ No)) → k ≡ 0
+    go (inl z) = z
+    go (inr s) = absurd (whole s.0)
+
+  only_try : (k : ℕ) → k ≡ 0 → Tries (ReportsOver Forward m.nfa (match_kind_of m.config)) (Skips m) Forward (in_full input) k
+  only_try k z = (inl z, λ j l. absurd (omega (arith, l, z)))
+
+  whole_reported :
+      (k : ℕ) (o : Option Pair) → k ≡ 0 → input.start + k ≤ input.end → reported_over Forward m.nfa (match_kind_of m.config) (later Forward k (in_full input)) ≡ o
+      → (answer : Option Half) × IsReported Forward m.nfa (match_kind_of m.config) (in_full input) answer × (is_some o ≡ is_some answer)
+  whole_reported k None z l e = (None, (k, only_try k z, inr (inl (sym e))), refl)
+  whole_reported k (Some pair) z l e = (
+    Some (record { pattern = pair.pattern; offset = offset_in Forward (later Forward k (in_full input)) pair.place; base = input.start + k }),
+    (k, pair, only_try k z, l, sym e, (λ s. absurd (whole s)), refl, refl, refl),
+    refl,
+  )
+
+  pub match_reported :
+      (o : Option Half) → IsReported Forward m.nfa (match_kind_of m.config) (in_part input) o
+      → (answer : Option Half) × IsReported Forward m.nfa (match_kind_of m.config) (in_full input) answer × (is_some o ≡ is_some answer)
+  match_reported None f = go f.2 where
+    z : f.0 ≡ 0
+    z = first_try f.0 f.1
+
+    go :
+        (input.end < input.start + f.0)
+        ⊎ ((◌≡◌ {A = Option Pair} None (reported_over Forward m.nfa (match_kind_of m.config) (later Forward f.0 (in_part input))))
+        ⊎ (Skips m × (input.anchored ≡ No → ⊥) × IsSplit (ReportsOver Forward m.nfa (match_kind_of m.config)) Forward (later Forward f.0 (in_part input))))
+        → (answer : Option Half) × IsReported Forward m.nfa (match_kind_of m.config) (in_full input) answer × (is_some {T = Half} None ≡ is_some answer)
+    go (inl past) = (None, (f.0, only_try f.0 z, inl past), refl)
+    go (inr (inl none)) = ahead (cases_lt input.end (input.start + f.0)) where
+      ahead :
+          (input.end < input.start + f.0) ⊎ (input.start + f.0 ≤ input.end)
+          → (answer : Option Half) × IsReported Forward m.nfa (match_kind_of m.config) (in_full input) answer × (is_some {T = Half} None ≡ is_some answer)
+      ahead (inl past) = (None, (f.0, only_try f.0 z, inl past), refl)
+      ahead (inr l) =
+          let w = whole_reported f.0 (reported_over Forward m.nfa (match_kind_of m.config) (later Forward f.0 (in_full input))) z l refl in
+          (w.0, w.1, ap (λ (v : Option Pair). is_some v) none ∙ same_reported f.0 ∙ w.2)
+    go (inr (inr s)) = absurd (whole s.0)
+  match_reported (Some half) f =
+      let w = whole_reported f.0 (reported_over Forward m.nfa (match_kind_of m.config) (later Forward f.0 (in_full input))) (first_try f.0 f.2) f.3 refl in
+      (w.0, w.1, ap (λ (v : Option Pair). is_some v) f.4 ∙ same_reported f.0 ∙ w.2)
+
+-- what is searched differs from the input in one part
+pub asked_to :
+    {R : Type 0} (P : Input → Type 0) (m : Machine) (input asked : Input) → IsAsked m input asked
+    → (P (in_full input) → R) → (P (in_part input) → R) → P asked → R
+asked_to P m input asked (inl a) f g h = f (subst P a.1 h)
+asked_to P m input asked (inr a) f g h = g (subst P a.1 h)
+
+pub asked_from :
+    (P : Input → Type 0) (m : Machine) (input asked : Input) → IsAsked m input asked → P (in_full input) → P (in_part input) → P asked
+asked_from P m input asked (inl a) f g = subst P (sym a.1) f
+asked_from P m input asked (inr a) f g = subst P (sym a.1) g
+
+pub same_asked : (m : Machine) (input a b : Input) → IsAsked m input a → IsAsked m input b → a ≡ b
+same_asked m input a b (inl f) (inl g) = f.1 ∙ sym g.1
+same_asked m input a b (inl f) (inr g) = absurd (g.0 f.0)
+same_asked m input a b (inr f) (inl g) = absurd (f.0 g.0)
+same_asked m input a b (inr f) (inr g) = f.1 ∙ sym g.1
+
+same_some : (o : Option HalfMatch) (answer : Option Half) → o ≡ option_map without_base answer → is_some o ≡ is_some answer
+same_some o None e = ap (λ (v : Option HalfMatch). is_some v) e
+same_some o (Some half) e = ap (λ (v : Option HalfMatch). is_some v) e
+
+-- what it finds
+pub truth_found :
+    (m : Machine) (input asked : Input) → IsAsked m input asked → (found : Option HalfMatch) (truth : Bool)
+    → WithoutBase (IsFound Forward m asked) found → truth ≡ is_some found → IsTruthFound m input truth
+truth_found m input asked is found truth f e = (asked, f.0, is, f.1, e ∙ same_some found f.0 f.2)
+
+-- and what it reports
+pub truth_reported :
+    (m : Machine) (input asked : Input) → IsAsked m input asked → (found : Option HalfMatch) (truth : Bool)
+    → WithoutBase (IsFound Forward m asked) found → truth ≡ is_some found → IsMatchReported m input truth
+truth_reported m input asked (inl a) found truth f e =
+    (f.0, subst (λ (i : Input). IsReported Forward m.nfa (match_kind_of m.config) i f.0) a.1 (found_reported Forward m asked f.0 f.1), e ∙ same_some found f.0 f.2)
+truth_reported m input asked (inr a) found truth f e =
+    let w = match_reported m input a.0 f.0 (subst (λ (i : Input). IsReported Forward m.nfa (match_kind_of m.config) i f.0) a.1 (found_reported Forward m asked f.0 f.1)) in
+    (w.0, w.1, e ∙ same_some found f.0 f.2 ∙ w.2)
+
+pub match_right :
+    (m : Machine) → ReportedIsRight m.nfa → (input : Input) (truth : Bool) → IsLookAcyclic (nfa_of m.nfa) → IsInput input
+    → IsMatchReported m input truth → IsMatch (engine_of m.nfa (match_kind_of m.config)) input truth
+match_right m law input truth acyclic given f = (f.0, law Forward (match_kind_of m.config) (in_full input) f.0 acyclic given f.1, f.2)
+
+-- if nothing is skipped the nearest end is searched for
+pub truth_nearest :
+    (m : Machine) (input asked : Input) → IsAsked m input asked → (found : Option HalfMatch) (truth : Bool)
+    → (asked.earliest ≡ true → WithoutBase (IsNearestAnswer Forward (engine_of m.nfa (match_kind_of m.config)) asked) found)
+    → truth ≡ is_some found → (Skips m → ⊥) → IsNearestThere m input truth
+truth_nearest m input asked (inl a) found truth f e whole = absurd (whole a.0)
+truth_nearest m input asked (inr a) found truth f e whole =
+    let g = f (ap (λ (i : Input). i.earliest) a.1) in (
+      g.0,
+      subst (λ (i : Input). IsNearestAnswer Forward (engine_of m.nfa (match_kind_of m.config)) i g.0) a.1 g.1,
+      e ∙ same_some found g.0 g.2,
+    )
