@@ -1,9 +1,6 @@
--- The bytes that are shared, few or many.
-use Rattle.std.specs.Prelude.{ℕ, List}
-use Rattle.std.specs.Rc.{rc_slice_items}
-use Rattle.automata_base.specs.declared.util.determinize.shared.Bytes.{Bytes}
-use Rattle.automata_base.specs.declared.util.determinize.shared.Bytes.TheVariants.{Few, Many}
+-- The bytes that are shared: a few stand in place, and more in a vector.
+use Rattle.std.specs.Prelude.{ℕ, List, nat_le, take, if◌then◌else◌}
+use Rattle.automata_base.specs.declared.util.determinize.shared.Stored.TheInside.{Inside}
 
-abbrev pub bytes_of : Bytes → List ℕ
-bytes_of (Few b) = b.value
-bytes_of (Many b) = rc_slice_items b
+abbrev pub bytes_of : Inside → List ℕ
+bytes_of s = if nat_le s.len 48 then take s.len s.few else s.many.items

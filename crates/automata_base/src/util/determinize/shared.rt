@@ -1,91 +1,72 @@
 // Bytes that are shared. A few of them lie beside the count of those who share them, so that they take one allocation.
 ghost use Rattle.std.specs.Prelude.{◌≡◌, ◌≤◌, length, take, IfOk};
-ghost use Rattle.automata_base.specs.Powersets.Shared.{bytes_of};
 
 use std::alloc::{AllocError, Global};
 use std::marker::Model;
-use std::rc::{Rc, RcSlice};
+use std::rc::Rc;
 
 /// How many bytes are few.
 const FEW: usize = 48;
 
-/// A few bytes, with room for `FEW`.
+/// Bytes, in place if they are few, and else in a vector of their own.
 #[derive(Drop)]
-struct Few {
+struct Stored {
     len: usize,
-    room: [u8; 48],
+    few: [u8; 48],
+    many: Vec<u8>,
 }
 
-impl Model for Few {
-    ghost use Rattle.std.specs.Prelude.{List, ℕ, take, ◌≤◌};
-
-    ghost Value = { List ℕ };
-
-    ghost view = { λ f. take f.len f.room };
-
-    ghost invariant = { λ f. f.len ≤ 48 };
-}
-
-impl Few {
-    /// A copy of these bytes.
-    fn of(bytes: &[u8]) -> Few
-        requires { length bytes.now ≤ 48 }
-        ensures { result ≡ bytes.now }
-    {
-        let mut room = [0; 48];
-        room[..bytes.len()].copy_from_slice(bytes);
-        Few {
-            len: bytes.len(),
-            room,
-        }
-    }
-
-    fn as_slice(&self) -> &[u8]
-        ensures { result.now ≡ self.now }
-    {
-        &self.room[..self.len]
-    }
-}
-
-#[derive(Drop)]
-enum Bytes {
-    Few(Rc<Few>),
-    Many(RcSlice<u8>),
-}
-
-/// Shared bytes.
-#[derive(Drop)]
-pub struct SharedBytes {
-    bytes: Bytes,
-}
-
-impl Model for SharedBytes {
+impl Model for Stored {
     ghost use Rattle.std.specs.Prelude.{List, ℕ};
     ghost use Rattle.automata_base.specs.Powersets.Shared.{bytes_of};
 
     ghost Value = { List ℕ };
 
-    ghost view = { λ s. bytes_of s.bytes };
+    ghost view = { bytes_of };
+}
+
+impl Stored {
+    fn as_slice(&self) -> &[u8]
+        ensures { result.now ≡ self.now }
+    {
+        if self.len <= FEW {
+            &self.few[..self.len]
+        } else {
+            self.many.as_slice()
+        }
+    }
+}
+
+/// A copy of a few bytes.
+fn few_of(bytes: &[u8]) -> [u8; 48]
+    requires { length bytes.now ≤ 48 }
+    ensures { take (length bytes.now) result ≡ bytes.now }
+{
+    let mut few = [0; 48];
+    few[..bytes.len()].copy_from_slice(bytes);
+    few
+}
+
+/// Shared bytes.
+#[derive(Drop)]
+pub struct SharedBytes {
+    stored: Rc<Stored>,
+}
+
+impl Model for SharedBytes {
+    ghost use Rattle.std.specs.Prelude.{List, ℕ};
+
+    ghost Value = { List ℕ };
+
+    ghost view = { λ s. s.stored.value };
 }
 
 impl Clone for SharedBytes {
     ghost is_clone = { λ a b. b ≡ a };
 
     fn clone(&self) -> Result<SharedBytes, AllocError> {
-        match &self.bytes {
-            Bytes::Few(few) => {
-                let few = few.clone()?;
-                Ok(SharedBytes {
-                    bytes: Bytes::Few(few),
-                })
-            }
-            Bytes::Many(many) => {
-                let many = many.clone()?;
-                Ok(SharedBytes {
-                    bytes: Bytes::Many(many),
-                })
-            }
-        }
+        let stored = self.stored.clone()?;
+        Ok(SharedBytes { stored })
     }
 }
 
@@ -94,25 +75,23 @@ impl SharedBytes {
     pub fn from_slice(alloc: Global, bytes: &[u8]) -> Result<SharedBytes, AllocError>
         ensures { IfOk result (λ s. s ≡ bytes.now) }
     {
-        if bytes.len() <= FEW {
-            let few = Rc::new(alloc, Few::of(bytes))?;
-            return Ok(SharedBytes {
-                bytes: Bytes::Few(few),
-            });
+        let len = bytes.len();
+        if len <= FEW {
+            let few = few_of(bytes);
+            let many = Vec::new(alloc);
+            let stored = Rc::new(alloc, Stored { len, few, many })?;
+            return Ok(SharedBytes { stored });
         }
-        let many = RcSlice::from_slice(alloc, bytes)?;
-        Ok(SharedBytes {
-            bytes: Bytes::Many(many),
-        })
+        let many = Vec::from_slice(alloc, bytes)?;
+        let few = [0; 48];
+        let stored = Rc::new(alloc, Stored { len, few, many })?;
+        Ok(SharedBytes { stored })
     }
 
     /// The bytes.
     pub fn as_slice(&self) -> &[u8]
         ensures value { result.now ≡ self.now }
     {
-        match &self.bytes {
-            Bytes::Few(few) => few.as_slice(),
-            Bytes::Many(many) => many.as_slice(),
-        }
+        self.stored.as_slice()
     }
 }

@@ -2,13 +2,15 @@ use Rattle.std.proofs.Common.{◌≡◌, ◌∙◌, ap, sym, subst}
 use Rattle.automata_base.specs.Powersets.Powerset.{Powerset}
 use Rattle.automata_base.specs.Retraced.Steps.{successor}
 use Rattle.automata_config.specs.Options.{match_kind_of}
-use Rattle.automata_hybrid.specs.Cache.Caches.{CacheView}
+use Rattle.automata_hybrid.specs.Cache.Caches.{CacheView, counted}
 use Rattle.automata_hybrid.specs.Cache.LookUps.{IsLookedUp}
 use Rattle.automata_hybrid.specs.Cache.Table.{IsNewState, Leads}
+use Rattle.automata_hybrid.specs.Cache.Usage.{GivesUp}
 use Rattle.automata_hybrid.specs.declared.dfa.cache.Found.TheVariants.{Known, New}
 use Rattle.automata_hybrid.proofs.Cache.Additions.{cheap, looked_up, new_state}
 use Rattle.automata_hybrid.proofs.Steps.Steps.{ComputesStep, computed_answer, computed_effect, computes_known}
 use Rattle.automata_hybrid.proofs.Steps.Steps.{computes_new, refused_effect}
+use Rattle.automata_hybrid.proofs.Searches.PassState.{if_err}
 use Rattle.automata_hybrid.proofs.dfa.cache.Cache.compute_next.Goals.{After-see_store-in-Known, After-see_store-in-New}
 use Rattle.automata_hybrid.proofs.dfa.cache.Cache.compute_next.Goals as goal
 
@@ -52,6 +54,19 @@ pub returns-in_err-from-in-New-clause-effect : goal.returns-in_err-from-in-New-c
 returns-in_err-from-in-New-clause-effect c =
     refused_effect c.args.dfa.now c.args.id c.args.unit c.args.self.now c.add_next.new.self (c.see_store.ensures.low c.args.id c.requires.valid.0 c.requires.valid.1) c.requires.clean c.requires.unknown
     (c.in_err-from-in-New.ensures.err ∙ (c.resolve.ensures.same ∙ c.determinize.ensures.counted))
+
+pub returns-in_err-from-in-New-clause-refusal : goal.returns-in_err-from-in-New-clause-refusal
+returns-in_err-from-in-New-clause-refusal c =
+    let same : c.resolve.new.self ≡ counted c.args.self.now = c.resolve.ensures.same ∙ c.determinize.ensures.counted in
+    let found : IsLookedUp c.resolve.new.self.store.table c.in_ok-key.key (New c.in-New.state) = looked_up c.determinize.new.self c.resolve.new.self c.in_ok-key.key _ (New c.in-New.state) c.resolve.ensures.same c.in-New.is c.in_ok-to.ensures.found in
+    if_err c.from_residual-in_err-from-in-New.result _ _ c.from_residual-in_err-from-in-New.ensures.1 (record {
+      gives_up = λ cache q named. subst (GivesUp c.args.self.now.store) (found.0 ∙ c.in_ok-key.ensures.successor q named)
+          (subst (λ (v : CacheView). GivesUp v.store c.in-New.state) same (c.in_err-from-in-New.ensures.gives_up cache));
+      low = c.see_store.ensures.low c.args.id c.requires.valid.0 c.requires.valid.1;
+      clean = c.requires.clean;
+      unknown = c.requires.unknown;
+      unchanged = c.in_err-from-in-New.ensures.err ∙ same;
+    })
 
 pub returns-in-Known-clause-answer : goal.returns-in-Known-clause-answer
 returns-in-Known-clause-answer c =
