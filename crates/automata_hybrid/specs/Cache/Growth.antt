@@ -1,9 +1,10 @@
 -- What steps and searches do to a cache. A reset does more.
 use Rattle.std.specs.Prelude.{◌≡◌, ℕ, ◌+◌, ◌-◌, ◌*◌, ◌^◌, ◌<◌, ◌≤◌, ◌⊎◌, length, slice_index, true}
 use Rattle.automata_base.specs.Powersets.Powerset.{Powerset}
+use Rattle.automata_config.specs.declared.error.StepError.{StepError}
 use Rattle.automata_hybrid.specs.Cache.Stores.{Stored, IsKnownStart, IsKnownTransition, KeepsStarts, cell_of}
-use Rattle.automata_hybrid.specs.Cache.Stores.{with_searched}
-use Rattle.automata_hybrid.specs.Cache.Usage.{row_usage, usage}
+use Rattle.automata_hybrid.specs.Cache.Stores.{IsCacheError, with_searched}
+use Rattle.automata_hybrid.specs.Cache.Usage.{GivesUp, row_usage, usage}
 use Rattle.automata_hybrid.specs.Cache.Caches.{CacheView, counted}
 use Rattle.automata_hybrid.specs.Cache.Changes.{AreChanges}
 use Rattle.automata_hybrid.specs.Cache.Ids.{offset_limit, HasStartTag}
@@ -78,3 +79,8 @@ pub record IsAgainEffect (old new : CacheView) : Type 0 where
   pub cost : new.count ≡ old.count
   pub grown : IsGrown old (counted new)
   pub progress : KeepsProgress old.store new.store
+
+-- a state could not be added: nothing changed, and the clear rule gave up, or there was no memory
+pub record IsAddRefused (old new : CacheView) (q : Powerset) (e : StepError) : Type 0 where
+  pub kept : new ≡ old
+  pub gives_up : IsCacheError e → GivesUp old.store q

@@ -66,27 +66,27 @@ MayRefuse way m input e = (c : Stored) × IsStoreOf c m × IsRefused way m c inp
 -- what a search in a direction returns: an option, seen as an answer by `Is`, which lies where `Lies` says
 pub record IsAnswered {A : Type 0} (Is : (Option Half → Type 0) → Option A → Type 0) (Lies : Option A → Type 0)
     (way : Direction) (m : Machine) (input : Input) (result : Result (Option A) SearchError) : Type 0 where
-  -- for every NFA, what the passes report
-  pub found : IfOk result (Is (IsFound way m input))
-  -- if no cycle passes a look, the answer of the ordered paths
+  -- By the paths of the NFA alone: if no cycle passes a look, the answer of the ordered paths;
   pub answer :
       IsLookAcyclic (nfa_of m.nfa) → IfOk result (Is (IsAnswer way (engine_of m.nfa (match_kind_of m.config)) input))
-  -- for every NFA, the nearest end in an earliest search, and in any other under `MatchKind::All` the farthest one
+  -- for every NFA, the nearest end in an earliest search, and in any other under `MatchKind::All` the farthest one.
   pub nearest :
       input.earliest ≡ true → IfOk result (Is (IsNearestAnswer way (engine_of m.nfa (match_kind_of m.config)) input))
   pub farthest :
       input.earliest ≡ false → match_kind_of m.config ≡ KindAll
       → IfOk result (Is (IsFarthestAnswer way (engine_of m.nfa (match_kind_of m.config)) input))
-  -- it lies in the input's span, and its pattern is one of the NFA's
+  -- It lies in the input's span, and its pattern is one of the NFA's.
   pub within : IfOk result Lies
-  -- an error is one that some cache may give
-  pub errors : IfErr result (MayRefuse way m input)
-  -- an anchored mode that is not supported is reported
-  pub unsupported : IsUnsupported way m input → result ≡ Err (unsupported_error input)
-  -- if nothing else can prevent an answer, the only error is out of memory
-  pub free : IsUnhindered m input → IfErr result IsMemory
-  -- in a span that is done there is no match
+  -- In a span that is done there is no match.
   pub done : input.end < input.start → result ≡ Ok None
+  -- An anchored mode that is not supported is reported.
+  pub unsupported : IsUnsupported way m input → result ≡ Err (unsupported_error input)
+  -- If nothing else can prevent an answer, the only error is out of memory.
+  pub free : IsUnhindered m input → IfErr result IsMemory
+  -- By the powerset states too: for every NFA, what the passes report;
+  pub found : IfOk result (Is (IsFound way m input))
+  -- and an error is one that some cache may give.
+  pub errors : IfErr result (MayRefuse way m input)
 
 -- what a search in a direction returns: a match's pattern and end, or none
 abbrev pub IsHalf : Direction → Machine → Input → Result (Option HalfMatch) SearchError → Type 0

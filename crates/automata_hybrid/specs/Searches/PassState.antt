@@ -105,6 +105,13 @@ IsMet way m c input k id met =
 abbrev pub HasLearned : Direction → Machine → Stored → Input → ℕ → Type 0
 HasLearned way m c input k = (j : ℕ) → j < k → Reads way m input j → HasLearnedUnit way m c input j
 
+-- cached transitions led a pass from one place to another
+pub record HasRun (way : Direction) (m : Machine) (c : Stored) (input : Input) (from to : ℕ) : Type 0 where
+  pub more : from ≤ to
+  pub within : to ≤ input.end - input.start
+  pub known : (k : ℕ) → from ≤ k → k < to → KnowsUnit way m c input k
+  pub learned : HasLearned way m c input from → HasLearned way m c input to
+
 -- and its start, and all of them
 abbrev pub HasLearnedAll : Direction → Machine → Stored → Input → Type 0
 HasLearnedAll way m c input =

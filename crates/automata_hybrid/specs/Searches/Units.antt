@@ -90,3 +90,11 @@ pub record IsEndProgress {T : Type 0} (way : Direction) (m : Machine) (input : I
       × (new ≡ with_search_ended way input k mid))
   -- If it fails, the search has ended there at a quit byte, and else is left there; back it has ended before.
   pub left : OnErr result (IsPassLeftAt way m input k old new)
+
+-- what reading the one unit of a pass that keeps no progress makes of what the cache holds
+pub record IsStillProgress {T : Type 0} (way : Direction) (m : Machine) (input : Input) (old new : Stored)
+    (result : Result T SearchError) : Type 0 where
+  -- If it returns Ok, the unit was read.
+  pub read : OnOk result (IsUnitRead way m input 0 old new)
+  -- If it fails, nothing has changed.
+  pub kept : OnErr result (new ≡ old)

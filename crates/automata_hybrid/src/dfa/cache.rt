@@ -9,12 +9,12 @@ ghost use Rattle.automata_hybrid.specs.Cache.Ids.{dead_id, unknown_id, offset_li
 ghost use Rattle.automata_hybrid.specs.Cache.Table.{id_of, Names, IsValid, Leads, MayLead, IsCell};
 ghost use Rattle.automata_hybrid.specs.Cache.Table.{HasItsMatchTag};
 ghost use Rattle.automata_hybrid.specs.Cache.Table.{IsNewState};
-ghost use Rattle.automata_hybrid.specs.Cache.Stores.{IsCacheError, IsSoundStore, cell_of, with_next, with_start};
+ghost use Rattle.automata_hybrid.specs.Cache.Stores.{IsSoundStore, cell_of, with_next, with_start};
 ghost use Rattle.automata_hybrid.specs.Cache.Stores.{with_searched};
-ghost use Rattle.automata_hybrid.specs.Cache.Usage.{usage, Fits, GivesUp};
+ghost use Rattle.automata_hybrid.specs.Cache.Usage.{usage, Fits};
 ghost use Rattle.automata_hybrid.specs.Cache.Changes.{AddsNext, AddsStart, IsAddedStart};
 ghost use Rattle.automata_hybrid.specs.Cache.Caches.{IsRow, IsCacheOf, fresh_cache, counted, with_store};
-ghost use Rattle.automata_hybrid.specs.Cache.Growth.{IsAgainEffect};
+ghost use Rattle.automata_hybrid.specs.Cache.Growth.{IsAddRefused, IsAgainEffect};
 ghost use Rattle.automata_hybrid.specs.Searches.Contracts.{IsStoreOf};
 ghost use Rattle.automata_hybrid.specs.Steps.Starts.{IsStartSlot};
 ghost use Rattle.automata_hybrid.specs.Walks.Answers.{IsRowState};
@@ -192,8 +192,7 @@ impl Cache {
         ensures added { OnOk result (IsAddedStart self.old.store (record { state = state; started = false })
             self.new.store) }
         ensures effect { IsAgainEffect self.old self.new }
-        ensures gives_up { IfErr result (λ e. IsCacheError e → GivesUp self.old.store state) }
-        ensures err { OnErr result (self.new ≡ self.old) }
+        ensures refused { IfErr result (IsAddRefused self.old self.new state) }
     {
         self.see_store();
         let id = self.add_start(dfa, state, false)?;
@@ -270,8 +269,7 @@ impl Cache {
         requires new { IsNewState self.old.store.table state }
         ensures answer { IfOk result (λ p. AddsNext self.old.store self.new.store from state p.0 p.1) }
         ensures counted { self.new.count ≡ self.old.count }
-        ensures gives_up { IfErr result (λ e. IsCacheError e → GivesUp self.old.store state) }
-        ensures err { OnErr result (self.new ≡ self.old) }
+        ensures refused { IfErr result (IsAddRefused self.old self.new state) }
     {
         let bytes = self.store.cost_of(&state);
         if self.store.fits(bytes) {
@@ -297,8 +295,7 @@ impl Cache {
         requires full { Fits self.old.store (cost state) → ⊥ }
         ensures answer { IfOk result (λ p. AddsNext self.old.store self.new.store from state p.0 p.1) }
         ensures counted { self.new.count ≡ self.old.count }
-        ensures gives_up { IfErr result (λ e. IsCacheError e → GivesUp self.old.store state) }
-        ensures err { OnErr result (self.new ≡ self.old) }
+        ensures refused { IfErr result (IsAddRefused self.old self.new state) }
     {
         let mut fresh = self.store.cleared(dfa)?;
         let from = fresh.keep_saved(&self.store.table, from)?;
@@ -359,8 +356,7 @@ impl Cache {
         ensures answer { IfOk result (AddsStart self.old.store self.new.store
             (record { state = state; started = started })) }
         ensures counted { self.new.count ≡ self.old.count }
-        ensures gives_up { IfErr result (λ e. IsCacheError e → GivesUp self.old.store state) }
-        ensures err { OnErr result (self.new ≡ self.old) }
+        ensures refused { IfErr result (IsAddRefused self.old self.new state) }
     {
         let bytes = self.store.cost_of(&state);
         if self.store.fits(bytes) {
@@ -386,8 +382,7 @@ impl Cache {
         ensures answer { IfOk result (AddsStart self.old.store self.new.store
             (record { state = state; started = started })) }
         ensures counted { self.new.count ≡ self.old.count }
-        ensures gives_up { IfErr result (λ e. IsCacheError e → GivesUp self.old.store state) }
-        ensures err { OnErr result (self.new ≡ self.old) }
+        ensures refused { IfErr result (IsAddRefused self.old self.new state) }
     {
         let fresh = self.store.cleared(dfa)?;
         let id = self.store.replace(fresh, state, started, bytes)?;

@@ -1,4 +1,4 @@
-ghost use Rattle.std.specs.Prelude.{ℕ, List, ◌≡◌, ◌+◌, ◌-◌, ◌*◌, ◌/◌, ◌%◌, ◌^◌, ◌<◌, ◌≤◌, None, Some, IfOk, IsTrue};
+ghost use Rattle.std.specs.Prelude.{ℕ, ◌≡◌, ◌+◌, ◌-◌, ◌*◌, ◌/◌, ◌%◌, ◌^◌, ◌<◌, ◌≤◌, None, Some, IfOk, IsTrue};
 ghost use Rattle.std.specs.Prelude.{◌↔◌, OnOk, OnErr, length, slice_index, slice_set, slice_get, sum_by, false, cond};
 ghost use Rattle.automata_base.specs.Powersets.Powerset.{Powerset, cost};
 ghost use Rattle.automata_base.specs.ByteClasses.Classes.{eoi_class};
@@ -9,7 +9,6 @@ ghost use Rattle.automata_hybrid.specs.Machines.Machine.{table_stride, template_
 ghost use Rattle.automata_hybrid.specs.Cache.Table.{id_of, with_row, fresh, Names, Leads, row_cost, IsValid, HasState};
 ghost use Rattle.automata_hybrid.specs.Cache.Table.{IsNewState, IsSound};
 ghost use Rattle.automata_hybrid.specs.Cache.Table.{IsCell, cell_at, with_cell};
-ghost use Rattle.automata_hybrid.specs.Cache.Clears.{AllStarts};
 
 use crate::dfa::row::Row;
 use crate::dfa::{DFA, row};
@@ -146,7 +145,6 @@ impl Table {
         ensures ok { OnOk result (self.new ≡ with_row self.old (record { state = state; started = started })) }
         ensures named { IfOk result (λ id. Names self.new id state) }
         ensures kept { OnOk result ((id : ℕ) (q : Powerset) → Names self.old id q → Names self.new id q) }
-        ensures starts { OnOk result ((starts : List ℕ) → AllStarts self.old starts → AllStarts self.new starts) }
         ensures err { OnErr result (self.new ≡ self.old) }
     {
         self.cells.reserve(self.stride)?;

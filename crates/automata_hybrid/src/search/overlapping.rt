@@ -3,8 +3,7 @@ ghost use Rattle.std.specs.Prelude.{ℕ, ◌≡◌, ◌+◌, ◌-◌, ◌<◌, �
 ghost use Rattle.std.specs.Prelude.{length, slice_index};
 ghost use Rattle.automata_base.specs.Powersets.Powerset.{Powerset};
 ghost use Rattle.automata_base.specs.Haystacks.Tapes.{Forward, Backward};
-ghost use Rattle.automata_hybrid.specs.Cache.Stores.{IsCacheError};
-ghost use Rattle.automata_hybrid.specs.Cache.Usage.{GivesUp};
+ghost use Rattle.automata_hybrid.specs.Cache.Growth.{IsAddRefused};
 ghost use Rattle.automata_hybrid.specs.Cache.Caches.{IsCacheOf};
 ghost use Rattle.automata_hybrid.specs.Walks.Contracts.{IsCallEffect, IsWalkCall};
 ghost use Rattle.automata_hybrid.specs.Walks.Parts.{HoldsOn, IsCallAnswer, IsCallRefused, IsHeldWalk, IsPutBackEffect};
@@ -95,8 +94,7 @@ impl DFA {
         requires state { IsRowState self.now handle.now.state }
         ensures of { IsCacheOf cache.new self.now }
         ensures named { IfOk result (λ id. Names cache.new.store.table id handle.now.state) }
-        ensures gives_up { IfErr result (λ e. IsCacheError e → GivesUp cache.old.store handle.now.state) }
-        ensures err { OnErr result (cache.new ≡ cache.old) }
+        ensures refused { IfErr result (IsAddRefused cache.old cache.new handle.now.state) }
         ensures effect { IsPutBackEffect handle.now.state cache.old cache.new result }
     {
         if let Some(id) = cache.find(&handle.key) {

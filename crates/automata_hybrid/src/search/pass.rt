@@ -1,16 +1,15 @@
 //! One run over the span of an input, in either direction.
-ghost use Rattle.std.specs.Prelude.{ℕ, ◌≡◌, ◌-◌, ◌<◌, ◌≤◌, IfOk, IfErr, OnErr, OnOk, Option};
+ghost use Rattle.std.specs.Prelude.{◌≡◌, ◌-◌, ◌<◌, ◌≤◌, IfOk, IfErr, OnErr, OnOk, Option};
 ghost use Rattle.std.specs.Prelude.{None, Err};
 ghost use Rattle.automata_base.specs.Paths.Paths.{next};
 ghost use Rattle.automata_base.specs.Powersets.Powerset.{Powerset, dead};
 ghost use Rattle.automata_hybrid.specs.Cache.Caches.{IsCacheOf};
-ghost use Rattle.automata_hybrid.specs.Searches.Cached.{KnowsUnit};
 ghost use Rattle.automata_hybrid.specs.Searches.Contracts.{IsUnsupported, unsupported_error};
 ghost use Rattle.automata_hybrid.specs.Searches.PassContracts.{IsKnownUpto, IsPassAnswer, IsPassEffect};
 ghost use Rattle.automata_hybrid.specs.Searches.PassContracts.{IsRestEffect, IsUnderway};
-ghost use Rattle.automata_hybrid.specs.Searches.PassState.{HasLearned, IsAt, IsMet};
-ghost use Rattle.automata_hybrid.specs.Searches.Units.{IsEndProgress};
-ghost use Rattle.automata_hybrid.specs.Searches.Progress.{EndsAtLast, IsStoppedAt, IsUnitRead, KeepsNone};
+ghost use Rattle.automata_hybrid.specs.Searches.PassState.{HasRun, IsAt, IsMet};
+ghost use Rattle.automata_hybrid.specs.Searches.Units.{IsEndProgress, IsStillProgress};
+ghost use Rattle.automata_hybrid.specs.Searches.Progress.{EndsAtLast, IsStoppedAt, KeepsNone};
 ghost use Rattle.automata_hybrid.specs.Searches.Passes.{IsPassRefusal, IsUnitRefusal};
 ghost use Rattle.automata_hybrid.specs.Cache.Table.{Names};
 ghost use Rattle.automata_hybrid.specs.Walks.State.{way_of};
@@ -152,14 +151,9 @@ impl DFA {
         requires open { input.now.start ≤ input.now.end }
         requires within { start ≤ input.now.end - input.now.start }
         requires at { IsAt (way_of way) self.now cache.now.store.table input.now start from found }
-        ensures from { start ≤ result.at }
-        ensures within { result.at ≤ input.now.end - input.now.start }
+        ensures run { HasRun (way_of way) self.now cache.now.store input.now start result.at }
         ensures at { IsAt (way_of way) self.now cache.now.store.table input.now result.at result.id result.found }
         ensures met { IsMet (way_of way) self.now cache.now.store input.now result.at result.id result.next }
-        ensures learned { HasLearned (way_of way) self.now cache.now.store input.now start
-            → HasLearned (way_of way) self.now cache.now.store input.now result.at }
-        ensures known { (k : ℕ) → start ≤ k → k < result.at
-            → KnowsUnit (way_of way) self.now cache.now.store input.now k }
     {
         let quiet = self.follow(cache, input, way, start, from);
         if input.get_earliest() {
@@ -319,10 +313,7 @@ impl DFA {
         ensures answer { IfOk result (IsPassAnswer (way_of way) self.now input.now) }
         ensures refusal { IfErr result (IsUnitRefusal (way_of way) self.now cache.new.store input.now 0) }
         ensures effect { IsRestEffect (way_of way) self.now input.now 0 cache.old cache.new result }
-        ensures alive { (q : Powerset) → Names cache.old.store.table id q → q ≡ dead → ⊥ }
-        ensures read { OnOk result
-            (IsUnitRead (way_of way) self.now input.now 0 cache.old.store cache.new.store) }
-        ensures kept { OnErr result (cache.new.store ≡ cache.old.store) }
+        ensures progress { IsStillProgress (way_of way) self.now input.now cache.old.store cache.new.store result }
     {
         let _haystack = input.haystack();
         let at = span_offset(input, way, 0);

@@ -106,7 +106,7 @@ returns-then-keeps_none-clause-effect c =
     at_reads d c.args.self.now c.walk_start.new.cache.store.table c.args.input.now 0 c.in-Ok.start None
     (starts_at d c.args.self.now c.walk_start.new.cache.store.table c.args.input.now c.in-Ok.start
     (begins_alive d c.args.self.now c.walk_start.new.cache.store.table c.args.input.now c.in-Ok.start c.in-Ok.ensures.answer.named (c.see_store.ensures.low c.in-Ok.start) c.see_store.ensures.small (λ b. false_true (c.if-is_dead.ensures.1 b))))
-    (omega arith) c.find_still.ensures.alive in
+    (omega arith) (c.see_store.ensures.alive c.in-Ok.start) in
     pass_rest d c.args.self.now c.args.input.now c.in-Ok.start c.args.cache.now c.walk_start.new.cache c.walk_start.new.cache c.find_still.new.cache {s = c.walk_start.new.cache.store.searched} c.find_still.result (c.see_bounds.ensures.slots ∙ ap (λ (d : Machine). slot_count d) c.requires.of)
     c.in-Ok.ensures.answer c.in-Ok.ensures.effect refl
     c.find_still.ensures.effect
@@ -116,14 +116,14 @@ returns-then-keeps_none-clause-effect c =
       (start_had d c.args.self.now c.args.input.now c.args.cache.now c.walk_start.new.cache c.in-Ok.start (c.see_bounds.ensures.slots ∙ ap (λ (d : Machine). slot_count d) c.requires.of) c.in-Ok.ensures.effect c.in-Ok.ensures.answer),
       inl (c.if-keeps_none.ensures.yes refl, inl (reads, read)),
     ))
-    c.find_still.ensures.read)
+    c.find_still.ensures.progress.read)
     (if_both c.find_still.result _ _ _
     (λ error refused kept. inr (
       c.walk_start.new.cache.store,
       (start_had d c.args.self.now c.args.input.now c.args.cache.now c.walk_start.new.cache c.in-Ok.start (c.see_bounds.ensures.slots ∙ ap (λ (d : Machine). slot_count d) c.requires.of) c.in-Ok.ensures.effect c.in-Ok.ensures.answer),
       inl (c.if-keeps_none.ensures.yes refl, reads, refused, kept),
     ))
-    c.find_still.ensures.refusal c.find_still.ensures.kept)
+    c.find_still.ensures.refusal c.find_still.ensures.progress.kept)
 
 pub returns-then-keeps_none-clause-refusal : goal.returns-then-keeps_none-clause-refusal
 returns-then-keeps_none-clause-refusal c =
@@ -132,7 +132,7 @@ returns-then-keeps_none-clause-refusal c =
     (λ error refused. place_refuses d c.args.self.now c.walk_start.new.cache.store.table c.find_still.new.cache.store c.args.input.now 0 c.in-Ok.start None error
     (starts_at d c.args.self.now c.walk_start.new.cache.store.table c.args.input.now c.in-Ok.start
     (begins_alive d c.args.self.now c.walk_start.new.cache.store.table c.args.input.now c.in-Ok.start c.in-Ok.ensures.answer.named (c.see_store.ensures.low c.in-Ok.start) c.see_store.ensures.small (λ b. false_true (c.if-is_dead.ensures.1 b))))
-    (omega arith) c.find_still.ensures.alive c.in-Ok.ensures.answer.may.0 refused)
+    (omega arith) (c.see_store.ensures.alive c.in-Ok.start) c.in-Ok.ensures.answer.may.0 refused)
     c.find_still.ensures.refusal
 
 pub returns-clause-effect : goal.returns-clause-effect

@@ -50,7 +50,7 @@ read_met-requires-clause-met c = λ low.
 pub find_end-requires-clause-at : goal.find_end-requires-clause-at
 find_end-requires-clause-at c =
     let d : Direction = way_of c.args.way in
-    let same : c.run-run.result.at ≡ c.args.input.now.end - c.args.input.now.start = omega (arith, c.if-run-last.true, c.run-run.ensures.within, c.last_place-last.ensures.place) in
+    let same : c.run-run.result.at ≡ c.args.input.now.end - c.args.input.now.start = omega (arith, c.if-run-last.true, c.run-run.ensures.run.within, c.last_place-last.ensures.place) in
     record {
       undone = c.requires.at.at.undone;
       may = c.requires.at.at.may;
@@ -98,7 +98,7 @@ returns-then-is_dead-clause-effect c =
     let read : next (tape_in d c.args.input.now) k ≡ Some c.byte_at-byte.result = c.byte_at-byte.ensures in
     let few : k ≤ length (tape_in d c.args.input.now).bytes = (let u = units_in d c.args.input.now c.requires.at.at.undone c.last_place-last.ensures.inside in omega (arith, u, inside)) in
     rest_then d c.args.self.now c.args.input.now k c.args.cache.now c.loop-at.cache c.loop-at.cache c.end_search.new.self {s = c.loop-at.cache.store.searched} _ refl (omega (arith, inside))
-    c.loop-at.invariant.grown (omega (arith, c.loop-at.invariant.counted, c.run-run.ensures.from)) c.loop-at.invariant.idle (λ begin nothing. (let had = c.loop-at.invariant.learned begin nothing in (had.0, c.run-run.ensures.learned had.1)))
+    c.loop-at.invariant.grown (omega (arith, c.loop-at.invariant.counted, c.run-run.ensures.run.more)) c.loop-at.invariant.idle (λ begin nothing. (let had = c.loop-at.invariant.learned begin nothing in (had.0, c.run-run.ensures.run.learned had.1)))
     (rest_read d c.args.self.now c.args.input.now k c.run-run.result.id _ c.run-run.result.found c.loop-at.cache c.loop-at.cache c.read_met.new.cache c.end_search.new.self {s = c.loop-at.cache.store.searched} refl c.end_search.ensures.value (record { undone = c.requires.at.at.undone; may = c.requires.at.at.may; at = at }) read c.in-Ok.next _ c.in-Ok.ensures.effect c.in-Ok.ensures.of (omega (arith, inside)) few
     (dead_stops d c.args.self.now c.args.input.now k c.run-run.result.id _ c.run-run.result.found c.loop-at.cache c.loop-at.cache c.read_met.new.cache c.end_search.new.self {s = c.loop-at.cache.store.searched} refl c.end_search.ensures.value (record { undone = c.requires.at.at.undone; may = c.requires.at.at.may; at = at }) read c.in-Ok.next None c.in-Ok.ensures.answer (λ l. (dead_tagged c.read_met.new.cache.store.table c.in-Ok.next (c.see_store.ensures.low c.in-Ok.next) c.see_store.ensures.small _ l).0 (c.if-is_dead.ensures.0 refl))))
 
@@ -131,7 +131,7 @@ returns-then-is_some-clause-effect c =
     let read : next (tape_in d c.args.input.now) k ≡ Some c.byte_at-byte.result = c.byte_at-byte.ensures in
     let few : k ≤ length (tape_in d c.args.input.now).bytes = (let u = units_in d c.args.input.now c.requires.at.at.undone c.last_place-last.ensures.inside in omega (arith, u, inside)) in
     rest_then d c.args.self.now c.args.input.now k c.args.cache.now c.loop-at.cache c.loop-at.cache c.end_search-then-is_some.new.self {s = c.loop-at.cache.store.searched} _ refl (omega (arith, inside))
-    c.loop-at.invariant.grown (omega (arith, c.loop-at.invariant.counted, c.run-run.ensures.from)) c.loop-at.invariant.idle (λ begin nothing. (let had = c.loop-at.invariant.learned begin nothing in (had.0, c.run-run.ensures.learned had.1)))
+    c.loop-at.invariant.grown (omega (arith, c.loop-at.invariant.counted, c.run-run.ensures.run.more)) c.loop-at.invariant.idle (λ begin nothing. (let had = c.loop-at.invariant.learned begin nothing in (had.0, c.run-run.ensures.run.learned had.1)))
     (rest_read d c.args.self.now c.args.input.now k c.run-run.result.id _ c.run-run.result.found c.loop-at.cache c.loop-at.cache c.read_met.new.cache c.end_search-then-is_some.new.self {s = c.loop-at.cache.store.searched} refl c.end_search-then-is_some.ensures.value (record { undone = c.requires.at.at.undone; may = c.requires.at.at.may; at = at }) read c.in-Ok.next _ c.in-Ok.ensures.effect c.in-Ok.ensures.of (omega (arith, inside)) few
     (first_stops d c.args.self.now c.args.input.now k c.run-run.result.id _ c.run-run.result.found c.loop-at.cache c.loop-at.cache c.read_met.new.cache c.end_search-then-is_some.new.self {s = c.loop-at.cache.store.searched} refl c.end_search-then-is_some.ensures.value (record { undone = c.requires.at.at.undone; may = c.requires.at.at.may; at = at }) read c.in-Ok.next c.found_at-found.result c.in-Ok.ensures.answer c.place_offset.result c.place_offset.ensures c.found_at-found.ensures (sym c.get_earliest.ensures ∙ c.if-get_earliest.true) (some_is c.found_at-found.result c.if-is_some.ensures)))
 
@@ -152,7 +152,7 @@ loop-at-preserved c =
     let more : suc k ≡ c.run-run.result.at + 1 = omega arith in
     record {
       of = c.in-Ok.ensures.of;
-      counted = omega (arith, c.in-Ok.ensures.effect.counted, c.loop-at.invariant.counted, c.run-run.ensures.from);
+      counted = omega (arith, c.in-Ok.ensures.effect.counted, c.loop-at.invariant.counted, c.run-run.ensures.run.more);
       grown = grown_trans c.args.cache.now c.loop-at.cache c.read_met.new.cache c.loop-at.invariant.grown c.in-Ok.ensures.effect.grown;
       idle = λ knows. (
           let still : KnowsPass d c.args.self.now c.loop-at.cache.store c.args.input.now = knows_still d c.args.self.now c.args.input.now c.args.cache.now c.loop-at.cache c.loop-at.invariant.grown (c.loop-at.invariant.idle knows) knows in
@@ -162,13 +162,13 @@ loop-at-preserved c =
           let before = c.loop-at.invariant.learned begin (nothing_first c.args.cache.now c.loop-at.cache c.read_met.new.cache c.loop-at.invariant.grown c.in-Ok.ensures.effect.grown nothing) in
           let after : ClearedNothing c.loop-at.cache.store c.read_met.new.cache.store = nothing_second c.args.cache.now c.loop-at.cache c.read_met.new.cache c.loop-at.invariant.grown c.in-Ok.ensures.effect.grown nothing in
           let step = learned_step d c.args.self.now c.loop-at.cache c.read_met.new.cache c.args.input.now k c.run-run.result.id (Some _) c.in-Ok.ensures.effect.grown c.in-Ok.ensures.of after before.0
-          (c.run-run.ensures.learned before.1) at.named read (c.in-Ok.ensures.effect.learned after) c.in-Ok.ensures.effect.below in
+          (c.run-run.ensures.run.learned before.1) at.named read (c.in-Ok.ensures.effect.learned after) c.in-Ok.ensures.effect.below in
           (step.0, subst (HasLearned d c.args.self.now c.read_met.new.cache.store c.args.input.now) more step.1));
       within = omega (arith, inside);
       at = subst (λ n. IsAt d c.args.self.now c.read_met.new.cache.store.table c.args.input.now n c.in-Ok.next c.found_at-found.result) more (more_at d c.args.self.now c.loop-at.cache.store.table c.read_met.new.cache.store.table c.args.input.now k c.run-run.result.id c.in-Ok.next _ c.run-run.result.found c.found_at-found.result at read c.in-Ok.ensures.answer.named (quit_free c.args.self.now _ c.in-Ok.ensures.answer.clean) (c.place_offset.result, c.place_offset.ensures, c.found_at-found.ensures) first (λ l. (dead_tagged c.read_met.new.cache.store.table c.in-Ok.next (c.see_store.ensures.low c.in-Ok.next) c.see_store.ensures.small _ l).1 (λ b. false_true (c.if-is_dead.ensures.1 b))));
       progress = read_exactly d c.args.self.now c.args.input.now 0 c.args.cache.now.store (c.run-run.result.at + 1) c.read_met.new.cache.store
           (subst (λ n. AreReadTo d c.args.self.now c.args.input.now 0 n c.args.cache.now.store c.read_met.new.cache.store) more
-          (read_then d c.args.self.now c.args.input.now 0 c.args.cache.now.store c.loop-at.at k c.loop-at.cache.store c.loop-at.invariant.progress c.run-run.ensures.from c.run-run.ensures.known c.read_met.new.cache.store
+          (read_then d c.args.self.now c.args.input.now 0 c.args.cache.now.store c.loop-at.at k c.loop-at.cache.store c.loop-at.invariant.progress c.run-run.ensures.run.more c.run-run.ensures.run.known c.read_met.new.cache.store
           (taken_here d c.args.self.now c.args.input.now k c.run-run.result.id c.byte_offset-offset.result (Some _) c.loop-at.cache.store at.named read given c.read_met.new.cache.store c.in-Ok.next c.in-Ok.ensures.step.taken)));
     }
 
@@ -181,7 +181,7 @@ returns-in-Err-clause-effect c =
     let read : next (tape_in d c.args.input.now) k ≡ Some c.byte_at-byte.result = c.byte_at-byte.ensures in
     let few : k ≤ length (tape_in d c.args.input.now).bytes = (let u = units_in d c.args.input.now c.requires.at.at.undone c.last_place-last.ensures.inside in omega (arith, u, inside)) in
     rest_then d c.args.self.now c.args.input.now k c.args.cache.now c.loop-at.cache c.loop-at.cache c.read_met.new.cache {s = c.loop-at.cache.store.searched} (Err c.in-Err.error) refl (omega (arith, inside))
-    c.loop-at.invariant.grown (omega (arith, c.loop-at.invariant.counted, c.run-run.ensures.from)) c.loop-at.invariant.idle (λ begin nothing. (let had = c.loop-at.invariant.learned begin nothing in (had.0, c.run-run.ensures.learned had.1)))
+    c.loop-at.invariant.grown (omega (arith, c.loop-at.invariant.counted, c.run-run.ensures.run.more)) c.loop-at.invariant.idle (λ begin nothing. (let had = c.loop-at.invariant.learned begin nothing in (had.0, c.run-run.ensures.run.learned had.1)))
     ((rest_refused d c.args.self.now c.args.input.now k c.run-run.result.id _ c.run-run.result.found c.loop-at.cache c.loop-at.cache c.read_met.new.cache c.read_met.new.cache {s = c.loop-at.cache.store.searched} {s' = c.read_met.new.cache.store.searched} refl refl (record { undone = c.requires.at.at.undone; may = c.requires.at.at.may; at = at }) read c.in-Err.error c.in-Err.ensures.effect (omega (arith, inside)) few))
 
 pub read_met-requires-clause-valid : goal.read_met-requires-clause-valid
@@ -193,10 +193,10 @@ read_met-requires-clause-valid c =
 pub returns-then-run-last-clause-effect : goal.returns-then-run-last-clause-effect
 returns-then-run-last-clause-effect c =
     let d : Direction = way_of c.args.way in
-    let same : c.run-run.result.at ≡ c.args.input.now.end - c.args.input.now.start = omega (arith, c.if-run-last.true, c.run-run.ensures.within, c.last_place-last.ensures.place) in
+    let same : c.run-run.result.at ≡ c.args.input.now.end - c.args.input.now.start = omega (arith, c.if-run-last.true, c.run-run.ensures.run.within, c.last_place-last.ensures.place) in
     let k : ℕ = c.args.input.now.end - c.args.input.now.start in
     rest_then d c.args.self.now c.args.input.now k c.args.cache.now c.loop-at.cache c.loop-at.cache c.find_end.new.cache {s = c.loop-at.cache.store.searched} c.find_end.result refl (omega arith)
-    c.loop-at.invariant.grown (omega (arith, c.loop-at.invariant.counted, c.loop-at.invariant.within)) c.loop-at.invariant.idle (λ begin nothing. (let had = c.loop-at.invariant.learned begin nothing in (had.0, subst (HasLearned d c.args.self.now c.loop-at.cache.store c.args.input.now) same (c.run-run.ensures.learned had.1))))
+    c.loop-at.invariant.grown (omega (arith, c.loop-at.invariant.counted, c.loop-at.invariant.within)) c.loop-at.invariant.idle (λ begin nothing. (let had = c.loop-at.invariant.learned begin nothing in (had.0, subst (HasLearned d c.args.self.now c.loop-at.cache.store c.args.input.now) same (c.run-run.ensures.run.learned had.1))))
     c.find_end.ensures.effect
 
 pub returns-clause-effect : goal.returns-clause-effect
@@ -221,7 +221,7 @@ returns-in-Err-clause-left c =
     (at_reads d c.args.self.now c.loop-at.cache.store.table c.args.input.now k c.run-run.result.id c.run-run.result.found at few c.in-Err.ensures.effect.alive) at.clean
     (unit_refuses d c.args.self.now c.loop-at.cache.store.table c.read_met.new.cache.store c.args.input.now k c.run-run.result.id c.byte_offset-offset.result c.byte_offset-offset.result _ c.run-run.result.found c.in-Err.error
     at read (sym c.byte_offset-offset.ensures.unit) given c.in-Err.ensures.refusal)
-    (pass_left_then d c.args.self.now c.args.input.now 0 c.args.cache.now.store c.loop-at.at k c.loop-at.cache.store c.loop-at.invariant.progress c.run-run.ensures.from c.run-run.ensures.known c.read_met.new.cache.store
+    (pass_left_then d c.args.self.now c.args.input.now 0 c.args.cache.now.store c.loop-at.at k c.loop-at.cache.store c.loop-at.invariant.progress c.run-run.ensures.run.more c.run-run.ensures.run.known c.read_met.new.cache.store
     (inr (
       not_behind d c.args.input.now k inside (units_in d c.args.input.now c.requires.at.at.undone c.last_place-last.ensures.inside),
       refused_here d c.args.self.now c.args.input.now k c.run-run.result.id c.byte_offset-offset.result (Some _) c.loop-at.cache.store at.named read given c.read_met.new.cache.store c.in-Err.ensures.step.left,
@@ -239,7 +239,7 @@ returns-then-is_dead-clause-ended c =
     let stops : Reads d c.args.self.now c.args.input.now (suc k) → ⊥ = stops_dead d c.args.self.now c.loop-at.cache.store.table c.read_met.new.cache.store.table c.args.input.now k c.run-run.result.id c.in-Ok.next _ c.run-run.result.found None at read c.in-Ok.ensures.answer.named (quit_free c.args.self.now _ c.in-Ok.ensures.answer.clean) (λ l. (dead_tagged c.read_met.new.cache.store.table c.in-Ok.next (c.see_store.ensures.low c.in-Ok.next) c.see_store.ensures.small _ l).0 (c.if-is_dead.ensures.0 refl)) (suc k) (omega arith) in
     pass_last d c.args.self.now c.args.input.now k c.args.cache.now.store c.read_met.new.cache.store c.end_search.new.self.store
     (at_reads d c.args.self.now c.loop-at.cache.store.table c.args.input.now k c.run-run.result.id c.run-run.result.found at few c.in-Ok.ensures.effect.alive) stops
-    (read_then d c.args.self.now c.args.input.now 0 c.args.cache.now.store c.loop-at.at k c.loop-at.cache.store c.loop-at.invariant.progress c.run-run.ensures.from c.run-run.ensures.known c.read_met.new.cache.store
+    (read_then d c.args.self.now c.args.input.now 0 c.args.cache.now.store c.loop-at.at k c.loop-at.cache.store c.loop-at.invariant.progress c.run-run.ensures.run.more c.run-run.ensures.run.known c.read_met.new.cache.store
     (taken_here d c.args.self.now c.args.input.now k c.run-run.result.id c.byte_offset-offset.result (Some _) c.loop-at.cache.store at.named read given c.read_met.new.cache.store c.in-Ok.next c.in-Ok.ensures.step.taken))
     (ended_here d c.args.input.now k c.byte_offset-offset.result c.read_met.new.cache c.end_search.new.self given c.end_search.ensures.value)
 
@@ -255,34 +255,34 @@ returns-then-is_some-clause-ended c =
     let stops : Reads d c.args.self.now c.args.input.now (suc k) → ⊥ = stops_ends d c.args.self.now c.loop-at.cache.store.table c.read_met.new.cache.store.table c.args.input.now k c.run-run.result.id c.in-Ok.next _ c.run-run.result.found c.found_at-found.result at read c.in-Ok.ensures.answer.named (quit_free c.args.self.now _ c.in-Ok.ensures.answer.clean) (c.place_offset.result, c.place_offset.ensures, c.found_at-found.ensures) (sym c.get_earliest.ensures ∙ c.if-get_earliest.true) (some_is c.found_at-found.result c.if-is_some.ensures) (suc k) (omega arith) in
     pass_last d c.args.self.now c.args.input.now k c.args.cache.now.store c.read_met.new.cache.store c.end_search-then-is_some.new.self.store
     (at_reads d c.args.self.now c.loop-at.cache.store.table c.args.input.now k c.run-run.result.id c.run-run.result.found at few c.in-Ok.ensures.effect.alive) stops
-    (read_then d c.args.self.now c.args.input.now 0 c.args.cache.now.store c.loop-at.at k c.loop-at.cache.store c.loop-at.invariant.progress c.run-run.ensures.from c.run-run.ensures.known c.read_met.new.cache.store
+    (read_then d c.args.self.now c.args.input.now 0 c.args.cache.now.store c.loop-at.at k c.loop-at.cache.store c.loop-at.invariant.progress c.run-run.ensures.run.more c.run-run.ensures.run.known c.read_met.new.cache.store
     (taken_here d c.args.self.now c.args.input.now k c.run-run.result.id c.byte_offset-offset.result (Some _) c.loop-at.cache.store at.named read given c.read_met.new.cache.store c.in-Ok.next c.in-Ok.ensures.step.taken))
     (ended_here d c.args.input.now k c.byte_offset-offset.result c.read_met.new.cache c.end_search-then-is_some.new.self given c.end_search-then-is_some.ensures.value)
 
 pub returns-then-run-last-clause-ended : goal.returns-then-run-last-clause-ended
 returns-then-run-last-clause-ended c =
     let d : Direction = way_of c.args.way in
-    let same : c.run-run.result.at ≡ c.args.input.now.end - c.args.input.now.start = omega (arith, c.if-run-last.true, c.run-run.ensures.within, c.last_place-last.ensures.place) in
+    let same : c.run-run.result.at ≡ c.args.input.now.end - c.args.input.now.start = omega (arith, c.if-run-last.true, c.run-run.ensures.run.within, c.last_place-last.ensures.place) in
     let k : ℕ = c.args.input.now.end - c.args.input.now.start in
     let at : IsAt d c.args.self.now c.loop-at.cache.store.table c.args.input.now k c.run-run.result.id c.run-run.result.found = subst (λ k. IsAt d c.args.self.now c.loop-at.cache.store.table c.args.input.now k c.run-run.result.id c.run-run.result.found) same c.run-run.ensures.at in
     let units : k ≡ length (tape_in d c.args.input.now).bytes = units_in d c.args.input.now c.requires.at.at.undone c.last_place-last.ensures.inside in
     IfOk-weaker c.find_end.result _ _
     (λ _ ended. pass_last d c.args.self.now c.args.input.now k c.args.cache.now.store ended.0 c.find_end.new.cache.store
     (at_reads d c.args.self.now c.loop-at.cache.store.table c.args.input.now k c.run-run.result.id c.run-run.result.found at (omega (arith, units)) c.find_end.ensures.alive) (λ r. stops_last d c.args.self.now c.args.input.now k units (suc k) (omega arith) r)
-    (read_then d c.args.self.now c.args.input.now 0 c.args.cache.now.store c.loop-at.at k c.loop-at.cache.store c.loop-at.invariant.progress (omega (arith, c.run-run.ensures.from, same)) (λ j from below. c.run-run.ensures.known j from (omega (arith, below, same))) ended.0 ended.1) ended.2)
+    (read_then d c.args.self.now c.args.input.now 0 c.args.cache.now.store c.loop-at.at k c.loop-at.cache.store c.loop-at.invariant.progress (omega (arith, c.run-run.ensures.run.more, same)) (λ j from below. c.run-run.ensures.run.known j from (omega (arith, below, same))) ended.0 ended.1) ended.2)
     c.find_end.ensures.progress.ended
 
 pub returns-then-run-last-clause-left : goal.returns-then-run-last-clause-left
 returns-then-run-last-clause-left c =
     let d : Direction = way_of c.args.way in
-    let same : c.run-run.result.at ≡ c.args.input.now.end - c.args.input.now.start = omega (arith, c.if-run-last.true, c.run-run.ensures.within, c.last_place-last.ensures.place) in
+    let same : c.run-run.result.at ≡ c.args.input.now.end - c.args.input.now.start = omega (arith, c.if-run-last.true, c.run-run.ensures.run.within, c.last_place-last.ensures.place) in
     let k : ℕ = c.args.input.now.end - c.args.input.now.start in
     let at : IsAt d c.args.self.now c.loop-at.cache.store.table c.args.input.now k c.run-run.result.id c.run-run.result.found = subst (λ k. IsAt d c.args.self.now c.loop-at.cache.store.table c.args.input.now k c.run-run.result.id c.run-run.result.found) same c.run-run.ensures.at in
     let units : k ≡ length (tape_in d c.args.input.now).bytes = units_in d c.args.input.now c.requires.at.at.undone c.last_place-last.ensures.inside in
     if_both c.find_end.result _ _ _
     (λ error refused left. pass_stopped d c.args.self.now c.args.input.now k c.args.cache.now.store c.find_end.new.cache.store error
     (at_reads d c.args.self.now c.loop-at.cache.store.table c.args.input.now k c.run-run.result.id c.run-run.result.found at (omega (arith, units)) c.find_end.ensures.alive) at.clean refused
-    (pass_left_then d c.args.self.now c.args.input.now 0 c.args.cache.now.store c.loop-at.at k c.loop-at.cache.store c.loop-at.invariant.progress (omega (arith, c.run-run.ensures.from, same)) (λ j from below. c.run-run.ensures.known j from (omega (arith, below, same))) c.find_end.new.cache.store left))
+    (pass_left_then d c.args.self.now c.args.input.now 0 c.args.cache.now.store c.loop-at.at k c.loop-at.cache.store c.loop-at.invariant.progress (omega (arith, c.run-run.ensures.run.more, same)) (λ j from below. c.run-run.ensures.run.known j from (omega (arith, below, same))) c.find_end.new.cache.store left))
     c.find_end.ensures.refusal c.find_end.ensures.progress.left
 
 pub returns-clause-ended : goal.returns-clause-ended
@@ -314,7 +314,7 @@ returns-clause-left c =
 pub returns-then-run-last-clause-refusal : goal.returns-then-run-last-clause-refusal
 returns-then-run-last-clause-refusal c =
     let d : Direction = way_of c.args.way in
-    let same : c.run-run.result.at ≡ c.args.input.now.end - c.args.input.now.start = omega (arith, c.if-run-last.true, c.run-run.ensures.within, c.last_place-last.ensures.place) in
+    let same : c.run-run.result.at ≡ c.args.input.now.end - c.args.input.now.start = omega (arith, c.if-run-last.true, c.run-run.ensures.run.within, c.last_place-last.ensures.place) in
     let k : ℕ = c.args.input.now.end - c.args.input.now.start in
     let at : IsAt d c.args.self.now c.loop-at.cache.store.table c.args.input.now k c.run-run.result.id c.run-run.result.found = subst (λ k. IsAt d c.args.self.now c.loop-at.cache.store.table c.args.input.now k c.run-run.result.id c.run-run.result.found) same c.run-run.ensures.at in
     let units : k ≡ length (tape_in d c.args.input.now).bytes = units_in d c.args.input.now c.requires.at.at.undone c.last_place-last.ensures.inside in

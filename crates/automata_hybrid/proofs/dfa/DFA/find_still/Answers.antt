@@ -1,10 +1,8 @@
-use Rattle.std.proofs.Common.{◌≡◌, ◌-◌, length, Option, None, refl, sym, arith}
-use Rattle.std.specs.Prelude.{OnErr, Result}
-use Rattle.automata_base.specs.Haystacks.Matches.{HalfMatch}
+use Rattle.std.proofs.Common.{◌≡◌, ◌-◌, length, None, refl, sym, arith}
 use Rattle.automata_base.specs.Haystacks.Tapes.{Direction}
-use Rattle.automata_config.specs.declared.error.SearchError.{SearchError}
 use Rattle.automata_hybrid.specs.Searches.PassContracts.{IsRestEffect}
 use Rattle.automata_hybrid.specs.Searches.Passes.{tape_in}
+use Rattle.automata_hybrid.specs.Searches.Units.{IsStillProgress}
 use Rattle.automata_hybrid.specs.Walks.State.{way_of}
 use Rattle.automata_hybrid.proofs.Searches.Directions.{none_empty, units_in}
 use Rattle.automata_hybrid.proofs.Searches.PassContracts.{last_answer, rest_read, rest_refused}
@@ -43,12 +41,14 @@ returns-in_err-next-clause-effect c =
     at_err c.from_residual.result _ (IsRestEffect d c.args.self.now c.args.input.now 0 c.args.cache.now c.read_still.new.cache) c.from_residual.ensures.1
     (rest_refused d c.args.self.now c.args.input.now 0 c.args.id c.unit_at-unit.result None c.args.cache.now c.args.cache.now c.read_still.new.cache c.read_still.new.cache {s = c.args.cache.now.store.searched} {s' = c.read_still.new.cache.store.searched} refl refl c.requires.at (sym c.unit_at-unit.ensures) c.in_err-next.field-0.0 c.in_err-next.ensures.effect (omega arith) (omega arith))
 
-pub returns-clause-read : goal.returns-clause-read
-returns-clause-read c =
-    step_reads (way_of c.args.way) c.args.self.now c.args.input.now 0 c.args.id c.unit_at-unit.result c.args.cache.now.store c.read_still.new.cache.store c.in_ok-next.next
-    c.requires.at.at.named (sym c.unit_at-unit.ensures) c.in_ok-next.ensures.taken
+pub returns-clause-progress : goal.returns-clause-progress
+returns-clause-progress c = record {
+  read = step_reads (way_of c.args.way) c.args.self.now c.args.input.now 0 c.args.id c.unit_at-unit.result c.args.cache.now.store c.read_still.new.cache.store c.in_ok-next.next
+      c.requires.at.at.named (sym c.unit_at-unit.ensures) c.in_ok-next.ensures.taken;
+  kept = tt;
+}
 
-pub returns-in_err-next-clause-kept : goal.returns-in_err-next-clause-kept
-returns-in_err-next-clause-kept c =
-    at_err c.from_residual.result _ (λ (r : Result (Option HalfMatch) SearchError). OnErr r (c.read_still.new.cache.store ≡ c.args.cache.now.store)) c.from_residual.ensures.1
-    c.in_err-next.ensures.kept
+pub returns-in_err-next-clause-progress : goal.returns-in_err-next-clause-progress
+returns-in_err-next-clause-progress c =
+    at_err c.from_residual.result _ (IsStillProgress (way_of c.args.way) c.args.self.now c.args.input.now c.args.cache.now.store c.read_still.new.cache.store) c.from_residual.ensures.1
+    (record { read = tt; kept = c.in_err-next.ensures.kept })

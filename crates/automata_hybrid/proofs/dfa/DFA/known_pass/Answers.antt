@@ -19,10 +19,10 @@ found_at-found-requires-clause-leads c =
     let k : ℕ = c.run-run.result.at in
     let low : c.known_next-next.result < 2 ^ 31 = grind (arith, common_steps, c.if-is_unknown.ensures.size) in
     let upto : IsKnownUpto d c.args.self.now c.args.cache.now.store c.args.input.now k c.run-run.result.id c.run-run.result.found = record {
-      within = c.run-run.ensures.within;
+      within = c.run-run.ensures.run.within;
       at = record { undone = c.requires.at.undone; may = c.requires.at.may; at = c.run-run.ensures.at };
-      learned = c.run-run.ensures.learned (learned_none d c.args.self.now c.args.cache.now.store c.args.input.now);
-      known = λ j below. c.run-run.ensures.known j (omega arith) below;
+      learned = c.run-run.ensures.run.learned (learned_none d c.args.self.now c.args.cache.now.store c.args.input.now);
+      known = λ j below. c.run-run.ensures.run.known j (omega arith) below;
     } in
     let few : k ≤ length (tape_in d c.args.input.now).bytes = (let u = units_in d c.args.input.now c.requires.at.undone c.last_place-last.ensures.inside in omega (arith, u, upto.within)) in
     (_, known_leads d c.args.self.now c.args.input.now k c.run-run.result.id c.args.cache.now c.run-run.result.found c.known_next-next.result c.requires.of c.see_store.ensures upto few (subst (λ n. n < 2 ^ 31) (c.known_next-next.ensures.value low) low) (c.known_next-next.ensures.answer low) (c.known_next-next.ensures.effect low) (λ b. false_true (c.if-is_quit.ensures.1 b)))
@@ -33,10 +33,10 @@ returns-then-is_dead-clause-ended c =
     let k : ℕ = c.run-run.result.at in
     let low : c.known_next-next.result < 2 ^ 31 = grind (arith, common_steps, c.if-is_unknown.ensures.size) in
     let upto : IsKnownUpto d c.args.self.now c.args.cache.now.store c.args.input.now k c.run-run.result.id c.run-run.result.found = record {
-      within = c.run-run.ensures.within;
+      within = c.run-run.ensures.run.within;
       at = record { undone = c.requires.at.undone; may = c.requires.at.may; at = c.run-run.ensures.at };
-      learned = c.run-run.ensures.learned (learned_none d c.args.self.now c.args.cache.now.store c.args.input.now);
-      known = λ j below. c.run-run.ensures.known j (omega arith) below;
+      learned = c.run-run.ensures.run.learned (learned_none d c.args.self.now c.args.cache.now.store c.args.input.now);
+      known = λ j below. c.run-run.ensures.run.known j (omega arith) below;
     } in
     let few : k ≤ length (tape_in d c.args.input.now).bytes = (let u = units_in d c.args.input.now c.requires.at.undone c.last_place-last.ensures.inside in omega (arith, u, upto.within)) in
     subst (λ (r : Known). r.ended ≡ true → IsKnownEnd d c.args.self.now c.args.cache.now c.args.input.now r.at r.id r.found) (sym c.ended.ensures)
@@ -48,10 +48,10 @@ returns-then-run-last-clause-ended c =
     let k : ℕ = c.run-run.result.at in
     let low : c.known_next-next.result < 2 ^ 31 = grind (arith, common_steps, c.if-is_unknown.ensures.size) in
     let upto : IsKnownUpto d c.args.self.now c.args.cache.now.store c.args.input.now k c.run-run.result.id c.run-run.result.found = record {
-      within = c.run-run.ensures.within;
+      within = c.run-run.ensures.run.within;
       at = record { undone = c.requires.at.undone; may = c.requires.at.may; at = c.run-run.ensures.at };
-      learned = c.run-run.ensures.learned (learned_none d c.args.self.now c.args.cache.now.store c.args.input.now);
-      known = λ j below. c.run-run.ensures.known j (omega arith) below;
+      learned = c.run-run.ensures.run.learned (learned_none d c.args.self.now c.args.cache.now.store c.args.input.now);
+      known = λ j below. c.run-run.ensures.run.known j (omega arith) below;
     } in
     let few : k ≤ length (tape_in d c.args.input.now).bytes = (let u = units_in d c.args.input.now c.requires.at.undone c.last_place-last.ensures.inside in omega (arith, u, upto.within)) in
     subst (λ (r : Known). r.ended ≡ true → IsKnownEnd d c.args.self.now c.args.cache.now c.args.input.now r.at r.id r.found) (sym c.ended-then-run-last.ensures)
@@ -63,10 +63,10 @@ returns-then-is_some-clause-ended c =
     let k : ℕ = c.run-run.result.at in
     let low : c.known_next-next.result < 2 ^ 31 = grind (arith, common_steps, c.if-is_unknown.ensures.size) in
     let upto : IsKnownUpto d c.args.self.now c.args.cache.now.store c.args.input.now k c.run-run.result.id c.run-run.result.found = record {
-      within = c.run-run.ensures.within;
+      within = c.run-run.ensures.run.within;
       at = record { undone = c.requires.at.undone; may = c.requires.at.may; at = c.run-run.ensures.at };
-      learned = c.run-run.ensures.learned (learned_none d c.args.self.now c.args.cache.now.store c.args.input.now);
-      known = λ j below. c.run-run.ensures.known j (omega arith) below;
+      learned = c.run-run.ensures.run.learned (learned_none d c.args.self.now c.args.cache.now.store c.args.input.now);
+      known = λ j below. c.run-run.ensures.run.known j (omega arith) below;
     } in
     let few : k ≤ length (tape_in d c.args.input.now).bytes = (let u = units_in d c.args.input.now c.requires.at.undone c.last_place-last.ensures.inside in omega (arith, u, upto.within)) in
     subst (λ (r : Known). r.ended ≡ true → IsKnownEnd d c.args.self.now c.args.cache.now c.args.input.now r.at r.id r.found) (sym c.ended-then-is_some.ensures)
@@ -78,10 +78,10 @@ returns-clause-left c =
     let k : ℕ = c.run-run.result.at in
     let low : c.known_next-next.result < 2 ^ 31 = grind (arith, common_steps, c.if-is_unknown.ensures.size) in
     let upto : IsKnownUpto d c.args.self.now c.args.cache.now.store c.args.input.now k c.run-run.result.id c.run-run.result.found = record {
-      within = c.run-run.ensures.within;
+      within = c.run-run.ensures.run.within;
       at = record { undone = c.requires.at.undone; may = c.requires.at.may; at = c.run-run.ensures.at };
-      learned = c.run-run.ensures.learned (learned_none d c.args.self.now c.args.cache.now.store c.args.input.now);
-      known = λ j below. c.run-run.ensures.known j (omega arith) below;
+      learned = c.run-run.ensures.run.learned (learned_none d c.args.self.now c.args.cache.now.store c.args.input.now);
+      known = λ j below. c.run-run.ensures.run.known j (omega arith) below;
     } in
     let few : k ≤ length (tape_in d c.args.input.now).bytes = (let u = units_in d c.args.input.now c.requires.at.undone c.last_place-last.ensures.inside in omega (arith, u, upto.within)) in
     let less : k < c.args.input.now.end - c.args.input.now.start = omega (arith, c.if-run-last.false, c.last_place-last.ensures.place) in

@@ -24,7 +24,7 @@ returns-clause-effect c =
 
 pub returns-in_err-id-clause-effect : goal.returns-in_err-id-clause-effect
 returns-in_err-id-clause-effect c =
-    let same : c.add_start.new.self ≡ c.args.self.now = c.in_err-id.ensures.err in
+    let same : c.add_start.new.self ≡ c.args.self.now = c.in_err-id.ensures.refused.kept in
     record {
       cost = ap (λ (v : CacheView). v.count) same;
       grown = grown_counted c.args.self.now (counted c.add_start.new.self) (ap counted same);

@@ -53,7 +53,7 @@ returns-in_err-to-clause-effect c =
 pub returns-in_err-from-in-New-clause-effect : goal.returns-in_err-from-in-New-clause-effect
 returns-in_err-from-in-New-clause-effect c =
     refused_effect c.args.dfa.now c.args.id c.args.unit c.args.self.now c.add_next.new.self (c.see_store.ensures.low c.args.id c.requires.valid.0 c.requires.valid.1) c.requires.clean c.requires.unknown
-    (c.in_err-from-in-New.ensures.err ∙ (c.resolve.ensures.same ∙ c.determinize.ensures.counted))
+    (c.in_err-from-in-New.ensures.refused.kept ∙ (c.resolve.ensures.same ∙ c.determinize.ensures.counted))
 
 pub returns-in_err-from-in-New-clause-refusal : goal.returns-in_err-from-in-New-clause-refusal
 returns-in_err-from-in-New-clause-refusal c =
@@ -61,11 +61,11 @@ returns-in_err-from-in-New-clause-refusal c =
     let found : IsLookedUp c.resolve.new.self.store.table c.in_ok-key.key (New c.in-New.state) = looked_up c.determinize.new.self c.resolve.new.self c.in_ok-key.key _ (New c.in-New.state) c.resolve.ensures.same c.in-New.is c.in_ok-to.ensures.found in
     if_err c.from_residual-in_err-from-in-New.result _ _ c.from_residual-in_err-from-in-New.ensures.1 (record {
       gives_up = λ cache q named. subst (GivesUp c.args.self.now.store) (found.0 ∙ c.in_ok-key.ensures.successor q named)
-          (subst (λ (v : CacheView). GivesUp v.store c.in-New.state) same (c.in_err-from-in-New.ensures.gives_up cache));
+          (subst (λ (v : CacheView). GivesUp v.store c.in-New.state) same (c.in_err-from-in-New.ensures.refused.gives_up cache));
       low = c.see_store.ensures.low c.args.id c.requires.valid.0 c.requires.valid.1;
       clean = c.requires.clean;
       unknown = c.requires.unknown;
-      unchanged = c.in_err-from-in-New.ensures.err ∙ same;
+      unchanged = c.in_err-from-in-New.ensures.refused.kept ∙ same;
     })
 
 pub returns-in-Known-clause-answer : goal.returns-in-Known-clause-answer

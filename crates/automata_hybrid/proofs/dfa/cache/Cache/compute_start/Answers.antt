@@ -85,4 +85,4 @@ returns-in_err-id-clause-effect c =
 pub returns-in_err-id-in-New-clause-effect : goal.returns-in_err-id-in-New-clause-effect
 returns-in_err-id-in-New-clause-effect c =
     refused_effect c.args.dfa.now c.args.mode c.args.prev c.args.self.now c.add_start.new.self c.args.slot c.requires.slot c.requires.unknown
-    (c.in_err-id-in-New.ensures.err ∙ (c.resolve.ensures.same ∙ c.determinize_start.ensures.counted))
+    (c.in_err-id-in-New.ensures.refused.kept ∙ (c.resolve.ensures.same ∙ c.determinize_start.ensures.counted))

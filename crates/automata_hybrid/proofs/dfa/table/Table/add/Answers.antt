@@ -2,9 +2,7 @@ use Rattle.std.proofs.Common.{◌≡◌, sym, List, [], ◌∷◌, ◌++◌, ◌
 use Rattle.std.specs.HashMap.{get}
 use Rattle.std.proofs.lemmas.Grind.{common_steps}
 use Rattle.automata_hybrid.proofs.Cache.Rows.{IsTable-with_row, IsTable-map, Names-new, Names-more}
-use Rattle.automata_hybrid.proofs.Cache.Clears.{AllStarts-more}
 use Rattle.automata_hybrid.specs.Machines.Machine.{IsStateOf, greatest, template_of}
-use Rattle.automata_hybrid.specs.Cache.Clears.{AllStarts}
 use Rattle.automata_hybrid.specs.Cache.Table.{Rows, Names, id_of, row_id}
 use Rattle.automata_hybrid.specs.declared.dfa.row.Row.{Row}
 use Rattle.automata_base.specs.Powersets.Powerset.{Powerset, cost}
@@ -67,11 +65,3 @@ returns-clause-kept c = λ id q h.
     let u : Rows = record { of = c.self.inside.of.value; cells = c.extend_from_slice-grown.new.self.items; rows = c.push-pushed.new.self.items } in
     let named : Names u id q = rw rows (Names-more t r id q before) in
     named
-
-pub returns-clause-starts : goal.returns-clause-starts
-returns-clause-starts c = λ xs all.
-    let r : Row = record { state = c.args.state; started = c.args.started } in
-    let t : Rows = record { of = c.self.inside.of.value; cells = c.self.inside.cells.items; rows = c.self.inside.rows.items } in
-    let rows : c.push-pushed.new.self.items ≡ c.self.inside.rows.items ++ r ∷ [] = grind (arith, common_steps) in
-    let before : AllStarts t xs = subst (λ (v : Rows). AllStarts v xs) (sym c.self.view_is) all in
-    subst (λ (rs : List Row). AllStarts (record { of = c.self.inside.of.value; cells = c.extend_from_slice-grown.new.self.items; rows = rs }) xs) (sym rows) (AllStarts-more t r xs before)
