@@ -58,7 +58,7 @@ EndsEmpty p input last old new =
     (m : Match) × FindsMatch p input (Some m) × IsEmptyAt last m × EndsSpan p input old new (Some m)
 
 -- the same of the next match: of one search, if it finds no such match, and otherwise of that and the search from one
--- place later
+-- offset later
 abbrev pub EndsNext : Regex → Input → Option ℕ → (old new : Cache) → Option Match → Type 0
 EndsNext p input last old new o =
     ((FindsEmptyAt p input last → ⊥) × EndsSpan p input old new o)
