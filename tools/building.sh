@@ -1,7 +1,7 @@
 #!/bin/sh
 # Measures how long NFAs, reversed NFAs and regexes take to be built, in a copy of the repository with one crate more:
 #     tools/building.sh
-# It proves what is not proved yet, and then prints what stands in measure/building.in, a line for each NFA.
+# It proves what is not proved yet, and then prints a line for each NFA, as measure/building.in says.
 # BUILDING_COPY names a copy to use again.
 set -eu
 top=$(cd "$(dirname "$0")/.." && pwd)

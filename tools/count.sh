@@ -3,8 +3,8 @@
 #     tools/count.sh COPY [WORK..]
 # It needs valgrind, and takes half an hour for all works. These leave out haystacks of 1 MB and 64 MB, whose bytes take
 # the instructions of those in 64 KB. Only what the searches run is counted, of a first search its DFA and cache too, and
-# of a whole one also its automaton, or RE2's parse and program. It prints instructions a unit, by measure/works; what a
-# program doesn't have, or isn't there, has a dash.
+# of a whole one also its automaton, or RE2's parse and program. It prints instructions a unit, by measure/works, and a dash
+# for a work that a program does not have, and for a program that is not there.
 set -eu
 copy=$1
 shift

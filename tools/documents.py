@@ -6,7 +6,7 @@
 A document has one program. A block of code is the file that the line before it ends in, as `src/main.rt`, and the block
 after a line that ends in "prints:" is what the program writes. Its name and its libraries are in the words "the line
 `demo: regex_automata anyhow` into `crates.txt`". Each block of Rattle or of antt has to be such a file. A block of Rattle in
-a docstring of the library has to be a part of one of these programs.
+a docstring of the settings, the lazy DFA or the regex has to be a part of one of these programs.
 
 The last line counts the documents too, beside what the given line counts, the last one of `rt ci`. It needs Python 3 and
 the kit's rt. The programs stand on the libraries as `rt ci` proved and left them, if it did so since they were last

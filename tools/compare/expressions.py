@@ -109,7 +109,7 @@ class Compiler:
         return Free(self.random.choice(letters), tuple(targets))
 
     def read(self, ranges: tuple[tuple[int, int], ...], to: int) -> State:
-        """A state that reads a byte of these ranges. Only one range fits `B`, and a dense state can't lead to 0."""
+        """A state that reads a byte of these ranges. Only one range fits `B`, and a dense state cannot lead to 0."""
         letters = ("B" if len(ranges) == 1 else "") + "S" + ("D" if to > 0 and self.random.random() < 0.3 else "")
         letter = self.random.choice(letters)
         return Read(letter, tuple((lo, hi, to) for lo, hi in ranges))

@@ -100,7 +100,7 @@ __attribute__((noipa)) static bool has_byte(const std::string& text) {
   return memchr(text.data(), '#', text.size()) != nullptr;
 }
 
-// The C library's search for a byte that isn't there.
+// The C library's search for a byte that is not there.
 static void memory(const char* work, size_t size) {
   std::string text = text_of(kOne, size);
   long start = now(), count = 0;

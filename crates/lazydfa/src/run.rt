@@ -64,7 +64,7 @@ fn build_all(
     Ok(regexes)
 }
 
-/// The NFAs of the catalogue are well formed, so only memory can be missing.
+/// The regex that a line defines. The NFAs of the catalogue are well formed, so for them only memory can be missing.
 fn build(alloc: Global, definition: &Definition) -> Result<Regex, BuildError> {
     let forward = built(definition.entry.forward(alloc))?;
     let reverse = built(definition.entry.reverse(alloc))?;

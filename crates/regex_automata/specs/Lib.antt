@@ -1,5 +1,5 @@
--- The definitions by subject. A caller needs one module, Promises: it has the words for contracts of one's own. What the
--- calls of a regex promise stands in these:
+-- The definitions by subject. A caller begins with one module, Promises: it has the words for contracts of one's own.
+-- What the calls of a regex promise stands in these:
 --
 --     Regexes    the two DFAs of a regex, when they are a sound pair, how a builder makes them; the two caches
 --     Spans      what a search for a match with its start returns (Contracts); iterations, errors, effects, costs

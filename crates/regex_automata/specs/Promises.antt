@@ -1,5 +1,6 @@
--- The words that a caller's own contracts use, each with a sentence. A DFA is seen as a `Machine`: `m.nfa` is its NFA and
--- `m.config` its settings.
+-- The words that a caller's own contracts use, each with a sentence: those of ends, walks, sets, tokens and steps.
+-- Those of spans and effects stand in Spans. A DFA is seen as a `Machine`: `m.nfa` is its NFA and `m.config` its
+-- settings.
 
 -- The cache belongs to the DFA; the caches belong to the two DFAs of the regex. Each call needs it and gives it back.
 pub use Rattle.automata_hybrid.specs.Cache.Caches.{CacheView, IsCacheOf}
@@ -28,19 +29,19 @@ pub use Rattle.automata_base.specs.Haystacks.Tapes.{Backward, Forward}
 pub use Rattle.automata_hybrid.specs.Searches.Contracts.{IsHalf}
 pub use Rattle.automata_hybrid.specs.Searches.Passes.{IsFound, Skips, WithoutBase, without_base}
 pub use Rattle.automata_hybrid.specs.Searches.Agreement.{AnswersAgree}
--- An overlapping search as contracts see it; it belongs to this input, and has reported so many matches; the list that it
--- reports, the match at an index of it, and what a call returns and does to the walk.
+-- An overlapping search as contracts see it; it belongs to this input, and has reported so many matches; the list that
+-- it reports, the match at an index of it, and what a call returns and does to the walk.
 pub use Rattle.automata_hybrid.specs.Walks.State.{Walk}
 pub use Rattle.automata_hybrid.specs.Walks.Answers.{AreWalked, HasReported, IsWalkOf, ReportsNext, half_nth}
 pub use Rattle.automata_hybrid.specs.Walks.Contracts.{IsWalkCall}
--- Some path of the pattern, from a start and through the span of an input, ends in a match; under `MatchKind::All` a set
--- has exactly these patterns after a call that answers.
+-- Some path of the pattern, from a start and through the span of an input, ends in a match; under `MatchKind::All` a
+-- set has exactly these patterns after a call that answers.
 pub use Rattle.automata_hybrid.specs.Walks.SetsByPaths.{MatchesIn, SetsHaveMatching}
 pub use Rattle.automata_hybrid.specs.Walks.Contracts.{IsWhich}
 -- The two DFAs of a regex are a sound pair: spans need it. A regex that `build_from_nfa` returns is one.
 pub use Rattle.regex_automata.specs.Regexes.SoundPairs.{IsSoundPair}
--- One item of `find_iter`: the match or the error that it gives, and what is left to be searched after it; its match may
--- be sliced from the haystack.
+-- One item of `find_iter`: the match or the error that it gives, and what is left to be searched after it; its match
+-- may be sliced from the haystack.
 pub use Rattle.regex_automata.specs.Spans.Iteration.{GivesItem, LiesInHaystack}
 -- The patterns of a set, as a list; a member of a list.
 pub use Rattle.automata_base.specs.Haystacks.PatternSet.{members}

@@ -1,4 +1,4 @@
--- The tokens of an input, one after another.
+-- The tokens of an input, one after another. A place is an offset of the haystack here.
 use Rattle.std.specs.Prelude.{ℕ, ◌≡◌, ◌<◌, ◌≤◌, ◌⊎◌, ◌-◌, ◌++◌, Bool, true, false, if◌then◌else◌, nat_lt, List, [], ◌∷◌}
 use Rattle.std.specs.Prelude.{length, Option, None, Some, Result, Ok, Err, IfErr, IfSome, slice_range}
 use Rattle.automata_base.specs.Answers.Answers.{IsAnswer}

@@ -7,15 +7,15 @@ pub use automata_hybrid::laws::{
     answers_agree, first_match_is_found, sets_have_matching, walks_agree,
 };
 
-/// Neither earlier searches nor the capacity of the caches show in a match: if two searches for one input both return a
-/// match, over one regex or over two that differ in their settings alone, it is the same match.
+/// Neither earlier searches nor the capacity of the caches show in a match: two searches for one input that answer find
+/// the same, over one regex, or over two of the same NFAs and match kinds, in whatever else their settings differ.
 pub fn matches_agree()
     ensures { MatchesAgree }
 {
     answers_agree();
 }
 
-/// The same holds for whether there is a match.
+/// The same holds for whether there is a match, for which the forward NFA and match kind suffice.
 pub fn truths_agree()
     ensures { TruthsAgree }
 {

@@ -1,5 +1,5 @@
 //! The works of measure.in by a lean lazy DFA of the library's design in unchecked Rust: it keeps no progress, and has no
-//! quit bytes, no modes and no limits.
+//! quit bytes, no modes but the anchored one, and no limits.
 
 // What it does for looks and sparse states, which no work has, is here so that it is asked for them, as the library is.
 #![allow(dead_code)]

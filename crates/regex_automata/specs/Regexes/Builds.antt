@@ -20,7 +20,7 @@ use Rattle.regex_automata.specs.declared.hybrid.regex.Regex.{Regex}
 use Rattle.regex_automata.specs.declared.hybrid.regex.build.RegexBuildError.{RegexBuildError}
 use Rattle.regex_automata.specs.declared.hybrid.regex.build.RegexBuildError.TheVariants as is
 
--- the settings of the reverse DFA: its match kind is all, and its start states are not tagged
+-- the settings of the reverse DFA: its match kind is `MatchKind::All`, and its start states are not tagged
 abbrev pub backward : Options → Options
 backward o = record o { match_kind = Some All; specialize_start_states = Some false }
 

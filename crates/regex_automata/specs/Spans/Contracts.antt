@@ -33,7 +33,7 @@ use Rattle.regex_automata.specs.declared.hybrid.regex.Regex.{Regex}
 use Rattle.regex_automata.specs.declared.hybrid.regex.caches.Cache.{Cache}
 use Rattle.automata_config.specs.Options.{match_kind_of}
 
--- the two DFAs of a regex, for answers
+-- each of the two is a cache of its DFA, within its settings
 abbrev pub AreStoresOf : Cache → Regex → Type 0
 AreStoresOf c p = IsStoreOf c.forward.store p.forward × IsStoreOf c.reverse.store p.reverse
 
@@ -60,7 +60,7 @@ pub record IsStep (way : Direction) (m : Machine) (input : Input) (reported : �
   pub within : IfOk result (λ found. IfSome found (LiesIn m input))
   -- an error is one that some cache may give
   pub errors : IfErr result (MayRefuseStep way m input reported)
-  -- after the end there is none
+  -- a call after the end does not fail
   pub ended : (pairs : List Pair) → AreWalked way m input pairs → length pairs < reported → IfErr result (λ e. ⊥)
   -- an anchored mode that is not supported is reported
   pub unsupported : IsUnsupported way m input → result ≡ Err (unsupported_error input)
@@ -103,8 +103,8 @@ MayRefuseTruth m input e = (c : Stored) × IsStoreOf c m × IsMatchRefused m c i
 
 -- what the search for whether there is a match returns
 pub record IsTruthOf (p : Regex) (input : Input) (result : Result Bool SearchError) : Type 0 where
-  -- for every NFA, whether its search finds a match, and whether the passes over an input that is not earliest report
-  -- one
+  -- for every NFA, whether its search finds a match, whose passes met no quit byte; and whether the passes over an
+  -- input that is not earliest report one
   pub found : IfOk result (IsTruthFound p.forward input)
   pub reported : IfOk result (IsMatchReported p.forward input)
   -- without a look cycle, whether the ordered paths have an answer

@@ -50,7 +50,7 @@ pub record IsBackEffect (p : Regex) (input : Input) (half : Half) (old new : Cac
   pub left : IfErr result (LeavesBack p input half old new)
 
 -- a search for the match after another: one search, or, if that finds an empty match at the last end, another from one
--- place later
+-- offset later
 pub record IsNextEffect (p : Regex) (input : Input) (last : Option ℕ) (old new : Cache)
     (result : Result (Option Match) SearchError) : Type 0 where
   pub cost : AreCostsTwice p input last old new

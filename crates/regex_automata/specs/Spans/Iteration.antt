@@ -14,7 +14,7 @@ use Rattle.regex_automata.specs.Spans.Errors.{IsOfGiven, IsRegexRefusal}
 use Rattle.regex_automata.specs.declared.hybrid.regex.Regex.{Regex}
 use Rattle.regex_automata.specs.declared.hybrid.regex.caches.Cache.{Cache}
 
--- the search finds an empty match at the last end, so it is made again from one place later
+-- the search finds an empty match at the last end, so it is made again from one offset later
 abbrev pub FindsEmptyAt : Regex → Input → Option ℕ → Type 0
 FindsEmptyAt p input last = (m : Match) × FindsMatch p input (Some m) × IsEmptyAt last m
 
@@ -22,8 +22,8 @@ FindsEmptyAt p input last = (m : Match) × FindsMatch p input (Some m) × IsEmpt
 abbrev pub IsNextMatch : Regex → Input → Option ℕ → Option Match → Type 0
 IsNextMatch p input last answer = IsNextItem (FindsMatch p) input input.start last answer
 
--- why the next match fails: the search failed, or it found an empty match at the last end and the search from one place
--- later failed
+-- why the next match fails: the search failed, or it found an empty match at the last end and the search from one
+-- offset later failed
 abbrev pub IsNextRefusal : Regex → Cache → Input → Option ℕ → SearchError → Type 0
 IsNextRefusal p c input last e =
     IsRegexRefusal p c input e
@@ -39,7 +39,7 @@ abbrev pub LiesInHaystack : List ℕ → Option (Result Match SearchError) → T
 LiesInHaystack haystack item =
     IfSome item (λ r. IfOk r (λ (m : Match). (m.start ≤ m.end) × (m.end ≤ length haystack)))
 
--- the cost of one search; or, if it finds an empty match at the last end, of that and the search from one place later
+-- the cost of one search; or, if it finds an empty match at the last end, of that and the search from one offset later
 abbrev pub AreCostsTwice : Regex → Input → Option ℕ → Cache → Cache → Type 0
 AreCostsTwice p input last old new =
     AreCostsOf p input old new
@@ -47,7 +47,7 @@ AreCostsTwice p input last old new =
     × ((between : Cache) × AreCostsOf p input old between × AreCostsOf p (from (suc input.start) input) between new))
 
 -- all that the next match uses is cached: what a search uses, and, if that finds an empty match at the last end, what
--- the search from one place later uses
+-- the search from one offset later uses
 abbrev pub KnowsNext : Regex → Cache → Input → Option ℕ → Type 0
 KnowsNext p c input last =
     KnowsBoth p c input

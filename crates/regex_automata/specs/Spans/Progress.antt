@@ -43,7 +43,7 @@ EndsSpan p input old new (Some m) =
     EndsFront p input old new
     × ((half : Half) × IsFound Forward p.forward input (Some half) × EndsBack p input half old.reverse new.reverse)
 
--- one that failed left the forward search open, or the one back; or both have ended, and are no pair
+-- one that failed left the forward search where it failed, or the one back; or both have ended, and are no pair
 abbrev pub LeavesSpan : Regex → Input → (old new : Cache) → SearchError → Type 0
 LeavesSpan p input old new e =
     (LeavesFront p input old new e × (new.reverse ≡ old.reverse))
@@ -58,7 +58,7 @@ EndsEmpty p input last old new =
     (m : Match) × FindsMatch p input (Some m) × IsEmptyAt last m × EndsSpan p input old new (Some m)
 
 -- the same of the next match: of one search, if it finds no such match, and otherwise of that and the search from one
--- place later
+-- offset later
 abbrev pub EndsNext : Regex → Input → Option ℕ → (old new : Cache) → Option Match → Type 0
 EndsNext p input last old new o =
     ((FindsEmptyAt p input last → ⊥) × EndsSpan p input old new o)

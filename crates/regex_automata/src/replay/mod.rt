@@ -19,8 +19,9 @@ use std::alloc::{AllocError, Global};
 
 /// Returns one reply for each request, in order. Each is its request's own value, whatever came before.
 ///
-/// One cache serves all requests. At first it belongs to regex 0, which is the current one. This call fails only if
-/// that cache or the list of replies cannot be allocated; out of memory inside a request is in its reply.
+/// One cache serves all requests. At first it belongs to regex 0, which is the current one. If there is no regex, each
+/// reply is `Fault::NoRegex`. This call fails only if that cache or the list of replies cannot be allocated; out of
+/// memory inside a request is in its reply.
 pub fn replay(
     alloc: Global,
     regexes: &[Regex],

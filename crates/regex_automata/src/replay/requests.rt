@@ -67,7 +67,7 @@ pub enum Reply {
         found: Vec<PatternID>,
         error: Option<SearchError>,
     },
-    /// Another regex is current.
+    /// The regex that the reset names is current, and its caches are fresh.
     Done(Result<(), SearchError>),
     /// The request is bad, and changed nothing.
     Bad(Fault),

@@ -78,7 +78,7 @@ impl<T: Drop> From<AllocFailed<T>> for RegexBuildError {
     }
 }
 
-// The error for an NFA that cannot be reversed.
+/// The error for an NFA that cannot be reversed.
 fn reverse_error(error: ReverseError) -> RegexBuildError
     ensures { result ≡ reverse_refusal error }
 {
@@ -89,7 +89,7 @@ fn reverse_error(error: ReverseError) -> RegexBuildError
     }
 }
 
-// Reverses an NFA, if it passes the tests that a sound pair needs.
+/// Reverses an NFA, if it passes the tests that a sound pair needs.
 fn tested_reverse(forward: &NFA) -> Result<NFA, RegexBuildError>
     ensures passes { IfOk result (λ reverse. PassesAll forward.now) }
     ensures reversed { IfOk result (λ reverse. IsReversed forward.now reverse) }
@@ -175,8 +175,11 @@ impl Builder {
     /// The regex of an NFA and of one that reads the same backward. It allocates nothing.
     ///
     /// It fails if the NFAs do not have equally many patterns, if the forward DFA cannot be built, or if the reverse
-    /// one cannot; the error is that of the first test that fails. The reverse DFA has `MatchKind::All`, and its start
-    /// states are not tagged.
+    /// one cannot; the error is that of the first test that fails, and does not give the NFAs back. The reverse DFA has
+    /// `MatchKind::All`, and its start states are not tagged.
+    ///
+    /// Nothing tests that the second NFA reads what the first one does: if it does not, `find` can return a wrong
+    /// start, or the error that the two are no pair. `build_from_nfa` makes the second NFA itself.
     pub fn build_from_nfas(&self, forward: NFA, reverse: NFA) -> Result<Regex, BuildError>
         ensures ok { IfOk result (BuildsPair self.now forward reverse) }
         ensures refused { result_err result ≡ pair_refusal self.now forward reverse }
@@ -200,7 +203,7 @@ impl Builder {
     /// spans that the ordered paths of the NFA define. `build_from_nfas` makes a regex without these tests.
     ///
     /// It makes these tests in this order, then reverses the NFA, and then builds both lazy DFAs. The error is that of
-    /// the first that fails.
+    /// the first that fails. It does not give the NFA back: clone it before.
     pub fn build_from_nfa(&self, forward: NFA) -> Result<Regex, RegexBuildError>
         ensures built { IfOk result (λ regex. (reverse : Automaton)
             × IsReversed forward reverse × BuildsPair self.now forward reverse regex) }

@@ -105,7 +105,7 @@ impl Regex {
 }
 
 /// An iterator over the matches of an input that are left. An error is its last item. After the last item each call
-/// returns none. If the anchored mode is not supported, its only item is that error.
+/// returns none. If the anchored mode is not supported, its only item is an error, unless the input is done.
 #[derive(Drop)]
 pub struct FindMatches<'r, 'c, 'h> {
     regex: &'r Regex,

@@ -31,7 +31,8 @@ impl Regex {
         input.copied().earliest(!skips)
     }
 
-    /// Whether there is a match, whatever the input's earliest flag. It uses the forward DFA alone.
+    /// Whether there is a match, whatever the input's earliest flag. It uses the forward DFA alone, and fails as a
+    /// search of it does.
     pub fn is_match(&self, cache: &mut Cache, input: &Input<'_>) -> Result<bool, SearchError>
         requires { AreCachesOf cache.old self.now }
         ensures of { AreCachesOf cache.new self.now }
