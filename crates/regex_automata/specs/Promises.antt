@@ -1,6 +1,5 @@
--- The words that a caller's own contracts use, each with a sentence: those of ends, walks, sets, tokens and steps.
--- Those of spans and effects stand in Spans. A DFA is seen as a `Machine`: `m.nfa` is its NFA and `m.config` its
--- settings.
+-- The words that a caller's own contracts use, each with a sentence: those of ends, walks, sets, spans, tokens and
+-- steps, and what becomes of a cache. A DFA is seen as a `Machine`: `m.nfa` is its NFA and `m.config` its settings.
 
 -- The cache belongs to the DFA; the caches belong to the two DFAs of the regex. Each call needs it and gives it back.
 pub use Rattle.automata_hybrid.specs.Cache.Caches.{CacheView, IsCacheOf}
@@ -40,6 +39,13 @@ pub use Rattle.automata_hybrid.specs.Walks.SetsByPaths.{MatchesIn, SetsHaveMatch
 pub use Rattle.automata_hybrid.specs.Walks.Contracts.{IsWhich}
 -- The two DFAs of a regex are a sound pair: spans need it. A regex that `build_from_nfa` returns is one.
 pub use Rattle.regex_automata.specs.Regexes.SoundPairs.{IsSoundPair}
+-- A match by the ordered paths: its pattern, its end, and the start of the path; whether there is one; all of them, one
+-- after another; the forward DFA's NFA and match kind, as these need them.
+pub use Rattle.automata_base.specs.Haystacks.Matches.{Match}
+pub use Rattle.automata_base.specs.Answers.Spans.{AreSpans, IsMatch, IsSpan}
+pub use Rattle.regex_automata.specs.Regexes.SoundPairs.{forward_engine}
+-- What `find` and `is_match` return by the two DFAs and the input alone.
+pub use Rattle.regex_automata.specs.Spans.Contracts.{IsSpanOf, IsTruthOf}
 -- One item of `find_iter`: the match or the error that it gives, and what is left to be searched after it; its match
 -- may be sliced from the haystack.
 pub use Rattle.regex_automata.specs.Spans.Iteration.{GivesItem, LiesInHaystack}
@@ -56,3 +62,10 @@ pub use Rattle.automata_hybrid.specs.Steps.BySteps.{HoldsRow}
 -- unit at an offset; what a step over it means; the first pattern of a match state; the first match, or none.
 pub use Rattle.automata_hybrid.specs.Steps.BySteps.{StandsAt, IsUnitAt, IsStepAt, IsFirstPattern, HasPatterns}
 pub use Rattle.automata_hybrid.specs.Steps.BySteps.{IsFirstMatch, FirstMatchIsFound}
+-- Nothing but a lack of memory prevents an answer. All that a search uses is cached. What a search does to its cache:
+-- among others, until the next clear nothing is lost, and if all that it uses is cached, nothing changes but the
+-- progress.
+pub use Rattle.automata_hybrid.specs.Searches.Contracts.{IsMemory, IsSearchEffect, IsUnhindered}
+pub use Rattle.automata_hybrid.specs.Searches.Cached.{Knows}
+pub use Rattle.automata_hybrid.specs.Cache.Growth.{ClearedNothing, IsGrown, IsStill}
+pub use Rattle.regex_automata.specs.Spans.Effects.{IsSpanEffect, IsTruthEffect}

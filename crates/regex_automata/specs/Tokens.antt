@@ -19,7 +19,7 @@ use Rattle.automata_hybrid.specs.Machines.Machine.{Machine}
 use Rattle.automata_hybrid.specs.Searches.Contracts.{IsHalf, IsMemory, IsUnhindered}
 use Rattle.automata_hybrid.specs.Searches.Progress.{EndsProgress, LeavesProgress}
 use Rattle.automata_hybrid.specs.Searches.Passes.{IsFound, IsRefused, WithoutBase}
-use Rattle.regex_automata.specs.Spans.Costs.{IsPassCost}
+use Rattle.automata_hybrid.specs.Searches.Costs.{IsCostOfPass}
 use Rattle.regex_automata.specs.declared.tokens.error.TokenError.{TokenError}
 use Rattle.regex_automata.specs.declared.tokens.error.TokenError.TheVariants.{NoToken, Search}
 use Rattle.regex_automata.specs.declared.tokens.token.Token.{Token}
@@ -125,7 +125,7 @@ HasLearnedAt m c h end place (Err (Search e)) = Unit {0}
 pub record IsTokenEffect (m : Machine) (h : List ℕ) (end place : ℕ) (old new : CacheView)
     (item : Option (Result Token TokenError)) : Type 0 where
   -- it is one pass at most
-  pub cost : IsPassCost (end - place) (KnowsItsStart Forward m old.store (asked h end place)) old new
+  pub cost : IsCostOfPass Forward m (asked h end place) old new
   -- until the next clear nothing is lost
   pub grown : IsGrown old new
   -- and what it used is cached

@@ -1,10 +1,11 @@
 //! Laws about searches over two lazy DFAs. The contract of each function is the law; its body only cites other laws.
 ghost use Rattle.regex_automata.specs.Spans.Agreement.{MatchesAgree, TruthIffFound, TruthsAgree};
 
-use automata_base::laws::passes_report_paths;
-pub use automata_base::laws::{start_is_right, walk_is_right};
+pub use automata_base::laws::{
+    passes_report_paths, reported_is_right, start_is_right, steps_are_right, walk_is_right,
+};
 pub use automata_hybrid::laws::{
-    answers_agree, first_match_is_found, sets_have_matching, walks_agree,
+    answers_agree, costs_are_few, first_match_is_found, known_stays, sets_have_matching, walks_agree,
 };
 
 /// Neither earlier searches nor the capacity of the caches show in a match: two searches for one input that answer find

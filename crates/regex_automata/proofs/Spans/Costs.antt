@@ -6,11 +6,11 @@ use Rattle.automata_base.specs.Answers.Answers.{Half}
 use Rattle.automata_base.specs.Haystacks.Input.{Input}
 use Rattle.automata_base.specs.Haystacks.Matches.{HalfMatch, Match}
 use Rattle.automata_base.specs.Answers.Spans.{IsShort, back}
-use Rattle.automata_base.specs.Haystacks.Tapes.{Backward, Forward}
+use Rattle.automata_base.specs.Haystacks.Tapes.{Backward, Direction, Forward}
 use Rattle.automata_base.specs.declared.util.search.Anchored.TheVariants.{No, Yes}
 use Rattle.automata_hybrid.specs.Searches.Agreement.{AnswersAgree}
 use Rattle.automata_hybrid.specs.Cache.Caches.{CacheView}
-use Rattle.automata_hybrid.specs.Searches.Costs.{IsCostOfSearch}
+use Rattle.automata_hybrid.specs.Searches.Costs.{IsCostOfPass, IsCostOfSearch}
 use Rattle.automata_hybrid.specs.Cache.Growth.{IsGrown}
 use Rattle.automata_hybrid.specs.Searches.Cached.{Knows, KnowsItsStart}
 use Rattle.automata_hybrid.specs.Machines.Machine.{Machine}
@@ -19,7 +19,7 @@ use Rattle.automata_hybrid.specs.Searches.Bounds.{LiesPast}
 use Rattle.automata_hybrid.proofs.Searches.Costs.{cost_known, cost_once}
 use Rattle.automata_hybrid.proofs.Cache.Growth.{clears_none}
 use Rattle.automata_hybrid.proofs.Searches.Bounds.{found_within}
-use Rattle.regex_automata.specs.Spans.Costs.{IsBackCost, IsPassCost, KnowsBackStart}
+use Rattle.regex_automata.specs.Spans.Costs.{IsBackCost}
 use Rattle.regex_automata.specs.Spans.Outcomes.{FindsMatch, IsStartFound, MatchLiesIn}
 use Rattle.regex_automata.specs.Regexes.Caches.{KnowsBack, KnowsBoth}
 use Rattle.regex_automata.specs.Regexes.SoundPairs.{forward_engine}
@@ -28,23 +28,18 @@ use Rattle.regex_automata.specs.declared.hybrid.regex.caches.Cache.{Cache}
 use Rattle.regex_automata.proofs.Results.{none_some, same_some, some_none}
 use Rattle.automata_base.proofs.Answers.Starts.{yes_no}
 
--- what a pass costs
-pass_once :
-    (bytes : ℕ) (K : Type 0) (old new : CacheView)
-    → new.count ≤ old.count + (bytes + 2) → (K → new.count ≤ old.count + (bytes + 1)) → IsGrown old new
-    → IsPassCost bytes K old new
-pass_once bytes K old new once begun grown =
-    record { once = once; started = begun; room = λ r. clears_none old new (bytes + 2) grown once r }
-
 -- an anchored search is one pass
 pub cost_anchored :
-    (m : Machine) (input : Input) (old new : CacheView) → input.anchored ≡ Yes
-    → IsCostOfSearch Forward m input old new → IsGrown old new
-    → IsPassCost (input.end - input.start) (KnowsItsStart Forward m old.store input) old new
-cost_anchored m input old new anchored passes grown =
+    (way : Direction) (m : Machine) (input : Input) (old new : CacheView) → input.anchored ≡ Yes
+    → IsCostOfSearch way m input old new → IsGrown old new → IsCostOfPass way m input old new
+cost_anchored way m input old new anchored passes grown =
     let whole : Skips m × (input.anchored ≡ No) → ⊥ = (λ s. yes_no (sym anchored ∙ s.1)) in
-    pass_once (input.end - input.start) (KnowsItsStart Forward m old.store input) old new
-    (cost_once Forward m input old new passes whole) (cost_known Forward m input old new passes whole) grown
+    let once = cost_once way m input old new passes whole in
+    record {
+      counted = once;
+      started = cost_known way m input old new passes whole;
+      room = λ r. clears_none old new (input.end - input.start + 2) grown once r;
+    }
 
 -- nothing is in reach of the search back that was not in reach before
 pub back_reach :
@@ -58,18 +53,8 @@ pub cost_back :
     → (IsShort (forward_engine p) input half → ⊥)
     → IsCostOfSearch Backward p.reverse rest old new → IsGrown old new → IsBackCost p input half old new
 cost_back p input rest half old new same long passes grown =
-    inr (
-      long,
-      pass_once (half.offset - half.base) (KnowsBackStart p old.store input half) old new
-          (cost_once Backward p.reverse (back input half) old new here whole)
-          (cost_known Backward p.reverse (back input half) old new here whole) grown,
-    )
-  where
-    here : IsCostOfSearch Backward p.reverse (back input half) old new
-    here = subst (λ (i : Input). IsCostOfSearch Backward p.reverse i old new) same passes
-
-    whole : Skips p.reverse × ((back input half).anchored ≡ No) → ⊥
-    whole s = yes_no s.1
+    let here = subst (λ (i : Input). IsCostOfSearch Backward p.reverse i old new) same passes in
+    inr (long, cost_anchored Backward p.reverse (back input half) old new refl here grown)
 
 -- what the search back found, as a half match with its base
 pub back_some :

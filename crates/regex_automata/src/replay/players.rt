@@ -75,11 +75,11 @@ impl<'r, 'h> Player<'r, 'h> {
             Request::Find(input) => Reply::Span(regex.find(&mut self.cache, input)),
             Request::IsMatch(input) => Reply::Truth(regex.is_match(&mut self.cache, input)),
             Request::Iterate(input) => {
-                let (found, error) = matches_upto(self.alloc, regex, &mut self.cache, same(input));
+                let (found, error) = matches_upto(self.alloc, regex, &mut self.cache, input.copied());
                 Reply::Spans { found, error }
             }
             Request::Tokenise(input) => {
-                let (found, error) = tokens_upto(self.alloc, regex, &mut self.cache, same(input));
+                let (found, error) = tokens_upto(self.alloc, regex, &mut self.cache, input.copied());
                 Reply::Tokens { found, error }
             }
             Request::BeginWalk { reverse, input } => self.begin(*reverse, input),
@@ -110,7 +110,7 @@ impl<'r, 'h> Player<'r, 'h> {
         let walk = KeptWalk {
             regex: self.current,
             reverse,
-            input: same(input),
+            input: input.copied(),
             state: OverlappingState::start(),
         };
         let Ok(()) = self.walks.push(walk) else {
@@ -160,14 +160,4 @@ impl<'r, 'h> Player<'r, 'h> {
             },
         }
     }
-}
-
-/// The same input. A clone's type allows an error; this has none.
-fn same<'h>(input: &Input<'h>) -> Input<'h>
-    ensures { result ≡ input.now }
-{
-    Input::new(input.haystack())
-        .range(input.start()..input.end())
-        .anchored(input.get_anchored())
-        .earliest(input.get_earliest())
 }

@@ -58,7 +58,11 @@ impl From<ReverseError> for RegexBuildError {
     ghost from_gives = { λ error e. e ≡ reverse_refusal error };
 
     fn from(error: ReverseError) -> RegexBuildError {
-        reverse_error(error)
+        match error {
+            ReverseError::Starts => RegexBuildError::Starts,
+            ReverseError::TooLarge => RegexBuildError::TooLarge,
+            ReverseError::OutOfMemory => RegexBuildError::OutOfMemory,
+        }
     }
 }
 
@@ -75,17 +79,6 @@ impl<T: Drop> From<AllocFailed<T>> for RegexBuildError {
 
     fn from(_error: AllocFailed<T>) -> RegexBuildError {
         RegexBuildError::OutOfMemory
-    }
-}
-
-/// The error for an NFA that cannot be reversed.
-fn reverse_error(error: ReverseError) -> RegexBuildError
-    ensures { result ≡ reverse_refusal error }
-{
-    match error {
-        ReverseError::Starts => RegexBuildError::Starts,
-        ReverseError::TooLarge => RegexBuildError::TooLarge,
-        ReverseError::OutOfMemory => RegexBuildError::OutOfMemory,
     }
 }
 
@@ -110,7 +103,7 @@ fn tested_reverse(forward: &NFA) -> Result<NFA, RegexBuildError>
         Ok(false) => Err(RegexBuildError::NotUtf8),
         Ok(true) => match forward.reversed() {
             Ok(reverse) => Ok(reverse),
-            Err(error) => Err(reverse_error(error)),
+            Err(error) => Err(RegexBuildError::from(error)),
         },
     }
 }

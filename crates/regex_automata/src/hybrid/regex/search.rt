@@ -30,17 +30,6 @@ fn backward<'h>(input: &Input<'h>, half: HalfMatch, base: usize) -> Input<'h>
         .anchored(Anchored::Yes)
 }
 
-/// Whether it is the mode `Anchored::No`.
-fn is_unanchored(mode: Anchored) -> bool
-    ensures yes { result ≡ true → mode ≡ Anchored.No }
-    ensures no { result ≡ false → mode ≡ Anchored.No → ⊥ }
-{
-    match mode {
-        Anchored::No => true,
-        Anchored::Yes | Anchored::Pattern(_) => false,
-    }
-}
-
 impl Regex {
     /// The first match, by the match kind of the forward DFA; with an earliest input, the match that ends first. The
     /// reverse DFA searches back from its end, and finds its start.
@@ -97,7 +86,7 @@ impl Regex {
         if base == half.offset() {
             return true;
         }
-        if !is_unanchored(input.get_anchored()) {
+        if input.get_anchored().is_anchored() {
             return true;
         }
         self.forward.get_nfa().is_always_start_anchored()

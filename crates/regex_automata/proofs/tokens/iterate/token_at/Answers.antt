@@ -62,7 +62,7 @@ returns-in_err-token-clause-effect c =
     (subst (λ (i : Input). IsSearchEffect Forward c.forward-dfa.result.now i c.args.cache.now.forward new found) c.asked-input.ensures
     (subst (λ (old : CacheView). IsSearchEffect Forward c.forward-dfa.result.now c.asked-input.result old new found) c.forward_mut.ensures.value c.try_search_fwd-found.ensures.effect)) in
     record {
-      cost = cost_anchored c.args.regex.now.forward (asked c.args.haystack.now c.args.end c.args.place) c.args.cache.now.forward new refl s.cost s.grown;
+      cost = cost_anchored Forward c.args.regex.now.forward (asked c.args.haystack.now c.args.end c.args.place) c.args.cache.now.forward new refl s.cost s.grown;
       grown = s.grown;
       learned = λ nothing.
           subst (HasLearnedAt c.args.regex.now.forward new.store c.args.haystack.now c.args.end c.args.place)
@@ -90,7 +90,7 @@ returns-clause-effect c =
     (subst (λ (i : Input). IsSearchEffect Forward c.forward-dfa.result.now i c.args.cache.now.forward new found) c.asked-input.ensures
     (subst (λ (old : CacheView). IsSearchEffect Forward c.forward-dfa.result.now c.asked-input.result old new found) c.forward_mut.ensures.value c.try_search_fwd-found.ensures.effect)) in
     record {
-      cost = cost_anchored c.args.regex.now.forward (asked c.args.haystack.now c.args.end c.args.place) c.args.cache.now.forward new refl s.cost s.grown;
+      cost = cost_anchored Forward c.args.regex.now.forward (asked c.args.haystack.now c.args.end c.args.place) c.args.cache.now.forward new refl s.cost s.grown;
       grown = s.grown;
       learned = λ nothing.
           token_learns c.args.regex.now.forward new.store c.args.haystack.now c.args.end c.args.place found c.new.result c.in_ok-token.token
