@@ -5,7 +5,8 @@ pub use automata_base::laws::{
     passes_report_paths, reported_is_right, start_is_right, steps_are_right, walk_is_right,
 };
 pub use automata_hybrid::laws::{
-    answers_agree, costs_are_few, first_match_is_found, known_stays, sets_have_matching, walks_agree,
+    answers_agree, costs_are_few, first_match_is_found, known_stays, sets_have_matching,
+    walks_agree,
 };
 
 /// Neither earlier searches nor the capacity of the caches show in a match: two searches for one input that answer find

@@ -3,7 +3,7 @@ use Rattle.std.proofs.Common.{◌≡◌, ◌∙◌, ℕ, zero, suc, ◌+◌, ◌
 use Rattle.std.proofs.Common.{append_assoc, append-nil, add-one, ap, arith, drop-cons, refl, subst, sym}
 use Rattle.std.proofs.Math.ListN.{drop_of_length-le}
 use Rattle.regex_automata.specs.Replay.Histories.{History, start, after}
-use Rattle.regex_automata.specs.Replay.Caches.{AreAnswered, AreAnsweredAfter, AreMade}
+use Rattle.regex_automata.specs.Replay.Caches.{AreAnsweredAfter, AreMade}
 use Rattle.regex_automata.specs.Replay.Replies.{IsReply, AreReplies, AreRepliesAfter}
 use Rattle.regex_automata.specs.declared.hybrid.regex.caches.Cache.{Cache}
 use Rattle.regex_automata.specs.declared.hybrid.regex.Regex.{Regex}

@@ -12,7 +12,7 @@ use Rattle.automata_hybrid.specs.Searches.Agreement.{AnswersAgree}
 use Rattle.automata_hybrid.specs.Cache.Caches.{CacheView}
 use Rattle.automata_hybrid.specs.Searches.Costs.{IsCostOfPass, IsCostOfSearch}
 use Rattle.automata_hybrid.specs.Cache.Growth.{IsGrown}
-use Rattle.automata_hybrid.specs.Searches.Cached.{Knows, KnowsItsStart}
+use Rattle.automata_hybrid.specs.Searches.Cached.{Knows}
 use Rattle.automata_hybrid.specs.Machines.Machine.{Machine}
 use Rattle.automata_hybrid.specs.Searches.Passes.{IsFound, NoQuitInReach, Skips, WithoutBase, with_base}
 use Rattle.automata_hybrid.specs.Searches.Bounds.{LiesPast}

@@ -1,7 +1,7 @@
 -- The matches that a loop over an iteration collects.
 use Rattle.std.proofs.Common.{ℕ, suc, ◌≡◌, ◌∙◌, inl, inr, Bool, true, false, List, [], ◌∷◌, ◌++◌, Option, Some, None}
 use Rattle.std.proofs.Common.{refl, sym, ap, subst}
-use Rattle.std.specs.Prelude.{Ok, Err}
+use Rattle.std.specs.Prelude.{Ok}
 use Rattle.automata_base.specs.Haystacks.Input.{Input}
 use Rattle.automata_base.specs.Haystacks.Matches.{Match}
 use Rattle.automata_base.specs.Answers.Spans.{AreMatches, IsEmptyAt, IsNextItem, from}

@@ -75,11 +75,21 @@ impl<'r, 'h> Player<'r, 'h> {
             Request::Find(input) => Reply::Span(regex.find(&mut self.cache, input)),
             Request::IsMatch(input) => Reply::Truth(regex.is_match(&mut self.cache, input)),
             Request::Iterate(input) => {
-                let (found, error) = matches_upto(self.alloc, regex, &mut self.cache, input.copied());
+                let (found, error) = matches_upto(
+                    self.alloc,
+                    regex,
+                    &mut self.cache,
+                    input.copied(),
+                );
                 Reply::Spans { found, error }
             }
             Request::Tokenise(input) => {
-                let (found, error) = tokens_upto(self.alloc, regex, &mut self.cache, input.copied());
+                let (found, error) = tokens_upto(
+                    self.alloc,
+                    regex,
+                    &mut self.cache,
+                    input.copied(),
+                );
                 Reply::Tokens { found, error }
             }
             Request::BeginWalk { reverse, input } => self.begin(*reverse, input),

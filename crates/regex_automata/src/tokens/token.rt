@@ -99,6 +99,8 @@ impl<'h> Token<'h> {
 }
 
 impl<'h> Clone for Token<'h> {
+    ghost use Rattle.std.specs.Prelude.{◌≡◌};
+
     ghost is_clone = { λ a b. b ≡ a };
 
     fn clone(&self) -> Result<Token<'h>, AllocError> {

@@ -1,12 +1,8 @@
-use Rattle.std.proofs.Common.{◌≡◌, ◌∙◌, refl, sym, subst, None}
-use Rattle.automata_hybrid.specs.declared.dfa.cache.Cache.TheInside.{Inside}
+use Rattle.std.proofs.Common.{refl, sym, subst}
 use Rattle.automata_hybrid.specs.Cache.Caches.{CacheView}
 use Rattle.automata_hybrid.specs.Cache.Usage.{Fits}
-use Rattle.automata_hybrid.specs.Cache.Changes.{AddsNext, put_found}
-use Rattle.automata_hybrid.specs.Cache.Clears.{row_of}
-use Rattle.automata_hybrid.specs.Cache.Stores.{with_table}
-use Rattle.automata_hybrid.specs.Cache.Table.{IsNewState, Names, id_of}
-use Rattle.automata_hybrid.proofs.Cache.Additions.{new_there, next_clears, next_fits}
+use Rattle.automata_hybrid.specs.Cache.Changes.{AddsNext}
+use Rattle.automata_hybrid.proofs.Cache.Additions.{next_fits}
 use Rattle.automata_hybrid.proofs.Searches.PassState.{false_true}
 use Rattle.automata_hybrid.proofs.dfa.cache.Cache.add_next.Goals as goal
 

@@ -3,8 +3,7 @@ use Rattle.automata_hybrid.specs.declared.dfa.row.Row.{Row}
 use Rattle.automata_hybrid.specs.Cache.Caches.{CacheView}
 use Rattle.automata_hybrid.specs.Cache.Usage.{Fits}
 use Rattle.automata_hybrid.specs.Cache.Changes.{AddsStart}
-use Rattle.automata_hybrid.specs.Cache.Table.{IsNewState}
-use Rattle.automata_hybrid.proofs.Cache.Additions.{new_there, start_clears, start_fits}
+use Rattle.automata_hybrid.proofs.Cache.Additions.{start_fits}
 use Rattle.automata_hybrid.proofs.Searches.PassState.{false_true}
 use Rattle.automata_hybrid.proofs.dfa.cache.Cache.add_start.Goals as goal
 

@@ -1,12 +1,11 @@
-use Rattle.std.proofs.Common.{refl, sym, subst}
+use Rattle.std.proofs.Common.{sym, subst}
 use Rattle.automata_hybrid.specs.declared.dfa.row.Row.{Row}
 use Rattle.automata_hybrid.specs.Cache.Caches.{CacheView}
 use Rattle.automata_base.specs.Powersets.Powerset.{cost}
 use Rattle.automata_hybrid.specs.Cache.Usage.{Fits}
 use Rattle.automata_hybrid.specs.Cache.Changes.{AddsStart}
 use Rattle.automata_hybrid.specs.Cache.Table.{IsNewState}
-use Rattle.automata_hybrid.proofs.Cache.Additions.{new_there, start_clears, start_fits}
-use Rattle.automata_hybrid.proofs.Searches.PassState.{false_true}
+use Rattle.automata_hybrid.proofs.Cache.Additions.{new_there, start_clears}
 use Rattle.automata_hybrid.proofs.dfa.cache.Cache.clear_and_add_start.Goals as goal
 
 pub replace-requires-clause-new : goal.replace-requires-clause-new

@@ -1,4 +1,4 @@
-use Rattle.std.proofs.Common.{◌≡◌, sym, List, [], ◌∷◌, ◌++◌, ◌^◌, ◌<◌, ◌≤◌, length, cond, Some, arith, subst, None}
+use Rattle.std.proofs.Common.{◌≡◌, [], ◌∷◌, ◌++◌, ◌^◌, ◌<◌, ◌≤◌, length, cond, Some, arith, None}
 use Rattle.std.specs.HashMap.{get}
 use Rattle.std.proofs.lemmas.Grind.{common_steps}
 use Rattle.automata_hybrid.proofs.Cache.Rows.{IsTable-with_row, IsTable-map, Names-new, Names-more}

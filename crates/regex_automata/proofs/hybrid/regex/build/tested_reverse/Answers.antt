@@ -25,7 +25,7 @@ unreversed o a OutOfMemory passes starts large = passes.0
 
 pub returns-in-Err-reversed-clause-refused : goal.returns-in-Err-reversed-clause-refused
 returns-in-Err-reversed-clause-refused c = λ o.
-    subst (IsRefusal o c.args.forward.now) (sym c.reverse_error.ensures)
+    subst (IsRefusal o c.args.forward.now) (sym c.from.ensures)
     (unreversed o c.args.forward.now c.in-Err-reversed.error
     ((c.if-not-skips_lazily.ensures.0 refl, c.if-not-is_look_acyclic.ensures.0 refl), c.in-Ok-true.ensures.reads.0 c.in-Ok-true.field-0-test)
     (λ is. c.in-Err-reversed.ensures.starts (ap Err is)) (λ is. c.in-Err-reversed.ensures.large (ap Err is)))

@@ -16,5 +16,5 @@ returns-clause-at c = λ h a. record {
   regex = a.regex;
   of = a.of;
   walks = subst (λ (ks : List KeptWalk). AreWalks c.args.self.now.regexes.now (h.walks ++ record { regex = h.current; reverse = c.args.reverse; input = c.args.input.now; reported = 0 } ∷ []) ks) (sym c.in-Ok.ensures.items)
-      (walks_push c.args.self.now.regexes.now h.walks c.args.self.now.walks.items _ _ a.walks (record { regex = a.current; reverse = refl; input = c.same.ensures; reported = λ r at. fresh_answered (direction_of c.args.reverse) (dfa_of c.args.reverse r) c.same.result c.start.result c.start.ensures }));
+      (walks_push c.args.self.now.regexes.now h.walks c.args.self.now.walks.items _ _ a.walks (record { regex = a.current; reverse = refl; input = c.copied.ensures; reported = λ r at. fresh_answered (direction_of c.args.reverse) (dfa_of c.args.reverse r) c.copied.result c.start.result c.start.ensures }));
 }
