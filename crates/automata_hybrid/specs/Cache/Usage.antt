@@ -38,7 +38,7 @@ Fits c extra =
 abbrev pub FitsAny : Stored → Type 0
 FitsAny c = (extra : ℕ) → extra ≤ greatest c.table.of → Fits c extra
 
--- too few bytes were searched for so many states, where a number for each is set
+-- too few bytes were searched for so many states: fewer than the number that is set for each; any, if none is set
 abbrev pub short_of : Option ℕ → ℕ → ℕ → Bool
 short_of None states searched = true
 short_of (Some bytes) states searched = nat_lt searched (saturated (bytes * states))

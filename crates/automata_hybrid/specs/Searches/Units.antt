@@ -88,5 +88,5 @@ pub record IsEndProgress {T : Type 0} (way : Direction) (m : Machine) (input : I
   pub ended :
       OnOk result ((mid : Stored) × IsUnitRead way m input k (with_search_moved way input k old) mid
       × (new ≡ with_search_ended way input k mid))
-  -- If it fails, the search has ended there at a quit byte, and else is left there; back it has ended before.
+  -- If it fails, the search has ended there at a quit byte, or else is left there; a pass backward has ended before.
   pub left : OnErr result (IsPassLeftAt way m input k old new)

@@ -23,7 +23,7 @@ const AGAIN: usize = 2048;
 /// Ranges of more classes than these are not kept from one run to the next, since each class is tested then.
 const CLASSES: u16 = 8;
 
-/// A scan ends once the bytes outside its ranges, `LANES` times, are more than the bytes that it read and so many.
+/// A scan ends if more than one byte in `LANES` was outside its ranges, counted as if it had read so many bytes more.
 const MISSES: usize = 256;
 
 /// What was found of a row's self-loop: two ranges of its bytes.
