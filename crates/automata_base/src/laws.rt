@@ -28,8 +28,8 @@ pub fn late_is_right()
     ensures pairs { PairsAreRight }
 {}
 
-/// The start is the right one: over a true pair the reverse pass finds where the chosen path began. Every reverse NFA
-/// finds the farthest place, even one with look cycles, and that is enough.
+/// The start is the right one: over a true pair whose forward NFA keeps the UTF-8 promise, the reverse pass finds where
+/// the chosen path began. Every reverse NFA finds the farthest place, even one with look cycles, and that is enough.
 pub fn start_is_right()
     ensures starts { StartsAreRight }
     ensures found { SpansAreFound }
