@@ -101,11 +101,11 @@ abbrev pub IsMet : Direction → Machine → Stored → Input → (k id met : �
 IsMet way m c input k id met =
     met < unknown_id → (k < input.end - input.start) × (met ≡ known_step m c id (next (tape_in way input) k))
 
--- so is each transition that a pass took on its first `k` units
+-- each transition that a pass took on its first `k` units is cached, at a class that rows have
 abbrev pub HasLearned : Direction → Machine → Stored → Input → ℕ → Type 0
 HasLearned way m c input k = (j : ℕ) → j < k → Reads way m input j → HasLearnedUnit way m c input j
 
--- and its start, and all of them
+-- all that a pass used is cached: its start state, and each transition that it took
 abbrev pub HasLearnedAll : Direction → Machine → Stored → Input → Type 0
 HasLearnedAll way m c input =
     KnowsItsStart way m c input × ((k : ℕ) → Reads way m input k → HasLearnedUnit way m c input k)
