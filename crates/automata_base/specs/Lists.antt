@@ -2,6 +2,7 @@
 use Rattle.std.specs.Prelude.{ℕ, zero, suc, ◌≡◌, ◌&&◌, Bool, true, ltb, List, [], ◌∷◌, ◌⊎◌, Option, Some, None}
 use Rattle.automata_base.specs.Paths.Order.{Before, Upto}
 
+-- A member of the list.
 abbrev pub In : ℕ → List ℕ → Type 0
 In x [] = ⊥
 In x (y ∷ ys) = (x ≡ y) ⊎ In x ys
@@ -12,7 +13,7 @@ nth [] k = None
 nth (x ∷ xs) zero = Some x
 nth (x ∷ xs) (suc k) = nth xs k
 
--- Each state has a least key, which is before all keys of the states behind it.
+-- Each state has a least key, which is before all keys of the states after it.
 abbrev pub Sorted : (ℕ → List ℕ → Type 0) → List ℕ → Type 0
 Sorted P [] = Unit {0}
 Sorted P (q ∷ rest) =
@@ -23,6 +24,7 @@ Sorted P (q ∷ rest) =
 abbrev pub IsListOf : (ℕ → List ℕ → Type 0) → List ℕ → Type 0
 IsListOf P xs = ((q : ℕ) (key : List ℕ) → P q key → In q xs) × Sorted P xs
 
+-- The list with this element in front, if there is one.
 abbrev pub cons_some : Option ℕ → List ℕ → List ℕ
 cons_some None ys = ys
 cons_some (Some y) ys = y ∷ ys
@@ -41,7 +43,7 @@ From S roots q (k ∷ path) = (root : ℕ) × (nth roots k ≡ Some root) × S r
 abbrev pub IsSet : (ℕ → Type 0) → List ℕ → Type 0
 IsSet P xs = ((q : ℕ) → In q xs → P q) × ((q : ℕ) → P q → In q xs)
 
--- Each is below the bound.
+-- Whether each number of the list is below the bound.
 abbrev pub all_below : ℕ → List ℕ → Bool
 all_below N [] = true
 all_below N (x ∷ xs) = ltb x N && all_below N xs

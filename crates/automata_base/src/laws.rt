@@ -16,8 +16,10 @@ ghost use Rattle.automata_base.specs.Answers.Within.{StatesReportOwn, ReportedLi
 
 use crate::nfa::thompson::NFA;
 
-/// Late is right: the walk over lists of NFA states whose matches are delayed by one byte, and whose looks are decided
-/// when the next byte is known, reports what the ordered paths select.
+/// Late is right: a pass, whose matches are delayed by one byte, and whose looks are decided when the next byte is
+/// known, reports what the ordered paths select, if no cycle of epsilon edges passes a look. For every NFA an earliest
+/// search reports the nearest end, and under `MatchKind::All` any other one the farthest end, and an overlapping search
+/// the patterns of all accepting paths.
 pub fn late_is_right()
     ensures searches { SearchesAreRight }
     ensures walks { WalksAreRight }
@@ -26,8 +28,8 @@ pub fn late_is_right()
     ensures pairs { PairsAreRight }
 {}
 
-/// The start is the right one: over a true pair the reverse pass finds where the chosen path began. Every reverse NFA
-/// finds the farthest place, even one with look cycles, and that is enough.
+/// The start is the right one: over a true pair whose forward NFA keeps the UTF-8 promise, the reverse pass finds where
+/// the chosen path began. Every reverse NFA finds the farthest place, even one with look cycles, and that is enough.
 pub fn start_is_right()
     ensures starts { StartsAreRight }
     ensures found { SpansAreFound }
@@ -58,8 +60,9 @@ pub fn steps_are_alike()
     ensures dead { DeadStaysDead }
 {}
 
-/// What a pass reports, byte by byte, is what the ordered paths through the tape select; and if offsets inside a UTF-8
-/// encoded character are skipped, passes report one answer.
+/// What a pass reports, byte by byte, is what the ordered paths through the tape select, if no cycle of epsilon edges
+/// passes a look. For every NFA it is the nearest end of an earliest search, or under `MatchKind::All` the farthest end
+/// of any other one. Passes report one answer, also if offsets inside a UTF-8 encoded character are skipped.
 pub fn passes_report_paths()
     ensures selects { PassesSelect }
     ensures nearest { PassesFindNearest }
@@ -67,8 +70,9 @@ pub fn passes_report_paths()
     ensures one { ReportedIsOne }
 {}
 
-/// What passes report is the answer of the ordered paths, both with offsets inside characters skipped; and for every
-/// NFA the nearest end, or under `MatchKind::All` the farthest one. It lies in the span, and its pattern is the NFA's.
+/// What passes report is the answer of the ordered paths, both with offsets inside characters skipped, if no cycle of
+/// epsilon edges passes a look; and for every NFA the nearest end of an earliest search, or under `MatchKind::All` the
+/// farthest end of any other one. It lies in the span, and its pattern is the NFA's.
 pub fn reported_is_right(nfa: &NFA)
     ensures answer { ReportedIsRight nfa.now }
     ensures ends { ReportedEndsAreRight nfa.now }
@@ -77,9 +81,9 @@ pub fn reported_is_right(nfa: &NFA)
     let _states = nfa.states();
 }
 
-/// What the pass of an overlapping walk reports is one list, and it is the list of the ordered paths; and for every
-/// NFA it has, under `MatchKind::All`, the pairs of all accepting paths. Each pair lies in the span, and its pattern is
-/// the NFA's.
+/// What the pass of an overlapping search reports is one list. If no cycle of epsilon edges passes a look, it is the
+/// list of the ordered paths; and for every NFA it has, under `MatchKind::All`, the pairs of all accepting paths. Each
+/// pair lies in the span, and its pattern is the NFA's.
 pub fn walk_is_right(nfa: &NFA)
     ensures reported { WalksAreReported nfa.now }
     ensures one { WalksAreOne }
@@ -99,8 +103,9 @@ pub fn prefixes_skip_lazily()
     ensures { PrefixesSkipLazily }
 {}
 
-/// An NFA and the reversed one are a true pair: each edge of the one is an edge of the other that leads back, with its
-/// look flipped, and the paths of a pattern begin at its matches and end where those of the other begin.
+/// An NFA that skips lazily and the reversed one are a true pair: each edge of the one is an edge of the other that
+/// leads back, with its look flipped, and the paths of a pattern begin at its matches and end where those of the other
+/// begin.
 pub fn reversed_is_true()
     ensures pair { ReversedIsTrue }
     ensures patterns { PatternsAreReversed }

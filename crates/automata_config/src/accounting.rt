@@ -1,3 +1,4 @@
+//! The accounted bytes of a cache, and the least capacity that a cache needs.
 ghost use Rattle.std.specs.Prelude.{◌≡◌, ◌≤◌, ◌+◌, ◌*◌, ◌^◌, length};
 ghost use Rattle.automata_base.specs.Powersets.Accounting as bytes;
 

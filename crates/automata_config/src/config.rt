@@ -1,3 +1,4 @@
+//! The options of a lazy DFA, and what is settled by them for an NFA.
 ghost use Rattle.std.specs.Prelude.{◌≡◌, ◌<◌, ◌||◌, ℕ, length, nat_le};
 ghost use Rattle.automata_base.specs.ByteClasses.Classes.{is_quit};
 ghost use Rattle.automata_base.specs.Haystacks.LookSets.{truth_of};
@@ -322,8 +323,9 @@ impl Config {
 
     /// What a DFA of the NFA is built from.
     ///
-    /// It fails if a Unicode word boundary cannot be decided, if the capacity is below the minimum, or if the offset of
-    /// some row at the minimum is too great for an ID; the error is that of the first test that fails.
+    /// It fails if a Unicode word boundary cannot be decided, if the capacity is below the minimum and the check of it
+    /// is not skipped, or if the offset of some row at the minimum is too great for an ID. The error is that of the
+    /// first test that fails.
     pub fn settle(&self, nfa: &NFA) -> Result<Settled, BuildError>
         ensures ok { IfOk result (IsSettled self.now nfa.now) }
         ensures refused { result_err result ≡ settling_refusal self.now nfa.now }
@@ -447,7 +449,7 @@ fn with_non_ascii(quits: &[bool; 256]) -> [bool; 256]
     all
 }
 
-/// What a DFA is built from, as its NFA and its settings give it.
+/// What a DFA is built from: what its settings make of its NFA.
 #[derive(Clone, Copy, Debug)]
 pub struct Settled {
     classes: ByteClasses,

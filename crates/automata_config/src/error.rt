@@ -1,3 +1,4 @@
+//! Why a DFA cannot be built, and why its calls fail.
 ghost use Rattle.std.specs.Prelude.{◌≡◌};
 ghost use Rattle.automata_config.specs.declared.error.BuildError.TheVariants.{OutOfMemory as BuildOutOfMemory};
 ghost use Rattle.automata_config.specs.declared.error.StepError.TheVariants.{Cache as StepCache};
@@ -25,14 +26,15 @@ pub enum BuildError {
     /// Some offset in the smallest table is greater than an ID can hold.
     #[error("failed to create LazyStateID from {attempted}, which exceeds 134217727")]
     InsufficientStateIDCapacity { attempted: usize },
+    /// An allocation failed.
     #[error("out of memory")]
     OutOfMemory,
-    /// The two DFAs of a regex are not for the same patterns.
+    /// The two DFAs of a regex do not have equally many patterns.
     #[error("forward DFA has {forward} patterns and reverse DFA has {reverse}")]
     PatternCounts { forward: usize, reverse: usize },
 }
 
-/// The cache has been cleared as often as the settings allow.
+/// The cache is full, and the settings do not allow another clear.
 #[derive(Clone, Copy, Debug, PartialEq, Eq, Error)]
 #[error("lazy DFA cache has been cleared too many times")]
 pub struct CacheError;
@@ -40,8 +42,10 @@ pub struct CacheError;
 /// Why a step fails.
 #[derive(Clone, Copy, Debug, PartialEq, Eq, Error)]
 pub enum StepError {
+    /// The next state does not fit, and the settings do not allow another clear.
     #[error("{0}")]
     Cache(CacheError),
+    /// An allocation failed.
     #[error("out of memory")]
     OutOfMemory,
 }
@@ -49,6 +53,7 @@ pub enum StepError {
 /// Why a start state cannot be computed.
 #[derive(Clone, Copy, Debug, PartialEq, Eq, Error)]
 pub enum StartError {
+    /// The start state does not fit, and the settings do not allow another clear.
     #[error("error computing start state because of cache inefficiency")]
     Cache { err: CacheError },
     /// The look-behind byte is a quit byte.
@@ -57,6 +62,7 @@ pub enum StartError {
     /// The DFA does not support this anchored mode: its patterns have no start states of their own.
     #[error("error computing start state because {mode} are not supported or enabled")]
     UnsupportedAnchored { mode: Anchored },
+    /// An allocation failed.
     #[error("out of memory")]
     OutOfMemory,
 }
@@ -64,8 +70,10 @@ pub enum StartError {
 /// Why a search fails.
 #[derive(Clone, Copy, Debug, PartialEq, Eq, Error)]
 pub enum SearchError {
+    /// It met a quit byte, gave up, or does not support the anchored mode.
     #[error("{0}")]
     Match(MatchError),
+    /// An allocation failed.
     #[error("out of memory")]
     OutOfMemory,
     /// The search back found no start, since the two DFAs of the regex are no pair.

@@ -11,8 +11,10 @@
 --     what every call keeps of a cache                     Cache.Growth: IsGrown
 --     which progress is left                               Searches.Progress, Walks.Progress
 --
--- What a DFA is stands in Machines; what its cache is, in Cache.Table and Cache.Stores. The functions below the public
--- calls alone use Searches.PassState, Searches.PassContracts, Searches.Units, Searches.SelfLoops and Walks.Parts.
+-- What a DFA is stands in Machines; what its cache is, in Cache.Table and Cache.Stores. Searches.PassState,
+-- Searches.PassContracts, Searches.Units, Searches.SelfLoops and Walks.Parts are for the functions below the public
+-- calls; but Steps.BySteps says by `IsPassAnswer` and `IsUnderway` where a search by steps stands. `marked` of
+-- Machines.Machine and `keep_slots` of Cache.Clears follow loops of the code.
 pub mod Machines
 pub mod Cache
 pub mod Steps

@@ -1,3 +1,4 @@
+//! The ID of a state of a lazy DFA.
 ghost use Rattle.std.specs.Prelude.{◌≡◌, ◌+◌, ◌*◌, ◌%◌, ◌-◌, ◌<◌, ◌≤◌, ◌↔◌, IsTrue, IsBitSet};
 ghost use Rattle.automata_hybrid.specs.Cache.Ids.{tags, unknown_id, dead_id, quit_id, fixed_from, offset_limit};
 ghost use Rattle.automata_hybrid.specs.Cache.Ids.{HasDeadTag, HasMatchTag, HasOnly, HasQuitTag, HasStartTag};
@@ -5,7 +6,7 @@ ghost use Rattle.automata_hybrid.specs.Cache.Ids.{HasDeadTag, HasMatchTag, HasOn
 use std::marker::Model;
 
 /// A state of a lazy DFA, by the offset of its row in the transition table. The five high bits are tags: unknown, dead,
-/// quit, start and match. An ID is of one cache, and a clear of that cache can end it.
+/// quit, start and match. An ID belongs to one cache, and a clear of that cache can end it.
 ///
 /// The default, 0, stands at the offset of the unknown row without its tag: no cache has a row of this ID, and
 /// `is_unknown` is false of it.
@@ -40,7 +41,7 @@ impl Model for LazyStateID {
 }
 
 impl LazyStateID {
-    /// Offsets of rows are below it.
+    /// Offsets of rows are below this number.
     pub(crate) const OFFSET_LIMIT: u32 = 1 << 27;
 
     /// The greatest ID without a tag.
@@ -49,6 +50,7 @@ impl LazyStateID {
     /// The match tag.
     pub(crate) const MATCH: u32 = 1 << 27;
 
+    /// What stands in a cell or a slot while nothing is cached there.
     pub(crate) const UNKNOWN: LazyStateID = LazyStateID { id: 1 << 31 };
 
     /// The ID of a row at this offset.
@@ -63,6 +65,7 @@ impl LazyStateID {
         }
     }
 
+    /// The ID of the dead row, the second one.
     pub(crate) fn dead(stride: u32) -> LazyStateID
         requires { stride ≤ 512 }
         ensures { result ≡ dead_id stride }
@@ -72,6 +75,7 @@ impl LazyStateID {
         }
     }
 
+    /// The ID of the quit row, the third one.
     pub(crate) fn quit(stride: u32) -> LazyStateID
         requires { stride ≤ 512 }
         ensures { result ≡ quit_id stride }

@@ -8,8 +8,8 @@ ghost use Rattle.automata_hybrid.specs.Steps.BySteps.{FirstMatchIsFound};
 use crate::dfa::DFA;
 use automata_base::laws::{passes_report_paths, reported_is_right, walk_is_right};
 
-/// What was searched before, and how large the cache is, shows in no answer: two searches that find something for one
-/// automaton, kind and input find the same.
+/// What was searched before, and how large the cache is, shows in no answer: two searches of one automaton, match kind
+/// and input that answer find the same.
 pub fn answers_agree()
     ensures { AnswersAgree }
 {
@@ -23,20 +23,20 @@ pub fn walks_agree(dfa: &DFA)
     walk_is_right(dfa.get_nfa());
 }
 
-/// Over m bytes a search determinizes at most m + 2 times where no place is skipped or it is anchored, and never more
+/// Over m bytes a search determinizes at most m + 2 times if no offset is skipped or it is anchored, and never more
 /// than (m + 1)(m + 2) times.
 pub fn costs_are_few()
     ensures { SearchesCostFew }
 {}
 
-/// If no row, start state or transition was lost, what a search uses of them is still cached.
+/// If all that a search uses was cached, and no row, start state or transition was lost, it is still cached.
 pub fn known_stays(dfa: &DFA)
     ensures { KnownStays dfa.now }
 {
     dfa.see_machine();
 }
 
-/// Where no place is skipped, what a search by steps answers at its first match, or at the end of the span, is what
+/// If no offset is skipped, what a search by steps answers at its first match, or at the end of the span, is what
 /// `try_search_fwd` finds with an earliest input.
 pub fn first_match_is_found(dfa: &DFA)
     ensures { FirstMatchIsFound dfa.now }
@@ -44,8 +44,8 @@ pub fn first_match_is_found(dfa: &DFA)
     reported_is_right(dfa.get_nfa());
 }
 
-/// Under `MatchKind::All` a set has, after `try_which_overlapping_matches`, exactly the patterns that match: those of which
-/// some path through the span ends in a match.
+/// Under `MatchKind::All` a set has, after `try_which_overlapping_matches`, what it had and, below its capacity, just
+/// the patterns that match: those of which some path through the span ends in a match.
 pub fn sets_have_matching(dfa: &DFA)
     ensures { SetsHaveMatching dfa.now }
 {

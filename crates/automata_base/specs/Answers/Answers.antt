@@ -21,17 +21,17 @@ SelectsOver way d input answer =
     SelectsFrom d input.earliest (tape_of way input.haystack input.start input.end) (first_state d input.anchored)
     answer
 
--- The input whose walk begins `k` places later: forward its start is raised, backward its end is lowered.
+-- The input whose search begins `k` places later: forward its start is raised, backward its end is lowered.
 abbrev pub later : Direction → ℕ → Input → Input
 later Forward k input = record input { start = input.start + k }
 later Backward k input = record input { end = input.end - k }
 
--- The offset of a place of the walk over an input.
+-- The offset of a place of the span of an input.
 abbrev pub offset_in : Direction → Input → ℕ → ℕ
 offset_in way input i = offset way input.start input.end i
 
--- What is reported over one span splits a character. `Reports` says what is reported over the span of an input, which is
--- not done.
+-- What is reported over one span is at an offset inside a character. `Reports` says what is reported over the span of
+-- an input, which is not done.
 abbrev pub IsSplit : (Reports : Input → Option Pair → Type 0) → Direction → Input → Type 0
 IsSplit Reports way input =
     (pair : Pair) × Reports input (Some pair) × (is_split input.haystack (offset_in way input pair.place) ≡ true)

@@ -27,7 +27,7 @@ Chooses d earliest t q i pattern path =
     Accepts d.nfa t q i pattern path
     × ((j p : ℕ) (other : List ℕ) → Accepts d.nfa t q j p other → IsChosen d.kind earliest i path j other)
 
--- The input, not earliest.
+-- The same input, of a search that is not earliest.
 abbrev pub in_full : Input → Input
 in_full input = record input { earliest = false }
 

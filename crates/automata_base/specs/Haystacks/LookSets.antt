@@ -34,6 +34,7 @@ bits_from A (look ∷ looks) = (if A look then 1 else 0) + 2 * bits_from A looks
 abbrev pub set_of : Truth → ℕ
 set_of A = bits_from A all_looks
 
+-- The look at an index of the list; past its end, the last of the eighteen.
 abbrev pub nth_of : List Look → ℕ → Look
 nth_of [] k = WordEndHalfUnicode
 nth_of (x ∷ xs) zero = x

@@ -8,6 +8,7 @@ pub use Rattle.automata_base.specs.declared.util.look.Look.TheVariants.{WordStar
 pub use Rattle.automata_base.specs.declared.util.look.Look.TheVariants.{WordStartHalfAscii, WordEndHalfAscii}
 pub use Rattle.automata_base.specs.declared.util.look.Look.TheVariants.{WordStartHalfUnicode, WordEndHalfUnicode}
 
+-- The byte is in the range from `lo` to `hi`, both included.
 abbrev pub within : ℕ → ℕ → ℕ → Bool
 within lo hi u = leb lo u && leb u hi
 
@@ -33,7 +34,7 @@ abbrev pub differ : Bool → Bool → Bool
 differ true b = not b
 differ false b = b
 
--- A carriage return, or the line feed under the reverse flag; and the other of the two.
+-- The byte of `\r\n` that is read first, which under the reverse flag is the line feed; and the one read second.
 abbrev pub first_half : Bool → ℕ
 first_half false = 13
 first_half true = 10

@@ -19,6 +19,7 @@ members set = members_from 0 set
 abbrev pub AreSmall : List Bool → Type 0
 AreSmall set = (pattern : ℕ) → has set pattern ≡ true → IsId pattern
 
+-- The count is that of the members, each of which may be a pattern's number.
 pub record IsCounted (set : List Bool) (len : ℕ) : Type 0 where
   pub counted : len ≡ length (members set)
   pub small : AreSmall set

@@ -1,4 +1,5 @@
--- A haystack, its places, and the tapes of its spans. A place is an offset between bytes, from 0 to the length.
+-- A haystack, its offsets, and the tapes of its spans. An offset is a position between bytes, from 0 to the length; a
+-- place is a position on a tape, counted from where a search begins.
 use Rattle.std.specs.Prelude.{ℕ, zero, suc, ◌≡◌, ◌<◌, ◌≤◌, ◌+◌, ◌-◌, Bool, false, List, ◌⊎◌, take, drop, reverse}
 use Rattle.std.specs.Prelude.{Option, Some, None}
 use Rattle.automata_base.specs.Lists.{nth}
@@ -9,7 +10,7 @@ use Rattle.automata_base.specs.Paths.Paths.{Tape, prev, next}
 abbrev pub IsHaystack : List ℕ → Type 0
 IsHaystack h = (o u : ℕ) → nth h o ≡ Some u → u < 256
 
--- The byte on the left of a place; the one on its right is `nth h o`. Either is missing only outside the haystack.
+-- The byte before an offset; the one after it is `nth h o`. Either is missing only outside the haystack.
 abbrev pub byte_before : List ℕ → ℕ → Option ℕ
 byte_before h zero = None
 byte_before h (suc o) = nth h o
@@ -18,11 +19,11 @@ byte_before h (suc o) = nth h o
 abbrev pub between : List ℕ → ℕ → ℕ → List ℕ
 between h s e = take (e - s) (drop s h)
 
--- The span walked from `s` to `e`: the walk's place `i` is the offset `s + i`.
+-- The span read from `s` to `e`: place `i` is the offset `s + i`.
 abbrev pub forward_tape : List ℕ → ℕ → ℕ → Tape
 forward_tape h s e = record { before = byte_before h s; bytes = between h s e; after = nth h e }
 
--- The span walked from `e` to `s`: the walk's place `i` is the offset `e - i`.
+-- The span read from `e` to `s`: place `i` is the offset `e - i`.
 abbrev pub reverse_tape : List ℕ → ℕ → ℕ → Tape
 reverse_tape h s e = record { before = nth h e; bytes = reverse (between h s e); after = byte_before h s }
 
@@ -35,7 +36,7 @@ abbrev pub tape_of : Direction → List ℕ → ℕ → ℕ → Tape
 tape_of Forward h s e = forward_tape h s e
 tape_of Backward h s e = reverse_tape h s e
 
--- The offset of a place of the walk.
+-- The offset of a place of the span `s..e`.
 abbrev pub offset : Direction → (s e place : ℕ) → ℕ
 offset Forward s e i = s + i
 offset Backward s e i = e - i
@@ -45,7 +46,7 @@ abbrev pub is_continuation : Option ℕ → Bool
 is_continuation None = false
 is_continuation (Some u) = within 128 191 u
 
--- A place splits a character: it is inside the haystack and its byte is 0x80 to 0xBF.
+-- An offset is inside a character, a split place: it is inside the haystack and its byte is 0x80 to 0xBF.
 abbrev pub is_split : List ℕ → ℕ → Bool
 is_split h o = is_continuation (nth h o)
 

@@ -1,4 +1,4 @@
--- The theorems, as statements.
+-- That what searches and walks by passes report is what the ordered paths define, as statements.
 use Rattle.std.specs.Prelude.{ℕ, suc, ◌<◌, ◌≤◌, Bool, true, false, List, length}
 use Rattle.automata_base.specs.Lists.{IsSet}
 use Rattle.automata_base.specs.Nfas.Nfa.{Nfa}

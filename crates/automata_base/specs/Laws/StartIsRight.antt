@@ -1,4 +1,4 @@
--- The theorems, as statements.
+-- That the search back finds where the chosen path began, and that answers are unique, as statements.
 use Rattle.std.specs.Prelude.{ℕ, suc, ◌≡◌, ◌≤◌, ◌+◌, ◌-◌, Bool, false, List, length, ◌⊎◌, Option, None, is_some}
 use Rattle.automata_base.specs.Haystacks.Tapes.{Direction, Forward, forward_tape, reverse_tape, MeetsNone}
 use Rattle.automata_base.specs.Nfas.Engines.{Engine, IsSkipping}
@@ -22,24 +22,24 @@ pub record StartsAreRight : Type 0 where
   pub paths : ReportSpans IsTrySearch
   pub farthest : ReportSpans IsFarSearch
 
--- It has an outcome, and each input one match.
+-- If both engines are sound, the search over them finds the match of the paths, or that there is none.
 abbrev pub SpansAreFound : Type 0
 SpansAreFound =
     (f r : Engine) (input : Input)
     → IsTruePair f r → KeepsUtf8 Forward f → IsSound f → IsSound r → IsInput input
     → (answer : Option Match) × IsTrySearch f r input (Found answer) × IsSpan f input answer
 
--- Each input has one match by paths.
+-- Each input has at most one match by paths.
 abbrev pub SpansAreOne : Type 0
 SpansAreOne = (d : Engine) (input : Input) (a b : Option Match) → IsSpan d input a → IsSpan d input b → a ≡ b
 
--- One answer of a plain search.
+-- A plain search has at most one answer.
 abbrev pub AnswersAreOne : Type 0
 AnswersAreOne =
     (way : Direction) (d : Engine) (input : Input) (a b : Option Half) → IsAnswer way d input a → IsAnswer way d input b
     → a ≡ b
 
--- One list of matches.
+-- An iteration has at most one list of matches.
 abbrev pub IterationsAreOne : Type 0
 IterationsAreOne =
     (d : Engine) (input : Input) (ms ms' : List Match) → AreSpans d input ms → AreSpans d input ms' → ms ≡ ms'

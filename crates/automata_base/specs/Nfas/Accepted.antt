@@ -8,7 +8,7 @@ use Rattle.automata_base.specs.Retraced.ComputedPass.{IsInRange, any_node}
 use Rattle.automata_base.specs.Haystacks.Looks.{look_index}
 use Rattle.automata_base.specs.Nfas.Errors.{states_ordered}
 
--- At most 2 ^ 27 states and patterns, each number in range, ranges in order.
+-- At most 2^27 states, and at most 2^27 patterns, each number in range, ranges in order.
 pub record IsChecked (a : Automaton) : Type 0 where
   pub small : length a.states ≤ 2 ^ 27
   pub few : length a.start_pattern ≤ 2 ^ 27

@@ -65,7 +65,7 @@ abbrev pub states_ordered : List State → Bool
 states_ordered [] = true
 states_ordered (x ∷ xs) = state_ordered x && states_ordered xs
 
--- Counts the alternates of all unions.
+-- How many alternates a state has: only unions have any.
 abbrev pub alternates_of : State → ℕ
 alternates_of (is.ByteRange lo hi next) = 0
 alternates_of (is.Sparse ts) = 0
@@ -77,7 +77,7 @@ alternates_of (is.Capture next pattern index slot) = 0
 alternates_of is.Fail = 0
 alternates_of (is.Match pattern) = 0
 
--- At most 2^27 states and patterns.
+-- At most 2^27 states, and at most 2^27 patterns.
 abbrev pub is_small : List State → List ℕ → Bool
 is_small states starts = leb (length states) (2 ^ 27) && leb (length starts) (2 ^ 27)
 

@@ -1,4 +1,4 @@
--- Walks over the states of an NFA.
+-- Which states of an NFA edges reach from some of them.
 use Rattle.std.specs.Prelude.{ℕ, ◌≡◌, ◌⊎◌, ◌&&◌, Bool, false, cond, eqb, List, [], ◌∷◌, ◌++◌, map, Option, Some, None}
 use Rattle.std.specs.Prelude.{slice_get}
 use Rattle.automata_base.specs.declared.nfa.thompson.State.{State}
@@ -63,7 +63,7 @@ abbrev pub LeadsBack : List State → ℕ → Type 0
 LeadsBack states q =
     (next : ℕ) × (look_target (node_in states q) ≡ Some next) × IsReached Epsilon states (next ∷ []) q
 
--- No state is.
+-- No look leads back to itself.
 abbrev pub AreLooksAcyclic : List State → Type 0
 AreLooksAcyclic states = (q : ℕ) → LeadsBack states q → ⊥
 

@@ -4,7 +4,7 @@ use Rattle.automata_base.specs.Haystacks.Looks.{Look, holds}
 use Rattle.automata_base.specs.Lists.{In, nth, IsListOf, From}
 use Rattle.automata_base.specs.Nfas.Nfa.{Nfa, Assert, Truth, node, hop, takes}
 
--- A span with its direction: its bytes in the order of the walk, and the bytes of the haystack around it.
+-- A span as a search reads it: its bytes in the order in which they are read, and the bytes of the haystack beside it.
 pub record Tape : Type 0 where
   pub before : Option ℕ
   pub bytes : List ℕ
@@ -19,7 +19,7 @@ next_in [] after i = after
 next_in (u ∷ us) after zero = Some u
 next_in (u ∷ us) after (suc i) = next_in us after i
 
--- The byte before a place of the walk, and the one after it.
+-- The byte before a place, and the one after it.
 abbrev pub prev : Tape → ℕ → Option ℕ
 prev t i = prev_in t.before t.bytes i
 
@@ -56,7 +56,7 @@ IsPath n t start i q path = IsPathFrom n t 0 [] start path i q
 abbrev pub all_true : Truth
 all_true look = true
 
--- `q` leads to `z` by edges that stay at their place, looks taken as true: by these; by some; by one and some.
+-- `q` leads to `z` by edges that stay at their place, looks taken as true: by these edges, and by some.
 abbrev pub Run : Nfa → ℕ → List ℕ → ℕ → Type 0
 Run n q [] z = q ≡ z
 Run n q (e ∷ path) z = (r : ℕ) × (hop n all_true q e ≡ Some r) × Run n r path z

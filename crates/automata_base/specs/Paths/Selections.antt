@@ -18,8 +18,8 @@ Accepts n t start i pattern path = (q : ℕ) × IsPath n t start i q path × (ac
 abbrev pub IsAllAt : Nfa → Tape → ℕ → ℕ → List ℕ → Type 0
 IsAllAt n t start i patterns = IsListOf (λ pattern path. Accepts n t start i pattern path) patterns
 
--- Under leftmost-first: that of the least accepting path that ends there, if it is less than every accepting path
--- that ends at an earlier place.
+-- Under `MatchKind::LeftmostFirst`: that of the least accepting path that ends there, if it is less than every
+-- accepting path that ends at an earlier place.
 abbrev pub IsFirstAt : Nfa → Tape → ℕ → ℕ → List ℕ → Type 0
 IsFirstAt n t start i patterns =
     ((patterns ≡ [])
@@ -73,14 +73,15 @@ Selects kind earliest n t start (Some pair) =
     × ((j pattern : ℕ) (other : List ℕ) → Accepts n t start j pattern other
     → IsChosen kind earliest pair.place path j other)
 
--- For every NFA and match kind, an earliest search finds the nearest end.
+-- The nearest end of an accepting path, and the pattern of one that ends there; none if there is no accepting path. An
+-- earliest search finds it, for every NFA and match kind.
 abbrev pub IsNearest : Nfa → Tape → ℕ → Option Pair → Type 0
 IsNearest n t start None = (i pattern : ℕ) (path : List ℕ) → Accepts n t start i pattern path → ⊥
 IsNearest n t start (Some pair) =
     ((path : List ℕ) × Accepts n t start pair.place pair.pattern path)
     × ((j pattern : ℕ) (path : List ℕ) → j < pair.place → Accepts n t start j pattern path → ⊥)
 
--- For every NFA, a search under `MatchKind::All` finds the farthest end.
+-- The same of the farthest end. A search under `MatchKind::All` that is not earliest finds it, for every NFA.
 abbrev pub IsFarthest : Nfa → Tape → ℕ → Option Pair → Type 0
 IsFarthest n t start None = (i pattern : ℕ) (path : List ℕ) → Accepts n t start i pattern path → ⊥
 IsFarthest n t start (Some pair) =

@@ -23,7 +23,7 @@ fixed_rows_cost = 3 * head_cost
 abbrev pub max_cost : Automaton → ℕ
 max_cost a = head_cost + pattern_cost * length a.start_pattern + id_cost * length a.states
 
--- Two sets of NFA states, each with two numbers for each state.
+-- For each NFA state: two sets of NFA states, each with two numbers of four bytes.
 abbrev pub sets_cost : ℕ
 sets_cost = 16
 

@@ -94,7 +94,7 @@ abbrev pub patterns_of : List ℕ → List ℕ
 patterns_of bytes =
     if is_set 1 bytes then (if is_set 2 bytes then numbers_at (number_at bytes 9) (drop 13 bytes) else 0 ∷ []) else []
 
--- what comes behind the patterns
+-- what comes after the patterns
 abbrev pub ids_bytes : List ℕ → List ℕ
 ids_bytes bytes = if is_set 2 bytes then drop (4 * number_at bytes 9) (drop 13 bytes) else drop 9 bytes
 
@@ -124,7 +124,7 @@ FitsGroups (suc more) n = FitsGroups more (n / 128)
 abbrev pub IsFront : List ℕ → ℕ → List ℕ → Type 0
 IsFront bytes n tail = (more : ℕ) × (n < 2 ^ 35) × FitsGroups more n × (bytes ≡ groups more n ++ tail)
 
--- the bytes are those of NFA states behind this one
+-- the bytes are those of NFA states after this one
 pub record AreIds (before : ℕ) (bytes : List ℕ) : Type 0 where
   pub first : IsId before
   pub ids : AllByRecursion IsId (ids_of before (numbers bytes))

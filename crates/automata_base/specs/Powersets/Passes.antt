@@ -1,5 +1,5 @@
--- Powerset states and the pass: the walk over lists of states whose matches are delayed by one byte, and whose looks
--- are decided when the next unit is known.
+-- Powerset states, and the pass over them: matches are delayed by one byte, and looks are decided when the next unit is
+-- known.
 use Rattle.std.specs.Prelude.{ℕ, zero, suc, ◌≡◌, ◌<◌, Bool, true, false, not, ◌&&◌, ◌||◌, List, [], ◌∷◌, ◌⊎◌, ◌↔◌}
 use Rattle.std.specs.Prelude.{Option, Some, None}
 use Rattle.automata_base.specs.Haystacks.Looks.{Look, Start, End, StartLF, EndLF, StartCRLF, EndCRLF, WordAscii}
@@ -116,8 +116,8 @@ abbrev pub IsStart : Nfa → ℕ → Option ℕ → Powerset → Type 0
 IsStart n start prev Q = IsClosureOf n [] (start ∷ []) prev Q
 
 -- The powerset state that another leads to on a unit: its looks are decided by the unit, the patterns are those of the
--- match states of the list, which under leftmost-first is cut after the first of these, and the new list is the closure
--- of where its byte states lead.
+-- match states of the list, which under `MatchKind::LeftmostFirst` is cut after the first of these, and the new list is
+-- the closure of where its byte states lead.
 abbrev pub IsSuccessor : Nfa → MatchKind → Powerset → Option ℕ → Powerset → Type 0
 IsSuccessor n kind Q u Q' =
     (L patterns : List ℕ) × IsDecided n Q u L × IsOnce (pick (accepts n) (cut_for kind n L)) patterns

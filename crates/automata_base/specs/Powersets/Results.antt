@@ -13,9 +13,9 @@ use Rattle.automata_base.specs.Paths.Starts.{IsOf, IsStartOf}
 use Rattle.automata_base.specs.Retraced.Steps.{NeedsOwnLooks, start_state_of, successor}
 use Rattle.automata_base.specs.Answers.Within.{ReportsOwn}
 
--- the powerset state where the searches of a mode start behind a byte, or behind none
+-- the powerset state where the searches of a mode start after a byte, or after none
 pub record IsStartMade (a : Automaton) (mode : Anchored) (prev : Option ℕ) (made : Powerset) : Type 0 where
-  -- it is the start by the definition, which is the one that the function of contracts gives
+  -- it is the start by the definition, and what the function returns that contracts name
   pub start : IsStartOf a mode prev made
   pub same : made ≡ start_state_of a mode prev
   -- its patterns, the looks that it needs and its NFA states are the automaton's
@@ -28,7 +28,7 @@ pub record IsStartMade (a : Automaton) (mode : Anchored) (prev : Option ℕ) (ma
 -- the powerset state that another leads to on a unit
 pub record IsStepMade (a : Automaton) (kind : MatchKind) (from : Powerset) (unit : Option ℕ)
     (made : Powerset) : Type 0 where
-  -- it is the successor by the definition, which is the one that the function of contracts gives
+  -- it is the successor by the definition, and what the function returns that contracts name
   pub step : IsSuccessor (nfa_of a) kind from unit made
   pub same : made ≡ successor a kind from unit
   -- its patterns, the looks that it needs and its NFA states are the automaton's
@@ -46,7 +46,7 @@ pub record AreMatched (a : Automaton) (list patterns : List ℕ) : Type 0 where
   -- they are no more than the automaton has
   pub few : length patterns ≤ length a.start_pattern
 
--- the powerset state that has these patterns, and the NFA states of the closure of the roots behind a unit
+-- the powerset state that has these patterns, and the NFA states of the closure of the roots after a unit
 pub record IsClosureMade (a : Automaton) (matched roots : List ℕ) (unit : Option ℕ) (made : Powerset) : Type 0 where
   -- it is that by the definition
   pub closure : IsClosureOf (nfa_of a) matched roots unit made

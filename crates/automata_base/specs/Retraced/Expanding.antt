@@ -3,7 +3,7 @@ use Rattle.std.specs.Prelude.{ℕ, ◌≡◌, List, ◌++◌, drop}
 use Rattle.automata_base.specs.Nfas.Nfa.{Nfa, Truth}
 use Rattle.automata_base.specs.Powersets.Closure.{IsUnderWay}
 
--- some come behind those of a list
+-- some come after those of a list
 abbrev pub Extends : List ℕ → List ℕ → Type 0
 Extends before after = (more : List ℕ) × (after ≡ before ++ more)
 

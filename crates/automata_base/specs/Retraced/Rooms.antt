@@ -18,7 +18,7 @@ pub record IsPartsRoom (a : Automaton) (parts : Parts) : Type 0 where
   pub list : length a.states ≤ vec_capacity parts.nfa
   pub patterns : length a.start_pattern ≤ vec_capacity parts.patterns
 
--- room for a step: for the closure that decides looks, for the closure behind the unit, and for the state that is made
+-- room for a step: for the closure that decides looks, for the closure after the unit, and for the state that is made
 pub record IsStepRoom (a : Automaton) (stack : Vec ℕ Global) (one two : Members) (parts : Parts) : Type 0 where
   pub deciding : IsClosureRoom a stack one
   pub following : IsClosureRoom a stack two

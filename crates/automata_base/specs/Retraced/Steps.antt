@@ -15,7 +15,7 @@ abbrev pub start_or_dead : Nfa → Option ℕ → Option ℕ → Powerset
 start_or_dead n None prev = dead
 start_or_dead n (Some start) prev = start_behind n start prev
 
--- the start of a mode behind a byte, or behind none; past the last pattern it is the dead state
+-- the start of a mode after a byte, or after none; past the last pattern it is the dead state
 unfoldable pub start_state_of : Automaton → Anchored → Option ℕ → Powerset
 start_state_of a mode prev = start_or_dead (nfa_of a) (mode_start a mode) prev
 

@@ -1,3 +1,4 @@
+//! Classes of bytes that an NFA and a quit set do not distinguish.
 ghost use Rattle.std.specs.Prelude.{◌≡◌, ◌+◌, ◌-◌, ◌<◌, ◌≤◌, ◌&&◌, ◌||◌, ℕ, false, eqb, length, IsFalse};
 ghost use Rattle.automata_base.specs.ByteClasses.Classes.{bounds, transitions_bound, targets_bound, quits_bound};
 ghost use Rattle.automata_base.specs.ByteClasses.Classes.{look_bounds};
@@ -58,7 +59,7 @@ impl ByteClasses {
         self.map[usize::from(byte)]
     }
 
-    /// Classes rise by at most one from byte to byte.
+    /// Classes rise by at most one from byte to byte. It does nothing.
     pub fn see_rising(&self)
         ensures { AreClasses self.now }
     {

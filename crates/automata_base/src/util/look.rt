@@ -1,3 +1,4 @@
+//! Look-around assertions, and sets of them.
 ghost use Rattle.std.specs.Prelude.{◌≡◌, ◌<◌, ◌||◌, eqb};
 ghost use Rattle.automata_base.specs.Haystacks.LookSets.{truth_of, nth_look, IsLookSet};
 ghost use Rattle.automata_base.specs.Haystacks.Looks.{Look};
@@ -5,26 +6,45 @@ ghost use Rattle.automata_base.specs.Haystacks.Looks.{look_index};
 
 use std::marker::Model;
 
-/// A look-around assertion: a question about the bytes beside an offset.
+/// A look-around assertion: a question about the bytes beside an offset. Before and after are meant in the direction of
+/// the search. Word bytes are `0-9`, `A-Z`, `_` and `a-z`.
 #[derive(Clone, Copy, Debug, PartialEq, Eq)]
 pub enum Look {
+    /// No byte is before the offset.
     Start,
+    /// No byte is after it.
     End,
+    /// No byte or a line terminator is before it.
     StartLF,
+    /// No byte or a line terminator is after it.
     EndLF,
+    /// No byte, or `\r`, `\n` or `\r\n`, is before it: so never between the two bytes of `\r\n`.
     StartCRLF,
+    /// No byte, or `\r`, `\n` or `\r\n`, is after it: so never between the two bytes of `\r\n`.
     EndCRLF,
+    /// A word boundary: a word byte is on one side alone.
     WordAscii,
+    /// No word boundary.
     WordAsciiNegate,
+    /// As `WordAscii`. A DFA needs each byte from 0x80 on to be a quit byte, here and for the other Unicode looks.
     WordUnicode,
+    /// As `WordAsciiNegate`.
     WordUnicodeNegate,
+    /// A word begins: a word byte is after it, and none before.
     WordStartAscii,
+    /// A word ends: a word byte is before it, and none after.
     WordEndAscii,
+    /// As `WordStartAscii`.
     WordStartUnicode,
+    /// As `WordEndAscii`.
     WordEndUnicode,
+    /// No word byte is before it.
     WordStartHalfAscii,
+    /// No word byte is after it.
     WordEndHalfAscii,
+    /// As `WordStartHalfAscii`.
     WordStartHalfUnicode,
+    /// As `WordEndHalfAscii`.
     WordEndHalfUnicode,
 }
 

@@ -1,3 +1,4 @@
+//! Sets of patterns.
 use crate::util::primitives::PatternID;
 use std::alloc::{AllocError, Global};
 use std::marker::Model;
@@ -44,7 +45,7 @@ impl PatternSet {
     ghost use Rattle.std.specs.Prelude.{IsTrue, replicate, slice_set};
     ghost use Rattle.automata_base.specs.Haystacks.PatternSet.{has, members, AreSmall};
 
-    /// The empty set.
+    /// The empty set, with room for the patterns below a capacity.
     pub fn new(alloc: Global, capacity: usize) -> Result<PatternSet, AllocError>
         ensures capacity { IfOk result (λ set. set ≡ replicate capacity false) }
         ensures empty { IfOk result (λ set. members set ≡ []) }

@@ -1,3 +1,4 @@
+//! What is searched, how, and what a search returns: inputs, modes, matches and errors.
 use crate::util::primitives::PatternID;
 use std::fmt;
 use std::marker::Model;
@@ -166,15 +167,20 @@ impl Match {
 /// Which matches a search reports: all of them, or those that a backtracking matcher would find first.
 #[derive(Clone, Copy, Debug, PartialEq, Eq)]
 pub enum MatchKind {
+    /// Each accepting path counts. A search reports the match that ends last, an overlapping search all of them.
     All,
+    /// The path that is preferred counts, as a backtracking matcher would find it.
     LeftmostFirst,
 }
 
 /// Where a match may begin: anywhere, at the search's start, or at the search's start and of one pattern alone.
 #[derive(Clone, Copy, Debug, PartialEq, Eq)]
 pub enum Anchored {
+    /// A match may begin anywhere in the span.
     No,
+    /// A match may begin at the search's start alone.
     Yes,
+    /// The same, and of this pattern alone.
     Pattern(PatternID),
 }
 
@@ -211,13 +217,13 @@ impl fmt::Display for Anchored {
     }
 }
 
-/// Why a search fails.
+/// Why a search fails, other than for lack of memory.
 #[derive(Clone, Copy, Debug, PartialEq, Eq, Error)]
 pub enum MatchErrorKind {
     /// A quit byte was read at this offset.
     #[error("quit search after observing byte {byte:#04X} at offset {offset}")]
     Quit { byte: u8, offset: usize },
-    /// The search gave up at this offset, since it was too slow.
+    /// The search gave up at this offset: its cache is full, and the settings do not allow another clear.
     #[error("gave up searching at offset {offset}")]
     GaveUp { offset: usize },
     /// The anchored mode of the input is not supported.
@@ -225,7 +231,7 @@ pub enum MatchErrorKind {
     UnsupportedAnchored { mode: Anchored },
 }
 
-/// Why a search fails.
+/// The error of a search, of one of the kinds that `MatchErrorKind` lists.
 #[derive(Clone, Copy, Debug, PartialEq, Eq, Error)]
 #[error("{kind}")]
 pub struct MatchError {
@@ -254,7 +260,7 @@ impl MatchError {
         }
     }
 
-    /// The error of a search that gave up at this offset of the haystack: its cache is full and may not be cleared.
+    /// The error of a search that gave up at this offset of the haystack.
     pub fn gave_up(offset: usize) -> MatchError
         ensures { result ≡ MatchErrorKind.GaveUp offset }
     {

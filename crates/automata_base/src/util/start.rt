@@ -1,3 +1,4 @@
+//! What a start state depends on.
 ghost use Rattle.std.specs.Prelude.{◌≡◌};
 ghost use Rattle.automata_base.specs.Lists.{nth};
 
@@ -88,7 +89,8 @@ impl Config {
         }
     }
 
-    /// The look-behind byte: the one before the span's start in a forward search, the one at its end in a reverse search.
+    /// The look-behind byte: the one before the span's start in a forward search, the one at the span's end in a
+    /// reverse search.
     pub fn get_look_behind(&self) -> Option<u8>
         ensures { result ≡ self.now.look_behind }
     {

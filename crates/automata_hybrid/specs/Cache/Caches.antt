@@ -1,4 +1,4 @@
--- What contracts see of a cache, and of which DFA it is.
+-- What contracts see of a cache, and which DFA it belongs to.
 use Rattle.std.specs.Prelude.{◌≡◌, ℕ, ◌+◌, ◌⊎◌}
 use Rattle.automata_hybrid.specs.Cache.Ids.{unknown_id, dead_id, quit_id}
 use Rattle.automata_hybrid.specs.Machines.Machine.{Machine, table_stride}
@@ -10,7 +10,7 @@ pub record CacheView : Type 0 where
   pub store : Stored
   pub count : ℕ
 
--- the cache is of this machine
+-- the cache belongs to this machine
 abbrev pub IsCacheOf : CacheView → Machine → Type 0
 IsCacheOf c m = c.store.table.of ≡ m
 

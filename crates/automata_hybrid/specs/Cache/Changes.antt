@@ -29,7 +29,7 @@ IsAdded old from r new =
     (Fits old (cost r.state) × (new ≡ grown old r))
     ⊎ ((Fits old (cost r.state) → ⊥) × (refuses_to_clear old ≡ false) × (new ≡ grown (cleared_saving old from) r))
 
--- what adding a state that is absent gives, stepped to from a row: the ID of that row as it is now, and the new one
+-- what adding a state that is absent returns, stepped to from a row: the ID of that row as it is now, and the new one
 pub record AddsNext (old new : Stored) (from : ℕ) (q : Powerset) (now next : ℕ) : Type 0 where
   -- The cache grew, or was cleared first.
   pub effect : IsAdded old from (record { state = q; started = false }) new
@@ -41,7 +41,7 @@ pub record AddsNext (old new : Stored) (from : ℕ) (q : Powerset) (now next : �
   pub only : (p : Powerset) → Has new.table p → Has old.table p ⊎ (p ≡ q)
   -- Each start state that was cached is cached.
   pub starts : KeepsStarts old.starts new.starts
-  -- The cache is of the same machine.
+  -- The cache belongs to the same machine.
   pub of : new.table.of ≡ old.table.of
 
 -- the whole effect of computing a transition from a state to a target: it is written, at the row as it is after the
@@ -60,7 +60,7 @@ IsAddedStart old r new =
     (Fits old (cost r.state) × (new ≡ grown old r))
     ⊎ ((Fits old (cost r.state) → ⊥) × (refuses_to_clear old ≡ false) × (new ≡ grown (cleared old) r))
 
--- what adding a start state that is absent gives: its ID
+-- what adding a start state that is absent returns: its ID
 pub record AddsStart (old new : Stored) (r : Row) (id : ℕ) : Type 0 where
   -- The cache grew, or was cleared first.
   pub effect : IsAddedStart old r new
@@ -72,7 +72,7 @@ pub record AddsStart (old new : Stored) (r : Row) (id : ℕ) : Type 0 where
   pub slots : length new.starts ≡ length old.starts
   -- Each start state that was cached is cached.
   pub starts : KeepsStarts old.starts new.starts
-  -- The cache is of the same machine.
+  -- The cache belongs to the same machine.
   pub of : new.table.of ≡ old.table.of
 
 -- the whole effect of computing a start: it is written, after its row was added, if no row had the state
@@ -104,7 +104,7 @@ pub record IsStartChange (old new : Stored) : Type 0 where
   pub id : ℕ
   pub started : IsStarted old slot (slot_row old.table.of slot) new id
 
--- a state that a clear took is added again, without the start tag
+-- a state that the cache lacks, as after a clear, is put back without the start tag
 pub record IsBackChange (old new : Stored) : Type 0 where
   pub state : Powerset
   pub lacks : Lacks old.table state

@@ -82,10 +82,10 @@ pub record KeepsSlot (old : Rows) (id : ℕ) (before after : Kept) : Type 0 wher
   pub known : id < unknown_id → slice_index after.starts (length before.starts) < unknown_id
   -- No state is there that neither table had.
   pub absent : (q : Powerset) → id_of old q ≡ None → id_of before.table q ≡ None → id_of after.table q ≡ None
-  -- The rows are of the same machine.
+  -- The rows belong to the same machine.
   pub of : after.table.of ≡ before.table.of
 
--- what keeping the slots of an old table gives
+-- the rows and the slots that are kept of an old table
 pub record KeepsAllStarts (old : Rows) (starts : List ℕ) (k : Kept) : Type 0 where
   -- These rows and slots are kept.
   pub value : k ≡ kept old starts
@@ -99,5 +99,5 @@ pub record KeepsAllStarts (old : Rows) (starts : List ℕ) (k : Kept) : Type 0 w
   pub known : KeepsStarts starts k.starts
   -- No state is there that was not there before.
   pub absent : (q : Powerset) → id_of old q ≡ None → id_of k.table q ≡ None
-  -- The rows are of the same machine.
+  -- The rows belong to the same machine.
   pub of : k.table.of ≡ old.of

@@ -25,7 +25,7 @@ pub record Keeps (old new : Stored) : Type 0 where
 abbrev pub ClearedNothing : Stored → Stored → Type 0
 ClearedNothing old new = (new.clears ≡ old.clears) × (old.clears < 2 ^ 64 - 1)
 
--- a step or a start moves no progress: it is as it was, and so is the count of clears; or, where something was
+-- a step or a start moves no progress: it is as it was, and so is the count of clears; or, if something was
 -- cleared, it is as a clear makes it
 abbrev pub KeepsProgress : Stored → Stored → Type 0
 KeepsProgress old new =

@@ -5,7 +5,7 @@ use Rattle.automata_hybrid.specs.Cache.Table.{Rows, Leads, Lacks}
 use Rattle.automata_hybrid.specs.declared.dfa.cache.Found.{Found}
 use Rattle.automata_hybrid.specs.declared.dfa.cache.Found.TheVariants.{Known, New}
 
--- what a look-up of a state gives: an ID that leads to it, or the state itself, which no row has
+-- what a look-up of a state returns: an ID that leads to it, or the state itself, which no row has
 abbrev pub IsLookedUp : Rows → Powerset → Found → Type 0
 IsLookedUp t q (Known id) = Leads t id q
 IsLookedUp t q (New state) = (state ≡ q) × Lacks t q

@@ -147,7 +147,7 @@ pub record IsTable (t : Rows) (map : StateMap) (costs : ℕ) : Type 0 where
 abbrev pub IsValid : Rows → ℕ → Type 0
 IsValid t id = (q : Powerset) × Names t id q
 
--- the place of a cell
+-- the index of a cell in the list of all cells
 abbrev pub cell_at : ℕ → ℕ → ℕ
 cell_at id class = id % offset_limit + class
 
@@ -180,7 +180,7 @@ pub record IsSound (t : Rows) : Type 0 where
   pub own : HasOwnStates t
   pub cells : HasCells t
 
--- the row at a place has this state
+-- the row at an index has this state
 abbrev pub HasState : Rows → ℕ → Powerset → Type 0
 HasState t k q = (r : Row) × (slice_get t.rows k ≡ Some r) × (r.state ≡ q)
 

@@ -14,7 +14,7 @@ use Rattle.automata_hybrid.specs.Cache.Progress.{saturated, total_len, progress_
 use Rattle.automata_hybrid.specs.Cache.Stores.{Stored, settings_of}
 use Rattle.automata_config.specs.Options.{minimum_cache_clear_count_of, minimum_bytes_per_state_of}
 
--- the accounted bytes: those of the cells and of the slots, of the rows with the three fixed ones, and of their places
+-- the accounted bytes: those of the cells and of the slots, of the rows with the three fixed ones, and of their entries
 -- in the map, which has one of these three; the costs of all states, and the room for determinization
 abbrev pub usage_by : Rows → ℕ → ℕ → ℕ
 usage_by t slots fixed =
@@ -25,7 +25,7 @@ usage_by t slots fixed =
 abbrev pub usage : Stored → ℕ
 usage c = usage_by c.table (length c.starts) (fixed_cost c.table.of.nfa)
 
--- what a new row takes beside the cost of its state: its cells, and its places in the list and in the map
+-- what a new row takes beside the cost of its state: its cells, and its entries in the list and in the map
 abbrev pub row_usage : Machine → ℕ
 row_usage m = cell_size * table_stride m + (row_size + entry_size)
 
@@ -38,7 +38,7 @@ Fits c extra =
 abbrev pub FitsAny : Stored → Type 0
 FitsAny c = (extra : ℕ) → extra ≤ greatest c.table.of → Fits c extra
 
--- too few bytes were searched for so many states, where a number for each is set
+-- too few bytes were searched for so many states: fewer than the number that is set for each; any, if none is set
 abbrev pub short_of : Option ℕ → ℕ → ℕ → Bool
 short_of None states searched = true
 short_of (Some bytes) states searched = nat_lt searched (saturated (bytes * states))

@@ -116,7 +116,7 @@ pub record IsSearchEffect {T : Type 0} (way : Direction) (m : Machine) (input : 
   pub grown : IsGrown old new
   -- and all that it used is cached
   pub learned : ClearedNothing old.store new.store → OnOk result (Knows way m new.store input)
-  -- with all that cached, it takes no memory and changes nothing but the progress
+  -- with all that cached, it fails because of its input alone, and changes nothing but the progress
   pub known : Knows way m old.store input → IsStill old new × IfErr result IsOfInput
   -- the searched bytes, and the search that is open: what its passes leave one after another
   pub ended : OnOk result (EndsProgress way m input old.store new.store)

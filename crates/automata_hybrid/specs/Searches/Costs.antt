@@ -21,7 +21,7 @@ pub record IsCostOfPass (way : Direction) (m : Machine) (input : Input) (old new
   pub counted : new.count ≤ old.count + (input.end - input.start + 2)
   -- a start state that is cached is not determinized again
   pub started : KnowsItsStart way m old.store input → new.count ≤ old.count + (input.end - input.start + 1)
-  -- where there is room for as many states, nothing is cleared
+  -- if there is room for as many states, nothing is cleared
   pub room : HasRoom old.store (input.end - input.start + 2) → new.store.clears ≡ old.store.clears
 
 -- what so many passes cost it one after another, each over the next span that is tried
@@ -39,14 +39,14 @@ pub record IsCostOfPasses (way : Direction) (m : Machine) (input : Input) (passe
   -- each costs what a pass over its span may; and so all of them together
   pub each : AreCostsInTurn way m input passes old new
   pub counted : new.count ≤ old.count + passes_most passes (input.end - input.start)
-  -- a start state that is cached is not determinized again: where those of all are, each pass determinizes once less
+  -- a start state that is cached is not determinized again: if those of all are, each pass determinizes once less
   pub started :
       ((k : ℕ) → k < passes → KnowsItsStart way m old.store (later way k input))
       → new.count + passes ≤ old.count + passes_most passes (input.end - input.start)
-  -- where there is room for as many states, nothing is cleared
+  -- if there is room for as many states, nothing is cleared
   pub room : HasRoom old.store (passes_most passes (input.end - input.start)) → new.store.clears ≡ old.store.clears
 
--- a search costs what its passes do: one, where no place is skipped or it is anchored
+-- a search costs what its passes do, of which there is at most one if no place is skipped or the search is anchored
 abbrev pub IsCostOfSearch : Direction → Machine → Input → CacheView → CacheView → Type 0
 IsCostOfSearch way m input old new = (passes : ℕ) × IsCostOfPasses way m input passes old new
 

@@ -34,9 +34,9 @@ pub record IsPassEffect {T : Type 0} (way : Direction) (m : Machine) (input : In
   pub counted : new.count ≤ old.count + (input.end - input.start + 2)
   -- A start state that is cached is not determinized again.
   pub started : KnowsItsStart way m old.store input → new.count ≤ old.count + (input.end - input.start + 1)
-  -- The cache has grown; where the pass cleared nothing, nothing is lost.
+  -- The cache has grown; if the pass cleared nothing, nothing is lost.
   pub grown : IsGrown old new
-  -- If all that it uses is cached, it takes no memory, and nothing changes but the progress of searches.
+  -- If all that it uses is cached, it fails because of its input alone, and only the progress of searches changes.
   pub known : KnowsPass way m old.store input → IsStill old new × IfErr result IsOfInput
   -- If the pass cleared nothing, all that it used is cached from then on.
   pub learned : ClearedNothing old.store new.store → OnOk result (HasLearnedAll way m new.store input)
@@ -60,9 +60,9 @@ pub record IsRestEffect {T : Type 0} (way : Direction) (m : Machine) (input : In
     (result : Result T SearchError) : Type 0 where
   -- It determinized at most once for each byte that is left of the span, and at its end.
   pub counted : new.count ≤ old.count + (input.end - input.start + 1 - k)
-  -- The cache has grown; where the pass cleared nothing, nothing is lost.
+  -- The cache has grown; if the pass cleared nothing, nothing is lost.
   pub grown : IsGrown old new
-  -- If all that the pass uses is cached, it takes no memory, and nothing changes but the progress of searches.
+  -- If all that the pass uses is cached, it fails because of its input alone, and only the progress changes.
   pub known : KnowsPass way m old.store input → IsStill old new × IfErr result IsOfInput
   -- If it cleared nothing, and what the first units used was cached, all that the pass used is cached from then on.
   pub learned :

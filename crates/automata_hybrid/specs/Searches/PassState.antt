@@ -101,7 +101,7 @@ abbrev pub IsMet : Direction → Machine → Stored → Input → (k id met : �
 IsMet way m c input k id met =
     met < unknown_id → (k < input.end - input.start) × (met ≡ known_step m c id (next (tape_in way input) k))
 
--- so is each transition that a pass took on its first `k` units
+-- each transition that a pass took on its first `k` units is cached, at a class that rows have
 abbrev pub HasLearned : Direction → Machine → Stored → Input → ℕ → Type 0
 HasLearned way m c input k = (j : ℕ) → j < k → Reads way m input j → HasLearnedUnit way m c input j
 
@@ -112,7 +112,7 @@ pub record HasRun (way : Direction) (m : Machine) (c : Stored) (input : Input) (
   pub known : (k : ℕ) → from ≤ k → k < to → KnowsUnit way m c input k
   pub learned : HasLearned way m c input from → HasLearned way m c input to
 
--- and its start, and all of them
+-- all that a pass used is cached: its start state, and each transition that it took
 abbrev pub HasLearnedAll : Direction → Machine → Stored → Input → Type 0
 HasLearnedAll way m c input =
     KnowsItsStart way m c input × ((k : ℕ) → Reads way m input k → HasLearnedUnit way m c input k)

@@ -111,8 +111,8 @@ Finds way m input reported =
 abbrev pub Skips : Machine → Type 0
 Skips m = IsSkipping (engine_of m.nfa (match_kind_of m.config))
 
--- what a search finds: what is reported over the first span where that is nothing or not split. No pass that it made
--- met a quit byte.
+-- what a search finds: what is reported over the first span for which that is nothing or not split. No pass that it
+-- made met a quit byte.
 abbrev pub IsFound : Direction → Machine → Input → Option Half → Type 0
 IsFound way m input answer = Answers (Finds way m) (Skips m) way input answer
 

@@ -48,7 +48,8 @@ AreUnitsRead way m input from (suc units) old new =
     (mid : Stored) × AreUnitsRead way m input from units old mid
     × IsUnitRead way m input (from + units) (with_search_moved way input (from + units) mid) new
 
--- and then the search has ended: at the last of them, or where there is none, at the place
+-- so many units from a place on are read, and then the search has ended: at the last of them, or if there is none, at
+-- the place
 abbrev pub HasEndedAfter : Direction → Machine → Input → (from units : ℕ) → (old new : Stored) → Type 0
 HasEndedAfter way m input from units old new =
     (mid : Stored) × AreUnitsRead way m input from units old mid

@@ -22,7 +22,7 @@ above low byte = (byte + (256 - low)) % 256
 abbrev pub Has : LoopRange → ℕ → Type 0
 Has r byte = above r.low byte < r.size
 
--- or one of two has it
+-- one of two ranges has a byte
 abbrev pub HasEither : LoopRange → LoopRange → ℕ → Type 0
 HasEither first second byte = Has first byte ⊎ Has second byte
 
@@ -31,7 +31,7 @@ abbrev pub byte_in : Direction → List ℕ → ℕ → ℕ
 byte_in Forward bytes k = slice_index bytes k
 byte_in Backward bytes k = slice_index bytes (length bytes - 1 - k)
 
--- where a place of 32 bytes is among these
+-- the index, among 32 bytes, of the one at a place of a search that reads them in a direction
 abbrev pub lane_of : Direction → ℕ → ℕ
 lane_of Forward k = k
 lane_of Backward k = 31 - k
@@ -44,20 +44,20 @@ pub record LoopsOn (m : Machine) (c : Stored) (id byte : ℕ) : Type 0 where
   pub back :
       (q : Powerset) → Names c.table id q → Leads c.table id (successor m.nfa (match_kind_of m.config) q (Some byte))
 
--- so it does on each byte of a range
+-- an ID's row leads back to it on each byte of a range
 pub record IsLoopRange (m : Machine) (c : Stored) (id : ℕ) (r : LoopRange) : Type 0 where
   pub loops : (byte : ℕ) → byte < 256 → Has r byte → LoopsOn m c id byte
 
--- and on each byte of its two ranges
+-- and on each byte of the two ranges that are kept of its self-loop
 pub record IsKnownLoop (m : Machine) (c : Stored) (id : ℕ) (k : KnownLoop) : Type 0 where
   pub first : IsLoopRange m c id k.first
   pub second : IsLoopRange m c id k.second
 
--- and on each byte from a place on, before another
+-- and on each byte of a list from a place on, before another
 abbrev pub LoopsOver : Machine → Stored → ℕ → Direction → List ℕ → ℕ → ℕ → Type 0
 LoopsOver m c id way bytes from to = (k : ℕ) → from ≤ k → k < to → LoopsOn m c id (byte_in way bytes k)
 
--- from a place on, up to another, within these bytes
+-- and so it does up to a place within the list
 pub record IsLoopRun (m : Machine) (c : Stored) (id : ℕ) (way : Direction) (bytes : List ℕ) (from to : ℕ) : Type 0 where
   pub more : from ≤ to
   pub within : to ≤ length bytes

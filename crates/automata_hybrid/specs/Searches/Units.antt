@@ -1,4 +1,4 @@
--- Units that a search reads from an ID: what the ID is that reading one answers, and what it makes of the cache.
+-- Units that a search reads from an ID: the ID that reading one returns, and what it makes of the cache.
 use Rattle.std.specs.Prelude.{ℕ, ◌≡◌, ◌+◌, ◌<◌, ◌≤◌, ◌⊎◌, true, false, Option, Result, IfErr, IfOk, OnErr, OnOk}
 use Rattle.automata_base.specs.Haystacks.Input.{Input}
 use Rattle.automata_base.specs.Powersets.Powerset.{Powerset, dead}
@@ -31,7 +31,7 @@ pub record IsStepRefusedAt (m : Machine) (id : ℕ) (unit : Option ℕ) (at : �
   -- It is reported at this offset.
   pub reported : e ≡ step_refusal error at
 
--- what the ID is that reading a unit from an ID answers
+-- the ID that reading a unit from an ID returns
 pub record IsReadAnswer (m : Machine) (id : ℕ) (unit : Option ℕ) (old new : CacheView) (next : ℕ) : Type 0 where
   -- The unit is no quit byte.
   pub clean : quits_on m unit ≡ false
@@ -56,9 +56,9 @@ pub record IsReadEffect {T : Type 0} (m : Machine) (id : ℕ) (unit : Option ℕ
   pub below : unit_class m unit < table_stride m
   -- It determinized at most once.
   pub counted : new.count ≤ old.count + 1
-  -- The cache has grown; where the call cleared nothing, nothing is lost.
+  -- The cache has grown; if the call cleared nothing, nothing is lost.
   pub grown : IsGrown old new
-  -- A cached transition takes no memory, and nothing changes but the progress of searches.
+  -- If the transition is cached, it fails because of its input alone, and only the progress of searches changes.
   pub known : KnowsStep m old.store id unit → IsStill old new × IfErr result IsOfInput
   -- If the call cleared nothing, the transition is cached from then on.
   pub learned : ClearedNothing old.store new.store → OnOk result (KnowsStep m new.store id unit)
@@ -88,7 +88,7 @@ pub record IsEndProgress {T : Type 0} (way : Direction) (m : Machine) (input : I
   pub ended :
       OnOk result ((mid : Stored) × IsUnitRead way m input k (with_search_moved way input k old) mid
       × (new ≡ with_search_ended way input k mid))
-  -- If it fails, the search has ended there at a quit byte, and else is left there; back it has ended before.
+  -- If it fails, the search has ended there at a quit byte, or else is left there; a pass backward has ended before.
   pub left : OnErr result (IsPassLeftAt way m input k old new)
 
 -- what reading the one unit of a pass that keeps no progress makes of what the cache holds

@@ -18,7 +18,7 @@ use Rattle.automata_hybrid.specs.Cache.Table.{Names}
 abbrev pub HoldsRow : CacheView → (id : ℕ) → Type 0
 HoldsRow c id = HasRow c.store.table id
 
--- one run over the span of an input answers this: the first match, or none
+-- one pass over the span of an input answers this: of an earliest search the first match, or none
 abbrev pub IsFirstMatch : Machine → Input → Option HalfMatch → Type 0
 IsFirstMatch m input half = IsPassAnswer Forward m input half
 
@@ -63,8 +63,8 @@ pub record IsStepAt (m : Machine) (c : CacheView) (input : Input) (at next : ℕ
       → IsFirstMatch m input (Some (record { pattern = pattern; offset = at }))
   -- With the dead tag there is no match.
   pub dead : HasDeadTag next → IsFirstMatch m input None
-  -- Without the match tag, and where the unit was no quit byte, the search stands one offset later, if the span has
-  -- more bytes.
+  -- Without the match tag, and if the unit was no quit byte, the search stands one offset later, if the span has more
+  -- bytes.
   pub on : (HasMatchTag next → ⊥) → (HasQuitTag next → ⊥) → at < input.end → StandsAt m c input (at + 1) next
   -- If the span has no more bytes, there is no match.
   pub last : (HasMatchTag next → ⊥) → (HasQuitTag next → ⊥) → at ≡ input.end → IsFirstMatch m input None
@@ -78,7 +78,7 @@ abbrev pub StepsOn : Machine → (old new : CacheView) → (id : ℕ) → (unit 
 StepsOn m old new id unit next =
     (input : Input) (at : ℕ) → StandsAt m old input at id → IsUnitAt input at unit → IsStepAt m new input at next
 
--- where no place is skipped, what one run answers is what a search finds; and if it ended at its first match, it is the
+-- if no place is skipped, what one pass answers is what a search finds; and if the search is an earliest one, it is the
 -- nearest end of a path
 abbrev pub FirstMatchIsFound : Machine → Type 0
 FirstMatchIsFound m =

@@ -46,7 +46,7 @@ pub record IsStartSlot (m : Machine) (mode : Anchored) (behind : Option ℕ) (sl
   -- There is such a slot.
   pub within : slot < slot_count m
 
--- the row of a start state, which has the start tag where the settings specialize start states
+-- the row of a start state, which has the start tag if the settings specialize start states
 abbrev pub start_row : Machine → Anchored → Option ℕ → Row
 start_row m mode behind = record {
   state = start_state_of m.nfa mode behind;
@@ -91,7 +91,7 @@ IsStartRefusalAt m c mode behind behind_at start_at e =
     (error : StartError) × IsStartRefusal m c mode behind error × (e ≡ search_refusal error behind_at start_at)
     × (KnowsStart m c mode behind → ⊥)
 
--- what the ID is that a start answers
+-- the ID of a start state that a call returns
 pub record IsStartAnswer (m : Machine) (mode : Anchored) (behind : Option ℕ) (old new : CacheView) (id : ℕ) :
     Type 0 where
   -- The call returns Ok only if a search may start: the look-behind byte is no quit byte, and the mode is supported.
@@ -112,7 +112,7 @@ pub record IsStartAnswer (m : Machine) (mode : Anchored) (behind : Option ℕ) (
       → IsStarted old.store (slot_behind m mode behind) (start_row m mode behind) new.store id
   -- A start state that was not cached had room, or the cache could be cleared for it.
   pub room : (KnowsStart m old.store mode behind → ⊥) → GivesUp old.store (start_state_of m.nfa mode behind) → ⊥
-  -- The start state is cached from then on, also where it cleared.
+  -- The start state is cached from then on, also if the call cleared the cache.
   pub learned : HasSlot m mode behind → KnowsStart m new.store mode behind
   -- It is this one that is cached.
   pub written : HasSlot m mode behind → known_start m new.store mode behind ≡ id
@@ -141,7 +141,7 @@ pub record IsStartRefusedAt (m : Machine) (mode : Anchored) (behind : Option ℕ
 
 -- what asking for a start state does to the cache, whether that returns Ok or an error
 pub record IsStartEffect (m : Machine) (mode : Anchored) (behind : Option ℕ) (old new : CacheView) : Type 0 where
-  -- The cache has grown; where the call cleared nothing, nothing is lost.
+  -- The cache has grown; if the call cleared nothing, nothing is lost.
   pub grown : IsGrown old new
   -- It determinized at most once.
   pub counted : new.count ≤ old.count + 1
@@ -149,9 +149,9 @@ pub record IsStartEffect (m : Machine) (mode : Anchored) (behind : Option ℕ) (
   pub computed :
       MayStart m mode behind → HasSlot m mode behind → (KnowsStart m old.store mode behind → ⊥)
       → new.count ≡ old.count + 1
-  -- Where a search may not start, nothing has changed.
+  -- If a search may not start, nothing has changed.
   pub barred : (MayStart m mode behind → ⊥) → new ≡ old
-  -- A cached start state takes no memory, and changes nothing.
+  -- If the start state is cached, nothing has changed.
   pub known : KnowsStart m old.store mode behind → new ≡ old
   -- Past the last pattern nothing has changed.
   pub past : MayStart m mode behind → slot_count m ≤ slot_behind m mode behind → new ≡ old

@@ -32,7 +32,7 @@ KnowsStep m c id unit = IsKnownTransition c id (unit_class m unit)
 abbrev pub known_step : Machine → Stored → (id : ℕ) → (unit : Option ℕ) → ℕ
 known_step m c id unit = cell_of c id (unit_class m unit)
 
--- what the ID is that a step from an ID on a unit answers
+-- the ID that a step from an ID on a unit returns
 pub record IsStepAnswer (m : Machine) (id : ℕ) (unit : Option ℕ) (old new : CacheView) (next : ℕ) : Type 0 where
   -- Its row is there.
   pub row : HasRow new.store.table next
@@ -78,7 +78,7 @@ pub record IsStepRefused (m : Machine) (id : ℕ) (unit : Option ℕ) (old new :
 
 -- what a step from an ID on a unit does to the cache, whether it returns Ok or an error
 pub record IsStepEffect (m : Machine) (id : ℕ) (unit : Option ℕ) (old new : CacheView) : Type 0 where
-  -- The cache has grown; where the call cleared nothing, nothing is lost.
+  -- The cache has grown; if the call cleared nothing, nothing is lost.
   pub grown : IsGrown old new
   -- It determinized at most once.
   pub counted : new.count ≤ old.count + 1
@@ -86,9 +86,9 @@ pub record IsStepEffect (m : Machine) (id : ℕ) (unit : Option ℕ) (old new : 
   pub computed : id < fixed_from → (KnowsStep m old.store id unit → ⊥) → new.count ≡ old.count + 1
   -- A step from dead or quit changes nothing.
   pub fixed : fixed_from ≤ id → new ≡ old
-  -- A quit byte takes no memory, and changes nothing.
+  -- A quit byte changes nothing.
   pub quit : quits_on m unit ≡ true → new ≡ old
-  -- A cached transition takes no memory, and changes nothing.
+  -- A cached transition changes nothing.
   pub known : KnowsStep m old.store id unit → new ≡ old
   -- The progress of searches is unchanged, except for what a clear does to it.
   pub progress : KeepsProgress old.store new.store

@@ -38,7 +38,7 @@ half_nth [] k = None
 half_nth (pair ∷ pairs) zero = Some (record { pattern = pair.pattern; offset = pair.place })
 half_nth (pair ∷ pairs) (suc k) = half_nth pairs k
 
--- by its first `n` units a pass reports `k` pairs to a walk, the split ones left out where they are skipped
+-- by its first `n` units a pass reports `k` pairs to a walk, the split ones left out if they are skipped
 pub record HasReportedBy (way : Direction) (m : Machine) (input : Input) (n k : ℕ) : Type 0 where
   pub pairs : List Pair
   pub unsplit : AreUnsplit (Skips m) way input (pairs_in way m input n) pairs
@@ -120,15 +120,15 @@ IsResumeRefusal way m c input Fresh units e =
 IsResumeRefusal way m c input (At q) units e = IsPutBackRefusal c q (given_up_offset way input units) e
 IsResumeRefusal way m c input Ended units e = ⊥
 
--- the state after the unit at place `j` reports a pair, and cannot be held: its users cannot be counted once more,
--- which is reported as out of memory
+-- the state after the unit at place `j` reports a pair, and cannot be held: the count of those who share it cannot
+-- rise, which is reported as out of memory
 pub record IsUnheld (way : Direction) (m : Machine) (input : Input) (j : ℕ) (e : SearchError) : Type 0 where
   pub clean : IsNoQuit m (next (tape_in way input) j)
   pub reports : 0 < length (state_in way m input (suc j)).patterns
   pub unskipped : Skips m → is_split input.haystack (offset_in way input j) ≡ false
   pub memory : e ≡ search.OutOfMemory
 
--- why a call fails at the unit at place `j`: the step on it does; or, where states are kept, the one after it cannot be
+-- why a call fails at the unit at place `j`: the step on it does; or, if states are kept, the one after it cannot be
 -- held
 abbrev pub IsRefusalAt : Keeping → Direction → Machine → Stored → Input → ℕ → SearchError → Type 0
 IsRefusalAt Ids way m c input j e = IsUnitRefusal way m c input j e
@@ -161,14 +161,14 @@ pub record Arrives (way : Direction) (m : Machine) (t : Rows) (input : Input) (f
   pub unskipped : Skips m → is_split input.haystack (offset_in way input place) ≡ false
   pub silent : IsSilent way m input from place
 
--- or to its end
+-- from its first `from` units a walk went on, without a quit byte, to its end after `units` of them
 pub record Finishes (way : Direction) (m : Machine) (input : Input) (from units : ℕ) : Type 0 where
   pub more : from ≤ units
   pub clean : WalkMeetsNoQuit way m input
   pub silent : IsSilent way m input from (suc (length (tape_in way input).bytes))
   pub stops : (j : ℕ) → units ≤ j → WalkReads way m input j → ⊥
 
--- to a state that reports patterns, if there is an ID, and else to its end
+-- a walk went on to a state that reports patterns, if there is an ID, or to its end, if there is none
 abbrev pub IsArrival : Direction → Machine → Rows → Input → (from : ℕ) → Option ℕ → (units : ℕ) → Type 0
 IsArrival way m t input from None units = Finishes way m input from units
 IsArrival way m t input from (Some id) units = Arrives way m t input from id units

@@ -64,7 +64,7 @@ abbrev pub IsPutBack : Powerset → (old new : CacheView) → Type 0
 IsPutBack q old new =
     (new.count ≡ old.count) × IsAddedStart old.store (record { state = q; started = false }) new.store
 
--- why a call fails though all that it uses is cached: because of its input; or, where states are kept, since the one
+-- why a call fails though all that it uses is cached: because of its input; or, if states are kept, since the one
 -- that reports the next pair cannot be held
 abbrev pub IsKnownRefusal : Keeping → Direction → Machine → Input → Walk → SearchError → Type 0
 IsKnownRefusal Ids way m input walk e = IsOfInput e
@@ -83,7 +83,7 @@ pub record IsCallEffect {T : Type 0} (keeping : Keeping) (way : Direction) (m : 
       KnowsItsState way m old.store input walk.stage
       → (new.count ≤ old.count + (input.end - input.start + 1 - walk.units))
       × OnOk result (new.count + walk.units ≤ old.count + next.units)
-  -- nothing is cleared where there is room for as many states, and for the walk's own
+  -- nothing is cleared if there is room for as many states, and for the walk's own
   pub roomy : HasRoom old.store (input.end - input.start + 1 - walk.units + 1) → new.store.clears ≡ old.store.clears
   -- the cache has grown as by one determinization more; if it had the walk's state, as by those that were made
   pub grown : IsGrown old (counted new)
@@ -94,7 +94,8 @@ pub record IsCallEffect {T : Type 0} (keeping : Keeping) (way : Direction) (m : 
       → (new ≡ old) ⊎ ((between : CacheView) × IsPutBack q old between × IsGrown between new)
   -- if nothing was cleared, what it used is cached
   pub learned : ClearedNothing old.store new.store → OnOk result (KnowsWalk way m new.store input walk)
-  -- with all that cached, it takes no memory and changes nothing but the progress
+  -- with all that cached, it fails because of its input alone, or since its state cannot be held, and changes nothing
+  -- but the progress
   pub known :
       KnowsWalk way m old.store input walk
       → IsStill old new × IfErr result (IsKnownRefusal keeping way m input walk)
@@ -147,7 +148,7 @@ pub record IsWhichEffect (m : Machine) (input : Input) (set : List Bool) (old ne
   pub grown : IsGrown old new
   -- and all that it used is cached
   pub learned : ClearedNothing old.store new.store → OnOk result (KnowsWhich m new.store input set)
-  -- with all that cached, it takes no memory and changes nothing but the progress
+  -- with all that cached, it fails because of its input alone, and changes nothing but the progress
   pub known : KnowsWhich m old.store input set → IsStill old new × IfErr result IsOfInput
   -- the searched bytes, and the search that is open: what the calls of its walk leave one after another
   pub ended : OnOk result (EndsSet m input set old.store new.store)

@@ -56,7 +56,7 @@ pub record IsCallAnswer (way : Direction) (m : Machine) (input : Input) (walk ne
   pub reports : ReportsNext way m input walk next
   -- with a match it has read more units or reported one pattern more
   pub goes_on : GoesOn walk next
-  -- where it has ended it reads no unit more
+  -- if it has ended, there is no unit more for it to read
   pub stops :
       input.start ≤ input.end → (walk.stage ≡ Ended → ⊥) → next.stage ≡ Ended → (j : ℕ) → next.units ≤ j
       → WalkReads way m input j → ⊥
@@ -75,7 +75,7 @@ pub record IsCallRefused (keeping : Keeping) (way : Direction) (m : Machine) (in
   -- one that reads no unit does not fail
   pub ready : ReadsNoUnit input walk → ⊥
 
--- what the ID is that a walk goes on from
+-- the ID that a walk goes on from
 pub record IsResumeAnswer (way : Direction) (m : Machine) (input : Input) (walk : Walk) (new : Stored) (id : ℕ) :
     Type 0 where
   -- it leads to the state after the units read
@@ -115,18 +115,18 @@ pub record IsPutBackEffect {T E : Type 0} (q : Powerset) (old new : CacheView) (
   -- one that is not there is added again
   pub again : (Has old.store.table q → ⊥) → OnOk result (IsPutBack q old new)
 
--- a walk has read so many units of its span, and one is left: the ID names its state there
+-- a walk has read so many units, and at least one is left: the ID names its state there
 pub record StandsAfterUnits (way : Direction) (m : Machine) (t : Rows) (input : Input) (units id : ℕ) : Type 0 where
   pub undone : input.start ≤ input.end
   pub left : units ≤ input.end - input.start
   pub named : Names t id (state_in way m input units)
 
--- what reading that one makes of the cache
+-- what reading the next unit makes of the cache
 pub record IsUnitEffect {T : Type 0} (way : Direction) (m : Machine) (input : Input) (place : ℕ) (old new : CacheView)
     (result : Result T SearchError) : Type 0 where
   -- it determinizes at most once
   pub counted : new.count ≤ old.count + 1
-  -- the cache has grown; where nothing was cleared, nothing is lost
+  -- the cache has grown; if nothing was cleared, nothing is lost
   pub grown : IsGrown old new
   -- if its transition is cached, it determinizes nothing, and does not fail for lack of room
   pub known : KnowsUnit way m old.store input place → (new.count ≡ old.count) × IfErr result IsOfInput
@@ -140,7 +140,7 @@ pub record IsUnitEffect {T : Type 0} (way : Direction) (m : Machine) (input : In
 -- what going on over the units of a walk from there makes of the cache
 pub record IsAdvanceEffect (way : Direction) (m : Machine) (input : Input) (units : ℕ) (old new : CacheView)
     (result : Result Arrival SearchError) : Type 0 where
-  -- the cache has grown; where nothing was cleared, nothing is lost
+  -- the cache has grown; if nothing was cleared, nothing is lost
   pub grown : IsGrown old new
   -- it determinizes at most once for each unit read; if it fails, at most once for each that was left
   pub cost : IfOk result (λ a. new.count + units ≤ old.count + a.units)

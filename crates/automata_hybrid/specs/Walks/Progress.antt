@@ -22,7 +22,7 @@ ReadsNoUnit input w =
     (w.stage ≡ Ended)
     ⊎ (((q : Powerset) × (w.stage ≡ At q) × (w.reported < length q.patterns)) ⊎ (input.end < input.start + w.units))
 
--- a walk has the state that it goes on from: its start; or the state where it stands, which is put back where the cache
+-- a walk has the state that it goes on from: its start; or the state where it stands, which is put back if the cache
 -- lacks it
 abbrev pub IsResumed : Direction → Machine → Input → Stage → (old new : Stored) → Type 0
 IsResumed way m input Fresh old new = HasItsStart way m input old new

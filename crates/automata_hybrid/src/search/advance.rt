@@ -1,4 +1,4 @@
-//! The bytes of a walk and the end, in either direction, and going on over them to the next state whose patterns match.
+//! How a walk goes on, in either direction, to the next state whose patterns match.
 ghost use Rattle.std.specs.Prelude.{ℕ, ◌≡◌, ◌-◌, ◌<◌, ◌≤◌, ◌⊎◌, IfOk, IfErr, OnOk, Some, []};
 ghost use Rattle.std.specs.Prelude.{true, false, suc, length};
 ghost use Rattle.automata_base.specs.Answers.Answers.{offset_in};
@@ -24,7 +24,7 @@ use crate::search::follow::Stop;
 use automata_base::util::search::Input;
 use automata_config::error::SearchError;
 
-/// Where a walk has come to: a state whose patterns match, or none at its end; and how much it has read.
+/// Where a walk has come to: a state whose patterns match, or none at its end; and how many units it has read.
 #[derive(Clone, Copy)]
 pub(crate) struct Arrival {
     pub(crate) id: Option<LazyStateID>,

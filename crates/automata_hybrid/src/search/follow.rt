@@ -1,5 +1,5 @@
-//! Following cached transitions, as many at once as can be: into states that report nothing or into match states, and
-//! along self-loops.
+//! Following cached transitions, eight a turn: into states that report nothing or into match states, and along
+//! self-loops.
 ghost use Rattle.std.specs.Prelude.{ℕ, ◌≡◌, ◌+◌, ◌-◌, ◌<◌, ◌≤◌};
 ghost use Rattle.automata_base.specs.Paths.Paths.{next};
 ghost use Rattle.automata_hybrid.specs.Cache.Caches.{IsCacheOf};
@@ -17,8 +17,8 @@ use crate::id::LazyStateID;
 use crate::search::direction::{Way, byte_at, bytes_from, last_place};
 use automata_base::util::search::Input;
 
-/// How many bytes are followed before a self-loop is looked for again, where one was looked for in vain. That look
-/// reads up to eight cells, which is little beside so many bytes.
+/// How many bytes are followed before a self-loop is looked for again, if one was looked for in vain. That look reads
+/// up to eight cells, which is little beside so many bytes.
 const PATIENCE: usize = 256;
 
 /// Where cached transitions were followed to.
@@ -26,7 +26,7 @@ const PATIENCE: usize = 256;
 pub(super) struct Stop {
     pub(super) at: usize,
     pub(super) id: LazyStateID,
-    /// The ID that comes next, at which this stopped: unknown where none was read.
+    /// The ID that comes next, at which this stopped: unknown if none was read.
     pub(super) next: LazyStateID,
 }
 
@@ -220,7 +220,7 @@ impl DFA {
         }
     }
 
-    /// The ID after the byte at a place, as far as it is cached, of an ID that has a tag and no other.
+    /// The ID after the byte at a place, or unknown if it is not cached, of an ID that has a tag and no other.
     fn follow_byte(
         &self,
         cache: &Cache,
@@ -241,7 +241,7 @@ impl DFA {
         self.next_state_in_row(cache, id, id.less(tag), byte_at(input, way, place))
     }
 
-    /// A cached transition on the byte at a place leads on, and if it leads to an ID without a tag, reports nothing. This
+    /// A cached transition on the byte at a place leads on, and if it leads to an ID without a tag, reports nothing. It
     /// does nothing.
     #[inline(always)]
     fn see_byte(&self, cache: &Cache, input: &Input<'_>, way: Way, place: usize, id: LazyStateID)
@@ -259,7 +259,7 @@ impl DFA {
         let _next = self.next_state_known(cache, id, byte_at(input, way, place));
     }
 
-    /// Follows the self-loop of an ID that may have a tag, where it has one.
+    /// Follows the self-loop of an ID that may have a tag, if its row has one.
     #[inline(always)]
     fn follow_loop(
         &self,

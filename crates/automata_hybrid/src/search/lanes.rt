@@ -11,8 +11,8 @@ use std::simd::prelude::*;
 /// How many bytes are compared at once.
 pub(super) const LANES: usize = 32;
 
-/// A bit for each of the 32 bytes from an offset on, whether it is outside a range: `size` bytes from `low` on, of which 0
-/// follows 255.
+/// A bit for each of the 32 bytes from an offset on: 0 only if the byte is in a range, which has `size` bytes from
+/// `low` on, where 0 follows 255.
 #[inline(always)]
 fn outside(low: u8, size: u8, bytes: &[u8], from: usize) -> u64
     requires { from + 32 ≤ length bytes.now }
@@ -23,7 +23,7 @@ fn outside(low: u8, size: u8, bytes: &[u8], from: usize) -> u64
     above.simd_ge(u8x32::splat(size)).to_bitmask()
 }
 
-/// The same of the 32 bytes from a place on, of a slice that is read from its front or from its back.
+/// The same for the 32 bytes from a place on, of a slice that is read from its front or from its back.
 #[inline(always)]
 fn outside_at(way: Way, range: LoopRange, bytes: &[u8], at: usize) -> u64
     requires { at + 32 ≤ length bytes.now }

@@ -10,7 +10,7 @@ use crate::dfa::DFA;
 use crate::dfa::cache::Cache;
 use crate::id::LazyStateID;
 
-/// So many bytes from a lowest one on, of which 0 follows 255, and how many classes they are of.
+/// A range of bytes: so many from a lowest one on, where 0 follows 255, and how many classes they are of.
 #[derive(Clone, Copy, Default)]
 pub(crate) struct LoopRange {
     pub(super) low: u8,
@@ -73,7 +73,7 @@ impl DFA {
         self.loops_between(cache, id, from, 256) && self.loops_between(cache, id, 0, to - 256)
     }
 
-    /// The first byte whose class is not below one; 0 where there is none.
+    /// The first byte whose class is not below the given one; 0 if there is none.
     fn first_byte(&self, class: usize) -> u8 {
         let mut first = 0u8;
         for half in [128u8, 64, 32, 16, 8, 4, 2, 1, 1] {
@@ -123,6 +123,7 @@ impl DFA {
     {
         let (first, after, classes) = self.classes_around(cache, id, self.class_of(byte));
         let low = self.first_byte(first);
+        // All 256 bytes would be size 0: then one of them is left out.
         let size = match self.first_byte(after).wrapping_sub(low) {
             0 => 255,
             size => size,

@@ -28,8 +28,8 @@ use automata_base::util::search::{HalfMatch, Input};
 use automata_config::error::{SearchError, StepError};
 
 impl DFA {
-    /// Goes on to the next of all overlapping matches, which `OverlappingState::get_match` returns; when none is left it
-    /// returns none, then and after each later call. Use the state with one DFA and one input alone, and with any
+    /// Goes on to the next of all overlapping matches, which `OverlappingState::get_match` returns; when none is left,
+    /// that returns none, then and after each later call. Use the state with one DFA and one input alone, and with any
     /// cache of that DFA.
     ///
     /// ```rust
@@ -63,7 +63,7 @@ impl DFA {
         self.call(cache, input, Way::Forward, state)
     }
 
-    /// The same from the span's end to its start. The DFA has to be of a reversed NFA.
+    /// The same from the span's end to its start: the DFA reads the span backward, so build it of a reversed NFA.
     pub fn try_search_overlapping_rev(
         &self,
         cache: &mut Cache,

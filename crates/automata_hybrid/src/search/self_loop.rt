@@ -1,4 +1,4 @@
-//! Following a self-loop: eight bytes at once, and 32 at once where they are in a range on which the row is known to lead
+//! Following a self-loop: eight bytes at once, and 32 at once if they are in a range on which the row is known to lead
 //! back to itself.
 ghost use Rattle.std.specs.Prelude.{◌≡◌, ◌+◌, ◌<◌, ◌≤◌, IsTrue, length};
 ghost use Rattle.automata_hybrid.specs.Cache.Caches.{IsCacheOf};
@@ -17,13 +17,13 @@ use crate::search::loop_range::LoopRange;
 /// How many bytes of a self-loop are followed eight at once before its ranges are looked for.
 const MANY: usize = 256;
 
-/// And before they are looked for again, where they are of many classes, or too many bytes were outside them.
+/// And before they are looked for again, if they are of many classes, or too many bytes were outside them.
 const AGAIN: usize = 2048;
 
 /// Ranges of more classes than these are not kept from one run to the next, since each class is tested then.
 const CLASSES: u16 = 8;
 
-/// A scan ends where more than one byte in `LANES` was outside its ranges, once there were so many bytes.
+/// A scan ends if more than one byte in `LANES` was outside its ranges, counted as if it had read so many bytes more.
 const MISSES: usize = 256;
 
 /// What was found of a row's self-loop: two ranges of its bytes.

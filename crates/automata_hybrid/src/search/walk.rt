@@ -1,3 +1,4 @@
+//! How far an overlapping search is, and what it holds between its calls.
 ghost use Rattle.std.specs.Prelude.{◌≡◌, ◌+◌, ◌<◌, ◌^◌, IfOk, OnErr, true, false};
 ghost use Rattle.std.specs.Prelude.{None};
 ghost use Rattle.automata_base.specs.Powersets.Powerset.{Powerset};
@@ -34,6 +35,7 @@ impl Handle {
 }
 
 /// What is held of a walk's state: the state itself, or, in a walk that lasts for one call only, the ID of its row.
+/// There is none before the walk begins.
 #[derive(Drop)]
 pub(crate) enum Held {
     State(Option<Handle>),
@@ -58,7 +60,7 @@ impl Held {
         }
     }
 
-    /// Lets the state go of a walk that has ended.
+    /// Drops the state, if the walk has ended.
     pub(crate) fn release(&mut self, walk: &Cursor)
         requires { IsHeldItself walk.now.stage self.old }
         ensures { IsHeldItself walk.now.stage self.new }
@@ -281,7 +283,7 @@ impl fmt::Debug for OverlappingState {
 impl Clone for OverlappingState {
     ghost is_clone = { λ a b. b ≡ a };
 
-    /// It allocates nothing, since states are shared. It fails only if the state cannot be shared once more.
+    /// A clone allocates nothing, since states are shared. It fails only if the state cannot be shared once more.
     fn clone(&self) -> Result<OverlappingState, AllocError> {
         let held = self.held.share()?;
         Ok(OverlappingState {

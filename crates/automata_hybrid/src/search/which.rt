@@ -46,7 +46,7 @@ impl DFA {
         reported
     }
 
-    /// Takes one pair after another.
+    /// Takes one match after another, until there is none, the set is full, or an earliest search has one.
     fn collect(
         &self,
         cache: &mut Cache,

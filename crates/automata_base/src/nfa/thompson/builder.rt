@@ -229,7 +229,7 @@ impl Builder {
     }
 
     /// Adds an alternate to a union, or changes the target of a state that has one. Fail and match states stay as they
-    /// are.
+    /// are. A sparse state cannot be patched: it has its targets with its ranges.
     pub fn patch(&mut self, from: StateID, to: StateID) -> Result<(), BuildError>
         ensures patched { OnOk result ((old shape : Shape) → slice_get self.old.states from ≡ Some old
             → patched old to ≡ Some shape → self.new ≡ with_states self.old (set self.old.states from shape)) }

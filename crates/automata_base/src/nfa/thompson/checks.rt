@@ -1,3 +1,4 @@
+//! The tests of `NFA::from_states`.
 ghost use Rattle.std.specs.Prelude.{◌≡◌, ◌<◌, ◌-◌, ◌+◌, ltb, leb, ◌&&◌, ℕ, Some};
 ghost use Rattle.automata_base.specs.Lists.{all_below};
 ghost use Rattle.automata_base.specs.Retraced.ComputedPass.{any_node};
@@ -16,9 +17,10 @@ use crate::nfa::thompson::{NfaError, State, Transition};
 use crate::util::look::LookSet;
 use crate::util::primitives::{PatternID, StateID};
 
-// 2^27 and 2^31.
+// 2^27: the most states, and the most patterns.
 const MAX_STATES: usize = 134_217_728;
 
+// 2^31, in all unions together.
 const MAX_ALTERNATES: usize = 2_147_483_648;
 
 fn is_below(id: StateID, n: usize) -> bool
@@ -208,7 +210,7 @@ fn less_one(n: usize) -> usize
     if n == 0 { 0 } else { n - 1 }
 }
 
-/// The room that a stack needs, if the unions have at most 2^31 alternates in all.
+/// The room that the stack of a closure needs, if the unions have at most 2^31 alternates in all.
 pub fn room_of(states: &[State]) -> Option<usize>
     ensures some { (room : ℕ) → result ≡ Some room → room ≡ stack_room states.now }
     ensures few { (room : ℕ) → result ≡ Some room → is_narrow states.now ≡ true }
@@ -239,7 +241,7 @@ fn are_starts(n: usize, anchored: StateID, unanchored: StateID, starts: &[StateI
     is_below(anchored, n) && is_below(unanchored, n) && ids_below(starts, n)
 }
 
-/// The room that a stack needs, unless a test fails.
+/// Makes the tests of `NFA::from_states`, one after another, and returns the room that the stack of a closure needs.
 pub fn test(
     states: &[State],
     anchored: StateID,

@@ -17,7 +17,7 @@ use crate::util::determinize::sparse_set::SparseSet;
 use crate::util::primitives::{PatternID, StateID};
 use std::alloc::{AllocError, Global};
 
-// 2^27.
+// 2^27, the most states of an NFA.
 const MAX_STATES: usize = 134_217_728;
 
 // The number of a member's copy, if the copies begin at `base`.

@@ -30,8 +30,11 @@ use thiserror::Error;
 /// An edge that reads a byte: from `lo` to `hi`, both included, it leads to `next`.
 #[derive(Clone, Copy, Debug, PartialEq, Eq)]
 pub struct Transition {
+    /// The least byte.
     pub lo: u8,
+    /// The greatest byte.
     pub hi: u8,
+    /// The state that the byte leads to.
     pub next: StateID,
 }
 
@@ -65,7 +68,9 @@ pub enum State {
     },
     /// A union of two alternates, `alt1` preferred.
     BinaryUnion {
+        /// The alternate that is preferred.
         alt1: StateID,
+        /// The other one.
         alt2: StateID,
     },
     /// Goes on without reading. Searches ignore its group.
@@ -83,6 +88,7 @@ pub enum State {
     Fail,
     /// Matches the pattern.
     Match {
+        /// The pattern that matches.
         pattern: PatternID,
     },
 }
@@ -153,7 +159,7 @@ pub enum ReverseError {
     /// round.
     #[error("the starts differ in the empty match, so the reversed NFA would have others")]
     Starts,
-    /// The reversed NFA would have more states or alternates than an NFA may have.
+    /// The reversed NFA might have more states or alternates than an NFA may have, by a bound of its size.
     #[error("the reversed NFA would be too large")]
     TooLarge,
     /// An allocation failed.
@@ -528,8 +534,9 @@ impl NFA {
     /// a `Dense` state that lead to one state are one edge.
     ///
     /// It fails if the empty match is reached from the start of a pattern and not from the anchored start, or the other
-    /// way round, since then the two would not omit the same empty matches in UTF-8 mode; if the reversed NFA would be
-    /// too large; and if an allocation fails.
+    /// way round, since then the two would not omit the same empty matches in UTF-8 mode; if by that bound, or a like
+    /// one for alternates, the reversed NFA might be too large; and if an allocation fails. A regex of the two also
+    /// needs `skips_lazily` of this NFA.
     ///
     /// ```text
     /// let reverse = forward.reversed()?;

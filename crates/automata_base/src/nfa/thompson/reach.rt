@@ -1,3 +1,4 @@
+//! Which states edges reach, and what an NFA says of itself by that.
 ghost use Rattle.std.specs.Prelude.{◌≡◌, ◌<◌, ◌≤◌, ◌^◌, ◌↔◌, ℕ, [], ◌∷◌, true, length, get_or, IfOk, IsTrue, Some};
 ghost use Rattle.std.specs.Prelude.{None, take};
 ghost use Rattle.automata_base.specs.Lists.{all_below, In};
@@ -195,6 +196,7 @@ pub fn reach(
     Ok(set)
 }
 
+/// Whether it is a match state.
 pub fn is_match(state: &State) -> bool
     ensures { IsTrue result ↔ IsMatchAt (node_of state.now) }
 {

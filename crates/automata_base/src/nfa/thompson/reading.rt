@@ -1,3 +1,4 @@
+//! What one state of an NFA has: its look, its pattern, and where it leads.
 ghost use Rattle.std.specs.Prelude.{◌≡◌, ◌<◌, ◌||◌, eqb, Some};
 ghost use Rattle.std.specs.Prelude.{None, length, slice_index_or};
 ghost use Rattle.automata_base.specs.Nfas.Accepted.{IsChecked};

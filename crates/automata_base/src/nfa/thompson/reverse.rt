@@ -16,7 +16,7 @@ use crate::nfa::thompson::{ReverseError, State};
 use crate::util::primitives::StateID;
 use std::alloc::Global;
 
-// 2^27.
+// 2^27, the most states of an NFA.
 const MAX_STATES: usize = 134_217_728;
 
 /// Why an NFA cannot be reversed, by why its states cannot be made.

@@ -1,3 +1,4 @@
+//! Closures: what epsilon edges reach, in the order of preference.
 ghost use Rattle.std.specs.Prelude.{◌≡◌, ◌+◌, ◌<◌, ◌≤◌, ◌∷◌, ◌++◌, List, ℕ, length, reverse, All, vec_len};
 ghost use Rattle.std.specs.Prelude.{vec_capacity, option_to_list, IsTrue, [], drop};
 ghost use Rattle.automata_base.specs.Lists.{In};
@@ -43,7 +44,7 @@ fn is_leaf(state: &State) -> bool
     }
 }
 
-// Visits the states at the front of a list that no epsilon edge leaves, and gives how many these are.
+// Visits the states at the front of a list that no epsilon edge leaves, and returns how many these are.
 fn visit_leaves(nfa: &NFA, list: &[StateID], set: &mut SparseSet) -> usize
     requires below { (q : ℕ) → In q list.now → q < length nfa.now.states }
     requires whole { set.old.capacity ≡ length nfa.now.states }
@@ -65,7 +66,7 @@ fn visit_leaves(nfa: &NFA, list: &[StateID], set: &mut SparseSet) -> usize
     list.len()
 }
 
-// Gives the first state that an epsilon edge leads to, and puts the others on the stack. States at the front that no
+// Returns the first state that an epsilon edge leads to, and puts the others on the stack. States at the front that no
 // epsilon edge leaves are visited at once.
 fn expand(
     nfa: &NFA,
@@ -144,8 +145,8 @@ fn close_from(
     }
 }
 
-/// Adds what epsilon edges reach from `start` to the set. The stack's room is made beforehand, so the call takes no
-/// memory. Most states have no such edge, and need no stack.
+/// Adds what epsilon edges reach from `start` to the set. The stack's room is made beforehand, so the call allocates
+/// nothing. Most states have no such edge, and need no stack.
 #[inline(always)]
 pub fn close_one(
     nfa: &NFA,

@@ -1,3 +1,4 @@
+//! The start states and successors of the powerset construction.
 ghost use Rattle.std.specs.Prelude.{◌≡◌, ◌<◌, ◌≤◌, [], ◌∷◌, List, ℕ, length, true, false, IsTrue, IsFalse};
 ghost use Rattle.std.specs.Prelude.{Option, Some, None, ◌&&◌, vec_capacity};
 ghost use Rattle.automata_base.specs.Retraced.ComputedPass.{known_looks, any_node, is_full};
@@ -76,7 +77,7 @@ fn has_any(list: &[StateID]) -> bool
     !list.is_empty()
 }
 
-/// Makes a powerset state of a closure, the patterns being there.
+/// Makes a powerset state of a closure, whose patterns are set before.
 fn fill(nfa: &NFA, set: &SparseSet, known: LookSet, prev: Option<u8>, parts: &mut Parts)
     requires whole { set.now.capacity ≡ length nfa.now.states }
     requires parts { IsPartsRoom nfa.now parts.old }
@@ -331,7 +332,7 @@ fn advance(
     fill(nfa, set, known, unit, parts);
 }
 
-/// The state that follows on a unit.
+/// The successor on a unit.
 pub fn next_into(
     nfa: &NFA,
     kind: MatchKind,

@@ -1,3 +1,4 @@
+//! Which looks are known after a byte, and which the next unit decides.
 ghost use Rattle.std.specs.Prelude.{◌≡◌, ◌<◌, ◌&&◌, ◌||◌, not, true, false, eqb, IsTrue, IsFalse, IfSome, OnSome};
 ghost use Rattle.std.specs.Prelude.{None};
 ghost use Rattle.automata_base.specs.Haystacks.Looks.{is_word_byte, is_word, is_byte, first_half, second_half};
@@ -121,7 +122,7 @@ fn is_known(nfa: &NFA, look: Look, prev: Option<u8>) -> bool
     nfa.look_set_any().contains(look) && is_always(look, flags.line_terminator, flags.reverse, prev)
 }
 
-// The set with the look where it passes.
+// The set, with the look if it passes.
 fn insert_if(set: LookSet, look: Look, passes: bool) -> LookSet
     ensures { (other : Look) → truth_of result other
         ≡ (eqb (look_index other) (look_index look) && passes || truth_of set other) }
@@ -197,7 +198,7 @@ pub fn has_news(needed: LookSet, truth: LookSet, known: LookSet) -> bool
     finds_news(needed, truth, known)
 }
 
-/// The looks that are true at the unit, where one of them is needed and was not known.
+/// The looks that are true at the unit, if one of them is needed and was not known.
 pub fn news(nfa: &NFA, from: &State, unit: Option<u8>) -> Option<LookSet>
     ensures truth { IfSome result (λ truth. (look : Look)
         → truth_of truth look ≡ true_looks (nfa_of nfa.now) from.now unit look) }

@@ -1,4 +1,4 @@
-// The NFA states of a state, read one by one from its bytes.
+//! The NFA states of a powerset state, read one by one from its bytes.
 ghost use Rattle.automata_base.specs.Lists.{all_below};
 ghost use Rattle.std.specs.Prelude.{◌≡◌, OnOk};
 ghost use Rattle.std.specs.Iterator.{YieldsFirst, item_count};
@@ -79,7 +79,7 @@ pub fn read_ids(ids: Ids<'_>, out: &mut Vec<StateID>) -> Result<(), AllocError>
     Ok(())
 }
 
-/// Sets the list to the NFA states, with room made for all of them first, so that none asks for its own.
+/// Sets the list to the NFA states. It makes room for all of them first, so that none asks for its own.
 pub(crate) fn list_ids(ids: Ids<'_>, out: &mut Vec<StateID>) -> Result<(), AllocError>
     ensures ok { OnOk result (out.new.items ≡ ids.entry) }
 {

@@ -1,4 +1,4 @@
-// Keys of a map from states: a state is looked up by its bytes before it is shared.
+//! Keys of a map from powerset states: a state is looked up by its bytes before it is shared.
 ghost use Rattle.std.specs.Prelude.{◌≡◌, ◌⊎◌, [], IfOk};
 ghost use Rattle.automata_base.specs.Powersets.Code.{code, decoded, IsCode};
 
@@ -118,7 +118,7 @@ impl Key {
         }
     }
 
-    /// A key that holds these bytes, as `Parts::write` makes them. It takes no memory.
+    /// A key that holds these bytes, as `Parts::write` makes them. It allocates nothing.
     pub fn own(bytes: Vec<u8>) -> Key
         requires { IsCode bytes.items }
         ensures { result ≡ decoded bytes.items }
@@ -128,14 +128,14 @@ impl Key {
         }
     }
 
-    /// The state of the key, its bytes shared anew.
+    /// The state of the key, with a copy of its bytes.
     pub fn to_state(&self, alloc: Global) -> Result<State, AllocError>
         ensures { IfOk result (λ state. state ≡ self.now) }
     {
         State::from_bytes(alloc, self.bytes.as_slice())
     }
 
-    /// The vector of a key that holds one, to be used again, and else an empty one.
+    /// The vector of a key, to be used again, or an empty one if the key shares its bytes.
     pub fn into_vec(self, alloc: Global) -> Vec<u8>
         ensures { (result.items ≡ code self) ⊎ (result.items ≡ []) }
     {

@@ -1,4 +1,4 @@
-// Laws of the bytes of states.
+//! Laws of the bytes of powerset states.
 ghost use Rattle.std.specs.Prelude.{◌≡◌, ◌≤◌, ◌↔◌, IfOk, length};
 ghost use Rattle.std.specs.Prelude.{nat_eq};
 ghost use Rattle.std.specs.List.{IsDistinct};
@@ -23,7 +23,7 @@ pub fn code_is_read()
     ensures { (q : Powerset) → IsPowerset q → decoded (code q) ≡ q }
 {}
 
-/// The bytes are equal exactly where the states are.
+/// The bytes of two states are equal exactly if the states are.
 pub fn one_code()
     ensures { (a b : Powerset) → IsPowerset a → IsPowerset b → (code a ≡ code b) ↔ (a ≡ b) }
 {}

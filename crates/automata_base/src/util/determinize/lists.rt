@@ -1,3 +1,4 @@
+//! Lists of NFA states: what a powerset state keeps of them, and the patterns that they match.
 ghost use Rattle.std.specs.Prelude.{◌≡◌, ◌+◌, ◌<◌, ◌≤◌, [], ◌∷◌, ◌++◌, ℕ, length, take, eqb, Some};
 ghost use Rattle.std.specs.Prelude.{None, false};
 ghost use Rattle.automata_base.specs.Lists.{In, pick};
@@ -27,7 +28,7 @@ fn push_if(kept: &mut Vec<StateID>, id: StateID, passes: bool)
     }
 }
 
-/// Puts the kept states of a list into another, and gives the looks among them.
+/// Puts the kept states of a list into another, and returns the looks among them.
 pub fn keep_states(nfa: &NFA, states: &[StateID], kept: &mut Vec<StateID>) -> LookSet
     requires below { (q : ℕ) → In q states.now → q < length nfa.now.states }
     requires room { length states.now ≤ vec_capacity kept.old }
@@ -76,7 +77,7 @@ fn add_maybe(patterns: &mut Vec<PatternID>, pattern: Option<PatternID>)
     }
 }
 
-/// How many states of a list stand up to the first match state, whose pattern is the one that matches.
+/// How many states a list has up to its first match state, whose pattern is the one that matches.
 pub fn cut_first(nfa: &NFA, states: &[StateID], patterns: &mut Vec<PatternID>) -> usize
     requires below { (q : ℕ) → In q states.now → q < length nfa.now.states }
     requires room { length nfa.now.start_pattern ≤ vec_capacity patterns.old }

@@ -1,4 +1,4 @@
-// Reading of coded bytes.
+//! Reading the bytes of a powerset state.
 ghost use Rattle.std.specs.Prelude.{◌≡◌, ◌+◌, ◌<◌, ◌≤◌, ◌^◌, ℕ, List, length};
 ghost use Rattle.std.specs.Prelude.{slice_index, OnOk, nat_lt};
 ghost use Rattle.automata_base.specs.Powersets.Code.{IsFront, IsCode, number_at, id_at, is_set, patterns_of, ids_bytes};

@@ -19,8 +19,8 @@ use std::alloc::{AllocError, Global};
 use std::marker::Model;
 use std::mem;
 
-/// The buffers of determinization, allocated once for an NFA. It also carries a count that only contracts see: how often
-/// it was used.
+/// The buffers of determinization, allocated once for an NFA. It also has a count that only contracts see: how often it
+/// was used.
 #[derive(Drop)]
 pub struct Scratch {
     of: Subject<NFA>,
@@ -100,7 +100,7 @@ impl Scratch {
         })
     }
 
-    /// Gives the room of a key back, so that the next one takes no memory.
+    /// Takes the room of a key back, so that the next key allocates nothing.
     pub fn recycle(&mut self, key: Key)
         ensures { self.new ≡ self.old }
     {

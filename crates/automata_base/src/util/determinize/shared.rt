@@ -1,14 +1,14 @@
-// Bytes that are shared. A few of them lie beside the count of those who share them, so that they take one allocation.
+//! Bytes that are shared. A few of them lie beside the count of those who share them, so that they take one allocation.
 ghost use Rattle.std.specs.Prelude.{◌≡◌, ◌≤◌, length, take, IfOk};
 
 use std::alloc::{AllocError, Global};
 use std::marker::Model;
 use std::rc::Rc;
 
-/// How many bytes are few.
+/// How many bytes are few: so many hold a state of up to 39 NFA states whose numbers are near one another.
 const FEW: usize = 48;
 
-/// Bytes, in place if they are few, and else in a vector of their own.
+/// Bytes, in place if they are few, or in a vector of their own.
 #[derive(Drop)]
 struct Stored {
     len: usize,

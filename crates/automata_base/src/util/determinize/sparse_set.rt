@@ -1,3 +1,4 @@
+//! Sets of NFA states that are cleared at once.
 ghost use Rattle.std.specs.Prelude.{◌≡◌, ◌<◌, ◌≤◌, [], ◌∷◌, ◌++◌, IfOk, IsTrue, IsFalse, Contains};
 ghost use Rattle.std.specs.Prelude.{ℕ, length};
 ghost use Rattle.automata_base.specs.Lists.{In};
@@ -8,7 +9,7 @@ use crate::util::primitives::StateID;
 use std::alloc::{AllocError, Global};
 use std::marker::Model;
 
-// A set of numbers below its capacity, which keeps the order in which they came.
+/// A set of numbers below its capacity, which keeps the order in which they came.
 #[derive(Drop)]
 pub struct SparseSet {
     len: usize,
@@ -57,7 +58,7 @@ impl SparseSet {
         })
     }
 
-    /// Takes each number out, without touching what holds them.
+    /// Takes each number out, in constant time.
     pub fn clear(&mut self)
         ensures empty { self.new.items ≡ [] }
         ensures capacity { self.new.capacity ≡ self.old.capacity }

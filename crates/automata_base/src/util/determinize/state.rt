@@ -1,4 +1,4 @@
-// Powerset states as coded bytes, shared.
+//! Powerset states as coded bytes, which are shared.
 ghost use Rattle.std.specs.Prelude.{◌≡◌, ◌≤◌, ◌<◌, IfOk, OnOk, IsTrue, ◌↔◌, length, slice_index};
 ghost use Rattle.std.specs.Prelude.{nat_eq, vec_capacity};
 ghost use Rattle.std.specs.List.{IsDistinct};
@@ -24,11 +24,17 @@ use std::marker::Model;
 /// The six parts of a powerset state.
 #[derive(Debug, Drop)]
 pub struct Parts {
+    /// The NFA states, in order of preference.
     pub nfa: Vec<StateID>,
+    /// The patterns that match, delayed by one byte.
     pub patterns: Vec<PatternID>,
+    /// The looks that are known to hold, as the bits of a `LookSet`.
     pub known: u32,
+    /// The looks that its NFA states test, as the bits of a `LookSet`.
     pub needed: u32,
+    /// Whether it is after a word byte.
     pub word: bool,
+    /// Whether it is half way through a CRLF.
     pub half: bool,
 }
 
@@ -55,7 +61,7 @@ impl Parts {
         })
     }
 
-    /// Sets the bytes to those of the state. Where there is room it takes no memory.
+    /// Sets the bytes to those of the state. It allocates nothing if there is room.
     pub fn write(&self, out: &mut Vec<u8>) -> Result<(), AllocError>
         requires { IsDistinct nat_eq self.now.patterns.items }
         ensures bytes { OnOk result (out.new.items ≡ code (powerset_of self.now)) }
@@ -168,7 +174,7 @@ impl State {
         Ok(Key::shared(bytes))
     }
 
-    /// The bytes. It takes no memory.
+    /// The bytes. It allocates nothing.
     pub fn as_bytes(&self) -> &[u8]
         ensures bytes { result.now ≡ code self.now }
         ensures state { IsPowerset self.now }
@@ -177,7 +183,7 @@ impl State {
         self.bytes.as_slice()
     }
 
-    /// The NFA states, in order. It takes no memory.
+    /// The NFA states, in order. It allocates nothing.
     pub fn nfa(&self) -> Ids<'_>
         ensures { result ≡ self.now.nfa }
     {
@@ -206,14 +212,14 @@ impl State {
         pattern_at(self.bytes.as_slice(), index)
     }
 
-    /// The looks known.
+    /// The looks that are known to hold, as the bits of a `LookSet`.
     pub fn known(&self) -> u32
         ensures { result ≡ self.now.known }
     {
         u32_at(self.bytes.as_slice(), 1)
     }
 
-    /// The looks needed.
+    /// The looks that its NFA states test, as the bits of a `LookSet`.
     pub fn needed(&self) -> u32
         ensures { result ≡ self.now.needed }
     {
@@ -234,7 +240,7 @@ impl State {
         self.bytes.as_slice()[0] / 8 % 2 == 1
     }
 
-    /// Whether every NFA state is one of the NFA's. It takes no memory.
+    /// Whether every NFA state is one of the NFA's. It allocates nothing.
     pub fn is_of(&self, nfa: &NFA) -> bool
         ensures { IsTrue result ↔ IsOf nfa.now self.now }
     {
@@ -242,7 +248,7 @@ impl State {
         are_below(self.nfa(), len)
     }
 
-    /// Sets the parts to those of the state. Where the lists have room it takes no memory.
+    /// Sets the parts to those of the state. It allocates nothing if the lists have room.
     pub fn read(&self, parts: &mut Parts) -> Result<(), AllocError>
         ensures ok { OnOk result (powerset_of parts.new ≡ self.now) }
     {

@@ -1,4 +1,4 @@
-// What the parts of a state have to meet.
+//! What the parts of a powerset state have to meet.
 ghost use Rattle.std.specs.Prelude.{◌≡◌, IsTrue, ◌↔◌, nat_eq, false};
 ghost use Rattle.std.specs.List.{AllByRecursion, IsDistinct};
 

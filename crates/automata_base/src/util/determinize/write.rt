@@ -1,4 +1,4 @@
-// The bytes of a state, appended to a vector.
+//! The bytes of a powerset state, appended to a vector.
 ghost use Rattle.std.specs.Prelude.{◌≡◌, ◌++◌, ◌<◌, ◌≤◌, ◌+◌, ◌^◌, length, All, OnOk, vec_len, vec_capacity};
 ghost use Rattle.std.specs.List.{flat_map};
 ghost use Rattle.automata_base.specs.Powersets.Code.{four_bytes, varint, ids_code, code, difference, is_listed};
@@ -52,7 +52,7 @@ fn difference_of(before: u32, id: u32) -> u64
     }
 }
 
-/// Appends a number where there is room for a byte of each number that is left, and leaves room for the others. Most
+/// Appends a number, if there is room for a byte of each number that is left, and leaves room for the others. Most
 /// numbers take one byte.
 #[inline(always)]
 fn push_in_room(out: &mut Vec<u8>, n: u64, left: usize) -> Result<(), AllocError>
@@ -99,7 +99,7 @@ fn lists(patterns: &[PatternID]) -> bool
     }
 }
 
-/// Appends the patterns, where they are listed.
+/// Appends the patterns, if they are listed.
 fn push_patterns(out: &mut Vec<u8>, patterns: &[PatternID]) -> Result<(), AllocError>
     requires { length patterns.now < 2 ^ 32 }
     ensures ok { OnOk result (out.new.items ≡ out.old.items ++ patterns_code patterns.now) }
