@@ -1,3 +1,4 @@
 pub mod Boundaries
+pub mod ByteSets
 pub mod Marking
 pub mod PatternsInSets

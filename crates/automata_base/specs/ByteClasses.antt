@@ -1,2 +1,4 @@
+pub mod ByteSets
 pub mod Classes
 pub mod LookBehind
+pub mod WordsBack

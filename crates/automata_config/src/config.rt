@@ -9,6 +9,7 @@ use crate::accounting::{fixed_cost, greatest_offset, max_cost, minimum_capacity,
 use crate::error::BuildError;
 use automata_base::nfa::thompson::NFA;
 use automata_base::util::alphabet::ByteClasses;
+use automata_base::util::byte_set::ByteSet;
 use automata_base::util::look::{Look, LookSet};
 use automata_base::util::search::MatchKind;
 use std::marker::Model;
@@ -20,7 +21,7 @@ pub struct Config {
     starts_for_each_pattern: Option<bool>,
     byte_classes: Option<bool>,
     unicode_word_boundary: Option<bool>,
-    quits: Option<[bool; 256]>,
+    quits: Option<ByteSet>,
     specialize_start_states: Option<bool>,
     cache_capacity: Option<usize>,
     skip_cache_capacity_check: Option<bool>,
@@ -151,10 +152,8 @@ impl Config {
         requires { IsTrue (options.allows_quit self byte yes) }
         ensures { result ≡ record self { quits = Some (slice_set (options.quits_of self) byte yes) } }
     {
-        let mut quits = self.quit_set();
-        quits[usize::from(byte)] = yes;
         Config {
-            quits: Some(quits),
+            quits: Some(self.quit_set().with(byte, yes)),
             ..self
         }
     }
@@ -248,7 +247,7 @@ impl Config {
     pub fn get_quit(&self, byte: u8) -> bool
         ensures { result ≡ is_quit (options.quits_of self.now) byte }
     {
-        self.quit_set()[usize::from(byte)]
+        self.quit_set().contains(byte)
     }
 
     /// Whether IDs of start states are tagged. By default they are not.
@@ -374,7 +373,7 @@ impl Config {
         greatest_offset(stride, slots)
     }
 
-    fn settled_quits(&self, nfa: &NFA) -> Result<[bool; 256], BuildError>
+    fn settled_quits(&self, nfa: &NFA) -> Result<ByteSet, BuildError>
         ensures ok { IfOk result (λ quits. quits ≡ settled_quits self.now nfa.now) }
         ensures refused { result_err result
             ≡ (if is_unsupported self.now nfa.now then Some BuildError.Unsupported else None) }
@@ -392,11 +391,13 @@ impl Config {
         Err(BuildError::Unsupported)
     }
 
-    fn quit_set(&self) -> [bool; 256]
+    fn quit_set(&self) -> ByteSet
         ensures whole { length result ≡ 256 }
         ensures set { result ≡ options.quits_of self.now }
     {
-        self.quits.unwrap_or([false; 256])
+        let quits = self.quits.unwrap_or(ByteSet::empty());
+        quits.see_bytes();
+        quits
     }
 }
 
@@ -426,11 +427,11 @@ fn contains_any(set: LookSet, looks: &[Look]) -> bool
 }
 
 // Whether each byte from 0x80 on is in the quit set.
-fn holds_non_ascii(quits: &[bool; 256]) -> bool
+fn holds_non_ascii(quits: &ByteSet) -> bool
     ensures { result ≡ holds_non_ascii quits.now }
 {
-    for byte in 128..256 {
-        if !quits[byte] {
+    for byte in 128..256usize {
+        if !quits.contains(byte as u8) {
             return false;
         }
     }
@@ -438,13 +439,14 @@ fn holds_non_ascii(quits: &[bool; 256]) -> bool
 }
 
 // The quit set joined with the bytes from 0x80 on.
-fn with_non_ascii(quits: &[bool; 256]) -> [bool; 256]
+fn with_non_ascii(quits: &ByteSet) -> ByteSet
     ensures whole { length result ≡ 256 }
     ensures set { (byte : ℕ) → byte < 256 → is_quit result byte ≡ (is_quit quits.now byte || nat_le 128 byte) }
 {
     let mut all = *quits;
-    for byte in 128..256 {
-        all[byte] = true;
+    all.see_bytes();
+    for byte in 128..256usize {
+        all = all.with(byte as u8, true);
     }
     all
 }
@@ -453,7 +455,7 @@ fn with_non_ascii(quits: &[bool; 256]) -> [bool; 256]
 #[derive(Clone, Copy, Debug)]
 pub struct Settled {
     classes: ByteClasses,
-    quits: [bool; 256],
+    quits: ByteSet,
     capacity: usize,
 }
 
@@ -482,11 +484,11 @@ impl Settled {
     pub fn quits(&self, byte: u8) -> bool
         ensures { result ≡ is_quit self.now.quits byte }
     {
-        self.quits[usize::from(byte)]
+        self.quits.contains(byte)
     }
 
-    /// For each byte, whether it is a quit byte.
-    pub fn quit_set(&self) -> &[bool; 256]
+    /// The quit bytes.
+    pub fn quit_set(&self) -> &ByteSet
         ensures { result.now ≡ self.now.quits }
     {
         &self.quits

@@ -58,13 +58,6 @@ runs_next m n o f k is e x y = adds_both m n o (upto k f) (λ b. eqb b k && is) 
 abbrev pub Left : {X : Type 0} → (List X → ℕ → Bool) → List Bool → List Bool → List X → ℕ → Type 0
 Left G m n xs i = (b : ℕ) → b < 256 → (is_marked n b || G (drop i xs) b) ≡ (is_marked m b || G xs b)
 
-pub none_next :
-    (quits : List Bool) (k : ℕ) (any at now : Bool) → at ≡ is_quit quits k → now ≡ any || at
-    → (any ≡ false → (b : ℕ) → b < k → is_quit quits b ≡ false) → now ≡ false → (b : ℕ) → b < k + 1 → is_quit quits b ≡ false
-none_next quits k any at now is sum before none b l =
-    let o = or_parts any at (sym sum ∙ none) in
-    below_more (λ i. is_quit quits i ≡ false) k (λ i j. before o.0 i j) (sym is ∙ o.1) b l
-
 pub unmarked_next :
     (f : ℕ → Bool) (k : ℕ) (any now : Bool) → now ≡ any || f k → (any ≡ false → (b : ℕ) → b < k → f b ≡ false)
     → now ≡ false → (b : ℕ) → b < k + 1 → f b ≡ false

@@ -7,6 +7,7 @@ ghost use Rattle.automata_base.specs.ByteClasses.Classes.{class_in, is_quit};
 ghost use Rattle.automata_base.specs.Retraced.Boundaries.{is_marked, Adds};
 
 use crate::nfa::thompson::{NFA, State, Transition};
+use crate::util::byte_set::ByteSet;
 use crate::util::look::Look;
 use crate::util::primitives::StateID;
 use std::marker::Model;
@@ -39,7 +40,7 @@ impl ByteClasses {
     ghost use Rattle.automata_base.specs.ByteClasses.Classes.{stride_of, is_quit};
 
     /// The classes of the NFA's bytes, with these quit bytes. If `on` is false, each byte is a class of its own.
-    pub fn of(nfa: &NFA, quits: &[bool; 256], on: bool) -> ByteClasses
+    pub fn of(nfa: &NFA, quits: &ByteSet, on: bool) -> ByteClasses
         ensures quits { (u v : ℕ)
             → u < 256 → v < 256 → class_in result u ≡ class_in result v
             → is_quit quits.now u ≡ is_quit quits.now v }
@@ -103,7 +104,7 @@ impl ByteClasses {
 }
 
 // A mark before each byte at which a boundary is.
-fn boundaries(nfa: &NFA, quits: &[bool; 256], on: bool) -> [bool; 257]
+fn boundaries(nfa: &NFA, quits: &ByteSet, on: bool) -> [bool; 257]
     ensures { (byte : ℕ) → byte < 256 → is_marked result byte ≡ is_boundary nfa.now quits.now on byte }
 {
     if !on {
@@ -195,12 +196,12 @@ fn mark_targets(marks: &mut [bool; 257], targets: &[StateID; 256])
     }
 }
 
-fn are_quits_apart(quits: &[bool; 256], byte: usize) -> bool
+fn are_quits_apart(quits: &ByteSet, byte: usize) -> bool
     requires first { 1 ≤ byte }
     requires within { byte < 256 }
     ensures { result ≡ quits_bound quits.now byte }
 {
-    quits[byte] != quits[byte - 1]
+    quits.contains(byte as u8) != quits.contains((byte - 1) as u8)
 }
 
 fn either(a: bool, b: bool) -> bool
@@ -209,21 +210,10 @@ fn either(a: bool, b: bool) -> bool
     a || b
 }
 
-/// Whether some byte is a quit byte. It does not stop at the first, so that many bytes are looked at at once.
-pub fn has_quit(quits: &[bool; 256]) -> bool
-    ensures { IsFalse result → (byte : ℕ) → byte < 256 → is_quit quits.now byte ≡ false }
-{
-    let mut any = false;
-    for byte in 0..256usize {
-        any = either(any, quits[byte]);
-    }
-    any
-}
-
-fn mark_quits(marks: &mut [bool; 257], quits: &[bool; 256])
+fn mark_quits(marks: &mut [bool; 257], quits: &ByteSet)
     ensures { Adds marks.old marks.new (quits_bound quits.now) }
 {
-    if !has_quit(quits) {
+    if quits.is_empty() {
         return;
     }
     for byte in 1..256 {

@@ -1,6 +1,7 @@
 //! What automata and their searches share.
 
 pub mod alphabet;
+pub mod byte_set;
 pub mod determinize;
 pub mod look;
 pub mod pattern_set;

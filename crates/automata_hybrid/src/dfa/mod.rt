@@ -33,6 +33,7 @@ use crate::dfa::store::Store;
 use crate::dfa::table::new_row;
 use automata_base::nfa::thompson::NFA;
 use automata_base::util::alphabet::ByteClasses;
+use automata_base::util::byte_set::ByteSet;
 use automata_base::util::search::MatchKind;
 use automata_config::accounting::{fixed_cost, start_slots};
 use automata_config::config::{Config, Settled};
@@ -45,7 +46,7 @@ pub struct DFA {
     nfa: NFA,
     config: Config,
     classes: ByteClasses,
-    quits: [bool; 256],
+    quits: ByteSet,
     capacity: usize,
 }
 

@@ -172,7 +172,7 @@ impl DFA {
     pub(crate) fn quits(&self, byte: u8) -> bool
         ensures { result ≡ is_quit self.now.quits byte }
     {
-        self.quits[usize::from(byte)]
+        self.quits.contains(byte)
     }
 
     #[inline(always)]

@@ -13,7 +13,8 @@ ghost use Rattle.automata_hybrid.specs.Cache.Table.{IsCell, cell_at, with_cell};
 use crate::dfa::row::Row;
 use crate::dfa::{DFA, row};
 use crate::id::LazyStateID;
-use automata_base::util::alphabet::{ByteClasses, has_quit};
+use automata_base::util::alphabet::ByteClasses;
+use automata_base::util::byte_set::ByteSet;
 use automata_base::util::determinize::{Key, State};
 use automata_base::util::subject::Subject;
 use std::alloc::{AllocError, AllocFailed, Global};
@@ -295,7 +296,7 @@ fn mark(cells: &mut Vec<LazyStateID>, class: usize, quit: LazyStateID, quits: bo
 pub fn new_row(
     alloc: Global,
     classes: &ByteClasses,
-    quits: &[bool; 256],
+    quits: &ByteSet,
     stride: usize,
 ) -> Result<Vec<LazyStateID>, AllocError>
     requires classes { eoi_class classes.now < stride }
@@ -304,13 +305,14 @@ pub fn new_row(
 {
     let mut cells = Vec::new(alloc);
     cells.resize(stride, LazyStateID::UNKNOWN)?;
-    if !has_quit(quits) {
+    if quits.is_empty() {
         return Ok(cells);
     }
     let quit = LazyStateID::quit(stride as u32);
     for byte in 0..256usize {
         let class = classes.get(byte as u8);
-        mark(&mut cells, usize::from(class), quit, quits[byte]);
+        let quits_at = quits.contains(byte as u8);
+        mark(&mut cells, usize::from(class), quit, quits_at);
     }
     Ok(cells)
 }

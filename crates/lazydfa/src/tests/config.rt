@@ -6,6 +6,7 @@ use Shape::{Accept, Assert, Dense, Sparse};
 use regex_automata::hybrid::dfa::Config;
 use regex_automata::nfa::thompson::NFA;
 use regex_automata::util::alphabet::ByteClasses;
+use regex_automata::util::byte_set::ByteSet;
 use regex_automata::util::look::Look;
 use regex_automata::util::search::PatternSet;
 
@@ -67,10 +68,10 @@ fn bounds(rt: &impl Host, nfa: &NFA, quit: &str) -> Vec<u8> {
     found
 }
 
-fn set_of(bytes: &str) -> [bool; 256] {
-    let mut set = [false; 256];
+fn set_of(bytes: &str) -> ByteSet {
+    let mut set = ByteSet::empty();
     for byte in bytes.as_bytes() {
-        set[usize::from(*byte)] = true;
+        set = set.with(*byte, true);
     }
     set
 }
@@ -81,7 +82,7 @@ const DENSE: &[Shape] = &[Dense(&[(b'a', 1)]), Accept(0)];
 #[test]
 fn counts_classes(rt: HostRuntime) {
     let nfa = Plan::of(DENSE, 0).build(&rt);
-    let classes = ByteClasses::of(&nfa, &[false; 256], true);
+    let classes = ByteClasses::of(&nfa, &ByteSet::empty(), true);
     let counts = (classes.alphabet_len(), classes.stride2());
     same_of(&rt, &counts, &(4, 2), &"a dense state");
 }

@@ -2,4 +2,4 @@
 
 pub mod search;
 
-pub use automata_base::util::{alphabet, determinize, look, primitives, start};
+pub use automata_base::util::{alphabet, byte_set, determinize, look, primitives, start};

@@ -7,5 +7,5 @@ loop-byte-preserved c =
     runs_next c.args.marks.now c.loop-byte.marks c.mark_if.new.marks (quits_bound c.args.quits.now) c.loop-byte.byte c.are_quits_apart.result
     c.are_quits_apart.ensures c.loop-byte.invariant c.mark_if.ensures
 
-pub returns-then-not-has_quit : goal.returns-then-not-has_quit
-returns-then-not-has_quit c = adds_no_quits c.args.marks.now c.args.quits.now (c.has_quit.ensures c.if-not-has_quit.true)
+pub returns-then-is_empty : goal.returns-then-is_empty
+returns-then-is_empty c = adds_no_quits c.args.marks.now c.args.quits.now (c.is_empty.ensures c.if-is_empty.true)

@@ -1,0 +1,9 @@
+use Rattle.std.proofs.Common.{◌≡◌, false, sym, ap, ◌∙◌}
+use Rattle.automata_base.specs.ByteClasses.Classes.{is_quit}
+use Rattle.automata_base.proofs.ByteClasses.ByteSets.{no_bytes, or_none}
+use Rattle.automata_base.proofs.util.byte_set.ByteSet.is_empty.Goals as goal
+
+pub returns : goal.returns
+returns c = λ none byte l.
+    let words = c.self.inside.words in
+    ap (λ t. is_quit t byte) (sym c.self.view_is) ∙ no_bytes words (or_none words none) byte l

@@ -1,0 +1,81 @@
+ghost use Rattle.std.specs.Prelude.{◌≡◌, ◌<◌, ℕ, length, replicate, slice_set, eqb, false, IsTrue};
+ghost use Rattle.std.specs.Int.{bit_at};
+ghost use Rattle.automata_base.specs.ByteClasses.Classes.{is_quit};
+
+use std::marker::Model;
+
+/// A set of bytes, in 256 bits. Contracts see for each byte whether it is in the set.
+#[derive(Clone, Copy, Debug)]
+pub struct ByteSet {
+    words: [u64; 4],
+}
+
+impl Model for ByteSet {
+    ghost use Rattle.std.specs.Prelude.{List, Bool};
+    ghost use Rattle.automata_base.specs.ByteClasses.ByteSets.{IsByteSet, truths_of, words_of};
+    ghost use Rattle.automata_base.specs.ByteClasses.WordsBack.{words_back};
+
+    ghost Value = { List Bool };
+
+    ghost view = { λ s. truths_of s.words };
+
+    ghost invariant = { λ s. IsByteSet s.words };
+
+    ghost inverse = { λ truths. record { words = words_of truths } };
+
+    ghost inverse_ok = { λ s h i. record { words = words_back s.words h i } };
+}
+
+impl ByteSet {
+    /// The set without a byte.
+    pub fn empty() -> ByteSet
+        ensures { result ≡ replicate 256 false }
+    {
+        ByteSet { words: [0; 4] }
+    }
+
+    /// What is true of each set. It does nothing.
+    pub fn see_bytes(&self)
+        ensures { length self.now ≡ 256 }
+    {
+        let _words = &self.words;
+    }
+
+    /// Whether it has no byte.
+    pub fn is_empty(&self) -> bool
+        ensures { IsTrue result → (byte : ℕ) → byte < 256 → is_quit self.now byte ≡ false }
+    {
+        self.words[0] | self.words[1] | self.words[2] | self.words[3] == 0
+    }
+
+    /// Whether a byte is in it.
+    #[inline(always)]
+    pub fn contains(&self, byte: u8) -> bool
+        ensures { result ≡ is_quit self.now byte }
+    {
+        self.words[usize::from(byte / 64)] >> (byte % 64) & 1 == 1
+    }
+
+    /// The set with a byte put in, or taken out.
+    pub fn with(self, byte: u8, yes: bool) -> ByteSet
+        ensures { result ≡ slice_set self byte yes }
+    {
+        let index = usize::from(byte / 64);
+        let mut words = self.words;
+        words[index] = with_bit(words[index], byte % 64, yes);
+        ByteSet { words }
+    }
+}
+
+/// The word with a bit set, or cleared.
+fn with_bit(word: u64, bit: u8, yes: bool) -> u64
+    requires { bit < 64 }
+    ensures same { eqb (bit_at result bit) 1 ≡ yes }
+    ensures others { (i : ℕ) → i < 64 → (i ≡ bit → ⊥) → bit_at result i ≡ bit_at word i }
+{
+    if yes {
+        word | 1u64 << bit
+    } else {
+        word & !(1u64 << bit)
+    }
+}
