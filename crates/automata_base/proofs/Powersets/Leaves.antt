@@ -1,6 +1,6 @@
 -- States without epsilon edges at the front of a list: they are visited in a row, and never wait on the stack.
 use Rattle.std.proofs.Common.{◌≡◌, ◌<◌, ◌≤◌, ◌+◌, ◌⊎◌, Bool, true, false, cond, ℕ, zero, suc, List, [], ◌∷◌, ◌++◌, length}
-use Rattle.std.proofs.Common.{refl, sym, ap, ◌∙◌, subst, inl, inr, arith, length-append, drop, length-drop, append_assoc, append-nil, get_or, reverse}
+use Rattle.std.proofs.Common.{refl, sym, ap, ◌∙◌, subst, inl, inr, arith, length-append, drop, length-drop, append_assoc, get_or, reverse}
 use Rattle.std.proofs.lemmas.List.{reverse-append, reverse-reverse}
 use Rattle.std.specs.Prelude.{Contains}
 use Rattle.std.proofs.lemmas.Bool.{cases_Bool, cond_both}
@@ -111,14 +111,6 @@ pub children_below : (a : Automaton) (looks : ℕ) (old : List ℕ) (start : ℕ
 children_below a looks old start order seen stack q state checked is new grown w p i =
     let kids = children_at (node_of state) (truth_of looks) in
     (new_step a looks old start order seen stack (kids ++ stack) q state checked is new grown refl w).0.below p (in_left p kids stack i)
-
--- all children wait
-pub unmoved : (n : Nfa) (A : Truth) (kids seen was waiting : List ℕ) → waiting ≡ kids ++ was → IsExpanded n A kids seen seen was waiting
-unmoved n A kids seen was waiting e = record {
-  way = λ roots tail u. subst (λ z. IsUnderWay n A roots z seen) (sym (append_assoc kids was tail) ∙ ap (λ z. z ++ tail) (sym e)) u;
-  grown = ([], sym (append-nil seen));
-  left = (0, e);
-}
 
 -- some were visited, and the others wait
 pub visited_some : (n : Nfa) (A : Truth) (kids before after was waiting : List ℕ) (k : ℕ)

@@ -3,6 +3,7 @@ ghost use Rattle.std.specs.Prelude.{◌≡◌, ◌<◌, ◌||◌, eqb};
 ghost use Rattle.automata_base.specs.Haystacks.LookSets.{truth_of, nth_look, IsLookSet};
 ghost use Rattle.automata_base.specs.Haystacks.Looks.{Look};
 ghost use Rattle.automata_base.specs.Haystacks.Looks.{look_index};
+ghost use Rattle.automata_base.specs.Powersets.Passes.{is_crlf_look, is_word_look};
 
 use std::marker::Model;
 
@@ -133,14 +134,14 @@ impl LookSet {
 
     /// The word looks.
     pub fn word() -> LookSet
-        ensures { result ≡ 262080 }
+        ensures { (look : Look) → truth_of result look ≡ is_word_look look }
     {
         LookSet { bits: 262080 }
     }
 
     /// The CRLF looks.
     pub fn crlf() -> LookSet
-        ensures { result ≡ 48 }
+        ensures { (look : Look) → truth_of result look ≡ is_crlf_look look }
     {
         LookSet { bits: 48 }
     }

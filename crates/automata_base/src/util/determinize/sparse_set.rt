@@ -46,7 +46,8 @@ impl SparseSet {
 
     /// An empty set with the same room.
     pub fn emptied(&self, alloc: Global) -> Result<SparseSet, AllocError>
-        ensures { IfOk result (λ set. set.capacity ≡ self.now.capacity) }
+        ensures empty { IfOk result (λ set. set.items ≡ []) }
+        ensures capacity { IfOk result (λ set. set.capacity ≡ self.now.capacity) }
     {
         let capacity = self.dense.len();
         let dense = vec![in alloc; StateID::ZERO; capacity]?;

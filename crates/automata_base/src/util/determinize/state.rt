@@ -1,5 +1,5 @@
 //! Powerset states as coded bytes, which are shared.
-ghost use Rattle.std.specs.Prelude.{◌≡◌, ◌≤◌, ◌<◌, IfOk, OnOk, IsTrue, ◌↔◌, length, slice_index};
+ghost use Rattle.std.specs.Prelude.{◌≡◌, ◌≤◌, ◌<◌, [], IfOk, OnOk, IsTrue, ◌↔◌, length, slice_index};
 ghost use Rattle.std.specs.Prelude.{nat_eq, vec_capacity};
 ghost use Rattle.std.specs.List.{IsDistinct};
 ghost use Rattle.automata_base.specs.Powersets.Code.{code, decoded, IsCode};
@@ -48,6 +48,7 @@ impl Parts {
 
     /// Empty parts with room for as many states and patterns.
     pub fn emptied(&self, alloc: Global) -> Result<Parts, AllocError>
+        ensures empty { IfOk result (λ parts. (parts.nfa.items ≡ []) × (parts.patterns.items ≡ [])) }
         ensures nfa { IfOk result (λ parts. vec_capacity self.now.nfa ≤ vec_capacity parts.nfa) }
         ensures patterns { IfOk result (λ parts. vec_capacity self.now.patterns ≤ vec_capacity parts.patterns) }
     {
