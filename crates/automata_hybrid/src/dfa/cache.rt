@@ -47,7 +47,7 @@ pub(crate) enum Found {
 }
 
 /// The states that a lazy DFA has determinized, their transitions, and the buffers to determinize more. Its accounted
-/// bytes, `memory_usage`, never exceed the capacity of the DFA's settings.
+/// bytes, `memory_usage`, never exceed the capacity of the DFA's settings, or the minimum capacity if that was raised to.
 #[derive(Drop)]
 pub struct Cache {
     store: Store,
@@ -184,7 +184,7 @@ impl Cache {
         Snapshot::of(self.store.table.state(id))
     }
 
-    /// Adds a state again that a clear dropped. An error changes nothing.
+    /// Adds the state of a walk, which a clear has dropped or which another cache had. An error changes nothing.
     pub(crate) fn add_again(&mut self, dfa: &DFA, state: State) -> Result<LazyStateID, StepError>
         requires dfa { IsCacheOf self.old dfa.now }
         requires new { IsNewState self.old.store.table state }

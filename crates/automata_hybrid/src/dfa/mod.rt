@@ -40,7 +40,8 @@ use automata_config::config::{Config, Settled};
 use std::alloc::{AllocError, Global};
 use std::marker::Model;
 
-/// A lazy DFA: an NFA with its settings, byte classes and start slots. States and transitions are in a `Cache`.
+/// A lazy DFA: an NFA with its settings, byte classes and quit bytes, and the capacity of its caches. States, transitions
+/// and start slots are in a `Cache`.
 #[derive(Debug, Drop)]
 pub struct DFA {
     nfa: NFA,

@@ -115,8 +115,8 @@ impl DFA {
         cache.next(self, id, Some(byte))
     }
 
-    /// The ID of the state after the haystack's end, on the same condition. Take this step once, after the last byte, also
-    /// where the state is dead: matches are delayed by one byte. Dead leads to dead, and quit to quit. A cached
+    /// The ID of the state after the haystack's end, on the same condition. Take this step once, after the last byte:
+    /// matches are delayed by one byte. Dead leads to dead, and quit to quit. A cached
     /// transition allocates nothing. It fails if the state does not fit and the settings allow no clear, and if memory
     /// runs out; then nothing has changed.
     pub fn next_eoi_state(

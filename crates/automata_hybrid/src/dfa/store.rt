@@ -112,7 +112,7 @@ impl Store {
             + self.settings.fixed
     }
 
-    /// The accounted bytes of a new state. They are counted once, and handed on.
+    /// The accounted bytes of a new state. They are counted once, for all calls that need them.
     pub fn cost_of(&self, state: &State) -> usize
         requires { cost state.now ≤ greatest self.now.table.of }
         ensures { result ≡ cost state.now }

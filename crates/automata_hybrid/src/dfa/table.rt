@@ -132,7 +132,7 @@ impl Table {
         self.costs
     }
 
-    /// Adds a row for a state that the table lacks, whose accounted bytes these are. A refusal changes nothing.
+    /// Adds a row for a state that the table lacks, whose accounted bytes these are. An error changes nothing.
     pub fn add(
         &mut self,
         state: State,
@@ -267,7 +267,7 @@ impl Table {
         self.cells[id.offset() as usize + class] = next;
     }
 
-    /// A copy of a row's state, with its mark.
+    /// A copy of a row: its state, and whether its ID has the start tag.
     pub fn copied_row(&self, row: usize) -> Result<Row, AllocError>
         requires { row < length self.now.rows }
         ensures value { IfOk result (λ r. slice_get self.now.rows row ≡ Some r) }

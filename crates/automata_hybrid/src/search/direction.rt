@@ -109,7 +109,7 @@ pub(crate) fn unit_at(input: &Input<'_>, way: Way, place: usize) -> Option<u8>
     }
 }
 
-/// The offset of the byte at a place.
+/// The offset of the unit at a place.
 pub(crate) fn unit_offset(input: &Input<'_>, way: Way, place: usize) -> usize
     requires open { input.now.start ≤ input.now.end }
     requires within { place ≤ input.now.end - input.now.start }
@@ -135,7 +135,7 @@ pub(crate) fn span_offset(input: &Input<'_>, way: Way, place: usize) -> usize
     }
 }
 
-/// The byte behind a search, which its start state depends on.
+/// The look-behind byte of a search, which its start state depends on.
 #[inline(always)]
 pub(crate) fn byte_behind(input: &Input<'_>, way: Way) -> Option<u8>
     ensures { result ≡ (tape_in (way_of way) input.now).before }

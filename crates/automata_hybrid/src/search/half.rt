@@ -31,8 +31,8 @@ fn without_base(
 }
 
 impl DFA {
-    /// The pattern and the end of the first match, by the DFA's match kind; with an earliest input, of the match that
-    /// ends first.
+    /// The pattern and the end of a match: under `MatchKind::LeftmostFirst` of the first one, under `All` of the one that
+    /// ends last; with an earliest input, of the match that ends first.
     ///
     /// ```rust
     /// let input = Input::new(line).earliest(true);
@@ -95,7 +95,7 @@ impl DFA {
     /// The pattern and the start of the match that a search from the span's end to its start finds: of the longest one
     /// that ends there under `MatchKind::All`, and with an earliest input of the shortest one.
     ///
-    /// The DFA has to be of a reversed NFA. A start inside a UTF-8 encoded character is skipped by searching again from
+    /// Over the DFA of a reversed NFA it is where a match of the NFA itself begins. A start inside a UTF-8 encoded character is skipped by searching again from
     /// one offset before.
     ///
     /// The error of a quit byte has the byte's offset; the "gave up" error has the offset of the byte that was to be

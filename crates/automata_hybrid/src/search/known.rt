@@ -67,7 +67,7 @@ impl DFA {
         self.start_state_known(cache, input.get_anchored(), byte_behind(input, way))
     }
 
-    /// The ID after a unit, as far as it is cached.
+    /// The ID after a unit: the unknown one if it is not cached.
     #[inline(always)]
     fn known_step(&self, cache: &Cache, id: LazyStateID, unit: Option<u8>) -> LazyStateID
         requires of { IsCacheOf cache.now self.now }
@@ -81,7 +81,8 @@ impl DFA {
         cache.cell(id, self.unit_class(unit))
     }
 
-    /// The ID after the unit at a place: the one that was met there, or at the last place as far as it is cached.
+    /// The ID after the unit at a place: the one that was met there. At the last place it is looked up, and
+    /// unknown if it is not cached.
     #[inline(always)]
     fn known_next(
         &self,
