@@ -10,15 +10,13 @@ ghost use Rattle.automata_base.specs.Nfas.Errors.{states_below};
 ghost use Rattle.automata_base.specs.Retraced.ReversedEdges.{copied, copies, copy_of, is_of, matches_in, HaveCopies};
 
 use crate::nfa::thompson::State;
+use crate::nfa::thompson::checks::MAX_STATES;
 use crate::nfa::thompson::reach::{Edges, walk};
 use crate::nfa::thompson::reading::pattern_of;
 use crate::nfa::thompson::turn::MakeError;
 use crate::util::determinize::sparse_set::SparseSet;
 use crate::util::primitives::{PatternID, StateID};
 use std::alloc::{AllocError, Global};
-
-// 2^27, the most states of an NFA.
-const MAX_STATES: usize = 134_217_728;
 
 // The number of a member's copy, if the copies begin at `base`.
 fn copy_id(set: &SparseSet, base: StateID, id: StateID) -> StateID
@@ -150,17 +148,6 @@ fn matches_of(
         }
     }
     Ok(matches)
-}
-
-/// A copy of a list.
-pub fn copy_list(alloc: Global, ids: &[StateID]) -> Result<Vec<StateID>, AllocError>
-    ensures { IfOk result (λ v. v.items ≡ ids.now) }
-{
-    let mut list = Vec::new(alloc);
-    for id in ids {
-        list.push(*id)?;
-    }
-    Ok(list)
 }
 
 /// Copies for patterns, and for each pattern the state where its paths begin.

@@ -29,7 +29,7 @@ pub fn state_at<'a>(nfa: &NFA, states: &'a [State], id: StateID) -> &'a State
     ensures same { result.now ≡ slice_index_or nfa.now.states id result.now }
     ensures checked { IsChecked nfa.now }
 {
-    let _door = nfa.states();
+    let _states = nfa.states();
     &states[id.as_usize()]
 }
 

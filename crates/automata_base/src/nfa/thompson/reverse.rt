@@ -9,15 +9,13 @@ ghost use Rattle.automata_base.specs.Nfas.Errors.{states_below, states_ordered};
 ghost use Rattle.automata_base.specs.Nfas.ReversedSizes.{asking_edges};
 ghost use Rattle.automata_base.specs.Retraced.ReversedEdges.{AreTurned, AreReversed};
 
-use crate::nfa::thompson::copies::{Parts, copy_list, parts_of, push_state};
+use crate::nfa::thompson::checks::MAX_STATES;
+use crate::nfa::thompson::copies::{Parts, parts_of, push_state};
 use crate::nfa::thompson::reach::{Edges, reach};
 use crate::nfa::thompson::turn::{EdgesByTarget, MakeError};
 use crate::nfa::thompson::{ReverseError, State};
 use crate::util::primitives::StateID;
 use std::alloc::Global;
-
-// 2^27, the most states of an NFA.
-const MAX_STATES: usize = 134_217_728;
 
 /// Why an NFA cannot be reversed, by why its states cannot be made.
 pub fn reverse_error(error: MakeError) -> ReverseError
@@ -81,7 +79,7 @@ fn rooted(alloc: Global, parts: Parts) -> Result<Mirror, MakeError>
         return Err(MakeError::TooLarge);
     }
     let root = StateID::new_unchecked(states.len() as u32);
-    let alternates = copy_list(alloc, &entries)?;
+    let alternates = Vec::from_slice(alloc, &entries)?;
     push_state(&mut states, State::Union { alternates })?;
     Ok(Mirror {
         states,
