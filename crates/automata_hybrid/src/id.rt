@@ -42,10 +42,10 @@ impl Model for LazyStateID {
 
 impl LazyStateID {
     /// Offsets of rows are below this number.
-    pub(crate) const OFFSET_LIMIT: u32 = 1 << 27;
+    pub(crate) const OFFSET_LIMIT: usize = 1 << 27;
 
     /// The greatest ID without a tag.
-    const MAX: u32 = LazyStateID::OFFSET_LIMIT - 1;
+    const MAX: u32 = LazyStateID::OFFSET_LIMIT as u32 - 1;
 
     /// The match tag.
     pub(crate) const MATCH: u32 = 1 << 27;
@@ -147,13 +147,26 @@ impl LazyStateID {
         self.id.wrapping_sub(tag) <= LazyStateID::MAX
     }
 
-    /// The ID without its tag: the offset of its row.
+    /// The offset of its row, if it has this tag and no other; and else what is no offset.
     #[inline(always)]
-    pub(crate) fn less(self, tag: u32) -> LazyStateID
-        requires { HasOnly tag self }
-        ensures { result ≡ self - tag }
+    pub(crate) fn offset_by(self, tag: u32) -> usize
+        requires { tag ≤ offset_limit }
+        ensures only { HasOnly tag self → result ≡ self - tag }
+        ensures other { result < offset_limit → HasOnly tag self }
     {
-        LazyStateID { id: self.id - tag }
+        (self.id as usize).wrapping_sub(tag as usize)
+    }
+
+    /// The ID of the row at an offset, with a tag.
+    #[inline(always)]
+    pub(crate) fn at_offset(offset: usize, tag: u32) -> LazyStateID
+        requires offset { offset < offset_limit }
+        requires tag { tag ≤ offset_limit }
+        ensures { result ≡ offset + tag }
+    {
+        LazyStateID {
+            id: offset as u32 + tag,
+        }
     }
 
     /// The offset of an ID without a tag: it needs no mask.

@@ -1,11 +1,12 @@
 -- What a pass answers and makes of its cache, from what its parts do.
 use Rattle.std.proofs.Common.{ℕ, suc, ◌≡◌, ◌∙◌, ◌+◌, ◌-◌, ◌≤◌, length, Option, Some, None, true, false, inl, sym, ap}
-use Rattle.std.proofs.Common.{subst, arith}
+use Rattle.std.proofs.Common.{List, Bool, subst, arith}
 use Rattle.std.specs.Prelude.{Result, Ok, Err, IfErr, OnOk}
 use Rattle.automata_base.specs.Answers.Answers.{offset_in}
 use Rattle.automata_base.specs.ByteClasses.Classes.{is_quit}
 use Rattle.automata_base.specs.Haystacks.Input.{Input}
 use Rattle.automata_base.specs.Haystacks.Matches.{HalfMatch}
+use Rattle.automata_base.specs.declared.util.search.Anchored.{Anchored}
 use Rattle.automata_base.specs.Paths.Paths.{next}
 use Rattle.automata_base.specs.Powersets.Powerset.{Powerset, dead}
 use Rattle.automata_base.specs.Retraced.Steps.{successor}
@@ -17,7 +18,7 @@ use Rattle.automata_hybrid.specs.Cache.Caches.{CacheView, with_store}
 use Rattle.automata_hybrid.specs.Cache.Growth.{ClearedNothing, IsGrown}
 use Rattle.automata_hybrid.specs.Searches.Cached.{KnowsItsStart, KnowsPass}
 use Rattle.automata_hybrid.specs.Machines.Machine.{Machine, slot_count}
-use Rattle.automata_hybrid.specs.Searches.PassContracts.{IsPassAnswer, IsPassEffect, IsRestEffect, IsUnderway}
+use Rattle.automata_hybrid.specs.Searches.PassContracts.{IsPassAnswer, IsPassEffect, IsRestEffect, IsUnderway, input_at}
 use Rattle.automata_hybrid.specs.Searches.PassState.{HasLearned, HasLearnedAll, half_at}
 use Rattle.automata_hybrid.specs.Searches.Units.{IsReadAnswer, IsReadEffect}
 use Rattle.automata_hybrid.specs.Searches.Progress.{HasEnded, IsLeft}
@@ -35,6 +36,18 @@ use Rattle.automata_hybrid.proofs.Searches.PassState.{stops_dead, stops_ends, st
 use Rattle.automata_hybrid.proofs.Steps.Starts.{refusal_at}
 use Rattle.automata_hybrid.proofs.Steps.Steps.{no_quit_unit}
 use Rattle.automata_hybrid.proofs.Searches.UnitsRead.{unstarted}
+
+-- the parts of an input make it again
+pub same_input :
+    (input : Input) (haystack : List ℕ) (start end : ℕ) (anchored : Anchored) (earliest : Bool)
+    → haystack ≡ input.haystack → start ≡ input.start → end ≡ input.end → anchored ≡ input.anchored → earliest ≡ input.earliest
+    → input_at haystack start end anchored earliest ≡ input
+same_input input haystack start end anchored earliest h s e a f =
+    ap (λ x. input_at x start end anchored earliest) h
+    ∙ (ap (λ x. input_at input.haystack x end anchored earliest) s
+    ∙ (ap (λ x. input_at input.haystack input.start x anchored earliest) e
+    ∙ (ap (λ x. input_at input.haystack input.start input.end x earliest) a
+    ∙ ap (λ x. input_at input.haystack input.start input.end input.anchored x) f)))
 
 -- a pass stands at a place, where the search may move; it reads a unit there, and then the search may end
 module _ (way : Direction) (m : Machine) (input : Input) (k id : ℕ) (u : Option ℕ) (found : Option HalfMatch)

@@ -1,6 +1,6 @@
 -- Cached transitions that are followed whatever they report.
 use Rattle.std.proofs.Common.{ℕ, suc, ◌≡◌, ◌∙◌, ◌<◌, ◌≤◌, ◌^◌, ◌⊎◌, inl, inr, Bool, true, false, List, [], ◌∷◌, length}
-use Rattle.std.proofs.Common.{Option, Some, refl, sym, ap, subst, arith}
+use Rattle.std.proofs.Common.{Option, Some, refl, slice_index, sym, ap, subst, arith}
 use Rattle.automata_base.specs.Answers.Answers.{offset_in}
 use Rattle.automata_base.specs.ByteClasses.Classes.{class_in, is_quit}
 use Rattle.automata_base.specs.Haystacks.Input.{Input}
@@ -113,9 +113,22 @@ pub run_to :
     → k ≡ to → IsRun way m c input tag from k id → IsRun way m c input tag from to id
 run_to {way} {m} {c} {input} {tag} {from} {id} same f = subst (λ n. IsRun way m c input tag from n id) same f
 
+-- the same to an ID that is named otherwise
+pub run_id :
+    {way : Direction} {m : Machine} {c : Stored} {input : Input} {tag from to id id' : ℕ}
+    → id ≡ id' → IsRun way m c input tag from to id → IsRun way m c input tag from to id'
+run_id {way} {m} {c} {input} {tag} {from} {to} same f = subst (λ n. IsRun way m c input tag from to n) same f
+
 half_any : (ps : List ℕ) (at : ℕ) (a b : Option HalfMatch) → 0 < length ps → half_at ps at a ≡ half_at ps at b
 half_any [] at a b l = absurd (omega (arith, l))
 half_any (p ∷ ps) at a b l = refl
+
+-- the first pattern of a state that has some is what it reports
+pub first_half :
+    (ps : List ℕ) (pattern at : ℕ) (before : Option HalfMatch) → 0 < length ps → pattern ≡ slice_index ps 0
+    → Some (record { pattern = pattern; offset = at }) ≡ half_at ps at before
+first_half [] pattern at before some e = absurd (omega (arith, some))
+first_half (p ∷ ps) pattern at before some e = ap (λ n. Some (record { pattern = n; offset = at })) e
 
 module _ {way : Direction} {m : Machine} {c : Stored} {input : Input} {from to id : ℕ} (f : IsLed way m c input from to id) where
   -- a pass that met no quit byte before has met none

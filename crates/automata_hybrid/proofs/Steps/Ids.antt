@@ -66,6 +66,16 @@ dead_tagged t id low small q (inl (e, d)) =
 dead_tagged t id low small q (inr h) =
     (λ b. absurd (let l : id < 2 ^ 29 = low q h in low_bit 30 id (omega (arith, l)) b), λ clear. h)
 
+-- a dead ID is none of the quit state
+pub dead_clear :
+    (t : Rows) (id : ℕ) → HasRow t id → ((q : Powerset) → Names t id q → id < 2 ^ 29) → table_stride t.of ≤ 512 → IsBitSet id 30
+    → IsBitSet id 29 → ⊥
+dead_clear t id (inl e) low small b q =
+    let n : id ≡ 2 * 2 ^ 29 + table_stride t.of = omega (arith, e) in
+    zero_one ((bit_of 29 (table_stride t.of) 2 id (omega (arith, small)) n).0 q)
+dead_clear t id (inr (inl e)) low small b q = low_bit 30 id (omega (arith, e, small)) b
+dead_clear t id (inr (inr v)) low small b q = low_bit 29 id (low v.0 v.1) q
+
 -- a failed step, reported at an offset
 pub refused :
     (m : Machine) (c c' : Stored) (q : Powerset) (unit : Option ℕ) (quit_at at : ℕ) (e : StepError)

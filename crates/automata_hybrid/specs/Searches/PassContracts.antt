@@ -1,8 +1,9 @@
 -- What a pass answers, and what it makes of its cache: the whole of it, or from some unit on.
-use Rattle.std.specs.Prelude.{ℕ, suc, ◌≡◌, ◌+◌, ◌-◌, ◌<◌, ◌≤◌, true, Option, Result, Ok, IfErr, OnOk}
+use Rattle.std.specs.Prelude.{ℕ, List, Bool, suc, ◌≡◌, ◌+◌, ◌-◌, ◌<◌, ◌≤◌, true, Option, Result, Ok, IfErr, OnOk}
 use Rattle.automata_base.specs.Haystacks.Input.{Input}
 use Rattle.automata_base.specs.Haystacks.Matches.{HalfMatch}
 use Rattle.automata_base.specs.Haystacks.Tapes.{Direction}
+use Rattle.automata_base.specs.declared.util.search.Anchored.{Anchored}
 use Rattle.automata_base.specs.Paths.Paths.{next}
 use Rattle.automata_config.specs.declared.error.SearchError.{SearchError}
 use Rattle.automata_hybrid.specs.Cache.Caches.{CacheView}
@@ -17,6 +18,11 @@ use Rattle.automata_hybrid.specs.Searches.Units.{IsReadEffect}
 use Rattle.automata_hybrid.specs.Machines.StartSlots.{supports}
 use Rattle.automata_hybrid.specs.Steps.Starts.{MayStart}
 use Rattle.automata_hybrid.specs.Cache.Table.{Rows}
+
+-- the input of these parts
+abbrev pub input_at : List ℕ → (start end : ℕ) → Anchored → (earliest : Bool) → Input
+input_at haystack start end anchored earliest =
+    record { haystack = haystack; start = start; end = end; anchored = anchored; earliest = earliest }
 
 -- what a pass over the span of an input answers
 pub record IsPassAnswer (way : Direction) (m : Machine) (input : Input) (half : Option HalfMatch) : Type 0 where

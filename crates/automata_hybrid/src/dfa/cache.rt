@@ -230,7 +230,7 @@ impl Cache {
 
     /// The same, of an ID whose row's offset is known.
     #[inline(always)]
-    pub(crate) fn cell_in_row(&self, id: LazyStateID, row: LazyStateID, class: usize) -> LazyStateID
+    pub(crate) fn cell_in_row(&self, id: LazyStateID, row: usize, class: usize) -> LazyStateID
         requires row { IsValid self.now.store.table id }
         requires class { class < table_stride self.now.store.table.of }
         requires offset { row ≡ id % offset_limit }

@@ -1,4 +1,4 @@
-ghost use Rattle.std.specs.Prelude.{◌≡◌, ◌+◌, ◌-◌, ◌*◌, ◌<◌, ◌≤◌, IfOk, IfErr, IfSome, IfNone, ◌↔◌, Err, false};
+ghost use Rattle.std.specs.Prelude.{◌≡◌, ◌+◌, ◌-◌, ◌*◌, ◌<◌, ◌≤◌, IfOk, IfErr, IfSome, IfNone, ◌↔◌, Err, Some, false};
 ghost use Rattle.automata_base.specs.ByteClasses.LookBehind.{behind_of};
 ghost use Rattle.automata_base.specs.Powersets.Powerset.{dead};
 ghost use Rattle.automata_base.specs.ByteClasses.Classes.{is_quit};
@@ -84,44 +84,57 @@ impl Cache {
     }
 }
 
+/// The kinds of look-behind bytes that are not the line terminator.
+const KINDS: [u8; 256] = [
+    0, 0, 0, 0, 0, 0, 0, 0, 0, 0, 3, 0, 0, 4, 0, 0, 0, 0, 0, 0, 0, 0, 0, 0, 0, 0, 0, 0, 0, 0, 0, 0,
+    0, 0, 0, 0, 0, 0, 0, 0, 0, 0, 0, 0, 0, 0, 0, 0, 1, 1, 1, 1, 1, 1, 1, 1, 1, 1, 0, 0, 0, 0, 0, 0,
+    0, 1, 1, 1, 1, 1, 1, 1, 1, 1, 1, 1, 1, 1, 1, 1, 1, 1, 1, 1, 1, 1, 1, 1, 1, 1, 1, 0, 0, 0, 0, 1,
+    0, 1, 1, 1, 1, 1, 1, 1, 1, 1, 1, 1, 1, 1, 1, 1, 1, 1, 1, 1, 1, 1, 1, 1, 1, 1, 1, 0, 0, 0, 0, 0,
+    0, 0, 0, 0, 0, 0, 0, 0, 0, 0, 0, 0, 0, 0, 0, 0, 0, 0, 0, 0, 0, 0, 0, 0, 0, 0, 0, 0, 0, 0, 0, 0,
+    0, 0, 0, 0, 0, 0, 0, 0, 0, 0, 0, 0, 0, 0, 0, 0, 0, 0, 0, 0, 0, 0, 0, 0, 0, 0, 0, 0, 0, 0, 0, 0,
+    0, 0, 0, 0, 0, 0, 0, 0, 0, 0, 0, 0, 0, 0, 0, 0, 0, 0, 0, 0, 0, 0, 0, 0, 0, 0, 0, 0, 0, 0, 0, 0,
+    0, 0, 0, 0, 0, 0, 0, 0, 0, 0, 0, 0, 0, 0, 0, 0, 0, 0, 0, 0, 0, 0, 0, 0, 0, 0, 0, 0, 0, 0, 0, 0,
+];
+
+/// The kind of a look-behind byte that is the line terminator.
+#[inline(never)]
+fn behind_line(byte: u8) -> usize
+    ensures { result ≡ behind_of byte (Some byte) }
+{
+    if byte == b'\n' {
+        3
+    } else if byte == b'\r' {
+        4
+    } else {
+        5
+    }
+}
+
 impl DFA {
     /// The kind of a look-behind byte: 0 for any byte that is not named here, 1 for a word byte, 2 for none, 3 for a
     /// line feed, 4 for a carriage return, 5 for a line terminator that is neither of these two.
     fn behind(&self, prev: Option<u8>) -> usize
-        ensures { result ≡ behind_of self.now.nfa.flags.line_terminator prev }
+        ensures value { result ≡ behind_of self.now.nfa.flags.line_terminator prev }
+        ensures below { result < 6 }
     {
         let Some(byte) = prev else {
             return 2;
         };
-        let terminator = self.get_nfa().flags().line_terminator;
-        if byte < b'0' {
-            return if byte == b'\n' {
-                3
-            } else if byte == b'\r' {
-                4
-            } else if byte == terminator {
-                5
-            } else {
-                0
-            };
+        if byte == self.get_nfa().flags().line_terminator {
+            return behind_line(byte);
         }
-        if byte == terminator {
-            return 5;
-        }
-        if byte.is_ascii_alphanumeric() || byte == b'_' {
-            return 1;
-        }
-        0
+        usize::from(KINDS[usize::from(byte)])
     }
 
-    /// The start slot of a group, after a look-behind byte or after none.
-    fn slot(&self, group: usize, prev: Option<u8>) -> usize
-        requires { group * 6 + 6 ≤ slot_count self.now }
-        ensures value { result ≡ group * 6 + behind_of self.now.nfa.flags.line_terminator prev }
+    /// The start slot of a group, after a look-behind byte of a kind.
+    fn slot(&self, group: usize, kind: usize) -> usize
+        requires room { group * 6 + 6 ≤ slot_count self.now }
+        requires kind { kind < 6 }
+        ensures value { result ≡ group * 6 + kind }
         ensures within { result < slot_count self.now }
     {
         self.see_machine();
-        group * 6 + self.behind(prev)
+        group * 6 + kind
     }
 
     /// The start slot of an anchored mode. A pattern past the last one has none.
@@ -137,9 +150,10 @@ impl DFA {
         ensures only { IfErr result (λ e. e ≡ StartError.UnsupportedAnchored mode) }
     {
         self.see_machine();
+        let kind = self.behind(prev);
         match mode {
-            Anchored::No => Ok(Some(self.slot(0, prev))),
-            Anchored::Yes => Ok(Some(self.slot(1, prev))),
+            Anchored::No => Ok(Some(self.slot(0, kind))),
+            Anchored::Yes => Ok(Some(self.slot(1, kind))),
             Anchored::Pattern(pattern) => {
                 if !self.starts_each_pattern() {
                     return Err(StartError::UnsupportedAnchored {
@@ -150,7 +164,7 @@ impl DFA {
                 if pattern >= self.pattern_len() {
                     return Ok(None);
                 }
-                Ok(Some(self.slot(pattern + 2, prev)))
+                Ok(Some(self.slot(pattern + 2, kind)))
             }
         }
     }

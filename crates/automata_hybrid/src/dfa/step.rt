@@ -155,7 +155,7 @@ impl DFA {
         ensures tag { HasItsMatchTag cache.now.store.table result }
         ensures row { result < unknown_id → HasRow cache.now.store.table result }
     {
-        cache.cell_in_row(id, id, self.class_of(byte))
+        cache.cell_in_row(id, id.untagged() as usize, self.class_of(byte))
     }
 
     /// The same, of an ID that may have a tag.
@@ -181,7 +181,7 @@ impl DFA {
         &self,
         cache: &Cache,
         id: LazyStateID,
-        row: LazyStateID,
+        row: usize,
         byte: u8,
     ) -> LazyStateID
         requires of { IsCacheOf cache.now self.now }

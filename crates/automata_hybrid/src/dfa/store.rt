@@ -22,8 +22,6 @@ use automata_config::error::{CacheError, StepError};
 use std::alloc::AllocError;
 use std::marker::Model;
 
-const OFFSET_LIMIT: usize = LazyStateID::OFFSET_LIMIT as usize;
-
 /// How many rows a new cache has room for, so that a short search does not move them.
 const FIRST_ROWS: usize = 8;
 
@@ -129,7 +127,7 @@ impl Store {
         let used = self.memory_usage();
         let room = self.settings.capacity - used;
         let row = CELL_SIZE * self.table.stride() + ROW_SIZE + ENTRY_SIZE;
-        row + bytes <= room && self.table.cell_count() < OFFSET_LIMIT
+        row + bytes <= room && self.table.cell_count() < LazyStateID::OFFSET_LIMIT
     }
 
     /// Whether a search gives up in place of a clear.

@@ -245,7 +245,7 @@ impl Table {
 
     /// The same, of an ID whose row's offset is known: no tag has to be taken off.
     #[inline(always)]
-    pub fn cell_in_row(&self, id: LazyStateID, row: LazyStateID, class: usize) -> LazyStateID
+    pub fn cell_in_row(&self, id: LazyStateID, row: usize, class: usize) -> LazyStateID
         requires row { IsValid self.now id }
         requires class { class < table_stride self.now.of }
         requires offset { row ≡ id % offset_limit }
@@ -253,7 +253,7 @@ impl Table {
         ensures named { (q : Powerset) → Names self.now id q → IsCell self.now q class result }
         ensures stride { table_stride self.now.of ≤ 512 }
     {
-        cell_in(self.cells.as_slice(), row.untagged() as usize, class)
+        cell_in(self.cells.as_slice(), row, class)
     }
 
     /// Writes a transition.

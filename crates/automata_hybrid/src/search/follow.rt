@@ -1,6 +1,6 @@
 //! Following cached transitions, eight a turn: into states that report nothing or into match states, and along
 //! self-loops.
-ghost use Rattle.std.specs.Prelude.{ℕ, ◌≡◌, ◌+◌, ◌-◌, ◌<◌, ◌≤◌};
+ghost use Rattle.std.specs.Prelude.{ℕ, ◌≡◌, ◌+◌, ◌-◌, ◌^◌, ◌<◌, ◌≤◌};
 ghost use Rattle.automata_base.specs.Paths.Paths.{next};
 ghost use Rattle.automata_hybrid.specs.Cache.Caches.{IsCacheOf};
 ghost use Rattle.automata_hybrid.specs.Cache.Ids.{fixed_from, offset_limit, HasOnly, HasMatchTag};
@@ -67,7 +67,8 @@ impl DFA {
         }
     }
 
-    /// Follows cached transitions into states that have patterns, from an ID after which another one was met.
+    /// Follows cached transitions into states that have patterns, from an ID after which one with the match tag alone was
+    /// met.
     #[inline(always)]
     pub(super) fn follow_matches(
         &self,
@@ -81,20 +82,13 @@ impl DFA {
         requires of { IsCacheOf cache.now self.now }
         requires open { input.now.start ≤ input.now.end }
         requires named { Names cache.now.store.table from (state_in (way_of way) self.now input.now start) }
-        requires met { IsMet (way_of way) self.now cache.now.store input.now start from next }
-        ensures within { start < result.at → result.at ≤ input.now.end - input.now.start }
+        requires met { IsMet (way_of way) self.now cache.now.store input.now start from next × HasOnly (2 ^ 27) next }
+        ensures within { (start < result.at) × (result.at ≤ input.now.end - input.now.start) }
         ensures led { IsLed (way_of way) self.now cache.now.store input.now start result.at result.id }
-        ensures reports { start < result.at → HasMatchTag result.id }
+        ensures reports { HasMatchTag result.id }
         ensures met { IsMet (way_of way) self.now cache.now.store input.now result.at result.id result.next }
     {
         let _haystack = input.haystack();
-        if !next.has_only(LazyStateID::MATCH) {
-            return Stop {
-                at: start,
-                id: from,
-                next,
-            };
-        }
         self.see_byte(cache, input, way, start, from);
         self.follow_tag(cache, input, way, start + 1, next, LazyStateID::MATCH)
     }
@@ -164,21 +158,23 @@ impl DFA {
         ensures met { IsMet (way_of way) self.now cache.now.store input.now result.at result.id result.next }
     {
         let _haystack = input.haystack();
-        let mut id = from;
+        let mut row = from.offset_by(tag);
         for k in 0..8usize {
-            let next = self.follow_byte(cache, input, way, start + k, id, tag);
-            if !next.has_only(tag) {
+            let id = LazyStateID::at_offset(row, tag);
+            let next = self.follow_byte(cache, input, way, start + k, id, row, tag);
+            let offset = next.offset_by(tag);
+            if offset >= LazyStateID::OFFSET_LIMIT {
                 return Stop {
                     at: start + k,
                     id,
                     next,
                 };
             }
-            id = next;
+            row = offset;
         }
         Stop {
             at: start + 8,
-            id,
+            id: LazyStateID::at_offset(row, tag),
             next: LazyStateID::UNKNOWN,
         }
     }
@@ -204,18 +200,20 @@ impl DFA {
     {
         let last = last_place(input);
         let mut at = start;
-        let mut id = from;
+        let mut row = from.offset_by(tag);
         'rest: while at < last {
-            let next = self.follow_byte(cache, input, way, at, id, tag);
-            if !next.has_only(tag) {
+            let id = LazyStateID::at_offset(row, tag);
+            let next = self.follow_byte(cache, input, way, at, id, row, tag);
+            let offset = next.offset_by(tag);
+            if offset >= LazyStateID::OFFSET_LIMIT {
                 return Stop { at, id, next };
             }
-            id = next;
+            row = offset;
             at += 1;
         }
         Stop {
             at,
-            id,
+            id: LazyStateID::at_offset(row, tag),
             next: LazyStateID::UNKNOWN,
         }
     }
@@ -228,17 +226,19 @@ impl DFA {
         way: Way,
         place: usize,
         id: LazyStateID,
+        row: usize,
         tag: u32,
     ) -> LazyStateID
         requires of { IsCacheOf cache.now self.now }
         requires within { place < input.now.end - input.now.start }
         requires at { IsTagAt (way_of way) self.now cache.now.store.table input.now tag place id }
+        requires row { id ≡ row + tag }
         ensures run { HasOnly tag result
             → IsRun (way_of way) self.now cache.now.store input.now tag place (place + 1) result }
         ensures met { IsMet (way_of way) self.now cache.now.store input.now place id result }
     {
         self.see_byte(cache, input, way, place, id);
-        self.next_state_in_row(cache, id, id.less(tag), byte_at(input, way, place))
+        self.next_state_in_row(cache, id, row, byte_at(input, way, place))
     }
 
     /// A cached transition on the byte at a place leads on, and if it leads to an ID without a tag, reports nothing. It

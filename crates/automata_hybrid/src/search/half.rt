@@ -95,8 +95,8 @@ impl DFA {
     /// The pattern and the start of the match that a search from the span's end to its start finds: of the longest one
     /// that ends there under `MatchKind::All`, and with an earliest input of the shortest one.
     ///
-    /// Over the DFA of a reversed NFA it is where a match of the NFA itself begins. A start inside a UTF-8 encoded character is skipped by searching again from
-    /// one offset before.
+    /// Over the DFA of a reversed NFA it is where a match of the NFA itself begins. A start inside a UTF-8 encoded
+    /// character is skipped by searching again from one offset before.
     ///
     /// The error of a quit byte has the byte's offset; the "gave up" error has the offset of the byte that was to be
     /// read, or the span's end or start. After an error the cache serves other searches as before.

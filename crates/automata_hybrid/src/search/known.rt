@@ -105,11 +105,14 @@ impl DFA {
         ensures effect { result < unknown_id → IsReadEffect self.now id
             (next (tape_in (way_of way) input.now) at) cache.now cache.now (Ok result) }
     {
-        if at < last_place(input) {
-            let _next = self.known_step(cache, id, Some(byte_at(input, way, at)));
-            return met;
+        if met.is_unknown() {
+            if at < last_place(input) {
+                return LazyStateID::UNKNOWN;
+            }
+            return self.known_step(cache, id, unit_at(input, way, at));
         }
-        self.known_step(cache, id, unit_at(input, way, at))
+        let _next = self.known_step(cache, id, Some(byte_at(input, way, at)));
+        met
     }
 
     /// A pass over cached transitions from its start state, as far as these lead.
@@ -135,11 +138,11 @@ impl DFA {
         if next.is_unknown() {
             return Known::left(run.at, run.id, run.found);
         }
-        if next.is_quit() {
-            return Known::left(run.at, run.id, run.found);
-        }
         if next.is_dead() {
             return Known::ended(run.at, run.id, run.found);
+        }
+        if next.is_quit() {
+            return Known::left(run.at, run.id, run.found);
         }
         let found = self.found_at(cache, next, place_offset(input, way, run.at), run.found);
         if run.at >= last {

@@ -240,6 +240,7 @@ impl DFA {
     }
 
     /// The first pattern of a match state. An NFA of one pattern needs no look-up.
+    #[inline(always)]
     fn first_pattern(&self, cache: &Cache, id: LazyStateID) -> PatternID
         requires of { IsCacheOf cache.now self.now }
         requires valid { IsValid cache.now.store.table id }
@@ -250,10 +251,23 @@ impl DFA {
         if self.pattern_len() == 1 {
             return PatternID::ZERO;
         }
+        self.first_of_many(cache, id)
+    }
+
+    /// The same, looked up.
+    #[inline(never)]
+    fn first_of_many(&self, cache: &Cache, id: LazyStateID) -> PatternID
+        requires of { IsCacheOf cache.now self.now }
+        requires valid { IsValid cache.now.store.table id }
+        requires tagged { HasMatchTag id }
+        ensures { (q : Powerset) → Names cache.now.store.table id q → result ≡ slice_index q.patterns 0 }
+    {
+        cache.see_store();
         cache.match_pattern(id, 0)
     }
 
     /// What was found last, once the state of an ID has matched at an offset.
+    #[inline(always)]
     fn found_at(
         &self,
         cache: &Cache,

@@ -1,12 +1,13 @@
 //! One run over the span of an input, in either direction.
 ghost use Rattle.std.specs.Prelude.{◌≡◌, ◌-◌, ◌<◌, ◌≤◌, IfOk, IfErr, OnOk, Option};
 ghost use Rattle.std.specs.Prelude.{None, Err};
+ghost use Rattle.automata_base.specs.Haystacks.Input.{Allows};
 ghost use Rattle.automata_base.specs.Paths.Paths.{next};
 ghost use Rattle.automata_base.specs.Powersets.Powerset.{Powerset, dead};
 ghost use Rattle.automata_hybrid.specs.Cache.Caches.{IsCacheOf};
 ghost use Rattle.automata_hybrid.specs.Searches.Contracts.{IsUnsupported, unsupported_error};
 ghost use Rattle.automata_hybrid.specs.Searches.PassContracts.{IsKnownUpto, IsPassAnswer, IsPassEffect};
-ghost use Rattle.automata_hybrid.specs.Searches.PassContracts.{IsRestEffect, IsUnderway};
+ghost use Rattle.automata_hybrid.specs.Searches.PassContracts.{IsRestEffect, IsUnderway, input_at};
 ghost use Rattle.automata_hybrid.specs.Searches.PassState.{HasRun, IsAt, IsMet};
 ghost use Rattle.automata_hybrid.specs.Searches.Units.{IsEndProgress, IsStillProgress};
 ghost use Rattle.automata_hybrid.specs.Searches.Progress.{EndsAtLast, IsStoppedAt, KeepsNone};
@@ -22,7 +23,7 @@ use crate::search::direction::{
     span_offset, unit_at, unit_offset,
 };
 use crate::search::known::Known;
-use automata_base::util::search::{HalfMatch, Input};
+use automata_base::util::search::{Anchored, HalfMatch, Input, Span};
 use automata_config::error::SearchError;
 
 /// Where a run is: its place, the ID of its state there, and what it found last.
@@ -45,12 +46,24 @@ fn again(found: Option<HalfMatch>) -> Option<HalfMatch>
     }
 }
 
+/// The input of these parts.
+#[inline(always)]
+fn input_of<'h>(haystack: &'h [u8], span: Span, anchored: Anchored, earliest: bool) -> Input<'h>
+    requires { Allows haystack.now span.start span.end }
+    ensures { result ≡ input_at haystack.now span.start span.end anchored earliest }
+{
+    Input::new(haystack)
+        .span(span)
+        .anchored(anchored)
+        .earliest(earliest)
+}
+
 impl DFA {
     /// One run over the span, which is not done. While all that it reads is cached, it changes nothing, and it counts its
     /// bytes once it has ended.
-    // `begin` and `rest` are not inlined, so that a search which finds all that it needs cached keeps its numbers in
-    // registers. What they are lent and what they return stands in memory: so they are lent copies, and what they return
-    // is taken apart.
+    // `begin_of` and `rest` are not inlined, so that a search which finds all that it needs cached keeps its numbers in
+    // registers. What they are lent and what they return stands in memory, which is cleared first: so they are given the
+    // parts of the input, and what they return is taken apart.
     #[inline(always)]
     pub(super) fn pass(
         &self,
@@ -71,8 +84,14 @@ impl DFA {
         cache.see_store();
         let start = self.known_start(cache, input, way);
         if start.is_fixed() || keeps_none(input, way) {
-            let copy = input.copied();
-            return match self.begin(cache, &copy, way) {
+            return match self.begin_of(
+                cache,
+                input.haystack(),
+                input.get_span(),
+                input.get_anchored(),
+                input.get_earliest(),
+                way,
+            ) {
                 Ok(found) => Ok(found),
                 Err(error) => Err(error),
             };
@@ -88,9 +107,18 @@ impl DFA {
             return Ok(found);
         }
         cache.search_start(span_offset(input, way, 0));
-        let copy = input.copied();
         let before = again(found);
-        match self.rest(cache, &copy, way, at, id, before) {
+        match self.rest(
+            cache,
+            input.haystack(),
+            input.get_span(),
+            input.get_anchored(),
+            input.get_earliest(),
+            way,
+            at,
+            id,
+            before,
+        ) {
             Ok(found) => Ok(found),
             Err(error) => Err(error),
         }
@@ -98,6 +126,33 @@ impl DFA {
 
     /// The same, of which the start state may not be cached.
     #[inline(never)]
+    fn begin_of(
+        &self,
+        cache: &mut Cache,
+        haystack: &[u8],
+        span: Span,
+        anchored: Anchored,
+        earliest: bool,
+        way: Way,
+    ) -> Result<Option<HalfMatch>, SearchError>
+        requires of { IsCacheOf cache.old self.now }
+        requires open { Allows haystack.now span.start span.end × (span.start ≤ span.end) }
+        ensures of { IsCacheOf cache.new self.now }
+        ensures answer { IfOk result (IsPassAnswer (way_of way) self.now
+            (input_at haystack.now span.start span.end anchored earliest)) }
+        ensures refusal { IfErr result (IsPassRefusal (way_of way) self.now cache.new.store
+            (input_at haystack.now span.start span.end anchored earliest)) }
+        ensures unsupported { let input = input_at haystack.now span.start span.end anchored earliest in
+            IsUnsupported (way_of way) self.now input → result ≡ Err (unsupported_error input) }
+        ensures effect { IsPassEffect (way_of way) self.now
+            (input_at haystack.now span.start span.end anchored earliest) cache.old cache.new result }
+    {
+        let own = input_of(haystack, span, anchored, earliest);
+        self.begin(cache, &own, way)
+    }
+
+    /// The same, of an input that is lent.
+    #[inline(always)]
     fn begin(
         &self,
         cache: &mut Cache,
@@ -131,7 +186,17 @@ impl DFA {
             cache.end_search(first);
             return Ok(None);
         }
-        let found = self.rest(cache, input, way, 0, start, None)?;
+        let found = self.rest(
+            cache,
+            input.haystack(),
+            input.get_span(),
+            input.get_anchored(),
+            input.get_earliest(),
+            way,
+            0,
+            start,
+            None,
+        )?;
         Ok(found)
     }
 
@@ -164,8 +229,7 @@ impl DFA {
                 next: quiet.next,
             };
         }
-        let stop = self.follow_matches(cache, input, way, quiet.at, quiet.id, quiet.next);
-        if stop.at == quiet.at {
+        if !quiet.next.has_only(LazyStateID::MATCH) {
             return Place {
                 at: quiet.at,
                 id: quiet.id,
@@ -173,12 +237,14 @@ impl DFA {
                 next: quiet.next,
             };
         }
+        let stop = self.follow_matches(cache, input, way, quiet.at, quiet.id, quiet.next);
         cache.see_store();
         let offset = place_offset(input, way, stop.at - 1);
+        let pattern = self.first_pattern(cache, stop.id);
         Place {
             at: stop.at,
             id: stop.id,
-            found: self.found_at(cache, stop.id, offset, found),
+            found: Some(HalfMatch::new(pattern, offset)),
             next: stop.next,
         }
     }
@@ -188,23 +254,31 @@ impl DFA {
     fn rest(
         &self,
         cache: &mut Cache,
-        input: &Input<'_>,
+        haystack: &[u8],
+        span: Span,
+        anchored: Anchored,
+        earliest: bool,
         way: Way,
         from: usize,
         start: LazyStateID,
         before: Option<HalfMatch>,
     ) -> Result<Option<HalfMatch>, SearchError>
         requires of { IsCacheOf cache.old self.now }
-        requires at { IsKnownUpto (way_of way) self.now cache.old.store input.now from start before }
+        requires at { Allows haystack.now span.start span.end × IsKnownUpto (way_of way) self.now cache.old.store
+            (input_at haystack.now span.start span.end anchored earliest) from start before }
         ensures of { IsCacheOf cache.new self.now }
-        ensures answer { IfOk result (IsPassAnswer (way_of way) self.now input.now) }
-        ensures refusal { IfErr result (IsPassRefusal (way_of way) self.now cache.new.store input.now) }
-        ensures effect { IsRestEffect (way_of way) self.now input.now 0 cache.old cache.new result }
-        ensures ended { OnOk result (EndsAtLast (way_of way) self.now input.now cache.old.store cache.new.store) }
-        ensures left { IfErr result (IsStoppedAt (way_of way) self.now input.now cache.old.store cache.new.store) }
+        ensures answer { IfOk result (IsPassAnswer (way_of way) self.now
+            (input_at haystack.now span.start span.end anchored earliest)) }
+        ensures refusal { IfErr result (IsPassRefusal (way_of way) self.now cache.new.store
+            (input_at haystack.now span.start span.end anchored earliest)) }
+        ensures effect { IsRestEffect (way_of way) self.now
+            (input_at haystack.now span.start span.end anchored earliest) 0 cache.old cache.new result }
+        ensures ended { OnOk result (EndsAtLast (way_of way) self.now
+            (input_at haystack.now span.start span.end anchored earliest) cache.old.store cache.new.store) }
+        ensures left { IfErr result (IsStoppedAt (way_of way) self.now
+            (input_at haystack.now span.start span.end anchored earliest) cache.old.store cache.new.store) }
     {
-        // Of its own, so that a loop reads it from registers.
-        let own = input.copied();
+        let own = input_of(haystack, span, anchored, earliest);
         match way {
             Way::Forward => self.find(cache, &own, Way::Forward, from, start, before),
             Way::Backward => self.find(cache, &own, Way::Backward, from, start, before),

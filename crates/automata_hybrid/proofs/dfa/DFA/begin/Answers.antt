@@ -1,20 +1,21 @@
 use Rattle.std.proofs.Common.{◌≡◌, ◌∙◌, ap, None, refl, sym, subst, inl, inr, arith}
-use Rattle.std.specs.Prelude.{Err}
+use Rattle.std.specs.Prelude.{Err, IfErr, Ok}
+use Rattle.automata_base.specs.Haystacks.Input.{Allows, Input}
 use Rattle.std.proofs.lemmas.Result.{IfErr-weaker, IfOk-weaker}
 use Rattle.automata_base.specs.Powersets.Powerset.{dead}
 use Rattle.automata_base.specs.Haystacks.Tapes.{Direction}
 use Rattle.automata_hybrid.specs.Cache.Stores.{Stored, with_searched}
 use Rattle.automata_hybrid.specs.Cache.Caches.{CacheView}
 use Rattle.automata_hybrid.specs.Machines.Machine.{Machine, slot_count}
-use Rattle.automata_hybrid.specs.Searches.PassContracts.{IsPassEffect}
+use Rattle.automata_hybrid.specs.Searches.PassContracts.{IsKnownUpto, IsPassEffect, IsRestEffect}
 use Rattle.automata_hybrid.specs.Cache.Progress.{started}
 use Rattle.automata_hybrid.specs.Searches.Progress.{EndsAtLast, IsStoppedAt, with_search_begun, with_search_ended}
-use Rattle.automata_hybrid.specs.Searches.Passes.{Reads, state_in}
+use Rattle.automata_hybrid.specs.Searches.Passes.{IsPassRefusal, Reads, state_in}
 use Rattle.automata_hybrid.specs.Cache.Table.{Rows, Names}
 use Rattle.automata_hybrid.specs.Walks.State.{way_of}
 use Rattle.automata_hybrid.proofs.Searches.Directions.{begins_alive, begins_dead}
 use Rattle.automata_hybrid.proofs.Searches.Cached.{learned_none}
-use Rattle.automata_hybrid.proofs.Searches.PassContracts.{pass_rest, pass_unstarted, rest_dead}
+use Rattle.automata_hybrid.proofs.Searches.PassContracts.{pass_rest, pass_unstarted, rest_dead, same_input}
 use Rattle.automata_hybrid.proofs.Searches.Reads.{at_err}
 use Rattle.automata_hybrid.proofs.Searches.UnitsRead.{ended_here, pass_dies, start_had}
 use Rattle.automata_hybrid.proofs.Searches.PassState.{at_reads, clean_start, false_true, if_both, place_refuses, starts_at}
@@ -36,7 +37,7 @@ returns-then-is_dead-2-clause-answer c =
 pub rest-requires-clause-at : goal.rest-requires-clause-at
 rest-requires-clause-at c =
     let d : Direction = way_of c.args.way in
-    record {
+    let at : IsKnownUpto d c.args.self.now c.search_start.new.self.store c.args.input.now 0 c.in-Ok.start None = record {
       within = omega arith;
       learned = learned_none d c.args.self.now c.search_start.new.self.store c.args.input.now;
       known = λ j below. absurd (omega (arith, below));
@@ -47,7 +48,11 @@ rest-requires-clause-at c =
             (subst (λ (t : Rows). Names t c.in-Ok.start (state_in d c.args.self.now c.args.input.now 0)) (sym c.search_start.ensures.table)
             (begins_alive d c.args.self.now c.walk_start.new.cache.store.table c.args.input.now c.in-Ok.start c.in-Ok.ensures.answer.named (c.see_store.ensures.low c.in-Ok.start) c.see_store.ensures.small (λ b. false_true (c.if-is_dead-2.ensures.1 b))));
       };
-    }
+    } in (
+      subst (λ (i : Input). Allows i.haystack i.start i.end) (sym (same_input c.args.input.now c.haystack.result.now c.get_span.result.start c.get_span.result.end c.get_anchored.result c.get_earliest.result c.haystack.ensures.same c.get_span.ensures.start c.get_span.ensures.end c.get_anchored.ensures c.get_earliest.ensures)) c.get_span.ensures.within,
+      subst (λ (i : Input). IsKnownUpto d c.args.self.now c.search_start.new.self.store i 0 c.in-Ok.start None)
+          (sym (same_input c.args.input.now c.haystack.result.now c.get_span.result.start c.get_span.result.end c.get_anchored.result c.get_earliest.result c.haystack.ensures.same c.get_span.ensures.start c.get_span.ensures.end c.get_anchored.ensures c.get_earliest.ensures)) at,
+    )
 
 pub find_still-requires-clause-at : goal.find_still-requires-clause-at
 find_still-requires-clause-at c =
@@ -142,12 +147,13 @@ returns-clause-effect c =
     subst (λ at. c.search_start.new.self.store ≡ with_searched c.walk_start.new.cache.store (started c.walk_start.new.cache.store.searched at)) c.span_offset-first.ensures (ap (λ (v : CacheView). v.store) c.search_start.ensures.value) in
     pass_rest d c.args.self.now c.args.input.now c.in-Ok.start c.args.cache.now c.walk_start.new.cache c.search_start.new.self c.rest.new.cache _ (c.see_bounds.ensures.slots ∙ ap (λ (d : Machine). slot_count d) c.requires.of)
     c.in-Ok.ensures.answer c.in-Ok.ensures.effect c.search_start.ensures.value
-    c.in_ok-found.ensures.effect (
+    (subst (λ (i : Input). IsRestEffect d c.args.self.now i 0 c.search_start.new.self c.rest.new.cache (Ok c.in_ok-found.found)) (same_input c.args.input.now c.haystack.result.now c.get_span.result.start c.get_span.result.end c.get_anchored.result c.get_earliest.result c.haystack.ensures.same c.get_span.ensures.start c.get_span.ensures.end c.get_anchored.ensures c.get_earliest.ensures) c.in_ok-found.ensures.effect) (
       c.walk_start.new.cache.store,
       (start_had d c.args.self.now c.args.input.now c.args.cache.now c.walk_start.new.cache c.in-Ok.start (c.see_bounds.ensures.slots ∙ ap (λ (d : Machine). slot_count d) c.requires.of) c.in-Ok.ensures.effect c.in-Ok.ensures.answer),
       inr (
         c.if-keeps_none.ensures.no refl,
-        subst (λ (v : Stored). EndsAtLast d c.args.self.now c.args.input.now v c.rest.new.cache.store) begins c.in_ok-found.ensures.ended,
+        subst (λ (v : Stored). EndsAtLast d c.args.self.now c.args.input.now v c.rest.new.cache.store) begins
+            (subst (λ (i : Input). EndsAtLast d c.args.self.now i c.search_start.new.self.store c.rest.new.cache.store) (same_input c.args.input.now c.haystack.result.now c.get_span.result.start c.get_span.result.end c.get_anchored.result c.get_earliest.result c.haystack.ensures.same c.get_span.ensures.start c.get_span.ensures.end c.get_anchored.ensures c.get_earliest.ensures) c.in_ok-found.ensures.ended),
       ),
     )
     tt
@@ -160,13 +166,20 @@ returns-in_err-found-clause-effect c =
     at_err c.from_residual.result _ (IsPassEffect d c.args.self.now c.args.input.now c.args.cache.now c.rest.new.cache) c.from_residual.ensures.1
     (pass_rest d c.args.self.now c.args.input.now c.in-Ok.start c.args.cache.now c.walk_start.new.cache c.search_start.new.self c.rest.new.cache (Err c.in_err-found.field-0.0) (c.see_bounds.ensures.slots ∙ ap (λ (d : Machine). slot_count d) c.requires.of)
     c.in-Ok.ensures.answer c.in-Ok.ensures.effect c.search_start.ensures.value
-    c.in_err-found.ensures.effect
+    (subst (λ (i : Input). IsRestEffect d c.args.self.now i 0 c.search_start.new.self c.rest.new.cache (Err c.in_err-found.field-0.0)) (same_input c.args.input.now c.haystack.result.now c.get_span.result.start c.get_span.result.end c.get_anchored.result c.get_earliest.result c.haystack.ensures.same c.get_span.ensures.start c.get_span.ensures.end c.get_anchored.ensures c.get_earliest.ensures) c.in_err-found.ensures.effect)
     tt
     (inr (
       c.walk_start.new.cache.store,
       (start_had d c.args.self.now c.args.input.now c.args.cache.now c.walk_start.new.cache c.in-Ok.start (c.see_bounds.ensures.slots ∙ ap (λ (d : Machine). slot_count d) c.requires.of) c.in-Ok.ensures.effect c.in-Ok.ensures.answer),
       inr (
         c.if-keeps_none.ensures.no refl,
-        subst (λ (v : Stored). IsStoppedAt d c.args.self.now c.args.input.now v c.rest.new.cache.store c.in_err-found.field-0.0) begins c.in_err-found.ensures.left,
+        subst (λ (v : Stored). IsStoppedAt d c.args.self.now c.args.input.now v c.rest.new.cache.store c.in_err-found.field-0.0) begins
+            (subst (λ (i : Input). IsStoppedAt d c.args.self.now i c.search_start.new.self.store c.rest.new.cache.store c.in_err-found.field-0.0) (same_input c.args.input.now c.haystack.result.now c.get_span.result.start c.get_span.result.end c.get_anchored.result c.get_earliest.result c.haystack.ensures.same c.get_span.ensures.start c.get_span.ensures.end c.get_anchored.ensures c.get_earliest.ensures) c.in_err-found.ensures.left),
       ),
     )))
+
+pub returns-in_err-found-clause-refusal : goal.returns-in_err-found-clause-refusal
+returns-in_err-found-clause-refusal c =
+    let d : Direction = way_of c.args.way in
+    at_err c.from_residual.result _ (λ r. IfErr r (IsPassRefusal d c.args.self.now c.rest.new.cache.store c.args.input.now)) c.from_residual.ensures.1
+    (subst (λ (i : Input). IsPassRefusal d c.args.self.now c.rest.new.cache.store i c.in_err-found.field-0.0) (same_input c.args.input.now c.haystack.result.now c.get_span.result.start c.get_span.result.end c.get_anchored.result c.get_earliest.result c.haystack.ensures.same c.get_span.ensures.start c.get_span.ensures.end c.get_anchored.ensures c.get_earliest.ensures) c.in_err-found.ensures.refusal)

@@ -11,7 +11,7 @@ next_state_in_row-requires-clause-valid c = (_, c.requires.at.named)
 
 pub next_state_in_row-requires-clause-offset : goal.next_state_in_row-requires-clause-offset
 next_state_in_row-requires-clause-offset c =
-    omega (arith, c.less.ensures, c.requires.at.kind.upto, c.requires.at.kind.whole, c.requires.at.only.from, c.requires.at.only.below)
+    omega (arith, c.requires.row, c.requires.at.kind.upto, c.requires.at.kind.whole, c.requires.at.only.from, c.requires.at.only.below)
 
 there : (c : After-next_state_in_row) → c.next_state_in_row.result ≡ known_step c.args.self.now c.args.cache.now.store c.args.id (next (tape_in (way_of c.args.way) c.args.input.now) c.args.place)
 there c = c.next_state_in_row.ensures ∙ ap (known_step c.args.self.now c.args.cache.now.store c.args.id) (sym c.byte_at.ensures)

@@ -5,5 +5,5 @@ use Rattle.automata_hybrid.proofs.dfa.DFA.follow_eight.Given as goal
 
 abbrev pub invariant-loop-k : goal.invariant-loop-k
 invariant-loop-k l = record {
-  run : IsRun (way_of l.way) l.self l.cache.store l.input l.tag l.fn.start (l.fn.start + l.k) l.id;
+  run : IsRun (way_of l.way) l.self l.cache.store l.input l.tag l.fn.start (l.fn.start + l.k) (l.row + l.tag);
 }

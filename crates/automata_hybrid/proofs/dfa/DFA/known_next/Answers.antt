@@ -4,35 +4,35 @@ use Rattle.automata_hybrid.specs.Searches.Units.{IsReadEffect}
 use Rattle.automata_hybrid.specs.Steps.Steps.{IsStepAnswer, known_step}
 use Rattle.automata_hybrid.proofs.dfa.DFA.known_next.Goals as goal
 
-pub returns-then-at-last_place-clause-value : goal.returns-then-at-last_place-clause-value
-returns-then-at-last_place-clause-value c = λ low. (c.requires.met low).1
+pub returns-clause-value : goal.returns-clause-value
+returns-clause-value c = λ low. (c.requires.met low).1
 
-pub returns-then-at-last_place-clause-answer : goal.returns-then-at-last_place-clause-answer
-returns-then-at-last_place-clause-answer c = λ low.
+pub returns-clause-answer : goal.returns-clause-answer
+returns-clause-answer c = λ low.
     let same : c.known_step-next.result ≡ c.args.met =
     c.known_step-next.ensures.value ∙ (ap (known_step c.args.self.now c.args.cache.now.store c.args.id) (sym c.byte_at.ensures) ∙ sym (c.requires.met low).1) in
     subst (λ (u : Option ℕ). IsStepAnswer c.args.self.now c.args.id u c.args.cache.now c.args.cache.now c.args.met) (sym c.byte_at.ensures)
     (subst (IsStepAnswer c.args.self.now c.args.id (Some c.byte_at.result) c.args.cache.now c.args.cache.now) same
     (c.known_step-next.ensures.answer (subst (λ n. n < 2 ^ 31) (sym same) low)))
 
-pub returns-then-at-last_place-clause-effect : goal.returns-then-at-last_place-clause-effect
-returns-then-at-last_place-clause-effect c = λ low.
+pub returns-clause-effect : goal.returns-clause-effect
+returns-clause-effect c = λ low.
     let same : c.known_step-next.result ≡ c.args.met =
     c.known_step-next.ensures.value ∙ (ap (known_step c.args.self.now c.args.cache.now.store c.args.id) (sym c.byte_at.ensures) ∙ sym (c.requires.met low).1) in
     subst (λ (u : Option ℕ). IsReadEffect c.args.self.now c.args.id u c.args.cache.now c.args.cache.now (Ok c.args.met)) (sym c.byte_at.ensures)
     (subst (λ n. IsReadEffect c.args.self.now c.args.id (Some c.byte_at.result) c.args.cache.now c.args.cache.now (Ok n)) same
     (c.known_step-next.ensures.effect (subst (λ n. n < 2 ^ 31) (sym same) low)))
 
-pub returns-clause-value : goal.returns-clause-value
-returns-clause-value c = λ low.
+pub returns-then-is_unknown-clause-value : goal.returns-then-is_unknown-clause-value
+returns-then-is_unknown-clause-value c = λ low.
     c.known_step.ensures.value ∙ ap (known_step c.args.self.now c.args.cache.now.store c.args.id) c.unit_at.ensures
 
-pub returns-clause-answer : goal.returns-clause-answer
-returns-clause-answer c = λ low.
+pub returns-then-is_unknown-clause-answer : goal.returns-then-is_unknown-clause-answer
+returns-then-is_unknown-clause-answer c = λ low.
     subst (λ (u : Option ℕ). IsStepAnswer c.args.self.now c.args.id u c.args.cache.now c.args.cache.now c.known_step.result) c.unit_at.ensures
     (c.known_step.ensures.answer low)
 
-pub returns-clause-effect : goal.returns-clause-effect
-returns-clause-effect c = λ low.
+pub returns-then-is_unknown-clause-effect : goal.returns-then-is_unknown-clause-effect
+returns-then-is_unknown-clause-effect c = λ low.
     subst (λ (u : Option ℕ). IsReadEffect c.args.self.now c.args.id u c.args.cache.now c.args.cache.now (Ok c.known_step.result)) c.unit_at.ensures
     (c.known_step.ensures.effect low)

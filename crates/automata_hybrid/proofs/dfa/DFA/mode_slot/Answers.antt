@@ -17,17 +17,19 @@ returns-then-pattern-pattern_len-clause-past c =
 pub returns-in-No-clause-slot : goal.returns-in-No-clause-slot
 returns-in-No-clause-slot c =
     let k : ℕ = behind_of c.args.self.now.nfa.flags.line_terminator c.args.prev in
-    c.slot.ensures.value ∙ ap (λ (m : Anchored). slot_of m k) (sym c.in-No.is)
+    let e : c.slot.result ≡ 0 * 6 + k = omega (arith, c.slot.ensures.value, c.behind-kind.ensures.value) in
+    e ∙ ap (λ (m : Anchored). slot_of m k) (sym c.in-No.is)
 
 pub returns-in-Yes-clause-slot : goal.returns-in-Yes-clause-slot
 returns-in-Yes-clause-slot c =
     let k : ℕ = behind_of c.args.self.now.nfa.flags.line_terminator c.args.prev in
-    c.slot-in-Yes.ensures.value ∙ ap (λ (m : Anchored). slot_of m k) (sym c.in-Yes.is)
+    let e : c.slot-in-Yes.result ≡ 1 * 6 + k = omega (arith, c.slot-in-Yes.ensures.value, c.behind-kind.ensures.value) in
+    e ∙ ap (λ (m : Anchored). slot_of m k) (sym c.in-Yes.is)
 
 pub returns-else-pattern-pattern_len-clause-slot : goal.returns-else-pattern-pattern_len-clause-slot
 returns-else-pattern-pattern_len-clause-slot c =
     let k : ℕ = behind_of c.args.self.now.nfa.flags.line_terminator c.args.prev in
-    let e : c.slot-in-Pattern.result ≡ suc (suc c.in-Pattern.pattern) * 6 + k = omega (arith, c.slot-in-Pattern.ensures.value, c.as_usize-pattern.ensures.value) in
+    let e : c.slot-in-Pattern.result ≡ suc (suc c.in-Pattern.pattern) * 6 + k = omega (arith, c.slot-in-Pattern.ensures.value, c.behind-kind.ensures.value, c.as_usize-pattern.ensures.value) in
     e ∙ ap (λ (m : Anchored). slot_of m k) (sym c.in-Pattern.is)
 
 pub returns-then-pattern-pattern_len-clause-behind : goal.returns-then-pattern-pattern_len-clause-behind

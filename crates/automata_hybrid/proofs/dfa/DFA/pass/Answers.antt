@@ -2,20 +2,20 @@ use Rattle.std.proofs.Common.{Option, ◌≡◌, ◌∙◌, ◌+◌, ◌<◌, �
 use Rattle.std.proofs.lemmas.Grind.{common_steps}
 use Rattle.std.specs.Prelude.{Err, Ok}
 use Rattle.automata_hybrid.specs.Searches.Passes.{IsPassRefusal}
-use Rattle.automata_base.specs.Haystacks.Input.{Input}
+use Rattle.automata_base.specs.Haystacks.Input.{Allows, Input}
 use Rattle.automata_base.specs.Haystacks.Matches.{HalfMatch}
 use Rattle.automata_base.specs.Haystacks.Tapes.{Direction}
 use Rattle.automata_hybrid.specs.Cache.Caches.{CacheView, with_store}
 use Rattle.automata_hybrid.specs.Cache.Progress.{saturated, started, total_len}
 use Rattle.automata_hybrid.specs.Cache.Stores.{Stored, with_searched}
 use Rattle.automata_hybrid.specs.Machines.Machine.{Machine, slot_count}
-use Rattle.automata_hybrid.specs.Searches.PassContracts.{IsKnownUpto, IsRestEffect}
+use Rattle.automata_hybrid.specs.Searches.PassContracts.{IsKnownUpto, IsPassEffect, IsRestEffect}
 use Rattle.automata_hybrid.specs.Searches.Progress.{EndsAtLast, IsStoppedAt, with_search_begun}
 use Rattle.automata_hybrid.specs.Searches.Passes.{tape_in}
 use Rattle.automata_hybrid.specs.Walks.State.{way_of}
 use Rattle.automata_hybrid.proofs.Searches.Directions.{begins_alive}
 use Rattle.automata_hybrid.proofs.Searches.KnownPasses.{known_ended, known_rest}
-use Rattle.automata_hybrid.proofs.Searches.PassContracts.{pass_rest}
+use Rattle.automata_hybrid.proofs.Searches.PassContracts.{pass_rest, same_input}
 use Rattle.automata_hybrid.proofs.Searches.PassState.{starts_at}
 use Rattle.automata_hybrid.proofs.Searches.UnitsRead.{start_had}
 use Rattle.automata_hybrid.proofs.Steps.Ids.{low_bit}
@@ -58,18 +58,22 @@ pub rest-requires-clause-at : goal.rest-requires-clause-at
 rest-requires-clause-at c =
     let d : Direction = way_of c.args.way in
     let k : IsKnownUpto d c.args.self.now c.args.cache.now.store c.args.input.now c.known_pass-ended.result.at c.known_pass-ended.result.id c.known_pass-ended.result.found = c.known_pass-ended.ensures.left c.if-ended.false in
-    subst (λ (o : Option HalfMatch). IsKnownUpto d c.args.self.now c.search_start.new.self.store c.copied-copy-2.result c.known_pass-ended.result.at c.known_pass-ended.result.id o) (sym c.again-before.ensures)
-    (subst (λ (v : CacheView). IsKnownUpto d c.args.self.now v.store c.copied-copy-2.result c.known_pass-ended.result.at c.known_pass-ended.result.id c.known_pass-ended.result.found) (sym c.search_start.ensures.value)
-    (subst (λ (i : Input). IsKnownUpto d c.args.self.now (with_searched c.args.cache.now.store (started c.args.cache.now.store.searched c.span_offset.result)) i c.known_pass-ended.result.at c.known_pass-ended.result.id c.known_pass-ended.result.found) (sym c.copied-copy-2.ensures)
-    (record { within = k.within; at = k.at; learned = k.learned; known = k.known })))
+    let same = same_input c.args.input.now c.haystack-2.result.now c.get_span-2.result.start c.get_span-2.result.end c.get_anchored-2.result c.get_earliest-2.result c.haystack-2.ensures.same c.get_span-2.ensures.start c.get_span-2.ensures.end c.get_anchored-2.ensures c.get_earliest-2.ensures in
+    let upto =
+    subst (λ (o : Option HalfMatch). IsKnownUpto d c.args.self.now c.search_start.new.self.store c.args.input.now c.known_pass-ended.result.at c.known_pass-ended.result.id o) (sym c.again-before.ensures)
+    (subst (λ (v : CacheView). IsKnownUpto d c.args.self.now v.store c.args.input.now c.known_pass-ended.result.at c.known_pass-ended.result.id c.known_pass-ended.result.found) (sym c.search_start.ensures.value)
+    (record { within = k.within; at = k.at; learned = k.learned; known = k.known })) in (
+      subst (λ (i : Input). Allows i.haystack i.start i.end) (sym same) c.get_span-2.ensures.within,
+      subst (λ (i : Input). IsKnownUpto d c.args.self.now c.search_start.new.self.store i c.known_pass-ended.result.at c.known_pass-ended.result.id c.again-before.result) (sym same) upto,
+    )
 
 pub returns-in-Err-clause-refusal : goal.returns-in-Err-clause-refusal
 returns-in-Err-clause-refusal c =
-    subst (λ (i : Input). IsPassRefusal (way_of c.args.way) c.args.self.now c.begin.new.cache.store i c.in-Err.error) c.copied-copy.ensures c.in-Err.ensures.refusal
+    subst (λ (i : Input). IsPassRefusal (way_of c.args.way) c.args.self.now c.begin_of.new.cache.store i c.in-Err.error) (same_input c.args.input.now c.haystack.result.now c.get_span.result.start c.get_span.result.end c.get_anchored.result c.get_earliest.result c.haystack.ensures.same c.get_span.ensures.start c.get_span.ensures.end c.get_anchored.ensures c.get_earliest.ensures) c.in-Err.ensures.refusal
 
 pub returns-in-Err-rest-clause-refusal : goal.returns-in-Err-rest-clause-refusal
 returns-in-Err-rest-clause-refusal c =
-    subst (λ (i : Input). IsPassRefusal (way_of c.args.way) c.args.self.now c.rest.new.cache.store i c.in-Err-rest.error) c.copied-copy-2.ensures c.in-Err-rest.ensures.refusal
+    subst (λ (i : Input). IsPassRefusal (way_of c.args.way) c.args.self.now c.rest.new.cache.store i c.in-Err-rest.error) (same_input c.args.input.now c.haystack-2.result.now c.get_span-2.result.start c.get_span-2.result.end c.get_anchored-2.result c.get_earliest-2.result c.haystack-2.ensures.same c.get_span-2.ensures.start c.get_span-2.ensures.end c.get_anchored-2.ensures c.get_earliest-2.ensures) c.in-Err-rest.ensures.refusal
 
 pub returns-in-Ok-rest-clause-effect : goal.returns-in-Ok-rest-clause-effect
 returns-in-Ok-rest-clause-effect c =
@@ -82,13 +86,13 @@ returns-in-Ok-rest-clause-effect c =
     let begins : c.search_start.new.self.store ≡ with_search_begun d c.args.input.now 0 c.args.cache.now.store =
     subst (λ at. c.search_start.new.self.store ≡ with_searched c.args.cache.now.store (started c.args.cache.now.store.searched at)) c.span_offset.ensures (ap (λ (v : CacheView). v.store) c.search_start.ensures.value) in
     pass_rest d c.args.self.now c.args.input.now c.known_start-start.result c.args.cache.now c.args.cache.now c.search_start.new.self c.rest.new.cache (Ok c.in-Ok-rest.found) slots a e c.search_start.ensures.value
-    (subst (λ (i : Input). IsRestEffect d c.args.self.now i 0 c.search_start.new.self c.rest.new.cache (Ok c.in-Ok-rest.found)) c.copied-copy-2.ensures c.in-Ok-rest.ensures.effect) (
+    (subst (λ (i : Input). IsRestEffect d c.args.self.now i 0 c.search_start.new.self c.rest.new.cache (Ok c.in-Ok-rest.found)) (same_input c.args.input.now c.haystack-2.result.now c.get_span-2.result.start c.get_span-2.result.end c.get_anchored-2.result c.get_earliest-2.result c.haystack-2.ensures.same c.get_span-2.ensures.start c.get_span-2.ensures.end c.get_anchored-2.ensures c.get_earliest-2.ensures) c.in-Ok-rest.ensures.effect) (
       c.args.cache.now.store,
       had,
       inr (
         c.if-keeps_none.ensures.no refl,
         subst (λ (v : Stored). EndsAtLast d c.args.self.now c.args.input.now v c.rest.new.cache.store) begins
-            (subst (λ (i : Input). EndsAtLast d c.args.self.now i c.search_start.new.self.store c.rest.new.cache.store) c.copied-copy-2.ensures c.in-Ok-rest.ensures.ended),
+            (subst (λ (i : Input). EndsAtLast d c.args.self.now i c.search_start.new.self.store c.rest.new.cache.store) (same_input c.args.input.now c.haystack-2.result.now c.get_span-2.result.start c.get_span-2.result.end c.get_anchored-2.result c.get_earliest-2.result c.haystack-2.ensures.same c.get_span-2.ensures.start c.get_span-2.ensures.end c.get_anchored-2.ensures c.get_earliest-2.ensures) c.in-Ok-rest.ensures.ended),
       ),
     )
     tt
@@ -104,7 +108,7 @@ returns-in-Err-rest-clause-effect c =
     let begins : c.search_start.new.self.store ≡ with_search_begun d c.args.input.now 0 c.args.cache.now.store =
     subst (λ at. c.search_start.new.self.store ≡ with_searched c.args.cache.now.store (started c.args.cache.now.store.searched at)) c.span_offset.ensures (ap (λ (v : CacheView). v.store) c.search_start.ensures.value) in
     pass_rest d c.args.self.now c.args.input.now c.known_start-start.result c.args.cache.now c.args.cache.now c.search_start.new.self c.rest.new.cache (Err c.in-Err-rest.error) slots a e c.search_start.ensures.value
-    (subst (λ (i : Input). IsRestEffect {T = Option HalfMatch} d c.args.self.now i 0 c.search_start.new.self c.rest.new.cache (Err c.in-Err-rest.error)) c.copied-copy-2.ensures c.in-Err-rest.ensures.effect)
+    (subst (λ (i : Input). IsRestEffect {T = Option HalfMatch} d c.args.self.now i 0 c.search_start.new.self c.rest.new.cache (Err c.in-Err-rest.error)) (same_input c.args.input.now c.haystack-2.result.now c.get_span-2.result.start c.get_span-2.result.end c.get_anchored-2.result c.get_earliest-2.result c.haystack-2.ensures.same c.get_span-2.ensures.start c.get_span-2.ensures.end c.get_anchored-2.ensures c.get_earliest-2.ensures) c.in-Err-rest.ensures.effect)
     tt
     (inr (
       c.args.cache.now.store,
@@ -112,6 +116,14 @@ returns-in-Err-rest-clause-effect c =
       inr (
         c.if-keeps_none.ensures.no refl,
         subst (λ (v : Stored). IsStoppedAt d c.args.self.now c.args.input.now v c.rest.new.cache.store c.in-Err-rest.error) begins
-            (subst (λ (i : Input). IsStoppedAt d c.args.self.now i c.search_start.new.self.store c.rest.new.cache.store c.in-Err-rest.error) c.copied-copy-2.ensures c.in-Err-rest.ensures.left),
+            (subst (λ (i : Input). IsStoppedAt d c.args.self.now i c.search_start.new.self.store c.rest.new.cache.store c.in-Err-rest.error) (same_input c.args.input.now c.haystack-2.result.now c.get_span-2.result.start c.get_span-2.result.end c.get_anchored-2.result c.get_earliest-2.result c.haystack-2.ensures.same c.get_span-2.ensures.start c.get_span-2.ensures.end c.get_anchored-2.ensures c.get_earliest-2.ensures) c.in-Err-rest.ensures.left),
       ),
     ))
+
+pub returns-in-Ok-clause-effect : goal.returns-in-Ok-clause-effect
+returns-in-Ok-clause-effect c =
+    subst (λ (i : Input). IsPassEffect {T = Option HalfMatch} (way_of c.args.way) c.args.self.now i c.args.cache.now c.begin_of.new.cache (Ok c.in-Ok.found)) (same_input c.args.input.now c.haystack.result.now c.get_span.result.start c.get_span.result.end c.get_anchored.result c.get_earliest.result c.haystack.ensures.same c.get_span.ensures.start c.get_span.ensures.end c.get_anchored.ensures c.get_earliest.ensures) c.in-Ok.ensures.effect
+
+pub returns-in-Err-clause-effect : goal.returns-in-Err-clause-effect
+returns-in-Err-clause-effect c =
+    subst (λ (i : Input). IsPassEffect {T = Option HalfMatch} (way_of c.args.way) c.args.self.now i c.args.cache.now c.begin_of.new.cache (Err c.in-Err.error)) (same_input c.args.input.now c.haystack.result.now c.get_span.result.start c.get_span.result.end c.get_anchored.result c.get_earliest.result c.haystack.ensures.same c.get_span.ensures.start c.get_span.ensures.end c.get_anchored.ensures c.get_earliest.ensures) c.in-Err.ensures.effect

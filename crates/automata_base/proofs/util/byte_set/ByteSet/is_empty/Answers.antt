@@ -1,4 +1,4 @@
-use Rattle.std.proofs.Common.{◌≡◌, false, sym, ap, ◌∙◌}
+use Rattle.std.proofs.Common.{sym, ap, ◌∙◌}
 use Rattle.automata_base.specs.ByteClasses.Classes.{is_quit}
 use Rattle.automata_base.proofs.ByteClasses.ByteSets.{no_bytes, or_none}
 use Rattle.automata_base.proofs.util.byte_set.ByteSet.is_empty.Goals as goal

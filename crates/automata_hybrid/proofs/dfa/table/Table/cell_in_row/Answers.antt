@@ -1,4 +1,4 @@
-use Rattle.std.proofs.Common.{◌≡◌, ◌∙◌, ℕ, List, sym, ap, ◌+◌, ◌%◌, ◌^◌, ◌<◌, length, get_or, arith, subst}
+use Rattle.std.proofs.Common.{◌≡◌, ◌∙◌, ℕ, List, sym, ap, ◌+◌, ◌<◌, length, get_or, arith, subst}
 use Rattle.std.proofs.lemmas.Grind.{common_steps}
 use Rattle.automata_hybrid.proofs.Cache.Places.{Names-Placed, Placed-cell, Placed-IsCell}
 use Rattle.automata_hybrid.specs.Cache.Table.{Rows, IsTable, IsCell, cell_at}
@@ -11,13 +11,11 @@ cell_in-requires c =
     let p = Names-Placed t c.self.inside.map c.self.inside.costs c.args.id c.requires.row.0 i c.requires.row.1 in
     let l : cell_at c.args.id c.args.class < length t.cells = Placed-cell t c.self.inside.map c.self.inside.costs c.args.id c.args.class c.requires.row.0 i p c.requires.class in
     let s : length c.self.inside.cells.items ≡ length t.cells = ap (λ (v : Rows). length v.cells) c.self.view_is in
-    let row : c.untagged.result ≡ c.args.id % 2 ^ 27 = omega (arith, c.untagged.ensures, c.requires.offset) in
-    grind (arith, common_steps, l, s, row)
+    grind (arith, common_steps, l, s, c.requires.offset)
 
 read : (c : goal.After-cell_in) → c.cell_in.result ≡ get_or c.args.self.now.cells (cell_at c.args.id c.args.class) 0
 read c =
-    let row : c.untagged.result ≡ c.args.id % 2 ^ 27 = omega (arith, c.untagged.ensures, c.requires.offset) in
-    c.cell_in.ensures ∙ ap (λ (xs : List ℕ). get_or xs (c.untagged.result + c.args.class) 0) c.as_slice.ensures.value ∙ ap (λ n. get_or c.self.inside.cells.items (n + c.args.class) 0) row ∙ ap (λ (v : Rows). get_or v.cells (cell_at c.args.id c.args.class) 0) c.self.view_is
+    c.cell_in.ensures ∙ ap (λ (xs : List ℕ). get_or xs (c.args.row + c.args.class) 0) c.as_slice.ensures.value ∙ ap (λ n. get_or c.self.inside.cells.items (n + c.args.class) 0) c.requires.offset ∙ ap (λ (v : Rows). get_or v.cells (cell_at c.args.id c.args.class) 0) c.self.view_is
 
 pub returns-clause-value : goal.returns-clause-value
 returns-clause-value c = read c
