@@ -1,5 +1,5 @@
 -- Sets of bytes, by their words and by what each byte is.
-use Rattle.std.proofs.Common.{ℕ, zero, suc, ◌≡◌, ◌≤◌, ◌/◌, ◌%◌, ◌<◌, ◌⊎◌, inl, inr, Bool, true, false, eqb}
+use Rattle.std.proofs.Common.{ℕ, zero, suc, ◌≡◌, ◌≤◌, ◌+◌, ◌*◌, ◌/◌, ◌%◌, ◌^◌, ◌<◌, ◌⊎◌, inl, inr, Bool, true, false, eqb}
 use Rattle.std.proofs.Common.{true≢false, List, [], ◌∷◌, length, length-set, get_or, replicate, refl, sym, ap, ◌∙◌, arith}
 use Rattle.std.specs.Int.{bit_at}
 use Rattle.std.specs.Int.RustNames.{bit_or}
@@ -9,8 +9,8 @@ use Rattle.std.proofs.lemmas.Bool.Decides.{eqb_tells}
 use Rattle.std.proofs.lemmas.List.{get_or-set_same, get_or-set_other, get_or-replicate}
 use Rattle.std.proofs.lemmas.Nat.Bits.{bit_at-zero}
 use Rattle.automata_base.specs.ByteClasses.Classes.{is_quit}
-use Rattle.automata_base.specs.ByteClasses.ByteSets.{has_byte, truths_of}
-use Rattle.automata_base.specs.ByteClasses.WordsBack.{truth_in, truths_by_bytes, whole}
+use Rattle.automata_base.specs.ByteClasses.ByteSets.{IsByteSet, has_byte, truths_of, word_of}
+use Rattle.automata_base.specs.ByteClasses.WordsBack.{at_word, of_bits, truth_in, truths_by_bytes, whole}
 
 -- No word has a bit.
 pub no_bytes : (words : List ℕ) → ((k : ℕ) → k < 4 → get_or words k 0 ≡ 0) → (byte : ℕ) → byte < 256 → is_quit (truths_of words) byte ≡ false
@@ -66,6 +66,33 @@ or_none words h k l = go k l
     go (suc (suc zero)) l = omega (arith, sum, last, le_or_r two (get_or words 2 0))
     go (suc (suc (suc zero))) l = omega (arith, sum, le_or_r three (get_or words 3 0))
     go (suc (suc (suc (suc k)))) l = absurd (omega (arith, l))
+
+-- A set without a byte has no bit in any word.
+zero_word :
+    (words : List ℕ) (k : ℕ) → k < 4 → get_or words k 0 < 2 ^ 64
+    → ((byte : ℕ) → byte < 256 → is_quit (truths_of words) byte ≡ false) → get_or words k 0 ≡ 0
+unfolding word_of
+zero_word words k l small nothing = sym (of_bits (λ i. false) 64 (get_or words k 0) small bits) ∙ no_bits
+  where
+    bits : (i : ℕ) → i < 64 → false ≡ eqb (bit_at (get_or words k 0) i) 1
+    bits i m =
+        let inside : 64 * k + i < 256 = omega (arith, l, m) in
+        sym (nothing (64 * k + i) inside) ∙ (truth_in words (64 * k + i) inside ∙ at_word words (64 * k + i) k i refl m)
+
+    no_bits : word_of (λ i. false) 64 ≡ 0
+    no_bits = refl
+
+pub none_or :
+    (words : List ℕ) → IsByteSet words → ((byte : ℕ) → byte < 256 → is_quit (truths_of words) byte ≡ false)
+    → eqb (bit_or (bit_or (bit_or (get_or words 0 0) (get_or words 1 0)) (get_or words 2 0)) (get_or words 3 0)) 0 ≡ true
+none_or words h nothing =
+    ap (λ z. eqb (bit_or (bit_or (bit_or z (get_or words 1 0)) (get_or words 2 0)) (get_or words 3 0)) 0) (zero 0 (omega arith))
+    ∙ (ap (λ z. eqb (bit_or (bit_or (bit_or 0 z) (get_or words 2 0)) (get_or words 3 0)) 0) (zero 1 (omega arith))
+    ∙ (ap (λ z. eqb (bit_or (bit_or (bit_or 0 0) z) (get_or words 3 0)) 0) (zero 2 (omega arith))
+    ∙ ap (λ z. eqb (bit_or (bit_or (bit_or 0 0) 0) z) 0) (zero 3 (omega arith))))
+  where
+    zero : (k : ℕ) → k < 4 → get_or words k 0 ≡ 0
+    zero k l = zero_word words k l (h.small k l) nothing
 
 -- One bit changes.
 pub with_byte :

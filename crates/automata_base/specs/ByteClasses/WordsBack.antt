@@ -27,7 +27,7 @@ unfolding truths_of
 truths_by_bytes words truths l same = fill_by_all (has_byte words) truths 256 false l same
 
 -- A bit of a word.
-at_word :
+pub at_word :
     (words : List ℕ) (byte k i : ℕ) → byte ≡ 64 * k + i → i < 64 → has_byte words byte ≡ eqb (bit_at (get_or words k 0) i) 1
 at_word words byte k i e l =
     ap (λ z. eqb (bit_at (get_or words z 0) (byte % 64)) 1) (quotient byte k i e l)
@@ -40,7 +40,7 @@ at_word words byte k i e l =
     remainder byte k i e l = omega (arith, e, l)
 
 -- The number of the bits of a word is the word.
-of_bits :
+pub of_bits :
     (truth : ℕ → Bool) (n w : ℕ) → w < 2 ^ n → ((i : ℕ) → i < n → truth i ≡ eqb (bit_at w i) 1) → word_of truth n ≡ w
 unfolding word_of
 of_bits truth zero w h same = omega (arith, h)

@@ -43,7 +43,8 @@ impl ByteSet {
 
     /// Whether it has no byte.
     pub fn is_empty(&self) -> bool
-        ensures { IsTrue result → (byte : ℕ) → byte < 256 → is_quit self.now byte ≡ false }
+        ensures yes { IsTrue result → (byte : ℕ) → byte < 256 → is_quit self.now byte ≡ false }
+        ensures no { ((byte : ℕ) → byte < 256 → is_quit self.now byte ≡ false) → IsTrue result }
     {
         self.words[0] | self.words[1] | self.words[2] | self.words[3] == 0
     }

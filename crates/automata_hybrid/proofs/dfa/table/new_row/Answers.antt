@@ -25,4 +25,4 @@ loop-byte-preserved c =
 pub returns-then-is_empty : goal.returns-then-is_empty
 returns-then-is_empty c =
     let cells : c.resize.new.self.items ≡ replicate c.args.stride (2 ^ 31) = grind (arith, common_steps) in
-    cells ∙ sym (marked-none c.args.classes.now c.args.quits.now c.args.stride 256 (c.is_empty.ensures c.if-is_empty.true))
+    cells ∙ sym (marked-none c.args.classes.now c.args.quits.now c.args.stride 256 (c.is_empty.ensures.yes c.if-is_empty.true))
