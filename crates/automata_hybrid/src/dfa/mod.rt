@@ -251,6 +251,7 @@ impl DFA {
     }
 
     /// The fixed rows alone.
+    #[inline(always)]
     pub(crate) fn fresh_store(&self) -> Result<Store, AllocError>
         ensures { IfOk result (λ c. c ≡ fresh_store self.now) }
     {

@@ -81,7 +81,7 @@ impl Store {
     {
         let _capacity = settings.capacity;
         let table = Table::fresh(dfa, stride, template, FIRST_ROWS)?;
-        let mut starts = Vec::new(dfa.alloc());
+        let mut starts = Vec::with_capacity(dfa.alloc(), slots)?;
         starts.resize(slots, LazyStateID::UNKNOWN)?;
         Ok(Store {
             table,

@@ -168,6 +168,7 @@ impl Table {
     }
 
     /// The fixed rows alone, with room for so many rows more.
+    #[inline(always)]
     pub fn fresh(
         dfa: &DFA,
         stride: usize,
@@ -185,13 +186,15 @@ impl Table {
         cells.resize(stride, LazyStateID::UNKNOWN)?;
         cells.resize(2 * stride, LazyStateID::dead(stride as u32))?;
         cells.resize(3 * stride, LazyStateID::quit(stride as u32))?;
+        let mut map = HashMap::new(alloc);
+        map.reserve(room)?;
         Ok(Table {
             of: Subject::of(dfa),
             stride,
             template,
             cells,
             rows: Vec::with_capacity(alloc, room)?,
-            map: HashMap::with_capacity(alloc, room)?,
+            map,
             costs: 0,
         })
     }
@@ -303,7 +306,7 @@ pub fn new_row(
     requires stride { stride ≤ 512 }
     ensures { IfOk result (λ v. v.items ≡ marked classes.now quits.now stride 256) }
 {
-    let mut cells = Vec::new(alloc);
+    let mut cells = Vec::with_capacity(alloc, stride)?;
     cells.resize(stride, LazyStateID::UNKNOWN)?;
     if quits.is_empty() {
         return Ok(cells);
