@@ -24,6 +24,9 @@ use std::marker::Model;
 
 const OFFSET_LIMIT: usize = LazyStateID::OFFSET_LIMIT as usize;
 
+/// How many rows a new cache has room for, so that a short search does not move them.
+const FIRST_ROWS: usize = 8;
+
 /// A lazy DFA's cache, whose accounted bytes never pass its capacity.
 #[derive(Drop)]
 pub struct Store {
@@ -79,7 +82,7 @@ impl Store {
         ensures { IfOk result (λ c. c ≡ fresh_store dfa.now) }
     {
         let _capacity = settings.capacity;
-        let table = Table::fresh(dfa, stride, template, 0)?;
+        let table = Table::fresh(dfa, stride, template, FIRST_ROWS)?;
         let mut starts = Vec::new(dfa.alloc());
         starts.resize(slots, LazyStateID::UNKNOWN)?;
         Ok(Store {
