@@ -147,25 +147,29 @@ impl History {
     }
 }
 
-/// The rows of a script with this one in its middle.
-fn rows_around(rt: &impl Host, middle: Row) -> Vec<Row> {
-    let mut rows = Vec::new(rt.alloc());
-    rows.extend_from_slice(BEFORE).expect(rt, "memory");
-    rows.push(middle).expect(rt, "memory");
-    rows.extend_from_slice(BEHIND).expect(rt, "memory");
-    rows
+/// A row of the script that has this one in its middle.
+fn row_at(at: usize, middle: Row) -> Option<Row> {
+    let Some(behind) = at.checked_sub(BEFORE.len()) else {
+        return BEFORE.get(at).copied();
+    };
+    match behind.checked_sub(1) {
+        Some(number) => BEHIND.get(number).copied(),
+        None => Some(middle),
+    }
 }
 
-fn script_of(rt: &impl Host, rows: &[Row]) -> Script {
+fn script_of(rt: &impl Host, middle: Row) -> Script {
     let mut text = String::new(rt.alloc());
-    for (line, _) in rows {
-        writeln!(text, "{line}").expect(rt, "memory");
+    for at in 0..32usize {
+        if let Some(row) = row_at(at, middle) {
+            writeln!(text, "{}", row.0).expect(rt, "memory");
+        }
     }
     Script::parse(rt.alloc(), text.as_bytes()).expect(rt, "a script")
 }
 
-/// The regexes, and the requests of a script by its rows.
-type Asked<'a> = (&'a [Regex], &'a [Request<'a>], &'a [Row]);
+/// The regexes, the requests of a script, and the row in its middle.
+type Asked<'a> = (&'a [Regex], &'a [Request<'a>], Row);
 
 /// What ran out of memory in the turns of a script: the list of the replies, the request in the middle alone, and
 /// requests.
@@ -182,10 +186,10 @@ impl Seen {
     fn compare(
         &mut self,
         rt: &impl Host,
-        (_, requests, rows): Asked<'_>,
+        (_, requests, middle): Asked<'_>,
         replies: &[Reply],
     ) -> usize {
-        same_of(rt, &replies.len(), &rows.len(), &"the replies");
+        same_of(rt, &replies.len(), &requests.len(), &"the replies");
         let mut history = History {
             current: 0,
             begun: 0,
@@ -196,9 +200,9 @@ impl Seen {
             if let (Some(request), Some(reply), Some(row)) = (
                 requests.get(at),
                 replies.get(at),
-                rows.get(at),
+                row_at(at, middle),
             ) {
-                if history.is_refused(rt, request, *row, reply) {
+                if history.is_refused(rt, request, row, reply) {
                     self.requests[at] = true;
                     (count, last) = (count.saturating_add(1), at);
                 }
@@ -210,7 +214,12 @@ impl Seen {
 
     /// Whether the list of the replies, the request in the middle, and at least so many requests ran out of memory.
     fn has_refused(&self, least: usize) -> bool {
-        let count = self.requests.iter().filter(|it| **it).count();
+        let mut count = 0usize;
+        for is_refused in self.requests {
+            if is_refused {
+                count = count.saturating_add(1);
+            }
+        }
         self.script && self.requests[BEFORE.len().min(31)] && count >= least
     }
 }
@@ -253,25 +262,19 @@ fn refuse_in_turn(rt: &impl Host, asked: Asked<'_>, turns: &mut Turns, step: usi
 /// The same, with this request in the middle.
 fn refuse(rt: &impl Host, regexes: &[Regex], row: Row, turns: &mut Turns, step: usize) -> Seen {
     turns.release();
-    let rows = rows_around(rt, row);
-    let script = script_of(rt, rows.as_slice());
+    let script = script_of(rt, row);
     let requests = script.requests(rt.alloc()).expect(rt, "memory");
-    refuse_in_turn(
-        rt,
-        (regexes, requests.as_slice(), rows.as_slice()),
-        turns,
-        step,
-    )
+    refuse_in_turn(rt, (regexes, requests.as_slice(), row), turns, step)
 }
 
 /// Replays around each request of `NEEDS`, and counts those that run out of memory alone in some turn. Each does in
 /// some turn, and so do at least so many requests of its script.
 fn refuse_each(rt: &impl Host, options: &str, step: usize, least: usize) -> usize {
-    let regexes = [
-        DIGITS.regex(rt, options),
-        Pair::Of(Entry::Runs).regex(rt, options),
-    ];
-    count_alone(rt, &regexes, step, least)
+    let mut regexes = Vec::new(rt.alloc());
+    for pair in [DIGITS, Pair::Of(Entry::Runs)] {
+        regexes.push(pair.regex(rt, options)).expect(rt, "memory");
+    }
+    count_alone(rt, regexes.as_slice(), step, least)
 }
 
 fn count_alone(rt: &impl Host, regexes: &[Regex], step: usize, least: usize) -> usize {
