@@ -8,7 +8,6 @@ use super::plans::Mode;
 use super::random_paths::Dice;
 use super::reported::{Counted, Reported, letter};
 use super::reports::{Automaton, Caller};
-use crate::catalogue::Entry;
 use regex_automata::hybrid::dfa::{Cache, DFA};
 use regex_automata::hybrid::{BuildError, LazyStateID, SearchError, StartError, StepError};
 use regex_automata::nfa::thompson::NFA;
@@ -27,8 +26,6 @@ pub enum Call {
     FindAnchored(&'static str, usize, usize),
     /// Searches a piece that is repeated so often.
     FindRepeated(&'static str, usize),
-    /// Searches it so often, each time from the last end on: the sum of all ends.
-    FindEach(&'static str, usize),
     /// Searches a mebibyte of letters `a` and `b` of a fixed generator.
     FindLetters,
     /// The same as `FindIn`, forward, with the offset where the last of its spans began.
@@ -52,10 +49,6 @@ pub enum Call {
     Counts,
     /// The memory, and the tags of the state.
     Brief,
-    /// The unanchored start, a step or the end, and then the same in brief, whatever was answered.
-    Begin,
-    Read(u8),
-    Finish,
     /// Replaces the cache by a new one.
     Replace,
     /// The same by `Cache::new`.
@@ -63,12 +56,6 @@ pub enum Call {
     Reset,
     /// The same by `Cache::reset`.
     ResetByCache,
-    /// Resets the cache to the NFA of another entry, which replaces this one.
-    ResetTo(Entry),
-    /// A search that is in progress from an offset, comes to an offset, and ends at one.
-    Open(usize),
-    MoveTo(usize),
-    Close(usize),
     /// How many patterns the NFA has, a copy of it, and a copy of the DFA.
     Patterns,
     PatternsOfNfaCopy,
@@ -76,6 +63,8 @@ pub enum Call {
     /// The memory of the DFA beside its NFA.
     Memory,
     Classes,
+    /// Whether the NFA keeps UTF-8.
+    KeepsUtf8,
     /// The least capacity that the settings may have.
     Minimum,
     /// Whether one byte can be allocated.
@@ -127,10 +116,8 @@ impl Bench {
                 start,
                 end,
             )),
-            Call::FindRepeated(piece, count) | Call::FindEach(piece, count) => {
-                self.find_made(repeated(alloc, piece, count), call)
-            }
-            Call::FindLetters => self.find_made(letters(alloc), call),
+            Call::FindRepeated(piece, count) => self.find_made(repeated(alloc, piece, count)),
+            Call::FindLetters => self.find_made(letters(alloc)),
             Call::StartOn(mode, haystack) => {
                 self.start_on(&Input::new(haystack.as_bytes()).anchored(mode.anchored()))
             }
@@ -145,9 +132,6 @@ impl Bench {
             }
             Call::Reset => Reported::of_growth(self.dfa.reset_cache(&mut self.cache)),
             Call::ResetByCache => Reported::of_growth(self.cache.reset(&self.dfa)),
-            Call::ResetTo(entry) => self.reset_to(alloc, entry),
-            Call::Begin | Call::Read(_) | Call::Finish => self.move_on(call),
-            Call::Open(_) | Call::MoveTo(_) | Call::Close(_) => self.progress(call),
             _ => self.ask(alloc, call),
         }
     }
@@ -165,6 +149,7 @@ impl Bench {
             Call::PatternsOfCopy => lazy_patterns_of(self.dfa.clone()),
             Call::Memory => Reported::Number("", self.dfa.memory_usage(), ""),
             Call::Classes => Reported::Number("", self.dfa.byte_classes().alphabet_len(), ""),
+            Call::KeepsUtf8 => keeps_utf8(self.dfa.get_nfa()),
             Call::Minimum => self.minimum(),
             _ => Reported::of_flag(Vec::<u8>::with_capacity(alloc, 1).is_ok()),
         }
@@ -190,30 +175,11 @@ impl Bench {
     }
 
     /// Searches a haystack that was made for the call.
-    fn find_made(&mut self, made: Result<Vec<u8>, AllocError>, call: Call) -> Reported {
+    fn find_made(&mut self, made: Result<Vec<u8>, AllocError>) -> Reported {
         match made {
-            Ok(text) => self.find_long(text.as_slice(), call),
+            Ok(text) => self.find(&Input::new(text.as_slice())),
             Err(_) => Reported::Refused(BuildError::OutOfMemory),
         }
-    }
-
-    fn find_long(&mut self, text: &[u8], call: Call) -> Reported {
-        match call {
-            Call::FindEach(_, count) => self.find_each(text, count),
-            _ => self.find(&Input::new(text)),
-        }
-    }
-
-    fn find_each(&mut self, text: &[u8], count: usize) -> Reported {
-        let (mut end, mut sum) = (0usize, 0usize);
-        for _ in 0..count {
-            let start = end.min(text.len());
-            if let Ok(Some(half)) = self.search(&Input::new(text).range(start..text.len())) {
-                end = half.offset();
-                sum = sum.saturating_add(end);
-            }
-        }
-        Reported::Number("", sum, "")
     }
 
     fn start_on(&mut self, input: &Input<'_>) -> Reported {
@@ -222,21 +188,6 @@ impl Bench {
             Err(SearchError::OutOfMemory) => Reported::NoStart(StartError::OutOfMemory),
             Err(error) => Reported::Half(Err(error)),
         }
-    }
-
-    fn move_on(&mut self, call: Call) -> Reported {
-        match call {
-            Call::Begin => {
-                let _ = self.start(Anchored::No, None);
-            }
-            Call::Read(byte) => {
-                let _ = self.step(byte);
-            }
-            _ => {
-                let _ = self.end();
-            }
-        }
-        self.brief()
     }
 
     fn brief(&self) -> Reported {
@@ -361,38 +312,6 @@ impl Bench {
         }
     }
 
-    fn reset_to(&mut self, alloc: Global, entry: Entry) -> Reported {
-        let Ok(nfa) = entry.forward(alloc) else {
-            return Reported::Word("no entry");
-        };
-        match DFA::builder().build_from_nfa(nfa) {
-            Ok(dfa) => self.take(dfa),
-            Err(error) => Reported::Refused(error),
-        }
-    }
-
-    /// Goes on with this DFA.
-    fn take(&mut self, dfa: DFA) -> Reported {
-        match dfa.reset_cache(&mut self.cache) {
-            Ok(()) => {
-                self.dfa = dfa;
-                Reported::Word("-")
-            }
-            Err(_) => Reported::Refused(BuildError::OutOfMemory),
-        }
-    }
-
-    /// The begin of a search, its progress, or its end.
-    fn progress(&mut self, call: Call) -> Reported {
-        match call {
-            Call::Open(at) => self.cache.search_start(at),
-            Call::MoveTo(at) if self.cache.in_progress() => self.cache.search_update(at),
-            Call::Close(at) if self.cache.in_progress() => self.cache.search_finish(at),
-            _ => {}
-        }
-        Reported::Word("-")
-    }
-
     fn minimum(&self) -> Reported {
         let config = self.dfa.get_config();
         match config.get_minimum_cache_capacity(self.dfa.get_nfa()) {
@@ -438,6 +357,18 @@ pub fn search(
         dfa.try_search_rev(cache, input)
     } else {
         dfa.try_search_fwd(cache, input)
+    }
+}
+
+fn keeps_utf8(nfa: &NFA) -> Reported {
+    let keeps = if nfa.is_reverse() {
+        nfa.keeps_utf8_reverse()
+    } else {
+        nfa.keeps_utf8()
+    };
+    match keeps {
+        Ok(keeps) => Reported::of_flag(keeps),
+        Err(_) => Reported::Refused(BuildError::OutOfMemory),
     }
 }
 

@@ -3,8 +3,7 @@
 ghost use Rattle.std.specs.Prelude.{◌≡◌};
 
 use super::Host;
-use super::builder::build_ab;
-use super::plans::{Mode, ids_of, pattern_id};
+use super::plans::{Mode, id, ids_of, pattern_id};
 use super::reported::Reported;
 use super::reports::{Automaton, Caller, ONCE, RowOf, Short, config, refuse_each, reports_all};
 use crate::catalogue::Entry;
@@ -15,9 +14,10 @@ use Mode::{Every, First, Of};
 use regex_automata::hybrid::BuildError;
 use regex_automata::hybrid::dfa::DFA;
 use regex_automata::nfa::thompson;
-use regex_automata::nfa::thompson::{Builder, NFA};
+use regex_automata::nfa::thompson::{Builder, NFA, Transition};
 use regex_automata::util::determinize;
 use regex_automata::util::determinize::{Parts, Scratch, State};
+use regex_automata::util::look::Look;
 use regex_automata::util::primitives::PatternID;
 use regex_automata::util::search::{MatchKind, PatternSet};
 use std::alloc::{AllocError, Global};
@@ -251,9 +251,9 @@ impl Making {
         Ok(self.state.clone()? == self.state)
     }
 
-    fn build(&mut self) -> Reported {
+    fn build(&mut self, alloc: Global) -> Reported {
         self.builder.clear();
-        match build_ab(&mut self.builder) {
+        match build_ab(alloc, &mut self.builder) {
             Ok(nfa) => Reported::of_flag(nfa.skips_lazily()),
             Err(thompson::BuildError::OutOfMemory) => Reported::Refused(BuildError::OutOfMemory),
             Err(_) => Reported::Word("another error"),
@@ -311,9 +311,42 @@ impl Caller for Making {
             Encode => reported_of(self.encode(alloc)),
             Decode => reported_of(self.decode(alloc)),
             Made::Copy => reported_of(self.copy()),
-            Build => self.build(),
+            Build => self.build(alloc),
         }
     }
+}
+
+/// Adds `ab` after any bytes, and states that are not reached, so that each call is made; and builds it.
+fn build_ab(alloc: Global, builder: &mut Builder) -> Result<NFA, thompson::BuildError> {
+    builder.start_pattern()?;
+    for (byte, next) in [(b'a', 1u8), (b'b', 2)] {
+        let (lo, hi, first) = (byte, byte, id(0));
+        let added = builder.add_range(Transition {
+            lo,
+            hi,
+            next: first,
+        })?;
+        builder.patch(added, id(next))?;
+    }
+    builder.add_match()?;
+    builder.add_capture_start(id(0), 1)?;
+    builder.add_capture_end(id(0), 1)?;
+    builder.finish_pattern(id(0))?;
+    add_others(alloc, builder)?;
+    let start = builder.add_unanchored_prefix(id(0))?;
+    builder.build(id(0), start)
+}
+
+fn add_others(alloc: Global, builder: &mut Builder) -> Result<(), thompson::BuildError> {
+    let union = builder.add_union(Vec::new(alloc))?;
+    builder.patch(union, id(1))?;
+    let reverse = builder.add_union_reverse(Vec::new(alloc))?;
+    builder.patch(reverse, id(1))?;
+    builder.add_sparse(Vec::new(alloc))?;
+    builder.add_empty()?;
+    builder.add_look(id(0), Look::Start)?;
+    builder.add_fail()?;
+    Ok(())
 }
 
 /// The state of these parts.

@@ -19,7 +19,7 @@ struct Runner {
 #[rattlefmt::skip]
 const HEARD: &[(&str, &str)] = &[
     ("refused out of memory\n", "regex memory"), ("regex 0\nmemory\n", "request memory"),
-    ("regex 0\n", "regex 0"), ("regex 0\nhalf 0 2\n", "half 0 2"), ("regex 0\nhalf 0 0\n", "half 0 0"),
+    ("regex 0\n", "regex 0"), ("regex 0\nhalf 0 10\n", "half 0 10"), ("regex 0\nhalf 0 0\n", "half 0 0"),
 ];
 
 impl Caller for Runner {
@@ -60,8 +60,9 @@ impl Caller for Runner {
 /// request.
 #[rattlefmt::skip]
 const RUNS: &[Short<&'static str, ()>] = &[
-    ("forward", "regex words\nfwd 6162\n", "", &[], &[((), "half 0 2")], &[(0, "run memory"), (0, "request memory")]),
-    ("in reverse", "regex words\nrev 6162\n", "", &[], &[((), "half 0 0")],
+    ("forward", "regex date\nfwd 323031382D31322D3234\n", "", &[], &[((), "half 0 10")],
+        &[(0, "run memory"), (0, "request memory")]),
+    ("in reverse", "regex date\nrev 323031382D31322D3234\n", "", &[], &[((), "half 0 0")],
         &[(0, "run memory"), (0, "request memory")]),
     ("a regex", "regex words\n", "", &[], &[((), "regex 0")], &[(0, "run memory"), (0, "regex memory")]),
 ];

@@ -9,12 +9,9 @@ use std::process::Abort;
 use std::{io, mem};
 
 mod bench;
-mod builder;
-mod config;
 mod growths;
 mod made;
 mod memory;
-mod nfa;
 mod paths;
 mod plans;
 mod random_paths;

@@ -2,6 +2,7 @@
 //! searches is walked from the span's end to its start.
 
 use super::Host;
+use super::bench::within;
 use crate::catalogue::Entry;
 use regex_automata::nfa::thompson::{NFA, State};
 use regex_automata::util::look::Look;
@@ -358,6 +359,38 @@ pub const MODES: [(Anchored, bool); 5] = [
     (Anchored::Yes, true),
     (Anchored::Pattern(PatternID::ZERO), false),
 ];
+
+/// What is compared with listed paths. It owns what is searched, and its caches.
+pub trait Compared: Drop {
+    fn compare(&mut self, rt: &impl Host, input: &Input<'_>);
+}
+
+/// How many of the modes are compared over every span; all of them are over the whole of a haystack, and over every
+/// span of one that is shorter than this.
+pub type Reach = (usize, usize);
+
+/// Compares over every span of each haystack, and gives it all back.
+pub fn compare_all<T: Compared>(rt: &impl Host, listed: T, haystacks: &[Vec<u8>], reach: Reach) {
+    let mut listed = listed;
+    for haystack in haystacks {
+        compare_spans(rt, &mut listed, haystack.as_slice(), reach);
+    }
+}
+
+fn compare_spans<T: Compared>(rt: &impl Host, listed: &mut T, haystack: &[u8], reach: Reach) {
+    for end in 0..haystack.len() + 1 {
+        for start in 0..end + 1 {
+            let is_whole = start == 0 && end == haystack.len();
+            let is_all = is_whole || haystack.len() < reach.1;
+            let count = if is_all { MODES.len() } else { reach.0 };
+            for number in 0..count.min(MODES.len()) {
+                let (mode, earliest) = MODES[number];
+                let input = within(haystack, start, end);
+                listed.compare(rt, &input.anchored(mode).earliest(earliest));
+            }
+        }
+    }
+}
 
 /// All haystacks of up to six of the first two pieces, and of up to four of all three, that have no more than so many
 /// bytes.

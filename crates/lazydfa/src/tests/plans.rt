@@ -1,7 +1,7 @@
 //! NFAs that are not in the catalogue, by tables of their states.
 
 use super::Host;
-use regex_automata::nfa::thompson::{Flags, NFA, NfaError, State, Transition};
+use regex_automata::nfa::thompson::{Flags, NFA, State, Transition};
 use regex_automata::util::look::Look;
 use regex_automata::util::primitives::{PatternID, StateID};
 use regex_automata::util::search::Anchored;
@@ -54,28 +54,16 @@ pub struct Plan {
 }
 
 impl Plan {
-    #[rattlefmt::skip]
-    pub fn new(states: &'static [Shape], starts: (u8, u8), patterns: &'static [u8]) -> Plan {
-        Plan { states, starts, patterns }
-    }
-
-    /// One pattern, which starts at the first state, and the unanchored start.
-    pub fn of(states: &'static [Shape], unanchored: u8) -> Plan {
-        Plan::new(states, (0, unanchored), &[0])
-    }
-
-    /// The NFA, if `NFA::from_states` accepts it.
-    pub fn try_build(&self, rt: &impl Host) -> Result<NFA, NfaError> {
+    pub fn build(&self, rt: &impl Host) -> NFA {
         let patterns = ids_of(rt, self.patterns);
         let states = states_of(rt, self.states);
         let (anchored, unanchored) = self.starts;
         let flags = Flags::default();
         let (anchored, unanchored) = (id(anchored), id(unanchored));
-        NFA::from_states(rt.alloc(), states, anchored, unanchored, patterns, flags)
-    }
-
-    pub fn build(&self, rt: &impl Host) -> NFA {
-        self.try_build(rt).expect(rt, "an automaton")
+        NFA::from_states(rt.alloc(), states, anchored, unanchored, patterns, flags).expect(
+            rt,
+            "an automaton",
+        )
     }
 }
 

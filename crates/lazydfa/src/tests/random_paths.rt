@@ -1,6 +1,6 @@
 //! Two hundred NFAs of a fixed generator, searched beside their listed paths: plain, by walks and by sets.
 
-use super::paths::{MODES, half};
+use super::paths::{MODES, half, spell};
 use super::plans::{capture, dense, id, pattern_id, targets};
 use super::walk_paths::{Listed, Name, list, prepare};
 use super::{Host, same_of};
@@ -243,20 +243,10 @@ impl Maker {
     }
 }
 
-/// Haystacks, by the positions of their letters in the alphabet.
+/// Haystacks of the letters of the alphabet, by numbers of which each digit to the base 3 is a letter, the last one
+/// first, and their lengths.
 #[rattlefmt::skip]
-const HAYSTACKS: [&[usize]; 7] = [
-    &[], &[0], &[1, 2], &[2, 0, 1], &[1, 2, 2, 0], &[2, 2, 1, 0, 2], &[0, 1, 1, 2, 0, 2],
-];
-
-fn spell(rt: &impl Host, letters: [u8; 3], places: &[usize]) -> Vec<u8> {
-    let mut haystack = Vec::new(rt.alloc());
-    for place in places {
-        let letter = letters.get(*place).copied().unwrap_or(0);
-        haystack.push(letter).expect(rt, "memory");
-    }
-    haystack
-}
+const HAYSTACKS: [(usize, usize); 7] = [(0, 0), (0, 1), (7, 2), (11, 3), (25, 4), (179, 5), (552, 6)];
 
 /// Where a search ends, if it finds a match.
 type Half = Option<HalfMatch>;
@@ -299,7 +289,7 @@ fn compare_haystack(rt: &impl Host, listed: &mut Listed, haystack: &[u8], tally:
 fn compare(rt: &impl Host, listed: &mut Listed, input: &Input<'_>, tally: &mut Tally) {
     if listed.ample.dfa().get_nfa().is_look_acyclic() {
         tally.count_answer(&listed.compare_halves(rt, input));
-        listed.compare(rt, input);
+        listed.compare_walks(rt, input);
     } else {
         tally.count_answer(&compare_ends(rt, listed, input));
         compare_members(rt, listed, input);
@@ -390,8 +380,9 @@ fn compare_all(rt: &impl Host, listed: Listed, letters: [u8; 3], tally: &mut Tal
 }
 
 fn compare_haystacks(rt: &impl Host, listed: &mut Listed, letters: [u8; 3], tally: &mut Tally) {
-    for places in HAYSTACKS {
-        let haystack = spell(rt, letters, places);
+    let pieces = [&letters[..1], &letters[1..2], &letters[2..]];
+    for (number, length) in HAYSTACKS {
+        let haystack = spell(rt, number, length, &pieces);
         compare_haystack(rt, listed, haystack.as_slice(), tally);
     }
 }

@@ -1,24 +1,18 @@
 //! The calls of a regex over one cache, by rows with what they report.
 
-ghost use Rattle.regex_automata.specs.Promises.{AreCachesOf};
-
-use super::plans::{Plan, Shape, pattern_id};
+use super::plans::{Plan, Shape};
 use super::regex_bench::{Ask, Pair, RegexBench, Row};
-use super::reports::{Caller, reports_all};
+use super::reports::reports_all;
 use super::texts::UNSUPPORTED;
-use super::{Host, same_of, same_text};
+use super::{Host, same_of};
 use crate::catalogue::Entry;
 use Ask::{
-    Counts, Find, Forward, Is, Items, Memory, Patterns, ReplaceByClone, ReplaceByNew,
-    ReplaceForward, ReplaceReverse, Reset, ResetByCache, ResetForward, ResetReverse, Reverse,
-    Search, Tokens,
+    Both, Counts, Find, Forward, Is, Items, Memory, Patterns, ReplaceByClone, ReplaceByNew, Reset,
+    ResetByCache, ResetForward, ResetReverse, Reverse, Search, Tokens,
 };
 use Pair::{Barren, Joined, Mixed, Of, Planned};
-use regex_automata::hybrid::SearchError;
-use regex_automata::hybrid::regex::{Cache, Regex};
 use regex_automata::tokens::Token;
 use regex_automata::util::look::Look;
-use regex_automata::util::search::{HalfMatch, Input};
 
 const DATES: &[u8] = b"2018-12-24 2016-10-08";
 
@@ -39,10 +33,6 @@ const AMPLE: &[Row] = &[
         "match 0 0..2, -, 1013 678 335, match 0 0..2, 1013 678 335"),
     ("try_search", Of(Entry::Ab), "", &[Search(b"ab")], "match 0 0..2"),
     ("tokens", Of(Entry::Runs), "", &[Tokens(b"12ab", 0)], "1 0..2; 0 2..4"),
-    ("the forward part is replaced", Of(Entry::Date), "", &[Items(DATES), ReplaceForward, Items(DATES)],
-        "0 0..10; 0 11..21, -, 0 0..10; 0 11..21"),
-    ("the reverse part is replaced", Of(Entry::Date), "", &[Items(DATES), ReplaceReverse, Items(DATES)],
-        "0 0..10; 0 11..21, -, 0 0..10; 0 11..21"),
     ("the forward part is reset", Of(Entry::Date), "", &[Find(DATES), ResetForward, Counts, Find(DATES), Counts],
         "match 0 0..10, -, (0, 549, 0) (0, 1580, 9), match 0 0..10, (0, 1745, 11) (0, 1580, 18)"),
     ("the reverse part is reset", Of(Entry::Date), "", &[Find(DATES), ResetReverse, Counts, Find(DATES), Counts],
@@ -50,6 +40,7 @@ const AMPLE: &[Row] = &[
     ("each part serves searches of its own", Of(Entry::Words), "", &[Forward(WORDS), Reverse(WORDS), Counts,
         Find(WORDS), Counts],
         "half 1 4, half 1 0, (0, 1082, 5) (0, 1383, 7), match 1 0..4, (0, 1082, 10) (0, 1911, 10)"),
+    ("both parts lent for writing at once", Of(Entry::Words), "", &[Both(WORDS)], "1 4 at 0"),
     ("a part that was lent, once both were looked at", Of(Entry::Words), "", &[Forward(WORDS), Memory, Find(WORDS)],
         "half 1 4, 1659 1082 577, match 1 0..4"),
     ("two lazy automata that are there", Joined(Entry::Words), "", &[Items(WORDS)], "1 0..4; 0 5..8"),
@@ -129,65 +120,6 @@ fn regexes_report_their_rows(rt: HostRuntime) {
     reports_all::<RegexBench>(&rt, STARTS);
     reports_all::<RegexBench>(&rt, ENDS);
     reports_all::<RegexBench>(&rt, REFUSED);
-}
-
-/// A cache of one regex serves another once it is reset to it.
-#[test]
-fn resets_to_another(rt: HostRuntime) {
-    let mut text = String::new(rt.alloc());
-    reset_dates(&rt, &mut text);
-    let expected = "match 0 0..10, (0, 335, 0) (0, 335, 0), match 0 0..2, (0, 678, 2) (0, 335, 0)";
-    same_text(&rt, text.as_str(), expected, "a reset");
-}
-
-fn reset_dates(rt: &impl Host, text: &mut String) {
-    let mut dates = RegexBench::new(rt, Of(Entry::Date).regex(rt, ""));
-    dates.report(rt, &[Find(DATES)], text);
-    dates.reset_to(Of(Entry::Ab).regex(rt, ""));
-    dates.report(rt, &[Counts, Find(b"ab"), Counts], text);
-}
-
-/// Both parts of a cache, lent for writing at once.
-#[test]
-fn lends_both_parts(rt: HostRuntime) {
-    let regex = Of(Entry::Words).regex(&rt, "");
-    lends_parts_of(&rt, &regex);
-}
-
-fn lends_parts_of(rt: &impl Host, regex: &Regex) {
-    let mut cache = regex.create_cache().expect(rt, "a cache");
-    lend_both_parts(rt, regex, &mut cache);
-}
-
-fn lend_both_parts(rt: &impl Host, regex: &Regex, cache: &mut Cache)
-    requires { AreCachesOf cache.old regex.now }
-{
-    let found = halves(regex, cache, &Input::new(WORDS));
-    let (end, start) = (half_at(4), half_at(0));
-    same_of(rt, &found, &[end, start], &"both parts");
-    let used = (
-        cache.forward().memory_usage(),
-        cache.reverse().memory_usage(),
-    );
-    same_of(rt, &used, &(1082, 1383), &"their memory");
-}
-
-fn half_at(offset: usize) -> Result<Option<HalfMatch>, SearchError> {
-    Ok(Some(HalfMatch::new(pattern_id(1), offset)))
-}
-
-/// Where a match ends, by the forward part, and where one starts, by the reverse part.
-fn halves(
-    regex: &Regex,
-    cache: &mut Cache,
-    input: &Input<'_>,
-) -> [Result<Option<HalfMatch>, SearchError>; 2]
-    requires { AreCachesOf cache.old regex.now }
-{
-    let (forward, reverse) = cache.as_parts_mut();
-    let end = regex.forward().try_search_fwd(forward, input);
-    let start = regex.reverse().try_search_rev(reverse, input);
-    [end, start]
 }
 
 /// A token is kept when the iterator that gave it, its cache and its regex are gone.

@@ -14,7 +14,7 @@ use regex_automata::hybrid::regex::{Builder, Cache, Regex, RegexBuildError};
 use regex_automata::hybrid::{BuildError, SearchError};
 use regex_automata::nfa::thompson::NFA;
 use regex_automata::tokens::{Token, TokenError, Tokens};
-use regex_automata::util::search::{Input, Match};
+use regex_automata::util::search::{HalfMatch, Input, Match};
 use std::alloc::{AllocError, Global};
 
 /// What a regex is made of.
@@ -110,11 +110,11 @@ pub enum Ask {
     /// A search by a part of the cache that is lent for writing.
     Forward(&'static [u8]),
     Reverse(&'static [u8]),
-    /// The cache, or a part of it, is replaced by a new one.
+    /// Searches by both parts, lent at once: the pattern and the end of a match, and where it starts.
+    Both(&'static [u8]),
+    /// The cache is replaced by a new one.
     Replace,
     ReplaceByNew,
-    ReplaceForward,
-    ReplaceReverse,
     /// A clone takes the cache's place.
     ReplaceByClone,
     /// It is reset.
@@ -192,6 +192,7 @@ impl RegexBench {
             Ask::Tokens(haystack, start) => Reported::Items(self.first_tokens(haystack, start)),
             Ask::Forward(haystack) => self.forward(&Input::new(haystack)),
             Ask::Reverse(haystack) => self.reverse(&Input::new(haystack)),
+            Ask::Both(haystack) => self.both(&Input::new(haystack)),
             Ask::Memory => self.memory(),
             Ask::Counts => Reported::Parts(self.counts()),
             Ask::Patterns => Reported::Number("", self.regex.pattern_len(), ""),
@@ -206,8 +207,6 @@ impl RegexBench {
                 let made = self.made(ask);
                 self.replace(ask, made)
             }
-            Ask::ReplaceForward => Reported::of_growth(self.replace_forward()),
-            Ask::ReplaceReverse => Reported::of_growth(self.replace_reverse()),
             Ask::ResetByCache => Reported::of_growth(self.cache.reset(&self.regex)),
             Ask::ResetForward => Reported::of_growth(self.reset_forward()),
             Ask::ResetReverse => Reported::of_growth(self.reset_reverse()),
@@ -321,16 +320,12 @@ impl RegexBench {
         Reported::Half(dfa.try_search_rev(self.cache.reverse_mut(), input))
     }
 
-    fn replace_forward(&mut self) -> Result<(), AllocError> {
-        let new = self.regex.forward().create_cache()?;
-        *self.cache.forward_mut() = new;
-        Ok(())
-    }
-
-    fn replace_reverse(&mut self) -> Result<(), AllocError> {
-        let new = self.regex.reverse().create_cache()?;
-        *self.cache.reverse_mut() = new;
-        Ok(())
+    /// By a clone of the cache.
+    fn both(&self, input: &Input<'_>) -> Reported {
+        match self.made(Ask::ReplaceByClone) {
+            Ok(mut cache) => reported_of_halves(halves(&self.regex, &mut cache, input)),
+            Err(_) => Reported::Refused(BuildError::OutOfMemory),
+        }
     }
 
     fn reset_forward(&mut self) -> Result<(), AllocError> {
@@ -343,13 +338,6 @@ impl RegexBench {
 
     fn reset(&mut self) -> Result<(), AllocError> {
         self.regex.reset_cache(&mut self.cache)
-    }
-
-    /// The same cache, reset to another regex.
-    pub fn reset_to(&mut self, regex: Regex) {
-        if regex.reset_cache(&mut self.cache).is_ok() {
-            self.regex = regex;
-        }
     }
 
     /// The second token of a haystack.
@@ -393,6 +381,27 @@ impl Caller for RegexBench {
             return Reported::Word("a refusal that changed a part");
         }
         reported
+    }
+}
+
+type Halves = [Result<Option<HalfMatch>, SearchError>; 2];
+
+/// Where a match ends, by the forward part, and where one starts, by the reverse part.
+fn halves(regex: &Regex, cache: &mut Cache, input: &Input<'_>) -> Halves
+    requires { AreCachesOf cache.old regex.now }
+{
+    let (forward, reverse) = cache.as_parts_mut();
+    let end = regex.forward().try_search_fwd(forward, input);
+    let start = regex.reverse().try_search_rev(reverse, input);
+    [end, start]
+}
+
+fn reported_of_halves(found: Halves) -> Reported {
+    match found {
+        [Ok(Some(end)), Ok(Some(start))] => {
+            Reported::Based(end.pattern().as_usize(), end.offset(), start.offset())
+        }
+        _ => Reported::Word("no match"),
     }
 }
 

@@ -1,11 +1,13 @@
 //! A long script whose allocations fail in turn. Each test may use up all memory.
 
+use super::plans::{Plan, Shape};
 use super::regex_bench::Pair;
-use super::reports::Turns;
+use super::reports::{Automaton, Turns};
 use super::{Host, check, same_of};
 use crate::catalogue::Entry;
 use crate::reply::Line;
 use crate::script::Script;
+use Shape::{Accept, Either, Range};
 use regex_automata::hybrid::regex::Regex;
 use regex_automata::replay::{Reply, Request, replay};
 use std::fmt::Write;
@@ -14,18 +16,29 @@ use std::fmt::Write;
 /// before `none`; of a step or a reset none of its own; of another request its reply.
 type Row = (&'static str, [&'static [&'static str]; 2]);
 
-/// Requests of every kind that need a few states. They end over caches of regex 0 that have cached the transitions of
-/// `20`.
+/// `[0-9]{22}`. Twelve digits need more rows than a new cache has room for, and twenty-two need more than these.
+#[rattlefmt::skip]
+const DIGITS: Pair = Pair::Turned(Automaton::Planned(&Plan {
+    states: &[Range(b'0', b'9', 1), Range(b'0', b'9', 2), Range(b'0', b'9', 3), Range(b'0', b'9', 4),
+        Range(b'0', b'9', 5), Range(b'0', b'9', 6), Range(b'0', b'9', 7), Range(b'0', b'9', 8), Range(b'0', b'9', 9),
+        Range(b'0', b'9', 10), Range(b'0', b'9', 11), Range(b'0', b'9', 12), Range(b'0', b'9', 13),
+        Range(b'0', b'9', 14), Range(b'0', b'9', 15), Range(b'0', b'9', 16), Range(b'0', b'9', 17),
+        Range(b'0', b'9', 18), Range(b'0', b'9', 19), Range(b'0', b'9', 20), Range(b'0', b'9', 21),
+        Range(b'0', b'9', 22), Accept(0), Either(0, 24), Range(0x00, 0xFF, 23)],
+    starts: (0, 23), patterns: &[0],
+}));
+
+/// Requests of every kind. Up to the first reset regex 0 is current, so no reply of regex 1 stands there. They end over
+/// caches of regex 0 that have cached the transitions of `20`.
 #[rattlefmt::skip]
 const BEFORE: &[Row] = &[
-    ("walk fwd 323031382D31322D3234", [&["half 0 10"],
-        &["half 1 1", "half 1 2", "half 1 3", "half 1 4", "half 1 6", "half 1 7", "half 1 9", "half 1 10"]]),
-    ("walk fwd 32302061", [&[], &["half 1 1", "half 1 2", "half 0 4"]]),
-    ("walk rev 3230", [&[], &["half 1 1", "half 1 0"]]), ("fwd 3230", [&["none"], &["half 1 2"]]),
-    ("rev 3230", [&["none"], &["half 1 0"]]), ("find 3230", [&["none"], &["match 1 0..2"]]),
-    ("is 3230", [&["false"], &["true"]]), ("iter 3230", [&["iter"], &["iter 1 0..2"]]),
-    ("which 2 3230", [&["patterns"], &["patterns 1"]]), ("step 1", [&[], &[]]), ("step 2", [&[], &[]]),
-    ("reset 1", [&[], &[]]), ("fwd 3230", [&["none"], &["half 1 2"]]), ("iter 6131", [&["iter"], &["iter 1 1..2"]]),
+    ("walk fwd 30303030303030303030303030303030303030303030", [&["half 0 22"], &[]]),
+    ("walk fwd 303030303030303030303030", [&[], &[]]), ("walk rev 303030303030303030303030", [&[], &[]]),
+    ("fwd 303030303030303030303030", [&["none"], &[]]), ("rev 303030303030303030303030", [&["none"], &[]]),
+    ("find 303030303030303030303030", [&["none"], &[]]), ("is 303030303030303030303030", [&["false"], &[]]),
+    ("iter 303030303030303030303030", [&["iter"], &[]]), ("which 2 303030303030303030303030", [&["patterns"], &[]]),
+    ("step 1", [&[], &[]]), ("step 2", [&[], &[]]), ("reset 1", [&[], &[]]),
+    ("fwd 303030303030303030303030", [&["none"], &["half 1 12"]]), ("iter 6131", [&["iter"], &["iter 1 1..2"]]),
     ("step 1", [&[], &[]]), ("walk fwd 6131", [&[], &["half 0 1", "half 1 2"]]), ("step 3", [&[], &[]]),
     ("reset 0", [&[], &[]]), ("fwd 3230", [&["none"], &["half 1 2"]]), ("rev 3230", [&["none"], &["half 1 0"]]),
 ];
@@ -33,18 +46,19 @@ const BEFORE: &[Row] = &[
 /// Requests that each need the most memory if they stand in the middle.
 #[rattlefmt::skip]
 const NEEDS: &[Row] = &[
-    ("fwd 323031382D31322D3234", [&["half 0 10"], &["half 1 10"]]),
-    ("rev 323031382D31322D3234", [&["half 0 0"], &["half 1 0"]]),
-    ("find 323031382D31322D3234", [&["match 0 0..10"], &["match 1 8..10"]]),
-    ("is 323031382D31322D3234", [&["true"], &["true"]]),
-    ("iter 323031382D31322D3234", [&["iter 0 0..10"], &["iter 1 8..10"]]),
-    ("which 2 323031382D31322D3234", [&["patterns 0"], &["patterns 1"]]), ("step 0", [&[], &[]]),
+    ("fwd 30303030303030303030303030303030303030303030", [&["half 0 22"], &["half 1 22"]]),
+    ("rev 30303030303030303030303030303030303030303030", [&["half 0 0"], &["half 1 0"]]),
+    ("find 30303030303030303030303030303030303030303030", [&["match 0 0..22"], &["match 1 0..22"]]),
+    ("is 30303030303030303030303030303030303030303030", [&["true"], &["true"]]),
+    ("iter 30303030303030303030303030303030303030303030", [&["iter 0 0..22"], &["iter 1 0..22"]]),
+    ("which 2 30303030303030303030303030303030303030303030", [&["patterns 0"], &["patterns 1"]]),
+    ("step 0", [&[], &[]]),
 ];
 
 /// Requests that need no more than those in front.
 #[rattlefmt::skip]
 const BEHIND: &[Row] = &[
-    ("fwd 3230", [&["none"], &["half 1 2"]]), ("find 3230", [&["none"], &["match 1 0..2"]]),
+    ("fwd 303030303030303030303030", [&["none"], &["half 1 12"]]), ("find 3230", [&["none"], &["match 1 0..2"]]),
     ("iter 3230", [&["iter"], &["iter 1 0..2"]]), ("which 2 3230", [&["patterns"], &["patterns 1"]]),
     ("step 2", [&[], &[]]), ("reset 1", [&[], &[]]), ("iter 6131", [&["iter"], &["iter 1 1..2"]]),
     ("rev 6131", [&["none"], &["half 0 0"]]), ("step 3", [&[], &[]]), ("reset 0", [&[], &[]]),
@@ -133,25 +147,29 @@ impl History {
     }
 }
 
-/// The rows of a script with this one in its middle.
-fn rows_around(rt: &impl Host, middle: Row) -> Vec<Row> {
-    let mut rows = Vec::new(rt.alloc());
-    rows.extend_from_slice(BEFORE).expect(rt, "memory");
-    rows.push(middle).expect(rt, "memory");
-    rows.extend_from_slice(BEHIND).expect(rt, "memory");
-    rows
+/// A row of the script that has this one in its middle.
+fn row_at(at: usize, middle: Row) -> Option<Row> {
+    let Some(behind) = at.checked_sub(BEFORE.len()) else {
+        return BEFORE.get(at).copied();
+    };
+    match behind.checked_sub(1) {
+        Some(number) => BEHIND.get(number).copied(),
+        None => Some(middle),
+    }
 }
 
-fn script_of(rt: &impl Host, rows: &[Row]) -> Script {
+fn script_of(rt: &impl Host, middle: Row) -> Script {
     let mut text = String::new(rt.alloc());
-    for (line, _) in rows {
-        writeln!(text, "{line}").expect(rt, "memory");
+    for at in 0..32usize {
+        if let Some(row) = row_at(at, middle) {
+            writeln!(text, "{}", row.0).expect(rt, "memory");
+        }
     }
     Script::parse(rt.alloc(), text.as_bytes()).expect(rt, "a script")
 }
 
-/// The regexes, and the requests of a script by its rows.
-type Asked<'a> = (&'a [Regex], &'a [Request<'a>], &'a [Row]);
+/// The regexes, the requests of a script, and the row in its middle.
+type Asked<'a> = (&'a [Regex], &'a [Request<'a>], Row);
 
 /// What ran out of memory in the turns of a script: the list of the replies, the request in the middle alone, and
 /// requests.
@@ -168,10 +186,10 @@ impl Seen {
     fn compare(
         &mut self,
         rt: &impl Host,
-        (_, requests, rows): Asked<'_>,
+        (_, requests, middle): Asked<'_>,
         replies: &[Reply],
     ) -> usize {
-        same_of(rt, &replies.len(), &rows.len(), &"the replies");
+        same_of(rt, &replies.len(), &requests.len(), &"the replies");
         let mut history = History {
             current: 0,
             begun: 0,
@@ -182,9 +200,9 @@ impl Seen {
             if let (Some(request), Some(reply), Some(row)) = (
                 requests.get(at),
                 replies.get(at),
-                rows.get(at),
+                row_at(at, middle),
             ) {
-                if history.is_refused(rt, request, *row, reply) {
+                if history.is_refused(rt, request, row, reply) {
                     self.requests[at] = true;
                     (count, last) = (count.saturating_add(1), at);
                 }
@@ -196,7 +214,12 @@ impl Seen {
 
     /// Whether the list of the replies, the request in the middle, and at least so many requests ran out of memory.
     fn has_refused(&self, least: usize) -> bool {
-        let count = self.requests.iter().filter(|it| **it).count();
+        let mut count = 0usize;
+        for is_refused in self.requests {
+            if is_refused {
+                count = count.saturating_add(1);
+            }
+        }
         self.script && self.requests[BEFORE.len().min(31)] && count >= least
     }
 }
@@ -239,25 +262,19 @@ fn refuse_in_turn(rt: &impl Host, asked: Asked<'_>, turns: &mut Turns, step: usi
 /// The same, with this request in the middle.
 fn refuse(rt: &impl Host, regexes: &[Regex], row: Row, turns: &mut Turns, step: usize) -> Seen {
     turns.release();
-    let rows = rows_around(rt, row);
-    let script = script_of(rt, rows.as_slice());
+    let script = script_of(rt, row);
     let requests = script.requests(rt.alloc()).expect(rt, "memory");
-    refuse_in_turn(
-        rt,
-        (regexes, requests.as_slice(), rows.as_slice()),
-        turns,
-        step,
-    )
+    refuse_in_turn(rt, (regexes, requests.as_slice(), row), turns, step)
 }
 
 /// Replays around each request of `NEEDS`, and counts those that run out of memory alone in some turn. Each does in
 /// some turn, and so do at least so many requests of its script.
 fn refuse_each(rt: &impl Host, options: &str, step: usize, least: usize) -> usize {
-    let regexes = [
-        Pair::Of(Entry::Date).regex(rt, options),
-        Pair::Of(Entry::Runs).regex(rt, options),
-    ];
-    count_alone(rt, &regexes, step, least)
+    let mut regexes = Vec::new(rt.alloc());
+    for pair in [DIGITS, Pair::Of(Entry::Runs)] {
+        regexes.push(pair.regex(rt, options)).expect(rt, "memory");
+    }
+    count_alone(rt, regexes.as_slice(), step, least)
 }
 
 fn count_alone(rt: &impl Host, regexes: &[Regex], step: usize, least: usize) -> usize {
@@ -280,8 +297,8 @@ fn replays_around_a_refused_request(rt: HostRuntime) {
     check(&rt, alone >= 3);
 }
 
-/// Rows are small, and the memory that is lent rises by sixteen bytes a turn.
+/// Rows are small, and the memory that is lent rises by thirty-two bytes a turn, the least that an allocation takes.
 #[test]
 fn replays_in_ever_more_memory(rt: HostRuntime) {
-    refuse_each(&rt, "all", 16, 4);
+    refuse_each(&rt, "all", 32, 4);
 }

@@ -135,7 +135,7 @@ fn write_item<W: fmt::Write>(
     match item {
         Ok((pattern, start, end)) => write!(f, "{pattern} {start}..{end}"),
         Err(TokenError::Search(error)) => write_error(f, &error),
-        Err(error) => write!(f, "{error}"),
+        Err(TokenError::NoToken(place)) => write!(f, "no token at {place}"),
     }
 }
 

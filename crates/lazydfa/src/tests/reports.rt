@@ -70,24 +70,37 @@ pub trait Caller: Drop {
 
     /// Makes calls, and writes what they report.
     fn report(&mut self, rt: &impl Host, calls: &[Self::Call], text: &mut String) {
-        for call in calls {
-            write_reported(rt, text, &self.answer(rt.alloc(), *call));
-        }
+        report_each(rt, self, calls, text);
     }
 
     /// Makes the calls of a turn.
     fn take(&mut self, rt: &impl Host, row: &Short<Self::Of, Self::Call>, turns: &mut Turns) {
-        for call in row.3 {
-            turns.hear(rt, &self.answer(rt.alloc(), *call));
+        take_each(rt, self, row, turns);
+    }
+}
+
+fn report_each<T: Caller>(rt: &impl Host, caller: &mut T, calls: &[T::Call], text: &mut String) {
+    for call in calls {
+        write_reported(rt, text, &caller.answer(rt.alloc(), *call));
+    }
+}
+
+fn take_each<T: Caller>(
+    rt: &impl Host,
+    caller: &mut T,
+    row: &Short<T::Of, T::Call>,
+    turns: &mut Turns,
+) {
+    for call in row.3 {
+        turns.hear(rt, &caller.answer(rt.alloc(), *call));
+    }
+    turns.lend(rt);
+    for (number, due) in row.4.iter().enumerate() {
+        turns.hear(rt, &caller.answer(rt.alloc(), due.0));
+        if turns.refuses(rt, number, due.1, row.5) {
+            turns.hear(rt, &caller.answer(rt.alloc(), due.0));
         }
-        turns.lend(rt);
-        for (number, due) in row.4.iter().enumerate() {
-            turns.hear(rt, &self.answer(rt.alloc(), due.0));
-            if turns.refuses(rt, number, due.1, row.5) {
-                turns.hear(rt, &self.answer(rt.alloc(), due.0));
-            }
-            turns.has_reported(rt, due.1, row.0);
-        }
+        turns.has_reported(rt, due.1, row.0);
     }
 }
 
@@ -166,21 +179,16 @@ pub struct Turns {
 
 impl Turns {
     pub fn new(rt: &impl Host) -> Turns {
-        let blocks = Vec::with_capacity(rt.alloc(), 1 << 14).expect(rt, "memory");
+        let blocks = first_blocks(rt);
         let reported = String::with_capacity(rt.alloc(), 1 << 10).expect(rt, "memory");
-        let mut turns = Turns {
+        exhaust(rt.alloc());
+        Turns {
             blocks,
             lent: 0,
             reported,
             is_refused: false,
             seen: [false; 8],
-        };
-        for _ in 0..512u32 {
-            let block = Vec::with_capacity(rt.alloc(), ROOM).expect(rt, "memory");
-            turns.blocks.push(block).expect(rt, "memory");
         }
-        exhaust(rt.alloc());
-        turns
     }
 
     /// From here on there is memory.
@@ -276,6 +284,16 @@ impl Turns {
             None => false,
         }
     }
+}
+
+/// The blocks that turns hand back and forth, with room for more of them.
+fn first_blocks(rt: &impl Host) -> Vec<Vec<u8>> {
+    let mut blocks = Vec::with_capacity(rt.alloc(), 1 << 14).expect(rt, "memory");
+    for _ in 0..512u32 {
+        let block = Vec::with_capacity(rt.alloc(), ROOM).expect(rt, "memory");
+        blocks.push(block).expect(rt, "memory");
+    }
+    blocks
 }
 
 /// Where a failure is named.

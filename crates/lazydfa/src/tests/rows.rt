@@ -7,10 +7,9 @@ use super::texts::UNSUPPORTED;
 use crate::catalogue::Entry;
 use Automaton::{Always, Chain, Crowd, Forward, Never, Planned, Reverse};
 use Call::{
-    Begin, Brief, Classes, Close, Counts, End, Find, FindAnchored, FindBased, FindEach,
-    FindEarliest, FindIn, FindLetters, FindRepeated, Finish, Known, Matched, Memory, Minimum,
-    MoveTo, Open, Patterns, Read, ReplaceByNew, Reset, ResetByCache, ResetTo, Start, StartIn,
-    StartOn, State, Step, Steps,
+    Brief, Classes, Counts, End, Find, FindAnchored, FindBased, FindEarliest, FindIn, FindLetters,
+    FindRepeated, KeepsUtf8, Known, Matched, Memory, Minimum, Patterns, ReplaceByNew, Reset,
+    ResetByCache, Start, StartIn, StartOn, State, Step, Steps,
 };
 use Mode::{Every, Of};
 use Shape::{Accept, Assert, Capture, Dense, Either, Range, Sparse, Union};
@@ -37,6 +36,10 @@ const AS: &str = "aaaaaaaaaaaaaaaa";
 const AMPLE: &[Row] = &[
     ("Cache::new", AB, "", &[ReplaceByNew, Brief], "-, 335"),
     ("Cache::reset", AB, "", &[ReplaceByNew, Find("ab"), Brief, ResetByCache, Brief], "-, half 0 2, 678, -, 335"),
+    ("keeps_utf8, whose bytes are UTF-8", Forward(Entry::Snow), "", &[KeepsUtf8], "true"),
+    ("and any bytes", Forward(Entry::Any), "", &[KeepsUtf8], "false"),
+    ("keeps_utf8_reverse, whose bytes are UTF-8", Reverse(Entry::Snow), "", &[KeepsUtf8], "true"),
+    ("and any bytes", Reverse(Entry::Any), "", &[KeepsUtf8], "false"),
     ("start_state", AB, "", &[Start(None), State, Counts], "-, state 0, 0 421 0"),
     ("start_state_forward", AB, "", &[StartOn(Every, "ab"), Counts], "false, 0 421 0"),
     ("start_state_reverse", AB_BACK, "", &[StartOn(Every, "ab"), Counts], "false, 0 421 0"),
@@ -68,6 +71,22 @@ const EXAMPLE: Plan = Plan {
         patterns: &[0],
 };
 
+/// How many classes the bytes have, with that of the end.
+#[rattlefmt::skip]
+const PARTED: &[Row] = &[
+    ("the start", Planned(&Plan { states: &[Assert(Look::Start, 1), Accept(0)], ..EXAMPLE }), "", &[Classes], "2"),
+    ("a line's start", Planned(&Plan { states: &[Assert(Look::StartLF, 1), Accept(0)], ..EXAMPLE }), "", &[Classes],
+        "4"),
+    ("a line's end", Planned(&Plan { states: &[Assert(Look::EndCRLF, 1), Accept(0)], ..EXAMPLE }), "", &[Classes], "6"),
+    ("a word boundary", Planned(&Plan { states: &[Assert(Look::WordAscii, 1), Accept(0)], ..EXAMPLE }), "", &[Classes],
+        "10"),
+    ("a dense state", Planned(&Plan { states: &[Dense(&[(b'a', 1), (b'b', 1), (b'c', 1), (b'd', 2)]), Accept(0),
+        Accept(0)], ..EXAMPLE }), "", &[Classes], "5"),
+    ("a sparse state", Planned(&Plan { states: &[Sparse(&[(b'0', b'9', 1), (b':', b'<', 1)]), Accept(0)], ..EXAMPLE }),
+        "", &[Classes], "5"),
+    ("quit bytes", Planned(&Plan { states: &[Accept(0)], ..EXAMPLE }), "quit=61 quit=62 quit=64", &[Classes], "6"),
+];
+
 const TWICE: &[Call] = &[Find("ab"), Counts, Find("ab"), Counts];
 
 #[rattlefmt::skip]
@@ -83,15 +102,6 @@ const SEARCHED: &[Row] = &[
         "half 0 2, half 0 3"),
     ("the start of a search over no bytes is there, though the search begins no progress", AB_BACK, "all",
         &[StartOn(Every, ""), Counts, Find(""), Counts], "false, 0 421 0, none, 0 421 0"),
-    ("a cache of one automaton serves another once it is reset to it", Forward(Entry::Date), "",
-        &[Find("2018-12-24 2016-10-08"), ResetTo(Entry::Ab), Counts, Find("ab"), Counts, Find("ab"), Counts],
-        "half 0 10, -, 0 335 0, half 0 2, 0 678 2, half 0 2, 0 678 4"),
-    ("one search after another, each from a place to a place, and the bytes searched by then", AB, "", &[Open(3),
-        Close(7), Counts, Open(10), Close(2), Counts, Open(5), Close(5), Counts, Open(0), Close(usize::MAX), Counts,
-        Open(0), Close(1), Counts],
-        "-, -, 0 335 4, -, -, 0 335 12, -, -, 0 335 12, -, -, 0 335 18446744073709551615, -, -, 0 335 18446744073709551615"),
-    ("a search in progress has searched so far", AB, "", &[Open(3), Counts, MoveTo(7), Counts],
-        "-, 0 335 0 open, -, 0 335 4 open"),
     ("in reverse: the first path's start under leftmost-first", Reverse(Entry::Crlf), "", &[Find("a\r\n"),
         FindEarliest("a\r\n")], "half 0 3, half 0 3"),
     // In reverse by the default settings, so under leftmost-first.
@@ -133,8 +143,6 @@ const LONG: &[Row] = &[
         &[FindRepeated("a", 3000), Counts], "half 0 3000, 0 273384 3000"),
     ("a mebibyte of which nearly each byte makes a new state, over a cache of the least capacity", Planned(&TWELFTH),
         "all capacity=0 skip", &[FindLetters, Counts], "half 0 1048574, 62993 1468 7"),
-    ("ten thousand dates, each found from the end of the one before", Forward(Entry::Date), "",
-        &[FindEach("2018-12-24 ", 10_000), Counts], "550045000, 0 1745 119999"),
 ];
 
 #[rattlefmt::skip]
@@ -215,23 +223,27 @@ const STEPPED: &[Row] = &[
 /// The memory at the start, after each byte and at the end, and whether the state is dead, quit or a match.
 #[rattlefmt::skip]
 const WALKED: &[Row] = &[
-    ("always anchored", AB, "quit=21", &[Begin, Read(b'a'), Read(b'x'), Read(b'b'), Finish],
-        "421, 507, 507d, 507d, 507d"),
-    ("the first of two words", WORDS, "quit=21", &[Begin, Read(b'@'), Read(b'f'), Read(b'o'), Read(b'o'), Read(b' '),
-        Read(b'b'), Read(b'a'), Read(b'r'), Finish], "705, 838, 965m, 965m, 965m, 1082m, 1082d, 1082d, 1082d, 1082d"),
-    ("all words", WORDS, "all quit=21", &[Begin, Read(b'@'), Read(b'f'), Read(b'o'), Read(b'o'), Read(b' '),
-        Read(b'b'), Finish], "705, 838, 980m, 1126m, 1126m, 1262m, 1400, 1521m"),
-    ("equal patterns", Forward(Entry::Aa), "all quit=21", &[Begin, Read(b'a'), Read(b'a'), Read(b'b'), Finish],
-        "527, 633, 747m, 851m, 851d"),
-    ("ends of lines", Forward(Entry::Crlf), "all quit=21", &[Begin, Read(b'\r'), Read(b'\n'), Read(b'\n'), Finish],
-        "451, 546m, 546, 641m, 726m"),
-    ("a character and its neighbours", Forward(Entry::Snow), "quit=21", &[Begin, Read(b'a'), Read(0xE2), Read(0x98),
-        Read(0x83), Read(b'x'), Finish], "970, 1167, 1364, 1550m, 1732, 1914, 2095m"),
-    ("a date", Forward(Entry::Date), "quit=21", &[Begin, Read(b'2'), Read(b'0'), Read(b'1'), Read(b'8'), Read(b'-'),
-        Read(b'1'), Read(b'2'), Read(b'-'), Read(b'2'), Read(b'4'), Finish],
-        "640, 736, 837, 943, 1054, 1150, 1251, 1357, 1453, 1554, 1660, 1745m"),
-    ("a quit byte", Forward(Entry::Runs), "quit=21", &[Begin, Read(b'a'), Read(b'1'), Read(b'!'), Read(b'b'), Finish],
-        "577, 678, 763m, 763q, 763q, 763q"),
+    ("always anchored", AB, "quit=21", &[Start(None), Brief, Step(b'a'), Brief, Step(b'x'), Brief, Step(b'b'), Brief,
+        End, Brief], "-, 421, -, 507, -, 507d, -, 507d, -, 507d"),
+    ("the first of two words", WORDS, "quit=21", &[Start(None), Brief, Step(b'@'), Brief, Step(b'f'), Brief, Step(b'o'),
+        Brief, Step(b'o'), Brief, Step(b' '), Brief, Step(b'b'), Brief, Step(b'a'), Brief, Step(b'r'), Brief, End,
+        Brief], "-, 705, -, 838, -, 965m, -, 965m, -, 965m, -, 1082m, -, 1082d, -, 1082d, -, 1082d, -, 1082d"),
+    ("all words", WORDS, "all quit=21", &[Start(None), Brief, Step(b'@'), Brief, Step(b'f'), Brief, Step(b'o'), Brief,
+        Step(b'o'), Brief, Step(b' '), Brief, Step(b'b'), Brief, End, Brief],
+        "-, 705, -, 838, -, 980m, -, 1126m, -, 1126m, -, 1262m, -, 1400, -, 1521m"),
+    ("equal patterns", Forward(Entry::Aa), "all quit=21", &[Start(None), Brief, Step(b'a'), Brief, Step(b'a'), Brief,
+        Step(b'b'), Brief, End, Brief], "-, 527, -, 633, -, 747m, -, 851m, -, 851d"),
+    ("ends of lines", Forward(Entry::Crlf), "all quit=21", &[Start(None), Brief, Step(b'\r'), Brief, Step(b'\n'), Brief,
+        Step(b'\n'), Brief, End, Brief], "-, 451, -, 546m, -, 546, -, 641m, -, 726m"),
+    ("a character and its neighbours", Forward(Entry::Snow), "quit=21", &[Start(None), Brief, Step(b'a'), Brief,
+        Step(0xE2), Brief, Step(0x98), Brief, Step(0x83), Brief, Step(b'x'), Brief, End, Brief],
+        "-, 970, -, 1167, -, 1364, -, 1550m, -, 1732, -, 1914, -, 2095m"),
+    ("a date", Forward(Entry::Date), "quit=21", &[Start(None), Brief, Step(b'2'), Brief, Step(b'0'), Brief, Step(b'1'),
+        Brief, Step(b'8'), Brief, Step(b'-'), Brief, Step(b'1'), Brief, Step(b'2'), Brief, Step(b'-'), Brief,
+        Step(b'2'), Brief, Step(b'4'), Brief, End, Brief],
+        "-, 640, -, 736, -, 837, -, 943, -, 1054, -, 1150, -, 1251, -, 1357, -, 1453, -, 1554, -, 1660, -, 1745m"),
+    ("a quit byte", Forward(Entry::Runs), "quit=21", &[Start(None), Brief, Step(b'a'), Brief, Step(b'1'), Brief,
+        Step(b'!'), Brief, Step(b'b'), Brief, End, Brief], "-, 577, -, 678, -, 763m, -, 763q, -, 763q, -, 763q"),
 ];
 
 /// `b`, or else twenty bytes `a`.
@@ -277,6 +289,7 @@ fn searches_report_their_rows(rt: HostRuntime) {
     reports_all::<Bench>(&rt, AMPLE);
     reports_all::<Bench>(&rt, SEARCHED);
     reports_all::<Bench>(&rt, ODD);
+    reports_all::<Bench>(&rt, PARTED);
 }
 
 #[test]

@@ -36,6 +36,9 @@ fn answer_all(rt: &impl Host, rows: &[(&'static str, &'static str)]) {
     }
 }
 
+/// Why a script is not answered, if it is not.
+type Fault = Option<RunError>;
+
 /// A script, and its first bad line.
 #[rattlefmt::skip]
 const BAD: &[(&str, usize)] = &[
@@ -81,7 +84,7 @@ fn refuse_all(rt: &impl Host, rows: &[(&'static str, usize)]) {
 }
 
 /// Runs a script, and looks at what it prints and at its fault.
-fn ends_with(rt: &impl Host, script: &str, expected: &str, fault: Option<RunError>) {
+fn ends_with(rt: &impl Host, script: &str, expected: &str, fault: Fault) {
     let (text, found) = printed(rt, script);
     same_of(rt, &found, &fault, &script);
     same_text(rt, text.as_str(), expected, script);
@@ -114,29 +117,47 @@ fn take_all(rt: &impl Host, scripts: &[&'static str]) {
     }
 }
 
+/// What a script writes, and its fault, if one call of the reader or the writer fails, counted from 1.
+fn fail_at(rt: &impl Host, script: &str, (read, write): (usize, usize)) -> (Vec<u8>, Fault) {
+    let mut input = Source::new(script.as_bytes());
+    input.fails_at = read;
+    let mut output = Sink::new(rt.alloc());
+    output.fails_at = write;
+    let fault = run(rt.alloc(), &mut input, &mut output).err();
+    (output.bytes, fault)
+}
+
+/// `Failed` up to the last of these calls, and then none.
+fn failed_upto(calls: usize, call: usize) -> Fault {
+    if call > calls {
+        None
+    } else {
+        Some(RunError::Failed)
+    }
+}
+
 /// A script, and the calls that read it, three bytes a call.
 #[rattlefmt::skip]
 const READ: &[(&str, usize)] = &[("regex ab\n", 4), ("regex ab\nwalk fwd 6162\nstep 0\nreset 0", 14)];
 
 #[test]
 fn reports_failed_reads(rt: HostRuntime) {
-    for row in READ {
-        let (script, calls) = *row;
-        for call in 1..=calls {
-            fails_to_read(&rt, script, call, Some(RunError::Failed));
+    fail_reads(&rt, READ);
+}
+
+fn fail_reads(rt: &impl Host, rows: &[(&'static str, usize)]) {
+    for row in rows {
+        for call in 1..row.1.saturating_add(2) {
+            fails_to_read(rt, row.0, call, failed_upto(row.1, call));
         }
-        fails_to_read(&rt, script, calls.saturating_add(1), None);
     }
 }
 
 /// Nothing is written if a read fails.
-fn fails_to_read(rt: &impl Host, script: &str, call: usize, expected: Option<RunError>) {
-    let mut input = Source::new(script.as_bytes());
-    input.fails_at = call;
-    let mut output = Sink::new(rt.alloc());
-    let fault = run(rt.alloc(), &mut input, &mut output).err();
-    same_of(rt, &fault, &expected, &call);
-    same_of(rt, &output.bytes.is_empty(), &expected.is_some(), &call);
+fn fails_to_read(rt: &impl Host, script: &str, call: usize, expected: Fault) {
+    let (written, fault) = fail_at(rt, script, (call, 0));
+    let found = (fault, written.is_empty());
+    same_of(rt, &found, &(expected, expected.is_some()), &call);
 }
 
 /// A script, its output, and the calls that write it, five bytes a call and a flush.
@@ -150,39 +171,35 @@ const WRITTEN: &[Written] = &[
 
 #[test]
 fn reports_failed_writes(rt: HostRuntime) {
-    for row in WRITTEN {
-        let (row, calls) = (*row, row.2);
-        for call in 1..=calls {
-            fails_to_write(&rt, row, call, Some(RunError::Failed));
+    fail_writes(&rt, WRITTEN);
+}
+
+fn fail_writes(rt: &impl Host, rows: &[Written]) {
+    for row in rows {
+        for call in 1..row.2.saturating_add(2) {
+            fails_to_write(rt, *row, call, failed_upto(row.2, call));
         }
-        fails_to_write(&rt, row, calls.saturating_add(1), None);
     }
 }
 
 /// A beginning of the output is out if a write fails.
-fn fails_to_write(rt: &impl Host, row: Written, call: usize, expected: Option<RunError>) {
-    let (script, whole, _) = row;
-    let mut input = Source::new(script.as_bytes());
-    let mut output = Sink::new(rt.alloc());
-    output.fails_at = call;
-    let fault = run(rt.alloc(), &mut input, &mut output).err();
-    same_of(rt, &fault, &expected, &call);
-    let is_beginning = whole.as_bytes().starts_with(output.bytes.as_slice());
-    same_of(rt, &is_beginning, &true, &call);
+fn fails_to_write(rt: &impl Host, row: Written, call: usize, expected: Fault) {
+    let (written, fault) = fail_at(rt, row.0, (0, call));
+    let is_beginning = row.1.as_bytes().starts_with(written.as_slice());
+    same_of(rt, &(fault, is_beginning), &(expected, true), &call);
 }
 
 /// A bad line is reported before a failed write, and a failed read before a bad line.
 #[test]
 fn reports_faults_in_order(rt: HostRuntime) {
-    for (fails_at, expected) in [(0, RunError::BadLine(1)), (2, RunError::Failed)] {
-        let mut input = Source::new(b"bad\n");
-        input.fails_at = fails_at;
-        let mut output = Sink::new(rt.alloc());
-        output.fails_at = 1;
-        let fault = run(rt.alloc(), &mut input, &mut output).err();
-        let found = (fault, output.bytes.is_empty());
-        same_of(&rt, &found, &(Some(expected), true), &fails_at);
-    }
+    writes_nothing(&rt, (0, 1), RunError::BadLine(1));
+    writes_nothing(&rt, (2, 1), RunError::Failed);
+}
+
+fn writes_nothing(rt: &impl Host, fails: (usize, usize), expected: RunError) {
+    let (written, fault) = fail_at(rt, "bad\n", fails);
+    let found = (fault, written.is_empty());
+    same_of(rt, &found, &(Some(expected), true), &fails);
 }
 
 /// What a script begins with, the digits of a piece and how many there are, what the output begins with, the spans of

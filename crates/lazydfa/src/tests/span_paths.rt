@@ -1,7 +1,9 @@
 //! Spans beside those of the listed paths: from the start of the selected path to its end.
 
 use super::bench::within;
-use super::paths::{CHARACTERS, EMPTY, LITERALS, LOOKS, MODES, REPEATED, Row, answer, haystacks};
+use super::paths::{
+    CHARACTERS, Compared, EMPTY, LITERALS, LOOKS, REPEATED, Row, answer, compare_all, haystacks,
+};
 use super::regex_bench::{Pair, RegexBench};
 use super::reported::Item;
 use super::{Host, same_of};
@@ -20,8 +22,7 @@ fn span_from(rt: &impl Host, slow: Slow<'_>, input: &Input<'_>, start: usize) ->
     if start > input.end() {
         return None;
     }
-    let rest = Input::new(input.haystack())
-        .range(start..input.end())
+    let rest = within(input.haystack(), start, input.end())
         .anchored(input.get_anchored())
         .earliest(input.get_earliest());
     let (half, start) = answer(rt, slow.0, slow.1, &rest)?;
@@ -58,9 +59,7 @@ fn list(rt: &impl Host, slow: Slow<'_>, input: &Input<'_>) -> [Item; 8] {
 
 /// Whether a path is found, without regard to the nearest end.
 fn has_path(rt: &impl Host, nfa: &NFA, kind: MatchKind, input: &Input<'_>) -> bool {
-    let whole = Input::new(input.haystack())
-        .range(input.start()..input.end())
-        .anchored(input.get_anchored());
+    let whole = within(input.haystack(), input.start(), input.end()).anchored(input.get_anchored());
     answer(rt, nfa, kind, &whole).is_some()
 }
 
@@ -73,32 +72,7 @@ struct Listed {
     ample: RegexBench,
 }
 
-impl Listed {
-    /// Every span of each haystack, and the whole of it in each anchored mode; of a short one every span in each mode.
-    fn compare_all(&mut self, rt: &impl Host, haystacks: &[Vec<u8>]) {
-        for haystack in haystacks {
-            self.compare_haystack(rt, haystack.as_slice());
-        }
-    }
-
-    fn compare_haystack(&mut self, rt: &impl Host, haystack: &[u8]) {
-        for end in 0..haystack.len() + 1 {
-            for start in 0..end + 1 {
-                self.compare(rt, &Input::new(haystack).range(start..end));
-                if haystack.len() < 6 || start == 0 && end == haystack.len() {
-                    self.compare_modes(rt, haystack, (start, end));
-                }
-            }
-        }
-    }
-
-    fn compare_modes(&mut self, rt: &impl Host, haystack: &[u8], (start, end): (usize, usize)) {
-        for (mode, earliest) in MODES {
-            let input = within(haystack, start, end);
-            self.compare(rt, &input.anchored(mode).earliest(earliest));
-        }
-    }
-
+impl Compared for Listed {
     fn compare(&mut self, rt: &impl Host, input: &Input<'_>) {
         let nfa = self.ample.regex().forward().get_nfa();
         let spans = list(rt, (nfa, self.kind), input);
@@ -132,12 +106,6 @@ const KINDS: [Kind; 2] = [
     (MatchKind::All, "all unicode starts capacity=0 skip", "all unicode starts"),
 ];
 
-/// Compares, and gives it all back.
-fn compare(rt: &impl Host, listed: Listed, haystacks: &[Vec<u8>]) {
-    let mut listed = listed;
-    listed.compare_all(rt, haystacks);
-}
-
 fn prepare(rt: &impl Host, entry: Entry, (kind, least, config): Kind) -> Listed {
     let tight = RegexBench::new(rt, Pair::Of(entry).regex(rt, least));
     let ample = RegexBench::new(rt, Pair::Of(entry).regex(rt, config));
@@ -155,7 +123,8 @@ fn agree(rt: &impl Host, rows: &[Row]) {
         let (entry, pieces, most) = *row;
         let haystacks = haystacks(rt, pieces, most);
         for kind in KINDS {
-            compare(rt, prepare(rt, entry, kind), haystacks.as_slice());
+            let listed = prepare(rt, entry, kind);
+            compare_all(rt, listed, haystacks.as_slice(), (1, 6));
         }
     }
 }

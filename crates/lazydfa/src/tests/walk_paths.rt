@@ -2,7 +2,8 @@
 //! over another cache, with a search of the same input between.
 
 use super::paths::{
-    CHARACTERS, EMPTY, LITERALS, LOOKS, MODES, REPEATED, Row, accepting, half, haystacks, splits,
+    CHARACTERS, Compared, EMPTY, LITERALS, LOOKS, REPEATED, Row, accepting, compare_all, half,
+    haystacks, splits,
 };
 use super::reports::Automaton;
 use super::walker::{Over, Walker};
@@ -91,35 +92,6 @@ pub struct Listed {
 }
 
 impl Listed {
-    /// Every span of each haystack, and the whole of it in each anchored mode.
-    fn compare_all(&mut self, rt: &impl Host, haystacks: &[Vec<u8>]) {
-        for haystack in haystacks {
-            self.compare_spans(rt, haystack.as_slice());
-            self.compare_modes(rt, haystack.as_slice());
-        }
-    }
-
-    fn compare_spans(&mut self, rt: &impl Host, haystack: &[u8]) {
-        for end in 0..haystack.len() + 1 {
-            for start in 0..end + 1 {
-                self.compare_both(rt, &Input::new(haystack).range(start..end));
-                self.compare_both(rt, &Input::new(haystack).range(start..end).earliest(true));
-            }
-        }
-    }
-
-    fn compare_modes(&mut self, rt: &impl Host, haystack: &[u8]) {
-        for (mode, earliest) in MODES {
-            self.compare_both(rt, &Input::new(haystack).anchored(mode).earliest(earliest));
-        }
-    }
-
-    /// Searches, and what walks and sets report.
-    fn compare_both(&mut self, rt: &impl Host, input: &Input<'_>) {
-        self.compare_halves(rt, input);
-        self.compare(rt, input);
-    }
-
     /// Plain searches. It returns their answer.
     pub fn compare_halves(&mut self, rt: &impl Host, input: &Input<'_>) -> Option<HalfMatch> {
         let dfa = self.ample.dfa();
@@ -134,7 +106,7 @@ impl Listed {
     }
 
     /// Walks, and forward the sets of their patterns.
-    pub fn compare(&mut self, rt: &impl Host, input: &Input<'_>) {
+    pub fn compare_walks(&mut self, rt: &impl Host, input: &Input<'_>) {
         let dfa = self.ample.dfa();
         let kind = dfa.get_config().get_match_kind();
         let is_reverse = dfa.get_nfa().is_reverse();
@@ -169,6 +141,14 @@ impl Listed {
     }
 }
 
+impl Compared for Listed {
+    /// Searches, and what walks and sets report.
+    fn compare(&mut self, rt: &impl Host, input: &Input<'_>) {
+        self.compare_halves(rt, input);
+        self.compare_walks(rt, input);
+    }
+}
+
 pub fn prepare(rt: &impl Host, name: Name, nfa: NFA, kind: MatchKind) -> Listed {
     let config = Config::new()
         .match_kind(kind)
@@ -192,12 +172,6 @@ fn walker(rt: &impl Host, nfa: NFA, config: Config) -> Walker {
     Walker::new(rt, built.expect(rt, "an automaton"), Over::Text(""))
 }
 
-/// Compares, and gives it all back.
-fn compare(rt: &impl Host, listed: Listed, haystacks: &[Vec<u8>]) {
-    let mut listed = listed;
-    listed.compare_all(rt, haystacks);
-}
-
 /// Searches, walks and sets of both match kinds in both directions report what the listed paths of each entry say.
 fn agree(rt: &impl Host, rows: &[Row]) {
     for row in rows {
@@ -205,16 +179,10 @@ fn agree(rt: &impl Host, rows: &[Row]) {
         let (name, haystacks) = ((Some(entry), 0), haystacks(rt, pieces, most));
         for kind in [MatchKind::LeftmostFirst, MatchKind::All] {
             let (forward, reverse) = (Automaton::Forward(entry), Automaton::Reverse(entry));
-            compare(
-                rt,
-                prepare(rt, name, forward.nfa(rt), kind),
-                haystacks.as_slice(),
-            );
-            compare(
-                rt,
-                prepare(rt, name, reverse.nfa(rt), kind),
-                haystacks.as_slice(),
-            );
+            for automaton in [forward, reverse] {
+                let listed = prepare(rt, name, automaton.nfa(rt), kind);
+                compare_all(rt, listed, haystacks.as_slice(), (2, 0));
+            }
         }
     }
 }
