@@ -1,20 +1,23 @@
 //! Searches for one end of a match: one span after another, as long as offsets inside a character are skipped.
 ghost use Rattle.std.specs.Prelude.{◌≡◌, ◌<◌, IfOk, IfErr, IfSome};
 ghost use Rattle.std.specs.Prelude.{None, Err, Ok};
+ghost use Rattle.automata_base.specs.Haystacks.Input.{Allows};
 ghost use Rattle.automata_base.specs.Haystacks.Tapes.{Forward, Backward};
 ghost use Rattle.automata_hybrid.specs.Cache.Caches.{IsCacheOf};
 ghost use Rattle.automata_hybrid.specs.Searches.Costs.{IsCostUpto};
 ghost use Rattle.automata_hybrid.specs.Searches.Contracts.{IsBased, IsHalf, IsSearchEffect, IsUnsupported, based_half};
 ghost use Rattle.automata_hybrid.specs.Searches.Contracts.{halves};
 ghost use Rattle.automata_hybrid.specs.Searches.Contracts.{unsupported_error};
+ghost use Rattle.automata_hybrid.specs.Searches.PassContracts.{input_at};
 ghost use Rattle.automata_hybrid.specs.Searches.Passes.{IsFound, IsRefused};
 ghost use Rattle.automata_hybrid.specs.Walks.State.{way_of};
 
 use crate::dfa::DFA;
 use crate::dfa::cache::Cache;
 use crate::search::direction::{Way, begin_later};
+use crate::search::pass::input_of;
 use automata_base::laws::reported_is_right;
-use automata_base::util::search::{HalfMatch, Input};
+use automata_base::util::search::{Anchored, HalfMatch, Input, Span};
 use automata_config::error::SearchError;
 
 /// What a search found, without where its span began.
@@ -126,9 +129,84 @@ impl DFA {
         without_base(found)
     }
 
-    /// Tries one span after another: what was found, and the start of the span that gave it.
+    /// What was found, and the start of the span that gave it. Where no offset is skipped, it is found by one pass.
     #[inline(always)]
     fn search(
+        &self,
+        cache: &mut Cache,
+        input: &Input<'_>,
+        way: Way,
+    ) -> Result<Option<(HalfMatch, usize)>, SearchError>
+        requires { IsCacheOf cache.old self.now }
+        ensures of { IsCacheOf cache.new self.now }
+        ensures found { IfOk result (λ o. IsFound (way_of way) self.now input.now (based_half o)) }
+        ensures refusal { IfErr result (IsRefused (way_of way) self.now cache.new.store input.now) }
+        ensures effect { IsSearchEffect (way_of way) self.now input.now cache.old cache.new result }
+        ensures upto { way_of way ≡ Forward
+            → IfOk result (λ o. IfSome o (λ p. IsCostUpto self.now input.now p.1 cache.old cache.new)) }
+        ensures unsupported { IsUnsupported (way_of way) self.now input.now
+            → result ≡ Err (unsupported_error input.now) }
+        ensures done { input.now.end < input.now.start → result ≡ Ok None }
+    {
+        if self.skips() {
+            return match self.search_skipping(
+                cache,
+                input.haystack(),
+                input.get_span(),
+                input.get_anchored(),
+                input.get_earliest(),
+                way,
+            ) {
+                Ok(found) => Ok(found),
+                Err(error) => Err(error),
+            };
+        }
+        if input.is_done() {
+            return Ok(None);
+        }
+        match self.pass(cache, input, way) {
+            Ok(Some(half)) => Ok(Some((half, input.start()))),
+            Ok(None) => Ok(None),
+            Err(error) => Err(error),
+        }
+    }
+
+    /// The same where offsets inside a character are skipped. It is given the parts of the input, as `begin_of`.
+    #[inline(never)]
+    fn search_skipping(
+        &self,
+        cache: &mut Cache,
+        haystack: &[u8],
+        span: Span,
+        anchored: Anchored,
+        earliest: bool,
+        way: Way,
+    ) -> Result<Option<(HalfMatch, usize)>, SearchError>
+        requires { IsCacheOf cache.old self.now × Allows haystack.now span.start span.end }
+        ensures of { IsCacheOf cache.new self.now }
+        ensures found { IfOk result (λ o. IsFound (way_of way) self.now
+            (input_at haystack.now span.start span.end anchored earliest) (based_half o)) }
+        ensures refusal { IfErr result (IsRefused (way_of way) self.now cache.new.store
+            (input_at haystack.now span.start span.end anchored earliest)) }
+        ensures effect { IsSearchEffect (way_of way) self.now
+            (input_at haystack.now span.start span.end anchored earliest) cache.old cache.new result }
+        ensures upto { way_of way ≡ Forward
+            → IfOk result (λ o. IfSome o (λ p. IsCostUpto self.now
+            (input_at haystack.now span.start span.end anchored earliest) p.1 cache.old cache.new)) }
+        ensures unsupported { let input = input_at haystack.now span.start span.end anchored earliest in
+            IsUnsupported (way_of way) self.now input → result ≡ Err (unsupported_error input) }
+        ensures done { span.end < span.start → result ≡ Ok None }
+    {
+        let own = input_of(haystack, span, anchored, earliest);
+        match way {
+            Way::Forward => self.search_spans(cache, &own, Way::Forward),
+            Way::Backward => self.search_spans(cache, &own, Way::Backward),
+        }
+    }
+
+    /// Tries one span after another: what was found, and the start of the span that gave it.
+    #[inline(always)]
+    fn search_spans(
         &self,
         cache: &mut Cache,
         input: &Input<'_>,

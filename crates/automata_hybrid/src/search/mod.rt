@@ -60,6 +60,18 @@ fn splits(input: &Input<'_>, offset: usize) -> bool
 }
 
 impl DFA {
+    /// Whether matches at offsets inside a character are skipped.
+    fn skips(&self) -> bool
+        ensures yes { result ≡ true → Skips self.now }
+        ensures no { result ≡ false → Skips self.now → ⊥ }
+    {
+        let nfa = self.get_nfa();
+        if !nfa.is_utf8() {
+            return false;
+        }
+        nfa.has_empty()
+    }
+
     /// Whether a match at an offset is skipped, since the offset is inside a character.
     fn skips_at(&self, input: &Input<'_>, offset: usize) -> bool
         ensures yes { result ≡ true → Skips self.now × (is_split input.now.haystack offset ≡ true) }

@@ -48,7 +48,12 @@ fn again(found: Option<HalfMatch>) -> Option<HalfMatch>
 
 /// The input of these parts.
 #[inline(always)]
-fn input_of<'h>(haystack: &'h [u8], span: Span, anchored: Anchored, earliest: bool) -> Input<'h>
+pub(super) fn input_of<'h>(
+    haystack: &'h [u8],
+    span: Span,
+    anchored: Anchored,
+    earliest: bool,
+) -> Input<'h>
     requires { Allows haystack.now span.start span.end }
     ensures { result ≡ input_at haystack.now span.start span.end anchored earliest }
 {

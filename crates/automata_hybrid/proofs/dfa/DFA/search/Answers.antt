@@ -1,209 +1,112 @@
-use Rattle.std.proofs.Common.{ℕ, suc, ◌≡◌, ◌∙◌, ◌+◌, ◌-◌, ◌<◌, ◌≤◌, Some, true, false, inl, refl, sym, ap, subst}
+use Rattle.std.proofs.Common.{ℕ, suc, ◌≡◌, ◌∙◌, ◌+◌, ◌-◌, ◌<◌, ◌≤◌, Option, inl, refl, sym, subst}
 use Rattle.std.proofs.Common.{arith}
 use Rattle.std.proofs.lemmas.Grind.{common_steps}
-use Rattle.automata_base.specs.Answers.Answers.{later, Tries}
+use Rattle.std.specs.Prelude.{Err, IfSome, Ok, Some}
+use Rattle.automata_base.specs.Answers.Answers.{Tries, later}
 use Rattle.automata_base.specs.Haystacks.Input.{Input}
-use Rattle.automata_base.specs.declared.util.search.Anchored.TheVariants.{No}
-use Rattle.automata_base.specs.Haystacks.Tapes.{Direction, Forward, is_split}
-use Rattle.automata_hybrid.specs.Searches.Passes.{Finds, IsFound, Skips, with_base}
-use Rattle.automata_hybrid.specs.Machines.StartSlots.{supports}
-use Rattle.automata_hybrid.specs.Cache.Growth.{ClearedNothing}
-use Rattle.automata_hybrid.specs.Searches.Costs.{IsCostOfPasses}
-use Rattle.automata_hybrid.specs.Searches.Progress.{HaveEnded}
-use Rattle.automata_hybrid.proofs.Cache.Growth.{grown_same, grown_trans}
-use Rattle.automata_hybrid.proofs.Searches.Costs.{AreCounted}
-use Rattle.automata_hybrid.proofs.Searches.Cached.{LearnedSpans}
-use Rattle.automata_hybrid.proofs.Searches.Directions.{later_anchored, later_none, later_on, later_start, skipped, skipped_last}
-use Rattle.automata_hybrid.proofs.Searches.Directions.{skipped_more, skipped_within}
-use Rattle.automata_hybrid.specs.Searches.Contracts.{IsUnsupported, unsupported_error}
-use Rattle.std.specs.Prelude.{Err}
-use Rattle.automata_hybrid.proofs.Searches.Contracts.{err_to}
+use Rattle.automata_base.specs.Haystacks.Matches.{HalfMatch}
+use Rattle.automata_base.specs.Haystacks.Tapes.{Direction, Forward}
+use Rattle.automata_hybrid.specs.Searches.Contracts.{IsSearchEffect, based_half}
+use Rattle.automata_hybrid.specs.Searches.Costs.{IsCostOfPasses, IsCostUpto}
+use Rattle.automata_hybrid.specs.Searches.Passes.{Finds, IsFound, IsRefused, Skips, with_base}
 use Rattle.automata_hybrid.specs.Walks.State.{way_of}
-use Rattle.automata_hybrid.proofs.Searches.PassState.{false_true}
-use Rattle.automata_hybrid.proofs.Searches.Skips.{anchored_stops, none_stops, some_stops, finds_none, finds_no_more}
-use Rattle.automata_hybrid.proofs.Searches.Skips.{finds_some, finds_split, tries_on, refuses}
-use Rattle.automata_hybrid.proofs.Searches.SpanEffects.{effect_after, effect_before, effect_refused, spans_cost, spans_counted}
-use Rattle.automata_hybrid.proofs.Searches.SpanEffects.{spans_ended, spans_known, spans_learned}
+use Rattle.automata_hybrid.proofs.Cache.Growth.{grown_same}
+use Rattle.automata_hybrid.proofs.Searches.Directions.{later_none}
+use Rattle.automata_hybrid.proofs.Searches.PassContracts.{same_input}
+use Rattle.automata_hybrid.proofs.Searches.Skips.{finds_none, finds_some, none_stops, refuses, some_stops}
+use Rattle.automata_hybrid.proofs.Searches.SpanEffects.{effect_after, effect_refused, spans_cost}
 use Rattle.automata_hybrid.proofs.dfa.DFA.search.Goals as goal
+
+pub returns-in-Ok-clause-found : goal.returns-in-Ok-clause-found
+returns-in-Ok-clause-found c =
+    subst (λ (i : Input). IsFound (way_of c.args.way) c.args.self.now i (based_half c.in-Ok.found)) (same_input c.args.input.now c.haystack.result.now c.get_span.result.start c.get_span.result.end c.get_anchored.result c.get_earliest.result c.haystack.ensures.same c.get_span.ensures.start c.get_span.ensures.end c.get_anchored.ensures c.get_earliest.ensures) c.in-Ok.ensures.found
+
+pub returns-in-Ok-clause-effect : goal.returns-in-Ok-clause-effect
+returns-in-Ok-clause-effect c =
+    subst (λ (i : Input). IsSearchEffect {T = Option (HalfMatch × ℕ)} (way_of c.args.way) c.args.self.now i c.args.cache.now c.search_skipping.new.cache (Ok c.in-Ok.found)) (same_input c.args.input.now c.haystack.result.now c.get_span.result.start c.get_span.result.end c.get_anchored.result c.get_earliest.result c.haystack.ensures.same c.get_span.ensures.start c.get_span.ensures.end c.get_anchored.ensures c.get_earliest.ensures) c.in-Ok.ensures.effect
+
+pub returns-in-Ok-clause-upto : goal.returns-in-Ok-clause-upto
+returns-in-Ok-clause-upto c = λ forward.
+    subst (λ (i : Input). IfSome c.in-Ok.found (λ p. IsCostUpto c.args.self.now i p.1 c.args.cache.now c.search_skipping.new.cache)) (same_input c.args.input.now c.haystack.result.now c.get_span.result.start c.get_span.result.end c.get_anchored.result c.get_earliest.result c.haystack.ensures.same c.get_span.ensures.start c.get_span.ensures.end c.get_anchored.ensures c.get_earliest.ensures) (c.in-Ok.ensures.upto forward)
 
 pub returns-in-Err-clause-refusal : goal.returns-in-Err-clause-refusal
 returns-in-Err-clause-refusal c =
-    let d : Direction = way_of c.args.way in
-    let k : ℕ = skipped c.args.input.now c.loop-later.later in
-    let same : c.loop-later.later ≡ later d k c.args.input.now = c.loop-later.invariant.same in
-    let ahead : c.loop-later.later.start ≤ c.loop-later.later.end = grind (arith, common_steps, c.loop-later-test.ensures.done) in
-    let within : c.args.input.now.start + k ≤ c.args.input.now.end = skipped_within c.args.input.now c.loop-later.later c.loop-later.invariant.few ahead in
-    (refuses d c.args.self.now c.args.input.now c.loop-later.later k same c.loop-later.invariant.tries within c.pass.new.cache.store c.in-Err.error c.in-Err.ensures.refusal)
-
-pub returns-in_default-clause-found : goal.returns-in_default-clause-found
-returns-in_default-clause-found c =
-    let d : Direction = way_of c.args.way in
-    let k : ℕ = skipped c.args.input.now c.loop-later.later in
-    let same : c.loop-later.later ≡ later d k c.args.input.now = c.loop-later.invariant.same in
-    let ahead : c.loop-later.later.start ≤ c.loop-later.later.end = grind (arith, common_steps, c.loop-later-test.ensures.done) in
-    let within : c.args.input.now.start + k ≤ c.args.input.now.end = skipped_within c.args.input.now c.loop-later.later c.loop-later.invariant.few ahead in
-    finds_none d c.args.self.now c.args.input.now c.loop-later.later k same c.loop-later.invariant.tries within (sym c.in_default.is ∙ c.in-Ok.ensures.answer.found) c.in-Ok.ensures.answer.clean
-
-pub returns-then-not-skips_at-clause-found : goal.returns-then-not-skips_at-clause-found
-returns-then-not-skips_at-clause-found c =
-    let d : Direction = way_of c.args.way in
-    let k : ℕ = skipped c.args.input.now c.loop-later.later in
-    let same : c.loop-later.later ≡ later d k c.args.input.now = c.loop-later.invariant.same in
-    let ahead : c.loop-later.later.start ≤ c.loop-later.later.end = grind (arith, common_steps, c.loop-later-test.ensures.done) in
-    let within : c.args.input.now.start + k ≤ c.args.input.now.end = skipped_within c.args.input.now c.loop-later.later c.loop-later.invariant.few ahead in
-    let found : IsFound d c.args.self.now c.args.input.now (Some (with_base c.in-Some.half c.loop-later.later.start)) = finds_some d c.args.self.now c.args.input.now c.loop-later.later k same c.loop-later.invariant.tries within c.in-Some.half (sym c.in-Some.is ∙ c.in-Ok.ensures.answer.found) c.in-Ok.ensures.answer.clean (λ skips. subst (λ n. is_split c.loop-later.later.haystack n ≡ false) c.offset.ensures (c.if-not-skips_at.ensures.no refl skips)) in
-    subst (λ n. IsFound d c.args.self.now c.args.input.now (Some (with_base c.in-Some.half n))) (sym c.start.ensures.start) found
-
-pub returns-then-is_anchored-clause-found : goal.returns-then-is_anchored-clause-found
-returns-then-is_anchored-clause-found c =
-    let d : Direction = way_of c.args.way in
-    let k : ℕ = skipped c.args.input.now c.loop-later.later in
-    let same : c.loop-later.later ≡ later d k c.args.input.now = c.loop-later.invariant.same in
-    let ahead : c.loop-later.later.start ≤ c.loop-later.later.end = grind (arith, common_steps, c.loop-later-test.ensures.done) in
-    let within : c.args.input.now.start + k ≤ c.args.input.now.end = skipped_within c.args.input.now c.loop-later.later c.loop-later.invariant.few ahead in
-    finds_split d c.args.self.now c.args.input.now c.loop-later.later k same c.loop-later.invariant.tries within c.in-Some.half (sym c.in-Some.is ∙ c.in-Ok.ensures.answer.found) c.in-Ok.ensures.answer.clean (c.if-not-skips_at.ensures.yes refl).0 (subst (λ n. is_split c.loop-later.later.haystack n ≡ true) c.offset.ensures (c.if-not-skips_at.ensures.yes refl).1) (λ e. c.if-is_anchored.ensures.yes refl (c.get_anchored.ensures ∙ (ap (λ (i : Input). i.anchored) same ∙ (later_anchored d k c.args.input.now ∙ e))))
-
-pub loop-later-init : goal.loop-later-init
-loop-later-init c =
-    let d : Direction = way_of c.args.way in
-    let whole : c.copied-later.result ≡ c.args.input.now = c.copied-later.ensures in
-    let none : 0 ≡ skipped c.args.input.now c.copied-later.result = subst (λ (i : Input). 0 ≡ skipped c.args.input.now i) (sym whole) (omega arith) in
-    record {
-      of = c.requires;
-      few = subst (λ (i : Input). i.end + 1 - i.start ≤ c.args.input.now.end + 1 - c.args.input.now.start) (sym whole) (omega arith);
-      same = subst (λ n. c.copied-later.result ≡ later d n c.args.input.now) none (whole ∙ later_none d c.args.input.now);
-      first = λ u. sym none;
-      grown = grown_same c.args.cache.now c.args.cache.now refl;
-      known = λ knows. refl;
-      learned = λ nothing. subst (LearnedSpans d c.args.self.now c.args.cache.now.store c.args.input.now) none (λ j less. absurd (omega (arith, less)));
-      bounded = subst (λ n. AreCounted d c.args.self.now c.args.input.now n c.args.cache.now c.args.cache.now) none (record { each = refl; most = omega arith; started = λ begins. omega arith });
-      done = λ e. refl;
-      progress = subst (λ n. HaveEnded d c.args.self.now c.args.input.now n c.args.cache.now.store c.args.cache.now.store) none refl;
-      tries = subst (λ n. Tries (Finds d c.args.self.now) (Skips c.args.self.now) d c.args.input.now n) none (inl refl, λ j less. absurd (omega (arith, less)));
-    }
-
-pub loop-later-preserved : goal.loop-later-preserved
-loop-later-preserved c =
-    let d : Direction = way_of c.args.way in
-    let k : ℕ = skipped c.args.input.now c.loop-later.later in
-    let same : c.loop-later.later ≡ later d k c.args.input.now = c.loop-later.invariant.same in
-    let ahead : c.loop-later.later.start ≤ c.loop-later.later.end = grind (arith, common_steps, c.loop-later-test.ensures.done) in
-    let within : c.args.input.now.start + k ≤ c.args.input.now.end = skipped_within c.args.input.now c.loop-later.later c.loop-later.invariant.few ahead in
-    let mode : c.args.input.now.anchored ≡ No = sym (c.get_anchored.ensures ∙ (ap (λ (i : Input). i.anchored) same ∙ later_anchored d k c.args.input.now)) ∙ c.if-is_anchored.ensures.no refl in
-    let next : suc k ≡ skipped c.args.input.now c.begin_later.new.input = skipped_more c.args.input.now c.loop-later.later c.loop-later.invariant.few ahead c.begin_later.new.input (c.if-not-begin_later.ensures.shorter refl) in
-    record {
-      of = c.in-Ok.ensures.of;
-      few = omega (arith, c.if-not-begin_later.ensures.shorter refl, c.loop-later.invariant.few);
-      same = subst (λ n. c.begin_later.new.input ≡ later d n c.args.input.now) next (c.if-not-begin_later.ensures.later refl ∙ (ap (later d 1) same ∙ later_on d k c.args.input.now));
-      first = λ u. absurd (false_true (sym u ∙ (ap (supports c.args.self.now) (sym (ap (λ (i : Input). i.anchored) same ∙ later_anchored d k c.args.input.now)) ∙ c.in-Ok.ensures.answer.supported)));
-      grown = grown_trans c.args.cache.now c.loop-later.cache c.pass.new.cache c.loop-later.invariant.grown c.in-Ok.ensures.effect.grown;
-      known = spans_known d c.args.self.now c.args.input.now k c.loop-later.invariant.tries c.args.cache.now c.loop-later.cache c.loop-later.invariant.grown c.loop-later.invariant.known c.loop-later.invariant.learned c.loop-later.invariant.bounded c.loop-later.invariant.progress c.loop-later.later same within c.pass.new.cache _ c.in-Ok.ensures.effect;
-      learned = subst (λ n. ClearedNothing c.args.cache.now.store c.pass.new.cache.store → LearnedSpans d c.args.self.now c.pass.new.cache.store c.args.input.now n) next
-          (spans_learned d c.args.self.now c.args.input.now k c.loop-later.invariant.tries c.args.cache.now c.loop-later.cache c.loop-later.invariant.grown c.loop-later.invariant.known c.loop-later.invariant.learned c.loop-later.invariant.bounded c.loop-later.invariant.progress c.loop-later.later same within c.pass.new.cache _ c.in-Ok.ensures.effect);
-      bounded = subst (λ n. AreCounted d c.args.self.now c.args.input.now n c.args.cache.now c.pass.new.cache) next
-          (spans_counted d c.args.self.now c.args.input.now k c.loop-later.invariant.tries c.args.cache.now c.loop-later.cache c.loop-later.invariant.grown c.loop-later.invariant.known c.loop-later.invariant.learned c.loop-later.invariant.bounded c.loop-later.invariant.progress c.loop-later.later same within c.pass.new.cache _ c.in-Ok.ensures.effect);
-      done = λ e. absurd (omega (arith, e, next));
-      progress = subst (λ n. HaveEnded d c.args.self.now c.args.input.now n c.args.cache.now.store c.pass.new.cache.store) next
-          (spans_ended d c.args.self.now c.args.input.now k c.loop-later.invariant.tries c.args.cache.now c.loop-later.cache c.loop-later.invariant.grown c.loop-later.invariant.known c.loop-later.invariant.learned c.loop-later.invariant.bounded c.loop-later.invariant.progress c.loop-later.later same within c.pass.new.cache _ c.in-Ok.ensures.effect);
-      tries = subst (λ n. Tries (Finds d c.args.self.now) (Skips c.args.self.now) d c.args.input.now n) next
-          (tries_on d c.args.self.now c.args.input.now c.loop-later.later k same c.loop-later.invariant.tries within c.in-Some.half (sym c.in-Some.is ∙ c.in-Ok.ensures.answer.found) c.in-Ok.ensures.answer.clean (c.if-not-skips_at.ensures.yes refl).0 (subst (λ n. is_split c.loop-later.later.haystack n ≡ true) c.offset.ensures (c.if-not-skips_at.ensures.yes refl).1) mode);
-    }
-
-pub returns-then-not-begin_later-clause-found : goal.returns-then-not-begin_later-clause-found
-returns-then-not-begin_later-clause-found c =
-    let d : Direction = way_of c.args.way in
-    let k : ℕ = skipped c.args.input.now c.loop-later.later in
-    let same : c.loop-later.later ≡ later d k c.args.input.now = c.loop-later.invariant.same in
-    let ahead : c.loop-later.later.start ≤ c.loop-later.later.end = grind (arith, common_steps, c.loop-later-test.ensures.done) in
-    let within : c.args.input.now.start + k ≤ c.args.input.now.end = skipped_within c.args.input.now c.loop-later.later c.loop-later.invariant.few ahead in
-    let mode : c.args.input.now.anchored ≡ No = sym (c.get_anchored.ensures ∙ (ap (λ (i : Input). i.anchored) same ∙ later_anchored d k c.args.input.now)) ∙ c.if-is_anchored.ensures.no refl in
-    finds_no_more d c.args.self.now c.args.input.now (suc k)
-    (tries_on d c.args.self.now c.args.input.now c.loop-later.later k same c.loop-later.invariant.tries within c.in-Some.half (sym c.in-Some.is ∙ c.in-Ok.ensures.answer.found) c.in-Ok.ensures.answer.clean (c.if-not-skips_at.ensures.yes refl).0 (subst (λ n. is_split c.loop-later.later.haystack n ≡ true) c.offset.ensures (c.if-not-skips_at.ensures.yes refl).1) mode)
-    (skipped_last c.args.input.now c.loop-later.later c.loop-later.invariant.few ahead (c.if-not-begin_later.ensures.over refl))
-
-pub returns-clause-found : goal.returns-clause-found
-returns-clause-found c =
-    let done : c.loop-later.later.end < c.loop-later.later.start = grind (arith, common_steps, c.loop-later-test.ensures.done) in
-    finds_no_more (way_of c.args.way) c.args.self.now c.args.input.now (skipped c.args.input.now c.loop-later.later) c.loop-later.invariant.tries (omega (arith, done))
-
-pub returns-then-not-skips_at-clause-upto : goal.returns-then-not-skips_at-clause-upto
-returns-then-not-skips_at-clause-upto c = λ forward.
-    let d : Direction = way_of c.args.way in
-    let k : ℕ = skipped c.args.input.now c.loop-later.later in
-    let same : c.loop-later.later ≡ later d k c.args.input.now = c.loop-later.invariant.same in
-    let ahead : c.loop-later.later.start ≤ c.loop-later.later.end = grind (arith, common_steps, c.loop-later-test.ensures.done) in
-    let within : c.args.input.now.start + k ≤ c.args.input.now.end = skipped_within c.args.input.now c.loop-later.later c.loop-later.invariant.few ahead in
-    let base : suc k ≡ c.start.result - c.args.input.now.start + 1 = omega (arith, c.start.ensures.start, later_start d k c.args.input.now c.loop-later.later same forward) in
-    subst (λ n. IsCostOfPasses Forward c.args.self.now c.args.input.now n c.args.cache.now c.pass.new.cache) base
-    (subst (λ (e : Direction). IsCostOfPasses e c.args.self.now c.args.input.now (suc k) c.args.cache.now c.pass.new.cache) forward
-    (spans_cost d c.args.self.now c.args.input.now k c.loop-later.invariant.tries c.args.cache.now c.loop-later.cache c.loop-later.invariant.grown c.loop-later.invariant.known c.loop-later.invariant.learned c.loop-later.invariant.bounded c.loop-later.invariant.progress c.loop-later.later same within c.pass.new.cache _ c.in-Ok.ensures.effect))
+    subst (λ (i : Input). IsRefused (way_of c.args.way) c.args.self.now c.search_skipping.new.cache.store i c.in-Err.error) (same_input c.args.input.now c.haystack.result.now c.get_span.result.start c.get_span.result.end c.get_anchored.result c.get_earliest.result c.haystack.ensures.same c.get_span.ensures.start c.get_span.ensures.end c.get_anchored.ensures c.get_earliest.ensures) c.in-Err.ensures.refusal
 
 pub returns-in-Err-clause-effect : goal.returns-in-Err-clause-effect
 returns-in-Err-clause-effect c =
-    let d : Direction = way_of c.args.way in
-    let k : ℕ = skipped c.args.input.now c.loop-later.later in
-    let same : c.loop-later.later ≡ later d k c.args.input.now = c.loop-later.invariant.same in
-    let ahead : c.loop-later.later.start ≤ c.loop-later.later.end = grind (arith, common_steps, c.loop-later-test.ensures.done) in
-    let within : c.args.input.now.start + k ≤ c.args.input.now.end = skipped_within c.args.input.now c.loop-later.later c.loop-later.invariant.few ahead in
-    (effect_refused d c.args.self.now c.args.input.now k c.loop-later.invariant.tries c.args.cache.now c.loop-later.cache c.loop-later.invariant.grown c.loop-later.invariant.known c.loop-later.invariant.learned c.loop-later.invariant.bounded c.loop-later.invariant.progress
-    c.loop-later.later same within c.pass.new.cache c.in-Err.error c.in-Err.ensures.effect)
+    subst (λ (i : Input). IsSearchEffect {T = Option (HalfMatch × ℕ)} (way_of c.args.way) c.args.self.now i c.args.cache.now c.search_skipping.new.cache (Err c.in-Err.error)) (same_input c.args.input.now c.haystack.result.now c.get_span.result.start c.get_span.result.end c.get_anchored.result c.get_earliest.result c.haystack.ensures.same c.get_span.ensures.start c.get_span.ensures.end c.get_anchored.ensures c.get_earliest.ensures) c.in-Err.ensures.effect
 
-pub returns-in_default-clause-effect : goal.returns-in_default-clause-effect
-returns-in_default-clause-effect c =
+pub returns-in-Ok-Some-clause-found : goal.returns-in-Ok-Some-clause-found
+returns-in-Ok-Some-clause-found c =
     let d : Direction = way_of c.args.way in
-    let k : ℕ = skipped c.args.input.now c.loop-later.later in
-    let same : c.loop-later.later ≡ later d k c.args.input.now = c.loop-later.invariant.same in
-    let ahead : c.loop-later.later.start ≤ c.loop-later.later.end = grind (arith, common_steps, c.loop-later-test.ensures.done) in
-    let within : c.args.input.now.start + k ≤ c.args.input.now.end = skipped_within c.args.input.now c.loop-later.later c.loop-later.invariant.few ahead in
-    effect_after d c.args.self.now c.args.input.now k c.loop-later.invariant.tries c.args.cache.now c.loop-later.cache c.loop-later.invariant.grown c.loop-later.invariant.known c.loop-later.invariant.learned c.loop-later.invariant.bounded c.loop-later.invariant.progress
-    c.loop-later.later same within c.pass.new.cache _ c.in-Ok.ensures.effect _
-    (λ j less tried past. none_stops d c.args.self.now c.args.input.now c.loop-later.later k same c.loop-later.invariant.tries within (sym c.in_default.is ∙ c.in-Ok.ensures.answer.found) j less tried)
+    let same : c.args.input.now ≡ later d 0 c.args.input.now = later_none d c.args.input.now in
+    let ahead : c.args.input.now.start ≤ c.args.input.now.end = grind (arith, common_steps, c.if-is_done.ensures) in
+    let within : c.args.input.now.start + 0 ≤ c.args.input.now.end = omega (arith, ahead) in
+    let tries : Tries (Finds d c.args.self.now) (Skips c.args.self.now) d c.args.input.now 0 = (inl refl, λ j less. absurd (omega (arith, less))) in
+    let found : IsFound d c.args.self.now c.args.input.now (Some (with_base c.in-Ok-Some.half c.args.input.now.start)) =
+    finds_some d c.args.self.now c.args.input.now c.args.input.now 0 same tries within c.in-Ok-Some.half (sym c.in-Ok-Some.field-0-is ∙ c.in-Ok-Some.ensures.answer.found) c.in-Ok-Some.ensures.answer.clean (λ skips. absurd (c.if-skips.ensures.no refl skips)) in
+    subst (λ n. IsFound d c.args.self.now c.args.input.now (Some (with_base c.in-Ok-Some.half n))) (sym c.start.ensures.start) found
 
-pub returns-then-not-skips_at-clause-effect : goal.returns-then-not-skips_at-clause-effect
-returns-then-not-skips_at-clause-effect c =
+pub returns-in-Ok-Some-clause-effect : goal.returns-in-Ok-Some-clause-effect
+returns-in-Ok-Some-clause-effect c =
     let d : Direction = way_of c.args.way in
-    let k : ℕ = skipped c.args.input.now c.loop-later.later in
-    let same : c.loop-later.later ≡ later d k c.args.input.now = c.loop-later.invariant.same in
-    let ahead : c.loop-later.later.start ≤ c.loop-later.later.end = grind (arith, common_steps, c.loop-later-test.ensures.done) in
-    let within : c.args.input.now.start + k ≤ c.args.input.now.end = skipped_within c.args.input.now c.loop-later.later c.loop-later.invariant.few ahead in
-    effect_after d c.args.self.now c.args.input.now k c.loop-later.invariant.tries c.args.cache.now c.loop-later.cache c.loop-later.invariant.grown c.loop-later.invariant.known c.loop-later.invariant.learned c.loop-later.invariant.bounded c.loop-later.invariant.progress
-    c.loop-later.later same within c.pass.new.cache _ c.in-Ok.ensures.effect _
-    (λ j less tried past. some_stops d c.args.self.now c.args.input.now c.loop-later.later k same c.loop-later.invariant.tries within c.in-Some.half (sym c.in-Some.is ∙ c.in-Ok.ensures.answer.found) (λ skips. subst (λ n. is_split c.loop-later.later.haystack n ≡ false) c.offset.ensures (c.if-not-skips_at.ensures.no refl skips)) j less tried)
+    let same : c.args.input.now ≡ later d 0 c.args.input.now = later_none d c.args.input.now in
+    let ahead : c.args.input.now.start ≤ c.args.input.now.end = grind (arith, common_steps, c.if-is_done.ensures) in
+    let within : c.args.input.now.start + 0 ≤ c.args.input.now.end = omega (arith, ahead) in
+    let tries : Tries (Finds d c.args.self.now) (Skips c.args.self.now) d c.args.input.now 0 = (inl refl, λ j less. absurd (omega (arith, less))) in
+    effect_after d c.args.self.now c.args.input.now 0 tries c.args.cache.now c.args.cache.now (grown_same c.args.cache.now c.args.cache.now refl) (λ knows. refl) (λ nothing j less. absurd (omega (arith, less))) (record { each = refl; most = omega arith; started = λ begins. omega arith }) refl
+    c.args.input.now same within c.pass.new.cache _ c.in-Ok-Some.ensures.effect _
+    (λ j less tried past. some_stops d c.args.self.now c.args.input.now c.args.input.now 0 same tries within c.in-Ok-Some.half (sym c.in-Ok-Some.field-0-is ∙ c.in-Ok-Some.ensures.answer.found) (λ skips. absurd (c.if-skips.ensures.no refl skips)) j less tried)
 
-pub returns-then-is_anchored-clause-effect : goal.returns-then-is_anchored-clause-effect
-returns-then-is_anchored-clause-effect c =
+pub returns-in-Ok-Some-clause-upto : goal.returns-in-Ok-Some-clause-upto
+returns-in-Ok-Some-clause-upto c = λ forward.
     let d : Direction = way_of c.args.way in
-    let k : ℕ = skipped c.args.input.now c.loop-later.later in
-    let same : c.loop-later.later ≡ later d k c.args.input.now = c.loop-later.invariant.same in
-    let ahead : c.loop-later.later.start ≤ c.loop-later.later.end = grind (arith, common_steps, c.loop-later-test.ensures.done) in
-    let within : c.args.input.now.start + k ≤ c.args.input.now.end = skipped_within c.args.input.now c.loop-later.later c.loop-later.invariant.few ahead in
-    effect_after d c.args.self.now c.args.input.now k c.loop-later.invariant.tries c.args.cache.now c.loop-later.cache c.loop-later.invariant.grown c.loop-later.invariant.known c.loop-later.invariant.learned c.loop-later.invariant.bounded c.loop-later.invariant.progress
-    c.loop-later.later same within c.pass.new.cache _ c.in-Ok.ensures.effect _
-    (λ j less tried past. anchored_stops d c.args.self.now c.args.input.now c.loop-later.later k same c.loop-later.invariant.tries within (λ e. c.if-is_anchored.ensures.yes refl (c.get_anchored.ensures ∙ (ap (λ (i : Input). i.anchored) same ∙ (later_anchored d k c.args.input.now ∙ e)))) j less tried)
+    let same : c.args.input.now ≡ later d 0 c.args.input.now = later_none d c.args.input.now in
+    let ahead : c.args.input.now.start ≤ c.args.input.now.end = grind (arith, common_steps, c.if-is_done.ensures) in
+    let within : c.args.input.now.start + 0 ≤ c.args.input.now.end = omega (arith, ahead) in
+    let tries : Tries (Finds d c.args.self.now) (Skips c.args.self.now) d c.args.input.now 0 = (inl refl, λ j less. absurd (omega (arith, less))) in
+    let base : 1 ≡ c.start.result - c.args.input.now.start + 1 = omega (arith, c.start.ensures.start) in
+    subst (λ n. IsCostOfPasses Forward c.args.self.now c.args.input.now n c.args.cache.now c.pass.new.cache) base
+    (subst (λ (e : Direction). IsCostOfPasses e c.args.self.now c.args.input.now 1 c.args.cache.now c.pass.new.cache) forward
+    (spans_cost d c.args.self.now c.args.input.now 0 tries c.args.cache.now c.args.cache.now (grown_same c.args.cache.now c.args.cache.now refl) (λ knows. refl) (λ nothing j less. absurd (omega (arith, less))) (record { each = refl; most = omega arith; started = λ begins. omega arith }) refl
+    c.args.input.now same within c.pass.new.cache _ c.in-Ok-Some.ensures.effect))
 
-pub returns-then-not-begin_later-clause-effect : goal.returns-then-not-begin_later-clause-effect
-returns-then-not-begin_later-clause-effect c =
+pub returns-in-Ok-None-clause-found : goal.returns-in-Ok-None-clause-found
+returns-in-Ok-None-clause-found c =
     let d : Direction = way_of c.args.way in
-    let k : ℕ = skipped c.args.input.now c.loop-later.later in
-    let same : c.loop-later.later ≡ later d k c.args.input.now = c.loop-later.invariant.same in
-    let ahead : c.loop-later.later.start ≤ c.loop-later.later.end = grind (arith, common_steps, c.loop-later-test.ensures.done) in
-    let within : c.args.input.now.start + k ≤ c.args.input.now.end = skipped_within c.args.input.now c.loop-later.later c.loop-later.invariant.few ahead in
-    let over : c.args.input.now.end < c.args.input.now.start + suc k = skipped_last c.args.input.now c.loop-later.later c.loop-later.invariant.few ahead (c.if-not-begin_later.ensures.over refl) in
-    effect_after d c.args.self.now c.args.input.now k c.loop-later.invariant.tries c.args.cache.now c.loop-later.cache c.loop-later.invariant.grown c.loop-later.invariant.known c.loop-later.invariant.learned c.loop-later.invariant.bounded c.loop-later.invariant.progress
-    c.loop-later.later same within c.pass.new.cache _ c.in-Ok.ensures.effect _
-    (λ j less tried past. omega (arith, less, past, over))
+    let same : c.args.input.now ≡ later d 0 c.args.input.now = later_none d c.args.input.now in
+    let ahead : c.args.input.now.start ≤ c.args.input.now.end = grind (arith, common_steps, c.if-is_done.ensures) in
+    let within : c.args.input.now.start + 0 ≤ c.args.input.now.end = omega (arith, ahead) in
+    let tries : Tries (Finds d c.args.self.now) (Skips c.args.self.now) d c.args.input.now 0 = (inl refl, λ j less. absurd (omega (arith, less))) in
+    finds_none d c.args.self.now c.args.input.now c.args.input.now 0 same tries within (sym c.in-Ok-None.field-0-is ∙ c.in-Ok-None.ensures.answer.found) c.in-Ok-None.ensures.answer.clean
 
-pub returns-clause-effect : goal.returns-clause-effect
-returns-clause-effect c =
+pub returns-in-Ok-None-clause-effect : goal.returns-in-Ok-None-clause-effect
+returns-in-Ok-None-clause-effect c =
     let d : Direction = way_of c.args.way in
-    let k : ℕ = skipped c.args.input.now c.loop-later.later in
-    let done : c.loop-later.later.end < c.loop-later.later.start = grind (arith, common_steps, c.loop-later-test.ensures.done) in
-    effect_before d c.args.self.now c.args.input.now k c.loop-later.invariant.tries c.args.cache.now c.loop-later.cache c.loop-later.invariant.grown c.loop-later.invariant.known c.loop-later.invariant.learned c.loop-later.invariant.bounded c.loop-later.invariant.progress _
-    c.loop-later.invariant.done (omega (arith, done))
+    let same : c.args.input.now ≡ later d 0 c.args.input.now = later_none d c.args.input.now in
+    let ahead : c.args.input.now.start ≤ c.args.input.now.end = grind (arith, common_steps, c.if-is_done.ensures) in
+    let within : c.args.input.now.start + 0 ≤ c.args.input.now.end = omega (arith, ahead) in
+    let tries : Tries (Finds d c.args.self.now) (Skips c.args.self.now) d c.args.input.now 0 = (inl refl, λ j less. absurd (omega (arith, less))) in
+    effect_after d c.args.self.now c.args.input.now 0 tries c.args.cache.now c.args.cache.now (grown_same c.args.cache.now c.args.cache.now refl) (λ knows. refl) (λ nothing j less. absurd (omega (arith, less))) (record { each = refl; most = omega arith; started = λ begins. omega arith }) refl
+    c.args.input.now same within c.pass.new.cache _ c.in-Ok-None.ensures.effect _
+    (λ j less tried past. none_stops d c.args.self.now c.args.input.now c.args.input.now 0 same tries within (sym c.in-Ok-None.field-0-is ∙ c.in-Ok-None.ensures.answer.found) j less tried)
 
-pub returns-in-Err-clause-unsupported : goal.returns-in-Err-clause-unsupported
-returns-in-Err-clause-unsupported c = λ u.
+pub returns-in-Err-pass-clause-refusal : goal.returns-in-Err-pass-clause-refusal
+returns-in-Err-pass-clause-refusal c =
     let d : Direction = way_of c.args.way in
-    let here : c.loop-later.later ≡ c.args.input.now =
-    c.loop-later.invariant.same ∙ (ap (λ (n : ℕ). later d n c.args.input.now) (c.loop-later.invariant.first u.mode) ∙ sym (later_none d c.args.input.now)) in
-    (err_to (c.in-Err.ensures.unsupported (subst (IsUnsupported d c.args.self.now) (sym here) u) ∙ ap (λ (i : Input). Err (unsupported_error i)) here))
+    let same : c.args.input.now ≡ later d 0 c.args.input.now = later_none d c.args.input.now in
+    let ahead : c.args.input.now.start ≤ c.args.input.now.end = grind (arith, common_steps, c.if-is_done.ensures) in
+    let within : c.args.input.now.start + 0 ≤ c.args.input.now.end = omega (arith, ahead) in
+    let tries : Tries (Finds d c.args.self.now) (Skips c.args.self.now) d c.args.input.now 0 = (inl refl, λ j less. absurd (omega (arith, less))) in
+    refuses d c.args.self.now c.args.input.now c.args.input.now 0 same tries within c.pass.new.cache.store c.in-Err-pass.error c.in-Err-pass.ensures.refusal
+
+pub returns-in-Err-pass-clause-effect : goal.returns-in-Err-pass-clause-effect
+returns-in-Err-pass-clause-effect c =
+    let d : Direction = way_of c.args.way in
+    let same : c.args.input.now ≡ later d 0 c.args.input.now = later_none d c.args.input.now in
+    let ahead : c.args.input.now.start ≤ c.args.input.now.end = grind (arith, common_steps, c.if-is_done.ensures) in
+    let within : c.args.input.now.start + 0 ≤ c.args.input.now.end = omega (arith, ahead) in
+    let tries : Tries (Finds d c.args.self.now) (Skips c.args.self.now) d c.args.input.now 0 = (inl refl, λ j less. absurd (omega (arith, less))) in
+    effect_refused d c.args.self.now c.args.input.now 0 tries c.args.cache.now c.args.cache.now (grown_same c.args.cache.now c.args.cache.now refl) (λ knows. refl) (λ nothing j less. absurd (omega (arith, less))) (record { each = refl; most = omega arith; started = λ begins. omega arith }) refl
+    c.args.input.now same within c.pass.new.cache c.in-Err-pass.error c.in-Err-pass.ensures.effect

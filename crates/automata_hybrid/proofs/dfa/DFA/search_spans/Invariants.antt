@@ -10,7 +10,7 @@ use Rattle.automata_hybrid.specs.Walks.State.{way_of}
 use Rattle.automata_hybrid.proofs.Searches.Costs.{AreCounted}
 use Rattle.automata_hybrid.proofs.Searches.Directions.{skipped}
 use Rattle.automata_hybrid.proofs.Searches.Cached.{LearnedSpans}
-use Rattle.automata_hybrid.proofs.dfa.DFA.search.Given as goal
+use Rattle.automata_hybrid.proofs.dfa.DFA.search_spans.Given as goal
 
 abbrev pub invariant-loop-later : goal.invariant-loop-later
 invariant-loop-later l = record {
