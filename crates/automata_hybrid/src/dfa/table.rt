@@ -134,6 +134,7 @@ impl Table {
     }
 
     /// Adds a row for a state that the table lacks, whose accounted bytes these are. A refusal changes nothing.
+    #[inline(always)]
     pub fn add(
         &mut self,
         state: State,
