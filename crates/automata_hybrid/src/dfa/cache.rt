@@ -142,6 +142,7 @@ impl Cache {
     }
 
     /// What the cache has for the state of a key, or the state itself, to be added. The key's room is used again.
+    #[inline(always)]
     pub(crate) fn resolve(&mut self, dfa: &DFA, key: Key) -> Result<Found, AllocError>
         ensures found { IfOk result (IsLookedUp self.old.store.table key) }
         ensures same { self.new ≡ self.old }

@@ -133,6 +133,7 @@ impl Table {
     }
 
     /// Adds a row for a state that the table lacks, whose accounted bytes these are. An error changes nothing.
+    #[inline(always)]
     pub fn add(
         &mut self,
         state: State,

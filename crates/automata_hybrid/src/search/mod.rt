@@ -77,11 +77,7 @@ impl DFA {
         ensures yes { result ≡ true → Skips self.now × (is_split input.now.haystack offset ≡ true) }
         ensures no { result ≡ false → Skips self.now → is_split input.now.haystack offset ≡ false }
     {
-        let nfa = self.get_nfa();
-        if !nfa.is_utf8() {
-            return false;
-        }
-        if !nfa.has_empty() {
+        if !self.skips() {
             return false;
         }
         splits(input, offset)

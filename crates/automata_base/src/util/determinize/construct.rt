@@ -78,6 +78,7 @@ fn has_any(list: &[StateID]) -> bool
 }
 
 /// Makes a powerset state of a closure, whose patterns are set before.
+#[inline(always)]
 fn fill(nfa: &NFA, set: &SparseSet, known: LookSet, prev: Option<u8>, parts: &mut Parts)
     requires whole { set.now.capacity ≡ length nfa.now.states }
     requires parts { IsPartsRoom nfa.now parts.old }

@@ -109,6 +109,7 @@ impl Scratch {
 }
 
 // A key of the parts, in the room of the bytes.
+#[inline(always)]
 fn key_of(alloc: Global, parts: &Parts, bytes: &mut Vec<u8>) -> Result<Key, AllocError>
     requires { Distinct parts.now.patterns.items }
     ensures { IfOk result (λ key. key ≡ powerset_of parts.now) }
