@@ -50,6 +50,7 @@ pub fn cost(state: &State) -> usize
 }
 
 /// Whether nothing can match after a state.
+#[inline(always)]
 pub fn is_dead(state: &State) -> bool
     ensures { IsTrue result ↔ (state.now ≡ dead) }
 {

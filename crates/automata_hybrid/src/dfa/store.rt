@@ -168,6 +168,7 @@ impl Store {
     }
 
     /// Adds a row for a state that fits, whose accounted bytes these are.
+    #[inline(always)]
     pub fn add_row(
         &mut self,
         state: State,
