@@ -295,13 +295,9 @@ fn haystack_of(alloc: Global, word: &[u8]) -> Result<Vec<u8>, LineError> {
 }
 
 fn push_pairs(haystack: &mut Vec<u8>, word: &[u8]) -> Result<(), LineError> {
-    let count = word.len() / 2;
-    haystack.reserve(count)?;
-    if word.len() % 2 != 0 {
-        return Err(LineError::Bad);
-    }
-    for at in 0..count {
-        let byte = hexadecimal_byte(&word[2 * at..2 * at + 2]).ok_or(LineError::Bad)?;
+    haystack.reserve(word.len() / 2)?;
+    for pair in word.chunks(2) {
+        let byte = hexadecimal_byte(pair).ok_or(LineError::Bad)?;
         haystack.push(byte).map_err(AllocError::from)?;
     }
     Ok(())
@@ -317,12 +313,8 @@ fn option_of(option: &[u8]) -> Option<(Keyword, Option<&[u8]>)> {
 
 /// The bytes before and after the first such byte.
 fn split_once(word: &[u8], separator: u8) -> Option<(&[u8], &[u8])> {
-    for at in 0..word.len() {
-        if word[at] == separator {
-            return Some((&word[..at], &word[at + 1..]));
-        }
-    }
-    None
+    let at = word.iter().position(|byte| *byte == separator)?;
+    Some((&word[..at], &word[at + 1..]))
 }
 
 /// The number that 1 to 20 decimal digits write, if it fits.

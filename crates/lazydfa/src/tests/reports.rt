@@ -70,37 +70,24 @@ pub trait Caller: Drop {
 
     /// Makes calls, and writes what they report.
     fn report(&mut self, rt: &impl Host, calls: &[Self::Call], text: &mut String) {
-        report_each(rt, self, calls, text);
+        for call in calls {
+            write_reported(rt, text, &self.answer(rt.alloc(), *call));
+        }
     }
 
     /// Makes the calls of a turn.
     fn take(&mut self, rt: &impl Host, row: &Short<Self::Of, Self::Call>, turns: &mut Turns) {
-        take_each(rt, self, row, turns);
-    }
-}
-
-fn report_each<T: Caller>(rt: &impl Host, caller: &mut T, calls: &[T::Call], text: &mut String) {
-    for call in calls {
-        write_reported(rt, text, &caller.answer(rt.alloc(), *call));
-    }
-}
-
-fn take_each<T: Caller>(
-    rt: &impl Host,
-    caller: &mut T,
-    row: &Short<T::Of, T::Call>,
-    turns: &mut Turns,
-) {
-    for call in row.3 {
-        turns.hear(rt, &caller.answer(rt.alloc(), *call));
-    }
-    turns.lend(rt);
-    for (number, due) in row.4.iter().enumerate() {
-        turns.hear(rt, &caller.answer(rt.alloc(), due.0));
-        if turns.refuses(rt, number, due.1, row.5) {
-            turns.hear(rt, &caller.answer(rt.alloc(), due.0));
+        for call in row.3 {
+            turns.hear(rt, &self.answer(rt.alloc(), *call));
         }
-        turns.has_reported(rt, due.1, row.0);
+        turns.lend(rt);
+        for (number, due) in row.4.iter().enumerate() {
+            turns.hear(rt, &self.answer(rt.alloc(), due.0));
+            if turns.refuses(rt, number, due.1, row.5) {
+                turns.hear(rt, &self.answer(rt.alloc(), due.0));
+            }
+            turns.has_reported(rt, due.1, row.0);
+        }
     }
 }
 
