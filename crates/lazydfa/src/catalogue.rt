@@ -36,7 +36,7 @@ pub enum Entry {
     Bound,
     /// A line end, by CRLF.
     Crlf,
-    /// The empty pattern at each offset, always anchored, in UTF-8 mode.
+    /// `(?s-u:.)*?`, always anchored, in UTF-8 mode: any bytes, as few as can be.
     Any,
     /// `[a-z]+` and `[0-9]+`.
     Runs,
