@@ -10,7 +10,7 @@ use super::reported::{Counted, Reported, letter};
 use super::reports::{Automaton, Caller};
 use regex_automata::hybrid::dfa::{Cache, DFA};
 use regex_automata::hybrid::{BuildError, LazyStateID, SearchError, StartError, StepError};
-use regex_automata::nfa::thompson::NFA;
+use regex_automata::nfa::thompson::{NFA, ReverseError};
 use regex_automata::util::search::{Anchored, HalfMatch, Input};
 use regex_automata::util::start;
 use std::alloc::{AllocError, Global};
@@ -26,6 +26,8 @@ pub enum Call {
     FindAnchored(&'static str, usize, usize),
     /// Searches a piece that is repeated so often.
     FindRepeated(&'static str, usize),
+    /// The same so often, each time from the last end on: what the last search found.
+    FindEach(&'static str, usize),
     /// Searches a mebibyte of letters `a` and `b` of a fixed generator.
     FindLetters,
     /// The same as `FindIn`, forward, with the offset where the last of its spans began.
@@ -60,6 +62,7 @@ pub enum Call {
     Patterns,
     PatternsOfNfaCopy,
     PatternsOfCopy,
+    PatternsOfReversed,
     /// The memory of the DFA beside its NFA.
     Memory,
     Classes,
@@ -116,8 +119,9 @@ impl Bench {
                 start,
                 end,
             )),
-            Call::FindRepeated(piece, count) => self.find_made(repeated(alloc, piece, count)),
-            Call::FindLetters => self.find_made(letters(alloc)),
+            Call::FindRepeated(piece, count) => self.find_made(repeated(alloc, piece, count), 1),
+            Call::FindEach(piece, count) => self.find_made(repeated(alloc, piece, count), count),
+            Call::FindLetters => self.find_made(letters(alloc), 1),
             Call::StartOn(mode, haystack) => {
                 self.start_on(&Input::new(haystack.as_bytes()).anchored(mode.anchored()))
             }
@@ -147,6 +151,7 @@ impl Bench {
             Call::Patterns => Reported::Number("", self.dfa.pattern_len(), ""),
             Call::PatternsOfNfaCopy => patterns_of(self.dfa.get_nfa().clone()),
             Call::PatternsOfCopy => lazy_patterns_of(self.dfa.clone()),
+            Call::PatternsOfReversed => patterns_of_reversed(self.dfa.get_nfa()),
             Call::Memory => Reported::Number("", self.dfa.memory_usage(), ""),
             Call::Classes => Reported::Number("", self.dfa.byte_classes().alphabet_len(), ""),
             Call::KeepsUtf8 => keeps_utf8(self.dfa.get_nfa()),
@@ -174,12 +179,24 @@ impl Bench {
         }
     }
 
-    /// Searches a haystack that was made for the call.
-    fn find_made(&mut self, made: Result<Vec<u8>, AllocError>) -> Reported {
+    /// Searches a haystack that was made for the call, so often.
+    fn find_made(&mut self, made: Result<Vec<u8>, AllocError>, times: usize) -> Reported {
         match made {
-            Ok(text) => self.find(&Input::new(text.as_slice())),
+            Ok(text) => Reported::Half(self.find_each(text.as_slice(), times)),
             Err(_) => Reported::Refused(BuildError::OutOfMemory),
         }
+    }
+
+    fn find_each(&mut self, text: &[u8], times: usize) -> Result<Option<HalfMatch>, SearchError> {
+        let mut found = Ok(None);
+        let mut start = 0usize;
+        for _ in 0..times {
+            found = self.search(&within(text, start, text.len()));
+            if let Ok(Some(half)) = found {
+                start = half.offset();
+            }
+        }
+        found
     }
 
     fn start_on(&mut self, input: &Input<'_>) -> Reported {
@@ -376,6 +393,14 @@ fn patterns_of(copy: Result<NFA, AllocError>) -> Reported {
     match copy {
         Ok(nfa) => Reported::Number("", nfa.pattern_len(), ""),
         Err(_) => Reported::Refused(BuildError::OutOfMemory),
+    }
+}
+
+fn patterns_of_reversed(nfa: &NFA) -> Reported {
+    match nfa.reversed() {
+        Ok(reversed) => Reported::Number("", reversed.pattern_len(), ""),
+        Err(ReverseError::OutOfMemory) => Reported::Refused(BuildError::OutOfMemory),
+        Err(_) => Reported::Word("another error"),
     }
 }
 

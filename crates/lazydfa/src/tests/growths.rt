@@ -8,9 +8,9 @@ use super::walker::{Over, Turn, Walked, Walker};
 use crate::catalogue::Entry;
 use Automaton::{Chain, Forward, Planned, Reverse};
 use Call::{
-    Brief, Classes, Counts, End, Find, FindIn, Known, Matched, Memory, Minimum, Patterns,
-    PatternsOfCopy, PatternsOfNfaCopy, Replace, Reset, Room, Start, StartIn, StartOn, State, Step,
-    Steps,
+    Brief, Classes, Counts, End, Find, FindIn, KeepsUtf8, Known, Matched, Memory, Minimum,
+    Patterns, PatternsOfCopy, PatternsOfNfaCopy, PatternsOfReversed, Replace, Reset, Room, Start,
+    StartIn, StartOn, State, Step, Steps,
 };
 use Mode::{Every, First, Of};
 use Over::{Span, Text};
@@ -71,6 +71,9 @@ const FULL: &str = "noclasses capacity=37281";
 const CALLS: &[Lazy] = &[
     ("a cache", WORDS, "", &[], &[(Replace, "-"), (Find("@foo bar"), "half 1 4")], &[(0, "out of memory")]),
     ("a search", WORDS, "", &[], &[(Find("@foo bar"), "half 1 4"), (Brief, "1082")], AT_ONCE),
+    ("whether an NFA keeps UTF-8", Forward(Entry::Snow), "", &[], &[(KeepsUtf8, "true")], ONCE),
+    ("and one that is read backward", Reverse(Entry::Snow), "", &[], &[(KeepsUtf8, "true")], ONCE),
+    ("the reversed NFA", WORDS, "", &[], &[(PatternsOfReversed, "2")], ONCE),
     ("a cache of a reverse DFA", WORDS_BACK, "", &[], &[(Replace, "-"), (Find("@foo bar"), "half 0 5")], ONCE),
     ("a reverse search", WORDS_BACK, "", &[], &[(Find("@foo bar"), "half 0 5"), (Brief, "1087")], &[(0, "memory")]),
     ("a start, though it was made before a reset", A16, FULL, &[Start(None), Reset], &[(Counts, "0 6677 0"),
@@ -215,6 +218,7 @@ const REGEXES: &[Regex] = &[
         (0, "match 1 0..4; reverse memory")]),
     ("a clone, which has the states", PAIR, "", &[Ask::Find(FOO)], &[(Ask::ReplaceByClone, "-"),
         (Ask::Find(FOO), "match 1 0..4"), (Ask::Find(b"bar"), "match 0 0..3")], ONCE),
+    ("a regex of one NFA", PAIR, "", &[], &[(Ask::PatternsOfAlone, "2")], ONCE),
     ("a search", PAIR, "noclasses", &[], &[(Ask::Search(FOO), "match 1 0..4")], AT_ONCE),
     ("a search back", PAIR, "noclasses", &[Ask::Forward(FOO)], &[(Ask::Find(FOO), "match 1 0..4")], AT_ONCE),
     ("whether there is a match", PAIR, "noclasses", &[], &[(Ask::Is(FOO), "true")], &[(0, "memory")]),

@@ -110,7 +110,7 @@ pub enum Ask {
     /// A search by a part of the cache that is lent for writing.
     Forward(&'static [u8]),
     Reverse(&'static [u8]),
-    /// Searches by both parts, lent at once: the pattern and the end of a match, and where it starts.
+    /// Searches by both parts, lent at once: of each the pattern, the offset, and the memory afterwards.
     Both(&'static [u8]),
     /// The cache is replaced by a new one.
     Replace,
@@ -130,6 +130,8 @@ pub enum Ask {
     Counts,
     /// How many patterns there are.
     Patterns,
+    /// How many a regex of the forward NFA alone has.
+    PatternsOfAlone,
 }
 
 /// A row of calls over a regex and its cache.
@@ -196,6 +198,10 @@ impl RegexBench {
             Ask::Memory => self.memory(),
             Ask::Counts => Reported::Parts(self.counts()),
             Ask::Patterns => Reported::Number("", self.regex.pattern_len(), ""),
+            Ask::PatternsOfAlone => match self.regex.forward().get_nfa().clone() {
+                Ok(nfa) => patterns_of(alone(nfa, Config::new())),
+                Err(_) => Reported::Refused(BuildError::OutOfMemory),
+            },
             _ => self.renew(ask),
         }
     }
@@ -323,7 +329,7 @@ impl RegexBench {
     /// By a clone of the cache.
     fn both(&self, input: &Input<'_>) -> Reported {
         match self.made(Ask::ReplaceByClone) {
-            Ok(mut cache) => reported_of_halves(halves(&self.regex, &mut cache, input)),
+            Ok(mut cache) => Reported::Parts(halves(&self.regex, &mut cache, input)),
             Err(_) => Reported::Refused(BuildError::OutOfMemory),
         }
     }
@@ -384,24 +390,30 @@ impl Caller for RegexBench {
     }
 }
 
-type Halves = [Result<Option<HalfMatch>, SearchError>; 2];
+fn patterns_of(built: Result<Regex, RegexBuildError>) -> Reported {
+    match built {
+        Ok(regex) => Reported::Number("", regex.pattern_len(), ""),
+        Err(RegexBuildError::OutOfMemory) => Reported::Refused(BuildError::OutOfMemory),
+        Err(_) => Reported::Word("another error"),
+    }
+}
 
 /// Where a match ends, by the forward part, and where one starts, by the reverse part.
-fn halves(regex: &Regex, cache: &mut Cache, input: &Input<'_>) -> Halves
+fn halves(regex: &Regex, cache: &mut Cache, input: &Input<'_>) -> [Counted; 2]
     requires { AreCachesOf cache.old regex.now }
 {
     let (forward, reverse) = cache.as_parts_mut();
     let end = regex.forward().try_search_fwd(forward, input);
     let start = regex.reverse().try_search_rev(reverse, input);
-    [end, start]
+    let (end_memory, start_memory) = (forward.memory_usage(), reverse.memory_usage());
+    [half_of(end, end_memory), half_of(start, start_memory)]
 }
 
-fn reported_of_halves(found: Halves) -> Reported {
+/// The pattern and the offset of a match that there is, and the memory that was used.
+fn half_of(found: Result<Option<HalfMatch>, SearchError>, memory: usize) -> Counted {
     match found {
-        [Ok(Some(end)), Ok(Some(start))] => {
-            Reported::Based(end.pattern().as_usize(), end.offset(), start.offset())
-        }
-        _ => Reported::Word("no match"),
+        Ok(Some(half)) => (half.pattern().as_usize(), half.offset(), memory),
+        _ => (0, 0, memory),
     }
 }
 

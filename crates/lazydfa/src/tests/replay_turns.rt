@@ -28,10 +28,13 @@ const DIGITS: Pair = Pair::Turned(Automaton::Planned(&Plan {
     starts: (0, 23), patterns: &[0],
 }));
 
+/// How many requests stand in front of the one in the middle.
+const MIDDLE: usize = 20;
+
 /// Requests of every kind. Up to the first reset regex 0 is current, so no reply of regex 1 stands there. They end over
 /// caches of regex 0 that have cached the transitions of `20`.
 #[rattlefmt::skip]
-const BEFORE: &[Row] = &[
+const BEFORE: [Row; MIDDLE] = [
     ("walk fwd 30303030303030303030303030303030303030303030", [&["half 0 22"], &[]]),
     ("walk fwd 303030303030303030303030", [&[], &[]]), ("walk rev 303030303030303030303030", [&[], &[]]),
     ("fwd 303030303030303030303030", [&["none"], &[]]), ("rev 303030303030303030303030", [&["none"], &[]]),
@@ -57,7 +60,7 @@ const NEEDS: &[Row] = &[
 
 /// Requests that need no more than those in front.
 #[rattlefmt::skip]
-const BEHIND: &[Row] = &[
+const BEHIND: [Row; 11] = [
     ("fwd 303030303030303030303030", [&["none"], &["half 1 12"]]), ("find 3230", [&["none"], &["match 1 0..2"]]),
     ("iter 3230", [&["iter"], &["iter 1 0..2"]]), ("which 2 3230", [&["patterns"], &["patterns 1"]]),
     ("step 2", [&[], &[]]), ("reset 1", [&[], &[]]), ("iter 6131", [&["iter"], &["iter 1 1..2"]]),
@@ -147,29 +150,24 @@ impl History {
     }
 }
 
-/// A row of the script that has this one in its middle.
-fn row_at(at: usize, middle: Row) -> Option<Row> {
-    let Some(behind) = at.checked_sub(BEFORE.len()) else {
-        return BEFORE.get(at).copied();
-    };
-    match behind.checked_sub(1) {
-        Some(number) => BEHIND.get(number).copied(),
-        None => Some(middle),
-    }
+/// The rows of the script that has this one in its middle.
+fn rows_around(middle: Row) -> [Row; 32] {
+    let mut rows = [middle; 32];
+    rows[..MIDDLE].copy_from_slice(&BEFORE);
+    rows[MIDDLE + 1..].copy_from_slice(&BEHIND);
+    rows
 }
 
-fn script_of(rt: &impl Host, middle: Row) -> Script {
+fn script_of(rt: &impl Host, rows: &[Row]) -> Script {
     let mut text = String::new(rt.alloc());
-    for at in 0..32usize {
-        if let Some(row) = row_at(at, middle) {
-            writeln!(text, "{}", row.0).expect(rt, "memory");
-        }
+    for row in rows {
+        writeln!(text, "{}", row.0).expect(rt, "memory");
     }
     Script::parse(rt.alloc(), text.as_bytes()).expect(rt, "a script")
 }
 
-/// The regexes, the requests of a script, and the row in its middle.
-type Asked<'a> = (&'a [Regex], &'a [Request<'a>], Row);
+/// The regexes, the requests of a script, and its rows.
+type Asked<'a> = (&'a [Regex], &'a [Request<'a>], &'a [Row]);
 
 /// What ran out of memory in the turns of a script: the list of the replies, the request in the middle alone, and
 /// requests.
@@ -186,7 +184,7 @@ impl Seen {
     fn compare(
         &mut self,
         rt: &impl Host,
-        (_, requests, middle): Asked<'_>,
+        (_, requests, rows): Asked<'_>,
         replies: &[Reply],
     ) -> usize {
         same_of(rt, &replies.len(), &requests.len(), &"the replies");
@@ -200,15 +198,15 @@ impl Seen {
             if let (Some(request), Some(reply), Some(row)) = (
                 requests.get(at),
                 replies.get(at),
-                row_at(at, middle),
+                rows.get(at),
             ) {
-                if history.is_refused(rt, request, row, reply) {
+                if history.is_refused(rt, request, *row, reply) {
                     self.requests[at] = true;
                     (count, last) = (count.saturating_add(1), at);
                 }
             }
         }
-        self.alone = self.alone || count == 1 && last == BEFORE.len();
+        self.alone = self.alone || count == 1 && last == MIDDLE;
         count
     }
 
@@ -220,7 +218,7 @@ impl Seen {
                 count = count.saturating_add(1);
             }
         }
-        self.script && self.requests[BEFORE.len().min(31)] && count >= least
+        self.script && self.requests[MIDDLE] && count >= least
     }
 }
 
@@ -262,9 +260,10 @@ fn refuse_in_turn(rt: &impl Host, asked: Asked<'_>, turns: &mut Turns, step: usi
 /// The same, with this request in the middle.
 fn refuse(rt: &impl Host, regexes: &[Regex], row: Row, turns: &mut Turns, step: usize) -> Seen {
     turns.release();
-    let script = script_of(rt, row);
+    let rows = rows_around(row);
+    let script = script_of(rt, &rows);
     let requests = script.requests(rt.alloc()).expect(rt, "memory");
-    refuse_in_turn(rt, (regexes, requests.as_slice(), row), turns, step)
+    refuse_in_turn(rt, (regexes, requests.as_slice(), &rows), turns, step)
 }
 
 /// Replays around each request of `NEEDS`, and counts those that run out of memory alone in some turn. Each does in

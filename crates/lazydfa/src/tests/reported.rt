@@ -35,7 +35,7 @@ pub enum Reported {
     Based(usize, usize, usize),
     /// Three numbers, with text after them.
     Counts(Counted, &'static str),
-    /// The counts of both parts.
+    /// Three numbers of each part.
     Parts([Counted; 2]),
     /// Items or tokens.
     Items([Item; 8]),

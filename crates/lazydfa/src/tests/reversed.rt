@@ -75,12 +75,23 @@ fn finds(rt: &impl Host, pair: Pair, options: &str, haystack: Text, expected: &s
 /// The spans are those that the reverse NFA of the catalogue gives, wherever the forward one keeps UTF-8.
 #[test]
 fn finds_what_the_catalogue_finds(rt: HostRuntime) {
-    for haystack in ["", "2018-12-24 ab", "@foo abccab\r\n4", "a\u{2603}x x"] {
-        compare_all(&rt, &Entry::ALL, haystack.as_bytes());
+    compare_all(&rt, &HAYSTACKS);
+}
+
+const HAYSTACKS: [&[u8]; 4] = [
+    b"",
+    b"2018-12-24 ab",
+    b"@foo abccab\r\n4",
+    b"a\xE2\x98\x83x x",
+];
+
+fn compare_all(rt: &impl Host, haystacks: &[&'static [u8]]) {
+    for haystack in haystacks.iter().copied() {
+        compare_entries(rt, &Entry::ALL, haystack);
     }
 }
 
-fn compare_all(rt: &impl Host, entries: &[Entry], haystack: &'static [u8]) {
+fn compare_entries(rt: &impl Host, entries: &[Entry], haystack: &'static [u8]) {
     for entry in entries.iter().copied() {
         if entry != Entry::Any {
             compare(rt, entry, haystack);

@@ -7,9 +7,9 @@ use super::texts::UNSUPPORTED;
 use crate::catalogue::Entry;
 use Automaton::{Always, Chain, Crowd, Forward, Never, Planned, Reverse};
 use Call::{
-    Brief, Classes, Counts, End, Find, FindAnchored, FindBased, FindEarliest, FindIn, FindLetters,
-    FindRepeated, KeepsUtf8, Known, Matched, Memory, Minimum, Patterns, ReplaceByNew, Reset,
-    ResetByCache, Start, StartIn, StartOn, State, Step, Steps,
+    Brief, Classes, Counts, End, Find, FindAnchored, FindBased, FindEach, FindEarliest, FindIn,
+    FindLetters, FindRepeated, KeepsUtf8, Known, Matched, Memory, Minimum, Patterns, ReplaceByNew,
+    Reset, ResetByCache, Start, StartIn, StartOn, State, Step, Steps,
 };
 use Mode::{Every, Of};
 use Shape::{Accept, Assert, Capture, Dense, Either, Range, Sparse, Union};
@@ -143,6 +143,8 @@ const LONG: &[Row] = &[
         &[FindRepeated("a", 3000), Counts], "half 0 3000, 0 273384 3000"),
     ("a mebibyte of which nearly each byte makes a new state, over a cache of the least capacity", Planned(&TWELFTH),
         "all capacity=0 skip", &[FindLetters, Counts], "half 0 1048574, 62993 1468 7"),
+    ("ten thousand dates, each found from the end of the one before", Forward(Entry::Date), "",
+        &[FindEach("2018-12-24 ", 10_000), Counts], "half 0 109999, 0 1745 119999"),
 ];
 
 #[rattlefmt::skip]

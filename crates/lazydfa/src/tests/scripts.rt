@@ -217,8 +217,12 @@ const LONG: &[Long] = &[
 
 #[test]
 fn answers_long_scripts(rt: HostRuntime) {
-    for row in LONG {
-        answer_long(&rt, row);
+    answer_all_long(&rt, LONG);
+}
+
+fn answer_all_long(rt: &impl Host, rows: &[Long]) {
+    for row in rows {
+        answer_long(rt, row);
     }
 }
 

@@ -136,7 +136,8 @@ const SETS: &[Row] = &[
 
 #[test]
 fn walks_and_sets_report_their_rows(rt: HostRuntime) {
-    for table in [PAIRS, CACHES, CLEARED, SETS] {
-        reports_all::<Walker>(&rt, table);
-    }
+    reports_all::<Walker>(&rt, PAIRS);
+    reports_all::<Walker>(&rt, CACHES);
+    reports_all::<Walker>(&rt, CLEARED);
+    reports_all::<Walker>(&rt, SETS);
 }
