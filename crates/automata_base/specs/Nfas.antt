@@ -9,6 +9,5 @@ pub mod Accepted
 pub mod Drafts
 pub mod Reach
 pub mod Utf8
-pub mod Decoders
 pub mod Mirrors
 pub mod ReversedSizes

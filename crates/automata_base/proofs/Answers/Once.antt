@@ -168,7 +168,7 @@ span_once d input (Some a) (Some b) s s' =
 abbrev pub FindsOnce : (Input → Option Match → Type 0) → Type 0
 FindsOnce Finds = (input : Input) (a b : Option Match) → Finds input a → Finds input b → a ≡ b
 
-next_none :
+pub next_none :
     (Finds : Input → Option Match → Type 0) (input : Input) (start : ℕ) (last : Option ℕ) (m : Match)
     → FindsOnce Finds → IsNextItem Finds input start last None → IsNextItem Finds input start last (Some m) → ⊥
 next_none Finds input start last m once (inl s) (inl s') = no_match (once (from start input) None (Some m) s s'.0)
@@ -178,7 +178,7 @@ next_none Finds input start last m once (inr s) (inl s') =
 next_none Finds input start last m once (inr s) (inr s') =
     no_match (once (from (suc start) input) None (Some m) s.3 s'.3)
 
-next_some :
+pub next_some :
     (Finds : Input → Option Match → Type 0) (input : Input) (start : ℕ) (last : Option ℕ) (m m' : Match)
     → FindsOnce Finds → IsNextItem Finds input start last (Some m) → IsNextItem Finds input start last (Some m') → m ≡ m'
 next_some Finds input start last m m' once (inl s) (inl s') =

@@ -36,7 +36,7 @@ Looped d input half i path =
 
 looped :
     (d : Engine) (x : ℕ) (input : Input) (half : Half) (q i : ℕ) (path : List ℕ)
-    → LoopsLazily d x → IsHaystack input.haystack → input.end ≤ length input.haystack → input.anchored ≡ No
+    → LoopsLazily d.nfa d.anchored d.unanchored x → IsHaystack input.haystack → input.end ≤ length input.haystack → input.anchored ≡ No
     → Answered d input half q i path → Looped d input half i path
 looped d x input half q i path loop bytes w m a = (
   s.0,
@@ -61,7 +61,7 @@ looped d x input half q i path loop bytes w m a = (
 -- If no reverse search is made, the chosen path starts at the base.
 pub short_start :
     (d : Engine) (input : Input) (half : Half) (q i : ℕ) (path : List ℕ)
-    → BeginsLazily d → IsHaystack input.haystack → input.end ≤ length input.haystack
+    → BeginsLazily d.nfa d.anchored d.unanchored → IsHaystack input.haystack → input.end ≤ length input.haystack
     → Answered d input half q i path → IsShort d input half
     → IsPathStart d input.anchored (forward_tape input.haystack half.base input.end) path 0
 short_start d input half q i path lazy bytes w a short = go (mode_cases input.anchored) lazy short
@@ -73,7 +73,7 @@ short_start d input half q i path lazy bytes w a short = go (mode_cases input.an
     same m e = subst (λ v. IsPathStart d v t path 0) (sym m) (same_start d t path e)
 
     go :
-        (input.anchored ≡ No) ⊎ (input.anchored ≡ No → ⊥) → BeginsLazily d → IsShort d input half → IsPathStart d input.anchored t path 0
+        (input.anchored ≡ No) ⊎ (input.anchored ≡ No → ⊥) → BeginsLazily d.nfa d.anchored d.unanchored → IsShort d input half → IsPathStart d input.anchored t path 0
     go (inr f) lazy short = anchored_start d input.anchored t path f
     go (inl m) (inl e) short = same m e
     go (inl m) (inr loop) (inr (inl f)) = absurd (f m)
@@ -99,7 +99,7 @@ start_found f r input half q i path pair keeps bytes w a long = go (mode_cases i
     h : List ℕ
     h = input.haystack
 
-    go : (input.anchored ≡ No) ⊎ (input.anchored ≡ No → ⊥) → BeginsLazily f → StartFound f r input half path
+    go : (input.anchored ≡ No) ⊎ (input.anchored ≡ No → ⊥) → BeginsLazily f.nfa f.anchored f.unanchored → StartFound f r input half path
     go (inr g) lazy = absurd (long (inr (inl g)))
     go (inl m) (inl e) = absurd (long (inr (inr e)))
     go (inl m) (inr loop) = (c.0, c.4, omega (arith, c.3, a.1), finds)

@@ -153,7 +153,7 @@ back_answer r h b e m answer l g u = go answer
 -- farther, and that place splits no character if split places are skipped.
 pub goes_to_start :
     (f r : Engine) (x : ℕ) (h : List ℕ) (b e : ℕ) (earliest : Bool) (i k pattern : ℕ) (path rest : List ℕ)
-    → IsTruePair f r → IsHaystack h → b ≤ e → e ≤ length h → LoopsLazily f x
+    → IsTruePair f r → IsHaystack h → b ≤ e → e ≤ length h → LoopsLazily f.nfa f.anchored f.unanchored x
     → Chooses f earliest (forward_tape h b e) f.unanchored i pattern path
     → StartsAt f (forward_tape h b e) k i pattern path rest
     → (k ≤ i) × IsGreatest r.nfa (reverse_tape h b (b + i)) r.anchored (i - k)

@@ -2,7 +2,8 @@
 use Rattle.std.proofs.Common.{ℕ, zero, suc, ◌≡◌, ◌∙◌, ◌<◌, ◌≤◌, ◌⊎◌, inl, inr, Bool, true, false, List, [], ◌∷◌, length}
 use Rattle.std.proofs.Common.{Option, Some, None, refl, sym, ap, subst, arith}
 use Rattle.automata_base.specs.Answers.Answers.{Half, later, offset_in, with_offsets}
-use Rattle.automata_base.specs.Retraced.ComputedPass.{earlier_or, is_in, once_past, pair_at}
+use Rattle.automata_base.specs.Retraced.Computed.{is_in, once_past}
+use Rattle.automata_base.specs.Retraced.Passes.{earlier_or, pair_at}
 use Rattle.automata_base.specs.Powersets.Cuts.{MatchKind}
 use Rattle.automata_base.specs.Nfas.Accepted.{IsChecked}
 use Rattle.automata_base.specs.Nfas.Engines.{Anchored}

@@ -1,4 +1,4 @@
-ghost use Rattle.std.specs.Prelude.{◌≡◌, ◌<◌, ℕ, length, replicate, slice_set, eqb, false, IsTrue};
+ghost use Rattle.std.specs.Prelude.{◌≡◌, ◌<◌, ℕ, length, replicate, slice_set, eqb, false, unwrap_or, IsTrue};
 ghost use Rattle.std.specs.Int.{bit_at};
 ghost use Rattle.automata_base.specs.ByteClasses.Classes.{is_quit};
 
@@ -34,11 +34,18 @@ impl ByteSet {
         ByteSet { words: [0; 4] }
     }
 
-    /// What is true of each set. It does nothing.
-    pub fn see_bytes(&self)
-        ensures { length self.now ≡ 256 }
+    /// The set, or the one without a byte if there is none.
+    pub fn or_empty(set: Option<ByteSet>) -> ByteSet
+        ensures same { result ≡ unwrap_or set (replicate 256 false) }
+        ensures whole { length result ≡ 256 }
     {
-        let _words = &self.words;
+        match set {
+            Some(set) => {
+                let words = set.words;
+                ByteSet { words }
+            }
+            None => ByteSet::empty(),
+        }
     }
 
     /// Whether it has no byte.

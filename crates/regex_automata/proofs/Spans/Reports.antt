@@ -1,7 +1,6 @@
 -- What a pass has read when it reports.
-use Rattle.std.proofs.Common.{ℕ, zero, suc, ◌≡◌, ◌∙◌, ◌<◌, ◌≤◌, ◌-◌, ◌⊎◌, inl, inr, Bool, true, false, length, Option}
+use Rattle.std.proofs.Common.{ℕ, zero, suc, ◌≡◌, ◌∙◌, ◌<◌, ◌≤◌, ◌⊎◌, inl, inr, Bool, true, false, length, Option}
 use Rattle.std.proofs.Common.{Some, None, refl, sym, ap, subst, arith, eq-or-lt_of_le}
-use Rattle.automata_base.specs.Retraced.ComputedPass.{earlier_or, pair_at}
 use Rattle.automata_base.specs.declared.util.search.Anchored.{Anchored}
 use Rattle.automata_base.specs.Haystacks.Input.{Input}
 use Rattle.automata_base.specs.Lists.{In}
@@ -10,7 +9,7 @@ use Rattle.automata_base.specs.Paths.Paths.{Tape}
 use Rattle.automata_base.specs.Powersets.Powerset.{Powerset, dead}
 use Rattle.automata_base.specs.Paths.Selections.{Pair}
 use Rattle.automata_base.specs.Haystacks.Tapes.{Direction}
-use Rattle.automata_base.specs.Retraced.Passes.{first_reported, reported_at, reported_upto}
+use Rattle.automata_base.specs.Retraced.Passes.{first_reported, reported_at, reported_upto, earlier_or, pair_at}
 use Rattle.automata_base.specs.Answers.OfPasses.{reported_over}
 use Rattle.automata_base.specs.declared.util.search.MatchKind.{MatchKind}
 use Rattle.automata_base.proofs.Answers.Within.{ReportedBelow, first_below, over_below}

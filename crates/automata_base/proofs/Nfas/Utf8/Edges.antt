@@ -6,8 +6,8 @@ use Rattle.automata_base.specs.declared.nfa.thompson.State.{State}
 use Rattle.automata_base.specs.declared.nfa.thompson.State.TheVariants as is
 use Rattle.automata_base.specs.declared.nfa.thompson.Transition.{Transition}
 use Rattle.automata_base.specs.declared.nfa.thompson.utf8.Class.{Class}
-use Rattle.automata_base.specs.Nfas.Decoders.{step, pair, meets, pairs_in, range_pairs, ranges_pairs, byte_pairs}
-use Rattle.automata_base.specs.Nfas.Decoders.{pairs_at, node_pairs, pairs_of}
+use Rattle.automata_base.specs.Retraced.Decoders.{step, pair, meets, pairs_in, range_pairs, ranges_pairs, byte_pairs}
+use Rattle.automata_base.specs.Retraced.Decoders.{pairs_at, node_pairs, pairs_of}
 use Rattle.automata_base.specs.Lists.{In}
 use Rattle.automata_base.specs.Haystacks.Looks.{within}
 use Rattle.automata_base.specs.Nfas.Nfa.{Node, Split, Assert, Read, Accept, Range, hop, takes, takes_in, takes_at}

@@ -2,7 +2,7 @@
 use Rattle.std.proofs.Common.{ℕ, ◌≡◌, ◌+◌, ◌*◌, ◌/◌, ◌%◌, ◌<◌, ◌↔◌, true, List, [], ◌∷◌, Some, inl, inr, refl, sym, ap}
 use Rattle.std.proofs.Common.{◌∙◌, subst, arith}
 use Rattle.automata_base.specs.declared.nfa.thompson.utf8.Class.{Class}
-use Rattle.automata_base.specs.Nfas.Decoders.{step, decode, pair, pairs_of, classes_below, EndsAtBoundaries}
+use Rattle.automata_base.specs.Retraced.Decoders.{step, decode, pair, pairs_of, classes_below, EndsAtBoundaries}
 use Rattle.automata_base.specs.Lists.{In}
 use Rattle.automata_base.specs.Nfas.Nfa.{accepts}
 use Rattle.automata_base.specs.Nfas.Nodes.{Automaton, nfa_of}

@@ -1,5 +1,5 @@
 use Rattle.std.proofs.Common.{◌≡◌, ◌<◌, ◌≤◌, ◌+◌, ◌-◌, ◌*◌, ◌/◌, ◌%◌, length, refl, get_or, sym, ap, ◌∙◌, arith}
-use Rattle.automata_base.specs.Nfas.Decoders.{pairs_of, node_pairs}
+use Rattle.automata_base.specs.Retraced.Decoders.{pairs_of, node_pairs}
 use Rattle.automata_base.specs.Nfas.Nodes.{node_of}
 use Rattle.automata_base.specs.Retraced.Once.{once_from}
 use Rattle.automata_base.specs.Nfas.Reach.{node_in}
