@@ -104,12 +104,7 @@ IsStepped t =
     (k class : ℕ) (r : Row) → slice_get t.rows k ≡ Some r → class < table_stride t.of
     → IsCell t r.state class (slice_index t.cells ((k + 3) * table_stride t.of + class))
 
--- each row is found by its state, so no two rows have one state
-abbrev pub IsDistinct : Rows → Type 0
-IsDistinct t =
-    (k : ℕ) (r : Row) → slice_get t.rows k ≡ Some r → Names t (row_id ((k + 3) * table_stride t.of) r) r.state
-
--- each row is found by its state, and stands below the limit of offsets
+-- each row is found by its state, so no two rows have one state, and stands below the limit of offsets
 abbrev pub HasRowIds : Rows → Type 0
 HasRowIds t =
     (k : ℕ) (r : Row) → slice_get t.rows k ≡ Some r
@@ -128,20 +123,8 @@ pub record AreRows (t : Rows) : Type 0 where
   pub small : length t.cells < offset_limit + table_stride t.of
   pub fixed : take (3 * table_stride t.of) t.cells ≡ fixed_rows (table_stride t.of)
   pub stepped : IsStepped t
-  pub distinct : IsDistinct t
+  pub ids : HasRowIds t
   pub alive : IsAlive t
-
--- the table, the states and the map fit each other
-pub record IsTable (t : Rows) (map : StateMap) (costs : ℕ) : Type 0 where
-  pub template : IsTemplate (table_stride t.of) (template_of t.of)
-  pub whole : length t.cells ≡ (length t.rows + 3) * table_stride t.of
-  pub small : length t.cells < offset_limit + table_stride t.of
-  pub fixed : take (3 * table_stride t.of) t.cells ≡ fixed_rows (table_stride t.of)
-  pub stepped : IsStepped t
-  pub distinct : IsDistinct t
-  pub alive : IsAlive t
-  pub mapped : (q : Powerset) → get powerset_eq map q ≡ id_of t q
-  pub costs_of : costs ≡ sum_by row_cost t.rows
 
 -- some row has exactly this ID
 abbrev pub IsValid : Rows → ℕ → Type 0
@@ -173,7 +156,6 @@ pub record IsSound (t : Rows) : Type 0 where
   pub template : IsTemplate (table_stride t.of) (template_of t.of)
   -- The states cost no more than so many of the dearest.
   pub costs : sum_by row_cost t.rows ≤ length t.rows * greatest t.of
-  pub ids : HasRowIds t
   pub low : HasLowIds t
   pub tagged : (id : ℕ) → HasItsMatchTag t id
   pub alive : HasNoDeadRow t
@@ -197,8 +179,12 @@ pub record IsNewState (t : Rows) (q : Powerset) : Type 0 where
 abbrev pub with_cell : Rows → ℕ → ℕ → ℕ → Rows
 with_cell t id class next = record { of = t.of; cells = slice_set t.cells (cell_at id class) next; rows = t.rows }
 
--- the parts that a table holds are its machine's
+-- the parts of a table: its rows fit together, a new row and the length of each are its machine's, the map finds each
+-- state's row, and the costs are those of all states
 pub record IsHeld (t : Rows) (s : ℕ) (row : List ℕ) (map : StateMap) (costs : ℕ) : Type 0 where
-  pub table : IsTable t map costs
+  pub rows : AreRows t
+  pub cells : IsTemplate (table_stride t.of) (template_of t.of)
   pub stride : s ≡ table_stride t.of
   pub template : row ≡ template_of t.of
+  pub mapped : (q : Powerset) → get powerset_eq map q ≡ id_of t q
+  pub costs_of : costs ≡ sum_by row_cost t.rows

@@ -11,7 +11,7 @@ returns c =
     (subst (λ (i : Inside). IsSoundStore i.store) c.self-inside.view_is (record {
       small = r.template.small;
       wide = r.template.whole;
-      ids = r.ids;
+      ids = r.rows.ids;
       low = r.low;
       tagged = r.tagged;
       alive = r.alive;
