@@ -15,8 +15,8 @@ use Rattle.automata_hybrid.specs.Machines.Machine.{Machine, greatest, slot_count
 use Rattle.automata_hybrid.specs.Cache.Table.{Has, HasCells, HasItsMatchTag, HasRowIds, Lacks, Leads, MayLead, Names}
 use Rattle.automata_hybrid.specs.Cache.Table.{Rows, TagsNewStates}
 use Rattle.automata_hybrid.specs.Cache.Stores.{Stored, IsKnownStart, KeepsStarts, with_start}
-use Rattle.automata_hybrid.specs.Cache.Usage.{GivesUp}
-use Rattle.automata_hybrid.specs.Cache.Changes.{AddsStart, IsOneChange, IsStarted, slot_row}
+use Rattle.automata_hybrid.specs.Cache.Usage.{GivesUp, cleared}
+use Rattle.automata_hybrid.specs.Cache.Changes.{AddsRow, IsOneChange, IsStarted, slot_row}
 use Rattle.automata_hybrid.specs.Cache.Caches.{CacheView, HasRow, IsCacheOf, counted, with_store}
 use Rattle.automata_hybrid.specs.Cache.Progress.{saturated}
 use Rattle.automata_hybrid.specs.Steps.Starts.{IsStartAnswer, IsStartEffect, IsStartRefusal, IsStartRefusalAt}
@@ -180,7 +180,7 @@ computes_known m mode behind old mid new slot id key was e leads same written fo
 -- the start state was added
 pub computes_new :
     (m : Machine) (mode : Anchored) (behind : Option ℕ) (old mid between new : CacheView) (slot id : ℕ) (state key : Powerset) (started : Bool)
-    → mid ≡ counted old → AddsStart mid.store between.store (record { state = state; started = started }) id → between.count ≡ mid.count
+    → mid ≡ counted old → AddsRow mid.store (cleared mid.store) between.store (record { state = state; started = started }) id → between.count ≡ mid.count
     → new ≡ with_store between (with_start between.store slot id) → state ≡ key → Lacks mid.store.table key
     → key ≡ start_state_of m.nfa mode behind → started ≡ specialize_start_states_of m.config
     → slice_index new.store.starts slot ≡ id → slice_index new.store.starts slot < unknown_id
@@ -212,10 +212,10 @@ computes_new m mode behind old mid between new slot id state key started was add
   row : record { state = state; started = started } ≡ start_row m mode behind
   row = λ i. record { state = (is ∙ same) i; started = tags i }
 
-  added : AddsStart old.store between.store (start_row m mode behind) id
+  added : AddsRow old.store (cleared old.store) between.store (start_row m mode behind) id
   added =
-      subst (λ (r : Row). AddsStart old.store between.store r id) row
-      (subst (λ (s : Stored). AddsStart s between.store (record { state = state; started = started }) id) before adds)
+      subst (λ (r : Row). AddsRow old.store (cleared old.store) between.store r id) row
+      (subst (λ (s : Stored). AddsRow s (cleared s) between.store (record { state = state; started = started }) id) before adds)
 
 started_clears :
     (old new : Stored) (slot id : ℕ) (r : Row) → old.clears < 2 ^ 64 → IsStarted old slot r new id → old.clears ≤ new.clears

@@ -8,7 +8,7 @@ use Rattle.automata_base.specs.Retraced.Steps.{successor}
 use Rattle.automata_base.proofs.Paths.Orders.{none_some, some_inj}
 use Rattle.automata_hybrid.specs.Cache.Stores.{IsKnownTransition, KeepsStarts, Stored, cell_of, with_next}
 use Rattle.automata_hybrid.specs.Cache.Usage.{GivesUp}
-use Rattle.automata_hybrid.specs.Cache.Changes.{AddsNext, IsAdded, IsComputed, IsOneChange}
+use Rattle.automata_hybrid.specs.Cache.Changes.{AddsNext, IsAdded, IsComputed, IsOneChange, cleared_saving}
 use Rattle.automata_hybrid.specs.Cache.Caches.{CacheView, HasRow, IsCacheOf, counted, with_store}
 use Rattle.automata_hybrid.specs.Cache.Growth.{ClearedNothing}
 use Rattle.automata_hybrid.specs.Cache.Ids.{fixed_from, quit_id, unknown_id}
@@ -208,13 +208,13 @@ computes_new m id unit old mid between new class from next state key was adds co
           (let to : key ≡ successor m.nfa (match_kind_of m.config) q unit = same q n in
           let none : Lacks old.store.table (successor m.nfa (match_kind_of m.config) q unit) =
           subst (λ (s : Stored). Lacks s.table (successor m.nfa (match_kind_of m.config) q unit)) before (subst (λ (p : Powerset). Lacks mid.store.table p) to lacks) in
-          let grew : IsAdded old.store id (record { state = successor m.nfa (match_kind_of m.config) q unit; started = false }) between.store =
-          subst (λ (p : Powerset). IsAdded old.store id (record { state = p; started = false }) between.store) (is ∙ to) added.effect in
+          let grew : IsAdded old.store (cleared_saving old.store id) (record { state = successor m.nfa (match_kind_of m.config) q unit; started = false }) between.store =
+          subst (λ (p : Powerset). IsAdded old.store (cleared_saving old.store id) (record { state = p; started = false }) between.store) (is ∙ to) added.row.effect in
           inr (none, from, between.store, grew, added.saved q n, refl));
-      leads = λ q n. inr (subst (λ (p : Powerset). Names between.store.table next p) (is ∙ same q n) added.named);
-      only = λ q n p has. subst (λ (x : Powerset). Has old.store.table p ⊎ (p ≡ x)) (is ∙ same q n) (added.only p (record { id = has.id; named = has.named }));
-      starts = added.starts;
-      of = added.of;
+      leads = λ q n. inr (subst (λ (p : Powerset). Names between.store.table next p) (is ∙ same q n) added.row.named);
+      only = λ q n p has. subst (λ (x : Powerset). Has old.store.table p ⊎ (p ≡ x)) (is ∙ same q n) (added.row.only p (record { id = has.id; named = has.named }));
+      starts = added.row.starts;
+      of = added.row.of;
       counted = count ∙ ap (λ (v : CacheView). v.count) was;
     })
   where

@@ -22,48 +22,17 @@ grown c r = with_table c (with_row c.table r)
 abbrev pub cleared_saving : Stored → ℕ → Stored
 cleared_saving c id = with_table (cleared c) (put_found (cleared c).table (row_of c.table id))
 
--- what adding a state that is absent does: it grows where the state fits, and else clears first, which the clear rule
--- allows, and saves a row
-abbrev pub IsAdded : Stored → ℕ → Row → Stored → Type 0
-IsAdded old from r new =
+-- what adding a state that is absent does: the cache grows if the state fits, and else it is cleared first, if the clear
+-- rule allows that; this is what the clear leaves
+abbrev pub IsAdded : (old emptied : Stored) → Row → Stored → Type 0
+IsAdded old emptied r new =
     (Fits old (cost r.state) × (new ≡ grown old r))
-    ⊎ ((Fits old (cost r.state) → ⊥) × (refuses_to_clear old ≡ false) × (new ≡ grown (cleared_saving old from) r))
+    ⊎ ((Fits old (cost r.state) → ⊥) × (refuses_to_clear old ≡ false) × (new ≡ grown emptied r))
 
--- what adding a state that is absent returns, stepped to from a row: the ID of that row as it is now, and the new one
-pub record AddsNext (old new : Stored) (from : ℕ) (q : Powerset) (now next : ℕ) : Type 0 where
+-- what adding a state that is absent returns: its ID
+pub record AddsRow (old emptied new : Stored) (r : Row) (id : ℕ) : Type 0 where
   -- The cache grew, or was cleared first.
-  pub effect : IsAdded old from (record { state = q; started = false }) new
-  -- The row that was stepped from is there, and has this ID now.
-  pub saved : (p : Powerset) → Names old.table from p → Names new.table now p
-  -- The new ID names the state.
-  pub named : Names new.table next q
-  -- No other state was added.
-  pub only : (p : Powerset) → Has new.table p → Has old.table p ⊎ (p ≡ q)
-  -- Each start state that was cached is cached.
-  pub starts : KeepsStarts old.starts new.starts
-  -- The cache belongs to the same machine.
-  pub of : new.table.of ≡ old.table.of
-
--- the whole effect of computing a transition from a state to a target: it is written, at the row as it is after the
--- target was added, if no row had it
-abbrev pub IsComputed : Stored → (id class : ℕ) → (q target : Powerset) → Stored → ℕ → Type 0
-IsComputed old id class q target new next =
-    (Leads old.table next target × (new ≡ with_next old id class next))
-    ⊎ (Lacks old.table target × (from : ℕ) × (between : Stored)
-    × IsAdded old id (record { state = target; started = false }) between × Names between.table from q
-    × (new ≡ with_next between from class next))
-
--- what adding a start state that is absent does: it grows where the state fits, and else clears first, which the clear
--- rule allows
-abbrev pub IsAddedStart : Stored → Row → Stored → Type 0
-IsAddedStart old r new =
-    (Fits old (cost r.state) × (new ≡ grown old r))
-    ⊎ ((Fits old (cost r.state) → ⊥) × (refuses_to_clear old ≡ false) × (new ≡ grown (cleared old) r))
-
--- what adding a start state that is absent returns: its ID
-pub record AddsStart (old new : Stored) (r : Row) (id : ℕ) : Type 0 where
-  -- The cache grew, or was cleared first.
-  pub effect : IsAddedStart old r new
+  pub effect : IsAdded old emptied r new
   -- The ID names the state.
   pub named : Names new.table id r.state
   -- No other state was added.
@@ -75,11 +44,29 @@ pub record AddsStart (old new : Stored) (r : Row) (id : ℕ) : Type 0 where
   -- The cache belongs to the same machine.
   pub of : new.table.of ≡ old.table.of
 
+-- what adding a state that is absent returns, stepped to from a row: the ID of that row as it is now, and the new one
+pub record AddsNext (old new : Stored) (from : ℕ) (q : Powerset) (now next : ℕ) : Type 0 where
+  -- The state was added; a clear saves the row that was stepped from.
+  pub row : AddsRow old (cleared_saving old from) new (record { state = q; started = false }) next
+  -- That row is there, and has this ID now.
+  pub saved : (p : Powerset) → Names old.table from p → Names new.table now p
+
+-- the whole effect of computing a transition from a state to a target: it is written, at the row as it is after the
+-- target was added, if no row had it
+abbrev pub IsComputed : Stored → (id class : ℕ) → (q target : Powerset) → Stored → ℕ → Type 0
+IsComputed old id class q target new next =
+    (Leads old.table next target × (new ≡ with_next old id class next))
+    ⊎ (Lacks old.table target × (from : ℕ) × (between : Stored)
+    × IsAdded old (cleared_saving old id) (record { state = target; started = false }) between
+    × Names between.table from q
+    × (new ≡ with_next between from class next))
+
 -- the whole effect of computing a start: it is written, after its row was added, if no row had the state
 abbrev pub IsStarted : Stored → (slot : ℕ) → Row → Stored → ℕ → Type 0
 IsStarted old slot r new id =
     (Leads old.table id r.state × (new ≡ with_start old slot id))
-    ⊎ (Lacks old.table r.state × (between : Stored) × IsAddedStart old r between × (new ≡ with_start between slot id))
+    ⊎ (Lacks old.table r.state × (between : Stored) × IsAdded old (cleared old) r between
+    × (new ≡ with_start between slot id))
 
 -- a transition that was not cached is computed
 pub record IsStepChange (old new : Stored) : Type 0 where
@@ -109,7 +96,7 @@ pub record IsBackChange (old new : Stored) : Type 0 where
   pub state : Powerset
   pub lacks : Lacks old.table state
   pub reached : IsReached old.table.of state
-  pub added : IsAddedStart old (record { state = state; started = false }) new
+  pub added : IsAdded old (cleared old) (record { state = state; started = false }) new
 
 -- a step, a start state, or a state that is put back; one that fails changes nothing
 abbrev pub IsOneChange : Stored → Stored → Type 0

@@ -17,7 +17,8 @@ use Rattle.automata_hybrid.specs.Cache.Caches.{CacheView, counted}
 use Rattle.automata_hybrid.specs.Cache.Growth.{ClearedNothing, HasRoom, IsGrown, IsStill}
 use Rattle.automata_hybrid.specs.Searches.Cached.{IsOfInput, KnowsItsStart}
 use Rattle.automata_hybrid.specs.Walks.Cached.{KnowsItsState, KnowsWalk, KnowsWhich}
-use Rattle.automata_hybrid.specs.Cache.Changes.{IsAddedStart}
+use Rattle.automata_hybrid.specs.Cache.Changes.{IsAdded}
+use Rattle.automata_hybrid.specs.Cache.Usage.{cleared}
 use Rattle.automata_hybrid.specs.Machines.Machine.{Machine}
 use Rattle.automata_hybrid.specs.Searches.Contracts.{IsMemory, IsStoreOf, IsUnhindered, IsUnsupported}
 use Rattle.automata_hybrid.specs.Searches.Contracts.{unsupported_error}
@@ -62,7 +63,8 @@ pub record IsWalkCall (way : Direction) (m : Machine) (input : Input) (old new :
 -- a state was added again, without the start tag; the cache was cleared for it only if it does not fit
 abbrev pub IsPutBack : Powerset → (old new : CacheView) → Type 0
 IsPutBack q old new =
-    (new.count ≡ old.count) × IsAddedStart old.store (record { state = q; started = false }) new.store
+    (new.count ≡ old.count)
+    × IsAdded old.store (cleared old.store) (record { state = q; started = false }) new.store
 
 -- why a call fails though all that it uses is cached: because of its input; or, if states are kept, since the one
 -- that reports the next pair cannot be held

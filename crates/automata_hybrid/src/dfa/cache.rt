@@ -11,8 +11,8 @@ ghost use Rattle.automata_hybrid.specs.Cache.Table.{HasItsMatchTag};
 ghost use Rattle.automata_hybrid.specs.Cache.Table.{IsNewState};
 ghost use Rattle.automata_hybrid.specs.Cache.Stores.{IsSoundStore, cell_of, with_next, with_start};
 ghost use Rattle.automata_hybrid.specs.Cache.Stores.{with_searched};
-ghost use Rattle.automata_hybrid.specs.Cache.Usage.{usage, Fits};
-ghost use Rattle.automata_hybrid.specs.Cache.Changes.{AddsNext, AddsStart, IsAddedStart};
+ghost use Rattle.automata_hybrid.specs.Cache.Usage.{cleared, usage, Fits};
+ghost use Rattle.automata_hybrid.specs.Cache.Changes.{AddsNext, AddsRow, IsAdded};
 ghost use Rattle.automata_hybrid.specs.Cache.Caches.{IsRow, IsCacheOf, fresh_cache, counted, with_store};
 ghost use Rattle.automata_hybrid.specs.Cache.Growth.{IsAddRefused, IsAgainEffect};
 ghost use Rattle.automata_hybrid.specs.Searches.Contracts.{IsStoreOf};
@@ -190,8 +190,8 @@ impl Cache {
         requires dfa { IsCacheOf self.old dfa.now }
         requires new { IsNewState self.old.store.table state }
         ensures named { IfOk result (λ id. Names self.new.store.table id state) }
-        ensures added { OnOk result (IsAddedStart self.old.store (record { state = state; started = false })
-            self.new.store) }
+        ensures added { OnOk result (IsAdded self.old.store (cleared self.old.store)
+            (record { state = state; started = false }) self.new.store) }
         ensures effect { IsAgainEffect self.old self.new }
         ensures refused { IfErr result (IsAddRefused self.old self.new state) }
     {
@@ -354,7 +354,7 @@ impl Cache {
     ) -> Result<LazyStateID, StepError>
         requires dfa { IsCacheOf self.old dfa.now }
         requires new { IsNewState self.old.store.table state }
-        ensures answer { IfOk result (AddsStart self.old.store self.new.store
+        ensures answer { IfOk result (AddsRow self.old.store (cleared self.old.store) self.new.store
             (record { state = state; started = started })) }
         ensures counted { self.new.count ≡ self.old.count }
         ensures refused { IfErr result (IsAddRefused self.old self.new state) }
@@ -380,7 +380,7 @@ impl Cache {
         requires new { IsNewState self.old.store.table state }
         requires bytes { bytes ≡ cost state }
         requires full { Fits self.old.store (cost state) → ⊥ }
-        ensures answer { IfOk result (AddsStart self.old.store self.new.store
+        ensures answer { IfOk result (AddsRow self.old.store (cleared self.old.store) self.new.store
             (record { state = state; started = started })) }
         ensures counted { self.new.count ≡ self.old.count }
         ensures refused { IfErr result (IsAddRefused self.old self.new state) }
