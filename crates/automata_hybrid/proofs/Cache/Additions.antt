@@ -9,7 +9,7 @@ use Rattle.automata_hybrid.specs.Cache.Changes.{AddsNext, AddsRow, cleared_savin
 use Rattle.automata_hybrid.specs.Cache.LookUps.{IsLookedUp}
 use Rattle.automata_hybrid.specs.Machines.Machine.{IsStateOf, Machine, greatest}
 use Rattle.automata_hybrid.specs.Cache.Stores.{KeepsStarts, Stored, with_table}
-use Rattle.automata_hybrid.specs.Cache.Table.{Has, IsNewState, Lacks, Names, Rows, id_of}
+use Rattle.automata_hybrid.specs.Cache.Table.{IsKnownState, IsNewState, Lacks, Names, Rows, id_of}
 use Rattle.automata_hybrid.specs.Cache.Usage.{Fits, IsCleared, cleared, refuses_to_clear}
 use Rattle.automata_hybrid.proofs.Steps.Effects.{only-grown}
 
@@ -42,9 +42,9 @@ cheap m n key target of is h = subst (λ (d : Machine). cost target ≤ greatest
 only_row :
     (old between new : Stored) (r : Row)
     → ((p : Powerset) → id_of old.table p ≡ None → id_of between.table p ≡ None) → new ≡ grown between r
-    → (p : Powerset) → Has new.table p → Has old.table p ⊎ (p ≡ r.state)
+    → (p : Powerset) → IsKnownState new.table p → IsKnownState old.table p ⊎ (p ≡ r.state)
 only_row old between new r absent e =
-    subst (λ (s : Stored). (p : Powerset) → Has s.table p → Has old.table p ⊎ (p ≡ r.state)) (sym e)
+    subst (λ (s : Stored). (p : Powerset) → IsKnownState s.table p → IsKnownState old.table p ⊎ (p ≡ r.state)) (sym e)
     (only-grown old.table between.table r absent)
 
 still_starts :

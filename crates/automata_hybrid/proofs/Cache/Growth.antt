@@ -12,7 +12,7 @@ use Rattle.automata_hybrid.proofs.Steps.Effects.{HasRoom-Fits, HasRoom-grown, Ke
 use Rattle.automata_base.specs.Powersets.Powerset.{Powerset, cost}
 use Rattle.automata_config.specs.Options.{specialize_start_states_of}
 use Rattle.automata_hybrid.specs.declared.dfa.row.Row.{Row}
-use Rattle.automata_hybrid.specs.Machines.Machine.{IsReached, Machine, greatest, slot_count, start_of, template_of}
+use Rattle.automata_hybrid.specs.Machines.Machine.{IsReachable, Machine, greatest, slot_count, start_of, template_of}
 use Rattle.automata_hybrid.specs.Machines.Machine.{table_stride}
 use Rattle.automata_hybrid.specs.Cache.Progress.{saturated}
 use Rattle.automata_hybrid.specs.Cache.Table.{HasCells, Lacks}
@@ -168,13 +168,13 @@ again_row q = record { state = q; started = false }
 
 -- one that is put back is one change
 again_change :
-    (old new : Stored) (q : Powerset) → Lacks old.table q → IsReached old.table.of q → IsAdded old (cleared old) (again_row q) new
+    (old new : Stored) (q : Powerset) → Lacks old.table q → IsReachable old.table.of q → IsAdded old (cleared old) (again_row q) new
     → IsOneChange old new
 again_change old new q lacks reached added = inr (inr (inr (record { state = q; lacks = lacks; reached = reached; added = added })))
 
 -- a state put back counts as one determinization would
 pub grown_again :
-    (old new : CacheView) (q : Powerset) → Lacks old.store.table q → IsReached old.store.table.of q
+    (old new : CacheView) (q : Powerset) → Lacks old.store.table q → IsReachable old.store.table.of q
     → IsAdded old.store (cleared old.store) (again_row q) new.store → new.count ≡ old.count → new.store.table.of ≡ old.store.table.of
     → KeepsStarts old.store.starts new.store.starts
     → ((q : Powerset) → IsStartTagged new.store.table q → IsStartTagged old.store.table q)

@@ -9,7 +9,7 @@ use Rattle.automata_base.specs.Powersets.Powerset.{Powerset}
 use Rattle.automata_base.specs.Retraced.Steps.{successor}
 use Rattle.automata_base.specs.Haystacks.Tapes.{Direction, Forward, Backward}
 use Rattle.automata_config.specs.Options.{match_kind_of}
-use Rattle.automata_hybrid.specs.Searches.SelfLoops.{Has, HasEither, IsKnownLoop, IsLoopRange, IsLoopRun, IsSelfLoop}
+use Rattle.automata_hybrid.specs.Searches.SelfLoops.{HasByte, HasEither, IsKnownLoop, IsLoopRange, IsLoopRun, IsSelfLoop}
 use Rattle.automata_hybrid.specs.Searches.SelfLoops.{LoopsAt, LoopsOn, LoopsOver, byte_in}
 use Rattle.automata_hybrid.specs.Cache.Ids.{quit_id, unknown_id}
 use Rattle.automata_hybrid.specs.Machines.Machine.{IsMachine, Machine, next_of, table_stride, template_of}
@@ -179,8 +179,8 @@ module _ {m : Machine} {c : Stored} {id : ℕ} {way : Direction} {bytes : List �
       → IsLoopRun m c id way bytes from at → IsLoopRun m c id way bytes from (at + n)
   run_known {from} {at} n known within small are has run = run_over n within
       (λ k l below. ⊎_elim
-      (λ (in_first : Has known.first (byte_in way bytes k)). are.first.loops (byte_in way bytes k) (byte_small way bytes k small) in_first)
-      (λ (in_second : Has known.second (byte_in way bytes k)). are.second.loops (byte_in way bytes k) (byte_small way bytes k small) in_second)
+      (λ (in_first : HasByte known.first (byte_in way bytes k)). are.first.loops (byte_in way bytes k) (byte_small way bytes k small) in_first)
+      (λ (in_second : HasByte known.second (byte_in way bytes k)). are.second.loops (byte_in way bytes k) (byte_small way bytes k small) in_second)
       (has k l below))
       run
 

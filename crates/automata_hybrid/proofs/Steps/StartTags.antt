@@ -7,7 +7,7 @@ use Rattle.automata_base.proofs.Paths.Orders.{none_some}
 use Rattle.automata_hybrid.specs.declared.dfa.row.Row.{Row}
 use Rattle.automata_hybrid.specs.Cache.Ids.{tags}
 use Rattle.automata_hybrid.specs.Cache.Growth.{IsStartTagged, MayHaveStartTag}
-use Rattle.automata_hybrid.specs.Cache.Table.{Has, Rows, fresh, id_of, has_patterns, Names, HasRowIds, KeepsStartTags}
+use Rattle.automata_hybrid.specs.Cache.Table.{IsKnownState, Rows, fresh, id_of, has_patterns, Names, HasRowIds, KeepsStartTags}
 use Rattle.automata_hybrid.specs.Cache.Table.{TagsNewStates, row_id, with_row}
 use Rattle.automata_hybrid.specs.Cache.Clears.{put_if, put, row_of, Kept, keep_found, keep_slot, keep_slots}
 use Rattle.automata_hybrid.specs.Cache.Stores.{Stored, IsKnownStart}
@@ -181,13 +181,13 @@ tagged_none old new keeps adds q (id, named, tag) = go (id_of old q) refl where
 pub tagged_start :
     (old new : Stored) (slot : ℕ) (start : Powerset)
     → KeepsStartTags old.table new.table → TagsNewStates old.table new.table (specialize_start_states_of new.table.of.config)
-    → ((q : Powerset) → Has new.table q → Has old.table q ⊎ (q ≡ start))
+    → ((q : Powerset) → IsKnownState new.table q → IsKnownState old.table q ⊎ (q ≡ start))
     → slot < slot_count new.table.of → IsKnownStart new slot → start ≡ start_of new.table.of slot
     → (q : Powerset) → IsStartTagged new.table q → IsStartTagged old.table q ⊎ MayHaveStartTag new q
 tagged_start old new slot start keeps adds only within known same q (id, named, tag) = go (id_of old.table q) refl where
   go : (o : Option ℕ) → id_of old.table q ≡ o → IsStartTagged old.table q ⊎ MayHaveStartTag new q
   go (Some before) had = inl (before, had, (keeps q before id had named).1 tag)
   go None none = here (only q (record { id = id; named = named })) where
-    here : Has old.table q ⊎ (q ≡ start) → IsStartTagged old.table q ⊎ MayHaveStartTag new q
+    here : IsKnownState old.table q ⊎ (q ≡ start) → IsStartTagged old.table q ⊎ MayHaveStartTag new q
     here (inl has) = absurd (none_some (sym none ∙ has.named))
     here (inr e) = inr ((adds q id none named).0 tag, (slot, within, known, e ∙ same))

@@ -9,14 +9,14 @@ use Rattle.automata_base.proofs.Paths.Orders.{none_some, some_inj}
 use Rattle.automata_hybrid.specs.Cache.Stores.{IsKnownTransition, KeepsStarts, Stored, cell_of, with_next}
 use Rattle.automata_hybrid.specs.Cache.Usage.{GivesUp}
 use Rattle.automata_hybrid.specs.Cache.Changes.{AddsNext, IsAdded, IsComputed, IsOneChange, cleared_saving}
-use Rattle.automata_hybrid.specs.Cache.Caches.{CacheView, HasRow, IsCacheOf, counted, with_store}
+use Rattle.automata_hybrid.specs.Cache.Caches.{CacheView, HoldsRow, IsCacheOf, counted, with_store}
 use Rattle.automata_hybrid.specs.Cache.Growth.{ClearedNothing}
 use Rattle.automata_hybrid.specs.Cache.Ids.{fixed_from, quit_id, unknown_id}
 use Rattle.automata_hybrid.specs.Machines.Machine.{Machine, greatest, next_of, template_of, table_stride}
 use Rattle.automata_hybrid.specs.Cache.Progress.{saturated}
 use Rattle.automata_hybrid.specs.Searches.Passes.{IsNoQuit}
 use Rattle.automata_hybrid.specs.Steps.Steps.{IsStepAnswer, IsStepEffect, KnowsStep, quits_on, unit_class}
-use Rattle.automata_hybrid.specs.Cache.Table.{Has, HasCells, HasItsMatchTag, HasRowIds, IsCell, IsValid, Lacks, Leads}
+use Rattle.automata_hybrid.specs.Cache.Table.{IsKnownState, HasCells, HasItsMatchTag, HasRowIds, IsCell, IsValid, Lacks, Leads}
 use Rattle.automata_hybrid.specs.Cache.Table.{Names, Rows}
 use Rattle.automata_hybrid.proofs.Cache.Usage.{Leads-known}
 use Rattle.automata_hybrid.proofs.Steps.Effects.{Keeps-computed, roomy-computed, written-computed}
@@ -47,7 +47,7 @@ same_effect m id unit c knows = record {
 -- a step from dead or quit answers its own ID
 pub fixed_answer :
     (m : Machine) (id : ℕ) (unit : Option ℕ) (c : CacheView)
-    → fixed_from ≤ id → ((q : Powerset) → Names c.store.table id q → id < fixed_from) → HasRow c.store.table id
+    → fixed_from ≤ id → ((q : Powerset) → Names c.store.table id q → id < fixed_from) → HoldsRow c id
     → IsStepAnswer m id unit c c id
 fixed_answer m id unit c high below row = record {
   row = row;
@@ -117,10 +117,10 @@ module _ (m : Machine) (id : ℕ) (unit : Option ℕ) (c : CacheView) (class nex
     knows : KnowsStep m c.store id unit
     knows = cell_known low
 
-    rowed : IsCell c.store.table valid.0 class next → HasRow c.store.table next
+    rowed : IsCell c.store.table valid.0 class next → HoldsRow c next
     rowed (inl (a, is)) = inr (inl is)
     rowed (inr (a, inl is)) = absurd (omega (arith, is, low))
-    rowed (inr (a, inr h)) = leads_row c.store.table next _ h
+    rowed (inr (a, inr h)) = leads_row c next _ h
 
     quits : quits_on m unit ≡ true → IsCell c.store.table valid.0 class next → next ≡ quit_id (table_stride m)
     quits q (inl (a, is)) = is ∙ ap (λ (d : Machine). quit_id (table_stride d)) of
@@ -149,7 +149,7 @@ refused_effect m id unit old new low clean unknown e = record {
   progress = inl (ap (λ (v : CacheView). v.store.clears) e, ap (λ (v : CacheView). v.store.searched) e);
   start_tags = same_keeps old.store.table new.store.table table;
   added = same_adds old.store.table new.store.table false table;
-  only = λ q n p has. inl (subst (λ (t : Rows). Has t p) table has);
+  only = λ q n p has. inl (subst (λ (t : Rows). IsKnownState t p) table has);
 } where
   once : new.count ≡ old.count + 1
   once = ap (λ (v : CacheView). v.count) e
@@ -166,8 +166,8 @@ pub record ComputesStep (m : Machine) (id : ℕ) (unit : Option ℕ) (old new : 
       (q : Powerset) → Names old.store.table id q
       → Leads new.store.table next (successor m.nfa (match_kind_of m.config) q unit)
   pub only :
-      (q : Powerset) → Names old.store.table id q → (p : Powerset) → Has new.store.table p
-      → Has old.store.table p ⊎ (p ≡ successor m.nfa (match_kind_of m.config) q unit)
+      (q : Powerset) → Names old.store.table id q → (p : Powerset) → IsKnownState new.store.table p
+      → IsKnownState old.store.table p ⊎ (p ≡ successor m.nfa (match_kind_of m.config) q unit)
   pub starts : KeepsStarts old.store.starts new.store.starts
   pub of : new.store.table.of ≡ old.store.table.of
   pub counted : new.count ≡ old.count + 1
@@ -212,7 +212,7 @@ computes_new m id unit old mid between new class from next state key was adds co
           subst (λ (p : Powerset). IsAdded old.store (cleared_saving old.store id) (record { state = p; started = false }) between.store) (is ∙ to) added.row.effect in
           inr (none, from, between.store, grew, added.saved q n, refl));
       leads = λ q n. inr (subst (λ (p : Powerset). Names between.store.table next p) (is ∙ same q n) added.row.named);
-      only = λ q n p has. subst (λ (x : Powerset). Has old.store.table p ⊎ (p ≡ x)) (is ∙ same q n) (added.row.only p (record { id = has.id; named = has.named }));
+      only = λ q n p has. subst (λ (x : Powerset). IsKnownState old.store.table p ⊎ (p ≡ x)) (is ∙ same q n) (added.row.only p (record { id = has.id; named = has.named }));
       starts = added.row.starts;
       of = added.row.of;
       counted = count ∙ ap (λ (v : CacheView). v.count) was;
@@ -269,7 +269,7 @@ module _ (m : Machine) (id : ℕ) (unit : Option ℕ) (old new : CacheView) (cla
       ((n : ℕ) (p : Powerset) → Names new.store.table n p → n < fixed_from) → table_stride new.store.table.of ≤ 512
       → HasItsMatchTag new.store.table next → IsStepAnswer m id unit old new next
   computed_answer lows small tag = record {
-    row = leads_row new.store.table next target (step.leads valid.0 valid.1);
+    row = leads_row new next target (step.leads valid.0 valid.1);
     tag = tag;
     fixed = λ high. absurd (omega (arith, low, high));
     quit = λ _ q. absurd (false_true (sym clean ∙ q));

@@ -2,11 +2,11 @@
 use Rattle.std.specs.Prelude.{◌≡◌, ℕ, zero, suc, ◌<◌, ◌⊎◌, false, Option, None, Some, length}
 use Rattle.automata_base.specs.Powersets.Powerset.{Powerset, cost}
 use Rattle.automata_hybrid.specs.declared.dfa.row.Row.{Row}
-use Rattle.automata_hybrid.specs.Cache.Table.{Rows, Leads, Lacks, Has, with_row, Names}
+use Rattle.automata_hybrid.specs.Cache.Table.{Rows, Leads, Lacks, IsKnownState, with_row, Names}
 use Rattle.automata_hybrid.specs.Cache.Clears.{put, row_of}
 use Rattle.automata_hybrid.specs.Cache.Stores.{Stored, IsKnownStart, IsKnownTransition, KeepsStarts}
 use Rattle.automata_hybrid.specs.Cache.Stores.{with_next, with_searched, with_start, with_table}
-use Rattle.automata_hybrid.specs.Machines.Machine.{IsReached, Machine, next_of, slot_count, start_of, table_stride}
+use Rattle.automata_hybrid.specs.Machines.Machine.{IsReachable, Machine, next_of, slot_count, start_of, table_stride}
 use Rattle.automata_hybrid.specs.Cache.Usage.{Fits, cleared, refuses_to_clear}
 use Rattle.automata_config.specs.Options.{specialize_start_states_of}
 
@@ -22,8 +22,8 @@ grown c r = with_table c (with_row c.table r)
 abbrev pub cleared_saving : Stored → ℕ → Stored
 cleared_saving c id = with_table (cleared c) (put_found (cleared c).table (row_of c.table id))
 
--- what adding a state that is absent does: the cache grows if the state fits, and else it is cleared first, if the clear
--- rule allows that; this is what the clear leaves
+-- what adding a state that is absent does: the cache grows if the state fits, and else it is cleared first, if the
+-- clear rule allows that; this is what the clear leaves
 abbrev pub IsAdded : (old emptied : Stored) → Row → Stored → Type 0
 IsAdded old emptied r new =
     (Fits old (cost r.state) × (new ≡ grown old r))
@@ -36,7 +36,7 @@ pub record AddsRow (old emptied new : Stored) (r : Row) (id : ℕ) : Type 0 wher
   -- The ID names the state.
   pub named : Names new.table id r.state
   -- No other state was added.
-  pub only : (p : Powerset) → Has new.table p → Has old.table p ⊎ (p ≡ r.state)
+  pub only : (p : Powerset) → IsKnownState new.table p → IsKnownState old.table p ⊎ (p ≡ r.state)
   -- There are as many slots as before.
   pub slots : length new.starts ≡ length old.starts
   -- Each start state that was cached is cached.
@@ -95,7 +95,7 @@ pub record IsStartChange (old new : Stored) : Type 0 where
 pub record IsBackChange (old new : Stored) : Type 0 where
   pub state : Powerset
   pub lacks : Lacks old.table state
-  pub reached : IsReached old.table.of state
+  pub reached : IsReachable old.table.of state
   pub added : IsAdded old (cleared old) (record { state = state; started = false }) new
 
 -- a step, a start state, or a state that is put back; one that fails changes nothing

@@ -64,7 +64,7 @@ TagsNewStates old new started =
     (q : Powerset) (id : ℕ) → id_of old q ≡ None → Names new id q → HasStartTag id ↔ (started ≡ true)
 
 -- some row has this state
-pub record Has (t : Rows) (q : Powerset) : Type 0 where
+pub record IsKnownState (t : Rows) (q : Powerset) : Type 0 where
   pub id : ℕ
   pub named : Names t id q
 

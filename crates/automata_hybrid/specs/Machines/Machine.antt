@@ -80,15 +80,15 @@ IsReachedBy m (suc units) q =
     × (slice_index (template_of m) class ≡ unknown_id) × (q ≡ next_of m before class)
 
 -- a search can come to a state
-abbrev pub IsReached : Machine → Powerset → Type 0
-IsReached m q = ∥ ((units : ℕ) × IsReachedBy m units q) ∥₁
+abbrev pub IsReachable : Machine → Powerset → Type 0
+IsReachable m q = ∥ ((units : ℕ) × IsReachedBy m units q) ∥₁
 
 -- a state of a lazy DFA
 pub record IsStateOf (m : Machine) (q : Powerset) : Type 0 where
   -- It is made of what the automaton has.
   pub own : IsOwn m.nfa q
   -- A search can come to it.
-  pub reached : IsReached m q
+  pub reached : IsReachable m q
 
 -- the class of a unit that is no quit byte
 pub record IsClassOf (m : Machine) (class : ℕ) (unit : Option ℕ) : Type 0 where

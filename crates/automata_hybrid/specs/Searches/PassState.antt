@@ -45,10 +45,6 @@ pub record IsAt (way : Direction) (m : Machine) (t : Rows) (input : Input) (k id
   pub nothing : input.earliest ≡ true → found ≡ None
   pub clean : HasReadNoQuit way m input k
 
--- an ID has the dead tag exactly if it leads to the dead state, which no row has
-abbrev pub IsDeadTagged : Rows → ℕ → Type 0
-IsDeadTagged t id = (q : Powerset) → Leads t id q → (HasDeadTag id → q ≡ dead) × ((HasDeadTag id → ⊥) → Names t id q)
-
 -- the error of a step, as a search reports it at an offset
 abbrev pub step_refusal : StepError → (at : ℕ) → SearchError
 step_refusal (step.Cache err) at = search.Match (GaveUp at)

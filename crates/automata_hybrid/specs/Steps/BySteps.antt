@@ -7,16 +7,12 @@ use Rattle.automata_base.specs.Powersets.Powerset.{Powerset}
 use Rattle.automata_base.specs.Haystacks.Tapes.{Forward, IsHaystack}
 use Rattle.automata_base.specs.Answers.OfPasses.{IsNearestAnswer}
 use Rattle.automata_config.specs.Options.{match_kind_of}
-use Rattle.automata_hybrid.specs.Cache.Caches.{CacheView, HasRow}
+use Rattle.automata_hybrid.specs.Cache.Caches.{CacheView, HoldsRow}
 use Rattle.automata_hybrid.specs.Cache.Ids.{dead_id, HasMatchTag, HasDeadTag, HasQuitTag}
 use Rattle.automata_hybrid.specs.Machines.Machine.{Machine, table_stride}
 use Rattle.automata_hybrid.specs.Searches.PassContracts.{IsPassAnswer, IsUnderway}
 use Rattle.automata_hybrid.specs.Searches.Passes.{IsFound, Skips, WithoutBase}
 use Rattle.automata_hybrid.specs.Cache.Table.{Names}
-
--- the cache has a row of exactly this ID, so that a step may be taken from it
-abbrev pub HoldsRow : CacheView → (id : ℕ) → Type 0
-HoldsRow c id = HasRow c.store.table id
 
 -- one pass over the span of an input answers this: of an earliest search the first match, or none
 abbrev pub IsFirstMatch : Machine → Input → Option HalfMatch → Type 0

@@ -15,11 +15,11 @@ use Rattle.automata_config.specs.declared.error.SearchError.TheVariants as searc
 use Rattle.automata_hybrid.specs.declared.dfa.row.Row.{Row}
 use Rattle.automata_hybrid.specs.Cache.Ids.{dead_id}
 use Rattle.automata_hybrid.specs.Machines.Machine.{Machine, table_stride, slot_count}
-use Rattle.automata_hybrid.specs.Cache.Table.{Has, HasItsMatchTag, KeepsStartTags, Leads, TagsNewStates}
+use Rattle.automata_hybrid.specs.Cache.Table.{IsKnownState, HasItsMatchTag, KeepsStartTags, Leads, TagsNewStates}
 use Rattle.automata_hybrid.specs.Cache.Stores.{Stored}
 use Rattle.automata_hybrid.specs.Cache.Usage.{GivesUp}
 use Rattle.automata_hybrid.specs.Cache.Changes.{IsStarted}
-use Rattle.automata_hybrid.specs.Cache.Caches.{CacheView, HasRow, counted}
+use Rattle.automata_hybrid.specs.Cache.Caches.{CacheView, HoldsRow, counted}
 use Rattle.automata_hybrid.specs.Cache.Growth.{IsGrown, KeepsProgress}
 use Rattle.automata_hybrid.specs.Machines.StartSlots.{supports, slot_behind, HasStart}
 use Rattle.automata_config.specs.Options.{specialize_start_states_of}
@@ -97,7 +97,7 @@ pub record IsStartAnswer (m : Machine) (mode : Anchored) (behind : Option ℕ) (
   -- The call returns Ok only if a search may start: the look-behind byte is no quit byte, and the mode is supported.
   pub may : MayStart m mode behind
   -- Its row is there.
-  pub row : HasRow new.store.table id
+  pub row : HoldsRow new id
   -- It names the start state.
   pub named : Leads new.store.table id (start_state_of m.nfa mode behind)
   -- It has the match tag exactly if its state has patterns.
@@ -163,4 +163,5 @@ pub record IsStartEffect (m : Machine) (mode : Anchored) (behind : Option ℕ) (
   pub added : TagsNewStates old.store.table new.store.table (specialize_start_states_of m.config)
   -- No state was added but the start state.
   pub only :
-      (q : Powerset) → Has new.store.table q → Has old.store.table q ⊎ (q ≡ start_state_of m.nfa mode behind)
+      (q : Powerset) → IsKnownState new.store.table q
+      → IsKnownState old.store.table q ⊎ (q ≡ start_state_of m.nfa mode behind)

@@ -20,7 +20,7 @@ use Rattle.automata_hybrid.specs.Searches.Passes.{HasReadNoQuit, IsNoQuit, IsUni
 use Rattle.automata_hybrid.specs.Searches.Passes.{given_up_offset}
 use Rattle.automata_hybrid.specs.Searches.Passes.{state_in, tape_in}
 use Rattle.automata_hybrid.specs.Steps.Starts.{IsStartRefusalAt, MayStart}
-use Rattle.automata_hybrid.specs.Cache.Table.{Rows, Has, Names}
+use Rattle.automata_hybrid.specs.Cache.Table.{Rows, IsKnownState, Names}
 use Rattle.automata_hybrid.specs.Walks.State.{At, Ended, Fresh, Ids, Keeping, Stage, States, Walk}
 use Rattle.automata_config.specs.Options.{match_kind_of}
 
@@ -111,7 +111,7 @@ ReportsNext way m input old new =
 -- cache may not be cleared
 abbrev pub IsPutBackRefusal : Stored → Powerset → (given_up_at : ℕ) → SearchError → Type 0
 IsPutBackRefusal c q at e =
-    ((Has c.table q → ⊥) × (e ≡ search.OutOfMemory)) ⊎ (GivesUp c q × (e ≡ search.Match (GaveUp at)))
+    ((IsKnownState c.table q → ⊥) × (e ≡ search.OutOfMemory)) ⊎ (GivesUp c q × (e ≡ search.Match (GaveUp at)))
 
 -- why a walk cannot go on: it has not begun and its start state fails, or it has and its state is not put back
 abbrev pub IsResumeRefusal : Direction → Machine → Stored → Input → Stage → (units : ℕ) → SearchError → Type 0
@@ -183,7 +183,7 @@ IsAdvanceRefusal way m c input from e =
 -- the cache has the state that a walk goes on from
 abbrev pub HasItsState : Rows → Stage → Type 0
 HasItsState t Fresh = Unit {0}
-HasItsState t (At q) = Has t q
+HasItsState t (At q) = IsKnownState t q
 HasItsState t Ended = Unit {0}
 
 -- a call found no match, or the walk has read more units, or has reported one pattern more

@@ -13,7 +13,7 @@ use Rattle.automata_hybrid.specs.Machines.Machine.{Machine}
 use Rattle.automata_hybrid.specs.Searches.PassState.{HasLearnedUnit}
 use Rattle.automata_hybrid.specs.Searches.Passes.{HasReadNoQuit, Skips, tape_in}
 use Rattle.automata_hybrid.specs.Steps.Starts.{MayStart}
-use Rattle.automata_hybrid.specs.Cache.Table.{Has}
+use Rattle.automata_hybrid.specs.Cache.Table.{IsKnownState}
 use Rattle.automata_hybrid.specs.Walks.Answers.{HasReported, HasReportedBy, WalkReads, pairs_in}
 use Rattle.automata_hybrid.specs.Walks.State.{At, Ended, Fresh, Stage, Walk}
 
@@ -27,7 +27,7 @@ pub record IsToRead (input : Input) (stage : Stage) (units reported : ℕ) : Typ
 -- what a walk goes on from is cached: its start, or the state that it holds, which the cache has
 abbrev pub KnowsItsState : Direction → Machine → Stored → Input → Stage → Type 0
 KnowsItsState way m c input Fresh = KnowsItsStart way m c input
-KnowsItsState way m c input (At q) = Has c.table q
+KnowsItsState way m c input (At q) = IsKnownState c.table q
 KnowsItsState way m c input Ended = Unit {0}
 
 -- the transition is cached on each unit that a walk reads after its first `from` ones, up to the pair after the first

@@ -29,7 +29,7 @@ use Rattle.automata_hybrid.specs.Walks.Answers.{half_nth}
 use Rattle.automata_hybrid.specs.Walks.Answers.{start_count}
 use Rattle.automata_hybrid.specs.Walks.State.{At, Fresh, Ids, Keeping, States, Walk, without_match}
 use Rattle.automata_hybrid.specs.Walks.Sets.{IsWhichRefusal}
-use Rattle.automata_hybrid.specs.Cache.Table.{Has}
+use Rattle.automata_hybrid.specs.Cache.Table.{IsKnownState}
 use Rattle.automata_hybrid.specs.Searches.Bounds.{LiesIn}
 use Rattle.automata_config.specs.Options.{match_kind_of}
 
@@ -92,7 +92,7 @@ pub record IsCallEffect {T : Type 0} (keeping : Keeping) (way : Direction) (m : 
   pub there : HasItsState old.store.table walk.stage → IsGrown old new
   -- a held state that the cache lacks is put back first, and the cache grows from there
   pub put_back :
-      (q : Powerset) → walk.stage ≡ At q → (Has old.store.table q → ⊥)
+      (q : Powerset) → walk.stage ≡ At q → (IsKnownState old.store.table q → ⊥)
       → (new ≡ old) ⊎ ((between : CacheView) × IsPutBack q old between × IsGrown between new)
   -- if nothing was cleared, what it used is cached
   pub learned : ClearedNothing old.store new.store → OnOk result (KnowsWalk way m new.store input walk)

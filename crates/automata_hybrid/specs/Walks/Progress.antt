@@ -13,7 +13,7 @@ use Rattle.automata_hybrid.specs.Cache.Usage.{cleared}
 use Rattle.automata_hybrid.specs.Searches.Progress.{AreUnitsRead, HasEndedAfter, HasItsStart, IsLeftAt, IsUnitRead}
 use Rattle.automata_hybrid.specs.Searches.Progress.{with_search_begun, with_search_moved}
 use Rattle.automata_hybrid.specs.Searches.Passes.{HasReadNoQuit, IsUnitRefusal}
-use Rattle.automata_hybrid.specs.Cache.Table.{Has}
+use Rattle.automata_hybrid.specs.Cache.Table.{IsKnownState}
 use Rattle.automata_hybrid.specs.Walks.Answers.{AreWalked, IsResumeRefusal, IsSilent, IsUnheld, ReportsNext, WalkReads}
 use Rattle.automata_hybrid.specs.Walks.State.{At, Ended, Fresh, Ids, Keeping, Stage, States, Walk, fresh_walk}
 
@@ -28,8 +28,8 @@ ReadsNoUnit input w =
 abbrev pub IsResumed : Direction → Machine → Input → Stage → (old new : Stored) → Type 0
 IsResumed way m input Fresh old new = HasItsStart way m input old new
 IsResumed way m input (At q) old new =
-    (Has old.table q × (new ≡ old))
-    ⊎ ((Has old.table q → ⊥) × IsAdded old (cleared old) (record { state = q; started = false }) new)
+    (IsKnownState old.table q × (new ≡ old))
+    ⊎ ((IsKnownState old.table q → ⊥) × IsAdded old (cleared old) (record { state = q; started = false }) new)
 IsResumed way m input Ended old new = ⊥
 
 -- a call reads the units after those of the walk: up to the one after which the next match is reported, or if there is

@@ -1,5 +1,5 @@
 ghost use Rattle.std.specs.Prelude.{ℕ, ◌≡◌, ◌*◌, ◌%◌, ◌<◌, ◌≤◌, IfOk, IfErr, OnOk, OnErr, slice_index};
-ghost use Rattle.std.specs.Prelude.{length, is_some, IsSome, IsTrue, ◌+◌, ◌↔◌, false, None};
+ghost use Rattle.std.specs.Prelude.{length, is_some, IsSome, IsTrue, ◌+◌, ◌↔◌, ◌⊎◌, false, None};
 ghost use Rattle.automata_base.specs.Powersets.Powerset.{Powerset, cost, dead};
 ghost use Rattle.automata_base.specs.Retraced.Steps.{successor, start_state_of};
 ghost use Rattle.automata_hybrid.specs.Machines.OwnStates.{IsOwn};
@@ -13,7 +13,7 @@ ghost use Rattle.automata_hybrid.specs.Cache.Stores.{IsSoundStore, cell_of, with
 ghost use Rattle.automata_hybrid.specs.Cache.Stores.{with_searched};
 ghost use Rattle.automata_hybrid.specs.Cache.Usage.{cleared, usage, Fits};
 ghost use Rattle.automata_hybrid.specs.Cache.Changes.{AddsNext, AddsRow, IsAdded};
-ghost use Rattle.automata_hybrid.specs.Cache.Caches.{IsRow, IsCacheOf, fresh_cache, counted, with_store};
+ghost use Rattle.automata_hybrid.specs.Cache.Caches.{HoldsRow, IsCacheOf, fresh_cache, counted, with_store};
 ghost use Rattle.automata_hybrid.specs.Cache.Growth.{IsAddRefused, IsAgainEffect};
 ghost use Rattle.automata_hybrid.specs.Searches.Contracts.{IsStoreOf};
 ghost use Rattle.automata_hybrid.specs.Steps.Starts.{IsStartSlot};
@@ -204,7 +204,7 @@ impl Cache {
     /// Whether some row of the cache has exactly this ID now, tags included. A clear can end it, so ask before a step
     /// from an ID that you kept while other calls used the cache.
     pub fn is_valid(&self, id: LazyStateID) -> bool
-        ensures { IsTrue result ↔ IsRow self.now.store.table id }
+        ensures { IsTrue result ↔ ((id ≡ unknown_id) ⊎ HoldsRow self.now id) }
     {
         let table = &self.store.table;
         let stride = table.stride() as u32;

@@ -5,10 +5,10 @@ ghost use Rattle.automata_base.specs.Retraced.Steps.{successor};
 ghost use Rattle.automata_hybrid.specs.Machines.Machine.{table_stride};
 ghost use Rattle.automata_hybrid.specs.Cache.Table.{Names, IsValid, Leads, HasItsMatchTag};
 ghost use Rattle.automata_hybrid.specs.Cache.Stores.{cell_of};
-ghost use Rattle.automata_hybrid.specs.Cache.Caches.{IsCacheOf, HasRow};
+ghost use Rattle.automata_hybrid.specs.Cache.Caches.{HoldsRow, IsCacheOf};
 ghost use Rattle.automata_hybrid.specs.Cache.Ids.{quit_id, unknown_id, offset_limit, HasMatchTag};
 ghost use Rattle.automata_base.specs.ByteClasses.Classes.{class_in, is_quit};
-ghost use Rattle.automata_hybrid.specs.Steps.BySteps.{HoldsRow, StepsOn};
+ghost use Rattle.automata_hybrid.specs.Steps.BySteps.{StepsOn};
 ghost use Rattle.automata_hybrid.specs.Steps.Steps.{IsStepAnswer, IsStepRefused, IsStepEffect, KnowsStep, quits_on};
 ghost use Rattle.automata_config.specs.Options.{match_kind_of};
 
@@ -29,7 +29,7 @@ impl Cache {
         unit: Option<u8>,
     ) -> Result<LazyStateID, StepError>
         requires of { IsCacheOf self.old dfa.now }
-        requires row { HasRow self.old.store.table id }
+        requires row { HoldsRow self.old id }
         ensures of { IsCacheOf self.new dfa.now }
         ensures answer { IfOk result (IsStepAnswer dfa.now id unit self.old self.new) }
         ensures refusal { IfErr result (IsStepRefused dfa.now id unit self.old self.new) }
@@ -153,7 +153,7 @@ impl DFA {
             → Leads cache.now.store.table result
             (successor self.now.nfa (match_kind_of self.now.config) q (Some byte)) }
         ensures tag { HasItsMatchTag cache.now.store.table result }
-        ensures row { result < unknown_id → HasRow cache.now.store.table result }
+        ensures row { result < unknown_id → HoldsRow cache.now result }
     {
         cache.cell_in_row(id, id.untagged() as usize, self.class_of(byte))
     }
@@ -170,7 +170,7 @@ impl DFA {
             → (q : Powerset) → Names cache.now.store.table id q
             → Leads cache.now.store.table result
             (successor self.now.nfa (match_kind_of self.now.config) q (Some byte)) }
-        ensures row { result < unknown_id → HasRow cache.now.store.table result }
+        ensures row { result < unknown_id → HoldsRow cache.now result }
     {
         cache.cell(id, self.class_of(byte))
     }

@@ -41,7 +41,7 @@ returns-then-is_dead-clause-ended c =
     } in
     let few : k ≤ length (tape_in d c.args.input.now).bytes = (let u = units_in d c.args.input.now c.requires.at.undone c.last_place-last.ensures.inside in omega (arith, u, upto.within)) in
     subst (λ (r : Known). r.ended ≡ true → IsKnownEnd d c.args.self.now c.args.cache.now c.args.input.now r.at r.id r.found) (sym c.ended.ensures)
-    (λ _. known_dead d c.args.self.now c.args.input.now k c.run-run.result.id c.args.cache.now c.run-run.result.found c.known_next-next.result c.requires.of c.see_store.ensures upto few (subst (λ n. n < 2 ^ 31) (c.known_next-next.ensures.value low) low) (c.known_next-next.ensures.answer low) (c.known_next-next.ensures.effect low) (dead_clear c.args.cache.now.store.table c.known_next-next.result (c.known_next-next.ensures.answer low).row (c.see_store.ensures.low c.known_next-next.result) c.see_store.ensures.small (c.if-is_dead.ensures.0 refl)) (c.if-is_dead.ensures.0 refl))
+    (λ _. known_dead d c.args.self.now c.args.input.now k c.run-run.result.id c.args.cache.now c.run-run.result.found c.known_next-next.result c.requires.of c.see_store.ensures upto few (subst (λ n. n < 2 ^ 31) (c.known_next-next.ensures.value low) low) (c.known_next-next.ensures.answer low) (c.known_next-next.ensures.effect low) (dead_clear c.args.cache.now c.known_next-next.result (c.known_next-next.ensures.answer low).row (c.see_store.ensures.low c.known_next-next.result) c.see_store.ensures.small (c.if-is_dead.ensures.0 refl)) (c.if-is_dead.ensures.0 refl))
 
 pub returns-then-run-last-clause-ended : goal.returns-then-run-last-clause-ended
 returns-then-run-last-clause-ended c =
