@@ -1,4 +1,4 @@
-use Rattle.std.proofs.Common.{◌≡◌, ℕ, ◌+◌, ◌*◌, ◌^◌, ◌<◌, ◌≤◌, zero, suc, List, [], ◌∷◌, ◌++◌, length, true, false}
+use Rattle.std.proofs.Common.{◌≡◌, ℕ, ◌+◌, ◌*◌, ◌^◌, ◌<◌, ◌≤◌, List, [], ◌∷◌, ◌++◌, length, true, false}
 use Rattle.std.proofs.Common.{cond, Option, None, Some, get_or, take, slice_get, refl, sym, ap, ◌∙◌, subst, ◌⊎◌, inl}
 use Rattle.std.proofs.Common.{inr, ⊎_elim, arith, length-append}
 use Rattle.std.proofs.lemmas.List.{get_or_append_left}
@@ -15,7 +15,7 @@ use Rattle.automata_hybrid.specs.Machines.Machine.{Machine, start_of, table_stri
 use Rattle.automata_hybrid.specs.Cache.Table.{Rows, id_of, Names, MayLead, with_row}
 use Rattle.automata_hybrid.specs.Cache.Clears.{AllStarts, row_of, put_if, put, or_unknown, Kept, KeepsSlot, keep_found}
 use Rattle.automata_hybrid.specs.Cache.Clears.{keep_slot, keep_slots, IsPut}
-use Rattle.automata_hybrid.proofs.Cache.Rows.{Names-more, find_id-push_other}
+use Rattle.automata_hybrid.proofs.Cache.Rows.{Names-more, at_push, find_id-push_other}
 
 pub keep_slots-push : (old : Rows) (k : Kept) (ids : List ℕ) (id : ℕ) → keep_slots old k (ids ++ id ∷ []) ≡ keep_slot old (keep_slots old k ids) id
 unfolding keep_slots
@@ -39,15 +39,6 @@ pub MayLead-row : (t : Rows) (id : ℕ) (q : Powerset) → MayLead t id q → id
 MayLead-row t id q (inl e) l = absurd (omega (arith, e, l))
 MayLead-row t id q (inr (inl (e, d))) l = absurd (omega (arith, e, l))
 MayLead-row t id q (inr (inr h)) l = h
-
-at_push : (xs : List ℕ) (y k x : ℕ) → slice_get (xs ++ y ∷ []) k ≡ Some x → (slice_get xs k ≡ Some x) ⊎ ((k ≡ length xs) × (y ≡ x))
-at_push [] y zero x h = inr (refl, cc)
-at_push [] y (suc k) x h = cc
-at_push (z ∷ xs) y zero x h = inl h
-at_push (z ∷ xs) y (suc k) x h = go (at_push xs y k x h) where
-  go : (slice_get xs k ≡ Some x) ⊎ ((k ≡ length xs) × (y ≡ x)) → (slice_get xs k ≡ Some x) ⊎ ((suc k ≡ suc (length xs)) × (y ≡ x))
-  go (inl e) = inl e
-  go (inr (e, f)) = inr (ap suc e, f)
 
 -- one more slot
 pub AllStarts-push : (t : Rows) (xs : List ℕ) (y : ℕ) → AllStarts t xs → MayLead t y (start_of t.of (length xs)) → AllStarts t (xs ++ y ∷ [])

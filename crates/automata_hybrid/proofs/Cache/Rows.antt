@@ -15,7 +15,7 @@ use Rattle.automata_base.specs.Powersets.Powerset.{dead}
 use Rattle.automata_hybrid.specs.Cache.Ids.{quit_id}
 use Rattle.automata_hybrid.specs.Machines.Machine.{IsStateOf, next_of, greatest, template_of, IsTemplate, table_stride}
 use Rattle.automata_hybrid.specs.Cache.Table.{Rows, find_id, id_of, Names, Leads, IsCell, row_id, row_cost, with_row}
-use Rattle.automata_hybrid.specs.Cache.Table.{AreRows, HasRowIds, IsAlive, IsHeld, IsStepped, StateMap}
+use Rattle.automata_hybrid.specs.Cache.Table.{AreRows, IsHeld, IsStepped, StateMap}
 
 -- a state that rows have keeps its ID when more come
 find_id-more : (s at : ℕ) (q : Powerset) (rs ys : List Row) (id : ℕ) → find_id s at q rs ≡ Some id → find_id s at q (rs ++ ys) ≡ Some id
@@ -60,12 +60,12 @@ Names-new t r whole none =
     find_id-push_new (table_stride t.of) (3 * table_stride t.of) t.rows r none ∙ ap (λ n. Some (row_id n r)) e
 
 -- an element of a list with one more
-pub at_push : (rs : List Row) (r : Row) (k : ℕ) (x : Row) → slice_get (rs ++ r ∷ []) k ≡ Some x → (slice_get rs k ≡ Some x) ⊎ ((k ≡ length rs) × (r ≡ x))
-at_push [] r zero x h = inr (refl, cc)
-at_push [] r (suc k) x h = cc
-at_push (y ∷ rs) r zero x h = inl h
-at_push (y ∷ rs) r (suc k) x h = go (at_push rs r k x h) where
-  go : (slice_get rs k ≡ Some x) ⊎ ((k ≡ length rs) × (r ≡ x)) → (slice_get rs k ≡ Some x) ⊎ ((suc k ≡ suc (length rs)) × (r ≡ x))
+pub at_push : {A : Type 0} (xs : List A) (y : A) (k : ℕ) (x : A) → slice_get (xs ++ y ∷ []) k ≡ Some x → (slice_get xs k ≡ Some x) ⊎ ((k ≡ length xs) × (y ≡ x))
+at_push [] y zero x h = inr (refl, cc)
+at_push [] y (suc k) x h = cc
+at_push (z ∷ xs) y zero x h = inl h
+at_push (z ∷ xs) y (suc k) x h = go (at_push xs y k x h) where
+  go : (slice_get xs k ≡ Some x) ⊎ ((k ≡ length xs) × (y ≡ x)) → (slice_get xs k ≡ Some x) ⊎ ((suc k ≡ suc (length xs)) × (y ≡ x))
   go (inl e) = inl e
   go (inr (e, f)) = inr (ap suc e, f)
 

@@ -28,6 +28,7 @@ use Rattle.automata_hybrid.specs.Cache.Table.{Rows, Leads, Names}
 use Rattle.automata_base.specs.ByteClasses.Classes.{is_quit}
 use Rattle.automata_config.specs.Options.{match_kind_of}
 use Rattle.std.proofs.lemmas.Bool.{cases_lt}
+use Rattle.automata_hybrid.proofs.Cases.{some_none}
 
 -- one unit more
 pub state_more :
@@ -35,9 +36,6 @@ pub state_more :
     → state_in way m input (suc k) ≡ successor m.nfa (match_kind_of m.config) (state_in way m input k) (next (tape_in way input) k)
 unfolding state_after
 state_more way m input k = refl
-
-pub ok_err : {A E : Type 0} {a : A} {e : E} → ◌≡◌ {A = Result A E} (Ok a) (Err e) → ⊥
-ok_err h = cc
 
 pub false_true : false ≡ true → ⊥
 false_true e = cc
@@ -145,9 +143,6 @@ first_stays kind a mode t k (suc n) pair l e = go (λ more. first_stays kind a m
   go before (inl same) = subst (λ i. first_reported a kind mode t i ≡ Some pair) same e
   go before (inr less) =
       ap (λ o. earlier_or o (pair_at (reported_at a kind mode t n) n None)) (before (omega (arith, less)))
-
-some_none : {pair : Pair} → Some pair ≡ None → ⊥
-some_none e = cc
 
 reported_stays :
     (kind : MatchKind) (e : Bool) (a : Automaton) (mode : Anchored) (t : Tape) (k n : ℕ) (o : Option Pair)

@@ -18,6 +18,7 @@ use Rattle.automata_hybrid.specs.Searches.Passes.{with_base}
 use Rattle.automata_hybrid.proofs.Searches.PassState.{false_true, half_none}
 use Rattle.automata_config.specs.Options.{match_kind_of}
 use Rattle.automata_base.proofs.Answers.Answered.{haystack_later}
+use Rattle.automata_hybrid.proofs.Cases.{same_some, some_none}
 
 -- the pair that a half match stands for
 pub record Stands (way : Direction) (input : Input) (o : Option Pair) (half : HalfMatch) : Type 0 where
@@ -32,12 +33,6 @@ half_stands way input None half e = absurd (cc)
 half_stands way input (Some pair) half e =
     let h : half ≡ record { pattern = pair.pattern; offset = offset_in way input pair.place } = cc in
     record { pair = pair; reported = refl; pattern = ap (λ (v : HalfMatch). v.pattern) h; offset = ap (λ (v : HalfMatch). v.offset) h }
-
-some_none : {A : Type 0} {a : A} → ◌≡◌ {A = Option A} (Some a) None → ⊥
-some_none e = cc
-
-some_eq : {A : Type 0} {a b : A} → ◌≡◌ {A = Option A} (Some a) (Some b) → a ≡ b
-some_eq e = cc
 
 module _ (T : Input → Option Pair → Type 0) (S : Type 0) (way : Direction) (input : Input) where
   pub tries_more :
@@ -123,7 +118,7 @@ module _ (way : Direction) (m : Machine) (input now : Input) (k : ℕ) (same : n
     go (inr skips) =
         let split : IsSplit (Finds way m) way (later way k input) = (tried.1 k less).1 in
         let s : Stands way (later way k input) (reported_over way m.nfa (match_kind_of m.config) (later way k input)) half = stands half e in
-        let same : split.0 ≡ s.pair = some_eq (split.1.0 ∙ s.reported) in
+        let same : split.0 ≡ s.pair = same_some (split.1.0 ∙ s.reported) in
         let place : is_split (later way k input).haystack (offset_in way (later way k input) s.pair.place) ≡ true =
         subst (λ (p : Pair). is_split (later way k input).haystack (offset_in way (later way k input) p.place) ≡ true) same split.2 in
         false_true

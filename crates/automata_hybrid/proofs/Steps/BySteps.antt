@@ -1,6 +1,6 @@
 -- Searches by steps stand where their steps led.
-use Rattle.std.proofs.Common.{ℕ, suc, ◌≡◌, ◌∙◌, ◌+◌, ◌*◌, ◌-◌, ◌<◌, ◌≤◌, ◌⊎◌, inl, inr, Bool, true, false, List, []}
-use Rattle.std.proofs.Common.{◌∷◌, length, Option, Some, None, refl, sym, ap, subst, arith, get_or, add-zero}
+use Rattle.std.proofs.Common.{ℕ, suc, ◌≡◌, ◌∙◌, ◌+◌, ◌*◌, ◌-◌, ◌<◌, ◌≤◌, ◌⊎◌, inl, inr, Bool, true, false, []}
+use Rattle.std.proofs.Common.{length, Option, Some, None, refl, sym, ap, subst, arith, get_or, add-zero}
 use Rattle.std.specs.Prelude.{IsBitSet}
 use Rattle.automata_base.specs.Answers.Answers.{later}
 use Rattle.automata_base.specs.ByteClasses.Classes.{is_quit}
@@ -11,7 +11,6 @@ use Rattle.automata_base.specs.Powersets.Powerset.{Powerset, dead}
 use Rattle.automata_base.specs.Retraced.Steps.{start_state_of, successor}
 use Rattle.automata_base.specs.Haystacks.Tapes.{Forward, byte_before}
 use Rattle.automata_base.specs.Answers.OfPasses.{ReportedEndsAreRight}
-use Rattle.automata_base.proofs.Paths.Orders.{some_inj, none_some}
 use Rattle.automata_config.specs.Options.{match_kind_of}
 use Rattle.automata_hybrid.specs.Cache.Caches.{CacheView}
 use Rattle.automata_hybrid.specs.Cache.Ids.{dead_id, fixed_from, quit_id}
@@ -30,6 +29,9 @@ use Rattle.automata_hybrid.proofs.Searches.PassState.{more_ends, more_last, star
 use Rattle.automata_hybrid.proofs.Searches.Skips.{finds_none, finds_some, found_reported}
 use Rattle.automata_hybrid.proofs.Steps.Ids.{Leads-untagged, low_bit}
 use Rattle.automata_hybrid.proofs.Searches.Units.{forward_unit, forward_units, nth_past, nth_read}
+use Rattle.automata_hybrid.proofs.Cases.{some_none}
+use Rattle.automata_hybrid.proofs.Steps.Steps.{no_quit_unit}
+use Rattle.automata_hybrid.proofs.Searches.Runs.{first_half}
 
 first_span : (input : Input) → input ≡ later Forward 0 input
 first_span input = ap (λ n. record input { start = n }) (sym (add-zero input.start))
@@ -93,14 +95,6 @@ unit_in :
 unit_in input at None from upto inside past = forward_unit input at from upto inside ∙ nth_past input.haystack at past
 unit_in input at (Some byte) from upto inside (less, e) = forward_unit input at from upto inside ∙ nth_read input.haystack at byte 0 less e
 
-unquit_unit : (m : Machine) (u : Option ℕ) → quits_on m u ≡ false → (byte : ℕ) → u ≡ Some byte → is_quit m.quits byte ≡ false
-unquit_unit m None e byte h = absurd (none_some h)
-unquit_unit m (Some b) e byte h = subst (λ v. is_quit m.quits v ≡ false) (some_inj h) e
-
-first_half : (ps : List ℕ) (p at : ℕ) → 0 < length ps → p ≡ get_or ps 0 0 → ◌≡◌ {A = Option HalfMatch} (Some (record { pattern = p; offset = at })) (half_at ps at None)
-first_half [] p at some e = absurd (omega (arith, some))
-first_half (x ∷ xs) p at some e = ap (λ v. Some (record { pattern = v; offset = at })) e
-
 -- a search that stands at an offset takes a step from there
 module _ (m : Machine) (input : Input) (old new : CacheView) (at id to : ℕ) (u : Option ℕ) (before : Tagged m old.store.table)
     (after : Tagged m new.store.table) (stands : StandsAt m old input at id) (unit : IsUnitAt input at u)
@@ -159,7 +153,7 @@ module _ (m : Machine) (input : Input) (old new : CacheView) (at id to : ℕ) (u
     -- the unit is no quit byte
     module _ (clean : quits_on m u ≡ false) where
       free : (byte : ℕ) → u ≡ Some byte → is_quit m.quits byte ≡ false
-      free = unquit_unit m u clean
+      free = no_quit_unit m u clean
 
       reads : (q : Powerset) → Names old.store.table id q → Leads new.store.table to (successor m.nfa (match_kind_of m.config) q u)
       reads q n = answer.named clean q n
@@ -171,15 +165,12 @@ module _ (m : Machine) (input : Input) (old new : CacheView) (at id to : ℕ) (u
       found_here : IsBitSet to 27 → (pattern : ℕ) → IsFirstPattern new to pattern → IsFirstMatch m input (Some (record { pattern = pattern; offset = at }))
       found_here b pattern first =
           let reports : (q : Powerset) → Leads new.store.table to q → ◌≡◌ {A = Option HalfMatch} (Some (record { pattern = pattern; offset = at })) (half_at q.patterns at None) =
-          λ q l. first_half q.patterns pattern at (tagged_leads q l b) (named_first q l) in
+          λ q l. first_half q.patterns pattern at None (tagged_leads q l b) (named_first q l) in
           record {
-            found = more_ends Forward m old.store.table new.store.table input k id to u None (Some (record { pattern = pattern; offset = at })) under.at reads_unit reads free (at, place, reports) few stands.early (λ h. some_none h);
-            clean = clean_ends Forward m old.store.table new.store.table input k id to u None (Some (record { pattern = pattern; offset = at })) under.at reads_unit reads free (at, place, reports) stands.early (λ h. some_none h) under.may.0;
+            found = more_ends Forward m old.store.table new.store.table input k id to u None (Some (record { pattern = pattern; offset = at })) under.at reads_unit reads free (at, place, reports) few stands.early some_none;
+            clean = clean_ends Forward m old.store.table new.store.table input k id to u None (Some (record { pattern = pattern; offset = at })) under.at reads_unit reads free (at, place, reports) stands.early some_none under.may.0;
             supported = under.may.1;
           } where
-            some_none : ◌≡◌ {A = Option HalfMatch} (Some (record { pattern = pattern; offset = at })) None → ⊥
-            some_none h = cc
-
             named_first : (q : Powerset) → Leads new.store.table to q → pattern ≡ get_or q.patterns 0 0
             named_first q (inl (e, d)) = absurd (dead_matchless m to stride (e ∙ ap (λ (n : Machine). dead_id (table_stride n)) after.of) b)
             named_first q (inr n) = first q n

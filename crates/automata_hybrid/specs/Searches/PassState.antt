@@ -5,7 +5,6 @@ use Rattle.automata_base.specs.ByteClasses.Classes.{is_quit}
 use Rattle.automata_base.specs.Haystacks.Input.{Input}
 use Rattle.automata_base.specs.Haystacks.Matches.{HalfMatch}
 use Rattle.automata_base.specs.Paths.Paths.{next}
-use Rattle.automata_base.specs.Powersets.Powerset.{Powerset, dead}
 use Rattle.automata_base.specs.Paths.Selections.{Pair}
 use Rattle.automata_base.specs.Haystacks.Tapes.{Direction}
 use Rattle.automata_base.specs.Answers.OfPasses.{reported_over}
@@ -15,11 +14,11 @@ use Rattle.automata_config.specs.declared.error.StepError.TheVariants as step
 use Rattle.automata_config.specs.declared.error.SearchError.{SearchError}
 use Rattle.automata_config.specs.declared.error.SearchError.TheVariants as search
 use Rattle.automata_hybrid.specs.Machines.Machine.{Machine, table_stride}
-use Rattle.automata_hybrid.specs.Cache.Table.{Rows, Names, Leads}
+use Rattle.automata_hybrid.specs.Cache.Table.{Rows, Names}
 use Rattle.automata_hybrid.specs.Searches.Passes.{HasReadNoQuit, Reads, tape_in, state_in, reported_in}
 use Rattle.automata_hybrid.specs.Cache.Stores.{Stored}
 use Rattle.automata_hybrid.specs.Searches.Cached.{KnowsItsStart, KnowsUnit}
-use Rattle.automata_hybrid.specs.Cache.Ids.{HasOnly, IsRunTag, unknown_id, HasDeadTag}
+use Rattle.automata_hybrid.specs.Cache.Ids.{HasOnly, IsRunTag, unknown_id}
 use Rattle.automata_hybrid.specs.Steps.Steps.{known_step, unit_class}
 use Rattle.automata_config.specs.Options.{match_kind_of}
 
