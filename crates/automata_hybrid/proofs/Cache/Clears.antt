@@ -13,9 +13,10 @@ use Rattle.automata_hybrid.specs.declared.dfa.row.Row.{Row}
 use Rattle.automata_hybrid.specs.Cache.Ids.{dead_id}
 use Rattle.automata_hybrid.specs.Machines.Machine.{Machine, start_of, table_stride}
 use Rattle.automata_hybrid.specs.Cache.Table.{Rows, id_of, Names, MayLead, with_row}
-use Rattle.automata_hybrid.specs.Cache.Clears.{AllStarts, row_of, put_if, put, or_unknown, Kept, KeepsSlot, keep_found}
+use Rattle.automata_hybrid.specs.Cache.Clears.{AllStarts, row_of, put, Kept, KeepsSlot, keep_found}
 use Rattle.automata_hybrid.specs.Cache.Clears.{keep_slot, keep_slots, IsPut}
 use Rattle.automata_hybrid.proofs.Cache.Rows.{Names-more, at_push, find_id-push_other}
+use Rattle.std.specs.Option.{is_some, unwrap_or}
 
 pub keep_slots-push : (old : Rows) (k : Kept) (ids : List ℕ) (id : ℕ) → keep_slots old k (ids ++ id ∷ []) ≡ keep_slot old (keep_slots old k ids) id
 unfolding keep_slots
@@ -24,13 +25,13 @@ keep_slots-push old k (x ∷ ids) id = keep_slots-push old (keep_slot old k x) i
 
 pub put-of : (t : Rows) (r : Row) → (put t r).of ≡ t.of
 put-of t r = go (id_of t r.state) where
-  go : (o : Option ℕ) → (put_if o t r).of ≡ t.of
+  go : (o : Option ℕ) → (cond (is_some o) t (with_row t r)).of ≡ t.of
   go None = refl
   go (Some n) = refl
 
 pub put-length : (t : Rows) (r : Row) → length (put t r).rows ≤ length t.rows + 1
 put-length t r = go (id_of t r.state) where
-  go : (o : Option ℕ) → length (put_if o t r).rows ≤ length t.rows + 1
+  go : (o : Option ℕ) → length (cond (is_some o) t (with_row t r)).rows ≤ length t.rows + 1
   go None = omega (arith, length-append t.rows (r ∷ []))
   go (Some n) = omega arith
 
@@ -56,14 +57,14 @@ AllStarts-more t r xs all slot id e = go (all slot id e) where
 
 pub AllStarts-put : (t : Rows) (r : Row) (xs : List ℕ) → AllStarts t xs → AllStarts (put t r) xs
 AllStarts-put t r xs all = go (id_of t r.state) where
-  go : (o : Option ℕ) → AllStarts (put_if o t r) xs
+  go : (o : Option ℕ) → AllStarts (cond (is_some o) t (with_row t r)) xs
   go None = AllStarts-more t r xs all
   go (Some n) = all
 
 put_id : (before after : Rows) (starts : List ℕ) (r : Row) (n : ℕ) → after ≡ put before r → Names after n r.state → keep_found (Some r) (record { table = before; starts = starts }) ≡ record { table = after; starts = starts ++ n ∷ [] }
 put_id before after starts r n e named =
     let f : id_of (put before r) r.state ≡ Some n = subst (λ (u : Rows). id_of u r.state ≡ Some n) e named in
-    λ i. record { table = sym e i; starts = starts ++ or_unknown (f i) ∷ [] }
+    λ i. record { table = sym e i; starts = starts ++ unwrap_or (f i) (2 ^ 31) ∷ [] }
 
 -- a slot that names a row
 pub kept_row : (old before after : Rows) (starts : List ℕ) (id n : ℕ) → IsPut old before after id n → id < 2 ^ 29 → keep_slot old (record { table = before; starts = starts }) id ≡ record { table = after; starts = starts ++ n ∷ [] }

@@ -20,7 +20,6 @@ use Rattle.automata_hybrid.specs.Steps.Steps.{IsStepAnswer, IsStepEffect, KnowsS
 use Rattle.automata_hybrid.specs.Cache.Stores.{Stored, with_searched}
 use Rattle.automata_hybrid.specs.Cache.Table.{Names}
 use Rattle.automata_hybrid.proofs.Cache.Growth.{grown_moved, grown_trans, nothing_second}
-use Rattle.automata_hybrid.proofs.Steps.Steps.{no_quit_unit}
 use Rattle.automata_hybrid.proofs.Steps.Ids.{refused}
 use Rattle.automata_hybrid.proofs.Searches.UnitsRead.{finished_moved}
 use Rattle.std.proofs.lemmas.Bool.{cases_lt}
@@ -36,7 +35,7 @@ pub reported_refusal :
     → IsStepRefusedAt m id unit at old new e → IsReadRefusal m id unit quit_at at old new e
 reported_refusal m id unit quit_at at old new e h q n =
     subst (IsStepRefusal m new.store q unit quit_at at) (sym h.reported)
-    (refused m old.store new.store q unit quit_at at h.error (no_quit_unit m unit h.refused.clean)
+    (refused m old.store new.store q unit quit_at at h.error h.refused.clean
     (λ other names known. (let one : other ≡ id = cc in h.refused.unknown (subst (λ k. KnowsStep m old.store k unit) one known)))
     (ap (λ (v : CacheView). v.store) h.refused.unchanged) (λ c. h.refused.gives_up c q n))
 

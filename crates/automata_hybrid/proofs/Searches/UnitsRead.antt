@@ -16,7 +16,7 @@ use Rattle.automata_hybrid.specs.Cache.Changes.{IsComputed, cleared_saving, grow
 use Rattle.automata_hybrid.specs.Searches.Cached.{KnowsUnit}
 use Rattle.automata_hybrid.specs.Cache.Ids.{unknown_id}
 use Rattle.automata_hybrid.specs.Machines.Machine.{Machine, slot_count}
-use Rattle.automata_hybrid.specs.Cache.Progress.{finished, from_place, moved_to, progress_cleared, saturated, total_len}
+use Rattle.automata_hybrid.specs.Cache.Progress.{finished, progress_cleared, saturated, total_len}
 use Rattle.automata_hybrid.specs.Cache.Progress.{updated}
 use Rattle.automata_hybrid.specs.Searches.Units.{IsStepTaken}
 use Rattle.automata_hybrid.specs.Searches.Progress.{AreUnitsRead, EndsAtLast, HasEndedAfter, HasItsStart, IsLeftAt}
@@ -34,12 +34,11 @@ use Rattle.automata_hybrid.proofs.Searches.PassState.{reads_before, state_more}
 use Rattle.std.proofs.lemmas.Bool.{cases_lt}
 
 -- a search that moves twice is where it moved last
-moves_twice : (r : Option Progress) (x at : ℕ) → moved_to (moved_to r x) at ≡ moved_to r at
-moves_twice None x at = refl
-moves_twice (Some p) x at = refl
-
 pub updated_twice : (s : Searched) (x at : ℕ) → updated (updated s x) at ≡ updated s at
-updated_twice s x at = ap (λ (r : Option Progress). record { bytes = s.bytes; running = r }) (moves_twice s.running x at)
+updated_twice s x at = go s.running where
+  go : (r : Option Progress) → updated (updated (record { bytes = s.bytes; running = r }) x) at ≡ updated (record { bytes = s.bytes; running = r }) at
+  go None = refl
+  go (Some p) = refl
 
 ends_moved : (s t : Searched) (at : ℕ) → updated s at ≡ updated t at → finished s at ≡ finished t at
 ends_moved s t at e = ap (λ (v : Searched). record { bytes = total_len v; running = None }) e
@@ -322,7 +321,7 @@ closes_cleared s at = go s.running where
   done : ℕ → Searched
   done n = record { bytes = saturated n; running = None }
 
-  go : (r : Option Progress) → finished (record { bytes = 0; running = from_place (moved_to r at) }) at ≡ record { bytes = 0; running = None }
+  go : (r : Option Progress) → finished (progress_cleared (updated (record { bytes = s.bytes; running = r }) at)) at ≡ record { bytes = 0; running = None }
   go None = refl
   go (Some p) = ap done none
 

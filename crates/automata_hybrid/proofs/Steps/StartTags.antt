@@ -9,7 +9,7 @@ use Rattle.automata_hybrid.specs.Cache.Ids.{tags}
 use Rattle.automata_hybrid.specs.Cache.Growth.{IsStartTagged, MayHaveStartTag}
 use Rattle.automata_hybrid.specs.Cache.Table.{IsKnownState, Rows, fresh, id_of, has_patterns, Names, HasRowIds, KeepsStartTags}
 use Rattle.automata_hybrid.specs.Cache.Table.{TagsNewStates, row_id, with_row}
-use Rattle.automata_hybrid.specs.Cache.Clears.{put_if, put, row_of, Kept, keep_found, keep_slot, keep_slots}
+use Rattle.automata_hybrid.specs.Cache.Clears.{put, row_of, Kept, keep_found, keep_slot, keep_slots}
 use Rattle.automata_hybrid.specs.Cache.Stores.{Stored, IsKnownStart}
 use Rattle.automata_hybrid.specs.Cache.Usage.{cleared}
 use Rattle.automata_hybrid.specs.Cache.Changes.{cleared_saving, put_found, IsAdded, IsComputed, IsStarted}
@@ -18,6 +18,7 @@ use Rattle.automata_hybrid.proofs.Cache.Places.{Found, find_id-Found, bit_of, ze
 use Rattle.automata_hybrid.proofs.Steps.Effects.{one_id}
 use Rattle.automata_config.specs.Options.{specialize_start_states_of}
 use Rattle.automata_hybrid.specs.Machines.Machine.{slot_count, start_of, table_stride}
+use Rattle.std.specs.Option.{is_some}
 
 -- the start tag of an ID at a row's offset
 tags_start : (x : ℕ) (a b : Bool) → x < 2 ^ 27 → IsBitSet (x + tags a b) 28 ↔ (a ≡ true)
@@ -91,7 +92,7 @@ from_row old t r has all k x h = go (at_push t.rows r k x h) where
 
 from_put : (old t : Rows) (r : Row) → IsIn old r → AllFrom old t → AllFrom old (put t r)
 from_put old t r has all = go (id_of t r.state) where
-  go : (o : Option ℕ) → AllFrom old (put_if o t r)
+  go : (o : Option ℕ) → AllFrom old (cond (is_some o) t (with_row t r))
   go None = from_row old t r has all
   go (Some n) = all
 

@@ -16,7 +16,7 @@ use Rattle.automata_hybrid.specs.Cache.Table.{IsKnownState, HasCells, HasItsMatc
 use Rattle.automata_hybrid.specs.Cache.Table.{Rows, TagsNewStates}
 use Rattle.automata_hybrid.specs.Cache.Stores.{Stored, IsKnownStart, KeepsStarts, with_start}
 use Rattle.automata_hybrid.specs.Cache.Usage.{GivesUp, cleared}
-use Rattle.automata_hybrid.specs.Cache.Changes.{AddsRow, IsOneChange, IsStarted, slot_row}
+use Rattle.automata_hybrid.specs.Cache.Changes.{AddsRow, IsOneChange, IsStarted}
 use Rattle.automata_hybrid.specs.Cache.Caches.{CacheView, HoldsRow, IsCacheOf, counted, with_store}
 use Rattle.automata_hybrid.specs.Cache.Progress.{saturated}
 use Rattle.automata_hybrid.specs.Steps.Starts.{IsStartAnswer, IsStartEffect, IsStartRefusal, IsStartRefusalAt}
@@ -29,6 +29,10 @@ use Rattle.automata_hybrid.proofs.Machines.StartSlots.{start_same}
 use Rattle.automata_hybrid.proofs.Steps.StartTags.{same_adds, same_keeps, started_adds, started_keeps, tagged_start}
 use Rattle.automata_config.specs.Options.{specialize_start_states_of}
 use Rattle.std.proofs.lemmas.Bool.{cases_lt}
+
+-- the row of the start state of a slot
+abbrev slot_row : Machine → ℕ → Row
+slot_row m slot = record { state = start_of m slot; started = specialize_start_states_of m.config }
 
 -- the start of a slot is that of its mode
 pub slot_state :

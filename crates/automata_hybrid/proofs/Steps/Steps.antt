@@ -14,7 +14,6 @@ use Rattle.automata_hybrid.specs.Cache.Growth.{ClearedNothing}
 use Rattle.automata_hybrid.specs.Cache.Ids.{fixed_from, quit_id, unknown_id}
 use Rattle.automata_hybrid.specs.Machines.Machine.{Machine, greatest, next_of, template_of, table_stride}
 use Rattle.automata_hybrid.specs.Cache.Progress.{saturated}
-use Rattle.automata_hybrid.specs.Searches.Passes.{IsNoQuit}
 use Rattle.automata_hybrid.specs.Steps.Steps.{IsStepAnswer, IsStepEffect, KnowsStep, quits_on, unit_class}
 use Rattle.automata_hybrid.specs.Cache.Table.{IsKnownState, HasCells, HasItsMatchTag, HasRowIds, IsCell, IsValid, Lacks, Leads}
 use Rattle.automata_hybrid.specs.Cache.Table.{Names, Rows}
@@ -321,7 +320,11 @@ module _ (m : Machine) (id : ℕ) (unit : Option ℕ) (old new : CacheView) (cla
     only = step.only;
   }
 
--- a unit that is not a quit byte
-pub no_quit_unit : (m : Machine) (unit : Option ℕ) → quits_on m unit ≡ false → IsNoQuit m unit
+-- a unit that is not a quit byte, either way it is said
+pub unit_clean : (m : Machine) (unit : Option ℕ) → ((byte : ℕ) → unit ≡ Some byte → is_quit m.quits byte ≡ false) → quits_on m unit ≡ false
+unit_clean m None free = refl
+unit_clean m (Some byte) free = free byte refl
+
+pub no_quit_unit : (m : Machine) (unit : Option ℕ) → quits_on m unit ≡ false → (byte : ℕ) → unit ≡ Some byte → is_quit m.quits byte ≡ false
 no_quit_unit m None clean byte e = absurd (none_some e)
 no_quit_unit m (Some read) clean byte e = subst (λ b. is_quit m.quits b ≡ false) (some_inj e) clean

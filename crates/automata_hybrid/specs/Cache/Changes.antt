@@ -6,10 +6,11 @@ use Rattle.automata_hybrid.specs.Cache.Table.{Rows, Leads, Lacks, IsKnownState, 
 use Rattle.automata_hybrid.specs.Cache.Clears.{put, row_of}
 use Rattle.automata_hybrid.specs.Cache.Stores.{Stored, IsKnownStart, IsKnownTransition, KeepsStarts}
 use Rattle.automata_hybrid.specs.Cache.Stores.{with_next, with_searched, with_start, with_table}
-use Rattle.automata_hybrid.specs.Machines.Machine.{IsReachable, Machine, next_of, slot_count, start_of, table_stride}
+use Rattle.automata_hybrid.specs.Machines.Machine.{IsReachable, next_of, slot_count, start_of, table_stride}
 use Rattle.automata_hybrid.specs.Cache.Usage.{Fits, cleared, refuses_to_clear}
 use Rattle.automata_config.specs.Options.{specialize_start_states_of}
 
+-- with the row that was found put back
 abbrev pub put_found : Rows → Option Row → Rows
 put_found t None = t
 put_found t (Some r) = put t r
@@ -79,17 +80,16 @@ pub record IsStepChange (old new : Stored) : Type 0 where
   pub next : ℕ
   pub computed : IsComputed old id class state (next_of old.table.of state class) new next
 
--- the row of the start state of a slot
-abbrev pub slot_row : Machine → ℕ → Row
-slot_row m slot = record { state = start_of m slot; started = specialize_start_states_of m.config }
-
 -- a start state that was not cached is computed
 pub record IsStartChange (old new : Stored) : Type 0 where
   pub slot : ℕ
   pub within : slot < slot_count old.table.of
   pub unknown : IsKnownStart old slot → ⊥
   pub id : ℕ
-  pub started : IsStarted old slot (slot_row old.table.of slot) new id
+  -- Its row has the start tag if the settings specialize start states.
+  pub started :
+      IsStarted old slot
+      (record { state = start_of old.table.of slot; started = specialize_start_states_of old.table.of.config }) new id
 
 -- a state that the cache lacks, as after a clear, is put back without the start tag
 pub record IsBackChange (old new : Stored) : Type 0 where

@@ -23,6 +23,7 @@ has_patterns q = nat_lt 0 (length q.patterns)
 abbrev pub row_id : ℕ → Row → ℕ
 row_id at r = at + tags r.started (has_patterns r.state)
 
+-- the accounted bytes of a row's state
 abbrev pub row_cost : Row → ℕ
 row_cost r = cost r.state
 

@@ -23,13 +23,15 @@ abbrev pub before_last : Direction → Searched → (at : ℕ) → Searched
 before_last Forward s at = s
 before_last Backward s at = finished s at
 
--- with the search begun at the unit at a place; come to it; ended at it
+-- with the search begun at the unit at a place
 abbrev pub with_search_begun : Direction → Input → (k : ℕ) → Stored → Stored
 with_search_begun way input k c = with_searched c (started c.searched (given_up_offset way input k))
 
+-- with the search come to that unit
 abbrev pub with_search_moved : Direction → Input → (k : ℕ) → Stored → Stored
 with_search_moved way input k c = with_searched c (updated c.searched (given_up_offset way input k))
 
+-- with the search ended at that unit
 abbrev pub with_search_ended : Direction → Input → (k : ℕ) → Stored → Stored
 with_search_ended way input k c = with_searched c (finished c.searched (given_up_offset way input k))
 

@@ -16,10 +16,11 @@ use Rattle.automata_config.specs.declared.error.SearchError.TheVariants as searc
 use Rattle.automata_hybrid.specs.Cache.Stores.{Stored}
 use Rattle.automata_hybrid.specs.Cache.Usage.{GivesUp}
 use Rattle.automata_hybrid.specs.Machines.Machine.{IsStateOf, Machine, greatest}
-use Rattle.automata_hybrid.specs.Searches.Passes.{HasReadNoQuit, IsNoQuit, IsUnitRefusal, Skips, behind_offset}
+use Rattle.automata_hybrid.specs.Searches.Passes.{HasReadNoQuit, IsUnitRefusal, Skips, behind_offset}
 use Rattle.automata_hybrid.specs.Searches.Passes.{given_up_offset}
 use Rattle.automata_hybrid.specs.Searches.Passes.{state_in, tape_in}
 use Rattle.automata_hybrid.specs.Steps.Starts.{IsStartRefusalAt, MayStart}
+use Rattle.automata_hybrid.specs.Steps.Steps.{quits_on}
 use Rattle.automata_hybrid.specs.Cache.Table.{Rows, IsKnownState, Names}
 use Rattle.automata_hybrid.specs.Walks.State.{At, Ended, Fresh, Ids, Keeping, Stage, States, Walk}
 use Rattle.automata_config.specs.Options.{match_kind_of}
@@ -85,6 +86,7 @@ pub record HasReportedAll (way : Direction) (m : Machine) (input : Input) (k : �
   pub all : AreWalked way m input pairs
   pub none_left : length pairs ≤ k
 
+-- a walk has reported `k` pairs in all, by where it stands
 abbrev pub HasReportedAt : Direction → Machine → Input → Stage → (units reported k : ℕ) → Type 0
 HasReportedAt way m input Fresh units reported k = (k ≡ 0) × (units ≡ 0)
 HasReportedAt way m input (At q) units reported k = Stands way m input q units reported k
@@ -123,7 +125,7 @@ IsResumeRefusal way m c input Ended units e = ⊥
 -- the state after the unit at place `j` reports a pair, and cannot be held: the count of those who share it cannot
 -- rise, which is reported as out of memory
 pub record IsUnheld (way : Direction) (m : Machine) (input : Input) (j : ℕ) (e : SearchError) : Type 0 where
-  pub clean : IsNoQuit m (next (tape_in way input) j)
+  pub clean : quits_on m (next (tape_in way input) j) ≡ false
   pub reports : 0 < length (state_in way m input (suc j)).patterns
   pub unskipped : Skips m → is_split input.haystack (offset_in way input j) ≡ false
   pub memory : e ≡ search.OutOfMemory
