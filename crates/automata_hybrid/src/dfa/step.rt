@@ -187,7 +187,13 @@ impl DFA {
         requires of { IsCacheOf cache.now self.now }
         requires valid { IsValid cache.now.store.table id }
         requires offset { row ≡ id % offset_limit }
-        ensures { result ≡ cell_of cache.now.store id (class_in self.now.classes byte) }
+        ensures value { result ≡ cell_of cache.now.store id (class_in self.now.classes byte) }
+        ensures below { class_in self.now.classes byte < table_stride self.now }
+        ensures quit { is_quit self.now.quits byte ≡ true → result ≡ quit_id (table_stride self.now) }
+        ensures named { is_quit self.now.quits byte ≡ false → result < unknown_id
+            → (q : Powerset) → Names cache.now.store.table id q
+            → Leads cache.now.store.table result
+            (successor self.now.nfa (match_kind_of self.now.config) q (Some byte)) }
     {
         cache.cell_in_row(id, row, self.class_of(byte))
     }

@@ -132,7 +132,7 @@ impl DFA {
         requires within { start ≤ input.now.end - input.now.start }
         requires named { Names cache.now.store.table from (state_in (way_of way) self.now input.now start) }
         ensures within { result.at ≤ input.now.end - input.now.start }
-        ensures followed { IsFollowed (way_of way) self.now cache.now.store input.now start result.at result.id }
+        ensures followed { IsFollowed (way_of way) self.now cache.now.store input.now 0 start result.at result.id }
     {
         match way {
             Way::Forward => self.follow(cache, input, Way::Forward, start, from),

@@ -45,7 +45,7 @@ loop-at-init c =
 
 pub read_met-requires-clause-met : goal.read_met-requires-clause-met
 read_met-requires-clause-met c = λ low.
-    (c.run-run.ensures.met low).1 ∙ ap (known_step c.args.self.now c.loop-at.cache.store c.run-run.result.id) c.byte_at-byte.ensures
+    (c.run-run.ensures.met low).cached ∙ ap (known_step c.args.self.now c.loop-at.cache.store c.run-run.result.id) c.byte_at-byte.ensures
 
 pub find_end-requires-clause-at : goal.find_end-requires-clause-at
 find_end-requires-clause-at c =
