@@ -1,5 +1,5 @@
 -- Cached transitions that are followed whatever they report.
-use Rattle.std.proofs.Common.{ℕ, suc, ◌≡◌, ◌∙◌, ◌<◌, ◌≤◌, ◌^◌, ◌⊎◌, inl, inr, Bool, true, false, List, [], ◌∷◌, length}
+use Rattle.std.proofs.Common.{ℕ, suc, ◌≡◌, ◌∙◌, ◌+◌, ◌-◌, ◌<◌, ◌≤◌, ◌^◌, ◌⊎◌, inl, inr, Bool, true, false, List, [], ◌∷◌, length}
 use Rattle.std.proofs.Common.{Option, Some, refl, slice_index, sym, ap, subst, arith}
 use Rattle.automata_base.specs.Answers.Answers.{offset_in}
 use Rattle.automata_base.specs.ByteClasses.Classes.{class_in, is_quit}
@@ -10,12 +10,12 @@ use Rattle.automata_base.specs.Powersets.Powerset.{Powerset}
 use Rattle.automata_base.specs.Retraced.Steps.{successor}
 use Rattle.automata_base.specs.Haystacks.Tapes.{Direction}
 use Rattle.automata_base.proofs.Paths.Orders.{some_inj}
-use Rattle.automata_hybrid.specs.Cache.Stores.{Stored, IsKnownTransition}
+use Rattle.automata_hybrid.specs.Cache.Stores.{Stored, IsKnownTransition, cell_of}
 use Rattle.automata_hybrid.specs.Cache.Ids.{IsRunTag, quit_id}
-use Rattle.automata_hybrid.specs.Steps.Steps.{unit_class}
+use Rattle.automata_hybrid.specs.Steps.Steps.{known_step, unit_class}
 use Rattle.automata_hybrid.specs.Machines.Machine.{Machine, table_stride}
 use Rattle.automata_hybrid.specs.Searches.Cached.{KnowsUnit}
-use Rattle.automata_hybrid.specs.Searches.PassState.{HasLearned, HasLearnedUnit, IsAt, IsFollowed, IsLed, IsRun}
+use Rattle.automata_hybrid.specs.Searches.PassState.{HasLearned, HasLearnedUnit, IsAt, IsFollowed, IsLed, IsMet, IsRun}
 use Rattle.automata_hybrid.specs.Searches.PassState.{IsTagAt, IsTaken, half_at, half_of}
 use Rattle.automata_hybrid.specs.Searches.Passes.{HasReadNoQuit, state_in, tape_in, reported_in}
 use Rattle.automata_hybrid.specs.Cache.Table.{Leads, Names}
@@ -64,6 +64,24 @@ led_more way m c input from k id id' byte low unit known below quit named f = go
       each : IsTaken way m c input k → (j : ℕ) → from ≤ j → j < suc k → (j < k) ⊎ (k ≤ j) → IsTaken way m c input j
       each here j l h (inl less) = f.taken j l less
       each here j l h (inr more) = let same : k ≡ j = omega (arith, h, more) in subst (IsTaken way m c input) same here
+
+-- the ID that stands in the cell of the byte at a place is the one that comes next there
+pub met_at :
+    (way : Direction) (m : Machine) (c : Stored) (input : Input) (k id to byte : ℕ)
+    → k < input.end - input.start → next (tape_in way input) k ≡ Some byte → to ≡ cell_of c id (class_in m.classes byte)
+    → class_in m.classes byte < table_stride c.table.of
+    → (is_quit m.quits byte ≡ true → to ≡ quit_id (table_stride m))
+    → (is_quit m.quits byte ≡ false → to < 2 ^ 31 → (q : Powerset) → Names c.table id q → Leads c.table to (successor m.nfa (match_kind_of m.config) q (Some byte)))
+    → Names c.table id (state_in way m input k) → IsMet way m c input k id to
+met_at way m c input k id to byte within unit value below quit named at = λ low. record {
+  within = within;
+  cached = value ∙ ap (known_step m c id) (sym unit);
+  led = λ few.
+      let one : suc k ≡ k + 1 = omega arith in
+      subst (λ n. IsLed way m c input k n to) one
+      (led_more way m c input k k id to byte few unit (subst (λ n. n < 2 ^ 31) value low) below quit named
+      (led_none way m c input k id at));
+}
 
 -- what was followed is followed on
 pub led_on :
