@@ -1,5 +1,5 @@
 -- Spans tried one after another.
-use Rattle.std.proofs.Common.{ℕ, suc, ◌≡◌, ◌<◌, ◌≤◌, ◌+◌, ◌⊎◌, inl, inr, true, Option, Some, None, false, refl, sym, ap}
+use Rattle.std.proofs.Common.{ℕ, suc, ◌≡◌, ◌<◌, ◌≤◌, ◌+◌, ◌⊎◌, inl, inr, Bool, true, Option, Some, None, false, refl, sym, ap}
 use Rattle.std.proofs.Common.{ap₂, ◌∙◌, subst, arith}
 use Rattle.automata_base.specs.Answers.Answers.{Half, later, offset_in, IsSplit, Tries}
 use Rattle.automata_base.specs.declared.util.search.Anchored.TheVariants.{No}
@@ -19,6 +19,11 @@ use Rattle.automata_hybrid.proofs.Searches.PassState.{false_true, half_none}
 use Rattle.automata_config.specs.Options.{match_kind_of}
 use Rattle.automata_base.proofs.Answers.Answered.{haystack_later}
 use Rattle.automata_hybrid.proofs.Cases.{same_some, some_none}
+
+-- offsets inside a character are skipped, or they are not
+pub skips_or_not : {A : Type 0} (b : Bool) → (b ≡ true → A) → (b ≡ false → A → ⊥) → A ⊎ (A → ⊥)
+skips_or_not true does not = inl (does refl)
+skips_or_not false does not = inr (not refl)
 
 -- the pair that a half match stands for
 pub record Stands (way : Direction) (input : Input) (o : Option Pair) (half : HalfMatch) : Type 0 where

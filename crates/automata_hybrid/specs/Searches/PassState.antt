@@ -1,5 +1,5 @@
 -- A pass under way: what the functions of a search keep from unit to unit.
-use Rattle.std.specs.Prelude.{ℕ, suc, ◌≡◌, ◌+◌, ◌-◌, ◌<◌, ◌≤◌, List, [], ◌∷◌, true, false, Option, Some, None}
+use Rattle.std.specs.Prelude.{ℕ, suc, ◌≡◌, ◌+◌, ◌-◌, ◌^◌, ◌<◌, ◌≤◌, List, [], ◌∷◌, true, false, Option, Some, None}
 use Rattle.automata_base.specs.Answers.Answers.{offset_in}
 use Rattle.automata_base.specs.ByteClasses.Classes.{is_quit}
 use Rattle.automata_base.specs.Haystacks.Input.{Input}
@@ -18,7 +18,7 @@ use Rattle.automata_hybrid.specs.Cache.Table.{Rows, Names}
 use Rattle.automata_hybrid.specs.Searches.Passes.{HasReadNoQuit, Reads, tape_in, state_in, reported_in}
 use Rattle.automata_hybrid.specs.Cache.Stores.{Stored}
 use Rattle.automata_hybrid.specs.Searches.Cached.{KnowsItsStart, KnowsUnit}
-use Rattle.automata_hybrid.specs.Cache.Ids.{HasOnly, IsRunTag, unknown_id}
+use Rattle.automata_hybrid.specs.Cache.Ids.{HasMatchTag, HasOnly, IsRunTag, unknown_id}
 use Rattle.automata_hybrid.specs.Steps.Steps.{known_step, unit_class}
 use Rattle.automata_config.specs.Options.{match_kind_of}
 
@@ -88,6 +88,18 @@ pub record LeadsOn (way : Direction) (m : Machine) (c : Stored) (input : Input) 
 -- this ID was met after another one: unless it is the unknown one, the transition on the byte at place `k` leads to it
 abbrev pub IsMet : Direction → Machine → Stored → Input → (k id met : ℕ) → Type 0
 IsMet way m c input k id met = met < unknown_id → LeadsOn way m c input k id met
+
+-- the ID that was met so has the match tag and no other
+pub record MeetsMatch (way : Direction) (m : Machine) (c : Stored) (input : Input) (k id to : ℕ) : Type 0 where
+  pub met : IsMet way m c input k id to
+  pub only : HasOnly (2 ^ 27) to
+
+-- cached transitions led a pass on, over units of its span, to the ID of a state that has patterns
+pub record IsMatchRun (way : Direction) (m : Machine) (c : Stored) (input : Input) (from to id : ℕ) : Type 0 where
+  pub further : from < to
+  pub within : to ≤ input.end - input.start
+  pub followed : IsFollowed way m c input (2 ^ 27) from to id
+  pub reports : HasMatchTag id
 
 -- each transition that a pass took on its first `k` units is cached, at a class that rows have
 abbrev pub HasLearned : Direction → Machine → Stored → Input → ℕ → Type 0

@@ -1,3 +1,6 @@
+//! The cache of a lazy DFA: its store, the buffers to determinize into, and the self-loop that was followed last.
+//! Steps, start states and searches do all that they do to a cache by these methods. A state that does not fit is
+//! added after a clear, which makes the new store beside the old one: an error leaves the cache as it was.
 ghost use Rattle.std.specs.Prelude.{ℕ, ◌≡◌, ◌*◌, ◌%◌, ◌<◌, ◌≤◌, IfOk, IfErr, OnOk, OnErr, slice_index};
 ghost use Rattle.std.specs.Prelude.{length, is_some, IsSome, IsTrue, ◌+◌, ◌↔◌, ◌⊎◌, false, None};
 ghost use Rattle.automata_base.specs.Powersets.Powerset.{Powerset, cost, dead};
@@ -47,7 +50,8 @@ pub(crate) enum Found {
 }
 
 /// The states that a lazy DFA has determinized, their transitions, and the buffers to determinize more. Its accounted
-/// bytes, `memory_usage`, never exceed the capacity of the DFA's settings, or the minimum capacity if that was raised to.
+/// bytes, `memory_usage`, never exceed the capacity of the DFA's settings, or the minimum capacity if that was raised
+/// to.
 #[derive(Drop)]
 pub struct Cache {
     store: Store,
@@ -181,7 +185,7 @@ impl Cache {
         ensures state { (q : Powerset) → Names self.now.store.table id q → result.value ≡ q }
         ensures row { IsRowState self.now.store.table.of result.value }
     {
-        self.see_store();
+        self.see_bounds();
         Snapshot::of(self.store.table.state(id))
     }
 
@@ -195,9 +199,9 @@ impl Cache {
         ensures effect { IsAgainEffect self.old self.new }
         ensures refused { IfErr result (IsAddRefused self.old self.new state) }
     {
-        self.see_store();
+        self.see_bounds();
         let id = self.add_start(dfa, state, false)?;
-        self.see_store();
+        self.see_bounds();
         Ok(id)
     }
 
@@ -225,7 +229,7 @@ impl Cache {
         ensures own { (q : Powerset) → Names self.now.store.table id q → IsOwn self.now.store.table.of.nfa q }
         ensures stride { table_stride self.now.store.table.of ≤ 512 }
     {
-        self.see_store();
+        self.see_bounds();
         self.store.table.cell(id, class)
     }
 
@@ -241,7 +245,7 @@ impl Cache {
         ensures own { (q : Powerset) → Names self.now.store.table id q → IsOwn self.now.store.table.of.nfa q }
         ensures stride { table_stride self.now.store.table.of ≤ 512 }
     {
-        self.see_store();
+        self.see_bounds();
         self.store.table.cell_in_row(id, row, class)
     }
 
@@ -311,7 +315,7 @@ impl Cache {
         ensures leads { MayLead self.now.store.table result (start_of self.now.store.table.of slot) }
         ensures tag { HasItsMatchTag self.now.store.table result }
     {
-        self.see_store();
+        self.see_bounds();
         self.store.starts[slot]
     }
 
@@ -339,9 +343,7 @@ impl Cache {
         requires leads { Leads self.old.store.table id (start_of self.old.store.table.of slot) }
         ensures value { self.new ≡ with_store self.old (with_start self.old.store slot id) }
         ensures written { slice_index self.new.store.starts slot ≡ id }
-        ensures found { slice_index self.new.store.starts slot < unknown_id }
     {
-        self.see_store();
         self.store.starts[slot] = id;
     }
 
@@ -394,14 +396,6 @@ impl Cache {
         ensures { result ≡ dead_id (table_stride self.now.store.table.of) }
     {
         LazyStateID::dead(self.store.table.stride() as u32)
-    }
-
-    /// What is true of each cache. It does nothing.
-    pub(crate) fn see_store(&self)
-        ensures { IsSoundStore self.now.store }
-    {
-        let _clears = self.store.clears;
-        self.store.table.see_rows();
     }
 
     /// The number of patterns of a row's state.
@@ -513,8 +507,8 @@ impl Cache {
         self.store.searched.count(bytes);
     }
 
-    /// The accounted bytes: rows of cells, states, start slots and the buffers of determinization. They never exceed the
-    /// capacity, or the minimum capacity if that was raised to.
+    /// The accounted bytes: rows of cells, states, start slots and the buffers of determinization. They never exceed
+    /// the capacity, or the minimum capacity if that was raised to.
     ///
     /// ```rust
     /// /// How many bytes the cache accounts for.
@@ -529,10 +523,13 @@ impl Cache {
         self.store.memory_usage()
     }
 
-    /// The cache is within the settings of the DFA that it belongs to. It does nothing.
+    /// What is true of each cache; among it, that it is within the settings of the DFA that it belongs to. It does
+    /// nothing.
     pub fn see_bounds(&self)
-        ensures { IsStoreOf self.now.store self.now.store.table.of }
+        ensures bounds { IsStoreOf self.now.store self.now.store.table.of }
+        ensures sound { IsSoundStore self.now.store }
     {
+        let _clears = self.store.clears;
         self.store.table.see_rows();
     }
 }

@@ -1,3 +1,5 @@
+//! What a clear keeps: the start states, with the slots that name them, and the state that the step which needs room
+//! is taken from. They are put into a new table, and nothing of the old one changes.
 ghost use Rattle.std.specs.Prelude.{◌≡◌, ◌+◌, ◌*◌, ◌^◌, ◌<◌, None, IfOk, OnOk};
 ghost use Rattle.std.specs.Prelude.{OnErr, length, sum_by};
 ghost use Rattle.automata_base.specs.Powersets.Powerset.{Powerset};

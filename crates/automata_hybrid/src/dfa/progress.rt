@@ -1,3 +1,4 @@
+//! How many bytes were searched since the last clear. A search gives up only if they are few for the number of states.
 ghost use Rattle.std.specs.Prelude.{◌≡◌, ◌+◌, ◌-◌, Some, None};
 ghost use Rattle.automata_hybrid.specs.Cache.Progress.{distance, started, updated, finished, total_len};
 ghost use Rattle.automata_hybrid.specs.Cache.Progress.{progress_cleared, saturated};

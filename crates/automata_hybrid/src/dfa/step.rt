@@ -1,5 +1,8 @@
+//! Steps: the ID of the state after a byte, or after the haystack's end, as it is cached or by determinizing it; and
+//! the patterns that match at a state.
 ghost use Rattle.std.specs.Prelude.{◌≡◌, ◌%◌, ◌<◌, None, Some, IfOk, IfErr, length};
 ghost use Rattle.std.specs.Prelude.{slice_index, true, false};
+ghost use Rattle.automata_base.specs.Haystacks.Tapes.{Backward};
 ghost use Rattle.automata_base.specs.Powersets.Powerset.{Powerset};
 ghost use Rattle.automata_base.specs.Retraced.Steps.{successor};
 ghost use Rattle.automata_hybrid.specs.Machines.Machine.{table_stride};
@@ -8,7 +11,7 @@ ghost use Rattle.automata_hybrid.specs.Cache.Stores.{cell_of};
 ghost use Rattle.automata_hybrid.specs.Cache.Caches.{HoldsRow, IsCacheOf};
 ghost use Rattle.automata_hybrid.specs.Cache.Ids.{quit_id, unknown_id, offset_limit, HasMatchTag};
 ghost use Rattle.automata_base.specs.ByteClasses.Classes.{class_in, is_quit};
-ghost use Rattle.automata_hybrid.specs.Steps.BySteps.{StepsOn};
+ghost use Rattle.automata_hybrid.specs.Steps.BySteps.{StepsIn, StepsOn};
 ghost use Rattle.automata_hybrid.specs.Steps.Steps.{IsStepAnswer, IsStepRefused, IsStepEffect, KnowsStep, quits_on};
 ghost use Rattle.automata_config.specs.Options.{match_kind_of};
 
@@ -35,8 +38,9 @@ impl Cache {
         ensures refusal { IfErr result (IsStepRefused dfa.now id unit self.old self.new) }
         ensures effect { IsStepEffect dfa.now id unit self.old self.new }
         ensures stands { IfOk result (StepsOn dfa.now self.old self.new id unit) }
+        ensures back { IfOk result (StepsIn Backward dfa.now self.old self.new id unit) }
     {
-        self.see_store();
+        self.see_bounds();
         if id.is_fixed() {
             return Ok(id);
         }
@@ -46,7 +50,7 @@ impl Cache {
             return Ok(cell);
         }
         let next = self.compute_next(dfa, id, unit)?;
-        self.see_store();
+        self.see_bounds();
         Ok(next)
     }
 
@@ -67,19 +71,19 @@ impl Cache {
         ensures refusal { IfErr result (IsStepRefused dfa.now id unit self.old self.new) }
         ensures effect { IsStepEffect dfa.now id unit self.old self.new }
     {
-        self.see_store();
+        self.see_bounds();
         let class = dfa.unit_class(unit);
         let key = self.determinize(dfa, id, class, unit)?;
         match self.resolve(dfa, key)? {
             Found::Known(to) => {
                 self.set_next(id, class, to);
-                self.see_store();
+                self.see_bounds();
                 Ok(to)
             }
             Found::New(state) => {
                 let (from, to) = self.add_next(dfa, id, state)?;
                 self.set_next(from, class, to);
-                self.see_store();
+                self.see_bounds();
                 Ok(to)
             }
         }
@@ -111,6 +115,7 @@ impl DFA {
         ensures refusal { IfErr result (IsStepRefused self.now id (Some byte) cache.old cache.new) }
         ensures effect { IsStepEffect self.now id (Some byte) cache.old cache.new }
         ensures stands { IfOk result (StepsOn self.now cache.old cache.new id (Some byte)) }
+        ensures back { IfOk result (StepsIn Backward self.now cache.old cache.new id (Some byte)) }
     {
         cache.next(self, id, Some(byte))
     }
@@ -131,6 +136,7 @@ impl DFA {
         ensures refusal { IfErr result (IsStepRefused self.now id None cache.old cache.new) }
         ensures effect { IsStepEffect self.now id None cache.old cache.new }
         ensures stands { IfOk result (StepsOn self.now cache.old cache.new id None) }
+        ensures back { IfOk result (StepsIn Backward self.now cache.old cache.new id None) }
     {
         cache.next(self, id, None)
     }
@@ -207,7 +213,7 @@ impl DFA {
         ensures number { (q : Powerset) → Names cache.now.store.table id q → result ≡ length q.patterns }
         ensures some { 0 < result }
     {
-        cache.see_store();
+        cache.see_bounds();
         cache.match_len(id)
     }
 
@@ -228,7 +234,7 @@ impl DFA {
         requires index { (q : Powerset) → Names cache.now.store.table id q → index < length q.patterns }
         ensures { (q : Powerset) → Names cache.now.store.table id q → result ≡ slice_index q.patterns index }
     {
-        cache.see_store();
+        cache.see_bounds();
         cache.match_pattern(id, index)
     }
 }

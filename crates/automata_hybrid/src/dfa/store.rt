@@ -1,3 +1,6 @@
+//! What a clear replaces: the table of states, the start slots, the count of clears and the progress of searches. The
+//! rules of the settings are here: what a state costs, whether it fits, and whether a search gives up in place of a
+//! clear.
 ghost use Rattle.std.specs.Prelude.{ℕ, ◌≡◌, ◌+◌, ◌*◌, ◌<◌, ◌≤◌, ◌↔◌, None, IfOk, IfErr, OnOk, OnErr, length, IsTrue};
 ghost use Rattle.std.specs.Prelude.{true};
 ghost use Rattle.automata_base.specs.Powersets.Powerset.{Powerset, cost};

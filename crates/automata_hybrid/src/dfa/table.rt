@@ -1,3 +1,6 @@
+//! The transition table: a row of cells for each state, after the three fixed rows (unknown, dead and quit), and the
+//! map from states to the IDs of their rows. An ID has the offset of its row, so that a step adds a class and loads
+//! one cell. The cell is unknown until the step has been taken once.
 ghost use Rattle.std.specs.Prelude.{ℕ, ◌≡◌, ◌+◌, ◌-◌, ◌*◌, ◌/◌, ◌%◌, ◌^◌, ◌<◌, ◌≤◌, None, Some, IfOk, IsTrue};
 ghost use Rattle.std.specs.Prelude.{◌↔◌, OnOk, OnErr, length, slice_index, slice_set, slice_get, sum_by, false, cond};
 ghost use Rattle.automata_base.specs.Powersets.Powerset.{Powerset, cost};

@@ -32,15 +32,6 @@ pub(crate) struct Arrival {
 }
 
 impl DFA {
-    /// Offsets inside a character are skipped, or they are not.
-    pub(crate) fn see_skips(&self)
-        ensures { Skips self.now ⊎ (Skips self.now → ⊥) }
-    {
-        let nfa = self.get_nfa();
-        let _utf8 = nfa.is_utf8();
-        let _empty = nfa.has_empty();
-    }
-
     /// The start state of a search in a direction.
     #[inline(always)]
     pub(crate) fn walk_start(
@@ -85,7 +76,6 @@ impl DFA {
         ensures refusal { IfErr result (IsUnitRefusal (way_of way) self.now cache.new.store input.now place) }
         ensures effect { IsUnitEffect (way_of way) self.now input.now place cache.old cache.new result }
     {
-        let _haystack = input.haystack();
         let at = span_offset(input, way, place);
         let quit_at = unit_offset(input, way, place);
         self.read(cache, id, unit_at(input, way, place), quit_at, at)
@@ -111,7 +101,7 @@ impl DFA {
             → (Skips self.now × (is_split input.now.haystack (offset_in (way_of way) input.now place) ≡ true))
             ⊎ ((q : Powerset) → Names cache.now.store.table id q → q.patterns ≡ []) }
     {
-        cache.see_store();
+        cache.see_bounds();
         if !id.is_match() {
             return false;
         }
@@ -166,7 +156,7 @@ impl DFA {
         while read <= last {
             let stop = self.follow_walk(cache, input, way, read, id);
             let next = self.read_unit(cache, input, way, stop.id, stop.at)?;
-            cache.see_store();
+            cache.see_bounds();
             if next.is_dead() {
                 return Ok(Arrival {
                     id: None,

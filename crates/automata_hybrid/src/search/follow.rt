@@ -1,10 +1,9 @@
 //! Following cached transitions, eight a turn: into states that report nothing or into match states, and along
 //! self-loops.
-ghost use Rattle.std.specs.Prelude.{◌≡◌, ◌+◌, ◌-◌, ◌^◌, ◌<◌, ◌≤◌};
-ghost use Rattle.automata_base.specs.Paths.Paths.{next};
+ghost use Rattle.std.specs.Prelude.{◌≡◌, ◌+◌, ◌-◌, ◌<◌, ◌≤◌};
 ghost use Rattle.automata_hybrid.specs.Cache.Caches.{IsCacheOf};
-ghost use Rattle.automata_hybrid.specs.Cache.Ids.{fixed_from, HasOnly, HasMatchTag};
-ghost use Rattle.automata_hybrid.specs.Searches.PassState.{IsFollowed, IsMet, IsRun, IsTagAt};
+ghost use Rattle.automata_hybrid.specs.Cache.Ids.{fixed_from, HasOnly};
+ghost use Rattle.automata_hybrid.specs.Searches.PassState.{IsFollowed, IsMatchRun, IsMet, IsRun, IsTagAt, MeetsMatch};
 ghost use Rattle.automata_hybrid.specs.Searches.Passes.{state_in};
 ghost use Rattle.automata_hybrid.specs.Searches.SelfLoops.{IsSelfLoop};
 ghost use Rattle.automata_hybrid.specs.Cache.Table.{IsValid, Names};
@@ -65,8 +64,8 @@ impl DFA {
         }
     }
 
-    /// Follows cached transitions into states that have patterns, from an ID after which one with the match tag alone was
-    /// met.
+    /// Follows cached transitions into states that have patterns, from an ID after which one with the match tag alone
+    /// was met.
     #[inline(always)]
     pub(super) fn follow_matches(
         &self,
@@ -80,11 +79,8 @@ impl DFA {
         requires of { IsCacheOf cache.now self.now }
         requires open { input.now.start ≤ input.now.end }
         requires named { Names cache.now.store.table from (state_in (way_of way) self.now input.now start) }
-        requires met { IsMet (way_of way) self.now cache.now.store input.now start from next × HasOnly (2 ^ 27) next }
-        ensures within { (start < result.at) × (result.at ≤ input.now.end - input.now.start) }
-        ensures followed { IsFollowed (way_of way) self.now cache.now.store input.now (2 ^ 27) start result.at
-            result.id }
-        ensures reports { HasMatchTag result.id }
+        requires met { MeetsMatch (way_of way) self.now cache.now.store input.now start from next }
+        ensures run { IsMatchRun (way_of way) self.now cache.now.store input.now start result.at result.id }
         ensures met { IsMet (way_of way) self.now cache.now.store input.now result.at result.id result.next }
     {
         let _haystack = input.haystack();
@@ -256,7 +252,6 @@ impl DFA {
         ensures within { result ≤ input.now.end - input.now.start }
         ensures loops { IsSelfLoop (way_of way) self.now cache.now.store input.now id start result }
     {
-        let _haystack = input.haystack();
         start + self.follow_self_loop(cache, id, way, bytes_from(input, way, start))
     }
 }

@@ -76,8 +76,7 @@ impl DFA {
         ensures answer { result < unknown_id → IsStepAnswer self.now id unit cache.now cache.now result }
         ensures effect { result < unknown_id → IsReadEffect self.now id unit cache.now cache.now (Ok result) }
     {
-        self.see_machine();
-        cache.see_store();
+        cache.see_bounds();
         cache.cell(id, self.unit_class(unit))
     }
 
@@ -131,7 +130,7 @@ impl DFA {
         ensures left { result.ended ≡ false
             → IsKnownUpto (way_of way) self.now cache.now.store input.now result.at result.id result.found }
     {
-        cache.see_store();
+        cache.see_bounds();
         let last = last_place(input);
         let run = self.run(cache, input, way, 0, start, None);
         let next = self.known_next(cache, input, way, run.at, run.id, run.next);

@@ -44,7 +44,7 @@ impl DFA {
         ensures { IsTrue result → (byte : ℕ) → from ≤ byte → byte < to → LoopsOn self.now cache.now.store id byte }
     {
         self.see_machine();
-        cache.see_store();
+        cache.see_bounds();
         if from >= to {
             return true;
         }

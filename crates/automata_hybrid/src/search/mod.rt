@@ -1,3 +1,9 @@
+//! Searches. Here is what one unit does to the state of a search. `follow` runs over cached transitions, and
+//! `self_loop` over a row that leads back to itself, by the ranges of bytes that `loop_range` finds and `lanes`
+//! compares. `known` is a pass over a span that only reads the cache, `pass` one that determinizes, and `half` one
+//! pass after another: the public searches for one end of a match. A `walk` is an overlapping search between its
+//! calls; `advance` takes it to the next match, `overlapping` is one call, and `which` collects the patterns of all.
+//! `direction` has all in which the two directions differ.
 ghost use Rattle.std.specs.Prelude.{◌≡◌, slice_index, ◌<◌, IfOk, IfErr, OnErr};
 ghost use Rattle.std.specs.Prelude.{Some, None, true, false};
 ghost use Rattle.automata_base.specs.Powersets.Powerset.{Powerset};
@@ -125,7 +131,7 @@ impl DFA {
         if met.is_unknown() {
             return self.step(cache, id, byte, at);
         }
-        cache.see_store();
+        cache.see_bounds();
         let _cell = cache.cell(id, self.class_of(byte));
         Ok(met)
     }
@@ -152,10 +158,10 @@ impl DFA {
         ensures step { IsReadStep self.now id (Some byte) at cache.old.store cache.new.store result }
     {
         self.see_machine();
-        cache.see_store();
+        cache.see_bounds();
         cache.move_search(at);
         let next = self.step_met(cache, id, met, byte, at)?;
-        cache.see_store();
+        cache.see_bounds();
         if next.is_quit() {
             cache.end_search(at);
             return Err(quit(byte, quit_at));
@@ -209,11 +215,11 @@ impl DFA {
         ensures kept { OnErr result (cache.new.store ≡ cache.old.store) }
     {
         self.see_machine();
-        cache.see_store();
+        cache.see_bounds();
         match unit {
             Some(byte) => {
                 let next = self.step(cache, id, byte, at)?;
-                cache.see_store();
+                cache.see_bounds();
                 if next.is_quit() {
                     return Err(quit(byte, quit_at));
                 }
@@ -240,7 +246,7 @@ impl DFA {
         ensures kept { OnErr result (cache.new.store ≡ cache.old.store) }
     {
         self.see_machine();
-        cache.see_store();
+        cache.see_bounds();
         match self.next_eoi_state(cache, id) {
             Ok(next) => Ok(next),
             Err(error) => Err(refusal(error, at)),
@@ -255,7 +261,7 @@ impl DFA {
         requires tagged { HasMatchTag id }
         ensures { (q : Powerset) → Names cache.now.store.table id q → result ≡ slice_index q.patterns 0 }
     {
-        cache.see_store();
+        cache.see_bounds();
         if self.pattern_len() == 1 {
             return PatternID::ZERO;
         }
@@ -270,7 +276,7 @@ impl DFA {
         requires tagged { HasMatchTag id }
         ensures { (q : Powerset) → Names cache.now.store.table id q → result ≡ slice_index q.patterns 0 }
     {
-        cache.see_store();
+        cache.see_bounds();
         cache.match_pattern(id, 0)
     }
 
@@ -287,7 +293,7 @@ impl DFA {
         requires leads { (q : Powerset) × Leads cache.now.store.table id q }
         ensures { (q : Powerset) → Leads cache.now.store.table id q → result ≡ half_at q.patterns at found }
     {
-        cache.see_store();
+        cache.see_bounds();
         if id.is_fixed() {
             return found;
         }

@@ -48,7 +48,7 @@ loop-read-preserved c =
     let k : ℕ = c.follow_walk-stop.result.at in
     let f : IsFollowed d c.args.self.now c.loop-read.cache.store c.args.input.now 0 c.loop-read.read k c.follow_walk-stop.result.id = c.follow_walk-stop.ensures.followed in
     let more : suc k ≡ k + 1 = omega arith in
-    let named : Names c.read_unit.new.cache.store.table c.in_ok-next.next (state_in d c.args.self.now c.args.input.now (suc k)) = (dead_tagged c.read_unit.new.cache.store.table c.in_ok-next.next (c.see_store.ensures.low c.in_ok-next.next) c.see_store.ensures.small _ c.in_ok-next.ensures.leads).1 (λ b. false_true (c.if-is_dead.ensures.1 b)) in
+    let named : Names c.read_unit.new.cache.store.table c.in_ok-next.next (state_in d c.args.self.now c.args.input.now (suc k)) = (dead_tagged c.read_unit.new.cache.store.table c.in_ok-next.next (c.see_bounds.ensures.sound.low c.in_ok-next.next) c.see_bounds.ensures.sound.small _ c.in_ok-next.ensures.leads).1 (λ b. false_true (c.if-is_dead.ensures.1 b)) in
     let clean : HasReadNoQuit d c.args.self.now c.args.input.now (suc k) = clean_more d c.args.self.now c.args.input.now k (followed_clean f c.loop-read.invariant.clean) c.in_ok-next.ensures.clean in
     let silent : IsSilent d c.args.self.now c.args.input.now c.args.units (suc k) =
     silent_step d c.args.self.now c.args.input.now c.args.units k (followed_silent f c.loop-read.invariant.silent)
@@ -91,8 +91,8 @@ returns-then-is_dead-clause-arrives c =
     let d : Direction = way_of c.args.way in
     let k : ℕ = c.follow_walk-stop.result.at in
     let f : IsFollowed d c.args.self.now c.loop-read.cache.store c.args.input.now 0 c.loop-read.read k c.follow_walk-stop.result.id = c.follow_walk-stop.ensures.followed in
-    let units : c.args.input.now.end - c.args.input.now.start ≡ length (tape_in d c.args.input.now).bytes = units_in d c.args.input.now c.requires.from.undone c.haystack-haystack.ensures.within.1 in
-    let dies : state_in d c.args.self.now c.args.input.now (suc k) ≡ dead = (dead_tagged c.read_unit.new.cache.store.table c.in_ok-next.next (c.see_store.ensures.low c.in_ok-next.next) c.see_store.ensures.small _ c.in_ok-next.ensures.leads).0 (c.if-is_dead.ensures.0 refl) in
+    let units : c.args.input.now.end - c.args.input.now.start ≡ length (tape_in d c.args.input.now).bytes = units_in d c.args.input.now c.requires.from.undone c.last_place-last.ensures.inside in
+    let dies : state_in d c.args.self.now c.args.input.now (suc k) ≡ dead = (dead_tagged c.read_unit.new.cache.store.table c.in_ok-next.next (c.see_bounds.ensures.sound.low c.in_ok-next.next) c.see_bounds.ensures.sound.small _ c.in_ok-next.ensures.leads).0 (c.if-is_dead.ensures.0 refl) in
     finish_dead d c.args.self.now c.args.input.now c.args.units k _ (omega (arith, c.loop-read.invariant.from, f.more)) (omega (arith, units, c.follow_walk-stop.ensures.within)) (omega arith)
     (clean_more d c.args.self.now c.args.input.now k (followed_clean f c.loop-read.invariant.clean) c.in_ok-next.ensures.clean) dies (followed_silent f c.loop-read.invariant.silent)
 
@@ -101,9 +101,9 @@ returns-then-reports-clause-arrives c =
     let d : Direction = way_of c.args.way in
     let k : ℕ = c.follow_walk-stop.result.at in
     let f : IsFollowed d c.args.self.now c.loop-read.cache.store c.args.input.now 0 c.loop-read.read k c.follow_walk-stop.result.id = c.follow_walk-stop.ensures.followed in
-    let units : c.args.input.now.end - c.args.input.now.start ≡ length (tape_in d c.args.input.now).bytes = units_in d c.args.input.now c.requires.from.undone c.haystack-haystack.ensures.within.1 in
+    let units : c.args.input.now.end - c.args.input.now.start ≡ length (tape_in d c.args.input.now).bytes = units_in d c.args.input.now c.requires.from.undone c.last_place-last.ensures.inside in
     let more : suc k ≡ k + 1 = omega arith in
-    let named : Names c.read_unit.new.cache.store.table c.in_ok-next.next (state_in d c.args.self.now c.args.input.now (suc k)) = (dead_tagged c.read_unit.new.cache.store.table c.in_ok-next.next (c.see_store.ensures.low c.in_ok-next.next) c.see_store.ensures.small _ c.in_ok-next.ensures.leads).1 (λ b. false_true (c.if-is_dead.ensures.1 b)) in
+    let named : Names c.read_unit.new.cache.store.table c.in_ok-next.next (state_in d c.args.self.now c.args.input.now (suc k)) = (dead_tagged c.read_unit.new.cache.store.table c.in_ok-next.next (c.see_bounds.ensures.sound.low c.in_ok-next.next) c.see_bounds.ensures.sound.small _ c.in_ok-next.ensures.leads).1 (λ b. false_true (c.if-is_dead.ensures.1 b)) in
     let yes = c.reports.ensures.yes c.if-reports.true in
     record {
       place = k;
@@ -120,7 +120,7 @@ returns-then-reports-clause-arrives c =
 pub returns-clause-arrives : goal.returns-clause-arrives
 returns-clause-arrives c =
     let d : Direction = way_of c.args.way in
-    let units : c.args.input.now.end - c.args.input.now.start ≡ length (tape_in d c.args.input.now).bytes = units_in d c.args.input.now c.requires.from.undone c.haystack-haystack.ensures.within.1 in
+    let units : c.args.input.now.end - c.args.input.now.start ≡ length (tape_in d c.args.input.now).bytes = units_in d c.args.input.now c.requires.from.undone c.last_place-last.ensures.inside in
     let all : c.loop-read.read ≡ suc (length (tape_in d c.args.input.now).bytes) = omega (arith, units, c.loop-read-test.false, c.last_place-last.ensures.place, c.loop-read.invariant.within) in
     finish_read d c.args.self.now c.args.input.now c.args.units c.loop-read.read all c.loop-read.invariant.from c.loop-read.invariant.clean c.loop-read.invariant.silent
 

@@ -34,22 +34,22 @@ returns-then-not-has_only-clause-run c =
 
 pub returns-clause-at : goal.returns-clause-at
 returns-clause-at c =
-    let matches = c.follow_matches-stop.ensures.followed in
-    let further = c.follow_matches-stop.ensures.within.0 in
+    let matches = c.follow_matches-stop.ensures.run.followed in
+    let further = c.follow_matches-stop.ensures.run.further in
     let here : c.follow_matches-stop.result.at ≡ suc (c.follow_matches-stop.result.at - 1) = omega (arith, further) in
     let t : Rows = c.args.cache.now.store.table in
-    matched_at matches (c.follow_matches-stop.result.at - 1) c.place_offset-offset.result (sym c.get_earliest.ensures ∙ c.if-get_earliest.false) here c.place_offset-offset.ensures
-    ((c.see_store.ensures.tagged _ _ matches.named).0 c.follow_matches-stop.ensures.reports)
-    (λ q l. ap (λ (h : HalfMatch). Some h) c.new.ensures ∙ first_half q.patterns c.first_pattern-pattern.result c.place_offset-offset.result c.args.found ((c.see_store.ensures.tagged _ q (Leads-Names t _ q l (c.see_store.ensures.low _ _ matches.named))).0 c.follow_matches-stop.ensures.reports) (c.first_pattern-pattern.ensures q (Leads-Names t _ q l (c.see_store.ensures.low _ _ matches.named))))
+    matched_at matches (c.follow_matches-stop.result.at - 1) c.place_offset-offset.result (sym c.get_earliest.ensures ∙ c.if-get_earliest.false) here c.place_offset-offset.ensures.value
+    ((c.see_bounds.ensures.sound.tagged _ _ matches.named).0 c.follow_matches-stop.ensures.run.reports)
+    (λ q l. ap (λ (h : HalfMatch). Some h) c.new.ensures ∙ first_half q.patterns c.first_pattern-pattern.result c.place_offset-offset.result c.args.found ((c.see_bounds.ensures.sound.tagged _ q (Leads-Names t _ q l (c.see_bounds.ensures.sound.low _ _ matches.named))).0 c.follow_matches-stop.ensures.run.reports) (c.first_pattern-pattern.ensures q (Leads-Names t _ q l (c.see_bounds.ensures.sound.low _ _ matches.named))))
     (followed_at c.follow-quiet.ensures.followed c.requires.at)
 
 pub returns-clause-run : goal.returns-clause-run
 returns-clause-run c =
     let followed = c.follow-quiet.ensures.followed in
-    let matches = c.follow_matches-stop.ensures.followed in
+    let matches = c.follow_matches-stop.ensures.run.followed in
     record {
       more = omega (arith, followed.more, matches.more);
-      within = c.follow_matches-stop.ensures.within.1;
+      within = c.follow_matches-stop.ensures.run.within;
       known = known_after followed matches;
       learned = λ learned. followed_learned matches (followed_learned followed learned);
     }
