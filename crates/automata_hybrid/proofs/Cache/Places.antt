@@ -14,7 +14,7 @@ use Rattle.automata_hybrid.specs.Cache.Ids.{HasOnly, tags}
 use Rattle.automata_hybrid.specs.Machines.Machine.{IsStateOf, next_of, greatest, template_of, table_stride}
 use Rattle.std.specs.List.{sum_by}
 use Rattle.std.proofs.lemmas.List.Sums.{sum_by-cons}
-use Rattle.automata_hybrid.specs.Cache.Table.{Rows, has_patterns, find_id, Names, IsValid, Leads, IsCell, row_id}
+use Rattle.automata_hybrid.specs.Cache.Table.{Rows, has_patterns, find_id, Names, IsRowId, Leads, IsCell, row_id}
 use Rattle.automata_hybrid.specs.Cache.Table.{with_cell, cell_at, AreRows, IsStepped, HasState}
 use Rattle.automata_hybrid.specs.Cache.Table.{row_cost}
 use Rattle.automata_hybrid.proofs.Cache.Rows.{inside}
@@ -152,7 +152,7 @@ AreRows-costs t i = costs_le t.rows (greatest t.of) (λ k r h. (i.alive k r h).1
 pub placed_valid :
     (t : Rows) (id index : ℕ) (r : Row)
     → AreRows t → 3 ≤ index → slice_get t.rows (index - 3) ≡ Some r → index * table_stride t.of ≡ id % 2 ^ 27 → id ≡ row_id (id % 2 ^ 27) r
-    → IsValid t id
+    → IsRowId t id
 placed_valid t id index r i three has at same =
     let place : index - 3 + 3 ≡ index = omega (arith, three) in
     let e : id ≡ row_id ((index - 3 + 3) * table_stride t.of) r = same ∙ ap (λ n. row_id n r) (sym at ∙ ap (λ n. n * table_stride t.of) (sym place)) in
@@ -168,7 +168,7 @@ pub record IsAtRow (t : Rows) (id index : ℕ) : Type 0 where
   pub same : id ≡ row_id (id % 2 ^ 27) row
 
 pub valid_at :
-    (t : Rows) (id : ℕ) → AreRows t → 0 < table_stride t.of → IsValid t id → IsAtRow t id ((id % 2 ^ 27) / table_stride t.of)
+    (t : Rows) (id : ℕ) → AreRows t → 0 < table_stride t.of → IsRowId t id → IsAtRow t id ((id % 2 ^ 27) / table_stride t.of)
 valid_at t id i positive v =
     let p = Names-Placed t id v.0 i v.1 in
     let index : (id % 2 ^ 27) / table_stride t.of ≡ p.place + 3 = Placed-place t id v.0 positive p in

@@ -13,7 +13,7 @@ use Rattle.automata_hybrid.specs.Cache.Growth.{IsGrown}
 use Rattle.automata_hybrid.specs.Cache.Ids.{fixed_from, unknown_id}
 use Rattle.automata_hybrid.specs.Searches.Cached.{IsOfInput}
 use Rattle.automata_hybrid.specs.Machines.Machine.{Machine, table_stride}
-use Rattle.automata_hybrid.specs.Cache.Progress.{finished, updated}
+use Rattle.automata_hybrid.specs.Cache.Progress.{progress_finished, progress_updated}
 use Rattle.automata_hybrid.specs.Searches.Units.{IsReadEffect, IsReadRefusal, IsReadStep, IsStepRefusedAt, IsStepTaken}
 use Rattle.automata_hybrid.specs.Searches.Passes.{IsStepRefusal}
 use Rattle.automata_hybrid.specs.Steps.Steps.{IsStepAnswer, IsStepEffect, KnowsStep, known_step, quits_on, unit_class}
@@ -139,8 +139,8 @@ step_taken m id unit old new to low effect a = go (cases_lt (known_step m old.st
 
 -- a search moved to an offset, and then the step on a unit was made
 module _ (m : Machine) (id : ℕ) (unit : Option ℕ) (at : ℕ) (old mid next : CacheView)
-    (moved : mid ≡ with_store old (with_searched old.store (updated old.store.searched at))) where
-  there : mid.store ≡ with_searched old.store (updated old.store.searched at)
+    (moved : mid ≡ with_store old (with_searched old.store (progress_updated old.store.searched at))) where
+  there : mid.store ≡ with_searched old.store (progress_updated old.store.searched at)
   there = ap (λ (v : CacheView). v.store) moved
 
   pub took_step :
@@ -157,7 +157,7 @@ module _ (m : Machine) (id : ℕ) (unit : Option ℕ) (at : ℕ) (old mid next :
 
   pub quit_step :
       (e : SearchError) (new : CacheView) → quits_on m unit ≡ true → IsStepEffect m id unit mid next
-      → new ≡ with_store next (with_searched next.store (finished next.store.searched at))
+      → new ≡ with_store next (with_searched next.store (progress_finished next.store.searched at))
       → IsReadStep m id unit at old.store new.store (Err e)
   quit_step e new on effect ended = record {
     taken = tt;
@@ -165,7 +165,7 @@ module _ (m : Machine) (id : ℕ) (unit : Option ℕ) (at : ℕ) (old mid next :
         inl (
           on,
           ap (λ (v : CacheView). v.store) ended
-              ∙ (ap (λ (v : CacheView). with_searched v.store (finished v.store.searched at)) (effect.quit on ∙ moved)
+              ∙ (ap (λ (v : CacheView). with_searched v.store (progress_finished v.store.searched at)) (effect.quit on ∙ moved)
               ∙ ap (λ (s : Searched). with_searched old.store s) (finished_moved old.store.searched at at)),
         );
   }

@@ -17,7 +17,7 @@ use Rattle.automata_hybrid.specs.Machines.OwnStates.{IsOwn}
 use Rattle.automata_hybrid.specs.Searches.PassState.{IsFollowed, IsRun, IsTagAt}
 use Rattle.automata_hybrid.specs.Searches.Passes.{state_in, tape_in}
 use Rattle.automata_hybrid.specs.Cache.Stores.{Stored, cell_of}
-use Rattle.automata_hybrid.specs.Cache.Table.{IsCell, IsValid, Leads, MayLead, Names}
+use Rattle.automata_hybrid.specs.Cache.Table.{IsCell, IsRowId, Leads, MayLead, Names}
 use Rattle.automata_hybrid.specs.declared.search.loop_range.LoopRange.{LoopRange}
 use Rattle.automata_hybrid.specs.declared.search.self_loop.KnownLoop.{KnownLoop}
 use Rattle.automata_hybrid.proofs.Searches.Runs.{followed_none, followed_on, followed_one}
@@ -51,7 +51,7 @@ LoopsIn c id class = (cell_of c id class ≡ id) × ((q : Powerset) → Names c.
 loops_in :
     (m : Machine) (c : Stored) (id byte : ℕ)
     → IsMachine m → AreClasses m.classes → c.table.of ≡ m → ((q : Powerset) → Names c.table id q → IsOwn c.table.of.nfa q)
-    → IsValid c.table id → id < 2 ^ 29 → byte < 256 → LoopsIn c id (class_in m.classes byte) → LoopsOn m c id byte
+    → IsRowId c.table id → id < 2 ^ 29 → byte < 256 → LoopsIn c id (class_in m.classes byte) → LoopsOn m c id byte
 loops_in m c id byte machine are of own valid plain few loops = record {
   clean = go (is_quit m.quits byte) refl (cell valid.0 valid.1);
   known = subst (λ n. n < 2 ^ 31) (sym loops.0) (omega (arith, plain));
@@ -98,7 +98,7 @@ loops_in m c id byte machine are of own valid plain few loops = record {
 pub loops_among :
     (m : Machine) (c : Stored) (id from to first last : ℕ)
     → IsMachine m → AreClasses m.classes → c.table.of ≡ m → ((q : Powerset) → Names c.table id q → IsOwn c.table.of.nfa q)
-    → IsValid c.table id → id < 2 ^ 29 → from < to → to ≤ 256
+    → IsRowId c.table id → id < 2 ^ 29 → from < to → to ≤ 256
     → first ≡ class_in m.classes from → last ≡ class_in m.classes (to - 1)
     → ((class : ℕ) → first ≤ class → class < last + 1 → LoopsIn c id class)
     → (byte : ℕ) → from ≤ byte → byte < to → LoopsOn m c id byte

@@ -3,7 +3,7 @@ use Rattle.std.proofs.Common.{refl, sym, ap, subst, arith, get_or, Option}
 use Rattle.automata_base.specs.Lists.{In}
 use Rattle.automata_base.specs.Powersets.Powerset.{Powerset, dead}
 use Rattle.automata_hybrid.specs.Machines.Machine.{Machine, table_stride}
-use Rattle.automata_hybrid.specs.Cache.Table.{Rows, IsValid, Leads, Names}
+use Rattle.automata_hybrid.specs.Cache.Table.{Rows, IsRowId, Leads, Names}
 use Rattle.automata_hybrid.specs.Cache.Ids.{quit_id}
 use Rattle.automata_hybrid.specs.Cache.Caches.{CacheView, HoldsRow}
 use Rattle.automata_hybrid.specs.Cache.Stores.{Stored, IsCacheError}
@@ -20,13 +20,13 @@ use Rattle.automata_base.specs.Retraced.Steps.{successor}
 use Rattle.automata_config.specs.Options.{match_kind_of}
 
 -- an ID that is not fixed is that of a row
-pub HoldsRow-valid : (c : CacheView) (id : ℕ) → HoldsRow c id → id < 2 ^ 29 → IsValid c.store.table id
+pub HoldsRow-valid : (c : CacheView) (id : ℕ) → HoldsRow c id → id < 2 ^ 29 → IsRowId c.store.table id
 HoldsRow-valid c id (inl e) l = absurd (omega (arith, e, l))
 HoldsRow-valid c id (inr (inl e)) l = absurd (omega (arith, e, l))
 HoldsRow-valid c id (inr (inr h)) l = h
 
 -- an ID of a row with the match tag is neither dead nor quit
-pub HoldsRow-matched : (c : CacheView) (id : ℕ) → table_stride c.store.table.of ≤ 512 → HoldsRow c id → IsBitSet id 27 → IsValid c.store.table id
+pub HoldsRow-matched : (c : CacheView) (id : ℕ) → table_stride c.store.table.of ≤ 512 → HoldsRow c id → IsBitSet id 27 → IsRowId c.store.table id
 HoldsRow-matched c id small (inl e) b = absurd (zero_one ((bit_of 27 (table_stride c.store.table.of) 8 id (omega (arith, small)) (omega (arith, e))).0 b))
 HoldsRow-matched c id small (inr (inl e)) b = absurd (zero_one ((bit_of 27 (2 * table_stride c.store.table.of) 4 id (omega (arith, small)) (omega (arith, e))).0 b))
 HoldsRow-matched c id small (inr (inr v)) b = v

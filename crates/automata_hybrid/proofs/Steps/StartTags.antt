@@ -12,7 +12,7 @@ use Rattle.automata_hybrid.specs.Cache.Table.{TagsNewStates, row_id, with_row}
 use Rattle.automata_hybrid.specs.Cache.Clears.{put, row_of, Kept, keep_found, keep_slot, keep_slots}
 use Rattle.automata_hybrid.specs.Cache.Stores.{Stored, IsKnownStart}
 use Rattle.automata_hybrid.specs.Cache.Usage.{cleared}
-use Rattle.automata_hybrid.specs.Cache.Changes.{cleared_saving, put_found, IsAdded, IsComputed, IsStarted}
+use Rattle.automata_hybrid.specs.Cache.Changes.{cleared_saving, put_found, IsStateAdded, IsComputed, IsStarted}
 use Rattle.automata_hybrid.proofs.Cache.Rows.{at_push}
 use Rattle.automata_hybrid.proofs.Cache.Places.{Found, find_id-Found, bit_of, zero_one}
 use Rattle.automata_hybrid.proofs.Steps.Effects.{one_id}
@@ -129,7 +129,7 @@ from_grown old t r none all k x h = go (at_push t.rows r k x h) where
   go (inl e) = inl (all k x e)
   go (inr (e, f)) = inr (subst (λ (y : Row). id_of old y.state ≡ None) f none, ap (λ (y : Row). y.started) (sym f))
 
-from_added : (old emptied new : Stored) (r : Row) → id_of old.table r.state ≡ None → AllFrom old.table emptied.table → IsAdded old emptied r new → AllFromOr old.table new.table r.started
+from_added : (old emptied new : Stored) (r : Row) → id_of old.table r.state ≡ None → AllFrom old.table emptied.table → IsStateAdded old emptied r new → AllFromOr old.table new.table r.started
 from_added old emptied new r none all (inl (fits, e)) = subst (λ (s : Stored). AllFromOr old.table s.table r.started) (sym e) (from_grown old.table old.table r none (λ k x h. (k, h)))
 from_added old emptied new r none all (inr (full, may, e)) = subst (λ (s : Stored). AllFromOr old.table s.table r.started) (sym e) (from_grown old.table emptied.table r none all)
 
@@ -163,7 +163,7 @@ module _ (old new : Stored) (slot id : ℕ) (r : Row) (ids_old : HasRowIds old.t
   started_adds = tags_new old.table new.table r.started ids_old ids_new (from_started old new slot id r done)
 
 -- a state that is put back has none
-module _ (old new : Stored) (r : Row) (ids_old : HasRowIds old.table) (ids_new : HasRowIds new.table) (none : id_of old.table r.state ≡ None) (done : IsAdded old (cleared old) r new) where
+module _ (old new : Stored) (r : Row) (ids_old : HasRowIds old.table) (ids_new : HasRowIds new.table) (none : id_of old.table r.state ≡ None) (done : IsStateAdded old (cleared old) r new) where
   pub again_keeps : KeepsStartTags old.table new.table
   again_keeps = keeps_tags old.table new.table r.started ids_old ids_new (from_added old (cleared old) new r none (from_cleared old) done)
 

@@ -8,14 +8,14 @@ use Rattle.automata_base.specs.Retraced.Steps.{successor}
 use Rattle.automata_base.proofs.Paths.Orders.{none_some, some_inj}
 use Rattle.automata_hybrid.specs.Cache.Stores.{IsKnownTransition, KeepsStarts, Stored, cell_of, with_next}
 use Rattle.automata_hybrid.specs.Cache.Usage.{GivesUp}
-use Rattle.automata_hybrid.specs.Cache.Changes.{AddsNext, IsAdded, IsComputed, IsOneChange, cleared_saving}
+use Rattle.automata_hybrid.specs.Cache.Changes.{AddsNext, IsStateAdded, IsComputed, IsOneChange, cleared_saving}
 use Rattle.automata_hybrid.specs.Cache.Caches.{CacheView, HoldsRow, IsCacheOf, counted, with_store}
 use Rattle.automata_hybrid.specs.Cache.Growth.{ClearedNothing}
 use Rattle.automata_hybrid.specs.Cache.Ids.{fixed_from, quit_id, unknown_id}
 use Rattle.automata_hybrid.specs.Machines.Machine.{Machine, greatest, next_of, template_of, table_stride}
 use Rattle.automata_hybrid.specs.Cache.Progress.{saturated}
 use Rattle.automata_hybrid.specs.Steps.Steps.{IsStepAnswer, IsStepEffect, KnowsStep, quits_on, unit_class}
-use Rattle.automata_hybrid.specs.Cache.Table.{IsKnownState, HasCells, HasItsMatchTag, HasRowIds, IsCell, IsValid, Lacks, Leads}
+use Rattle.automata_hybrid.specs.Cache.Table.{IsKnownState, HasCells, HasItsMatchTag, HasRowIds, IsCell, IsRowId, Lacks, Leads}
 use Rattle.automata_hybrid.specs.Cache.Table.{Names, Rows}
 use Rattle.automata_hybrid.proofs.Cache.Usage.{Leads-known}
 use Rattle.automata_hybrid.proofs.Steps.Effects.{Keeps-computed, roomy-computed, written-computed}
@@ -64,7 +64,7 @@ fixed_answer m id unit c high below row = record {
   apart q n = let low : id < fixed_from = below q n in absurd (omega (arith, low, high))
 
 -- what a cell reports at the class of a unit
-module _ (m : Machine) (id : ℕ) (unit : Option ℕ) (c : CacheView) (class next : ℕ) (of : IsCacheOf c m) (valid : IsValid c.store.table id)
+module _ (m : Machine) (id : ℕ) (unit : Option ℕ) (c : CacheView) (class next : ℕ) (of : IsCacheOf c m) (valid : IsRowId c.store.table id)
     (at : class ≡ unit_class m unit) (small : table_stride m ≤ 512)
     (quit : quits_on m unit ≡ true → slice_index (template_of m) class ≡ quit_id (table_stride m))
     (free : quits_on m unit ≡ false → slice_index (template_of m) class ≡ unknown_id)
@@ -207,8 +207,8 @@ computes_new m id unit old mid between new class from next state key was adds co
           (let to : key ≡ successor m.nfa (match_kind_of m.config) q unit = same q n in
           let none : Lacks old.store.table (successor m.nfa (match_kind_of m.config) q unit) =
           subst (λ (s : Stored). Lacks s.table (successor m.nfa (match_kind_of m.config) q unit)) before (subst (λ (p : Powerset). Lacks mid.store.table p) to lacks) in
-          let grew : IsAdded old.store (cleared_saving old.store id) (record { state = successor m.nfa (match_kind_of m.config) q unit; started = false }) between.store =
-          subst (λ (p : Powerset). IsAdded old.store (cleared_saving old.store id) (record { state = p; started = false }) between.store) (is ∙ to) added.row.effect in
+          let grew : IsStateAdded old.store (cleared_saving old.store id) (record { state = successor m.nfa (match_kind_of m.config) q unit; started = false }) between.store =
+          subst (λ (p : Powerset). IsStateAdded old.store (cleared_saving old.store id) (record { state = p; started = false }) between.store) (is ∙ to) added.row.effect in
           inr (none, from, between.store, grew, added.saved q n, refl));
       leads = λ q n. inr (subst (λ (p : Powerset). Names between.store.table next p) (is ∙ same q n) added.row.named);
       only = λ q n p has. subst (λ (x : Powerset). IsKnownState old.store.table p ⊎ (p ≡ x)) (is ∙ same q n) (added.row.only p (record { id = has.id; named = has.named }));
@@ -244,7 +244,7 @@ computed_room old new id class next q target (inr (lacks, from, between, inr (fu
 
 -- what a computed step answers, and what it makes of the cache
 module _ (m : Machine) (id : ℕ) (unit : Option ℕ) (old new : CacheView) (class next : ℕ) (step : ComputesStep m id unit old new class next)
-    (of : IsCacheOf old m) (valid : IsValid old.store.table id) (low : id < fixed_from)
+    (of : IsCacheOf old m) (valid : IsRowId old.store.table id) (low : id < fixed_from)
     (clean : quits_on m unit ≡ false) (unknown : KnowsStep m old.store id unit → ⊥)
     (at : class ≡ unit_class m unit) (below : class < table_stride m) (cells : HasCells old.store.table) where
   within : class < table_stride old.store.table.of

@@ -11,7 +11,7 @@ use Rattle.automata_hybrid.specs.Cache.Growth.{ClearedNothing, IsGrown}
 use Rattle.automata_hybrid.specs.Walks.Cached.{HasLearnedUnits, IsToRead, KnowsItsState, KnowsUnits, KnowsWalk}
 use Rattle.automata_hybrid.specs.Machines.Machine.{Machine}
 use Rattle.automata_hybrid.specs.Walks.Contracts.{IsCallEffect}
-use Rattle.automata_hybrid.specs.Cache.Progress.{finished, started}
+use Rattle.automata_hybrid.specs.Cache.Progress.{progress_finished, progress_started}
 use Rattle.automata_hybrid.specs.Walks.Parts.{IsAdvanceEffect, IsCallRefused, IsResumeAnswer, IsResumeEffect}
 use Rattle.automata_hybrid.specs.Searches.Progress.{AreUnitsRead, HasEndedAfter, with_search_begun}
 use Rattle.automata_hybrid.specs.Walks.Progress.{IsCallStopped}
@@ -37,7 +37,7 @@ module _ (way : Direction) (m : Machine) (input : Input) (w : Walk) (from : ℕ)
     (inside : input.end ≤ length input.haystack) (skips : Skips m ⊎ (Skips m → ⊥)) (reported : IsWalkOf way m input w) (r : IsToRead input w.stage w.units w.reported)
     (e : IsResumeEffect {T = ℕ} way m input w.stage old between (Ok from))
     (resumes : IsResumeAnswer way m input w between.store from)
-    (begins : begun ≡ with_store between (with_searched between.store (started between.store.searched (given_up_offset way input w.units))))
+    (begins : begun ≡ with_store between (with_searched between.store (progress_started between.store.searched (given_up_offset way input w.units))))
     (arrival : Arrival) (a : IsAdvanceEffect way m input w.units begun mid (Ok arrival))
     (arrives : IsArrival way m mid.store.table input w.units arrival.id arrival.units) where
   counts : begun.count ≡ between.count
@@ -99,7 +99,7 @@ module _ (way : Direction) (m : Machine) (input : Input) (w : Walk) (from : ℕ)
   -- and the search ended at the last unit that was read
   module _ (keeping : Keeping) (next : Walk) (new : CacheView) (at : ℕ) (units : next.units ≡ arrival.units)
       (place : at ≡ given_up_offset way input (arrival.units - 1))
-      (ends : new ≡ with_store mid (with_searched mid.store (finished mid.store.searched at)))
+      (ends : new ≡ with_store mid (with_searched mid.store (progress_finished mid.store.searched at)))
       (stops : next.stage ≡ Ended → (next.found ≡ None) × (WalkReads way m input arrival.units → ⊥)) where
     ended_count : new.count ≡ mid.count
     ended_count = ap (λ (v : CacheView). v.count) ends

@@ -2,7 +2,7 @@
 use Rattle.std.specs.Prelude.{◌≡◌, ℕ, ◌+◌, ◌⊎◌}
 use Rattle.automata_hybrid.specs.Cache.Ids.{dead_id, quit_id}
 use Rattle.automata_hybrid.specs.Machines.Machine.{Machine, table_stride}
-use Rattle.automata_hybrid.specs.Cache.Table.{IsValid}
+use Rattle.automata_hybrid.specs.Cache.Table.{IsRowId}
 use Rattle.automata_hybrid.specs.Cache.Stores.{Stored, fresh_store}
 
 -- what contracts see of a cache: its states, and how often it determinized
@@ -30,4 +30,4 @@ with_store c s = record { store = s; count = c.count }
 abbrev pub HoldsRow : CacheView → (id : ℕ) → Type 0
 HoldsRow c id =
     (id ≡ dead_id (table_stride c.store.table.of))
-    ⊎ ((id ≡ quit_id (table_stride c.store.table.of)) ⊎ IsValid c.store.table id)
+    ⊎ ((id ≡ quit_id (table_stride c.store.table.of)) ⊎ IsRowId c.store.table id)

@@ -25,15 +25,15 @@ cleared_saving c id = with_table (cleared c) (put_found (cleared c).table (row_o
 
 -- what adding a state that is absent does: the cache grows if the state fits, and else it is cleared first, if the
 -- clear rule allows that; this is what the clear leaves
-abbrev pub IsAdded : (old emptied : Stored) → Row → Stored → Type 0
-IsAdded old emptied r new =
+abbrev pub IsStateAdded : (old emptied : Stored) → Row → Stored → Type 0
+IsStateAdded old emptied r new =
     (Fits old (cost r.state) × (new ≡ grown old r))
     ⊎ ((Fits old (cost r.state) → ⊥) × (refuses_to_clear old ≡ false) × (new ≡ grown emptied r))
 
 -- what adding a state that is absent returns: its ID
 pub record AddsRow (old emptied new : Stored) (r : Row) (id : ℕ) : Type 0 where
   -- The cache grew, or was cleared first.
-  pub effect : IsAdded old emptied r new
+  pub effect : IsStateAdded old emptied r new
   -- The ID names the state.
   pub named : Names new.table id r.state
   -- No other state was added.
@@ -58,7 +58,7 @@ abbrev pub IsComputed : Stored → (id class : ℕ) → (q target : Powerset) �
 IsComputed old id class q target new next =
     (Leads old.table next target × (new ≡ with_next old id class next))
     ⊎ (Lacks old.table target × (from : ℕ) × (between : Stored)
-    × IsAdded old (cleared_saving old id) (record { state = target; started = false }) between
+    × IsStateAdded old (cleared_saving old id) (record { state = target; started = false }) between
     × Names between.table from q
     × (new ≡ with_next between from class next))
 
@@ -66,7 +66,7 @@ IsComputed old id class q target new next =
 abbrev pub IsStarted : Stored → (slot : ℕ) → Row → Stored → ℕ → Type 0
 IsStarted old slot r new id =
     (Leads old.table id r.state × (new ≡ with_start old slot id))
-    ⊎ (Lacks old.table r.state × (between : Stored) × IsAdded old (cleared old) r between
+    ⊎ (Lacks old.table r.state × (between : Stored) × IsStateAdded old (cleared old) r between
     × (new ≡ with_start between slot id))
 
 -- a transition that was not cached is computed
@@ -96,7 +96,7 @@ pub record IsBackChange (old new : Stored) : Type 0 where
   pub state : Powerset
   pub lacks : Lacks old.table state
   pub reached : IsReachable old.table.of state
-  pub added : IsAdded old (cleared old) (record { state = state; started = false }) new
+  pub added : IsStateAdded old (cleared old) (record { state = state; started = false }) new
 
 -- a step, a start state, or a state that is put back; one that fails changes nothing
 abbrev pub IsOneChange : Stored → Stored → Type 0

@@ -128,8 +128,8 @@ pub record AreRows (t : Rows) : Type 0 where
   pub alive : IsAlive t
 
 -- some row has exactly this ID
-abbrev pub IsValid : Rows → ℕ → Type 0
-IsValid t id = (q : Powerset) × Names t id q
+abbrev pub IsRowId : Rows → ℕ → Type 0
+IsRowId t id = (q : Powerset) × Names t id q
 
 -- the index of a cell in the list of all cells
 abbrev pub cell_at : ℕ → ℕ → ℕ
@@ -137,7 +137,7 @@ cell_at id class = id % offset_limit + class
 
 -- each row has a cell for each class
 abbrev pub HasCells : Rows → Type 0
-HasCells t = (id class : ℕ) → IsValid t id → class < table_stride t.of → cell_at id class < length t.cells
+HasCells t = (id class : ℕ) → IsRowId t id → class < table_stride t.of → cell_at id class < length t.cells
 
 -- IDs of rows have no high tag
 abbrev pub HasLowIds : Rows → Type 0
@@ -152,7 +152,7 @@ abbrev pub HasOwnStates : Rows → Type 0
 HasOwnStates t = (id : ℕ) (q : Powerset) → Names t id q → IsOwn t.of.nfa q
 
 -- what is true of the rows of each table
-pub record IsSound (t : Rows) : Type 0 where
+pub record IsSoundTable (t : Rows) : Type 0 where
   pub rows : AreRows t
   pub template : IsTemplate (table_stride t.of) (template_of t.of)
   -- The states cost no more than so many of the dearest.

@@ -80,14 +80,14 @@ pub record IsRun (way : Direction) (m : Machine) (c : Stored) (input : Input) (t
 
 -- the cached transition on the byte at place `k` leads from one ID to another; a pass follows it, if that has no tag or
 -- the match tag alone
-pub record LeadsOn (way : Direction) (m : Machine) (c : Stored) (input : Input) (k id to : ℕ) : Type 0 where
+pub record IsNextId (way : Direction) (m : Machine) (c : Stored) (input : Input) (k id to : ℕ) : Type 0 where
   pub within : k < input.end - input.start
   pub cached : to ≡ known_step m c id (next (tape_in way input) k)
   pub run : (tag : ℕ) → IsRunTag tag → HasOnly tag to → IsRun way m c input tag k (k + 1) to
 
 -- this ID was met after another one: unless it is the unknown one, the transition on the byte at place `k` leads to it
 abbrev pub IsMet : Direction → Machine → Stored → Input → (k id met : ℕ) → Type 0
-IsMet way m c input k id met = met < unknown_id → LeadsOn way m c input k id met
+IsMet way m c input k id met = met < unknown_id → IsNextId way m c input k id met
 
 -- the ID that was met so has the match tag and no other
 pub record MeetsMatch (way : Direction) (m : Machine) (c : Stored) (input : Input) (k id to : ℕ) : Type 0 where

@@ -23,15 +23,17 @@ abbrev pub units_before : Direction → Input → (at : ℕ) → ℕ
 units_before Forward input at = at - input.start
 units_before Backward input at = input.end - at
 
--- the offset at which it begins, the one at which it has read the span, and the one after one byte more
+-- the offset at which a search begins
 abbrev pub first_offset : Direction → Input → ℕ
 first_offset Forward input = input.start
 first_offset Backward input = input.end
 
+-- the offset at which it has read the span
 abbrev pub last_offset : Direction → Input → ℕ
 last_offset Forward input = input.end
 last_offset Backward input = input.start
 
+-- the offset one byte later
 abbrev pub offset_after : Direction → (at : ℕ) → ℕ
 offset_after Forward at = at + 1
 offset_after Backward at = at - 1
@@ -57,6 +59,7 @@ pub record Stands (way : Direction) (m : Machine) (c : CacheView) (input : Input
       ((id ≡ dead_id (table_stride m)) × IsPassAnswer way m input None)
       ⊎ IsUnderway way m c.store.table input (units_before way input at) id None
 
+-- a forward search stands so
 abbrev pub StandsAt : Machine → CacheView → Input → (at id : ℕ) → Type 0
 StandsAt m c input at id = Stands Forward m c input at id
 
@@ -67,6 +70,7 @@ IsUnitIn Forward input at (Some byte) = (at < length input.haystack) × (byte �
 IsUnitIn Backward input at None = at ≡ 0
 IsUnitIn Backward input at (Some byte) = (0 < at) × (byte ≡ slice_index input.haystack (at - 1))
 
+-- the unit at an offset: this byte of the haystack, or its end
 abbrev pub IsUnitAt : Input → (at : ℕ) → Option ℕ → Type 0
 IsUnitAt input at unit = IsUnitIn Forward input at unit
 
@@ -99,6 +103,7 @@ pub record IsStepIn (way : Direction) (m : Machine) (c : CacheView) (input : Inp
   pub last :
       (HasMatchTag next → ⊥) → (HasQuitTag next → ⊥) → at ≡ last_offset way input → IsPassAnswer way m input None
 
+-- a step of a forward search led to this ID
 abbrev pub IsStepAt : Machine → CacheView → Input → (at next : ℕ) → Type 0
 IsStepAt m c input at next = IsStepIn Forward m c input at next
 
@@ -107,6 +112,7 @@ abbrev pub StartsIn : Direction → Machine → CacheView → Input → (id : �
 StartsIn way m c input id =
     input.earliest ≡ true → input.start ≤ input.end → Stands way m c input (first_offset way input) id
 
+-- a forward search stands where it begins by this ID
 abbrev pub StartsAt : Machine → CacheView → Input → (id : ℕ) → Type 0
 StartsAt m c input id = StartsIn Forward m c input id
 
@@ -116,6 +122,7 @@ StepsIn way m old new id unit next =
     (input : Input) (at : ℕ) → Stands way m old input at id → IsUnitIn way input at unit
     → IsStepIn way m new input at next
 
+-- a step leads each forward search that stands there on
 abbrev pub StepsOn : Machine → (old new : CacheView) → (id : ℕ) → (unit : Option ℕ) → (next : ℕ) → Type 0
 StepsOn m old new id unit next = StepsIn Forward m old new id unit next
 

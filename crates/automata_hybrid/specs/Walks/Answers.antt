@@ -26,8 +26,8 @@ use Rattle.automata_hybrid.specs.Walks.State.{At, Ended, Fresh, Ids, Keeping, St
 use Rattle.automata_config.specs.Options.{match_kind_of}
 
 -- the pairs that a pass reports by its first `k` units; their places are the pass's
-abbrev pub pairs_in : Direction → Machine → Input → ℕ → List Pair
-pairs_in way m input k = pairs_reported m.nfa (match_kind_of m.config) input.anchored (tape_in way input) k
+abbrev pub pairs_reported_in : Direction → Machine → Input → ℕ → List Pair
+pairs_reported_in way m input k = pairs_reported m.nfa (match_kind_of m.config) input.anchored (tape_in way input) k
 
 -- the whole list of a walk, by offsets
 abbrev pub AreWalked : Direction → Machine → Input → List Pair → Type 0
@@ -42,7 +42,7 @@ half_nth (pair ∷ pairs) (suc k) = half_nth pairs k
 -- by its first `n` units a pass reports `k` pairs to a walk, the split ones left out if they are skipped
 pub record HasReportedBy (way : Direction) (m : Machine) (input : Input) (n k : ℕ) : Type 0 where
   pub pairs : List Pair
-  pub unsplit : AreUnsplit (Skips m) way input (pairs_in way m input n) pairs
+  pub unsplit : AreUnsplit (Skips m) way input (pairs_reported_in way m input n) pairs
   pub count : k ≡ length pairs
 
 -- a walk over this input reads the unit at place `k`: the state there is not dead
@@ -62,7 +62,8 @@ pub record IsRowState (m : Machine) (q : Powerset) : Type 0 where
 
 -- a walk stands at the state after the unit at a place that is not skipped, none of its units a quit byte; it has
 -- reported `reported` patterns of this state, at least one, and `k` pairs in all
-pub record Stands (way : Direction) (m : Machine) (input : Input) (q : Powerset) (units reported k : ℕ) : Type 0 where
+pub record StandsAtState (way : Direction) (m : Machine) (input : Input) (q : Powerset) (units reported k : ℕ) :
+    Type 0 where
   pub undone : input.start ≤ input.end
   pub may : MayStart m input.anchored (tape_in way input).before
   pub place : ℕ
@@ -89,7 +90,7 @@ pub record HasReportedAll (way : Direction) (m : Machine) (input : Input) (k : �
 -- a walk has reported `k` pairs in all, by where it stands
 abbrev pub HasReportedAt : Direction → Machine → Input → Stage → (units reported k : ℕ) → Type 0
 HasReportedAt way m input Fresh units reported k = (k ≡ 0) × (units ≡ 0)
-HasReportedAt way m input (At q) units reported k = Stands way m input q units reported k
+HasReportedAt way m input (At q) units reported k = StandsAtState way m input q units reported k
 HasReportedAt way m input Ended units reported k = HasReportedAll way m input k
 
 -- a walk has reported the first `k` pairs of the walk over this input

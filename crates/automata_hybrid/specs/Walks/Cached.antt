@@ -14,7 +14,7 @@ use Rattle.automata_hybrid.specs.Searches.PassState.{HasLearnedUnit}
 use Rattle.automata_hybrid.specs.Searches.Passes.{HasReadNoQuit, Skips, tape_in}
 use Rattle.automata_hybrid.specs.Steps.Starts.{MayStart}
 use Rattle.automata_hybrid.specs.Cache.Table.{IsKnownState}
-use Rattle.automata_hybrid.specs.Walks.Answers.{HasReported, HasReportedBy, WalkReads, pairs_in}
+use Rattle.automata_hybrid.specs.Walks.Answers.{HasReported, HasReportedBy, WalkReads, pairs_reported_in}
 use Rattle.automata_hybrid.specs.Walks.State.{At, Ended, Fresh, Stage, Walk}
 
 -- the next call of a walk reads units: it has not ended, has reported all of where it stands, and units are left
@@ -59,7 +59,7 @@ KnowsWhich m c input set =
     → KnowsItsStart Forward m c input
     × ((j : ℕ) (pairs : List Pair)
     → WalkReads Forward m input j → HasReadNoQuit Forward m input j
-    → AreUnsplit (Skips m) Forward input (pairs_in Forward m input j) pairs → IsOpen input set pairs
+    → AreUnsplit (Skips m) Forward input (pairs_reported_in Forward m input j) pairs → IsOpen input set pairs
     → KnowsUnit Forward m c input j)
 
 -- the transitions on the units from one place of a pass to another are cached, at classes that rows have

@@ -17,7 +17,7 @@ use Rattle.automata_hybrid.specs.Cache.Caches.{CacheView, counted}
 use Rattle.automata_hybrid.specs.Cache.Growth.{ClearedNothing, HasRoom, IsGrown, IsStill}
 use Rattle.automata_hybrid.specs.Searches.Cached.{IsOfInput, KnowsItsStart}
 use Rattle.automata_hybrid.specs.Walks.Cached.{KnowsItsState, KnowsWalk, KnowsWhich}
-use Rattle.automata_hybrid.specs.Cache.Changes.{IsAdded}
+use Rattle.automata_hybrid.specs.Cache.Changes.{IsStateAdded}
 use Rattle.automata_hybrid.specs.Cache.Usage.{cleared}
 use Rattle.automata_hybrid.specs.Machines.Machine.{Machine}
 use Rattle.automata_hybrid.specs.Searches.Contracts.{IsMemory, IsStoreOf, IsUnhindered, IsUnsupported}
@@ -64,7 +64,7 @@ pub record IsWalkCall (way : Direction) (m : Machine) (input : Input) (old new :
 abbrev pub IsPutBack : Powerset → (old new : CacheView) → Type 0
 IsPutBack q old new =
     (new.count ≡ old.count)
-    × IsAdded old.store (cleared old.store) (record { state = q; started = false }) new.store
+    × IsStateAdded old.store (cleared old.store) (record { state = q; started = false }) new.store
 
 -- why a call fails though all that it uses is cached: because of its input; or, if states are kept, since the one
 -- that reports the next pair cannot be held

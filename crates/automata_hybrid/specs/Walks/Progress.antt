@@ -8,7 +8,7 @@ use Rattle.automata_config.specs.declared.error.SearchError.{SearchError}
 use Rattle.automata_hybrid.specs.Cache.Stores.{Stored}
 use Rattle.automata_hybrid.specs.Walks.Cached.{IsOpen}
 use Rattle.automata_hybrid.specs.Machines.Machine.{Machine}
-use Rattle.automata_hybrid.specs.Cache.Changes.{IsAdded}
+use Rattle.automata_hybrid.specs.Cache.Changes.{IsStateAdded}
 use Rattle.automata_hybrid.specs.Cache.Usage.{cleared}
 use Rattle.automata_hybrid.specs.Searches.Progress.{AreUnitsRead, HasEndedAfter, HasItsStart, IsLeftAt, IsUnitRead}
 use Rattle.automata_hybrid.specs.Searches.Progress.{with_search_begun, with_search_moved}
@@ -29,7 +29,7 @@ abbrev pub IsResumed : Direction → Machine → Input → Stage → (old new : 
 IsResumed way m input Fresh old new = HasItsStart way m input old new
 IsResumed way m input (At q) old new =
     (IsKnownState old.table q × (new ≡ old))
-    ⊎ ((IsKnownState old.table q → ⊥) × IsAdded old (cleared old) (record { state = q; started = false }) new)
+    ⊎ ((IsKnownState old.table q → ⊥) × IsStateAdded old (cleared old) (record { state = q; started = false }) new)
 IsResumed way m input Ended old new = ⊥
 
 -- a call reads the units after those of the walk: up to the one after which the next match is reported, or if there is

@@ -9,20 +9,21 @@ ghost use Rattle.automata_hybrid.specs.Machines.OwnStates.{IsOwn};
 ghost use Rattle.automata_hybrid.specs.Machines.Machine.{IsClassOf, IsStateOf, greatest, next_of, start_of};
 ghost use Rattle.automata_hybrid.specs.Machines.Machine.{table_stride, template_of};
 ghost use Rattle.automata_hybrid.specs.Cache.Ids.{dead_id, unknown_id, offset_limit};
-ghost use Rattle.automata_hybrid.specs.Cache.Table.{id_of, Names, IsValid, Leads, MayLead, IsCell};
+ghost use Rattle.automata_hybrid.specs.Cache.Table.{id_of, Names, IsRowId, Leads, MayLead, IsCell};
 ghost use Rattle.automata_hybrid.specs.Cache.Table.{HasItsMatchTag};
 ghost use Rattle.automata_hybrid.specs.Cache.Table.{IsNewState};
 ghost use Rattle.automata_hybrid.specs.Cache.Stores.{IsSoundStore, cell_of, with_next, with_start};
 ghost use Rattle.automata_hybrid.specs.Cache.Stores.{with_searched};
 ghost use Rattle.automata_hybrid.specs.Cache.Usage.{cleared, usage, Fits};
-ghost use Rattle.automata_hybrid.specs.Cache.Changes.{AddsNext, AddsRow, IsAdded};
+ghost use Rattle.automata_hybrid.specs.Cache.Changes.{AddsNext, AddsRow, IsStateAdded};
 ghost use Rattle.automata_hybrid.specs.Cache.Caches.{HoldsRow, IsCacheOf, fresh_cache, counted, with_store};
 ghost use Rattle.automata_hybrid.specs.Cache.Growth.{IsAddRefused, IsAgainEffect};
 ghost use Rattle.automata_hybrid.specs.Searches.Contracts.{IsStoreOf};
 ghost use Rattle.automata_hybrid.specs.Steps.Starts.{IsStartSlot};
 ghost use Rattle.automata_hybrid.specs.Walks.Answers.{IsRowState};
 ghost use Rattle.automata_hybrid.specs.Walks.State.{IsHandle};
-ghost use Rattle.automata_hybrid.specs.Cache.Progress.{started, updated, finished, saturated, total_len};
+ghost use Rattle.automata_hybrid.specs.Cache.Progress.{progress_finished, progress_started, progress_updated};
+ghost use Rattle.automata_hybrid.specs.Cache.Progress.{saturated, total_len};
 ghost use Rattle.automata_config.specs.Options.{match_kind_of};
 
 use crate::dfa::store::Store;
@@ -130,7 +131,7 @@ impl Cache {
         unit: Option<u8>,
     ) -> Result<Key, AllocError>
         requires of { IsCacheOf self.old dfa.now }
-        requires valid { IsValid self.old.store.table id }
+        requires valid { IsRowId self.old.store.table id }
         requires class { IsClassOf dfa.now class unit }
         ensures value { IfOk result (λ k. (q : Powerset) → Names self.old.store.table id q
             → k ≡ next_of dfa.now q class) }
@@ -173,7 +174,7 @@ impl Cache {
 
     /// A handle on the state of a row. It allocates nothing. It fails only if the state cannot be shared once more.
     pub(crate) fn handle(&self, id: LazyStateID) -> Result<Handle, AllocError>
-        requires { IsValid self.now.store.table id }
+        requires { IsRowId self.now.store.table id }
         ensures { IfOk result (λ handle. (q : Powerset) → Names self.now.store.table id q → IsHandle handle q) }
     {
         Handle::of(self.store.table.state(id))
@@ -181,7 +182,7 @@ impl Cache {
 
     /// The state of a row, which only contracts see.
     pub(crate) fn snapshot(&self, id: LazyStateID) -> Snapshot<State>
-        requires { IsValid self.now.store.table id }
+        requires { IsRowId self.now.store.table id }
         ensures state { (q : Powerset) → Names self.now.store.table id q → result.value ≡ q }
         ensures row { IsRowState self.now.store.table.of result.value }
     {
@@ -194,7 +195,7 @@ impl Cache {
         requires dfa { IsCacheOf self.old dfa.now }
         requires new { IsNewState self.old.store.table state }
         ensures named { IfOk result (λ id. Names self.new.store.table id state) }
-        ensures added { OnOk result (IsAdded self.old.store (cleared self.old.store)
+        ensures added { OnOk result (IsStateAdded self.old.store (cleared self.old.store)
             (record { state = state; started = false }) self.new.store) }
         ensures effect { IsAgainEffect self.old self.new }
         ensures refused { IfErr result (IsAddRefused self.old self.new state) }
@@ -221,7 +222,7 @@ impl Cache {
     /// The cell of a row at a class, which may not be computed yet.
     #[inline(always)]
     pub(crate) fn cell(&self, id: LazyStateID, class: usize) -> LazyStateID
-        requires row { IsValid self.now.store.table id }
+        requires row { IsRowId self.now.store.table id }
         requires class { class < table_stride self.now.store.table.of }
         ensures value { result ≡ cell_of self.now.store id class }
         ensures named { (q : Powerset) → Names self.now.store.table id q → IsCell self.now.store.table q class result }
@@ -236,7 +237,7 @@ impl Cache {
     /// The same, of an ID whose row's offset is known.
     #[inline(always)]
     pub(crate) fn cell_in_row(&self, id: LazyStateID, row: usize, class: usize) -> LazyStateID
-        requires row { IsValid self.now.store.table id }
+        requires row { IsRowId self.now.store.table id }
         requires class { class < table_stride self.now.store.table.of }
         requires offset { row ≡ id % offset_limit }
         ensures value { result ≡ cell_of self.now.store id class }
@@ -251,7 +252,7 @@ impl Cache {
 
     /// Writes a transition.
     pub(crate) fn set_next(&mut self, id: LazyStateID, class: usize, next: LazyStateID)
-        requires row { IsValid self.old.store.table id }
+        requires row { IsRowId self.old.store.table id }
         requires class { class < table_stride self.old.store.table.of }
         requires free { slice_index (template_of self.old.store.table.of) class ≡ unknown_id }
         requires next { (q : Powerset) × Names self.old.store.table id q
@@ -270,7 +271,7 @@ impl Cache {
         state: State,
     ) -> Result<(LazyStateID, LazyStateID), StepError>
         requires dfa { IsCacheOf self.old dfa.now }
-        requires valid { IsValid self.old.store.table from }
+        requires valid { IsRowId self.old.store.table from }
         requires new { IsNewState self.old.store.table state }
         ensures answer { IfOk result (λ p. AddsNext self.old.store self.new.store from state p.0 p.1) }
         ensures counted { self.new.count ≡ self.old.count }
@@ -294,7 +295,7 @@ impl Cache {
         bytes: usize,
     ) -> Result<(LazyStateID, LazyStateID), StepError>
         requires dfa { IsCacheOf self.old dfa.now }
-        requires valid { IsValid self.old.store.table from }
+        requires valid { IsRowId self.old.store.table from }
         requires new { IsNewState self.old.store.table state }
         requires bytes { bytes ≡ cost state }
         requires full { Fits self.old.store (cost state) → ⊥ }
@@ -400,7 +401,7 @@ impl Cache {
 
     /// The number of patterns of a row's state.
     pub(crate) fn match_len(&self, id: LazyStateID) -> usize
-        requires { IsValid self.now.store.table id }
+        requires { IsRowId self.now.store.table id }
         ensures { (q : Powerset) → Names self.now.store.table id q → result ≡ length q.patterns }
     {
         self.store.table.state(id).match_len()
@@ -408,7 +409,7 @@ impl Cache {
 
     /// A pattern of a row's state.
     pub(crate) fn match_pattern(&self, id: LazyStateID, index: usize) -> PatternID
-        requires valid { IsValid self.now.store.table id }
+        requires valid { IsRowId self.now.store.table id }
         requires index { (q : Powerset) → Names self.now.store.table id q → index < length q.patterns }
         ensures { (q : Powerset) → Names self.now.store.table id q → result ≡ slice_index q.patterns index }
     {
@@ -454,7 +455,7 @@ impl Cache {
     /// the bytes that it reads.
     pub fn search_start(&mut self, at: usize)
         ensures value { self.new ≡ with_store self.old (with_searched self.old.store
-            (started self.old.store.searched at)) }
+            (progress_started self.old.store.searched at)) }
         ensures table { self.new.store.table ≡ self.old.store.table }
         ensures counted { self.new.count ≡ self.old.count }
     {
@@ -464,7 +465,8 @@ impl Cache {
     /// The open search has come to an offset. There has to be one: `in_progress` is the test.
     pub fn search_update(&mut self, at: usize)
         requires { IsSome self.old.store.searched.running }
-        ensures { self.new ≡ with_store self.old (with_searched self.old.store (updated self.old.store.searched at)) }
+        ensures { self.new ≡ with_store self.old (with_searched self.old.store
+            (progress_updated self.old.store.searched at)) }
     {
         self.move_search(at);
     }
@@ -472,7 +474,8 @@ impl Cache {
     /// The open search ends at an offset. There has to be one: `in_progress` is the test.
     pub fn search_finish(&mut self, at: usize)
         requires { IsSome self.old.store.searched.running }
-        ensures { self.new ≡ with_store self.old (with_searched self.old.store (finished self.old.store.searched at)) }
+        ensures { self.new ≡ with_store self.old (with_searched self.old.store
+            (progress_finished self.old.store.searched at)) }
     {
         self.end_search(at);
     }
@@ -480,7 +483,7 @@ impl Cache {
     /// Moves the search to an offset, if one is open.
     pub(crate) fn move_search(&mut self, at: usize)
         ensures value { self.new ≡ with_store self.old (with_searched self.old.store
-            (updated self.old.store.searched at)) }
+            (progress_updated self.old.store.searched at)) }
         ensures table { self.new.store.table ≡ self.old.store.table }
         ensures counted { self.new.count ≡ self.old.count }
     {
@@ -490,7 +493,7 @@ impl Cache {
     /// Ends the search at an offset, if one is open.
     pub(crate) fn end_search(&mut self, at: usize)
         ensures value { self.new ≡ with_store self.old (with_searched self.old.store
-            (finished self.old.store.searched at)) }
+            (progress_finished self.old.store.searched at)) }
         ensures table { self.new.store.table ≡ self.old.store.table }
         ensures counted { self.new.count ≡ self.old.count }
     {

@@ -15,7 +15,7 @@ ghost use Rattle.automata_hybrid.specs.Machines.Machine.{IsMachine, next_of, tem
 ghost use Rattle.automata_config.specs.Settling.{IsSettled};
 ghost use Rattle.automata_config.specs.Options.{unset, match_kind_of, specialize_start_states_of};
 ghost use Rattle.automata_hybrid.specs.Cache.Caches.{fresh_cache};
-ghost use Rattle.automata_hybrid.specs.Machines.Builds.{built};
+ghost use Rattle.automata_hybrid.specs.Machines.Builds.{built_machine};
 ghost use Rattle.automata_hybrid.specs.Cache.Stores.{fresh_store, settings_of};
 ghost use Rattle.automata_config.specs.Options.{starts_for_each_pattern_of};
 ghost use Rattle.automata_hybrid.specs.Steps.Steps.{quits_on, unit_class};
@@ -108,7 +108,7 @@ impl DFA {
     /// The DFA of an NFA and of what its settings make of it.
     pub(crate) fn of_settled(nfa: NFA, config: Config, settled: Settled) -> DFA
         requires { IsSettled config nfa settled }
-        ensures { result ≡ built config nfa settled }
+        ensures { result ≡ built_machine config nfa settled }
     {
         let classes = *settled.classes();
         let _ = classes.stride();

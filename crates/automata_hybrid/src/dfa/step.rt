@@ -6,7 +6,7 @@ ghost use Rattle.automata_base.specs.Haystacks.Tapes.{Backward};
 ghost use Rattle.automata_base.specs.Powersets.Powerset.{Powerset};
 ghost use Rattle.automata_base.specs.Retraced.Steps.{successor};
 ghost use Rattle.automata_hybrid.specs.Machines.Machine.{table_stride};
-ghost use Rattle.automata_hybrid.specs.Cache.Table.{Names, IsValid, Leads, HasItsMatchTag};
+ghost use Rattle.automata_hybrid.specs.Cache.Table.{Names, IsRowId, Leads, HasItsMatchTag};
 ghost use Rattle.automata_hybrid.specs.Cache.Stores.{cell_of};
 ghost use Rattle.automata_hybrid.specs.Cache.Caches.{HoldsRow, IsCacheOf};
 ghost use Rattle.automata_hybrid.specs.Cache.Ids.{quit_id, unknown_id, offset_limit, HasMatchTag};
@@ -63,7 +63,7 @@ impl Cache {
         unit: Option<u8>,
     ) -> Result<LazyStateID, StepError>
         requires of { IsCacheOf self.old dfa.now }
-        requires valid { IsValid self.old.store.table id }
+        requires valid { IsRowId self.old.store.table id }
         requires clean { quits_on dfa.now unit ≡ false }
         requires unknown { KnowsStep dfa.now self.old.store id unit → ⊥ }
         ensures of { IsCacheOf self.new dfa.now }
@@ -168,7 +168,7 @@ impl DFA {
     #[inline(always)]
     pub(crate) fn next_state_known(&self, cache: &Cache, id: LazyStateID, byte: u8) -> LazyStateID
         requires of { IsCacheOf cache.now self.now }
-        requires valid { IsValid cache.now.store.table id }
+        requires valid { IsRowId cache.now.store.table id }
         ensures value { result ≡ cell_of cache.now.store id (class_in self.now.classes byte) }
         ensures below { class_in self.now.classes byte < table_stride self.now }
         ensures quit { is_quit self.now.quits byte ≡ true → result ≡ quit_id (table_stride self.now) }
@@ -191,7 +191,7 @@ impl DFA {
         byte: u8,
     ) -> LazyStateID
         requires of { IsCacheOf cache.now self.now }
-        requires valid { IsValid cache.now.store.table id }
+        requires valid { IsRowId cache.now.store.table id }
         requires offset { row ≡ id % offset_limit }
         ensures value { result ≡ cell_of cache.now.store id (class_in self.now.classes byte) }
         ensures below { class_in self.now.classes byte < table_stride self.now }

@@ -12,7 +12,7 @@ ghost use Rattle.automata_hybrid.specs.Walks.Parts.{IsAdvanceEffect, IsUnitEffec
 ghost use Rattle.automata_hybrid.specs.Searches.Passes.{HasReadNoQuit, IsUnitRefusal, Skips, behind_offset};
 ghost use Rattle.automata_hybrid.specs.Searches.Passes.{state_in, tape_in, unit_offset};
 ghost use Rattle.automata_hybrid.specs.Steps.Starts.{IsStartAnswer, IsStartEffect, IsStartRefusedAt};
-ghost use Rattle.automata_hybrid.specs.Cache.Table.{IsValid, Leads, Names};
+ghost use Rattle.automata_hybrid.specs.Cache.Table.{IsRowId, Leads, Names};
 ghost use Rattle.automata_hybrid.specs.Walks.Answers.{IsAdvanceRefusal, IsArrival, WalkReads};
 ghost use Rattle.automata_hybrid.specs.Walks.State.{way_of};
 
@@ -93,7 +93,7 @@ impl DFA {
         requires of { IsCacheOf cache.now self.now }
         requires open { input.now.start ≤ input.now.end }
         requires within { place ≤ input.now.end - input.now.start }
-        requires valid { IsValid cache.now.store.table id }
+        requires valid { IsRowId cache.now.store.table id }
         ensures yes { result ≡ true
             → (Skips self.now → is_split input.now.haystack (offset_in (way_of way) input.now place) ≡ false)
             × ((q : Powerset) → Names cache.now.store.table id q → 0 < length q.patterns) }

@@ -16,7 +16,7 @@ ghost use Rattle.automata_hybrid.specs.Searches.Passes.{Skips};
 ghost use Rattle.automata_base.specs.declared.util.search.MatchErrorKind.TheVariants.{Quit as QuitAt};
 ghost use Rattle.automata_hybrid.specs.Cache.Ids.{unknown_id, HasMatchTag};
 ghost use Rattle.automata_hybrid.specs.Steps.Steps.{IsStepAnswer, IsStepEffect, known_step};
-ghost use Rattle.automata_hybrid.specs.Cache.Table.{IsValid, Leads, Names};
+ghost use Rattle.automata_hybrid.specs.Cache.Table.{IsRowId, Leads, Names};
 
 mod advance;
 mod direction;
@@ -98,7 +98,7 @@ impl DFA {
         at: usize,
     ) -> Result<LazyStateID, SearchError>
         requires of { IsCacheOf cache.old self.now }
-        requires valid { IsValid cache.old.store.table id }
+        requires valid { IsRowId cache.old.store.table id }
         ensures of { IsCacheOf cache.new self.now }
         ensures answer { IfOk result (IsStepAnswer self.now id (Some byte) cache.old cache.new) }
         ensures refusal { IfErr result (IsStepRefusedAt self.now id (Some byte) at cache.old cache.new) }
@@ -121,7 +121,7 @@ impl DFA {
         at: usize,
     ) -> Result<LazyStateID, SearchError>
         requires of { IsCacheOf cache.old self.now }
-        requires valid { IsValid cache.old.store.table id }
+        requires valid { IsRowId cache.old.store.table id }
         requires met { met < unknown_id → met ≡ known_step self.now cache.old.store id (Some byte) }
         ensures of { IsCacheOf cache.new self.now }
         ensures answer { IfOk result (IsStepAnswer self.now id (Some byte) cache.old cache.new) }
@@ -149,7 +149,7 @@ impl DFA {
         at: usize,
     ) -> Result<LazyStateID, SearchError>
         requires of { IsCacheOf cache.old self.now }
-        requires valid { IsValid cache.old.store.table id }
+        requires valid { IsRowId cache.old.store.table id }
         requires met { met < unknown_id → met ≡ known_step self.now cache.old.store id (Some byte) }
         ensures of { IsCacheOf cache.new self.now }
         ensures answer { IfOk result (IsReadAnswer self.now id (Some byte) cache.old cache.new) }
@@ -180,7 +180,7 @@ impl DFA {
         at: usize,
     ) -> Result<LazyStateID, SearchError>
         requires of { IsCacheOf cache.old self.now }
-        requires valid { IsValid cache.old.store.table id }
+        requires valid { IsRowId cache.old.store.table id }
         ensures of { IsCacheOf cache.new self.now }
         ensures answer { IfOk result (IsReadAnswer self.now id unit cache.old cache.new) }
         ensures refusal { IfErr result (IsReadRefusal self.now id unit quit_at at cache.old cache.new) }
@@ -206,7 +206,7 @@ impl DFA {
         at: usize,
     ) -> Result<LazyStateID, SearchError>
         requires of { IsCacheOf cache.old self.now }
-        requires valid { IsValid cache.old.store.table id }
+        requires valid { IsRowId cache.old.store.table id }
         ensures of { IsCacheOf cache.new self.now }
         ensures answer { IfOk result (IsReadAnswer self.now id unit cache.old cache.new) }
         ensures refusal { IfErr result (IsReadRefusal self.now id unit quit_at at cache.old cache.new) }
@@ -237,7 +237,7 @@ impl DFA {
         at: usize,
     ) -> Result<LazyStateID, SearchError>
         requires of { IsCacheOf cache.old self.now }
-        requires valid { IsValid cache.old.store.table id }
+        requires valid { IsRowId cache.old.store.table id }
         ensures of { IsCacheOf cache.new self.now }
         ensures answer { IfOk result (IsReadAnswer self.now id None cache.old cache.new) }
         ensures refusal { IfErr result (IsReadRefusal self.now id None at at cache.old cache.new) }
@@ -257,7 +257,7 @@ impl DFA {
     #[inline(always)]
     fn first_pattern(&self, cache: &Cache, id: LazyStateID) -> PatternID
         requires of { IsCacheOf cache.now self.now }
-        requires valid { IsValid cache.now.store.table id }
+        requires valid { IsRowId cache.now.store.table id }
         requires tagged { HasMatchTag id }
         ensures { (q : Powerset) → Names cache.now.store.table id q → result ≡ slice_index q.patterns 0 }
     {
@@ -272,7 +272,7 @@ impl DFA {
     #[inline(never)]
     fn first_of_many(&self, cache: &Cache, id: LazyStateID) -> PatternID
         requires of { IsCacheOf cache.now self.now }
-        requires valid { IsValid cache.now.store.table id }
+        requires valid { IsRowId cache.now.store.table id }
         requires tagged { HasMatchTag id }
         ensures { (q : Powerset) → Names cache.now.store.table id q → result ≡ slice_index q.patterns 0 }
     {

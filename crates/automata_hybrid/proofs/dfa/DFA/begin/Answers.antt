@@ -8,7 +8,7 @@ use Rattle.automata_hybrid.specs.Cache.Stores.{Stored, with_searched}
 use Rattle.automata_hybrid.specs.Cache.Caches.{CacheView}
 use Rattle.automata_hybrid.specs.Machines.Machine.{Machine, slot_count}
 use Rattle.automata_hybrid.specs.Searches.PassContracts.{IsKnownUpto, IsPassEffect, IsRestEffect}
-use Rattle.automata_hybrid.specs.Cache.Progress.{started}
+use Rattle.automata_hybrid.specs.Cache.Progress.{progress_started}
 use Rattle.automata_hybrid.specs.Searches.Progress.{EndsAtLast, IsStoppedAt, with_search_begun, with_search_ended}
 use Rattle.automata_hybrid.specs.Searches.Passes.{IsPassRefusal, Reads, state_in}
 use Rattle.automata_hybrid.specs.Cache.Table.{Rows, Names}
@@ -87,7 +87,7 @@ pub returns-then-is_dead-2-clause-effect : goal.returns-then-is_dead-2-clause-ef
 returns-then-is_dead-2-clause-effect c =
     let d : Direction = way_of c.args.way in
     let begins : c.search_start.new.self.store ≡ with_search_begun d c.args.input.now 0 c.walk_start.new.cache.store =
-    subst (λ at. c.search_start.new.self.store ≡ with_searched c.walk_start.new.cache.store (started c.walk_start.new.cache.store.searched at)) c.span_offset-first.ensures.value (ap (λ (v : CacheView). v.store) c.search_start.ensures.value) in
+    subst (λ at. c.search_start.new.self.store ≡ with_searched c.walk_start.new.cache.store (progress_started c.walk_start.new.cache.store.searched at)) c.span_offset-first.ensures.value (ap (λ (v : CacheView). v.store) c.search_start.ensures.value) in
     let dies : state_in d c.args.self.now c.args.input.now 0 ≡ dead = begins_dead d c.args.self.now c.walk_start.new.cache.store.table c.args.input.now c.in-Ok.start c.in-Ok.ensures.answer.named (c.see_bounds-2.ensures.sound.low c.in-Ok.start) c.see_bounds-2.ensures.sound.small (c.if-is_dead-2.ensures.0 refl) in
     pass_rest d c.args.self.now c.args.input.now c.in-Ok.start c.args.cache.now c.walk_start.new.cache c.search_start.new.self c.end_search.new.self _ (c.see_bounds.ensures.bounds.slots ∙ ap (λ (d : Machine). slot_count d) c.requires.of)
     c.in-Ok.ensures.answer c.in-Ok.ensures.effect c.search_start.ensures.value
@@ -144,7 +144,7 @@ pub returns-clause-effect : goal.returns-clause-effect
 returns-clause-effect c =
     let d : Direction = way_of c.args.way in
     let begins : c.search_start.new.self.store ≡ with_search_begun d c.args.input.now 0 c.walk_start.new.cache.store =
-    subst (λ at. c.search_start.new.self.store ≡ with_searched c.walk_start.new.cache.store (started c.walk_start.new.cache.store.searched at)) c.span_offset-first.ensures.value (ap (λ (v : CacheView). v.store) c.search_start.ensures.value) in
+    subst (λ at. c.search_start.new.self.store ≡ with_searched c.walk_start.new.cache.store (progress_started c.walk_start.new.cache.store.searched at)) c.span_offset-first.ensures.value (ap (λ (v : CacheView). v.store) c.search_start.ensures.value) in
     pass_rest d c.args.self.now c.args.input.now c.in-Ok.start c.args.cache.now c.walk_start.new.cache c.search_start.new.self c.rest.new.cache _ (c.see_bounds.ensures.bounds.slots ∙ ap (λ (d : Machine). slot_count d) c.requires.of)
     c.in-Ok.ensures.answer c.in-Ok.ensures.effect c.search_start.ensures.value
     (subst (λ (i : Input). IsRestEffect d c.args.self.now i 0 c.search_start.new.self c.rest.new.cache (Ok c.in_ok-found.found)) (same_input c.args.input.now c.haystack.result.now c.get_span.result c.get_anchored.result c.get_earliest.result c.haystack.ensures.same c.get_span.ensures.start c.get_span.ensures.end c.get_anchored.ensures c.get_earliest.ensures) c.in_ok-found.ensures.effect) (
@@ -162,7 +162,7 @@ pub returns-in_err-found-clause-effect : goal.returns-in_err-found-clause-effect
 returns-in_err-found-clause-effect c =
     let d : Direction = way_of c.args.way in
     let begins : c.search_start.new.self.store ≡ with_search_begun d c.args.input.now 0 c.walk_start.new.cache.store =
-    subst (λ at. c.search_start.new.self.store ≡ with_searched c.walk_start.new.cache.store (started c.walk_start.new.cache.store.searched at)) c.span_offset-first.ensures.value (ap (λ (v : CacheView). v.store) c.search_start.ensures.value) in
+    subst (λ at. c.search_start.new.self.store ≡ with_searched c.walk_start.new.cache.store (progress_started c.walk_start.new.cache.store.searched at)) c.span_offset-first.ensures.value (ap (λ (v : CacheView). v.store) c.search_start.ensures.value) in
     at_err c.from_residual.result _ (IsPassEffect d c.args.self.now c.args.input.now c.args.cache.now c.rest.new.cache) c.from_residual.ensures.1
     (pass_rest d c.args.self.now c.args.input.now c.in-Ok.start c.args.cache.now c.walk_start.new.cache c.search_start.new.self c.rest.new.cache (Err c.in_err-found.field-0.0) (c.see_bounds.ensures.bounds.slots ∙ ap (λ (d : Machine). slot_count d) c.requires.of)
     c.in-Ok.ensures.answer c.in-Ok.ensures.effect c.search_start.ensures.value

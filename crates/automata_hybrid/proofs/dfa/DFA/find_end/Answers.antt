@@ -10,7 +10,7 @@ use Rattle.automata_hybrid.specs.Searches.Progress.{before_last}
 use Rattle.automata_hybrid.specs.Cache.Stores.{with_searched}
 use Rattle.automata_hybrid.specs.Searches.Passes.{given_up_offset, state_in, tape_in, unit_offset}
 use Rattle.automata_config.specs.Options.{match_kind_of}
-use Rattle.automata_hybrid.specs.Cache.Table.{IsValid, Rows, Leads, Names}
+use Rattle.automata_hybrid.specs.Cache.Table.{IsRowId, Rows, Leads, Names}
 use Rattle.automata_hybrid.specs.Walks.State.{way_of}
 use Rattle.automata_hybrid.proofs.Searches.Directions.{units_in}
 use Rattle.automata_hybrid.proofs.Searches.PassContracts.{last_answer, rest_read, rest_refused, stands_alive}
@@ -20,7 +20,7 @@ use Rattle.automata_hybrid.proofs.dfa.DFA.find_end.Goals as goal
 
 pub read-requires-clause-valid : goal.read-requires-clause-valid
 read-requires-clause-valid c =
-    subst (λ (t : Rows). IsValid t c.args.id) (sym c.end_before_last.ensures.table) (_, c.requires.at.at.named)
+    subst (λ (t : Rows). IsRowId t c.args.id) (sym c.end_before_last.ensures.table) (_, c.requires.at.at.named)
 
 pub found_at-requires-clause-leads : goal.found_at-requires-clause-leads
 found_at-requires-clause-leads c =

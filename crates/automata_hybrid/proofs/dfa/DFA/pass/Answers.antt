@@ -6,7 +6,7 @@ use Rattle.automata_base.specs.Haystacks.Input.{Allows, Input}
 use Rattle.automata_base.specs.Haystacks.Matches.{HalfMatch}
 use Rattle.automata_base.specs.Haystacks.Tapes.{Direction}
 use Rattle.automata_hybrid.specs.Cache.Caches.{CacheView, with_store}
-use Rattle.automata_hybrid.specs.Cache.Progress.{saturated, started, total_len}
+use Rattle.automata_hybrid.specs.Cache.Progress.{saturated, progress_started, total_len}
 use Rattle.automata_hybrid.specs.Cache.Stores.{Stored, with_searched}
 use Rattle.automata_hybrid.specs.Machines.Machine.{Machine, slot_count}
 use Rattle.automata_hybrid.specs.Searches.PassContracts.{IsKnownUpto, IsPassEffect, IsRestEffect}
@@ -84,7 +84,7 @@ returns-in-Ok-rest-clause-effect c =
     let e = c.known_start-start.ensures.effect low in
     let had = start_had d c.args.self.now c.args.input.now c.args.cache.now c.args.cache.now c.known_start-start.result slots e a in
     let begins : c.search_start.new.self.store ≡ with_search_begun d c.args.input.now 0 c.args.cache.now.store =
-    subst (λ at. c.search_start.new.self.store ≡ with_searched c.args.cache.now.store (started c.args.cache.now.store.searched at)) c.span_offset.ensures.value (ap (λ (v : CacheView). v.store) c.search_start.ensures.value) in
+    subst (λ at. c.search_start.new.self.store ≡ with_searched c.args.cache.now.store (progress_started c.args.cache.now.store.searched at)) c.span_offset.ensures.value (ap (λ (v : CacheView). v.store) c.search_start.ensures.value) in
     pass_rest d c.args.self.now c.args.input.now c.known_start-start.result c.args.cache.now c.args.cache.now c.search_start.new.self c.rest.new.cache (Ok c.in-Ok-rest.found) slots a e c.search_start.ensures.value
     (subst (λ (i : Input). IsRestEffect d c.args.self.now i 0 c.search_start.new.self c.rest.new.cache (Ok c.in-Ok-rest.found)) (same_input c.args.input.now c.haystack-2.result.now c.get_span-2.result c.get_anchored-2.result c.get_earliest-2.result c.haystack-2.ensures.same c.get_span-2.ensures.start c.get_span-2.ensures.end c.get_anchored-2.ensures c.get_earliest-2.ensures) c.in-Ok-rest.ensures.effect) (
       c.args.cache.now.store,
@@ -106,7 +106,7 @@ returns-in-Err-rest-clause-effect c =
     let e = c.known_start-start.ensures.effect low in
     let had = start_had d c.args.self.now c.args.input.now c.args.cache.now c.args.cache.now c.known_start-start.result slots e a in
     let begins : c.search_start.new.self.store ≡ with_search_begun d c.args.input.now 0 c.args.cache.now.store =
-    subst (λ at. c.search_start.new.self.store ≡ with_searched c.args.cache.now.store (started c.args.cache.now.store.searched at)) c.span_offset.ensures.value (ap (λ (v : CacheView). v.store) c.search_start.ensures.value) in
+    subst (λ at. c.search_start.new.self.store ≡ with_searched c.args.cache.now.store (progress_started c.args.cache.now.store.searched at)) c.span_offset.ensures.value (ap (λ (v : CacheView). v.store) c.search_start.ensures.value) in
     pass_rest d c.args.self.now c.args.input.now c.known_start-start.result c.args.cache.now c.args.cache.now c.search_start.new.self c.rest.new.cache (Err c.in-Err-rest.error) slots a e c.search_start.ensures.value
     (subst (λ (i : Input). IsRestEffect {T = Option HalfMatch} d c.args.self.now i 0 c.search_start.new.self c.rest.new.cache (Err c.in-Err-rest.error)) (same_input c.args.input.now c.haystack-2.result.now c.get_span-2.result c.get_anchored-2.result c.get_earliest-2.result c.haystack-2.ensures.same c.get_span-2.ensures.start c.get_span-2.ensures.end c.get_anchored-2.ensures c.get_earliest-2.ensures) c.in-Err-rest.ensures.effect)
     tt

@@ -9,7 +9,7 @@ use Rattle.automata_hybrid.specs.Cache.Caches.{CacheView, with_store}
 use Rattle.automata_hybrid.specs.Cache.Growth.{IsGrown}
 use Rattle.automata_hybrid.specs.Machines.Machine.{Machine}
 use Rattle.automata_hybrid.specs.Walks.Contracts.{IsCallEffect}
-use Rattle.automata_hybrid.specs.Cache.Progress.{started}
+use Rattle.automata_hybrid.specs.Cache.Progress.{progress_started}
 use Rattle.automata_hybrid.specs.Walks.Parts.{IsAdvanceEffect, IsCallAnswer, IsCallRefused}
 use Rattle.automata_hybrid.specs.Searches.Progress.{with_search_begun}
 use Rattle.automata_hybrid.specs.Walks.Progress.{IsCallStopped}
@@ -110,7 +110,7 @@ returns-then-is_dead-clause-effect c =
     let leads : Leads c.search_start.new.self.store.table c.in_ok-from.from (state_in d m input w.units) = subst (λ (t : Rows). Leads t c.in_ok-from.from (state_in d m input w.units)) (sym c.search_start.ensures.table) c.in_ok-from.ensures.answer.leads in
     let dies : state_in d m input w.units ≡ dead = (dead_tagged c.search_start.new.self.store.table c.in_ok-from.from (c.see_bounds.ensures.sound.low c.in_ok-from.from) c.see_bounds.ensures.sound.small _ leads).0 (c.if-is_dead.ensures.0 refl) in
     let begins : c.search_start.new.self.store ≡ with_search_begun d input w.units between.store =
-    subst (λ at. c.search_start.new.self.store ≡ with_searched between.store (started between.store.searched at)) first (ap (λ (v : CacheView). v.store) c.search_start.ensures.value) in
+    subst (λ at. c.search_start.new.self.store ≡ with_searched between.store (progress_started between.store.searched at)) first (ap (λ (v : CacheView). v.store) c.search_start.ensures.value) in
     let moved : IsGrown between new = grown_trans between c.search_start.new.self new
     (grown_moved between c.search_start.new.self c.search_start.ensures.value)
     (grown_moved c.search_start.new.self new c.end_search.ensures.value) in
@@ -180,7 +180,7 @@ returns-in_err-arrival-clause-effect c =
     let new : CacheView = c.advance.new.cache in
     let first : c.span_offset-place.result ≡ given_up_offset d input w.units = c.span_offset-place.ensures.value ∙ ap (given_up_offset d input) c.units.ensures in
     let begins : begun.store ≡ with_search_begun d input w.units between.store =
-    subst (λ at. begun.store ≡ with_searched between.store (started between.store.searched at)) first (ap (λ (v : CacheView). v.store) c.search_start.ensures.value) in
+    subst (λ at. begun.store ≡ with_searched between.store (progress_started between.store.searched at)) first (ap (λ (v : CacheView). v.store) c.search_start.ensures.value) in
     let began : IsGrown between begun = grown_moved between begun c.search_start.ensures.value in
     let moved : IsGrown between new = grown_trans between begun new began a.grown in
     let grown = grown_after old between new e.grown moved in
@@ -230,8 +230,8 @@ returns-in_default-clause-answer c =
     let r = c.requires.walk.reads in
     let arrival : Arrival = c.in_ok-arrival.arrival in
     let first : c.span_offset-place.result ≡ given_up_offset d input w.units = c.span_offset-place.ensures.value ∙ ap (given_up_offset d input) c.units.ensures in
-    let begins : c.search_start.new.self ≡ with_store c.resume.new.cache (with_searched c.resume.new.cache.store (started c.resume.new.cache.store.searched (given_up_offset d input w.units))) =
-    subst (λ at. c.search_start.new.self ≡ with_store c.resume.new.cache (with_searched c.resume.new.cache.store (started c.resume.new.cache.store.searched at))) first c.search_start.ensures.value in
+    let begins : c.search_start.new.self ≡ with_store c.resume.new.cache (with_searched c.resume.new.cache.store (progress_started c.resume.new.cache.store.searched (given_up_offset d input w.units))) =
+    subst (λ at. c.search_start.new.self ≡ with_store c.resume.new.cache (with_searched c.resume.new.cache.store (progress_started c.resume.new.cache.store.searched at))) first c.search_start.ensures.value in
     let advanced : IsAdvanceEffect d m input w.units c.search_start.new.self c.advance.new.cache (Ok arrival) =
     subst (λ n. IsAdvanceEffect d m input n c.search_start.new.self c.advance.new.cache (Ok arrival)) c.units-2.ensures c.in_ok-arrival.ensures.effect in
     let arrives : IsArrival d m c.advance.new.cache.store.table input w.units arrival.id arrival.units =
@@ -259,8 +259,8 @@ returns-in_default-clause-effect c =
     let r = c.requires.walk.reads in
     let arrival : Arrival = c.in_ok-arrival.arrival in
     let first : c.span_offset-place.result ≡ given_up_offset d input w.units = c.span_offset-place.ensures.value ∙ ap (given_up_offset d input) c.units.ensures in
-    let begins : c.search_start.new.self ≡ with_store c.resume.new.cache (with_searched c.resume.new.cache.store (started c.resume.new.cache.store.searched (given_up_offset d input w.units))) =
-    subst (λ at. c.search_start.new.self ≡ with_store c.resume.new.cache (with_searched c.resume.new.cache.store (started c.resume.new.cache.store.searched at))) first c.search_start.ensures.value in
+    let begins : c.search_start.new.self ≡ with_store c.resume.new.cache (with_searched c.resume.new.cache.store (progress_started c.resume.new.cache.store.searched (given_up_offset d input w.units))) =
+    subst (λ at. c.search_start.new.self ≡ with_store c.resume.new.cache (with_searched c.resume.new.cache.store (progress_started c.resume.new.cache.store.searched at))) first c.search_start.ensures.value in
     let advanced : IsAdvanceEffect d m input w.units c.search_start.new.self c.advance.new.cache (Ok arrival) =
     subst (λ n. IsAdvanceEffect d m input n c.search_start.new.self c.advance.new.cache (Ok arrival)) c.units-2.ensures c.in_ok-arrival.ensures.effect in
     let arrives : IsArrival d m c.advance.new.cache.store.table input w.units arrival.id arrival.units =
@@ -285,8 +285,8 @@ returns-in_err-next-clause-refusal c =
     let r = c.requires.walk.reads in
     let arrival : Arrival = c.in_ok-arrival.arrival in
     let first : c.span_offset-place.result ≡ given_up_offset d input w.units = c.span_offset-place.ensures.value ∙ ap (given_up_offset d input) c.units.ensures in
-    let begins : c.search_start.new.self ≡ with_store c.resume.new.cache (with_searched c.resume.new.cache.store (started c.resume.new.cache.store.searched (given_up_offset d input w.units))) =
-    subst (λ at. c.search_start.new.self ≡ with_store c.resume.new.cache (with_searched c.resume.new.cache.store (started c.resume.new.cache.store.searched at))) first c.search_start.ensures.value in
+    let begins : c.search_start.new.self ≡ with_store c.resume.new.cache (with_searched c.resume.new.cache.store (progress_started c.resume.new.cache.store.searched (given_up_offset d input w.units))) =
+    subst (λ at. c.search_start.new.self ≡ with_store c.resume.new.cache (with_searched c.resume.new.cache.store (progress_started c.resume.new.cache.store.searched at))) first c.search_start.ensures.value in
     let advanced : IsAdvanceEffect d m input w.units c.search_start.new.self c.advance.new.cache (Ok arrival) =
     subst (λ n. IsAdvanceEffect d m input n c.search_start.new.self c.advance.new.cache (Ok arrival)) c.units-2.ensures c.in_ok-arrival.ensures.effect in
     let arrives : IsArrival d m c.advance.new.cache.store.table input w.units arrival.id arrival.units =
@@ -306,8 +306,8 @@ returns-in_err-next-clause-effect c =
     let r = c.requires.walk.reads in
     let arrival : Arrival = c.in_ok-arrival.arrival in
     let first : c.span_offset-place.result ≡ given_up_offset d input w.units = c.span_offset-place.ensures.value ∙ ap (given_up_offset d input) c.units.ensures in
-    let begins : c.search_start.new.self ≡ with_store c.resume.new.cache (with_searched c.resume.new.cache.store (started c.resume.new.cache.store.searched (given_up_offset d input w.units))) =
-    subst (λ at. c.search_start.new.self ≡ with_store c.resume.new.cache (with_searched c.resume.new.cache.store (started c.resume.new.cache.store.searched at))) first c.search_start.ensures.value in
+    let begins : c.search_start.new.self ≡ with_store c.resume.new.cache (with_searched c.resume.new.cache.store (progress_started c.resume.new.cache.store.searched (given_up_offset d input w.units))) =
+    subst (λ at. c.search_start.new.self ≡ with_store c.resume.new.cache (with_searched c.resume.new.cache.store (progress_started c.resume.new.cache.store.searched at))) first c.search_start.ensures.value in
     let advanced : IsAdvanceEffect d m input w.units c.search_start.new.self c.advance.new.cache (Ok arrival) =
     subst (λ n. IsAdvanceEffect d m input n c.search_start.new.self c.advance.new.cache (Ok arrival)) c.units-2.ensures c.in_ok-arrival.ensures.effect in
     let arrives : IsArrival d m c.advance.new.cache.store.table input w.units arrival.id arrival.units =
@@ -331,8 +331,8 @@ stand-requires-clause-arrives c =
     let r = c.requires.walk.reads in
     let arrival : Arrival = c.in_ok-arrival.arrival in
     let first : c.span_offset-place.result ≡ given_up_offset d input w.units = c.span_offset-place.ensures.value ∙ ap (given_up_offset d input) c.units.ensures in
-    let begins : c.search_start.new.self ≡ with_store c.resume.new.cache (with_searched c.resume.new.cache.store (started c.resume.new.cache.store.searched (given_up_offset d input w.units))) =
-    subst (λ at. c.search_start.new.self ≡ with_store c.resume.new.cache (with_searched c.resume.new.cache.store (started c.resume.new.cache.store.searched at))) first c.search_start.ensures.value in
+    let begins : c.search_start.new.self ≡ with_store c.resume.new.cache (with_searched c.resume.new.cache.store (progress_started c.resume.new.cache.store.searched (given_up_offset d input w.units))) =
+    subst (λ at. c.search_start.new.self ≡ with_store c.resume.new.cache (with_searched c.resume.new.cache.store (progress_started c.resume.new.cache.store.searched at))) first c.search_start.ensures.value in
     let advanced : IsAdvanceEffect d m input w.units c.search_start.new.self c.advance.new.cache (Ok arrival) =
     subst (λ n. IsAdvanceEffect d m input n c.search_start.new.self c.advance.new.cache (Ok arrival)) c.units-2.ensures c.in_ok-arrival.ensures.effect in
     let arrives : IsArrival d m c.advance.new.cache.store.table input w.units arrival.id arrival.units =
@@ -349,8 +349,8 @@ returns-clause-answer c =
     let r = c.requires.walk.reads in
     let arrival : Arrival = c.in_ok-arrival.arrival in
     let first : c.span_offset-place.result ≡ given_up_offset d input w.units = c.span_offset-place.ensures.value ∙ ap (given_up_offset d input) c.units.ensures in
-    let begins : c.search_start.new.self ≡ with_store c.resume.new.cache (with_searched c.resume.new.cache.store (started c.resume.new.cache.store.searched (given_up_offset d input w.units))) =
-    subst (λ at. c.search_start.new.self ≡ with_store c.resume.new.cache (with_searched c.resume.new.cache.store (started c.resume.new.cache.store.searched at))) first c.search_start.ensures.value in
+    let begins : c.search_start.new.self ≡ with_store c.resume.new.cache (with_searched c.resume.new.cache.store (progress_started c.resume.new.cache.store.searched (given_up_offset d input w.units))) =
+    subst (λ at. c.search_start.new.self ≡ with_store c.resume.new.cache (with_searched c.resume.new.cache.store (progress_started c.resume.new.cache.store.searched at))) first c.search_start.ensures.value in
     let advanced : IsAdvanceEffect d m input w.units c.search_start.new.self c.advance.new.cache (Ok arrival) =
     subst (λ n. IsAdvanceEffect d m input n c.search_start.new.self c.advance.new.cache (Ok arrival)) c.units-2.ensures c.in_ok-arrival.ensures.effect in
     let arrives : IsArrival d m c.advance.new.cache.store.table input w.units arrival.id arrival.units =
@@ -377,8 +377,8 @@ returns-clause-effect c =
     let r = c.requires.walk.reads in
     let arrival : Arrival = c.in_ok-arrival.arrival in
     let first : c.span_offset-place.result ≡ given_up_offset d input w.units = c.span_offset-place.ensures.value ∙ ap (given_up_offset d input) c.units.ensures in
-    let begins : c.search_start.new.self ≡ with_store c.resume.new.cache (with_searched c.resume.new.cache.store (started c.resume.new.cache.store.searched (given_up_offset d input w.units))) =
-    subst (λ at. c.search_start.new.self ≡ with_store c.resume.new.cache (with_searched c.resume.new.cache.store (started c.resume.new.cache.store.searched at))) first c.search_start.ensures.value in
+    let begins : c.search_start.new.self ≡ with_store c.resume.new.cache (with_searched c.resume.new.cache.store (progress_started c.resume.new.cache.store.searched (given_up_offset d input w.units))) =
+    subst (λ at. c.search_start.new.self ≡ with_store c.resume.new.cache (with_searched c.resume.new.cache.store (progress_started c.resume.new.cache.store.searched at))) first c.search_start.ensures.value in
     let advanced : IsAdvanceEffect d m input w.units c.search_start.new.self c.advance.new.cache (Ok arrival) =
     subst (λ n. IsAdvanceEffect d m input n c.search_start.new.self c.advance.new.cache (Ok arrival)) c.units-2.ensures c.in_ok-arrival.ensures.effect in
     let arrives : IsArrival d m c.advance.new.cache.store.table input w.units arrival.id arrival.units =

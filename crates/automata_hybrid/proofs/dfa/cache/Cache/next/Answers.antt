@@ -4,7 +4,7 @@ use Rattle.automata_base.specs.Powersets.Powerset.{Powerset}
 use Rattle.automata_base.specs.Haystacks.Tapes.{Backward, Forward}
 use Rattle.automata_hybrid.specs.Machines.Machine.{Machine}
 use Rattle.automata_hybrid.specs.Machines.OwnStates.{IsOwn}
-use Rattle.automata_hybrid.specs.Cache.Table.{IsValid, Names}
+use Rattle.automata_hybrid.specs.Cache.Table.{IsRowId, Names}
 use Rattle.automata_hybrid.proofs.Steps.BySteps.{stands_step}
 use Rattle.automata_hybrid.proofs.Steps.Steps.{cell_known, fixed_answer, known_answer, same_effect, unknown_clean}
 use Rattle.automata_hybrid.proofs.Steps.Steps.{unknown_free}
@@ -24,7 +24,7 @@ returns-then-is_fixed-clause-effect c =
 pub returns-then-not-is_unknown-clause-answer : goal.returns-then-not-is_unknown-clause-answer
 returns-then-not-is_unknown-clause-answer c =
     let low : c.args.id < 2 ^ 29 = grind (arith, common_steps, c.if-is_fixed.ensures) in
-    let valid : IsValid c.args.self.now.store.table c.args.id = HoldsRow-valid c.args.self.now c.args.id c.requires.row low in
+    let valid : IsRowId c.args.self.now.store.table c.args.id = HoldsRow-valid c.args.self.now c.args.id c.requires.row low in
     let known : c.cell-cell.result < 2 ^ 31 = grind (arith, common_steps, c.if-not-is_unknown.ensures.size) in
     let own : (q : Powerset) → Names c.args.self.now.store.table c.args.id q → IsOwn c.args.dfa.now.nfa q = λ q n. subst (λ (d : Machine). IsOwn d.nfa q) c.requires.of (c.see_bounds.ensures.sound.own c.args.id q n) in
     known_answer c.args.dfa.now c.args.id c.args.unit c.args.self.now c.unit_class-class.result c.cell-cell.result c.requires.of valid
@@ -35,7 +35,7 @@ returns-then-not-is_unknown-clause-answer c =
 pub returns-then-not-is_unknown-clause-effect : goal.returns-then-not-is_unknown-clause-effect
 returns-then-not-is_unknown-clause-effect c =
     let low : c.args.id < 2 ^ 29 = grind (arith, common_steps, c.if-is_fixed.ensures) in
-    let valid : IsValid c.args.self.now.store.table c.args.id = HoldsRow-valid c.args.self.now c.args.id c.requires.row low in
+    let valid : IsRowId c.args.self.now.store.table c.args.id = HoldsRow-valid c.args.self.now c.args.id c.requires.row low in
     let known : c.cell-cell.result < 2 ^ 31 = grind (arith, common_steps, c.if-not-is_unknown.ensures.size) in
     same_effect c.args.dfa.now c.args.id c.args.unit c.args.self.now
     (λ _. cell_known c.args.dfa.now c.args.id c.args.unit c.args.self.now c.unit_class-class.result c.cell-cell.result c.requires.of valid
@@ -45,7 +45,7 @@ returns-then-not-is_unknown-clause-effect c =
 pub compute_next-requires-clause-clean : goal.compute_next-requires-clause-clean
 compute_next-requires-clause-clean c =
     let low : c.args.id < 2 ^ 29 = grind (arith, common_steps, c.if-is_fixed.ensures) in
-    let valid : IsValid c.args.self.now.store.table c.args.id = HoldsRow-valid c.args.self.now c.args.id c.requires.row low in
+    let valid : IsRowId c.args.self.now.store.table c.args.id = HoldsRow-valid c.args.self.now c.args.id c.requires.row low in
     let unknown : 2 ^ 31 ≤ c.cell-cell.result = grind (arith, common_steps, c.if-not-is_unknown.ensures.size) in
     unknown_clean c.args.dfa.now c.args.id c.args.unit c.args.self.now c.unit_class-class.result c.cell-cell.result c.requires.of valid
     c.unit_class-class.ensures.value c.unit_class-class.ensures.small c.unit_class-class.ensures.quit c.unit_class-class.ensures.free
@@ -54,7 +54,7 @@ compute_next-requires-clause-clean c =
 pub compute_next-requires-clause-unknown : goal.compute_next-requires-clause-unknown
 compute_next-requires-clause-unknown c =
     let low : c.args.id < 2 ^ 29 = grind (arith, common_steps, c.if-is_fixed.ensures) in
-    let valid : IsValid c.args.self.now.store.table c.args.id = HoldsRow-valid c.args.self.now c.args.id c.requires.row low in
+    let valid : IsRowId c.args.self.now.store.table c.args.id = HoldsRow-valid c.args.self.now c.args.id c.requires.row low in
     let unknown : 2 ^ 31 ≤ c.cell-cell.result = grind (arith, common_steps, c.if-not-is_unknown.ensures.size) in
     unknown_free c.args.dfa.now c.args.id c.args.unit c.args.self.now c.unit_class-class.result c.cell-cell.result c.requires.of valid
     c.unit_class-class.ensures.value c.unit_class-class.ensures.small c.unit_class-class.ensures.quit c.unit_class-class.ensures.free

@@ -5,7 +5,7 @@ use Rattle.std.proofs.lemmas.Option.{slice_get_read}
 use Rattle.automata_hybrid.specs.declared.dfa.row.Row.{Row}
 use Rattle.automata_hybrid.proofs.Cache.Places.{placed_valid, valid_at}
 use Rattle.automata_hybrid.proofs.Cases.{same_some}
-use Rattle.automata_hybrid.specs.Cache.Table.{AreRows, Rows, IsValid, row_id}
+use Rattle.automata_hybrid.specs.Cache.Table.{AreRows, Rows, IsRowId, row_id}
 use Rattle.automata_hybrid.proofs.dfa.table.Table.has_row.Goals as goal
 use Rattle.automata_hybrid.proofs.dfa.table.Table.has_row.Goals.{then-index-lt3-via-then-index-lt3}
 use Rattle.automata_hybrid.proofs.dfa.table.Table.has_row.Goals.{then-index-lt3-via-else-index-lt3+then-len-index}
@@ -20,7 +20,7 @@ returns-then-index-lt3 c =
     let e : c.offset-offset.result / c.self.inside.stride ≡ (c.args.id % 2 ^ 27) / table_stride t.of =
     ap (λ n. n / c.self.inside.stride) c.offset-offset.ensures ∙ ap (λ z. (c.args.id % 2 ^ 27) / z) s in
     let rows : length c.self.inside.rows.items ≡ length t.rows = ap (λ (v : Rows). length v.rows) c.self.view_is in
-    let none : IsValid t c.args.id → ⊥ =
+    let none : IsRowId t c.args.id → ⊥ =
     λ v. let a = valid_at t c.args.id i positive v in
     let len : vec_len c.self.inside.rows ≡ length c.self.inside.rows.items = c.self.inside.rows.ok.0 in
     elim c.then-index-lt3.branch [
