@@ -14,7 +14,7 @@ use Rattle.automata_hybrid.specs.Steps.Steps.{quits_on}
 use Rattle.automata_config.specs.declared.error.StepError.{StepError}
 use Rattle.automata_config.specs.declared.error.StepError.TheVariants.{Cache, OutOfMemory}
 use Rattle.std.specs.Prelude.{IsBitSet, ◌↔◌}
-use Rattle.automata_hybrid.proofs.Cache.Places.{Names-silent, no_patterns, bit_of, zero_one}
+use Rattle.automata_hybrid.proofs.Cache.Places.{no_patterns, bit_of, zero_one}
 use Rattle.automata_base.specs.ByteClasses.Classes.{is_quit}
 use Rattle.automata_base.specs.Retraced.Steps.{successor}
 use Rattle.automata_config.specs.Options.{match_kind_of}
@@ -30,11 +30,6 @@ pub HoldsRow-matched : (c : CacheView) (id : ℕ) → table_stride c.store.table
 HoldsRow-matched c id small (inl e) b = absurd (zero_one ((bit_of 27 (table_stride c.store.table.of) 8 id (omega (arith, small)) (omega (arith, e))).0 b))
 HoldsRow-matched c id small (inr (inl e)) b = absurd (zero_one ((bit_of 27 (2 * table_stride c.store.table.of) 4 id (omega (arith, small)) (omega (arith, e))).0 b))
 HoldsRow-matched c id small (inr (inr v)) b = v
-
--- an untagged ID names a state without patterns
-pub Leads-silent : (t : Rows) (id : ℕ) (q : Powerset) → Leads t id q → id < 2 ^ 27 → q.patterns ≡ []
-Leads-silent t id q (inl (e, d)) l = absurd (omega (arith, e, l))
-Leads-silent t id q (inr h) l = Names-silent t id q h l
 
 pub Leads-Names : (t : Rows) (id : ℕ) (q : Powerset) → Leads t id q → id < 2 ^ 29 → Names t id q
 Leads-Names t id q (inl (e, d)) l = absurd (omega (arith, e, l))

@@ -321,9 +321,9 @@ module _ (m : Machine) (id : ℕ) (unit : Option ℕ) (old new : CacheView) (cla
   }
 
 -- a unit that is not a quit byte, either way it is said
-pub unit_clean : (m : Machine) (unit : Option ℕ) → ((byte : ℕ) → unit ≡ Some byte → is_quit m.quits byte ≡ false) → quits_on m unit ≡ false
-unit_clean m None free = refl
-unit_clean m (Some byte) free = free byte refl
+pub unit_no_quit : (m : Machine) (unit : Option ℕ) → ((byte : ℕ) → unit ≡ Some byte → is_quit m.quits byte ≡ false) → quits_on m unit ≡ false
+unit_no_quit m None free = refl
+unit_no_quit m (Some byte) free = free byte refl
 
 pub no_quit_unit : (m : Machine) (unit : Option ℕ) → quits_on m unit ≡ false → (byte : ℕ) → unit ≡ Some byte → is_quit m.quits byte ≡ false
 no_quit_unit m None clean byte e = absurd (none_some e)

@@ -12,7 +12,7 @@ use Rattle.automata_base.specs.Haystacks.Tapes.{Direction, is_split}
 use Rattle.automata_base.specs.Retraced.Passes.{pairs_reported}
 use Rattle.automata_hybrid.specs.Machines.Machine.{Machine}
 use Rattle.automata_hybrid.specs.Searches.Passes.{HasReadNoQuit, Skips, state_in, tape_in}
-use Rattle.automata_hybrid.specs.Walks.Answers.{AreWalked, Finishes, HasReportedBy, IsSilent, WalkMeetsNoQuit, WalkReads}
+use Rattle.automata_hybrid.specs.Walks.Answers.{AreWalked, Finishes, HasReportedBy, IsSilent, WalkMeetsNoQuit}
 use Rattle.automata_hybrid.specs.Walks.Answers.{half_nth, pairs_reported_in}
 use Rattle.automata_hybrid.proofs.Searches.PassState.{dead_more}
 use Rattle.std.proofs.lemmas.Bool.{cases_lt}
@@ -144,6 +144,13 @@ module _ (way : Direction) (m : Machine) (input : Input) where
         let same : j ≡ k = omega (arith, l, more) in
         here byte (ap (next (tape_in way input)) (sym same) ∙ e)
 
+  -- a walk that dies has met no quit byte, if it met none before
+  dead_clean : (n : ℕ) → HasReadNoQuit way m input n → state_in way m input n ≡ dead → WalkMeetsNoQuit way m input
+  dead_clean n clean e j byte r h = go (cases_lt j n) where
+    go : (j < n) ⊎ (n ≤ j) → is_quit m.quits byte ≡ false
+    go (inl less) = clean j byte less h
+    go (inr more) = absurd (r.1 (dead_more way m input n j more e))
+
   -- a walk that dies, or whose units are all read, has ended
   pub finish_dead :
       (from k units : ℕ)
@@ -152,33 +159,23 @@ module _ (way : Direction) (m : Machine) (input : Input) where
   finish_dead from k units f l u clean e silent =
       record {
         more = omega (arith, f, u);
-        clean = λ j byte r h. go j byte r h (cases_lt j (suc k));
+        clean = dead_clean (suc k) clean e;
         silent =
             silent_trans from k (suc (length (tape_in way input).bytes)) silent
             (silent_trans k (suc k) (suc (length (tape_in way input).bytes)) (silent_none k (ap (λ (q : Powerset). q.patterns) e))
             (silent_dead (suc k) (suc (length (tape_in way input).bytes)) (omega (arith, l)) e));
         stops = λ j l r. r.1 (dead_more way m input (suc k) j (omega (arith, l, u)) e);
-      } where
-        go :
-            (j byte : ℕ) → WalkReads way m input j → next (tape_in way input) j ≡ Some byte → (j < suc k) ⊎ (suc k ≤ j)
-            → is_quit m.quits byte ≡ false
-        go j byte r h (inl less) = clean j byte less h
-        go j byte r h (inr more) = absurd (r.1 (dead_more way m input (suc k) j more e))
+      }
 
   pub finish_start :
       (k : ℕ) → k ≤ suc (length (tape_in way input).bytes) → HasReadNoQuit way m input k → state_in way m input k ≡ dead → Finishes way m input k k
   finish_start k l clean e =
       record {
         more = omega arith;
-        clean = λ j byte r h. go j byte r h (cases_lt j k);
+        clean = dead_clean k clean e;
         silent = silent_dead k (suc (length (tape_in way input).bytes)) l e;
         stops = λ j l r. r.1 (dead_more way m input k j l e);
-      } where
-        go :
-            (j byte : ℕ) → WalkReads way m input j → next (tape_in way input) j ≡ Some byte → (j < k) ⊎ (k ≤ j)
-            → is_quit m.quits byte ≡ false
-        go j byte r h (inl less) = clean j byte less h
-        go j byte r h (inr more) = absurd (r.1 (dead_more way m input k j more e))
+      }
 
   pub finish_all :
       (k : ℕ) → k ≡ suc (length (tape_in way input).bytes) → HasReadNoQuit way m input k → WalkMeetsNoQuit way m input

@@ -29,7 +29,7 @@ use Rattle.automata_hybrid.proofs.Walks.Parts.{refused_on}
 use Rattle.automata_hybrid.proofs.Walks.Progress.{reads_some, walk_reads_before}
 use Rattle.automata_hybrid.proofs.Searches.UnitsRead.{ended_here}
 use Rattle.automata_hybrid.proofs.Walks.Calls.{reported_here, walk_clears_none}
-use Rattle.automata_hybrid.proofs.Steps.Steps.{unit_clean}
+use Rattle.automata_hybrid.proofs.Steps.Steps.{unit_no_quit}
 use Rattle.automata_base.specs.Paths.Paths.{next as unit_at}
 
 -- a walk was gone on with from an ID, a search began at its first unit, and it came to where it reports patterns, or to its end
@@ -167,7 +167,7 @@ module _ (way : Direction) (m : Machine) (input : Input) (w : Walk) (from : ℕ)
 
     unheld_on : IsUnheld way m input (w.units + last.0) search.OutOfMemory
     unheld_on = record {
-      clean = unit_clean m (unit_at (tape_in way input) (w.units + last.0)) (λ byte unit. arrived.clean (w.units + last.0) byte (omega (arith, last.1)) unit);
+      clean = unit_no_quit m (unit_at (tape_in way input) (w.units + last.0)) (λ byte unit. arrived.clean (w.units + last.0) byte (omega (arith, last.1)) unit);
       reports = subst (λ n. 0 < length (state_in way m input n).patterns) last.1 (arrived.reports (state_in way m input arrival.units) arrived.named);
       unskipped = subst (λ n. Skips m → is_split input.haystack (offset_in way input n) ≡ false) same_place arrived.unskipped;
       memory = refl;
