@@ -8,7 +8,6 @@ pub mod Agreement
 pub mod Costs
 pub mod Cached
 pub mod Directions
-pub mod QuietRuns
 pub mod Runs
 pub mod Bounds
 pub mod Contracts

@@ -6,7 +6,7 @@
 --     what a set of patterns is joined with                Walks.Contracts: IsWhich, IsWhichEffect; Walks.SetsByPaths
 --     what a step returns, when it fails, what it does     Steps.Steps: IsStepAnswer, IsStepRefused, IsStepEffect
 --     the same of a start state                            Steps.Starts: IsStartAnswer, IsStartRefused, IsStartEffect
---     a search by steps                                    Steps.BySteps: HoldsRow, StandsAt, IsStepAt
+--     a search by steps                                    Steps.BySteps: StandsAt, IsStepAt; Cache.Caches: HoldsRow
 --     how much memory, and when a clear is allowed         Cache.Usage: usage, Fits, refuses_to_clear
 --     what every call keeps of a cache                     Cache.Growth: IsGrown
 --     which progress is left                               Searches.Progress, Walks.Progress

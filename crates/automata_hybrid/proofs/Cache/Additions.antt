@@ -5,12 +5,12 @@ use Rattle.automata_hybrid.specs.declared.dfa.cache.Found.{Found}
 use Rattle.automata_hybrid.specs.declared.dfa.row.Row.{Row}
 use Rattle.automata_hybrid.specs.Cache.Caches.{CacheView}
 use Rattle.automata_hybrid.specs.Cache.Clears.{row_of}
-use Rattle.automata_hybrid.specs.Cache.Changes.{AddsNext, AddsStart, cleared_saving, grown, put_found}
+use Rattle.automata_hybrid.specs.Cache.Changes.{AddsNext, AddsRow, cleared_saving, grown, put_found}
 use Rattle.automata_hybrid.specs.Cache.LookUps.{IsLookedUp}
 use Rattle.automata_hybrid.specs.Machines.Machine.{IsStateOf, Machine, greatest}
 use Rattle.automata_hybrid.specs.Cache.Stores.{KeepsStarts, Stored, with_table}
-use Rattle.automata_hybrid.specs.Cache.Table.{Has, IsNewState, Lacks, Names, Rows, id_of}
-use Rattle.automata_hybrid.specs.Cache.Usage.{Fits, IsCleared}
+use Rattle.automata_hybrid.specs.Cache.Table.{IsKnownState, IsNewState, Lacks, Names, Rows, id_of}
+use Rattle.automata_hybrid.specs.Cache.Usage.{Fits, IsCleared, cleared, refuses_to_clear}
 use Rattle.automata_hybrid.proofs.Steps.Effects.{only-grown}
 
 -- a state to be added, by the machine that a table is of
@@ -42,9 +42,9 @@ cheap m n key target of is h = subst (λ (d : Machine). cost target ≤ greatest
 only_row :
     (old between new : Stored) (r : Row)
     → ((p : Powerset) → id_of old.table p ≡ None → id_of between.table p ≡ None) → new ≡ grown between r
-    → (p : Powerset) → Has new.table p → Has old.table p ⊎ (p ≡ r.state)
+    → (p : Powerset) → IsKnownState new.table p → IsKnownState old.table p ⊎ (p ≡ r.state)
 only_row old between new r absent e =
-    subst (λ (s : Stored). (p : Powerset) → Has s.table p → Has old.table p ⊎ (p ≡ r.state)) (sym e)
+    subst (λ (s : Stored). (p : Powerset) → IsKnownState s.table p → IsKnownState old.table p ⊎ (p ≡ r.state)) (sym e)
     (only-grown old.table between.table r absent)
 
 still_starts :
@@ -52,22 +52,45 @@ still_starts :
     → KeepsStarts old.starts new.starts
 still_starts old between new r keeps e = subst (λ (s : Stored). KeepsStarts old.starts s.starts) (sym e) keeps
 
+-- a state that fits
+adds_fits :
+    (old emptied new : Stored) (r : Row) (id : ℕ)
+    → Fits old (cost r.state) → new ≡ grown old r → Names new.table id r.state → AddsRow old emptied new r id
+adds_fits old emptied new r id fits e named = record {
+  effect = inl (fits, e);
+  named = named;
+  only = only_row old old new r (λ p none. none) e;
+  slots = ap (λ (s : Stored). length s.starts) e;
+  starts = still_starts old old new r (λ slot k. k) e;
+  of = ap (λ (s : Stored). s.table.of) e;
+}
+
+-- a state that does not fit: the cache was cleared
+adds_clears :
+    (old emptied new : Stored) (r : Row) (id : ℕ)
+    → (Fits old (cost r.state) → ⊥) → refuses_to_clear old ≡ false
+    → ((p : Powerset) → id_of old.table p ≡ None → id_of emptied.table p ≡ None) → KeepsStarts old.starts emptied.starts
+    → length emptied.starts ≡ length old.starts → emptied.table.of ≡ old.table.of
+    → new ≡ grown emptied r → Names new.table id r.state → AddsRow old emptied new r id
+adds_clears old emptied new r id full may absent keeps slots of e named = record {
+  effect = inr (full, may, e);
+  named = named;
+  only = only_row old emptied new r absent e;
+  slots = ap (λ (s : Stored). length s.starts) e ∙ slots;
+  starts = still_starts old emptied new r keeps e;
+  of = ap (λ (s : Stored). s.table.of) e ∙ of;
+}
+
 -- a state stepped to that fits
 pub next_fits :
     (old new : Stored) (from next : ℕ) (q : Powerset)
     → Fits old (cost q) → new ≡ grown old (record { state = q; started = false })
     → ((id : ℕ) (p : Powerset) → Names old.table id p → Names new.table id p) → Names new.table next q
     → AddsNext old new from q from next
-next_fits old new from next q fits e kept named = record {
-  effect = inl (fits, e);
-  saved = kept from;
-  named = named;
-  only = only_row old old new (record { state = q; started = false }) (λ p none. none) e;
-  starts = still_starts old old new (record { state = q; started = false }) (λ slot k. k) e;
-  of = ap (λ (s : Stored). s.table.of) e;
-}
+next_fits old new from next q fits e kept named =
+    record { row = adds_fits old (cleared_saving old from) new (record { state = q; started = false }) next fits e named; saved = kept from }
 
--- a state stepped to that does not fit: the cache was cleared, and the row stepped from was put back
+-- a state stepped to that does not fit: the row stepped from was put back
 pub next_clears :
     (old fresh between new : Stored) (from now next : ℕ) (q : Powerset)
     → (Fits old (cost q) → ⊥) → IsCleared old fresh
@@ -78,12 +101,11 @@ pub next_clears :
     → ((id : ℕ) (p : Powerset) → Names between.table id p → Names new.table id p) → Names new.table next q
     → AddsNext old new from q now next
 next_clears old fresh between new from now next q full clear put of saved absent e kept named = record {
-  effect = inr (full, clear.allowed, e ∙ ap (λ (s : Stored). grown s r) all);
+  row =
+      subst (λ (s : Stored). AddsRow old s new r next) all
+      (adds_clears old between new r next full clear.allowed (λ p none. absent p none (clear.kept.absent p none))
+      (subst (KeepsStarts old.starts) (sym slots) clear.kept.known) (ap (λ xs. length xs) slots ∙ clear.kept.slots) (of ∙ clear.kept.of) e named);
   saved = λ p n. kept now p (saved p n);
-  named = named;
-  only = only_row old between new r (λ p none. absent p none (clear.kept.absent p none)) e;
-  starts = still_starts old between new r (subst (KeepsStarts old.starts) (sym slots) clear.kept.known) e;
-  of = ap (λ (s : Stored). s.table.of) e ∙ (of ∙ clear.kept.of);
 } where
   r : Row
   r = record { state = q; started = false }
@@ -97,26 +119,14 @@ next_clears old fresh between new from now next q full clear put of saved absent
 -- a start state that fits
 pub start_fits :
     (old new : Stored) (r : Row) (id : ℕ)
-    → Fits old (cost r.state) → new ≡ grown old r → Names new.table id r.state → AddsStart old new r id
-start_fits old new r id fits e named = record {
-  effect = inl (fits, e);
-  named = named;
-  only = only_row old old new r (λ p none. none) e;
-  slots = ap (λ (s : Stored). length s.starts) e;
-  starts = still_starts old old new r (λ slot k. k) e;
-  of = ap (λ (s : Stored). s.table.of) e;
-}
+    → Fits old (cost r.state) → new ≡ grown old r → Names new.table id r.state → AddsRow old (cleared old) new r id
+start_fits old new r id fits e named = adds_fits old (cleared old) new r id fits e named
 
--- a start state that does not fit: the cache was cleared
+-- a start state that does not fit
 pub start_clears :
     (old fresh new : Stored) (r : Row) (id : ℕ)
     → (Fits old (cost r.state) → ⊥) → IsCleared old fresh → new ≡ grown fresh r → Names new.table id r.state
-    → AddsStart old new r id
-start_clears old fresh new r id full clear e named = record {
-  effect = inr (full, clear.allowed, e ∙ ap (λ (s : Stored). grown s r) clear.value);
-  named = named;
-  only = only_row old fresh new r clear.kept.absent e;
-  slots = ap (λ (s : Stored). length s.starts) e ∙ clear.kept.slots;
-  starts = still_starts old fresh new r clear.kept.known e;
-  of = ap (λ (s : Stored). s.table.of) e ∙ clear.kept.of;
-}
+    → AddsRow old (cleared old) new r id
+start_clears old fresh new r id full clear e named =
+    subst (λ (s : Stored). AddsRow old s new r id) clear.value
+    (adds_clears old fresh new r id full clear.allowed clear.kept.absent clear.kept.known clear.kept.slots clear.kept.of e named)

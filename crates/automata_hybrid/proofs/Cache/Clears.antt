@@ -1,4 +1,4 @@
-use Rattle.std.proofs.Common.{◌≡◌, ℕ, ◌+◌, ◌*◌, ◌^◌, ◌<◌, ◌≤◌, zero, suc, List, [], ◌∷◌, ◌++◌, length, true, false}
+use Rattle.std.proofs.Common.{◌≡◌, ℕ, ◌+◌, ◌*◌, ◌^◌, ◌<◌, ◌≤◌, List, [], ◌∷◌, ◌++◌, length, true, false}
 use Rattle.std.proofs.Common.{cond, Option, None, Some, get_or, take, slice_get, refl, sym, ap, ◌∙◌, subst, ◌⊎◌, inl}
 use Rattle.std.proofs.Common.{inr, ⊎_elim, arith, length-append}
 use Rattle.std.proofs.lemmas.List.{get_or_append_left}
@@ -13,9 +13,10 @@ use Rattle.automata_hybrid.specs.declared.dfa.row.Row.{Row}
 use Rattle.automata_hybrid.specs.Cache.Ids.{dead_id}
 use Rattle.automata_hybrid.specs.Machines.Machine.{Machine, start_of, table_stride}
 use Rattle.automata_hybrid.specs.Cache.Table.{Rows, id_of, Names, MayLead, with_row}
-use Rattle.automata_hybrid.specs.Cache.Clears.{AllStarts, row_of, put_if, put, or_unknown, Kept, KeepsSlot, keep_found}
+use Rattle.automata_hybrid.specs.Cache.Clears.{AllStarts, row_of, put, Kept, KeepsSlot, keep_found}
 use Rattle.automata_hybrid.specs.Cache.Clears.{keep_slot, keep_slots, IsPut}
-use Rattle.automata_hybrid.proofs.Cache.Rows.{Names-more, find_id-push_other}
+use Rattle.automata_hybrid.proofs.Cache.Rows.{Names-more, at_push, find_id-push_other}
+use Rattle.std.specs.Option.{is_some, unwrap_or}
 
 pub keep_slots-push : (old : Rows) (k : Kept) (ids : List ℕ) (id : ℕ) → keep_slots old k (ids ++ id ∷ []) ≡ keep_slot old (keep_slots old k ids) id
 unfolding keep_slots
@@ -24,13 +25,13 @@ keep_slots-push old k (x ∷ ids) id = keep_slots-push old (keep_slot old k x) i
 
 pub put-of : (t : Rows) (r : Row) → (put t r).of ≡ t.of
 put-of t r = go (id_of t r.state) where
-  go : (o : Option ℕ) → (put_if o t r).of ≡ t.of
+  go : (o : Option ℕ) → (cond (is_some o) t (with_row t r)).of ≡ t.of
   go None = refl
   go (Some n) = refl
 
 pub put-length : (t : Rows) (r : Row) → length (put t r).rows ≤ length t.rows + 1
 put-length t r = go (id_of t r.state) where
-  go : (o : Option ℕ) → length (put_if o t r).rows ≤ length t.rows + 1
+  go : (o : Option ℕ) → length (cond (is_some o) t (with_row t r)).rows ≤ length t.rows + 1
   go None = omega (arith, length-append t.rows (r ∷ []))
   go (Some n) = omega arith
 
@@ -39,15 +40,6 @@ pub MayLead-row : (t : Rows) (id : ℕ) (q : Powerset) → MayLead t id q → id
 MayLead-row t id q (inl e) l = absurd (omega (arith, e, l))
 MayLead-row t id q (inr (inl (e, d))) l = absurd (omega (arith, e, l))
 MayLead-row t id q (inr (inr h)) l = h
-
-at_push : (xs : List ℕ) (y k x : ℕ) → slice_get (xs ++ y ∷ []) k ≡ Some x → (slice_get xs k ≡ Some x) ⊎ ((k ≡ length xs) × (y ≡ x))
-at_push [] y zero x h = inr (refl, cc)
-at_push [] y (suc k) x h = cc
-at_push (z ∷ xs) y zero x h = inl h
-at_push (z ∷ xs) y (suc k) x h = go (at_push xs y k x h) where
-  go : (slice_get xs k ≡ Some x) ⊎ ((k ≡ length xs) × (y ≡ x)) → (slice_get xs k ≡ Some x) ⊎ ((suc k ≡ suc (length xs)) × (y ≡ x))
-  go (inl e) = inl e
-  go (inr (e, f)) = inr (ap suc e, f)
 
 -- one more slot
 pub AllStarts-push : (t : Rows) (xs : List ℕ) (y : ℕ) → AllStarts t xs → MayLead t y (start_of t.of (length xs)) → AllStarts t (xs ++ y ∷ [])
@@ -65,14 +57,14 @@ AllStarts-more t r xs all slot id e = go (all slot id e) where
 
 pub AllStarts-put : (t : Rows) (r : Row) (xs : List ℕ) → AllStarts t xs → AllStarts (put t r) xs
 AllStarts-put t r xs all = go (id_of t r.state) where
-  go : (o : Option ℕ) → AllStarts (put_if o t r) xs
+  go : (o : Option ℕ) → AllStarts (cond (is_some o) t (with_row t r)) xs
   go None = AllStarts-more t r xs all
   go (Some n) = all
 
 put_id : (before after : Rows) (starts : List ℕ) (r : Row) (n : ℕ) → after ≡ put before r → Names after n r.state → keep_found (Some r) (record { table = before; starts = starts }) ≡ record { table = after; starts = starts ++ n ∷ [] }
 put_id before after starts r n e named =
     let f : id_of (put before r) r.state ≡ Some n = subst (λ (u : Rows). id_of u r.state ≡ Some n) e named in
-    λ i. record { table = sym e i; starts = starts ++ or_unknown (f i) ∷ [] }
+    λ i. record { table = sym e i; starts = starts ++ unwrap_or (f i) (2 ^ 31) ∷ [] }
 
 -- a slot that names a row
 pub kept_row : (old before after : Rows) (starts : List ℕ) (id n : ℕ) → IsPut old before after id n → id < 2 ^ 29 → keep_slot old (record { table = before; starts = starts }) id ≡ record { table = after; starts = starts ++ n ∷ [] }

@@ -4,15 +4,15 @@ use Rattle.std.proofs.Common.{length, true, refl, sym, ap, subst, arith}
 use Rattle.std.proofs.Math.Nat.{mul-le-mul_right}
 use Rattle.automata_hybrid.specs.declared.dfa.progress.Searched.{Searched}
 use Rattle.automata_hybrid.specs.Cache.Stores.{Stored, KeepsStarts, with_searched}
-use Rattle.automata_hybrid.specs.Cache.Usage.{row_usage, usage}
-use Rattle.automata_hybrid.specs.Cache.Changes.{AreChanges, IsAddedStart, IsOneChange}
+use Rattle.automata_hybrid.specs.Cache.Usage.{cleared, row_usage, usage}
+use Rattle.automata_hybrid.specs.Cache.Changes.{AreChanges, IsStateAdded, IsOneChange}
 use Rattle.automata_hybrid.specs.Cache.Caches.{CacheView, counted, with_store}
 use Rattle.automata_hybrid.specs.Cache.Growth.{IsGrown, Keeps, ClearedNothing, HasRoom, IsStartTagged, MayHaveStartTag}
 use Rattle.automata_hybrid.proofs.Steps.Effects.{HasRoom-Fits, HasRoom-grown, Keeps-grown, Keeps-trans, counts_up}
 use Rattle.automata_base.specs.Powersets.Powerset.{Powerset, cost}
 use Rattle.automata_config.specs.Options.{specialize_start_states_of}
 use Rattle.automata_hybrid.specs.declared.dfa.row.Row.{Row}
-use Rattle.automata_hybrid.specs.Machines.Machine.{IsReached, Machine, greatest, slot_count, start_of, template_of}
+use Rattle.automata_hybrid.specs.Machines.Machine.{IsReachable, Machine, greatest, slot_count, start_of, template_of}
 use Rattle.automata_hybrid.specs.Machines.Machine.{table_stride}
 use Rattle.automata_hybrid.specs.Cache.Progress.{saturated}
 use Rattle.automata_hybrid.specs.Cache.Table.{HasCells, Lacks}
@@ -168,14 +168,14 @@ again_row q = record { state = q; started = false }
 
 -- one that is put back is one change
 again_change :
-    (old new : Stored) (q : Powerset) → Lacks old.table q → IsReached old.table.of q → IsAddedStart old (again_row q) new
+    (old new : Stored) (q : Powerset) → Lacks old.table q → IsReachable old.table.of q → IsStateAdded old (cleared old) (again_row q) new
     → IsOneChange old new
 again_change old new q lacks reached added = inr (inr (inr (record { state = q; lacks = lacks; reached = reached; added = added })))
 
 -- a state put back counts as one determinization would
 pub grown_again :
-    (old new : CacheView) (q : Powerset) → Lacks old.store.table q → IsReached old.store.table.of q
-    → IsAddedStart old.store (again_row q) new.store → new.count ≡ old.count → new.store.table.of ≡ old.store.table.of
+    (old new : CacheView) (q : Powerset) → Lacks old.store.table q → IsReachable old.store.table.of q
+    → IsStateAdded old.store (cleared old.store) (again_row q) new.store → new.count ≡ old.count → new.store.table.of ≡ old.store.table.of
     → KeepsStarts old.store.starts new.store.starts
     → ((q : Powerset) → IsStartTagged new.store.table q → IsStartTagged old.store.table q)
     → HasCells old.store.table → length (template_of old.store.table.of) ≡ table_stride old.store.table.of → old.store.clears < 2 ^ 64

@@ -14,10 +14,11 @@ use Rattle.automata_hybrid.specs.Cache.Ids.{HasOnly, tags}
 use Rattle.automata_hybrid.specs.Machines.Machine.{IsStateOf, next_of, greatest, template_of, table_stride}
 use Rattle.std.specs.List.{sum_by}
 use Rattle.std.proofs.lemmas.List.Sums.{sum_by-cons}
-use Rattle.automata_hybrid.specs.Cache.Table.{Rows, has_patterns, find_id, Names, IsValid, Leads, IsCell, row_id}
-use Rattle.automata_hybrid.specs.Cache.Table.{with_cell, cell_at, HasRowIds, IsTable, IsStepped, HasState, StateMap}
+use Rattle.automata_hybrid.specs.Cache.Table.{Rows, has_patterns, find_id, Names, IsRowId, Leads, IsCell, row_id}
+use Rattle.automata_hybrid.specs.Cache.Table.{with_cell, cell_at, AreRows, IsStepped, HasState}
 use Rattle.automata_hybrid.specs.Cache.Table.{row_cost}
 use Rattle.automata_hybrid.proofs.Cache.Rows.{inside}
+use Rattle.automata_hybrid.proofs.Cases.{same_some}
 
 -- the row that a look-up met
 pub record Found (s at : ℕ) (q : Powerset) (rs : List Row) (id : ℕ) : Type 0 where
@@ -61,43 +62,42 @@ pub record Placed (t : Rows) (id : ℕ) (q : Powerset) : Type 0 where
   pub within : place < length t.rows
   pub offset : id % 2 ^ 27 ≡ (place + 3) * table_stride t.of
   pub low : id < 2 ^ 29
+  pub same : id ≡ row_id (id % 2 ^ 27) row
 
-pub Names-Placed : (t : Rows) (m : StateMap) (costs id : ℕ) (q : Powerset) → IsTable t m costs → Names t id q → Placed t id q
-Names-Placed t m costs id q i h =
+pub Names-Placed : (t : Rows) (id : ℕ) (q : Powerset) → AreRows t → Names t id q → Placed t id q
+Names-Placed t id q i h =
     let f = find_id-Found (table_stride t.of) (3 * table_stride t.of) q t.rows id h in
-    let within : f.place < length t.rows = slice_get_within t.rows f.place f.row f.has in
-    let le : (f.place + 4) * table_stride t.of ≤ (length t.rows + 3) * table_stride t.of = mul-le-mul_right (table_stride t.of) (omega (arith, within)) in
-    let low : (f.place + 3) * table_stride t.of < 2 ^ 27 = omega (arith, le, i.whole, i.small) in
+    let low : (f.place + 3) * table_stride t.of < 2 ^ 27 = (i.ids f.place f.row f.has).1 in
     let at : 3 * table_stride t.of + f.place * table_stride t.of ≡ (f.place + 3) * table_stride t.of = omega arith in
+    let offset : id % 2 ^ 27 ≡ (f.place + 3) * table_stride t.of =
+    ap (λ n. n % 2 ^ 27) (f.«is» ∙ ap (λ n. row_id n f.row) at) ∙ tags_mod _ f.row.started (has_patterns f.row.state) low in
     record {
       place = f.place;
       row = f.row;
       has = f.has;
       state = f.state;
-      within = within;
-      offset = ap (λ n. n % 2 ^ 27) (f.«is» ∙ ap (λ n. row_id n f.row) at) ∙ tags_mod _ f.row.started (has_patterns f.row.state) low;
+      within = slice_get_within t.rows f.place f.row f.has;
+      offset = offset;
       low = rw (f.«is») (tags_low _ f.row.started (has_patterns f.row.state) (omega (arith, low, at)));
+      same = f.«is» ∙ ap (λ n. row_id n f.row) (at ∙ sym offset);
     }
 
-pub Placed-cell : (t : Rows) (m : StateMap) (costs id class : ℕ) (q : Powerset) → IsTable t m costs → Placed t id q → class < table_stride t.of → cell_at id class < length t.cells
-Placed-cell t m costs id class q i p l = rw (p.offset, i.whole) (inside p.place (length t.rows) (table_stride t.of) class p.within l)
+pub Placed-cell : (t : Rows) (id class : ℕ) (q : Powerset) → AreRows t → Placed t id q → class < table_stride t.of → cell_at id class < length t.cells
+Placed-cell t id class q i p l = rw (p.offset, i.whole) (inside p.place (length t.rows) (table_stride t.of) class p.within l)
 
-pub Placed-place : (t : Rows) (m : StateMap) (costs id : ℕ) (q : Powerset) → IsTable t m costs → (p : Placed t id q) → (id % 2 ^ 27) / table_stride t.of ≡ p.place + 3
-Placed-place t m costs id q i p =
+pub Placed-place : (t : Rows) (id : ℕ) (q : Powerset) → 0 < table_stride t.of → (p : Placed t id q) → (id % 2 ^ 27) / table_stride t.of ≡ p.place + 3
+Placed-place t id q positive p =
     let e : (p.place + 3) * table_stride t.of ≡ (p.place + 3) * table_stride t.of + 0 = omega arith in
-    ap (λ n. n / table_stride t.of) (p.offset ∙ e) ∙ div-mul-add (p.place + 3) (table_stride t.of) 0 i.template.positive
+    ap (λ n. n / table_stride t.of) (p.offset ∙ e) ∙ div-mul-add (p.place + 3) (table_stride t.of) 0 positive
 
-pub Placed-HasState : (t : Rows) (m : StateMap) (costs id k : ℕ) (q : Powerset) → IsTable t m costs → Placed t id q → k ≡ (id % 2 ^ 27) / table_stride t.of - 3 → HasState t k q
-Placed-HasState t m costs id k q i p e =
-    let same : k ≡ p.place = omega (arith, Placed-place t m costs id q i p, e) in
+pub Placed-HasState : (t : Rows) (id k : ℕ) (q : Powerset) → 0 < table_stride t.of → Placed t id q → k ≡ (id % 2 ^ 27) / table_stride t.of - 3 → HasState t k q
+Placed-HasState t id k q positive p e =
+    let same : k ≡ p.place = omega (arith, Placed-place t id q positive p, e) in
     (p.row, subst (λ n. slice_get t.rows n ≡ Some p.row) (sym same) p.has, p.state)
 
-pub Placed-IsCell : (t : Rows) (m : StateMap) (costs id class : ℕ) (q : Powerset) → IsTable t m costs → Placed t id q → class < table_stride t.of → IsCell t q class (get_or t.cells (cell_at id class) 0)
-Placed-IsCell t m costs id class q i p l =
+pub Placed-IsCell : (t : Rows) (id class : ℕ) (q : Powerset) → AreRows t → Placed t id q → class < table_stride t.of → IsCell t q class (get_or t.cells (cell_at id class) 0)
+Placed-IsCell t id class q i p l =
     subst (λ n. IsCell t q class (get_or t.cells (n + class) 0)) (sym p.offset) (subst (λ w. IsCell t w class (get_or t.cells ((p.place + 3) * table_stride t.of + class) 0)) p.state (i.stepped p.place class p.row p.has l))
-
-pub some_inj : (x y : Row) → Some x ≡ Some y → x ≡ y
-some_inj x y e = cc
 
 -- one cell, one row and one class
 pub one_cell : (a b c d s : ℕ) → c < s → d < s → a * s + c ≡ b * s + d → (a ≡ b) × (c ≡ d)
@@ -107,20 +107,17 @@ one_cell a b c d s l m e =
     (f, g)
 
 -- a cell that is written with what names the next state
-pub IsTable-with_cell : (t : Rows) (m : StateMap) (costs id class next : ℕ) (q : Powerset) → IsTable t m costs → Names t id q → class < table_stride t.of → get_or (template_of t.of) class 0 ≡ 2 ^ 31 → Leads t next (next_of t.of q class) → IsTable (with_cell t id class next) m costs
-IsTable-with_cell t m costs id class next q i h l free leads =
-    let p = Names-Placed t m costs id q i h in
+pub AreRows-with_cell : (t : Rows) (id class next : ℕ) (q : Powerset) → AreRows t → Names t id q → class < table_stride t.of → get_or (template_of t.of) class 0 ≡ 2 ^ 31 → Leads t next (next_of t.of q class) → AreRows (with_cell t id class next)
+AreRows-with_cell t id class next q i h l free leads =
+    let p = Names-Placed t id q i h in
     let far : 3 * table_stride t.of ≤ cell_at id class = omega (arith, p.offset, mul-le-mul_right (table_stride t.of) (le3 p.place)) in
     record {
-      template = i.template;
       whole = length-set t.cells (cell_at id class) next ∙ i.whole;
       small = rw length-set i.small;
       fixed = take-set-le (3 * table_stride t.of) t.cells (cell_at id class) next far ∙ i.fixed;
       stepped = stepped p;
-      distinct = i.distinct;
+      ids = i.ids;
       alive = i.alive;
-      mapped = i.mapped;
-      costs_of = i.costs_of;
     } where
       le3 : (k : ℕ) → 3 ≤ k + 3
       le3 k = omega arith
@@ -135,8 +132,8 @@ IsTable-with_cell t m costs id class next q i h l free leads =
                 let both = one_cell (k + 3) (p.place + 3) c class (table_stride t.of) lc l (e ∙ ap (λ n. n + class) p.offset) in
                 let place : k ≡ p.place = omega (arith, both.0) in
                 let row : Some r ≡ Some p.row = sym has ∙ ap (slice_get t.rows) place ∙ p.has in
-                let state : r.state ≡ q = ap (λ (x : Row). x.state) (some_inj r p.row row) ∙ p.state in
-                let read : next ≡ get_or (set t.cells (cell_at id class) next) ((k + 3) * table_stride t.of + c) 0 = sym (get_or-set_same t.cells (cell_at id class) next 0 (Placed-cell t m costs id class q i p l)) ∙ ap (λ n. get_or (set t.cells (cell_at id class) next) n 0) (sym e) in
+                let state : r.state ≡ q = ap (λ (x : Row). x.state) (same_some row) ∙ p.state in
+                let read : next ≡ get_or (set t.cells (cell_at id class) next) ((k + 3) * table_stride t.of + c) 0 = sym (get_or-set_same t.cells (cell_at id class) next 0 (Placed-cell t id class q i p l)) ∙ ap (λ n. get_or (set t.cells (cell_at id class) next) n 0) (sym e) in
                 subst (IsCell t r.state c) read (subst (λ d. IsCell t r.state d next) (sym both.1) (subst (λ w. IsCell t w class next) (sym state) (inr (free, inr leads))))
 
 pub costs_le : (rs : List Row) (m : ℕ) → ((k : ℕ) (r : Row) → slice_get rs k ≡ Some r → cost r.state ≤ m) → sum_by row_cost rs ≤ length rs * m
@@ -148,18 +145,18 @@ costs_le (r ∷ rs) m all =
     let f : sum_by row_cost (r ∷ rs) ≡ cost r.state + sum_by row_cost rs = sum_by-cons row_cost r rs in
     omega (arith, one, more, e, f)
 
-pub IsTable-costs : (t : Rows) (m : StateMap) (costs : ℕ) → IsTable t m costs → sum_by row_cost t.rows ≤ length t.rows * greatest t.of
-IsTable-costs t m costs i = costs_le t.rows (greatest t.of) (λ k r h. (i.alive k r h).1)
+pub AreRows-costs : (t : Rows) → AreRows t → sum_by row_cost t.rows ≤ length t.rows * greatest t.of
+AreRows-costs t i = costs_le t.rows (greatest t.of) (λ k r h. (i.alive k r h).1)
 
 -- an ID at a row's offset, with that row's tags, is the row's
 pub placed_valid :
-    (t : Rows) (m : StateMap) (costs id index : ℕ) (r : Row)
-    → IsTable t m costs → 3 ≤ index → slice_get t.rows (index - 3) ≡ Some r → index * table_stride t.of ≡ id % 2 ^ 27 → id ≡ row_id (id % 2 ^ 27) r
-    → IsValid t id
-placed_valid t m costs id index r i three has at same =
+    (t : Rows) (id index : ℕ) (r : Row)
+    → AreRows t → 3 ≤ index → slice_get t.rows (index - 3) ≡ Some r → index * table_stride t.of ≡ id % 2 ^ 27 → id ≡ row_id (id % 2 ^ 27) r
+    → IsRowId t id
+placed_valid t id index r i three has at same =
     let place : index - 3 + 3 ≡ index = omega (arith, three) in
     let e : id ≡ row_id ((index - 3 + 3) * table_stride t.of) r = same ∙ ap (λ n. row_id n r) (sym at ∙ ap (λ n. n * table_stride t.of) (sym place)) in
-    (r.state, i.distinct (index - 3) r has ∙ ap Some (sym e))
+    (r.state, (i.ids (index - 3) r has).0 ∙ ap Some (sym e))
 
 -- and a valid ID is at its row's offset, with its tags
 pub record IsAtRow (t : Rows) (id index : ℕ) : Type 0 where
@@ -171,26 +168,18 @@ pub record IsAtRow (t : Rows) (id index : ℕ) : Type 0 where
   pub same : id ≡ row_id (id % 2 ^ 27) row
 
 pub valid_at :
-    (t : Rows) (m : StateMap) (costs id : ℕ) → IsTable t m costs → IsValid t id → IsAtRow t id ((id % 2 ^ 27) / table_stride t.of)
-valid_at t m costs id i v =
-    let f = find_id-Found (table_stride t.of) (3 * table_stride t.of) v.0 t.rows id v.1 in
-    let within : f.place < length t.rows = slice_get_within t.rows f.place f.row f.has in
-    let le : (f.place + 4) * table_stride t.of ≤ (length t.rows + 3) * table_stride t.of = mul-le-mul_right (table_stride t.of) (omega (arith, within)) in
-    let low : (f.place + 3) * table_stride t.of < 2 ^ 27 = omega (arith, le, i.whole, i.small) in
-    let at : 3 * table_stride t.of + f.place * table_stride t.of ≡ (f.place + 3) * table_stride t.of = omega arith in
-    let offset : id % 2 ^ 27 ≡ (f.place + 3) * table_stride t.of =
-    ap (λ n. n % 2 ^ 27) (f.«is» ∙ ap (λ n. row_id n f.row) at) ∙ tags_mod _ f.row.started (has_patterns f.row.state) low in
-    let whole : (f.place + 3) * table_stride t.of ≡ (f.place + 3) * table_stride t.of + 0 = omega arith in
-    let index : (id % 2 ^ 27) / table_stride t.of ≡ f.place + 3 =
-    ap (λ n. n / table_stride t.of) (offset ∙ whole) ∙ div-mul-add (f.place + 3) (table_stride t.of) 0 i.template.positive in
-    let behind : (id % 2 ^ 27) / table_stride t.of - 3 ≡ f.place = omega (arith, index) in
+    (t : Rows) (id : ℕ) → AreRows t → 0 < table_stride t.of → IsRowId t id → IsAtRow t id ((id % 2 ^ 27) / table_stride t.of)
+valid_at t id i positive v =
+    let p = Names-Placed t id v.0 i v.1 in
+    let index : (id % 2 ^ 27) / table_stride t.of ≡ p.place + 3 = Placed-place t id v.0 positive p in
+    let behind : (id % 2 ^ 27) / table_stride t.of - 3 ≡ p.place = omega (arith, index) in
     record {
-      row = f.row;
+      row = p.row;
       behind = omega (arith, index);
-      within = omega (arith, index, within);
-      has = subst (λ n. slice_get t.rows n ≡ Some f.row) (sym behind) f.has;
-      at = ap (λ n. n * table_stride t.of) index ∙ sym offset;
-      same = f.«is» ∙ ap (λ n. row_id n f.row) (at ∙ sym offset);
+      within = omega (arith, index, p.within);
+      has = subst (λ n. slice_get t.rows n ≡ Some p.row) (sym behind) p.has;
+      at = ap (λ n. n * table_stride t.of) index ∙ sym p.offset;
+      same = p.same;
     }
 
 -- a bit, by the number above it
@@ -218,16 +207,14 @@ match_tagged id only =
     let i = bit_of 27 (id - 2 ^ 27) 1 id (omega (arith, only.from, only.below)) (omega (arith, only.from)) in
     i.1 refl
 
-pub Names-tagged : (t : Rows) (m : StateMap) (costs id : ℕ) (q : Powerset) → IsTable t m costs → Names t id q → IsBitSet id 27 ↔ (0 < length q.patterns)
-Names-tagged t m costs id q i h =
-    let f = find_id-Found (table_stride t.of) (3 * table_stride t.of) q t.rows id h in
-    let within : f.place < length t.rows = slice_get_within t.rows f.place f.row f.has in
-    let le : (f.place + 4) * table_stride t.of ≤ (length t.rows + 3) * table_stride t.of = mul-le-mul_right (table_stride t.of) (omega (arith, within)) in
-    let low : 3 * table_stride t.of + f.place * table_stride t.of < 2 ^ 27 = omega (arith, le, i.whole, i.small) in
-    let bit = tags_bit (3 * table_stride t.of + f.place * table_stride t.of) f.row.started (has_patterns f.row.state) low in
+pub Names-tagged : (t : Rows) (id : ℕ) (q : Powerset) → AreRows t → Names t id q → IsBitSet id 27 ↔ (0 < length q.patterns)
+Names-tagged t id q i h =
+    let p = Names-Placed t id q i h in
+    let low : id % 2 ^ 27 < 2 ^ 27 = subst (λ n. n < 2 ^ 27) (sym p.offset) (i.ids p.place p.row p.has).1 in
+    let bit = tags_bit (id % 2 ^ 27) p.row.started (has_patterns p.row.state) low in
     let some = has_some q in
-    let s : has_patterns f.row.state ≡ has_patterns q = ap has_patterns f.state in
-    (λ b. some.0 (sym s ∙ bit.0 (subst (λ v. IsBitSet v 27) f.«is» b)), λ l. subst (λ v. IsBitSet v 27) (sym f.«is») (bit.1 (s ∙ some.1 l)))
+    let s : has_patterns p.row.state ≡ has_patterns q = ap has_patterns p.state in
+    (λ b. some.0 (sym s ∙ bit.0 (subst (λ v. IsBitSet v 27) p.same b)), λ l. subst (λ v. IsBitSet v 27) (sym p.same) (bit.1 (s ∙ some.1 l)))
 
 pub no_patterns : (ps : List ℕ) → (0 < length ps → ⊥) → ps ≡ []
 no_patterns [] n = refl
@@ -245,19 +232,12 @@ Names-silent t id q h l =
       heavy a false x e l = cc
 
 -- no row has the dead state
-pub Names-alive : (t : Rows) (m : StateMap) (costs id : ℕ) (q : Powerset) → IsTable t m costs → Names t id q → q ≡ dead → ⊥
-Names-alive t m costs id q i h d =
-    let p = Names-Placed t m costs id q i h in (i.alive p.place p.row p.has).0 (p.state ∙ d)
+pub Names-alive : (t : Rows) (id : ℕ) (q : Powerset) → AreRows t → Names t id q → q ≡ dead → ⊥
+Names-alive t id q i h d =
+    let p = Names-Placed t id q i h in (i.alive p.place p.row p.has).0 (p.state ∙ d)
 
 -- the states of rows are the DFA's
-pub Names-own : (t : Rows) (m : StateMap) (costs id : ℕ) (q : Powerset) → IsTable t m costs → Names t id q → IsStateOf t.of q
-Names-own t m costs id q i h =
-    let p = Names-Placed t m costs id q i h in
+pub Names-own : (t : Rows) (id : ℕ) (q : Powerset) → AreRows t → Names t id q → IsStateOf t.of q
+Names-own t id q i h =
+    let p = Names-Placed t id q i h in
     subst (IsStateOf t.of) p.state (i.alive p.place p.row p.has).2
-
--- each row is found by its state, and stands below the limit of offsets
-pub IsTable-ids : (t : Rows) (m : StateMap) (costs : ℕ) → IsTable t m costs → HasRowIds t
-IsTable-ids t m costs i k r h =
-    let within : k < length t.rows = slice_get_within t.rows k r h in
-    let le : (k + 4) * table_stride t.of ≤ (length t.rows + 3) * table_stride t.of = mul-le-mul_right (table_stride t.of) (omega (arith, within)) in
-    (i.distinct k r h, omega (arith, le, i.whole, i.small))

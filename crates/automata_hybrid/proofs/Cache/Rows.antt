@@ -15,7 +15,7 @@ use Rattle.automata_base.specs.Powersets.Powerset.{dead}
 use Rattle.automata_hybrid.specs.Cache.Ids.{quit_id}
 use Rattle.automata_hybrid.specs.Machines.Machine.{IsStateOf, next_of, greatest, template_of, IsTemplate, table_stride}
 use Rattle.automata_hybrid.specs.Cache.Table.{Rows, find_id, id_of, Names, Leads, IsCell, row_id, row_cost, with_row}
-use Rattle.automata_hybrid.specs.Cache.Table.{IsTable, IsStepped, StateMap}
+use Rattle.automata_hybrid.specs.Cache.Table.{AreRows, IsHeld, IsStepped, StateMap}
 
 -- a state that rows have keeps its ID when more come
 find_id-more : (s at : ℕ) (q : Powerset) (rs ys : List Row) (id : ℕ) → find_id s at q rs ≡ Some id → find_id s at q (rs ++ ys) ≡ Some id
@@ -60,12 +60,12 @@ Names-new t r whole none =
     find_id-push_new (table_stride t.of) (3 * table_stride t.of) t.rows r none ∙ ap (λ n. Some (row_id n r)) e
 
 -- an element of a list with one more
-pub at_push : (rs : List Row) (r : Row) (k : ℕ) (x : Row) → slice_get (rs ++ r ∷ []) k ≡ Some x → (slice_get rs k ≡ Some x) ⊎ ((k ≡ length rs) × (r ≡ x))
-at_push [] r zero x h = inr (refl, cc)
-at_push [] r (suc k) x h = cc
-at_push (y ∷ rs) r zero x h = inl h
-at_push (y ∷ rs) r (suc k) x h = go (at_push rs r k x h) where
-  go : (slice_get rs k ≡ Some x) ⊎ ((k ≡ length rs) × (r ≡ x)) → (slice_get rs k ≡ Some x) ⊎ ((suc k ≡ suc (length rs)) × (r ≡ x))
+pub at_push : {A : Type 0} (xs : List A) (y : A) (k : ℕ) (x : A) → slice_get (xs ++ y ∷ []) k ≡ Some x → (slice_get xs k ≡ Some x) ⊎ ((k ≡ length xs) × (y ≡ x))
+at_push [] y zero x h = inr (refl, cc)
+at_push [] y (suc k) x h = cc
+at_push (z ∷ xs) y zero x h = inl h
+at_push (z ∷ xs) y (suc k) x h = go (at_push xs y k x h) where
+  go : (slice_get xs k ≡ Some x) ⊎ ((k ≡ length xs) × (y ≡ x)) → (slice_get xs k ≡ Some x) ⊎ ((suc k ≡ suc (length xs)) × (y ≡ x))
   go (inl e) = inl e
   go (inr (e, f)) = inr (ap suc e, f)
 
@@ -74,8 +74,8 @@ inside k n s class h l =
     let le : (k + 4) * s ≤ (n + 3) * s = mul-le-mul_right s (omega (arith, h)) in
     omega (arith, le, l)
 
-IsTable-stepped : (t : Rows) (r : Row) → IsTemplate (table_stride t.of) (template_of t.of) → length t.cells ≡ (length t.rows + 3) * table_stride t.of → IsStepped t → IsStepped (with_row t r)
-IsTable-stepped t r template whole old k class x h l = go (at_push t.rows r k x h) where
+stepped-with_row : (t : Rows) (r : Row) → IsTemplate (table_stride t.of) (template_of t.of) → length t.cells ≡ (length t.rows + 3) * table_stride t.of → IsStepped t → IsStepped (with_row t r)
+stepped-with_row t r template whole old k class x h l = go (at_push t.rows r k x h) where
   go : (slice_get t.rows k ≡ Some x) ⊎ ((k ≡ length t.rows) × (r ≡ x)) → IsCell (with_row t r) x.state class (get_or (t.cells ++ (template_of t.of)) ((k + 3) * table_stride t.of + class) 0)
   go (inl e) =
       let within : (k + 3) * table_stride t.of + class < length t.cells = rw whole (inside k (length t.rows) (table_stride t.of) class (slice_get_within t.rows k x e) l) in
@@ -88,48 +88,59 @@ IsTable-stepped t r template whole old k class x h l = go (at_push t.rows r k x 
         new (inl q) = inl (q, q)
         new (inr u) = inr (u, inl u)
 
--- a new row, and the map that has cached it
-pub IsTable-with_row : (t : Rows) (r : Row) (m n : StateMap) (costs : ℕ) → IsTable t m costs → id_of t r.state ≡ None → (r.state ≡ dead → ⊥) → cost r.state ≤ greatest t.of → IsStateOf t.of r.state → length t.cells < 2 ^ 27
-    → ((p : Powerset) → get powerset_eq n p ≡ cond (powerset_eq r.state p) (Some (row_id (length t.cells) r)) (get powerset_eq m p)) → IsTable (with_row t r) n (costs + cost r.state)
-IsTable-with_row t r m n costs i none live cheap of fits new =
-    let more : length (t.cells ++ (template_of t.of)) ≡ length t.cells + table_stride t.of = length-append t.cells (template_of t.of) ∙ ap (λ k. length t.cells + k) i.template.whole in
+-- a new row, after which the rows still fit together
+pub AreRows-with_row :
+    (t : Rows) (r : Row) → AreRows t → IsTemplate (table_stride t.of) (template_of t.of) → id_of t r.state ≡ None → (r.state ≡ dead → ⊥) → cost r.state ≤ greatest t.of → IsStateOf t.of r.state → length t.cells < 2 ^ 27
+    → AreRows (with_row t r)
+AreRows-with_row t r i template none live cheap of fits =
+    let more : length (t.cells ++ (template_of t.of)) ≡ length t.cells + table_stride t.of = length-append t.cells (template_of t.of) ∙ ap (λ k. length t.cells + k) template.whole in
     let one : length (t.rows ++ r ∷ []) ≡ length t.rows + 1 = length-append t.rows (r ∷ []) in
     let few : 3 * table_stride t.of ≤ length t.cells = rw i.whole (grind arith) in
     record {
-      template = i.template;
       whole = more ∙ rw (i.whole, one) (omega arith);
       small = omega (arith, more, fits);
       fixed = rw (take-append-le (3 * table_stride t.of) t.cells (template_of t.of) few) i.fixed;
-      stepped = IsTable-stepped t r i.template i.whole i.stepped;
-      distinct = λ k x h. distinct k x (at_push t.rows r k x h);
+      stepped = stepped-with_row t r template i.whole i.stepped;
+      ids = λ k x h. ids k x (at_push t.rows r k x h);
       alive = λ k x h. alive k x (at_push t.rows r k x h);
-      mapped = λ p. ⊎_elim (λ (e : powerset_eq r.state p ≡ true). same p e) (λ (e : powerset_eq r.state p ≡ false). other p e) (cases_Bool (powerset_eq r.state p));
-      costs_of = ap (λ n. n + cost r.state) i.costs_of ∙ sym (sum_by_push row_cost t.rows r);
     } where
-      distinct : (k : ℕ) (x : Row) → (slice_get t.rows k ≡ Some x) ⊎ ((k ≡ length t.rows) × (r ≡ x)) → Names (with_row t r) (row_id ((k + 3) * table_stride t.of) x) x.state
-      distinct k x (inl e) = Names-more t r _ x.state (i.distinct k x e)
-      distinct k x (inr (e, f)) = subst (λ y. Names (with_row t r) (row_id ((k + 3) * table_stride t.of) y) y.state) f (subst (λ n. Names (with_row t r) (row_id n r) r.state) (i.whole ∙ rw e refl) (Names-new t r i.whole none))
+      ids : (k : ℕ) (x : Row) → (slice_get t.rows k ≡ Some x) ⊎ ((k ≡ length t.rows) × (r ≡ x)) → Names (with_row t r) (row_id ((k + 3) * table_stride t.of) x) x.state × ((k + 3) * table_stride t.of < 2 ^ 27)
+      ids k x (inl e) = let old = i.ids k x e in (Names-more t r _ x.state old.0, old.1)
+      ids k x (inr (e, f)) =
+          let at : length t.cells ≡ (k + 3) * table_stride t.of = i.whole ∙ rw e refl in (
+            subst (λ y. Names (with_row t r) (row_id ((k + 3) * table_stride t.of) y) y.state) f (subst (λ n. Names (with_row t r) (row_id n r) r.state) at (Names-new t r i.whole none)),
+            subst (λ n. n < 2 ^ 27) at fits,
+          )
 
       alive : (k : ℕ) (x : Row) → (slice_get t.rows k ≡ Some x) ⊎ ((k ≡ length t.rows) × (r ≡ x)) → (x.state ≡ dead → ⊥) × (cost x.state ≤ greatest t.of) × IsStateOf t.of x.state
       alive k x (inl e) = i.alive k x e
       alive k x (inr (e, f)) = subst (λ (y : Row). (y.state ≡ dead → ⊥) × (cost y.state ≤ greatest t.of) × IsStateOf t.of y.state) f (live, cheap, of)
 
-      same : (p : Powerset) → powerset_eq r.state p ≡ true → get powerset_eq n p ≡ id_of (with_row t r) p
-      same p e = new p ∙ rw e (sym (subst (λ w. id_of (with_row t r) w ≡ Some (row_id (length t.cells) r)) ((powerset_eq-Decides r.state p).0 e) (Names-new t r i.whole none)))
-
-      other : (p : Powerset) → powerset_eq r.state p ≡ false → get powerset_eq n p ≡ id_of (with_row t r) p
-      other p e = new p ∙ rw e (i.mapped p ∙ sym (find_id-push_other (table_stride t.of) (3 * table_stride t.of) p t.rows r (flipped r.state p e)))
-
--- a state that is not in the map is not in the rows
-pub IsTable-map : (t : Rows) (m n : StateMap) (costs : ℕ) → IsTable t m costs → ((p : Powerset) → get powerset_eq n p ≡ get powerset_eq m p) → IsTable t n costs
-IsTable-map t m n costs i same = record {
+-- and the map that has cached it
+pub IsHeld-with_row :
+    (t : Rows) (r : Row) (s : ℕ) (row : List ℕ) (m n : StateMap) (costs : ℕ) → IsHeld t s row m costs → id_of t r.state ≡ None → (r.state ≡ dead → ⊥) → cost r.state ≤ greatest t.of → IsStateOf t.of r.state → length t.cells < 2 ^ 27
+    → ((p : Powerset) → get powerset_eq n p ≡ cond (powerset_eq r.state p) (Some (row_id (length t.cells) r)) (get powerset_eq m p)) → IsHeld (with_row t r) s row n (costs + cost r.state)
+IsHeld-with_row t r s row m n costs i none live cheap of fits new = record {
+  rows = AreRows-with_row t r i.rows i.cells none live cheap of fits;
+  cells = i.cells;
+  stride = i.stride;
   template = i.template;
-  whole = i.whole;
-  small = i.small;
-  fixed = i.fixed;
-  stepped = i.stepped;
-  distinct = i.distinct;
-  alive = i.alive;
+  mapped = λ p. ⊎_elim (λ (e : powerset_eq r.state p ≡ true). same p e) (λ (e : powerset_eq r.state p ≡ false). other p e) (cases_Bool (powerset_eq r.state p));
+  costs_of = ap (λ n. n + cost r.state) i.costs_of ∙ sym (sum_by_push row_cost t.rows r);
+} where
+  same : (p : Powerset) → powerset_eq r.state p ≡ true → get powerset_eq n p ≡ id_of (with_row t r) p
+  same p e = new p ∙ rw e (sym (subst (λ w. id_of (with_row t r) w ≡ Some (row_id (length t.cells) r)) ((powerset_eq-Decides r.state p).0 e) (Names-new t r i.rows.whole none)))
+
+  other : (p : Powerset) → powerset_eq r.state p ≡ false → get powerset_eq n p ≡ id_of (with_row t r) p
+  other p e = new p ∙ rw e (i.mapped p ∙ sym (find_id-push_other (table_stride t.of) (3 * table_stride t.of) p t.rows r (flipped r.state p e)))
+
+-- a map that finds the same
+pub IsHeld-map : (t : Rows) (s : ℕ) (row : List ℕ) (m n : StateMap) (costs : ℕ) → IsHeld t s row m costs → ((p : Powerset) → get powerset_eq n p ≡ get powerset_eq m p) → IsHeld t s row n costs
+IsHeld-map t s row m n costs i same = record {
+  rows = i.rows;
+  cells = i.cells;
+  stride = i.stride;
+  template = i.template;
   mapped = λ p. same p ∙ i.mapped p;
   costs_of = i.costs_of;
 }

@@ -12,23 +12,12 @@ use Rattle.std.proofs.lemmas.List.{length-replicate, get_or-replicate}
 use Rattle.std.proofs.lemmas.Option.{slice_get_within, get_or_from_slice_get}
 use Rattle.automata_hybrid.specs.declared.dfa.settings.Settings.{Settings}
 use Rattle.automata_hybrid.specs.declared.dfa.progress.Searched.{Searched}
-use Rattle.automata_hybrid.specs.Cache.Table.{Rows, Leads, Names, row_cost, with_row, fresh, fixed_rows}
+use Rattle.automata_hybrid.specs.Cache.Table.{Rows, Leads, Names, row_cost, with_row, fixed_rows}
 use Rattle.automata_hybrid.specs.Cache.Clears.{AllStarts}
 use Rattle.automata_hybrid.specs.Cache.Stores.{Stored, with_table, fresh_store, settings_of}
-use Rattle.automata_hybrid.specs.Cache.Usage.{usage_by, IsCache, usage, Fits}
+use Rattle.automata_hybrid.specs.Cache.Usage.{IsCache, usage, Fits}
 
--- a cache with so few rows is within its capacity
-pub few_within : (n cells most stride slots sum fixed capacity : ℕ) → n ≤ slots + 1 → cells ≡ (n + 3) * stride → sum ≤ n * most → minimum_capacity stride slots most fixed ≤ capacity
-    → 4 * cells + 4 * slots + 16 * (n + 3) + 20 * (n + 1) + 39 + sum + fixed ≤ capacity
-few_within n cells most stride slots sum fixed capacity few whole cheap enough =
-    let more : n + 3 ≤ slots + 4 = omega (arith, few) in
-    let le : (n + 3) * stride ≤ (slots + 4) * stride = mul-le-mul_right stride more in
-    let le2 : n * most ≤ (slots + 1) * most = mul-le-mul_right most few in
-    let e : (2 + slots) * most ≡ (slots + 1) * most + most = omega arith in
-    let f : (5 + slots) * stride ≡ (slots + 4) * stride + stride = omega arith in
-    omega (arith, few, whole, cheap, enough, le, le2, e, f)
-
--- and a new state fits
+-- in a cache with so few rows a new state fits
 pub few_fits : (n cells most stride slots sum fixed capacity extra : ℕ) → n ≤ slots + 1 → cells ≡ (n + 3) * stride → sum ≤ n * most → minimum_capacity stride slots most fixed ≤ capacity → extra ≤ most
     → (4 * cells + 4 * slots + 16 * (n + 3) + 20 * (n + 1) + 39 + sum + fixed) + (4 * stride + 36) + extra ≤ capacity
 few_fits n cells most stride slots sum fixed capacity extra few whole cheap enough little =
@@ -38,6 +27,14 @@ few_fits n cells most stride slots sum fixed capacity extra few whole cheap enou
     let e : (2 + slots) * most ≡ (slots + 1) * most + most = omega arith in
     let f : (5 + slots) * stride ≡ (slots + 4) * stride + stride = omega arith in
     omega (arith, few, whole, cheap, enough, le, le2, e, f, little)
+
+-- so it is within its capacity
+pub few_within : (n cells most stride slots sum fixed capacity : ℕ) → n ≤ slots + 1 → cells ≡ (n + 3) * stride → sum ≤ n * most → minimum_capacity stride slots most fixed ≤ capacity
+    → 4 * cells + 4 * slots + 16 * (n + 3) + 20 * (n + 1) + 39 + sum + fixed ≤ capacity
+few_within n cells most stride slots sum fixed capacity few whole cheap enough =
+    let fits : (4 * cells + 4 * slots + 16 * (n + 3) + 20 * (n + 1) + 39 + sum + fixed) + (4 * stride + 36) + 0 ≤ capacity =
+    few_fits n cells most stride slots sum fixed capacity 0 few whole cheap enough (omega arith) in
+    omega (arith, fits)
 
 pub Fits-few : (c : Stored) (settings : Settings) → IsCache c settings → length c.table.rows ≤ length c.starts + 1 → length c.table.cells ≡ (length c.table.rows + 3) * table_stride c.table.of → sum_by row_cost c.table.rows ≤ length c.table.rows * greatest c.table.of
     → (extra : ℕ) → extra ≤ greatest c.table.of → Fits c extra
@@ -91,7 +88,7 @@ IsCache-fresh m settings same enough offsets bounded =
     let cells : length (fixed_rows (table_stride m)) ≡ (0 + 3) * table_stride m = omega (arith, length-append (replicate (table_stride m) (2 ^ 31)) (replicate (table_stride m) (dead_id (table_stride m)) ++ replicate (table_stride m) (quit_id (table_stride m))), length-append (replicate (table_stride m) (dead_id (table_stride m))) (replicate (table_stride m) (quit_id (table_stride m))), a, b, d) in
     record {
       named = λ slot id h. inl (unknown_at (slot_count m) slot id h);
-      within = subst (λ k. usage_by (fresh m) k (fixed_cost m.nfa) ≤ m.capacity) (sym n) (few_within 0 (length (fixed_rows (table_stride m))) (greatest m) (table_stride m) (slot_count m) 0 (fixed_cost m.nfa) m.capacity (omega arith) cells (omega arith) enough);
+      within = subst (λ k. 4 * length (fixed_rows (table_stride m)) + 4 * k + 16 * (0 + 3) + 20 * (0 + 1) + 39 + 0 + fixed_cost m.nfa ≤ m.capacity) (sym n) (few_within 0 (length (fixed_rows (table_stride m))) (greatest m) (table_stride m) (slot_count m) 0 (fixed_cost m.nfa) m.capacity (omega arith) cells (omega arith) enough);
       enough = rw n enough;
       offsets = rw n offsets;
       slots = n;

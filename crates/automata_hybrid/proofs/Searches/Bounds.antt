@@ -13,6 +13,7 @@ use Rattle.automata_hybrid.specs.Searches.Passes.{IsFound, WithoutBase, with_bas
 use Rattle.automata_hybrid.specs.Searches.Bounds.{LiesIn, LiesPast}
 use Rattle.automata_hybrid.proofs.Searches.Skips.{found_reported}
 use Rattle.automata_config.specs.Options.{match_kind_of}
+use Rattle.automata_hybrid.proofs.Cases.{same_some, some_none}
 
 -- what is found lies in the span, not before the start of the span that gave it
 pub found_within :
@@ -20,12 +21,6 @@ pub found_within :
     → input.end ≤ length input.haystack → IsFound way m input (Some half)
     → IsInSpan input half.offset × (input.start ≤ half.base) × (half.base ≤ half.offset)
 found_within way m input half few f = reported_within way m.nfa (match_kind_of m.config) input half few (found_reported way m input (Some half) f)
-
-some_none : {A : Type 0} {a : A} → ◌≡◌ {A = Option A} (Some a) None → ⊥
-some_none e = cc
-
-pub same_some : {A : Type 0} {a b : A} → ◌≡◌ {A = Option A} (Some a) (Some b) → a ≡ b
-same_some e = cc
 
 -- so do the results of calls
 module _ (m : Machine) (input : Input) (law : ReportedLiesWithin m.nfa) (few : input.end ≤ length input.haystack) where

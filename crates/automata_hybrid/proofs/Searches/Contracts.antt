@@ -15,7 +15,7 @@ use Rattle.automata_hybrid.specs.Searches.Contracts.{IsBased, IsHalf, IsSearchEf
 use Rattle.automata_hybrid.specs.Searches.Contracts.{halves}
 use Rattle.automata_hybrid.specs.Searches.Progress.{LeavesProgress}
 use Rattle.automata_hybrid.specs.Searches.Passes.{IsRefused, WithoutBase, with_base}
-use Rattle.automata_hybrid.proofs.Searches.PassState.{ok_err}
+use Rattle.automata_hybrid.proofs.Cases.{err_ok, ok_err, same_err}
 
 -- a cache that is of its DFA and keeps its bounds is one of it, within its settings
 pub is_store : (c : Stored) (m : Machine) → c.table.of ≡ m → IsStoreOf c c.table.of → IsStoreOf c m
@@ -28,15 +28,9 @@ pub may_refuse :
 may_refuse (Ok x) way m c input of h = h
 may_refuse (Err e) way m c input of h = (c, of, h)
 
-same_err : {A E : Type 0} {e f : E} → ◌≡◌ {A = Result A E} (Err e) (Err f) → e ≡ f
-same_err h = cc
-
 pub err_to :
     {A B E : Type 0} {e f : E} → ◌≡◌ {A = Result A E} (Err e) (Err f) → ◌≡◌ {A = Result B E} (Err e) (Err f)
 err_to h = ap (λ v. Err v) (same_err h)
-
-err_ok : {A E : Type 0} {a : A} {e : E} → ◌≡◌ {A = Result A E} (Err e) (Ok a) → ⊥
-err_ok h = cc
 
 some_none : {A E : Type 0} {a : A} → ◌≡◌ {A = Result (Option A) E} (Ok (Some a)) (Ok None) → ⊥
 some_none h = cc

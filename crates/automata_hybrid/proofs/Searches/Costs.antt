@@ -135,7 +135,14 @@ module _ (way : Direction) (m : Machine) (input : Input) (old new : CacheView) w
             clears_none old new (passes_most (suc k) (input.end - input.start)) (grown_trans old between new first second) counted.most room;
       }
 
-  -- one pass, where no place is skipped or the search is anchored
+  -- where no place is skipped, or the search is anchored, there is no second pass
+  no_second : (k : ℕ) → IsCostOfPasses way m input (suc (suc k)) old new → (Skips m × (input.anchored ≡ No) → ⊥) → ⊥
+  no_second k cost whole = go (cost.tried (suc k) (omega arith)).0.0 where
+    go : (suc k ≡ 0) ⊎ (Skips m × (input.anchored ≡ No)) → ⊥
+    go (inl e) = omega (arith, e)
+    go (inr free) = whole free
+
+  -- so it costs what one may
   pub cost_once :
       IsCostOfSearch way m input old new → (Skips m × (input.anchored ≡ No) → ⊥)
       → new.count ≤ old.count + (input.end - input.start + 2)
@@ -147,10 +154,7 @@ module _ (way : Direction) (m : Machine) (input : Input) (old new : CacheView) w
     go (suc zero) cost =
         let counted : new.count ≤ old.count + (0 + (input.end - input.start - 0 + 2)) = cost.counted in
         omega (arith, counted)
-    go (suc (suc k)) cost = absurd (second (cost.tried (suc k) (omega arith)).0.0) where
-      second : (suc k ≡ 0) ⊎ (Skips m × (input.anchored ≡ No)) → ⊥
-      second (inl e) = omega (arith, e)
-      second (inr free) = whole free
+    go (suc (suc k)) cost = absurd (no_second k cost whole)
 
   -- whose start, where it is cached, is not determinized again
   pub cost_known :
@@ -170,10 +174,7 @@ module _ (way : Direction) (m : Machine) (input : Input) (old new : CacheView) w
     go (suc zero) cost =
         let counted : new.count + 1 ≤ old.count + (0 + (input.end - input.start - 0 + 2)) = cost.started first in
         omega (arith, counted)
-    go (suc (suc k)) cost = absurd (second (cost.tried (suc k) (omega arith)).0.0) where
-      second : (suc k ≡ 0) ⊎ (Skips m × (input.anchored ≡ No)) → ⊥
-      second (inl e) = omega (arith, e)
-      second (inr free) = whole free
+    go (suc (suc k)) cost = absurd (no_second k cost whole)
 
   -- and a pass over each span at most
   pub passes_few : (passes : ℕ) → IsCostOfPasses way m input passes old new → passes ≤ input.end - input.start + 1

@@ -11,7 +11,7 @@ use Rattle.automata_base.specs.Paths.Paths.{next}
 use Rattle.automata_base.specs.Powersets.Powerset.{Powerset, dead}
 use Rattle.automata_hybrid.specs.declared.dfa.progress.Searched.{Searched}
 use Rattle.automata_hybrid.specs.Cache.Caches.{CacheView, IsCacheOf, with_store}
-use Rattle.automata_hybrid.specs.Cache.Progress.{distance, saturated, started, total_len}
+use Rattle.automata_hybrid.specs.Cache.Progress.{distance, saturated, progress_started, total_len}
 use Rattle.automata_hybrid.specs.Cache.Stores.{IsSoundStore, Stored, with_searched}
 use Rattle.automata_hybrid.specs.Cache.Ids.{HasDeadTag, HasQuitTag, quit_id}
 use Rattle.automata_hybrid.specs.Cache.Table.{Leads, Rows}
@@ -82,7 +82,7 @@ module _ (way : Direction) (m : Machine) (input : Input) (k id : ℕ) (c : Cache
         (omega arith) (λ j from below. end.upto.known j below) (with_search_moved way input k begun) (inl (end.known, refl)))
         (ap (λ (v : CacheView). v.store) counted
         ∙ ap (λ (s : Searched). with_searched c.store s)
-        (sym (finished_moved (started c.store.searched (given_up_offset way input 0)) (given_up_offset way input k) (given_up_offset way input k))))
+        (sym (finished_moved (progress_started c.store.searched (given_up_offset way input 0)) (given_up_offset way input k) (given_up_offset way input k))))
 
 -- a pass stands at a place up to which all was cached, and so is the transition on its unit there, which is no quit byte
 module _ (way : Direction) (m : Machine) (input : Input) (k id : ℕ) (c : CacheView) (before : Option HalfMatch) (to : ℕ)

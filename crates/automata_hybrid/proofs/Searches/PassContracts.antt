@@ -7,6 +7,7 @@ use Rattle.automata_base.specs.ByteClasses.Classes.{is_quit}
 use Rattle.automata_base.specs.Haystacks.Input.{Input}
 use Rattle.automata_base.specs.Haystacks.Matches.{HalfMatch}
 use Rattle.automata_base.specs.declared.util.search.Anchored.{Anchored}
+use Rattle.automata_base.specs.declared.util.search.Span.{Span}
 use Rattle.automata_base.specs.Paths.Paths.{next}
 use Rattle.automata_base.specs.Powersets.Powerset.{Powerset, dead}
 use Rattle.automata_base.specs.Retraced.Steps.{successor}
@@ -39,15 +40,16 @@ use Rattle.automata_hybrid.proofs.Searches.UnitsRead.{unstarted}
 
 -- the parts of an input make it again
 pub same_input :
-    (input : Input) (haystack : List ℕ) (start end : ℕ) (anchored : Anchored) (earliest : Bool)
-    → haystack ≡ input.haystack → start ≡ input.start → end ≡ input.end → anchored ≡ input.anchored → earliest ≡ input.earliest
-    → input_at haystack start end anchored earliest ≡ input
-same_input input haystack start end anchored earliest h s e a f =
-    ap (λ x. input_at x start end anchored earliest) h
-    ∙ (ap (λ x. input_at input.haystack x end anchored earliest) s
-    ∙ (ap (λ x. input_at input.haystack input.start x anchored earliest) e
-    ∙ (ap (λ x. input_at input.haystack input.start input.end x earliest) a
-    ∙ ap (λ x. input_at input.haystack input.start input.end input.anchored x) f)))
+    (input : Input) (haystack : List ℕ) (span : Span) (anchored : Anchored) (earliest : Bool)
+    → haystack ≡ input.haystack → span.start ≡ input.start → span.end ≡ input.end → anchored ≡ input.anchored → earliest ≡ input.earliest
+    → input_at haystack span anchored earliest ≡ input
+same_input input haystack span anchored earliest h s e a f = λ i. record {
+  haystack = h i;
+  start = s i;
+  end = e i;
+  anchored = a i;
+  earliest = f i;
+}
 
 -- a pass stands at a place, where the search may move; it reads a unit there, and then the search may end
 module _ (way : Direction) (m : Machine) (input : Input) (k id : ℕ) (u : Option ℕ) (found : Option HalfMatch)

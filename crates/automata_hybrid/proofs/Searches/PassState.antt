@@ -28,6 +28,7 @@ use Rattle.automata_hybrid.specs.Cache.Table.{Rows, Leads, Names}
 use Rattle.automata_base.specs.ByteClasses.Classes.{is_quit}
 use Rattle.automata_config.specs.Options.{match_kind_of}
 use Rattle.std.proofs.lemmas.Bool.{cases_lt}
+use Rattle.automata_hybrid.proofs.Cases.{some_none}
 
 -- one unit more
 pub state_more :
@@ -35,9 +36,6 @@ pub state_more :
     → state_in way m input (suc k) ≡ successor m.nfa (match_kind_of m.config) (state_in way m input k) (next (tape_in way input) k)
 unfolding state_after
 state_more way m input k = refl
-
-pub ok_err : {A E : Type 0} {a : A} {e : E} → ◌≡◌ {A = Result A E} (Ok a) (Err e) → ⊥
-ok_err h = cc
 
 pub false_true : false ≡ true → ⊥
 false_true e = cc
@@ -145,9 +143,6 @@ first_stays kind a mode t k (suc n) pair l e = go (λ more. first_stays kind a m
   go before (inl same) = subst (λ i. first_reported a kind mode t i ≡ Some pair) same e
   go before (inr less) =
       ap (λ o. earlier_or o (pair_at (reported_at a kind mode t n) n None)) (before (omega (arith, less)))
-
-some_none : {pair : Pair} → Some pair ≡ None → ⊥
-some_none e = cc
 
 reported_stays :
     (kind : MatchKind) (e : Bool) (a : Automaton) (mode : Anchored) (t : Tape) (k n : ℕ) (o : Option Pair)
@@ -297,27 +292,27 @@ module _ (way : Direction) (m : Machine) (t t' : Rows) (input : Input) (k id id'
   pub clean_last : k ≡ length (tape_in way input).bytes → quit_behind m (tape_in way input).before ≡ None → MeetsNoQuit way m input
   clean_last l behind = clean_all way m input (suc k) behind more_clean (stops_last way m input k l)
 
+-- before its first unit a pass has found nothing
+found_zero : (way : Direction) (m : Machine) (input : Input) → None ≡ half_of way input (reported_in way m input 0)
+unfolding last_reported first_reported
+found_zero way m input = go input.earliest where
+  go : (e : Bool) → None ≡ half_of way input (reported_upto (match_kind_of m.config) e m.nfa input.anchored (tape_in way input) 0)
+  go true = refl
+  go false = refl
+
 -- a pass begins at its start
 pub starts_at :
     (way : Direction) (m : Machine) (t : Rows) (input : Input) (id : ℕ)
     → Names t id (state_in way m input 0) → IsAt way m t input 0 id None
-unfolding last_reported first_reported
 starts_at way m t input id n =
-    record { named = n; reported = go input.earliest; nothing = λ e. refl; clean = λ j byte l e. absurd (omega (arith, l)) } where
-      go : (e : Bool) → None ≡ half_of way input (reported_upto (match_kind_of m.config) e m.nfa input.anchored (tape_in way input) 0)
-      go true = refl
-      go false = refl
+    record { named = n; reported = found_zero way m input; nothing = λ e. refl; clean = λ j byte l e. absurd (omega (arith, l)) }
 
 -- a pass that is dead from its start on finds nothing, and meets no quit byte
 pub starts_dead :
     (way : Direction) (m : Machine) (input : Input)
     → state_in way m input 0 ≡ dead → None ≡ found_over way m input
-unfolding last_reported first_reported
 starts_dead way m input d =
-    go input.earliest ∙ found_dead way m input 0 (omega arith) (dead_more way m input 0 1 (omega arith) d) where
-      go : (e : Bool) → None ≡ half_of way input (reported_upto (match_kind_of m.config) e m.nfa input.anchored (tape_in way input) 0)
-      go true = refl
-      go false = refl
+    found_zero way m input ∙ found_dead way m input 0 (omega arith) (dead_more way m input 0 1 (omega arith) d)
 
 pub stops_start :
     (way : Direction) (m : Machine) (input : Input)

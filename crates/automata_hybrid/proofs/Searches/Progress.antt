@@ -6,7 +6,8 @@ use Rattle.automata_base.specs.Powersets.Powerset.{Powerset}
 use Rattle.automata_base.specs.Haystacks.Tapes.{Direction}
 use Rattle.automata_hybrid.specs.declared.dfa.row.Row.{Row}
 use Rattle.automata_hybrid.specs.Cache.Stores.{Stored}
-use Rattle.automata_hybrid.specs.Cache.Changes.{IsAddedStart, IsComputed, IsStarted}
+use Rattle.automata_hybrid.specs.Cache.Changes.{IsStateAdded, IsComputed, IsStarted}
+use Rattle.automata_hybrid.specs.Cache.Usage.{cleared}
 use Rattle.automata_hybrid.specs.Cache.Growth.{KeepsProgress}
 use Rattle.automata_hybrid.specs.Machines.Machine.{Machine}
 use Rattle.automata_hybrid.specs.Cache.Progress.{progress_cleared, saturated}
@@ -42,7 +43,7 @@ started_progress old new slot id r (inr (lacks, between, inr (full, may, g), e))
     clears_progress old new (ap (λ (s : Stored). s.clears) e ∙ ap (λ (s : Stored). s.clears) g)
     (ap (λ (s : Stored). s.searched) e ∙ ap (λ (s : Stored). s.searched) g)
 
-pub added_progress : (old new : Stored) (r : Row) → IsAddedStart old r new → KeepsProgress old new
+pub added_progress : (old new : Stored) (r : Row) → IsStateAdded old (cleared old) r new → KeepsProgress old new
 added_progress old new r (inl (fits, e)) = inl (ap (λ (s : Stored). s.clears) e, ap (λ (s : Stored). s.searched) e)
 added_progress old new r (inr (full, may, e)) =
     clears_progress old new (ap (λ (s : Stored). s.clears) e) (ap (λ (s : Stored). s.searched) e)

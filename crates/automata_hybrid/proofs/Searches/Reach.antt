@@ -79,45 +79,34 @@ no_limit m c q same free gives =
     let rule : refuses_at (minimum_cache_clear_count_of c.table.of.config) c ≡ true = gives.2 in
     false_true (subst (λ o. refuses_at o c ≡ true) limit rule)
 
-module _ (way : Direction) (m : Machine) (c : Stored) (input : Input) (k : ℕ) (within : input.start + k ≤ input.end)
-    (few : input.end ≤ length input.haystack) (same : c.table.of ≡ m) (reach : NoQuitInReach m input)
+-- a start or a unit of a span in whose reach no quit byte is fails by memory alone
+module _ (way : Direction) (m : Machine) (c : Stored) (input : Input) (undone : input.start ≤ input.end) (few : input.end ≤ length input.haystack)
+    (same : c.table.of ≡ m) (clean : (byte : ℕ) → InReach input byte → is_quit m.quits byte ≡ false)
     (mode : supports m input.anchored ≡ true) (free : minimum_cache_clear_count_of m.config ≡ None) where
-  unquit : (byte : ℕ) → InReach (later way k input) byte → is_quit m.quits byte ≡ true → ⊥
-  unquit byte r q =
-      let o : InReach input byte = later_reach way k input byte within r in
-      false_true (sym (reach o.0 byte o.1 o.2 o.3) ∙ q)
+  unquit : (byte : ℕ) → InReach input byte → is_quit m.quits byte ≡ true → ⊥
+  unquit byte r q = false_true (sym (clean byte r) ∙ q)
 
-  ahead : ((later way k input).start ≤ (later way k input).end) × ((later way k input).end ≤ length (later way k input).haystack)
-  ahead = go way where
-    go : (w : Direction) → ((later w k input).start ≤ (later w k input).end) × ((later w k input).end ≤ length (later w k input).haystack)
-    go Forward = (within, few)
-    go Backward = (omega (arith, within), omega (arith, few))
-
-  start_memory :
+  pub start_memory :
       (behind_at start_at : ℕ) (e : SearchError)
-      → IsStartRefusalAt m c (later way k input).anchored (tape_in way (later way k input)).before behind_at start_at e
-      → e ≡ search.OutOfMemory
+      → IsStartRefusalAt m c input.anchored (tape_in way input).before behind_at start_at e → e ≡ search.OutOfMemory
   start_memory behind_at start_at e (start.Quit byte, r, reported, unknown) =
-      let b : ((tape_in way (later way k input)).before ≡ Some byte) × (is_quit m.quits byte ≡ true) =
-      is_behind m (tape_in way (later way k input)).before byte r in
-      absurd (unquit byte (behind_reach way (later way k input) byte ahead.0 b.0) b.1)
-  start_memory behind_at start_at e (start.UnsupportedAnchored mode', r, reported, unknown) =
-      absurd (false_true (sym r.1 ∙ (ap (supports m) (later_anchored way k input) ∙ mode)))
+      let b : ((tape_in way input).before ≡ Some byte) × (is_quit m.quits byte ≡ true) = is_behind m (tape_in way input).before byte r in
+      absurd (unquit byte (behind_reach way input byte undone b.0) b.1)
+  start_memory behind_at start_at e (start.UnsupportedAnchored mode', r, reported, unknown) = absurd (false_true (sym r.1 ∙ mode))
   start_memory behind_at start_at e (start.Cache err, r, reported, unknown) = absurd (no_limit m c _ same free r.1)
   start_memory behind_at start_at e (start.OutOfMemory, r, reported, unknown) = reported
 
-  step_memory :
+  pub step_memory :
       (j quit_at given_up_at : ℕ) (q : Powerset) (e : SearchError)
-      → j ≤ length (tape_in way (later way k input)).bytes
-      → IsStepRefusal m c q (next (tape_in way (later way k input)) j) quit_at given_up_at e → e ≡ search.OutOfMemory
+      → j ≤ length (tape_in way input).bytes → IsStepRefusal m c q (next (tape_in way input) j) quit_at given_up_at e → e ≡ search.OutOfMemory
   step_memory j quit_at given_up_at q (search.Match (QuitAt byte offset)) l r =
-      absurd (unquit byte (unit_reach way (later way k input) j byte ahead.0 ahead.1 l r.0) r.1)
+      absurd (unquit byte (unit_reach way input j byte undone few l r.0) r.1)
   step_memory j quit_at given_up_at q (search.Match (UnsupportedMode reported)) l r = absurd r
   step_memory j quit_at given_up_at q (search.Match (GaveUp offset)) l r = absurd (no_limit m c _ same free r.1)
   step_memory j quit_at given_up_at q search.OutOfMemory l r = refl
   step_memory j quit_at given_up_at q search.NotAPair l r = absurd r
 
-  pub pass_memory : (e : SearchError) → IsPassRefusal way m c (later way k input) e → e ≡ search.OutOfMemory
+  pass_memory : (e : SearchError) → IsPassRefusal way m c input e → e ≡ search.OutOfMemory
   pass_memory e (inl r) = start_memory _ _ e r
   pass_memory e (inr r) = step_memory r.0 _ _ _ e r.2.0 r.4
 
@@ -126,4 +115,13 @@ pub refused_memory :
     (way : Direction) (m : Machine) (c : Stored) (input : Input) (e : SearchError)
     → input.end ≤ length input.haystack → c.table.of ≡ m → NoQuitInReach m input → supports m input.anchored ≡ true
     → minimum_cache_clear_count_of m.config ≡ None → IsRefused way m c input e → e ≡ search.OutOfMemory
-refused_memory way m c input e few same reach mode free r = pass_memory way m c input r.0 r.2 few same reach mode free e r.3
+refused_memory way m c input e few same reach mode free (k, tries, within, refusal) =
+    let ahead = later_inside way in
+    pass_memory way m c (later way k input) ahead.0 ahead.1 same clean (ap (supports m) (later_anchored way k input) ∙ mode) free e refusal
+  where
+    later_inside : (w : Direction) → ((later w k input).start ≤ (later w k input).end) × ((later w k input).end ≤ length (later w k input).haystack)
+    later_inside Forward = (within, few)
+    later_inside Backward = (omega (arith, within), omega (arith, few))
+
+    clean : (byte : ℕ) → InReach (later way k input) byte → is_quit m.quits byte ≡ false
+    clean byte r = let o : InReach input byte = later_reach way k input byte within r in reach o.0 byte o.1 o.2 o.3

@@ -13,14 +13,13 @@ use Rattle.automata_hybrid.specs.Cache.Growth.{IsGrown}
 use Rattle.automata_hybrid.specs.Cache.Ids.{fixed_from, unknown_id}
 use Rattle.automata_hybrid.specs.Searches.Cached.{IsOfInput}
 use Rattle.automata_hybrid.specs.Machines.Machine.{Machine, table_stride}
-use Rattle.automata_hybrid.specs.Cache.Progress.{finished, updated}
+use Rattle.automata_hybrid.specs.Cache.Progress.{progress_finished, progress_updated}
 use Rattle.automata_hybrid.specs.Searches.Units.{IsReadEffect, IsReadRefusal, IsReadStep, IsStepRefusedAt, IsStepTaken}
 use Rattle.automata_hybrid.specs.Searches.Passes.{IsStepRefusal}
 use Rattle.automata_hybrid.specs.Steps.Steps.{IsStepAnswer, IsStepEffect, KnowsStep, known_step, quits_on, unit_class}
 use Rattle.automata_hybrid.specs.Cache.Stores.{Stored, with_searched}
 use Rattle.automata_hybrid.specs.Cache.Table.{Names}
 use Rattle.automata_hybrid.proofs.Cache.Growth.{grown_moved, grown_trans, nothing_second}
-use Rattle.automata_hybrid.proofs.Steps.Steps.{no_quit_unit}
 use Rattle.automata_hybrid.proofs.Steps.Ids.{refused}
 use Rattle.automata_hybrid.proofs.Searches.UnitsRead.{finished_moved}
 use Rattle.std.proofs.lemmas.Bool.{cases_lt}
@@ -36,7 +35,7 @@ pub reported_refusal :
     → IsStepRefusedAt m id unit at old new e → IsReadRefusal m id unit quit_at at old new e
 reported_refusal m id unit quit_at at old new e h q n =
     subst (IsStepRefusal m new.store q unit quit_at at) (sym h.reported)
-    (refused m old.store new.store q unit quit_at at h.error (no_quit_unit m unit h.refused.clean)
+    (refused m old.store new.store q unit quit_at at h.error h.refused.clean
     (λ other names known. (let one : other ≡ id = cc in h.refused.unknown (subst (λ k. KnowsStep m old.store k unit) one known)))
     (ap (λ (v : CacheView). v.store) h.refused.unchanged) (λ c. h.refused.gives_up c q n))
 
@@ -140,8 +139,8 @@ step_taken m id unit old new to low effect a = go (cases_lt (known_step m old.st
 
 -- a search moved to an offset, and then the step on a unit was made
 module _ (m : Machine) (id : ℕ) (unit : Option ℕ) (at : ℕ) (old mid next : CacheView)
-    (moved : mid ≡ with_store old (with_searched old.store (updated old.store.searched at))) where
-  there : mid.store ≡ with_searched old.store (updated old.store.searched at)
+    (moved : mid ≡ with_store old (with_searched old.store (progress_updated old.store.searched at))) where
+  there : mid.store ≡ with_searched old.store (progress_updated old.store.searched at)
   there = ap (λ (v : CacheView). v.store) moved
 
   pub took_step :
@@ -158,7 +157,7 @@ module _ (m : Machine) (id : ℕ) (unit : Option ℕ) (at : ℕ) (old mid next :
 
   pub quit_step :
       (e : SearchError) (new : CacheView) → quits_on m unit ≡ true → IsStepEffect m id unit mid next
-      → new ≡ with_store next (with_searched next.store (finished next.store.searched at))
+      → new ≡ with_store next (with_searched next.store (progress_finished next.store.searched at))
       → IsReadStep m id unit at old.store new.store (Err e)
   quit_step e new on effect ended = record {
     taken = tt;
@@ -166,7 +165,7 @@ module _ (m : Machine) (id : ℕ) (unit : Option ℕ) (at : ℕ) (old mid next :
         inl (
           on,
           ap (λ (v : CacheView). v.store) ended
-              ∙ (ap (λ (v : CacheView). with_searched v.store (finished v.store.searched at)) (effect.quit on ∙ moved)
+              ∙ (ap (λ (v : CacheView). with_searched v.store (progress_finished v.store.searched at)) (effect.quit on ∙ moved)
               ∙ ap (λ (s : Searched). with_searched old.store s) (finished_moved old.store.searched at at)),
         );
   }

@@ -1,6 +1,6 @@
--- Cached transitions that are followed whatever they report.
-use Rattle.std.proofs.Common.{ℕ, suc, ◌≡◌, ◌∙◌, ◌<◌, ◌≤◌, ◌^◌, ◌⊎◌, inl, inr, Bool, true, false, List, [], ◌∷◌, length}
-use Rattle.std.proofs.Common.{Option, Some, refl, slice_index, sym, ap, subst, arith}
+-- Cached transitions that are followed, between IDs that have a tag and no other.
+use Rattle.std.proofs.Common.{ℕ, zero, suc, ◌≡◌, ◌∙◌, ◌+◌, ◌-◌, ◌<◌, ◌≤◌, ◌^◌, ◌⊎◌, inl, inr, Bool, true, false, List, []}
+use Rattle.std.proofs.Common.{◌∷◌, length, Option, Some, refl, slice_index, sym, ap, subst, arith, eq-or-lt_of_le}
 use Rattle.automata_base.specs.Answers.Answers.{offset_in}
 use Rattle.automata_base.specs.ByteClasses.Classes.{class_in, is_quit}
 use Rattle.automata_base.specs.Haystacks.Input.{Input}
@@ -9,103 +9,115 @@ use Rattle.automata_base.specs.Paths.Paths.{next}
 use Rattle.automata_base.specs.Powersets.Powerset.{Powerset}
 use Rattle.automata_base.specs.Retraced.Steps.{successor}
 use Rattle.automata_base.specs.Haystacks.Tapes.{Direction}
-use Rattle.automata_base.proofs.Paths.Orders.{some_inj}
-use Rattle.automata_hybrid.specs.Cache.Stores.{Stored, IsKnownTransition}
-use Rattle.automata_hybrid.specs.Cache.Ids.{IsRunTag, quit_id}
-use Rattle.automata_hybrid.specs.Steps.Steps.{unit_class}
+use Rattle.automata_config.specs.Options.{match_kind_of}
+use Rattle.automata_hybrid.specs.Cache.Stores.{IsKnownTransition, Stored, cell_of}
+use Rattle.automata_hybrid.specs.Cache.Ids.{HasOnly, IsRunTag, quit_id}
+use Rattle.automata_hybrid.specs.Steps.Steps.{known_step, unit_class}
 use Rattle.automata_hybrid.specs.Machines.Machine.{Machine, table_stride}
 use Rattle.automata_hybrid.specs.Searches.Cached.{KnowsUnit}
-use Rattle.automata_hybrid.specs.Searches.PassState.{HasLearned, HasLearnedUnit, IsAt, IsFollowed, IsLed, IsRun}
-use Rattle.automata_hybrid.specs.Searches.PassState.{IsTagAt, IsTaken, half_at, half_of}
+use Rattle.automata_hybrid.specs.Searches.PassState.{HasLearned, HasLearnedUnit, IsAt, IsFollowed, IsMet, IsRun, IsTagAt}
+use Rattle.automata_hybrid.specs.Searches.PassState.{IsTaken, half_at, half_of}
 use Rattle.automata_hybrid.specs.Searches.Passes.{HasReadNoQuit, state_in, tape_in, reported_in}
 use Rattle.automata_hybrid.specs.Cache.Table.{Leads, Names}
-use Rattle.automata_hybrid.proofs.Searches.QuietRuns.{followed_none, followed_on}
-use Rattle.automata_hybrid.proofs.Searches.PassState.{false_true, found_more, state_more}
+use Rattle.automata_hybrid.specs.Walks.Answers.{IsSilent}
+use Rattle.automata_hybrid.proofs.Cache.Places.{Names-silent}
+use Rattle.automata_hybrid.proofs.Cases.{same_some}
+use Rattle.automata_hybrid.proofs.Searches.PassState.{false_true, found_more, reported_quiet, state_more}
 use Rattle.automata_hybrid.proofs.Steps.Ids.{Leads-Names}
-use Rattle.automata_config.specs.Options.{match_kind_of}
+use Rattle.automata_hybrid.proofs.Walks.Reports.{silent_none, silent_same, silent_trans}
 use Rattle.std.proofs.lemmas.Bool.{cases_lt}
 
 -- nothing was followed yet
-pub led_none :
-    (way : Direction) (m : Machine) (c : Stored) (input : Input) (from id : ℕ)
-    → Names c.table id (state_in way m input from) → IsLed way m c input from from id
-led_none way m c input from id n =
+pub followed_none :
+    (way : Direction) (m : Machine) (c : Stored) (input : Input) (tag from id : ℕ)
+    → Names c.table id (state_in way m input from) → IsFollowed way m c input tag from from id
+followed_none way m c input tag from id n =
     record { more = omega arith; named = n; taken = λ k l h. absurd (omega (arith, l, h)) }
 
--- one cached transition more, to the ID of a row
-pub led_more :
-    (way : Direction) (m : Machine) (c : Stored) (input : Input) (from k id id' byte : ℕ)
-    → id' < 2 ^ 29 → next (tape_in way input) k ≡ Some byte
+-- what was followed is followed on
+pub followed_on :
+    {way : Direction} {m : Machine} {c : Stored} {input : Input} {tag from k to id id' : ℕ}
+    → IsFollowed way m c input tag from k id → IsFollowed way m c input tag k to id' → IsFollowed way m c input tag from to id'
+followed_on {way} {m} {c} {input} {tag} {from} {k} {to} f g = record {
+  more = omega (arith, f.more, g.more);
+  named = g.named;
+  taken = λ j l h. each j l h (cases_lt j k);
+} where
+  each : (j : ℕ) → from ≤ j → j < to → (j < k) ⊎ (k ≤ j) → IsTaken way m c input tag j
+  each j l h (inl less) = f.taken j l less
+  each j l h (inr more) = g.taken j more h
+
+-- one cached transition, to an ID that has the tag alone
+pub followed_one :
+    (way : Direction) (m : Machine) (c : Stored) (input : Input) (tag k id to byte : ℕ)
+    → IsRunTag tag → HasOnly tag to → next (tape_in way input) k ≡ Some byte
     → IsKnownTransition c id (class_in m.classes byte) → class_in m.classes byte < table_stride c.table.of
-    → (is_quit m.quits byte ≡ true → id' ≡ quit_id (table_stride m))
-    → (is_quit m.quits byte ≡ false → id' < 2 ^ 31 → (q : Powerset) → Names c.table id q → Leads c.table id' (successor m.nfa (match_kind_of m.config) q (Some byte)))
-    → IsLed way m c input from k id → IsLed way m c input from (suc k) id'
-led_more way m c input from k id id' byte low unit known below quit named f = go (is_quit m.quits byte) refl where
-  go : (b : Bool) → is_quit m.quits byte ≡ b → IsLed way m c input from (suc k) id'
-  go true e = absurd (let h : id' ≡ quit_id (table_stride m) = quit e in omega (arith, h, low))
+    → (is_quit m.quits byte ≡ true → to ≡ quit_id (table_stride m))
+    → (is_quit m.quits byte ≡ false → to < 2 ^ 31 → (q : Powerset) → Names c.table id q → Leads c.table to (successor m.nfa (match_kind_of m.config) q (Some byte)))
+    → Names c.table id (state_in way m input k) → IsFollowed way m c input tag k (suc k) to
+followed_one way m c input tag k id to byte kind only unit known below quit named at = go (is_quit m.quits byte) refl where
+  plain : to < 2 ^ 29
+  plain = omega (arith, only.below, kind.upto)
+
+  go : (b : Bool) → is_quit m.quits byte ≡ b → IsFollowed way m c input tag k (suc k) to
+  go true e = absurd (let h : to ≡ quit_id (table_stride m) = quit e in omega (arith, h, plain))
   go false e =
       let after : state_in way m input (suc k) ≡ successor m.nfa (match_kind_of m.config) (state_in way m input k) (Some byte) =
       state_more way m input k ∙ ap (successor m.nfa (match_kind_of m.config) (state_in way m input k)) unit in
-      let leads : Leads c.table id' (state_in way m input (suc k)) =
-      subst (Leads c.table id') (sym after) (named e (omega (arith, low)) (state_in way m input k) f.named) in
-      let here : IsTaken way m c input k = record {
-        clean = λ other same. subst (λ v. is_quit m.quits v ≡ false) (some_inj (sym unit ∙ same)) e;
+      let leads : Names c.table to (state_in way m input (suc k)) =
+      Leads-Names c.table to (state_in way m input (suc k)) (subst (Leads c.table to) (sym after) (named e (omega (arith, plain)) (state_in way m input k) at)) plain in
+      let here : IsTaken way m c input tag k = record {
+        clean = λ other same. subst (λ v. is_quit m.quits v ≡ false) (same_some (sym unit ∙ same)) e;
         known = (
-          (id, f.named, subst (λ v. IsKnownTransition c id (unit_class m v)) (sym unit) known),
+          (id, at, subst (λ v. IsKnownTransition c id (unit_class m v)) (sym unit) known),
           subst (λ v. unit_class m v < table_stride c.table.of) (sym unit) below,
         );
+        leads = (to, leads, only);
       } in
       record {
-        more = omega (arith, f.more);
-        named = Leads-Names c.table id' (state_in way m input (suc k)) leads low;
-        taken = λ j l h. each here j l h (cases_lt j k);
+        more = omega arith;
+        named = leads;
+        taken = λ j l h. (let same : k ≡ j = omega (arith, l, h) in subst (IsTaken way m c input tag) same here);
       }
-    where
-      each : IsTaken way m c input k → (j : ℕ) → from ≤ j → j < suc k → (j < k) ⊎ (k ≤ j) → IsTaken way m c input j
-      each here j l h (inl less) = f.taken j l less
-      each here j l h (inr more) = let same : k ≡ j = omega (arith, h, more) in subst (IsTaken way m c input) same here
 
--- what was followed is followed on
-pub led_on :
-    {way : Direction} {m : Machine} {c : Stored} {input : Input} {from k to id id' : ℕ}
-    → IsLed way m c input from k id
-    → (Names c.table id (state_in way m input k) → IsLed way m c input k to id')
-    → IsLed way m c input from to id'
-led_on {way} {m} {c} {input} {from} {k} {to} {id} {id'} f on = join (on f.named) where
-  join : IsLed way m c input k to id' → IsLed way m c input from to id'
-  join g = record {
-    more = omega (arith, f.more, g.more);
-    named = g.named;
-    taken = λ j l h. each j l h (cases_lt j k);
-  } where
-    each : (j : ℕ) → from ≤ j → j < to → (j < k) ⊎ (k ≤ j) → IsTaken way m c input j
-    each j l h (inl less) = f.taken j l less
-    each j l h (inr more) = g.taken j more h
+-- the ID that stands in the cell of the byte at a place is the one that comes next there
+pub met_at :
+    (way : Direction) (m : Machine) (c : Stored) (input : Input) (k id to byte : ℕ)
+    → k < input.end - input.start → next (tape_in way input) k ≡ Some byte → to ≡ cell_of c id (class_in m.classes byte)
+    → class_in m.classes byte < table_stride c.table.of
+    → (is_quit m.quits byte ≡ true → to ≡ quit_id (table_stride m))
+    → (is_quit m.quits byte ≡ false → to < 2 ^ 31 → (q : Powerset) → Names c.table id q → Leads c.table to (successor m.nfa (match_kind_of m.config) q (Some byte)))
+    → Names c.table id (state_in way m input k) → IsMet way m c input k id to
+met_at way m c input k id to byte within unit value below quit named at = λ low. record {
+  within = within;
+  cached = value ∙ ap (known_step m c id) (sym unit);
+  run = λ tag kind only. (
+      let one : suc k ≡ k + 1 = omega arith in
+      record {
+        followed =
+            subst (λ n. IsFollowed way m c input tag k n to) one
+            (followed_one way m c input tag k id to byte kind only unit (subst (λ n. n < 2 ^ 31) value low) below quit named at);
+        only = only;
+      });
+}
 
 -- a run between IDs with a tag: nothing yet, and on
 pub run_none :
     {way : Direction} {m : Machine} {c : Stored} {input : Input} {tag from id : ℕ}
     → IsTagAt way m c.table input tag from id → IsRun way m c input tag from from id
-run_none {way} {m} {c} {input} {tag} {from} {id} at = record {
-  led = led_none way m c input from id at.named;
-  quiet = λ none. followed_none way m c input from id at.named;
-  only = at.only;
-}
+run_none {way} {m} {c} {input} {tag} {from} {id} at =
+    record { followed = followed_none way m c input tag from id at.named; only = at.only }
 
 -- from where a run has come to another one can go on
 pub run_at :
     {way : Direction} {m : Machine} {c : Stored} {input : Input} {tag from to id : ℕ}
     → IsRunTag tag → IsRun way m c input tag from to id → IsTagAt way m c.table input tag to id
-run_at tags f = record { kind = tags; only = f.only; named = f.led.named }
+run_at tags f = record { kind = tags; only = f.only; named = f.followed.named }
 
 pub run_on :
     {way : Direction} {m : Machine} {c : Stored} {input : Input} {tag from k to id id' : ℕ}
     → IsRun way m c input tag from k id → IsRun way m c input tag k to id' → IsRun way m c input tag from to id'
-run_on f g = record {
-  led = led_on f.led (λ n. g.led);
-  quiet = λ none. followed_on (f.quiet none) (λ n. g.quiet none);
-  only = g.only;
-}
+run_on f g = record { followed = followed_on f.followed g.followed; only = g.only }
 
 -- the same after as many units, counted otherwise
 pub run_to :
@@ -130,28 +142,31 @@ pub first_half :
 first_half [] pattern at before some e = absurd (omega (arith, some))
 first_half (p ∷ ps) pattern at before some e = ap (λ n. Some (record { pattern = n; offset = at })) e
 
-module _ {way : Direction} {m : Machine} {c : Stored} {input : Input} {from to id : ℕ} (f : IsLed way m c input from to id) where
+module _ {way : Direction} {m : Machine} {c : Stored} {input : Input} {tag from to id : ℕ} (f : IsFollowed way m c input tag from to id) where
   -- a pass that met no quit byte before has met none
-  led_clean : HasReadNoQuit way m input from → HasReadNoQuit way m input to
-  led_clean clean j byte l e = go (cases_lt j from) where
+  pub followed_clean : HasReadNoQuit way m input from → HasReadNoQuit way m input to
+  followed_clean clean j byte l e = go (cases_lt j from) where
     go : (j < from) ⊎ (from ≤ j) → is_quit m.quits byte ≡ false
     go (inl less) = clean j byte less e
     go (inr more) = (f.taken j more l).clean byte e
 
   -- and has learned all that it took
-  pub led_learned : HasLearned way m c input from → HasLearned way m c input to
-  led_learned learned j l reads = go (cases_lt j from) where
+  pub followed_learned : HasLearned way m c input from → HasLearned way m c input to
+  followed_learned learned j l reads = go (cases_lt j from) where
     go : (j < from) ⊎ (from ≤ j) → HasLearnedUnit way m c input j
     go (inl less) = learned j less reads
     go (inr more) = (f.taken j more l).known
 
+  pub followed_known : (k : ℕ) → from ≤ k → k < to → KnowsUnit way m c input k
+  followed_known k more less = (f.taken k more less).known.0
+
   -- a pass that was there is here, and has found what the state here reports, if that has patterns and the search is not an earliest one
-  pub led_at :
+  pub matched_at :
       {start : ℕ} (j o : ℕ) {found found' : Option HalfMatch} → input.earliest ≡ false → to ≡ suc j → o ≡ offset_in way input j
       → 0 < length (state_in way m input to).patterns → ((q : Powerset) → Leads c.table id q → found' ≡ half_at q.patterns o found)
       → IsAt way m c.table input from start found → IsAt way m c.table input to id found'
-  led_at j o {found} {found'} late here offset some reports at =
-      record { named = f.named; reported = reported; nothing = λ e. absurd (false_true (sym late ∙ e)); clean = led_clean at.clean }
+  matched_at j o {found} {found'} late here offset some reports at =
+      record { named = f.named; reported = reported; nothing = λ e. absurd (false_true (sym late ∙ e)); clean = followed_clean at.clean }
     where
       reported : found' ≡ half_of way input (reported_in way m input to)
       reported =
@@ -162,12 +177,53 @@ module _ {way : Direction} {m : Machine} {c : Stored} {input : Input} {from to i
           ∙ (sym (found_more way m input j (λ e. absurd (false_true (sym late ∙ e))))
           ∙ ap (λ n. half_of way input (reported_in way m input n)) (sym here)))))
 
--- each unit that was followed, and then each that was led along, is cached
+-- without a tag nothing is reported on the way
+module _ {way : Direction} {m : Machine} {c : Stored} {input : Input} {from to id : ℕ} (f : IsFollowed way m c input 0 from to id) where
+  quiet : (k : ℕ) → from ≤ k → k < to → (state_in way m input (suc k)).patterns ≡ []
+  quiet k more less =
+      let leads = (f.taken k more less).leads in
+      Names-silent c.table leads.0 (state_in way m input (suc k)) leads.1 (omega (arith, leads.2.below))
+
+  reported_upto : (n : ℕ) → from ≤ n → n ≤ to → reported_in way m input n ≡ reported_in way m input from
+  reported_upto zero l h = let z : 0 ≡ from = omega (arith, l) in ap (reported_in way m input) z
+  reported_upto (suc n) l h = go (λ more. reported_upto n more (omega (arith, h))) (eq-or-lt_of_le l) where
+    go :
+        (from ≤ n → reported_in way m input n ≡ reported_in way m input from) → (from ≡ suc n) ⊎ (from < suc n)
+        → reported_in way m input (suc n) ≡ reported_in way m input from
+    go again (inl same) = ap (reported_in way m input) (sym same)
+    go again (inr less) =
+        let more : from ≤ n = omega (arith, less) in
+        reported_quiet way m input n (quiet n more (omega (arith, h))) ∙ again more
+
+  -- a pass that was there is here, and has found what it had
+  pub followed_at : {start : ℕ} {found : Option HalfMatch} → IsAt way m c.table input from start found → IsAt way m c.table input to id found
+  followed_at {start} {found} at =
+      record {
+        named = f.named;
+        reported = at.reported ∙ ap (half_of way input) (sym (reported_upto to f.more (omega arith)));
+        nothing = at.nothing;
+        clean = followed_clean f at.clean;
+      }
+
+  -- a walk is reported nothing on the way
+  silent_upto : (n : ℕ) → from ≤ n → n ≤ to → IsSilent way m input from n
+  silent_upto zero l h = let z : from ≡ 0 = omega (arith, l) in subst (IsSilent way m input from) z (silent_same way m input from)
+  silent_upto (suc n) l h = go (λ more. silent_upto n more (omega (arith, h))) (eq-or-lt_of_le l) where
+    go : (from ≤ n → IsSilent way m input from n) → (from ≡ suc n) ⊎ (from < suc n) → IsSilent way m input from (suc n)
+    go again (inl same) = subst (IsSilent way m input from) same (silent_same way m input from)
+    go again (inr less) =
+        let more : from ≤ n = omega (arith, less) in
+        silent_trans way m input from n (suc n) (again more) (silent_none way m input n (quiet n more (omega (arith, h))))
+
+  pub followed_silent : {start : ℕ} → IsSilent way m input start from → IsSilent way m input start to
+  followed_silent {start} silent = silent_trans way m input start from to silent (silent_upto to f.more (omega arith))
+
+-- each unit that was followed, and then each that was followed with another tag, is cached
 pub known_after :
-    {way : Direction} {m : Machine} {c : Stored} {input : Input} {from mid to id id' : ℕ}
-    → IsFollowed way m c input from mid id → IsLed way m c input mid to id'
+    {way : Direction} {m : Machine} {c : Stored} {input : Input} {tag tag' from mid to id id' : ℕ}
+    → IsFollowed way m c input tag from mid id → IsFollowed way m c input tag' mid to id'
     → (k : ℕ) → from ≤ k → k < to → KnowsUnit way m c input k
-known_after {way} {m} {c} {input} {from} {mid} f led k more less = go (cases_lt k mid) where
+known_after {way} {m} {c} {input} {tag} {tag'} {from} {mid} f g k more less = go (cases_lt k mid) where
   go : (k < mid) ⊎ (mid ≤ k) → KnowsUnit way m c input k
-  go (inl before) = (f.quiet k more before).known.0
-  go (inr behind) = (led.taken k behind less).known.0
+  go (inl before) = followed_known f k more before
+  go (inr behind) = followed_known g k behind less

@@ -9,19 +9,18 @@ use Rattle.automata_base.specs.Powersets.Powerset.{Powerset}
 use Rattle.automata_base.specs.Retraced.Steps.{successor}
 use Rattle.automata_base.specs.Haystacks.Tapes.{Direction, Forward, Backward}
 use Rattle.automata_config.specs.Options.{match_kind_of}
-use Rattle.automata_hybrid.specs.Searches.SelfLoops.{Has, HasEither, IsKnownLoop, IsLoopRange, IsLoopRun, IsSelfLoop}
+use Rattle.automata_hybrid.specs.Searches.SelfLoops.{HasByte, HasEither, IsKnownLoop, IsLoopRange, IsLoopRun, IsSelfLoop}
 use Rattle.automata_hybrid.specs.Searches.SelfLoops.{LoopsAt, LoopsOn, LoopsOver, byte_in}
-use Rattle.automata_hybrid.specs.Cache.Ids.{quit_id, unknown_id}
+use Rattle.automata_hybrid.specs.Cache.Ids.{HasOnly, IsRunTag, quit_id, unknown_id}
 use Rattle.automata_hybrid.specs.Machines.Machine.{IsMachine, Machine, next_of, table_stride, template_of}
 use Rattle.automata_hybrid.specs.Machines.OwnStates.{IsOwn}
-use Rattle.automata_hybrid.specs.Searches.PassState.{IsFollowed, IsLed, IsRun, IsTagAt}
+use Rattle.automata_hybrid.specs.Searches.PassState.{IsFollowed, IsRun, IsTagAt}
 use Rattle.automata_hybrid.specs.Searches.Passes.{state_in, tape_in}
 use Rattle.automata_hybrid.specs.Cache.Stores.{Stored, cell_of}
-use Rattle.automata_hybrid.specs.Cache.Table.{IsCell, IsValid, Leads, MayLead, Names}
+use Rattle.automata_hybrid.specs.Cache.Table.{IsCell, IsRowId, Leads, MayLead, Names}
 use Rattle.automata_hybrid.specs.declared.search.loop_range.LoopRange.{LoopRange}
 use Rattle.automata_hybrid.specs.declared.search.self_loop.KnownLoop.{KnownLoop}
-use Rattle.automata_hybrid.proofs.Searches.QuietRuns.{followed_more, followed_none}
-use Rattle.automata_hybrid.proofs.Searches.Runs.{led_more, led_none}
+use Rattle.automata_hybrid.proofs.Searches.Runs.{followed_none, followed_on, followed_one}
 use Rattle.automata_hybrid.proofs.Searches.PassState.{false_true}
 
 -- a range of no byte
@@ -52,7 +51,7 @@ LoopsIn c id class = (cell_of c id class ≡ id) × ((q : Powerset) → Names c.
 loops_in :
     (m : Machine) (c : Stored) (id byte : ℕ)
     → IsMachine m → AreClasses m.classes → c.table.of ≡ m → ((q : Powerset) → Names c.table id q → IsOwn c.table.of.nfa q)
-    → IsValid c.table id → id < 2 ^ 29 → byte < 256 → LoopsIn c id (class_in m.classes byte) → LoopsOn m c id byte
+    → IsRowId c.table id → id < 2 ^ 29 → byte < 256 → LoopsIn c id (class_in m.classes byte) → LoopsOn m c id byte
 loops_in m c id byte machine are of own valid plain few loops = record {
   clean = go (is_quit m.quits byte) refl (cell valid.0 valid.1);
   known = subst (λ n. n < 2 ^ 31) (sym loops.0) (omega (arith, plain));
@@ -99,7 +98,7 @@ loops_in m c id byte machine are of own valid plain few loops = record {
 pub loops_among :
     (m : Machine) (c : Stored) (id from to first last : ℕ)
     → IsMachine m → AreClasses m.classes → c.table.of ≡ m → ((q : Powerset) → Names c.table id q → IsOwn c.table.of.nfa q)
-    → IsValid c.table id → id < 2 ^ 29 → from < to → to ≤ 256
+    → IsRowId c.table id → id < 2 ^ 29 → from < to → to ≤ 256
     → first ≡ class_in m.classes from → last ≡ class_in m.classes (to - 1)
     → ((class : ℕ) → first ≤ class → class < last + 1 → LoopsIn c id class)
     → (byte : ℕ) → from ≤ byte → byte < to → LoopsOn m c id byte
@@ -179,69 +178,41 @@ module _ {m : Machine} {c : Stored} {id : ℕ} {way : Direction} {bytes : List �
       → IsLoopRun m c id way bytes from at → IsLoopRun m c id way bytes from (at + n)
   run_known {from} {at} n known within small are has run = run_over n within
       (λ k l below. ⊎_elim
-      (λ (in_first : Has known.first (byte_in way bytes k)). are.first.loops (byte_in way bytes k) (byte_small way bytes k small) in_first)
-      (λ (in_second : Has known.second (byte_in way bytes k)). are.second.loops (byte_in way bytes k) (byte_small way bytes k small) in_second)
+      (λ (in_first : HasByte known.first (byte_in way bytes k)). are.first.loops (byte_in way bytes k) (byte_small way bytes k small) in_first)
+      (λ (in_second : HasByte known.second (byte_in way bytes k)). are.second.loops (byte_in way bytes k) (byte_small way bytes k small) in_second)
       (has k l below))
       run
 
 module _ {way : Direction} {m : Machine} {c : Stored} {input : Input} {id from : ℕ} where
   followed_upto :
-      (n : ℕ) → id < 2 ^ 27 → ((k : ℕ) → from ≤ k → k < from + n → LoopsAt way m c input id k)
-      → Names c.table id (state_in way m input from) → IsFollowed way m c input from (from + n) id
-  followed_upto zero low each named =
+      (n tag : ℕ) → IsRunTag tag → HasOnly tag id → ((k : ℕ) → from ≤ k → k < from + n → LoopsAt way m c input id k)
+      → Names c.table id (state_in way m input from) → IsFollowed way m c input tag from (from + n) id
+  followed_upto zero tag kind only each named =
       let e : from ≡ from + 0 = omega arith in
-      subst (λ k. IsFollowed way m c input from k id) e (followed_none way m c input from id named)
-  followed_upto (suc n) low each named =
+      subst (λ k. IsFollowed way m c input tag from k id) e (followed_none way m c input tag from id named)
+  followed_upto (suc n) tag kind only each named =
       let e : suc (from + n) ≡ from + suc n = omega arith in
-      let here : LoopsAt way m c input id (from + n) = each (from + n) (omega arith) (omega arith) in
-      let loops : LoopsOn m c id here.0 = here.2 in
-      subst (λ k. IsFollowed way m c input from k id) e
-      (followed_more way m c input from (from + n) id id here.0 low here.1 loops.known loops.below
-      (λ quits. absurd (false_true (sym loops.clean ∙ quits))) (λ _ _ q n. loops.back q n)
-      (followed_upto n low (λ k l below. each k l (omega (arith, below))) named))
+      let f = followed_upto n tag kind only (λ k l below. each k l (omega (arith, below))) named in
+      subst (λ k. IsFollowed way m c input tag from k id) e (followed_on f (here f.named)) where
+        here : Names c.table id (state_in way m input (from + n)) → IsFollowed way m c input tag (from + n) (suc (from + n)) id
+        here at =
+            let there : LoopsAt way m c input id (from + n) = each (from + n) (omega arith) (omega arith) in
+            let loops : LoopsOn m c id there.0 = there.2 in
+            followed_one way m c input tag (from + n) id id there.0 kind only there.1 loops.known loops.below
+            (λ quits. absurd (false_true (sym loops.clean ∙ quits))) (λ _ _ q n. loops.back q n) at
 
-  led_upto :
-      (n : ℕ) → id < 2 ^ 29 → ((k : ℕ) → from ≤ k → k < from + n → LoopsAt way m c input id k)
-      → Names c.table id (state_in way m input from) → IsLed way m c input from (from + n) id
-  led_upto zero plain each named =
-      let e : from ≡ from + 0 = omega arith in
-      subst (λ k. IsLed way m c input from k id) e (led_none way m c input from id named)
-  led_upto (suc n) plain each named =
-      let e : suc (from + n) ≡ from + suc n = omega arith in
-      let here : LoopsAt way m c input id (from + n) = each (from + n) (omega arith) (omega arith) in
-      let loops : LoopsOn m c id here.0 = here.2 in
-      subst (λ k. IsLed way m c input from k id) e
-      (led_more way m c input from (from + n) id id here.0 plain here.1 loops.known loops.below
-      (λ quits. absurd (false_true (sym loops.clean ∙ quits))) (λ _ _ q n. loops.back q n)
-      (led_upto n plain (λ k l below. each k l (omega (arith, below))) named))
-
-  -- a pass stays at a row as long as it leads back to itself
-  pub followed_loop :
-      {to : ℕ} → id < 2 ^ 27 → IsSelfLoop way m c input id from to
-      → Names c.table id (state_in way m input from) → IsFollowed way m c input from to id
-  followed_loop {to} low loop named =
-      let e : from + (to - from) ≡ to = omega (arith, loop.more) in
-      subst (λ k. IsFollowed way m c input from k id) e
-      (followed_upto (to - from) low (λ k l below. loop.loops k l (omega (arith, below, e))) named)
-
-  -- also where it has patterns
-  pub led_loop :
-      {to : ℕ} → id < 2 ^ 29 → IsSelfLoop way m c input id from to
-      → Names c.table id (state_in way m input from) → IsLed way m c input from to id
-  led_loop {to} plain loop named =
-      let e : from + (to - from) ≡ to = omega (arith, loop.more) in
-      subst (λ k. IsLed way m c input from k id) e
-      (led_upto (to - from) plain (λ k l below. loop.loops k l (omega (arith, below, e))) named)
-
-  -- a run between IDs with a tag goes along it too
+  -- a pass stays at a row as long as that leads back to itself
   pub run_loop :
       {tag to : ℕ} → IsTagAt way m c.table input tag from id → IsSelfLoop way m c input id from to
       → IsRun way m c input tag from to id
-  run_loop {tag} at loop = record {
-    led = led_loop (omega (arith, at.kind.upto, at.only.below)) loop at.named;
-    quiet = λ none. followed_loop (omega (arith, none, at.only.below)) loop at.named;
-    only = at.only;
-  }
+  run_loop {tag} {to} at loop =
+      let e : from + (to - from) ≡ to = omega (arith, loop.more) in
+      record {
+        followed =
+            subst (λ k. IsFollowed way m c input tag from k id) e
+            (followed_upto (to - from) tag at.kind at.only (λ k l below. loop.loops k l (omega (arith, below, e))) at.named);
+        only = at.only;
+      }
 
 -- a run over the bytes from a place on is one of a pass from there
 pub loop_along :

@@ -1,5 +1,5 @@
 -- Spans tried one after another.
-use Rattle.std.proofs.Common.{ℕ, suc, ◌≡◌, ◌<◌, ◌≤◌, ◌+◌, ◌⊎◌, inl, inr, true, Option, Some, None, false, refl, sym, ap}
+use Rattle.std.proofs.Common.{ℕ, suc, ◌≡◌, ◌<◌, ◌≤◌, ◌+◌, ◌⊎◌, inl, inr, Bool, true, Option, Some, None, false, refl, sym, ap}
 use Rattle.std.proofs.Common.{ap₂, ◌∙◌, subst, arith}
 use Rattle.automata_base.specs.Answers.Answers.{Half, later, offset_in, IsSplit, Tries}
 use Rattle.automata_base.specs.declared.util.search.Anchored.TheVariants.{No}
@@ -18,6 +18,12 @@ use Rattle.automata_hybrid.specs.Searches.Passes.{with_base}
 use Rattle.automata_hybrid.proofs.Searches.PassState.{false_true, half_none}
 use Rattle.automata_config.specs.Options.{match_kind_of}
 use Rattle.automata_base.proofs.Answers.Answered.{haystack_later}
+use Rattle.automata_hybrid.proofs.Cases.{same_some, some_none}
+
+-- offsets inside a character are skipped, or they are not
+pub skips_or_not : {A : Type 0} (b : Bool) → (b ≡ true → A) → (b ≡ false → A → ⊥) → A ⊎ (A → ⊥)
+skips_or_not true does not = inl (does refl)
+skips_or_not false does not = inr (not refl)
 
 -- the pair that a half match stands for
 pub record Stands (way : Direction) (input : Input) (o : Option Pair) (half : HalfMatch) : Type 0 where
@@ -32,12 +38,6 @@ half_stands way input None half e = absurd (cc)
 half_stands way input (Some pair) half e =
     let h : half ≡ record { pattern = pair.pattern; offset = offset_in way input pair.place } = cc in
     record { pair = pair; reported = refl; pattern = ap (λ (v : HalfMatch). v.pattern) h; offset = ap (λ (v : HalfMatch). v.offset) h }
-
-some_none : {A : Type 0} {a : A} → ◌≡◌ {A = Option A} (Some a) None → ⊥
-some_none e = cc
-
-some_eq : {A : Type 0} {a b : A} → ◌≡◌ {A = Option A} (Some a) (Some b) → a ≡ b
-some_eq e = cc
 
 module _ (T : Input → Option Pair → Type 0) (S : Type 0) (way : Direction) (input : Input) where
   pub tries_more :
@@ -123,7 +123,7 @@ module _ (way : Direction) (m : Machine) (input now : Input) (k : ℕ) (same : n
     go (inr skips) =
         let split : IsSplit (Finds way m) way (later way k input) = (tried.1 k less).1 in
         let s : Stands way (later way k input) (reported_over way m.nfa (match_kind_of m.config) (later way k input)) half = stands half e in
-        let same : split.0 ≡ s.pair = some_eq (split.1.0 ∙ s.reported) in
+        let same : split.0 ≡ s.pair = same_some (split.1.0 ∙ s.reported) in
         let place : is_split (later way k input).haystack (offset_in way (later way k input) s.pair.place) ≡ true =
         subst (λ (p : Pair). is_split (later way k input).haystack (offset_in way (later way k input) p.place) ≡ true) same split.2 in
         false_true

@@ -16,8 +16,8 @@ use Rattle.automata_hybrid.specs.Cache.Changes.{IsComputed, cleared_saving, grow
 use Rattle.automata_hybrid.specs.Searches.Cached.{KnowsUnit}
 use Rattle.automata_hybrid.specs.Cache.Ids.{unknown_id}
 use Rattle.automata_hybrid.specs.Machines.Machine.{Machine, slot_count}
-use Rattle.automata_hybrid.specs.Cache.Progress.{finished, from_place, moved_to, progress_cleared, saturated, total_len}
-use Rattle.automata_hybrid.specs.Cache.Progress.{updated}
+use Rattle.automata_hybrid.specs.Cache.Progress.{progress_finished, progress_cleared, saturated, total_len}
+use Rattle.automata_hybrid.specs.Cache.Progress.{progress_updated}
 use Rattle.automata_hybrid.specs.Searches.Units.{IsStepTaken}
 use Rattle.automata_hybrid.specs.Searches.Progress.{AreUnitsRead, EndsAtLast, HasEndedAfter, HasItsStart, IsLeftAt}
 use Rattle.automata_hybrid.specs.Searches.Progress.{IsPassLeftAt, IsStoppedAt, IsUnitRead, before_last}
@@ -34,23 +34,22 @@ use Rattle.automata_hybrid.proofs.Searches.PassState.{reads_before, state_more}
 use Rattle.std.proofs.lemmas.Bool.{cases_lt}
 
 -- a search that moves twice is where it moved last
-moves_twice : (r : Option Progress) (x at : ℕ) → moved_to (moved_to r x) at ≡ moved_to r at
-moves_twice None x at = refl
-moves_twice (Some p) x at = refl
+pub updated_twice : (s : Searched) (x at : ℕ) → progress_updated (progress_updated s x) at ≡ progress_updated s at
+updated_twice s x at = go s.running where
+  go : (r : Option Progress) → progress_updated (progress_updated (record { bytes = s.bytes; running = r }) x) at ≡ progress_updated (record { bytes = s.bytes; running = r }) at
+  go None = refl
+  go (Some p) = refl
 
-pub updated_twice : (s : Searched) (x at : ℕ) → updated (updated s x) at ≡ updated s at
-updated_twice s x at = ap (λ (r : Option Progress). record { bytes = s.bytes; running = r }) (moves_twice s.running x at)
-
-ends_moved : (s t : Searched) (at : ℕ) → updated s at ≡ updated t at → finished s at ≡ finished t at
+ends_moved : (s t : Searched) (at : ℕ) → progress_updated s at ≡ progress_updated t at → progress_finished s at ≡ progress_finished t at
 ends_moved s t at e = ap (λ (v : Searched). record { bytes = total_len v; running = None }) e
 
-pub finished_moved : (s : Searched) (x at : ℕ) → finished (updated s x) at ≡ finished s at
-finished_moved s x at = ends_moved (updated s x) s at (updated_twice s x at)
+pub finished_moved : (s : Searched) (x at : ℕ) → progress_finished (progress_updated s x) at ≡ progress_finished s at
+finished_moved s x at = ends_moved (progress_updated s x) s at (updated_twice s x at)
 
 -- a cache as it is after some units, but that the search was moved less far
 pub record Lags (c run : Stored) : Type 0 where
   pub same : c ≡ with_searched run c.searched
-  pub moves : (at : ℕ) → updated c.searched at ≡ updated run.searched at
+  pub moves : (at : ℕ) → progress_updated c.searched at ≡ progress_updated run.searched at
 
 pub lags_none : (c : Stored) → Lags c c
 lags_none c = record { same = refl; moves = λ at. refl }
@@ -58,12 +57,12 @@ lags_none c = record { same = refl; moves = λ at. refl }
 module _ (way : Direction) (input : Input) (k : ℕ) (c run : Stored) (l : Lags c run) where
   pub lags_moved : with_search_moved way input k c ≡ with_search_moved way input k run
   lags_moved =
-      ap (λ (v : Stored). with_searched v (updated c.searched (given_up_offset way input k))) l.same
+      ap (λ (v : Stored). with_searched v (progress_updated c.searched (given_up_offset way input k))) l.same
       ∙ ap (λ (s : Searched). with_searched run s) (l.moves (given_up_offset way input k))
 
   pub lags_ended : with_search_ended way input k c ≡ with_search_ended way input k run
   lags_ended =
-      ap (λ (v : Stored). with_searched v (finished c.searched (given_up_offset way input k))) l.same
+      ap (λ (v : Stored). with_searched v (progress_finished c.searched (given_up_offset way input k))) l.same
       ∙ ap (λ (s : Searched). with_searched run s)
       (ends_moved c.searched run.searched (given_up_offset way input k) (l.moves (given_up_offset way input k)))
 
@@ -314,7 +313,7 @@ module _ (c : Stored) (s t : Searched) (e : total_len s ≡ total_len t) (id cla
       )
 
 -- a clear leaves nothing of a search that ends where it is
-closes_cleared : (s : Searched) (at : ℕ) → finished (progress_cleared (updated s at)) at ≡ record { bytes = 0; running = None }
+closes_cleared : (s : Searched) (at : ℕ) → progress_finished (progress_cleared (progress_updated s at)) at ≡ record { bytes = 0; running = None }
 closes_cleared s at = go s.running where
   none : 0 + ((at - at) + (at - at)) ≡ 0
   none = omega arith
@@ -322,7 +321,7 @@ closes_cleared s at = go s.running where
   done : ℕ → Searched
   done n = record { bytes = saturated n; running = None }
 
-  go : (r : Option Progress) → finished (record { bytes = 0; running = from_place (moved_to r at) }) at ≡ record { bytes = 0; running = None }
+  go : (r : Option Progress) → progress_finished (progress_cleared (progress_updated (record { bytes = s.bytes; running = r }) at)) at ≡ record { bytes = 0; running = None }
   go None = refl
   go (Some p) = ap done none
 
@@ -330,7 +329,7 @@ closes_cleared s at = go s.running where
 module _ (way : Direction) (m : Machine) (input : Input) (k : ℕ) (old : Stored) where
   pub closed_reads :
       (mid new : Stored)
-      → IsUnitRead way m input k (with_searched old (finished old.searched (given_up_offset way input k))) mid
+      → IsUnitRead way m input k (with_searched old (progress_finished old.searched (given_up_offset way input k))) mid
       → new ≡ with_search_ended way input k mid
       → (next : Stored) × IsUnitRead way m input k (with_search_moved way input k old) next
       × (new ≡ with_search_ended way input k next)
@@ -343,16 +342,16 @@ module _ (way : Direction) (m : Machine) (input : Input) (k : ℕ) (old : Stored
         (sym (finished_moved old.searched (given_up_offset way input k) (given_up_offset way input k)))),
   )
   closed_reads mid new (inr (free, id, to, named, computed)) ended =
-      go (computed_alike old (finished old.searched (given_up_offset way input k))
-      (updated old.searched (given_up_offset way input k)) refl id (unit_class m (next (tape_in way input) k))
+      go (computed_alike old (progress_finished old.searched (given_up_offset way input k))
+      (progress_updated old.searched (given_up_offset way input k)) refl id (unit_class m (next (tape_in way input) k))
       (state_in way m input k) (state_in way m input (suc k)) mid to computed)
     where
       go :
           ((other : Stored)
           × IsComputed (with_search_moved way input k old) id (unit_class m (next (tape_in way input) k))
           (state_in way m input k) (state_in way m input (suc k)) other to
-          × StepAlike (finished old.searched (given_up_offset way input k))
-          (updated old.searched (given_up_offset way input k)) mid other)
+          × StepAlike (progress_finished old.searched (given_up_offset way input k))
+          (progress_updated old.searched (given_up_offset way input k)) mid other)
           → (next : Stored) × IsUnitRead way m input k (with_search_moved way input k old) next
           × (new ≡ with_search_ended way input k next)
       go (other, made, alike) = (
@@ -360,22 +359,22 @@ module _ (way : Direction) (m : Machine) (input : Input) (k : ℕ) (old : Stored
         inr (free, id, to, named, made),
         ended
             ∙ (ap (λ (s : Searched). with_searched mid s) (closes alike.progress)
-            ∙ sym (ap (λ (v : Stored). with_searched v (finished other.searched (given_up_offset way input k))) alike.same)),
+            ∙ sym (ap (λ (v : Stored). with_searched v (progress_finished other.searched (given_up_offset way input k))) alike.same)),
       ) where
         closes :
-            ((mid.searched ≡ finished old.searched (given_up_offset way input k))
-            × (other.searched ≡ updated old.searched (given_up_offset way input k)))
-            ⊎ ((mid.searched ≡ progress_cleared (finished old.searched (given_up_offset way input k)))
-            × (other.searched ≡ progress_cleared (updated old.searched (given_up_offset way input k))))
-            → finished mid.searched (given_up_offset way input k) ≡ finished other.searched (given_up_offset way input k)
+            ((mid.searched ≡ progress_finished old.searched (given_up_offset way input k))
+            × (other.searched ≡ progress_updated old.searched (given_up_offset way input k)))
+            ⊎ ((mid.searched ≡ progress_cleared (progress_finished old.searched (given_up_offset way input k)))
+            × (other.searched ≡ progress_cleared (progress_updated old.searched (given_up_offset way input k))))
+            → progress_finished mid.searched (given_up_offset way input k) ≡ progress_finished other.searched (given_up_offset way input k)
         closes (inl (a, b)) =
-            ap (λ (s : Searched). finished s (given_up_offset way input k)) a
+            ap (λ (s : Searched). progress_finished s (given_up_offset way input k)) a
             ∙ (sym (finished_moved old.searched (given_up_offset way input k) (given_up_offset way input k))
-            ∙ sym (ap (λ (s : Searched). finished s (given_up_offset way input k)) b))
+            ∙ sym (ap (λ (s : Searched). progress_finished s (given_up_offset way input k)) b))
         closes (inr (a, b)) =
-            ap (λ (s : Searched). finished s (given_up_offset way input k)) a
+            ap (λ (s : Searched). progress_finished s (given_up_offset way input k)) a
             ∙ (sym (closes_cleared old.searched (given_up_offset way input k))
-            ∙ sym (ap (λ (s : Searched). finished s (given_up_offset way input k)) b))
+            ∙ sym (ap (λ (s : Searched). progress_finished s (given_up_offset way input k)) b))
 
 -- so what the last step makes is what both make
 pub last_read :
@@ -408,31 +407,31 @@ module _ (way : Direction) (m : Machine) (input : Input) (k id at : ℕ) (unit :
     (place : given_up_offset way input k ≡ at) where
   -- and read
   pub taken_here :
-      (new : Stored) (to : ℕ) → IsStepTaken m id unit (with_searched c (updated c.searched at)) new to
+      (new : Stored) (to : ℕ) → IsStepTaken m id unit (with_searched c (progress_updated c.searched at)) new to
       → IsUnitRead way m input k (with_search_moved way input k c) new
   taken_here new to taken =
       step_reads way m input k id unit (with_search_moved way input k c) new to named is
-      (subst (λ a. IsStepTaken m id unit (with_searched c (updated c.searched a)) new to) (sym place) taken)
+      (subst (λ a. IsStepTaken m id unit (with_searched c (progress_updated c.searched a)) new to) (sym place) taken)
 
   -- or refused
   pub refused_here :
       (new : Stored)
-      → ((quits_on m unit ≡ true) × (new ≡ with_searched c (finished c.searched at)))
-      ⊎ ((quits_on m unit ≡ false) × (new ≡ with_searched c (updated c.searched at)))
+      → ((quits_on m unit ≡ true) × (new ≡ with_searched c (progress_finished c.searched at)))
+      ⊎ ((quits_on m unit ≡ false) × (new ≡ with_searched c (progress_updated c.searched at)))
       → IsLeftAt way m input k c new
   refused_here new (inl (quits, same)) =
-      inl (ap (quits_on m) is ∙ quits, same ∙ ap (λ a. with_searched c (finished c.searched a)) (sym place))
+      inl (ap (quits_on m) is ∙ quits, same ∙ ap (λ a. with_searched c (progress_finished c.searched a)) (sym place))
   refused_here new (inr (clean, same)) =
-      inr (ap (quits_on m) is ∙ clean, same ∙ ap (λ a. with_searched c (updated c.searched a)) (sym place))
+      inr (ap (quits_on m) is ∙ clean, same ∙ ap (λ a. with_searched c (progress_updated c.searched a)) (sym place))
 
 -- a search was ended at the offset of a unit
 pub ended_here :
     (way : Direction) (input : Input) (k at : ℕ) (mid new : CacheView) → given_up_offset way input k ≡ at
-    → new ≡ with_store mid (with_searched mid.store (finished mid.store.searched at))
+    → new ≡ with_store mid (with_searched mid.store (progress_finished mid.store.searched at))
     → new.store ≡ with_search_ended way input k mid.store
 ended_here way input k at mid new place ended =
     ap (λ (v : CacheView). v.store) ended
-    ∙ ap (λ a. with_searched mid.store (finished mid.store.searched a)) (sym place)
+    ∙ ap (λ a. with_searched mid.store (progress_finished mid.store.searched a)) (sym place)
 
 -- a start that is answered was cached, or was computed
 pub start_had :

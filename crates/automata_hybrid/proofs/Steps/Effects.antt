@@ -8,7 +8,7 @@ use Rattle.std.proofs.lemmas.List.Sums.{sum_by_push}
 use Rattle.automata_base.specs.Powersets.Powerset.{Powerset, cost}
 use Rattle.automata_hybrid.specs.declared.dfa.row.Row.{Row}
 use Rattle.automata_hybrid.specs.Machines.Machine.{Machine, greatest, template_of, table_stride}
-use Rattle.automata_hybrid.specs.Cache.Table.{id_of, Rows, Names, HasCells, row_cost, cell_at, with_row, Has}
+use Rattle.automata_hybrid.specs.Cache.Table.{id_of, Rows, Names, HasCells, row_cost, cell_at, with_row, IsKnownState}
 use Rattle.automata_hybrid.specs.Cache.Stores.{Stored, cell_of, with_next, with_start, IsKnownTransition, IsKnownStart}
 use Rattle.automata_hybrid.specs.Cache.Usage.{row_usage, usage, Fits}
 use Rattle.automata_hybrid.specs.Cache.Changes.{grown, IsComputed, IsStarted}
@@ -169,9 +169,9 @@ module _ (old new : Stored) (slot id : ℕ) (r : Row) (done : IsStarted old slot
 -- the rows of a table that another has, and one more
 pub only-grown :
     (old t : Rows) (r : Row) → ((q : Powerset) → id_of old q ≡ None → id_of t q ≡ None)
-    → (p : Powerset) → Has (with_row t r) p → Has old p ⊎ (p ≡ r.state)
+    → (p : Powerset) → IsKnownState (with_row t r) p → IsKnownState old p ⊎ (p ≡ r.state)
 only-grown old t r absent p has = go (id_of old p) refl where
-  go : (o : Option ℕ) → id_of old p ≡ o → Has old p ⊎ (p ≡ r.state)
+  go : (o : Option ℕ) → id_of old p ≡ o → IsKnownState old p ⊎ (p ≡ r.state)
   go (Some k) e = inl (record { id = k; named = e })
   go None e = ⊎_elim
       (λ (same : powerset_eq p r.state ≡ true). inr ((powerset_eq-Decides p r.state).0 same))

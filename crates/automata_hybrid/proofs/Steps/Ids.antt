@@ -1,39 +1,35 @@
 use Rattle.std.proofs.Common.{◌≡◌, ℕ, List, ◌∷◌, length, Bool, true, false, Some, [], ◌+◌, ◌*◌, ◌^◌, ◌<◌, ◌≤◌, inl, inr}
 use Rattle.std.proofs.Common.{refl, sym, ap, subst, arith, get_or, Option}
 use Rattle.automata_base.specs.Lists.{In}
-use Rattle.automata_base.specs.Powersets.Powerset.{Powerset}
+use Rattle.automata_base.specs.Powersets.Powerset.{Powerset, dead}
 use Rattle.automata_hybrid.specs.Machines.Machine.{Machine, table_stride}
-use Rattle.automata_hybrid.specs.Cache.Table.{Rows, IsValid, Leads, Names}
+use Rattle.automata_hybrid.specs.Cache.Table.{Rows, IsRowId, Leads, Names}
 use Rattle.automata_hybrid.specs.Cache.Ids.{quit_id}
-use Rattle.automata_hybrid.specs.Cache.Caches.{HasRow}
+use Rattle.automata_hybrid.specs.Cache.Caches.{CacheView, HoldsRow}
 use Rattle.automata_hybrid.specs.Cache.Stores.{Stored, IsCacheError}
 use Rattle.automata_hybrid.specs.Cache.Usage.{GivesUp}
-use Rattle.automata_hybrid.specs.Searches.PassState.{IsDeadTagged, step_refusal}
-use Rattle.automata_hybrid.specs.Searches.Passes.{IsNoQuit, IsStepRefusal, LacksStep}
+use Rattle.automata_hybrid.specs.Searches.PassState.{step_refusal}
+use Rattle.automata_hybrid.specs.Searches.Passes.{IsStepRefusal, LacksStep}
+use Rattle.automata_hybrid.specs.Steps.Steps.{quits_on}
 use Rattle.automata_config.specs.declared.error.StepError.{StepError}
 use Rattle.automata_config.specs.declared.error.StepError.TheVariants.{Cache, OutOfMemory}
 use Rattle.std.specs.Prelude.{IsBitSet, ◌↔◌}
-use Rattle.automata_hybrid.proofs.Cache.Places.{Names-silent, no_patterns, bit_of, zero_one}
+use Rattle.automata_hybrid.proofs.Cache.Places.{no_patterns, bit_of, zero_one}
 use Rattle.automata_base.specs.ByteClasses.Classes.{is_quit}
 use Rattle.automata_base.specs.Retraced.Steps.{successor}
 use Rattle.automata_config.specs.Options.{match_kind_of}
 
 -- an ID that is not fixed is that of a row
-pub HasRow-valid : (t : Rows) (id : ℕ) → HasRow t id → id < 2 ^ 29 → IsValid t id
-HasRow-valid t id (inl e) l = absurd (omega (arith, e, l))
-HasRow-valid t id (inr (inl e)) l = absurd (omega (arith, e, l))
-HasRow-valid t id (inr (inr h)) l = h
+pub HoldsRow-valid : (c : CacheView) (id : ℕ) → HoldsRow c id → id < 2 ^ 29 → IsRowId c.store.table id
+HoldsRow-valid c id (inl e) l = absurd (omega (arith, e, l))
+HoldsRow-valid c id (inr (inl e)) l = absurd (omega (arith, e, l))
+HoldsRow-valid c id (inr (inr h)) l = h
 
 -- an ID of a row with the match tag is neither dead nor quit
-pub HasRow-matched : (t : Rows) (id : ℕ) → table_stride t.of ≤ 512 → HasRow t id → IsBitSet id 27 → IsValid t id
-HasRow-matched t id small (inl e) b = absurd (zero_one ((bit_of 27 (table_stride t.of) 8 id (omega (arith, small)) (omega (arith, e))).0 b))
-HasRow-matched t id small (inr (inl e)) b = absurd (zero_one ((bit_of 27 (2 * table_stride t.of) 4 id (omega (arith, small)) (omega (arith, e))).0 b))
-HasRow-matched t id small (inr (inr v)) b = v
-
--- an untagged ID names a state without patterns
-pub Leads-silent : (t : Rows) (id : ℕ) (q : Powerset) → Leads t id q → id < 2 ^ 27 → q.patterns ≡ []
-Leads-silent t id q (inl (e, d)) l = absurd (omega (arith, e, l))
-Leads-silent t id q (inr h) l = Names-silent t id q h l
+pub HoldsRow-matched : (c : CacheView) (id : ℕ) → table_stride c.store.table.of ≤ 512 → HoldsRow c id → IsBitSet id 27 → IsRowId c.store.table id
+HoldsRow-matched c id small (inl e) b = absurd (zero_one ((bit_of 27 (table_stride c.store.table.of) 8 id (omega (arith, small)) (omega (arith, e))).0 b))
+HoldsRow-matched c id small (inr (inl e)) b = absurd (zero_one ((bit_of 27 (2 * table_stride c.store.table.of) 4 id (omega (arith, small)) (omega (arith, e))).0 b))
+HoldsRow-matched c id small (inr (inr v)) b = v
 
 pub Leads-Names : (t : Rows) (id : ℕ) (q : Powerset) → Leads t id q → id < 2 ^ 29 → Names t id q
 Leads-Names t id q (inl (e, d)) l = absurd (omega (arith, e, l))
@@ -57,9 +53,10 @@ Leads-quit t id q (inl (e, d)) low small b =
     zero_one ((bit_of 29 (table_stride t.of) 2 id (omega (arith, small)) n).0 b)
 Leads-quit t id q (inr h) low small b = low_bit 29 id (low h) b
 
--- the bit of dead IDs
+-- an ID has the dead tag exactly if it leads to the dead state, which no row has
 pub dead_tagged :
-    (t : Rows) (id : ℕ) → ((q : Powerset) → Names t id q → id < 2 ^ 29) → table_stride t.of ≤ 512 → IsDeadTagged t id
+    (t : Rows) (id : ℕ) → ((q : Powerset) → Names t id q → id < 2 ^ 29) → table_stride t.of ≤ 512
+    → (q : Powerset) → Leads t id q → (IsBitSet id 30 → q ≡ dead) × ((IsBitSet id 30 → ⊥) → Names t id q)
 dead_tagged t id low small q (inl (e, d)) =
     let n : id ≡ 1 * 2 ^ 30 + table_stride t.of = omega (arith, e) in
     (λ b. d, λ clear. absurd (clear ((bit_of 30 (table_stride t.of) 1 id (omega (arith, small)) n).1 refl)))
@@ -68,18 +65,18 @@ dead_tagged t id low small q (inr h) =
 
 -- a dead ID is none of the quit state
 pub dead_clear :
-    (t : Rows) (id : ℕ) → HasRow t id → ((q : Powerset) → Names t id q → id < 2 ^ 29) → table_stride t.of ≤ 512 → IsBitSet id 30
+    (c : CacheView) (id : ℕ) → HoldsRow c id → ((q : Powerset) → Names c.store.table id q → id < 2 ^ 29) → table_stride c.store.table.of ≤ 512 → IsBitSet id 30
     → IsBitSet id 29 → ⊥
-dead_clear t id (inl e) low small b q =
-    let n : id ≡ 2 * 2 ^ 29 + table_stride t.of = omega (arith, e) in
-    zero_one ((bit_of 29 (table_stride t.of) 2 id (omega (arith, small)) n).0 q)
-dead_clear t id (inr (inl e)) low small b q = low_bit 30 id (omega (arith, e, small)) b
-dead_clear t id (inr (inr v)) low small b q = low_bit 29 id (low v.0 v.1) q
+dead_clear c id (inl e) low small b q =
+    let n : id ≡ 2 * 2 ^ 29 + table_stride c.store.table.of = omega (arith, e) in
+    zero_one ((bit_of 29 (table_stride c.store.table.of) 2 id (omega (arith, small)) n).0 q)
+dead_clear c id (inr (inl e)) low small b q = low_bit 30 id (omega (arith, e, small)) b
+dead_clear c id (inr (inr v)) low small b q = low_bit 29 id (low v.0 v.1) q
 
 -- a failed step, reported at an offset
 pub refused :
     (m : Machine) (c c' : Stored) (q : Powerset) (unit : Option ℕ) (quit_at at : ℕ) (e : StepError)
-    → IsNoQuit m unit → LacksStep m c q unit → c' ≡ c → (IsCacheError e → GivesUp c (successor m.nfa (match_kind_of m.config) q unit))
+    → quits_on m unit ≡ false → LacksStep m c q unit → c' ≡ c → (IsCacheError e → GivesUp c (successor m.nfa (match_kind_of m.config) q unit))
     → IsStepRefusal m c' q unit quit_at at (step_refusal e at)
 refused m c c' q unit quit_at at (Cache err) other lacks same gives =
     (other, subst (λ (s : Stored). GivesUp s (successor m.nfa (match_kind_of m.config) q unit)) (sym same) (gives tt), refl)

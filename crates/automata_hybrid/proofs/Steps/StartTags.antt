@@ -7,17 +7,18 @@ use Rattle.automata_base.proofs.Paths.Orders.{none_some}
 use Rattle.automata_hybrid.specs.declared.dfa.row.Row.{Row}
 use Rattle.automata_hybrid.specs.Cache.Ids.{tags}
 use Rattle.automata_hybrid.specs.Cache.Growth.{IsStartTagged, MayHaveStartTag}
-use Rattle.automata_hybrid.specs.Cache.Table.{Has, Rows, fresh, id_of, has_patterns, Names, HasRowIds, KeepsStartTags}
+use Rattle.automata_hybrid.specs.Cache.Table.{IsKnownState, Rows, fresh, id_of, has_patterns, Names, HasRowIds, KeepsStartTags}
 use Rattle.automata_hybrid.specs.Cache.Table.{TagsNewStates, row_id, with_row}
-use Rattle.automata_hybrid.specs.Cache.Clears.{put_if, put, row_of, Kept, keep_found, keep_slot, keep_slots}
+use Rattle.automata_hybrid.specs.Cache.Clears.{put, row_of, Kept, keep_found, keep_slot, keep_slots}
 use Rattle.automata_hybrid.specs.Cache.Stores.{Stored, IsKnownStart}
 use Rattle.automata_hybrid.specs.Cache.Usage.{cleared}
-use Rattle.automata_hybrid.specs.Cache.Changes.{cleared_saving, put_found, IsAdded, IsAddedStart, IsComputed, IsStarted}
+use Rattle.automata_hybrid.specs.Cache.Changes.{cleared_saving, put_found, IsStateAdded, IsComputed, IsStarted}
 use Rattle.automata_hybrid.proofs.Cache.Rows.{at_push}
 use Rattle.automata_hybrid.proofs.Cache.Places.{Found, find_id-Found, bit_of, zero_one}
 use Rattle.automata_hybrid.proofs.Steps.Effects.{one_id}
 use Rattle.automata_config.specs.Options.{specialize_start_states_of}
 use Rattle.automata_hybrid.specs.Machines.Machine.{slot_count, start_of, table_stride}
+use Rattle.std.specs.Option.{is_some}
 
 -- the start tag of an ID at a row's offset
 tags_start : (x : ℕ) (a b : Bool) → x < 2 ^ 27 → IsBitSet (x + tags a b) 28 ↔ (a ≡ true)
@@ -91,7 +92,7 @@ from_row old t r has all k x h = go (at_push t.rows r k x h) where
 
 from_put : (old t : Rows) (r : Row) → IsIn old r → AllFrom old t → AllFrom old (put t r)
 from_put old t r has all = go (id_of t r.state) where
-  go : (o : Option ℕ) → AllFrom old (put_if o t r)
+  go : (o : Option ℕ) → AllFrom old (cond (is_some o) t (with_row t r))
   go None = from_row old t r has all
   go (Some n) = all
 
@@ -128,25 +129,21 @@ from_grown old t r none all k x h = go (at_push t.rows r k x h) where
   go (inl e) = inl (all k x e)
   go (inr (e, f)) = inr (subst (λ (y : Row). id_of old y.state ≡ None) f none, ap (λ (y : Row). y.started) (sym f))
 
-from_added : (old new : Stored) (from : ℕ) (r : Row) → id_of old.table r.state ≡ None → IsAdded old from r new → AllFromOr old.table new.table r.started
-from_added old new from r none (inl (fits, e)) = subst (λ (s : Stored). AllFromOr old.table s.table r.started) (sym e) (from_grown old.table old.table r none (λ k x h. (k, h)))
-from_added old new from r none (inr (full, may, e)) = subst (λ (s : Stored). AllFromOr old.table s.table r.started) (sym e) (from_grown old.table (cleared_saving old from).table r none (from_saving old from))
-
-from_added_start : (old new : Stored) (r : Row) → id_of old.table r.state ≡ None → IsAddedStart old r new → AllFromOr old.table new.table r.started
-from_added_start old new r none (inl (fits, e)) = subst (λ (s : Stored). AllFromOr old.table s.table r.started) (sym e) (from_grown old.table old.table r none (λ k x h. (k, h)))
-from_added_start old new r none (inr (full, may, e)) = subst (λ (s : Stored). AllFromOr old.table s.table r.started) (sym e) (from_grown old.table (cleared old).table r none (from_cleared old))
+from_added : (old emptied new : Stored) (r : Row) → id_of old.table r.state ≡ None → AllFrom old.table emptied.table → IsStateAdded old emptied r new → AllFromOr old.table new.table r.started
+from_added old emptied new r none all (inl (fits, e)) = subst (λ (s : Stored). AllFromOr old.table s.table r.started) (sym e) (from_grown old.table old.table r none (λ k x h. (k, h)))
+from_added old emptied new r none all (inr (full, may, e)) = subst (λ (s : Stored). AllFromOr old.table s.table r.started) (sym e) (from_grown old.table emptied.table r none all)
 
 from_computed : (old new : Stored) (id class next : ℕ) (q target : Powerset) → IsComputed old id class q target new next → AllFromOr old.table new.table false
 from_computed old new id class next q target (inl (leads, e)) = subst (λ (s : Stored). AllFromOr old.table s.table false) (sym e) (λ k x h. inl (k, h))
 from_computed old new id class next q target (inr (lacks, from, between, added, n, e)) =
     let r : Row = record { state = target; started = false } in
-    let all : AllFromOr old.table between.table false = from_added old between id r lacks.0 added in
+    let all : AllFromOr old.table between.table false = from_added old (cleared_saving old id) between r lacks.0 (from_saving old id) added in
     subst (λ (s : Stored). AllFromOr old.table s.table false) (sym e) (λ k x h. all k x h)
 
 from_started : (old new : Stored) (slot id : ℕ) (r : Row) → IsStarted old slot r new id → AllFromOr old.table new.table r.started
 from_started old new slot id r (inl (leads, e)) = subst (λ (s : Stored). AllFromOr old.table s.table r.started) (sym e) (λ k x h. inl (k, h))
 from_started old new slot id r (inr (lacks, between, added, e)) =
-    let all : AllFromOr old.table between.table r.started = from_added_start old between r lacks.0 added in
+    let all : AllFromOr old.table between.table r.started = from_added old (cleared old) between r lacks.0 (from_cleared old) added in
     subst (λ (s : Stored). AllFromOr old.table s.table r.started) (sym e) (λ k x h. all k x h)
 
 module _ (old new : Stored) (id class next : ℕ) (q target : Powerset) (ids_old : HasRowIds old.table) (ids_new : HasRowIds new.table) (done : IsComputed old id class q target new next) where
@@ -166,12 +163,12 @@ module _ (old new : Stored) (slot id : ℕ) (r : Row) (ids_old : HasRowIds old.t
   started_adds = tags_new old.table new.table r.started ids_old ids_new (from_started old new slot id r done)
 
 -- a state that is put back has none
-module _ (old new : Stored) (r : Row) (ids_old : HasRowIds old.table) (ids_new : HasRowIds new.table) (none : id_of old.table r.state ≡ None) (done : IsAddedStart old r new) where
+module _ (old new : Stored) (r : Row) (ids_old : HasRowIds old.table) (ids_new : HasRowIds new.table) (none : id_of old.table r.state ≡ None) (done : IsStateAdded old (cleared old) r new) where
   pub again_keeps : KeepsStartTags old.table new.table
-  again_keeps = keeps_tags old.table new.table r.started ids_old ids_new (from_added_start old new r none done)
+  again_keeps = keeps_tags old.table new.table r.started ids_old ids_new (from_added old (cleared old) new r none (from_cleared old) done)
 
   pub again_adds : TagsNewStates old.table new.table r.started
-  again_adds = tags_new old.table new.table r.started ids_old ids_new (from_added_start old new r none done)
+  again_adds = tags_new old.table new.table r.started ids_old ids_new (from_added old (cleared old) new r none (from_cleared old) done)
 
 -- where no state is given the start tag, a state that has it had it
 pub tagged_none :
@@ -185,13 +182,13 @@ tagged_none old new keeps adds q (id, named, tag) = go (id_of old q) refl where
 pub tagged_start :
     (old new : Stored) (slot : ℕ) (start : Powerset)
     → KeepsStartTags old.table new.table → TagsNewStates old.table new.table (specialize_start_states_of new.table.of.config)
-    → ((q : Powerset) → Has new.table q → Has old.table q ⊎ (q ≡ start))
+    → ((q : Powerset) → IsKnownState new.table q → IsKnownState old.table q ⊎ (q ≡ start))
     → slot < slot_count new.table.of → IsKnownStart new slot → start ≡ start_of new.table.of slot
     → (q : Powerset) → IsStartTagged new.table q → IsStartTagged old.table q ⊎ MayHaveStartTag new q
 tagged_start old new slot start keeps adds only within known same q (id, named, tag) = go (id_of old.table q) refl where
   go : (o : Option ℕ) → id_of old.table q ≡ o → IsStartTagged old.table q ⊎ MayHaveStartTag new q
   go (Some before) had = inl (before, had, (keeps q before id had named).1 tag)
   go None none = here (only q (record { id = id; named = named })) where
-    here : Has old.table q ⊎ (q ≡ start) → IsStartTagged old.table q ⊎ MayHaveStartTag new q
+    here : IsKnownState old.table q ⊎ (q ≡ start) → IsStartTagged old.table q ⊎ MayHaveStartTag new q
     here (inl has) = absurd (none_some (sym none ∙ has.named))
     here (inr e) = inr ((adds q id none named).0 tag, (slot, within, known, e ∙ same))

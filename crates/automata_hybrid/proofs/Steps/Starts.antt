@@ -12,12 +12,12 @@ use Rattle.automata_config.specs.declared.error.SearchError.{SearchError}
 use Rattle.automata_hybrid.specs.declared.dfa.row.Row.{Row}
 use Rattle.automata_hybrid.specs.Cache.Ids.{unknown_id}
 use Rattle.automata_hybrid.specs.Machines.Machine.{Machine, greatest, slot_count, start_of, table_stride, template_of}
-use Rattle.automata_hybrid.specs.Cache.Table.{Has, HasCells, HasItsMatchTag, HasRowIds, Lacks, Leads, MayLead, Names}
+use Rattle.automata_hybrid.specs.Cache.Table.{IsKnownState, HasCells, HasItsMatchTag, HasRowIds, Lacks, Leads, MayLead, Names}
 use Rattle.automata_hybrid.specs.Cache.Table.{Rows, TagsNewStates}
 use Rattle.automata_hybrid.specs.Cache.Stores.{Stored, IsKnownStart, KeepsStarts, with_start}
-use Rattle.automata_hybrid.specs.Cache.Usage.{GivesUp}
-use Rattle.automata_hybrid.specs.Cache.Changes.{AddsStart, IsOneChange, IsStarted, slot_row}
-use Rattle.automata_hybrid.specs.Cache.Caches.{CacheView, HasRow, IsCacheOf, counted, with_store}
+use Rattle.automata_hybrid.specs.Cache.Usage.{GivesUp, cleared}
+use Rattle.automata_hybrid.specs.Cache.Changes.{AddsRow, IsOneChange, IsStarted}
+use Rattle.automata_hybrid.specs.Cache.Caches.{CacheView, HoldsRow, IsCacheOf, counted, with_store}
 use Rattle.automata_hybrid.specs.Cache.Progress.{saturated}
 use Rattle.automata_hybrid.specs.Steps.Starts.{IsStartAnswer, IsStartEffect, IsStartRefusal, IsStartRefusalAt}
 use Rattle.automata_hybrid.specs.Steps.Starts.{IsStartRefusedAt, IsStartSlot, KnowsStart, known_start, start_row}
@@ -29,6 +29,10 @@ use Rattle.automata_hybrid.proofs.Machines.StartSlots.{start_same}
 use Rattle.automata_hybrid.proofs.Steps.StartTags.{same_adds, same_keeps, started_adds, started_keeps, tagged_start}
 use Rattle.automata_config.specs.Options.{specialize_start_states_of}
 use Rattle.std.proofs.lemmas.Bool.{cases_lt}
+
+-- the row of the start state of a slot
+abbrev slot_row : Machine → ℕ → Row
+slot_row m slot = record { state = start_of m slot; started = specialize_start_states_of m.config }
 
 -- the start of a slot is that of its mode
 pub slot_state :
@@ -51,9 +55,9 @@ knows_slot m c mode behind slot at slots known =
     (at.may, (omega (arith, at.at, at.within, slots), subst (IsKnownStart c) at.at known))
 
 -- an ID that names a state or the dead one has a row
-pub leads_row : (t : Rows) (id : ℕ) (q : Powerset) → Leads t id q → HasRow t id
-leads_row t id q (inl dies) = inl dies.0
-leads_row t id q (inr names) = inr (inr (q, names))
+pub leads_row : (c : CacheView) (id : ℕ) (q : Powerset) → Leads c.store.table id q → HoldsRow c id
+leads_row c id q (inl dies) = inl dies.0
+leads_row c id q (inr names) = inr (inr (q, names))
 
 -- a start state that is cached changes nothing
 pub known_effect :
@@ -80,7 +84,7 @@ pub known_answer :
     → HasItsMatchTag c.store.table id → IsStartAnswer m mode behind c c id
 known_answer m mode behind c slot id of at knows value low may tag = record {
   may = at.may;
-  row = leads_row c.store.table id _ (named may);
+  row = leads_row c id _ (named may);
   named = named may;
   tag = tag;
   known = λ _. stands;
@@ -114,7 +118,7 @@ refused_effect m mode behind old new slot at unknown e = record {
   start_tags = same_keeps old.store.table new.store.table table;
   progress = inl (ap (λ (v : CacheView). v.store.clears) e, ap (λ (v : CacheView). v.store.searched) e);
   added = same_adds old.store.table new.store.table (specialize_start_states_of m.config) table;
-  only = λ q has. inl (subst (λ (t : Rows). Has t q) table has);
+  only = λ q has. inl (subst (λ (t : Rows). IsKnownState t q) table has);
 } where
   once : new.count ≡ old.count + 1
   once = ap (λ (v : CacheView). v.count) e
@@ -126,7 +130,7 @@ refused_effect m mode behind old new slot at unknown e = record {
 pub record ComputesStart (m : Machine) (mode : Anchored) (behind : Option ℕ) (old new : CacheView) (slot id : ℕ) : Type 0 where
   pub done : IsStarted old.store slot (start_row m mode behind) new.store id
   pub leads : Leads new.store.table id (start_state_of m.nfa mode behind)
-  pub only : (q : Powerset) → Has new.store.table q → Has old.store.table q ⊎ (q ≡ start_state_of m.nfa mode behind)
+  pub only : (q : Powerset) → IsKnownState new.store.table q → IsKnownState old.store.table q ⊎ (q ≡ start_state_of m.nfa mode behind)
   pub slots : length new.store.starts ≡ length old.store.starts
   pub starts : KeepsStarts old.store.starts new.store.starts
   pub written : slice_index new.store.starts slot ≡ id
@@ -156,7 +160,7 @@ pub computes_known :
 computes_known m mode behind old mid new slot id key was e leads same written found = record {
   done = inl (there, stored);
   leads = subst (λ (s : Stored). Leads s.table id (start_state_of m.nfa mode behind)) (sym stored) there;
-  only = λ q has. inl (let h = subst (λ (s : Stored). Has s.table q) stored has in record { id = h.id; named = h.named });
+  only = λ q has. inl (let h = subst (λ (s : Stored). IsKnownState s.table q) stored has in record { id = h.id; named = h.named });
   slots = ap (λ (s : Stored). length s.starts) stored ∙ length-set old.store.starts slot id;
   starts =
       subst (λ (s : Stored). KeepsStarts old.store.starts s.starts) (sym stored)
@@ -180,7 +184,7 @@ computes_known m mode behind old mid new slot id key was e leads same written fo
 -- the start state was added
 pub computes_new :
     (m : Machine) (mode : Anchored) (behind : Option ℕ) (old mid between new : CacheView) (slot id : ℕ) (state key : Powerset) (started : Bool)
-    → mid ≡ counted old → AddsStart mid.store between.store (record { state = state; started = started }) id → between.count ≡ mid.count
+    → mid ≡ counted old → AddsRow mid.store (cleared mid.store) between.store (record { state = state; started = started }) id → between.count ≡ mid.count
     → new ≡ with_store between (with_start between.store slot id) → state ≡ key → Lacks mid.store.table key
     → key ≡ start_state_of m.nfa mode behind → started ≡ specialize_start_states_of m.config
     → slice_index new.store.starts slot ≡ id → slice_index new.store.starts slot < unknown_id
@@ -188,7 +192,7 @@ pub computes_new :
 computes_new m mode behind old mid between new slot id state key started was adds count e is lacks same tags written found = record {
   done = inr (none, between.store, added.effect, stored);
   leads = inr (subst (λ (s : Stored). Names s.table id (start_state_of m.nfa mode behind)) (sym stored) added.named);
-  only = λ q has. added.only q (let h = subst (λ (s : Stored). Has s.table q) stored has in record { id = h.id; named = h.named });
+  only = λ q has. added.only q (let h = subst (λ (s : Stored). IsKnownState s.table q) stored has in record { id = h.id; named = h.named });
   slots = ap (λ (s : Stored). length s.starts) stored ∙ (length-set between.store.starts slot id ∙ added.slots);
   starts =
       subst (λ (s : Stored). KeepsStarts old.store.starts s.starts) (sym stored)
@@ -212,10 +216,10 @@ computes_new m mode behind old mid between new slot id state key started was add
   row : record { state = state; started = started } ≡ start_row m mode behind
   row = λ i. record { state = (is ∙ same) i; started = tags i }
 
-  added : AddsStart old.store between.store (start_row m mode behind) id
+  added : AddsRow old.store (cleared old.store) between.store (start_row m mode behind) id
   added =
-      subst (λ (r : Row). AddsStart old.store between.store r id) row
-      (subst (λ (s : Stored). AddsStart s between.store (record { state = state; started = started }) id) before adds)
+      subst (λ (r : Row). AddsRow old.store (cleared old.store) between.store r id) row
+      (subst (λ (s : Stored). AddsRow s (cleared s) between.store (record { state = state; started = started }) id) before adds)
 
 started_clears :
     (old new : Stored) (slot id : ℕ) (r : Row) → old.clears < 2 ^ 64 → IsStarted old slot r new id → old.clears ≤ new.clears
@@ -245,7 +249,7 @@ module _ (m : Machine) (mode : Anchored) (behind : Option ℕ) (old new : CacheV
   pub computed_answer : HasItsMatchTag new.store.table id → IsStartAnswer m mode behind old new id
   computed_answer tag = record {
     may = at.may;
-    row = leads_row new.store.table id _ made.leads;
+    row = leads_row new id _ made.leads;
     named = made.leads;
     tag = tag;
     known = λ knows. absurd (unknown knows);

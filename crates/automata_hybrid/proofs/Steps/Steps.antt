@@ -8,15 +8,14 @@ use Rattle.automata_base.specs.Retraced.Steps.{successor}
 use Rattle.automata_base.proofs.Paths.Orders.{none_some, some_inj}
 use Rattle.automata_hybrid.specs.Cache.Stores.{IsKnownTransition, KeepsStarts, Stored, cell_of, with_next}
 use Rattle.automata_hybrid.specs.Cache.Usage.{GivesUp}
-use Rattle.automata_hybrid.specs.Cache.Changes.{AddsNext, IsAdded, IsComputed, IsOneChange}
-use Rattle.automata_hybrid.specs.Cache.Caches.{CacheView, HasRow, IsCacheOf, counted, with_store}
+use Rattle.automata_hybrid.specs.Cache.Changes.{AddsNext, IsStateAdded, IsComputed, IsOneChange, cleared_saving}
+use Rattle.automata_hybrid.specs.Cache.Caches.{CacheView, HoldsRow, IsCacheOf, counted, with_store}
 use Rattle.automata_hybrid.specs.Cache.Growth.{ClearedNothing}
 use Rattle.automata_hybrid.specs.Cache.Ids.{fixed_from, quit_id, unknown_id}
 use Rattle.automata_hybrid.specs.Machines.Machine.{Machine, greatest, next_of, template_of, table_stride}
 use Rattle.automata_hybrid.specs.Cache.Progress.{saturated}
-use Rattle.automata_hybrid.specs.Searches.Passes.{IsNoQuit}
 use Rattle.automata_hybrid.specs.Steps.Steps.{IsStepAnswer, IsStepEffect, KnowsStep, quits_on, unit_class}
-use Rattle.automata_hybrid.specs.Cache.Table.{Has, HasCells, HasItsMatchTag, HasRowIds, IsCell, IsValid, Lacks, Leads}
+use Rattle.automata_hybrid.specs.Cache.Table.{IsKnownState, HasCells, HasItsMatchTag, HasRowIds, IsCell, IsRowId, Lacks, Leads}
 use Rattle.automata_hybrid.specs.Cache.Table.{Names, Rows}
 use Rattle.automata_hybrid.proofs.Cache.Usage.{Leads-known}
 use Rattle.automata_hybrid.proofs.Steps.Effects.{Keeps-computed, roomy-computed, written-computed}
@@ -47,7 +46,7 @@ same_effect m id unit c knows = record {
 -- a step from dead or quit answers its own ID
 pub fixed_answer :
     (m : Machine) (id : ℕ) (unit : Option ℕ) (c : CacheView)
-    → fixed_from ≤ id → ((q : Powerset) → Names c.store.table id q → id < fixed_from) → HasRow c.store.table id
+    → fixed_from ≤ id → ((q : Powerset) → Names c.store.table id q → id < fixed_from) → HoldsRow c id
     → IsStepAnswer m id unit c c id
 fixed_answer m id unit c high below row = record {
   row = row;
@@ -65,7 +64,7 @@ fixed_answer m id unit c high below row = record {
   apart q n = let low : id < fixed_from = below q n in absurd (omega (arith, low, high))
 
 -- what a cell reports at the class of a unit
-module _ (m : Machine) (id : ℕ) (unit : Option ℕ) (c : CacheView) (class next : ℕ) (of : IsCacheOf c m) (valid : IsValid c.store.table id)
+module _ (m : Machine) (id : ℕ) (unit : Option ℕ) (c : CacheView) (class next : ℕ) (of : IsCacheOf c m) (valid : IsRowId c.store.table id)
     (at : class ≡ unit_class m unit) (small : table_stride m ≤ 512)
     (quit : quits_on m unit ≡ true → slice_index (template_of m) class ≡ quit_id (table_stride m))
     (free : quits_on m unit ≡ false → slice_index (template_of m) class ≡ unknown_id)
@@ -117,10 +116,10 @@ module _ (m : Machine) (id : ℕ) (unit : Option ℕ) (c : CacheView) (class nex
     knows : KnowsStep m c.store id unit
     knows = cell_known low
 
-    rowed : IsCell c.store.table valid.0 class next → HasRow c.store.table next
+    rowed : IsCell c.store.table valid.0 class next → HoldsRow c next
     rowed (inl (a, is)) = inr (inl is)
     rowed (inr (a, inl is)) = absurd (omega (arith, is, low))
-    rowed (inr (a, inr h)) = leads_row c.store.table next _ h
+    rowed (inr (a, inr h)) = leads_row c next _ h
 
     quits : quits_on m unit ≡ true → IsCell c.store.table valid.0 class next → next ≡ quit_id (table_stride m)
     quits q (inl (a, is)) = is ∙ ap (λ (d : Machine). quit_id (table_stride d)) of
@@ -149,7 +148,7 @@ refused_effect m id unit old new low clean unknown e = record {
   progress = inl (ap (λ (v : CacheView). v.store.clears) e, ap (λ (v : CacheView). v.store.searched) e);
   start_tags = same_keeps old.store.table new.store.table table;
   added = same_adds old.store.table new.store.table false table;
-  only = λ q n p has. inl (subst (λ (t : Rows). Has t p) table has);
+  only = λ q n p has. inl (subst (λ (t : Rows). IsKnownState t p) table has);
 } where
   once : new.count ≡ old.count + 1
   once = ap (λ (v : CacheView). v.count) e
@@ -166,8 +165,8 @@ pub record ComputesStep (m : Machine) (id : ℕ) (unit : Option ℕ) (old new : 
       (q : Powerset) → Names old.store.table id q
       → Leads new.store.table next (successor m.nfa (match_kind_of m.config) q unit)
   pub only :
-      (q : Powerset) → Names old.store.table id q → (p : Powerset) → Has new.store.table p
-      → Has old.store.table p ⊎ (p ≡ successor m.nfa (match_kind_of m.config) q unit)
+      (q : Powerset) → Names old.store.table id q → (p : Powerset) → IsKnownState new.store.table p
+      → IsKnownState old.store.table p ⊎ (p ≡ successor m.nfa (match_kind_of m.config) q unit)
   pub starts : KeepsStarts old.store.starts new.store.starts
   pub of : new.store.table.of ≡ old.store.table.of
   pub counted : new.count ≡ old.count + 1
@@ -208,13 +207,13 @@ computes_new m id unit old mid between new class from next state key was adds co
           (let to : key ≡ successor m.nfa (match_kind_of m.config) q unit = same q n in
           let none : Lacks old.store.table (successor m.nfa (match_kind_of m.config) q unit) =
           subst (λ (s : Stored). Lacks s.table (successor m.nfa (match_kind_of m.config) q unit)) before (subst (λ (p : Powerset). Lacks mid.store.table p) to lacks) in
-          let grew : IsAdded old.store id (record { state = successor m.nfa (match_kind_of m.config) q unit; started = false }) between.store =
-          subst (λ (p : Powerset). IsAdded old.store id (record { state = p; started = false }) between.store) (is ∙ to) added.effect in
+          let grew : IsStateAdded old.store (cleared_saving old.store id) (record { state = successor m.nfa (match_kind_of m.config) q unit; started = false }) between.store =
+          subst (λ (p : Powerset). IsStateAdded old.store (cleared_saving old.store id) (record { state = p; started = false }) between.store) (is ∙ to) added.row.effect in
           inr (none, from, between.store, grew, added.saved q n, refl));
-      leads = λ q n. inr (subst (λ (p : Powerset). Names between.store.table next p) (is ∙ same q n) added.named);
-      only = λ q n p has. subst (λ (x : Powerset). Has old.store.table p ⊎ (p ≡ x)) (is ∙ same q n) (added.only p (record { id = has.id; named = has.named }));
-      starts = added.starts;
-      of = added.of;
+      leads = λ q n. inr (subst (λ (p : Powerset). Names between.store.table next p) (is ∙ same q n) added.row.named);
+      only = λ q n p has. subst (λ (x : Powerset). IsKnownState old.store.table p ⊎ (p ≡ x)) (is ∙ same q n) (added.row.only p (record { id = has.id; named = has.named }));
+      starts = added.row.starts;
+      of = added.row.of;
       counted = count ∙ ap (λ (v : CacheView). v.count) was;
     })
   where
@@ -245,7 +244,7 @@ computed_room old new id class next q target (inr (lacks, from, between, inr (fu
 
 -- what a computed step answers, and what it makes of the cache
 module _ (m : Machine) (id : ℕ) (unit : Option ℕ) (old new : CacheView) (class next : ℕ) (step : ComputesStep m id unit old new class next)
-    (of : IsCacheOf old m) (valid : IsValid old.store.table id) (low : id < fixed_from)
+    (of : IsCacheOf old m) (valid : IsRowId old.store.table id) (low : id < fixed_from)
     (clean : quits_on m unit ≡ false) (unknown : KnowsStep m old.store id unit → ⊥)
     (at : class ≡ unit_class m unit) (below : class < table_stride m) (cells : HasCells old.store.table) where
   within : class < table_stride old.store.table.of
@@ -269,7 +268,7 @@ module _ (m : Machine) (id : ℕ) (unit : Option ℕ) (old new : CacheView) (cla
       ((n : ℕ) (p : Powerset) → Names new.store.table n p → n < fixed_from) → table_stride new.store.table.of ≤ 512
       → HasItsMatchTag new.store.table next → IsStepAnswer m id unit old new next
   computed_answer lows small tag = record {
-    row = leads_row new.store.table next target (step.leads valid.0 valid.1);
+    row = leads_row new next target (step.leads valid.0 valid.1);
     tag = tag;
     fixed = λ high. absurd (omega (arith, low, high));
     quit = λ _ q. absurd (false_true (sym clean ∙ q));
@@ -321,7 +320,11 @@ module _ (m : Machine) (id : ℕ) (unit : Option ℕ) (old new : CacheView) (cla
     only = step.only;
   }
 
--- a unit that is not a quit byte
-pub no_quit_unit : (m : Machine) (unit : Option ℕ) → quits_on m unit ≡ false → IsNoQuit m unit
+-- a unit that is not a quit byte, either way it is said
+pub unit_no_quit : (m : Machine) (unit : Option ℕ) → ((byte : ℕ) → unit ≡ Some byte → is_quit m.quits byte ≡ false) → quits_on m unit ≡ false
+unit_no_quit m None free = refl
+unit_no_quit m (Some byte) free = free byte refl
+
+pub no_quit_unit : (m : Machine) (unit : Option ℕ) → quits_on m unit ≡ false → (byte : ℕ) → unit ≡ Some byte → is_quit m.quits byte ≡ false
 no_quit_unit m None clean byte e = absurd (none_some e)
 no_quit_unit m (Some read) clean byte e = subst (λ b. is_quit m.quits b ≡ false) (some_inj e) clean

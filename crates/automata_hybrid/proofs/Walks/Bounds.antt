@@ -13,10 +13,7 @@ use Rattle.automata_hybrid.specs.Walks.Answers.{IsWalkOf, ReportsNext, half_nth}
 use Rattle.automata_hybrid.specs.Walks.State.{Walk, without_match}
 use Rattle.automata_hybrid.specs.Searches.Bounds.{LiesIn}
 use Rattle.automata_config.specs.Options.{match_kind_of}
-use Rattle.automata_hybrid.proofs.Searches.Bounds.{same_some}
-
-none_some : {A : Type 0} {a : A} → ◌≡◌ {A = Option A} None (Some a) → ⊥
-none_some e = cc
+use Rattle.automata_hybrid.proofs.Cases.{none_some, same_some}
 
 -- the pair of a half match
 abbrev pair_of : HalfMatch → Pair

@@ -29,12 +29,12 @@ units_none way m c input from = λ j l h. absurd (omega (arith, l, h))
 pub units_more :
     (way : Direction) (m : Machine) (old new : CacheView) (input : Input) (from read k id : ℕ)
     → IsGrown old new → ClearedNothing old.store new.store → HasLearnedUnits way m old.store input from read
-    → IsFollowed way m old.store input read k id → HasLearnedUnit way m new.store input k
+    → IsFollowed way m old.store input 0 read k id → HasLearnedUnit way m new.store input k
     → HasLearnedUnits way m new.store input from (suc k)
 units_more way m old new input from read k id g nothing learned f here = λ j l h. go j l h (cases_lt j read) (cases_lt j k) where
   go : (j : ℕ) → from ≤ j → j < suc k → (j < read) ⊎ (read ≤ j) → (j < k) ⊎ (k ≤ j) → HasLearnedUnit way m new.store input j
   go j l h (inl less) b = unit_still way m old.store new.store input g.of (g.kept nothing) j (learned j l less)
-  go j l h (inr more) (inl less) = unit_still way m old.store new.store input g.of (g.kept nothing) j (f.quiet j more less).known
+  go j l h (inr more) (inl less) = unit_still way m old.store new.store input g.of (g.kept nothing) j (f.taken j more less).known
   go j l h (inr more) (inr last) = let same : k ≡ j = omega (arith, h, last) in subst (HasLearnedUnit way m new.store input) same here
 
 -- with nothing determinized what is cached stays cached

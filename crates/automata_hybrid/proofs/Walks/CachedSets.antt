@@ -17,7 +17,7 @@ use Rattle.automata_hybrid.specs.Machines.Machine.{Machine}
 use Rattle.automata_hybrid.specs.Searches.PassState.{HasLearnedUnit}
 use Rattle.automata_hybrid.specs.Searches.Passes.{HasReadNoQuit, Skips, state_in, tape_in}
 use Rattle.automata_hybrid.specs.Steps.Starts.{MayStart}
-use Rattle.automata_hybrid.specs.Walks.Answers.{AreWalked, HasReported, HasReportedAt, HasReportedBy, WalkReads, half_nth, pairs_in}
+use Rattle.automata_hybrid.specs.Walks.Answers.{AreWalked, HasReported, HasReportedAt, HasReportedBy, WalkReads, half_nth, pairs_reported_in}
 use Rattle.automata_hybrid.specs.Walks.State.{At, Ended, Fresh, Stage, Walk}
 use Rattle.automata_hybrid.specs.Walks.Sets.{IsJoined}
 use Rattle.automata_hybrid.proofs.Searches.Cached.{begin_still, unit_still}
@@ -89,7 +89,7 @@ module _ (m : Machine) (input : Input) (v : Walk) (k : ℕ) (reported : HasRepor
       → input.start ≤ input.end → AreWalked Forward m input list → length new ≡ length old → IsJoined (take (suc k) list) old new
       → (input.earliest ≡ true) ⊎ (length (members new) ≡ length new)
       → (j : ℕ) (pairs : List Pair)
-      → v.units ≤ j → WalkReads Forward m input j → AreUnsplit (Skips m) Forward input (pairs_in Forward m input j) pairs
+      → v.units ≤ j → WalkReads Forward m input j → AreUnsplit (Skips m) Forward input (pairs_reported_in Forward m input j) pairs
       → IsOpen input old pairs → ⊥
   open_stops old new list s walked capacity joined stop j pairs l reads unsplit is_open = go is_open stop where
     reported_by : HasReportedBy Forward m input j (length pairs)
@@ -115,16 +115,16 @@ pub set_knows :
     (m : Machine) (c : Stored) (input : Input) (set : List Bool) (v : Walk)
     → KnowsItsStart Forward m c input × HasLearnedUnits Forward m c input 0 v.units
     → ((j : ℕ) (pairs : List Pair)
-    → v.units ≤ j → WalkReads Forward m input j → AreUnsplit (Skips m) Forward input (pairs_in Forward m input j) pairs
+    → v.units ≤ j → WalkReads Forward m input j → AreUnsplit (Skips m) Forward input (pairs_reported_in Forward m input j) pairs
     → IsOpen input set pairs → ⊥)
     → KnowsItsStart Forward m c input
     × ((j : ℕ) (pairs : List Pair)
     → WalkReads Forward m input j → HasReadNoQuit Forward m input j
-    → AreUnsplit (Skips m) Forward input (pairs_in Forward m input j) pairs → IsOpen input set pairs → KnowsUnit Forward m c input j)
+    → AreUnsplit (Skips m) Forward input (pairs_reported_in Forward m input j) pairs → IsOpen input set pairs → KnowsUnit Forward m c input j)
 set_knows m c input set v all stops = (all.0, λ j pairs reads clean unsplit is_open. go j pairs reads unsplit is_open (cases_lt j v.units))
   where
     go :
-        (j : ℕ) (pairs : List Pair) → WalkReads Forward m input j → AreUnsplit (Skips m) Forward input (pairs_in Forward m input j) pairs
+        (j : ℕ) (pairs : List Pair) → WalkReads Forward m input j → AreUnsplit (Skips m) Forward input (pairs_reported_in Forward m input j) pairs
         → IsOpen input set pairs → (j < v.units) ⊎ (v.units ≤ j) → KnowsUnit Forward m c input j
     go j pairs reads unsplit is_open (inl less) = (all.1 j (omega arith) less).0
     go j pairs reads unsplit is_open (inr more) = absurd (stops j pairs more reads unsplit is_open)

@@ -17,7 +17,7 @@ use Rattle.automata_hybrid.specs.Searches.Passes.{HasReadNoQuit, Skips, state_in
 use Rattle.automata_hybrid.specs.Steps.Starts.{MayStart}
 use Rattle.automata_hybrid.specs.Cache.Table.{Rows}
 use Rattle.automata_hybrid.specs.Walks.Answers.{AreWalked, Arrives, Finishes, HasItsState, HasReported, HasReportedAll}
-use Rattle.automata_hybrid.specs.Walks.Answers.{HasReportedAt, HasReportedBy, IsRowState, Stands, ReportsNext, WalkMeetsNoQuit}
+use Rattle.automata_hybrid.specs.Walks.Answers.{HasReportedAt, HasReportedBy, IsRowState, StandsAtState, ReportsNext, WalkMeetsNoQuit}
 use Rattle.automata_hybrid.specs.Walks.Answers.{half_nth, start_count}
 use Rattle.automata_hybrid.specs.Walks.State.{At, Ended, Fresh, Stage, Walk, ended_walk, with_match, without_match}
 use Rattle.automata_hybrid.proofs.Cache.Growth.{clears_none, clears_none_back}
@@ -180,10 +180,10 @@ module _ (way : Direction) (m : Machine) (input : Input) where
       → w.stage ≡ At q → w.reported < length q.patterns → half.pattern ≡ get_or q.patterns w.reported 0
       → half.offset ≡ offset_in way input (w.units - 1) → ReportsNext way m input w (with_match w half)
   next_same w q half e less pattern offset k t =
-      let s : Stands way m input q w.units w.reported k = subst (λ (st : Stage). HasReportedAt way m input st w.units w.reported k) e t in
+      let s : StandsAtState way m input q w.units w.reported k = subst (λ (st : Stage). HasReportedAt way m input st w.units w.reported k) e t in
       let same : q ≡ state_in way m input (suc s.place) = s.state ∙ ap (state_in way m input) s.one_after in
       let place : w.units - 1 ≡ s.place = omega (arith, s.one_after) in
-      let next : Stands way m input q w.units (suc w.reported) (suc k) = record {
+      let next : StandsAtState way m input q w.units (suc w.reported) (suc k) = record {
         undone = s.undone;
         may = s.may;
         place = s.place;
@@ -228,7 +228,7 @@ module _ (way : Direction) (m : Machine) (input : Input) where
       let place : units - 1 ≡ a.place = omega (arith, a.one_after) in
       let before : HasReportedBy way m input a.place k = a.silent k (here k reported) in
       let some : 0 < length q.patterns = subst (λ (x : Powerset). 0 < length x.patterns) (sym state) (a.reports (state_in way m input units) a.named) in
-      let next : Stands way m input q units 1 (suc k) = record {
+      let next : StandsAtState way m input q units 1 (suc k) = record {
         undone = s;
         may = may;
         place = a.place;

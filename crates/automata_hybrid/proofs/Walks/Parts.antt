@@ -35,7 +35,7 @@ use Rattle.automata_hybrid.specs.Steps.Starts.{IsStartAnswer, IsStartEffect, IsS
 use Rattle.automata_hybrid.specs.Steps.Starts.{IsStartRefusedAt, quit_behind, search_refusal}
 use Rattle.automata_hybrid.specs.Steps.Steps.{unit_class}
 use Rattle.automata_base.specs.Powersets.Powerset.{Powerset}
-use Rattle.automata_hybrid.specs.Cache.Table.{Has, Leads, Names, Rows, id_of}
+use Rattle.automata_hybrid.specs.Cache.Table.{IsKnownState, Leads, Names, Rows, id_of}
 use Rattle.automata_hybrid.specs.Walks.Answers.{HasReported, HasReportedAt, IsResumeRefusal, IsWalkOf, IsWalkRefusal, ReportsNext}
 use Rattle.automata_hybrid.specs.Walks.State.{At, Ended, Fresh, HoldsNone, Ids, IsHeldAt, IsHeldItself, Keeping, Stage}
 use Rattle.automata_hybrid.specs.Walks.State.{States, Walk, keeping_of, without_match, Holds}
@@ -299,7 +299,7 @@ pub back_effect :
     {T E : Type 0} (way : Direction) (m : Machine) (input : Input) (t : Rows) (w : Walk) (h : Held) (handle : Handle)
     (old new : CacheView) (id : T)
     → IsWalkOf way m input w → (w.stage ≡ Fresh → ⊥) → (w.stage ≡ Ended → ⊥) → IsHeldAt t w.stage h → h ≡ held.State (Some handle)
-    → Has new.store.table handle.state
+    → IsKnownState new.store.table handle.state
     → IsPutBackEffect {T = T} {E = E} handle.state old new (Ok id)
     → IsResumeEffect {T = T} way m input w.stage old new (Ok id)
 back_effect {T} {E} way m input t w h handle old new id (k, reported) fresh on at is has e = go w.stage reported fresh on at where
@@ -307,10 +307,10 @@ back_effect {T} {E} way m input t w h handle old new id (k, reported) fresh on a
   resumed q back = look (id_of old.store.table q) refl where
     look : (o : Option ℕ) → id_of old.store.table q ≡ o → IsResumed way m input (At q) old.store new.store
     look (Some n) named =
-        let has : Has old.store.table q = record { id = n; named = named } in
+        let has : IsKnownState old.store.table q = record { id = n; named = named } in
         inl (has, ap (λ (v : CacheView). v.store) (back.there has).0)
     look None none =
-        let lacks : Has old.store.table q → ⊥ = λ had. none_some (sym none ∙ had.named) in
+        let lacks : IsKnownState old.store.table q → ⊥ = λ had. none_some (sym none ∙ had.named) in
         inr (lacks, (back.again lacks).1)
 
   go :
@@ -328,7 +328,7 @@ back_effect {T} {E} way m input t w h handle old new id (k, reported) fresh on a
         known = λ knows. ((back.there (knows reported.may)).0, tt);
         put_back = λ p here lacks. (
             let one : q ≡ p = ap (at_state q) here in
-            (subst (λ (x : Powerset). IsPutBack x old new) one (back.again (λ has. lacks (subst (λ (x : Powerset). Has old.store.table x) one has))), tt));
+            (subst (λ (x : Powerset). IsPutBack x old new) one (back.again (λ has. lacks (subst (λ (x : Powerset). IsKnownState old.store.table x) one has))), tt));
         resumed = resumed q back;
         err = tt;
       }

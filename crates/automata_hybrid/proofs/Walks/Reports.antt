@@ -12,8 +12,8 @@ use Rattle.automata_base.specs.Haystacks.Tapes.{Direction, is_split}
 use Rattle.automata_base.specs.Retraced.Passes.{pairs_reported}
 use Rattle.automata_hybrid.specs.Machines.Machine.{Machine}
 use Rattle.automata_hybrid.specs.Searches.Passes.{HasReadNoQuit, Skips, state_in, tape_in}
-use Rattle.automata_hybrid.specs.Walks.Answers.{AreWalked, Finishes, HasReportedBy, IsSilent, WalkMeetsNoQuit, WalkReads}
-use Rattle.automata_hybrid.specs.Walks.Answers.{half_nth, pairs_in}
+use Rattle.automata_hybrid.specs.Walks.Answers.{AreWalked, Finishes, HasReportedBy, IsSilent, WalkMeetsNoQuit}
+use Rattle.automata_hybrid.specs.Walks.Answers.{half_nth, pairs_reported_in}
 use Rattle.automata_hybrid.proofs.Searches.PassState.{dead_more}
 use Rattle.std.proofs.lemmas.Bool.{cases_lt}
 
@@ -60,7 +60,7 @@ module _ (way : Direction) (m : Machine) (input : Input) where
   abbrev pub at : ℕ → List ℕ
   at i = (state_in way m input (suc i)).patterns
 
-  pairs_more : (i : ℕ) → pairs_in way m input (suc i) ≡ pairs_in way m input i ++ at_place i (at i)
+  pairs_more : (i : ℕ) → pairs_reported_in way m input (suc i) ≡ pairs_reported_in way m input i ++ at_place i (at i)
   unfolding pairs_reported
   pairs_more i = refl
 
@@ -68,42 +68,42 @@ module _ (way : Direction) (m : Machine) (input : Input) where
   pub reported_more :
       (i : ℕ) (pairs : List Pair)
       → (Skips m → is_split input.haystack (offset_in way input i) ≡ false)
-      → AreUnsplit (Skips m) way input (pairs_in way m input i) pairs
-      → AreUnsplit (Skips m) way input (pairs_in way m input (suc i)) (pairs ++ at_place (offset_in way input i) (at i))
+      → AreUnsplit (Skips m) way input (pairs_reported_in way m input i) pairs
+      → AreUnsplit (Skips m) way input (pairs_reported_in way m input (suc i)) (pairs ++ at_place (offset_in way input i) (at i))
   reported_more i pairs free (inl (s, e)) = inl (
     s,
     sym (ap (λ (zs : List Pair). without_split input.haystack (with_offsets way input zs)) (pairs_more i)
-        ∙ (ap (without_split input.haystack) (offsets_join way input (pairs_in way m input i) (at_place i (at i)))
-        ∙ (unsplit_join input.haystack (with_offsets way input (pairs_in way m input i)) (with_offsets way input (at_place i (at i)))
+        ∙ (ap (without_split input.haystack) (offsets_join way input (pairs_reported_in way m input i) (at_place i (at i)))
+        ∙ (unsplit_join input.haystack (with_offsets way input (pairs_reported_in way m input i)) (with_offsets way input (at_place i (at i)))
         ∙ ap₂ (λ (xs ys : List Pair). xs ++ ys) (sym e)
         (ap (without_split input.haystack) (place_offsets way input i (at i)) ∙ place_unsplit input.haystack (offset_in way input i) (at i) (free s))))),
   )
   reported_more i pairs free (inr (n, e)) = inr (
     n,
     sym (ap (with_offsets way input) (pairs_more i)
-        ∙ (offsets_join way input (pairs_in way m input i) (at_place i (at i)) ∙ ap₂ (λ (xs ys : List Pair). xs ++ ys) (sym e) (place_offsets way input i (at i)))),
+        ∙ (offsets_join way input (pairs_reported_in way m input i) (at_place i (at i)) ∙ ap₂ (λ (xs ys : List Pair). xs ++ ys) (sym e) (place_offsets way input i (at i)))),
   )
 
   -- at a place that is skipped
   reported_skipped :
       (i : ℕ) (pairs : List Pair)
       → Skips m → is_split input.haystack (offset_in way input i) ≡ true
-      → AreUnsplit (Skips m) way input (pairs_in way m input i) pairs → AreUnsplit (Skips m) way input (pairs_in way m input (suc i)) pairs
+      → AreUnsplit (Skips m) way input (pairs_reported_in way m input i) pairs → AreUnsplit (Skips m) way input (pairs_reported_in way m input (suc i)) pairs
   reported_skipped i pairs skips split (inr (n, e)) = absurd (n skips)
   reported_skipped i pairs skips split (inl (s, e)) = inl (
     s,
     sym (ap (λ (zs : List Pair). without_split input.haystack (with_offsets way input zs)) (pairs_more i)
-        ∙ (ap (without_split input.haystack) (offsets_join way input (pairs_in way m input i) (at_place i (at i)))
-        ∙ (unsplit_join input.haystack (with_offsets way input (pairs_in way m input i)) (with_offsets way input (at_place i (at i)))
+        ∙ (ap (without_split input.haystack) (offsets_join way input (pairs_reported_in way m input i) (at_place i (at i)))
+        ∙ (unsplit_join input.haystack (with_offsets way input (pairs_reported_in way m input i)) (with_offsets way input (at_place i (at i)))
         ∙ (ap₂ (λ (xs ys : List Pair). xs ++ ys) (sym e)
         (ap (without_split input.haystack) (place_offsets way input i (at i)) ∙ place_split input.haystack (offset_in way input i) (at i) split)
         ∙ join_none pairs)))),
   )
 
   -- a state without patterns
-  pairs_none : (i : ℕ) → at i ≡ [] → pairs_in way m input (suc i) ≡ pairs_in way m input i
+  pairs_none : (i : ℕ) → at i ≡ [] → pairs_reported_in way m input (suc i) ≡ pairs_reported_in way m input i
   pairs_none i e =
-      pairs_more i ∙ (ap (λ ps. pairs_in way m input i ++ at_place i ps) e ∙ join_none (pairs_in way m input i))
+      pairs_more i ∙ (ap (λ ps. pairs_reported_in way m input i ++ at_place i ps) e ∙ join_none (pairs_reported_in way m input i))
 
   pub silent_none : (i : ℕ) → at i ≡ [] → IsSilent way m input i (suc i)
   silent_none i e k t =
@@ -144,6 +144,13 @@ module _ (way : Direction) (m : Machine) (input : Input) where
         let same : j ≡ k = omega (arith, l, more) in
         here byte (ap (next (tape_in way input)) (sym same) ∙ e)
 
+  -- a walk that dies has met no quit byte, if it met none before
+  dead_clean : (n : ℕ) → HasReadNoQuit way m input n → state_in way m input n ≡ dead → WalkMeetsNoQuit way m input
+  dead_clean n clean e j byte r h = go (cases_lt j n) where
+    go : (j < n) ⊎ (n ≤ j) → is_quit m.quits byte ≡ false
+    go (inl less) = clean j byte less h
+    go (inr more) = absurd (r.1 (dead_more way m input n j more e))
+
   -- a walk that dies, or whose units are all read, has ended
   pub finish_dead :
       (from k units : ℕ)
@@ -152,33 +159,23 @@ module _ (way : Direction) (m : Machine) (input : Input) where
   finish_dead from k units f l u clean e silent =
       record {
         more = omega (arith, f, u);
-        clean = λ j byte r h. go j byte r h (cases_lt j (suc k));
+        clean = dead_clean (suc k) clean e;
         silent =
             silent_trans from k (suc (length (tape_in way input).bytes)) silent
             (silent_trans k (suc k) (suc (length (tape_in way input).bytes)) (silent_none k (ap (λ (q : Powerset). q.patterns) e))
             (silent_dead (suc k) (suc (length (tape_in way input).bytes)) (omega (arith, l)) e));
         stops = λ j l r. r.1 (dead_more way m input (suc k) j (omega (arith, l, u)) e);
-      } where
-        go :
-            (j byte : ℕ) → WalkReads way m input j → next (tape_in way input) j ≡ Some byte → (j < suc k) ⊎ (suc k ≤ j)
-            → is_quit m.quits byte ≡ false
-        go j byte r h (inl less) = clean j byte less h
-        go j byte r h (inr more) = absurd (r.1 (dead_more way m input (suc k) j more e))
+      }
 
   pub finish_start :
       (k : ℕ) → k ≤ suc (length (tape_in way input).bytes) → HasReadNoQuit way m input k → state_in way m input k ≡ dead → Finishes way m input k k
   finish_start k l clean e =
       record {
         more = omega arith;
-        clean = λ j byte r h. go j byte r h (cases_lt j k);
+        clean = dead_clean k clean e;
         silent = silent_dead k (suc (length (tape_in way input).bytes)) l e;
         stops = λ j l r. r.1 (dead_more way m input k j l e);
-      } where
-        go :
-            (j byte : ℕ) → WalkReads way m input j → next (tape_in way input) j ≡ Some byte → (j < k) ⊎ (k ≤ j)
-            → is_quit m.quits byte ≡ false
-        go j byte r h (inl less) = clean j byte less h
-        go j byte r h (inr more) = absurd (r.1 (dead_more way m input k j more e))
+      }
 
   pub finish_all :
       (k : ℕ) → k ≡ suc (length (tape_in way input).bytes) → HasReadNoQuit way m input k → WalkMeetsNoQuit way m input
@@ -214,20 +211,20 @@ module _ (way : Direction) (m : Machine) (input : Input) where
   join_twice [] ys zs = refl
   join_twice (x ∷ xs) ys zs = ap (λ (ws : List Pair). x ∷ ws) (join_twice xs ys zs)
 
-  pairs_begin : (i n : ℕ) → i ≤ n → Begins (pairs_in way m input i) (pairs_in way m input n)
+  pairs_begin : (i n : ℕ) → i ≤ n → Begins (pairs_reported_in way m input i) (pairs_reported_in way m input n)
   pairs_begin i zero l =
       let z : i ≡ 0 = omega (arith, l) in
-      record { rest = []; joined = ap (pairs_in way m input) (sym z) ∙ sym (join_none (pairs_in way m input i)) }
+      record { rest = []; joined = ap (pairs_reported_in way m input) (sym z) ∙ sym (join_none (pairs_reported_in way m input i)) }
   pairs_begin i (suc n) l = go (λ more. pairs_begin i n more) (eq-or-lt_of_le l) where
     go :
-        (i ≤ n → Begins (pairs_in way m input i) (pairs_in way m input n)) → (i ≡ suc n) ⊎ (i < suc n)
-        → Begins (pairs_in way m input i) (pairs_in way m input (suc n))
-    go again (inl same) = record { rest = []; joined = ap (pairs_in way m input) (sym same) ∙ sym (join_none (pairs_in way m input i)) }
+        (i ≤ n → Begins (pairs_reported_in way m input i) (pairs_reported_in way m input n)) → (i ≡ suc n) ⊎ (i < suc n)
+        → Begins (pairs_reported_in way m input i) (pairs_reported_in way m input (suc n))
+    go again (inl same) = record { rest = []; joined = ap (pairs_reported_in way m input) (sym same) ∙ sym (join_none (pairs_reported_in way m input i)) }
     go again (inr less) =
-        let b : Begins (pairs_in way m input i) (pairs_in way m input n) = again (omega (arith, less)) in
+        let b : Begins (pairs_reported_in way m input i) (pairs_reported_in way m input n) = again (omega (arith, less)) in
         record {
           rest = b.rest ++ at_place n (at n);
-          joined = pairs_more n ∙ (ap (λ (zs : List Pair). zs ++ at_place n (at n)) b.joined ∙ join_twice (pairs_in way m input i) b.rest (at_place n (at n)));
+          joined = pairs_more n ∙ (ap (λ (zs : List Pair). zs ++ at_place n (at n)) b.joined ∙ join_twice (pairs_reported_in way m input i) b.rest (at_place n (at n)));
         }
 
   unsplit_begin :
@@ -255,22 +252,22 @@ module _ (way : Direction) (m : Machine) (input : Input) where
   pub walked_begin :
       (i : ℕ) (a b : List Pair)
       → input.start ≤ input.end → i ≤ suc (length (tape_in way input).bytes)
-      → AreUnsplit (Skips m) way input (pairs_in way m input i) a → AreWalked way m input b → Begins a b
+      → AreUnsplit (Skips m) way input (pairs_reported_in way m input i) a → AreWalked way m input b → Begins a b
   walked_begin i a b s l u (inl (done, e)) = absurd (omega (arith, s, done))
   walked_begin i a b s l u (inr (undone, (pairs, reported, v))) =
-      unsplit_begin (pairs_in way m input i) pairs a b
-      (subst (λ (zs : List Pair). Begins (pairs_in way m input i) zs) (sym reported) (pairs_begin i (suc (length (tape_in way input).bytes)) l)) u v
+      unsplit_begin (pairs_reported_in way m input i) pairs a b
+      (subst (λ (zs : List Pair). Begins (pairs_reported_in way m input i) zs) (sym reported) (pairs_begin i (suc (length (tape_in way input).bytes)) l)) u v
 
   -- what all units report is the whole list
   pub walked_all :
       (a : List Pair) → input.start ≤ input.end
-      → AreUnsplit (Skips m) way input (pairs_in way m input (suc (length (tape_in way input).bytes))) a → AreWalked way m input a
-  walked_all a s u = inr (s, (pairs_in way m input (suc (length (tape_in way input).bytes)), refl, u))
+      → AreUnsplit (Skips m) way input (pairs_reported_in way m input (suc (length (tape_in way input).bytes))) a → AreWalked way m input a
+  walked_all a s u = inr (s, (pairs_reported_in way m input (suc (length (tape_in way input).bytes)), refl, u))
 
   -- more units report no fewer pairs
   pub reported_rises : (i n a b : ℕ) → i ≤ n → HasReportedBy way m input i a → HasReportedBy way m input n b → a ≤ b
   reported_rises i n a b l t u =
-      let more : Begins t.pairs u.pairs = unsplit_begin (pairs_in way m input i) (pairs_in way m input n) t.pairs u.pairs (pairs_begin i n l) t.unsplit u.unsplit in
+      let more : Begins t.pairs u.pairs = unsplit_begin (pairs_reported_in way m input i) (pairs_reported_in way m input n) t.pairs u.pairs (pairs_begin i n l) t.unsplit u.unsplit in
       let long : length u.pairs ≡ length t.pairs + length more.rest = ap (λ (zs : List Pair). length zs) more.joined ∙ length-append t.pairs more.rest in
       omega (arith, long, t.count, u.count)
 

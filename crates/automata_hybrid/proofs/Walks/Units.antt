@@ -11,11 +11,11 @@ use Rattle.automata_hybrid.specs.Cache.Growth.{ClearedNothing, IsGrown}
 use Rattle.automata_hybrid.specs.Walks.Cached.{HasLearnedUnits, IsToRead, KnowsItsState, KnowsUnits, KnowsWalk}
 use Rattle.automata_hybrid.specs.Machines.Machine.{Machine}
 use Rattle.automata_hybrid.specs.Walks.Contracts.{IsCallEffect}
-use Rattle.automata_hybrid.specs.Cache.Progress.{finished, started}
+use Rattle.automata_hybrid.specs.Cache.Progress.{progress_finished, progress_started}
 use Rattle.automata_hybrid.specs.Walks.Parts.{IsAdvanceEffect, IsCallRefused, IsResumeAnswer, IsResumeEffect}
 use Rattle.automata_hybrid.specs.Searches.Progress.{AreUnitsRead, HasEndedAfter, with_search_begun}
 use Rattle.automata_hybrid.specs.Walks.Progress.{IsCallStopped}
-use Rattle.automata_hybrid.specs.Searches.Passes.{HasReadNoQuit, Skips, given_up_offset, state_in}
+use Rattle.automata_hybrid.specs.Searches.Passes.{HasReadNoQuit, Skips, given_up_offset, state_in, tape_in}
 use Rattle.automata_hybrid.specs.Cache.Stores.{Stored, with_searched}
 use Rattle.automata_hybrid.specs.Walks.Answers.{Arrives, HasItsState, HasReported, HasReportedBy, IsArrival, IsSilent, IsUnheld}
 use Rattle.automata_hybrid.specs.Walks.Answers.{IsWalkOf, WalkReads, start_count}
@@ -29,13 +29,15 @@ use Rattle.automata_hybrid.proofs.Walks.Parts.{refused_on}
 use Rattle.automata_hybrid.proofs.Walks.Progress.{reads_some, walk_reads_before}
 use Rattle.automata_hybrid.proofs.Searches.UnitsRead.{ended_here}
 use Rattle.automata_hybrid.proofs.Walks.Calls.{reported_here, walk_clears_none}
+use Rattle.automata_hybrid.proofs.Steps.Steps.{unit_no_quit}
+use Rattle.automata_base.specs.Paths.Paths.{next as unit_at}
 
 -- a walk was gone on with from an ID, a search began at its first unit, and it came to where it reports patterns, or to its end
 module _ (way : Direction) (m : Machine) (input : Input) (w : Walk) (from : ℕ) (old between begun mid : CacheView)
     (inside : input.end ≤ length input.haystack) (skips : Skips m ⊎ (Skips m → ⊥)) (reported : IsWalkOf way m input w) (r : IsToRead input w.stage w.units w.reported)
     (e : IsResumeEffect {T = ℕ} way m input w.stage old between (Ok from))
     (resumes : IsResumeAnswer way m input w between.store from)
-    (begins : begun ≡ with_store between (with_searched between.store (started between.store.searched (given_up_offset way input w.units))))
+    (begins : begun ≡ with_store between (with_searched between.store (progress_started between.store.searched (given_up_offset way input w.units))))
     (arrival : Arrival) (a : IsAdvanceEffect way m input w.units begun mid (Ok arrival))
     (arrives : IsArrival way m mid.store.table input w.units arrival.id arrival.units) where
   counts : begun.count ≡ between.count
@@ -97,7 +99,7 @@ module _ (way : Direction) (m : Machine) (input : Input) (w : Walk) (from : ℕ)
   -- and the search ended at the last unit that was read
   module _ (keeping : Keeping) (next : Walk) (new : CacheView) (at : ℕ) (units : next.units ≡ arrival.units)
       (place : at ≡ given_up_offset way input (arrival.units - 1))
-      (ends : new ≡ with_store mid (with_searched mid.store (finished mid.store.searched at)))
+      (ends : new ≡ with_store mid (with_searched mid.store (progress_finished mid.store.searched at)))
       (stops : next.stage ≡ Ended → (next.found ≡ None) × (WalkReads way m input arrival.units → ⊥)) where
     ended_count : new.count ≡ mid.count
     ended_count = ap (λ (v : CacheView). v.count) ends
@@ -165,7 +167,7 @@ module _ (way : Direction) (m : Machine) (input : Input) (w : Walk) (from : ℕ)
 
     unheld_on : IsUnheld way m input (w.units + last.0) search.OutOfMemory
     unheld_on = record {
-      clean = λ byte unit. arrived.clean (w.units + last.0) byte (omega (arith, last.1)) unit;
+      clean = unit_no_quit m (unit_at (tape_in way input) (w.units + last.0)) (λ byte unit. arrived.clean (w.units + last.0) byte (omega (arith, last.1)) unit);
       reports = subst (λ n. 0 < length (state_in way m input n).patterns) last.1 (arrived.reports (state_in way m input arrival.units) arrived.named);
       unskipped = subst (λ n. Skips m → is_split input.haystack (offset_in way input n) ≡ false) same_place arrived.unskipped;
       memory = refl;

@@ -1,8 +1,8 @@
 -- What contracts see of a cache, and which DFA it belongs to.
 use Rattle.std.specs.Prelude.{◌≡◌, ℕ, ◌+◌, ◌⊎◌}
-use Rattle.automata_hybrid.specs.Cache.Ids.{unknown_id, dead_id, quit_id}
+use Rattle.automata_hybrid.specs.Cache.Ids.{dead_id, quit_id}
 use Rattle.automata_hybrid.specs.Machines.Machine.{Machine, table_stride}
-use Rattle.automata_hybrid.specs.Cache.Table.{Rows, IsValid}
+use Rattle.automata_hybrid.specs.Cache.Table.{IsRowId}
 use Rattle.automata_hybrid.specs.Cache.Stores.{Stored, fresh_store}
 
 -- what contracts see of a cache: its states, and how often it determinized
@@ -26,10 +26,8 @@ counted c = record { store = c.store; count = c.count + 1 }
 abbrev pub with_store : CacheView → Stored → CacheView
 with_store c s = record { store = s; count = c.count }
 
--- an ID of a row but the unknown one
-abbrev pub HasRow : Rows → ℕ → Type 0
-HasRow t id = (id ≡ dead_id (table_stride t.of)) ⊎ ((id ≡ quit_id (table_stride t.of)) ⊎ IsValid t id)
-
--- some row has exactly this ID, tags included
-abbrev pub IsRow : Rows → ℕ → Type 0
-IsRow t id = (id ≡ unknown_id) ⊎ HasRow t id
+-- the cache has a row of exactly this ID, so that a step may be taken from it: that of dead, of quit, or of a state
+abbrev pub HoldsRow : CacheView → (id : ℕ) → Type 0
+HoldsRow c id =
+    (id ≡ dead_id (table_stride c.store.table.of))
+    ⊎ ((id ≡ quit_id (table_stride c.store.table.of)) ⊎ IsRowId c.store.table id)

@@ -2,14 +2,15 @@
 use Rattle.std.specs.Prelude.{◌≡◌, ℕ, zero, suc, ◌<◌, ◌⊎◌, false, Option, None, Some, length}
 use Rattle.automata_base.specs.Powersets.Powerset.{Powerset, cost}
 use Rattle.automata_hybrid.specs.declared.dfa.row.Row.{Row}
-use Rattle.automata_hybrid.specs.Cache.Table.{Rows, Leads, Lacks, Has, with_row, Names}
+use Rattle.automata_hybrid.specs.Cache.Table.{Rows, Leads, Lacks, IsKnownState, with_row, Names}
 use Rattle.automata_hybrid.specs.Cache.Clears.{put, row_of}
 use Rattle.automata_hybrid.specs.Cache.Stores.{Stored, IsKnownStart, IsKnownTransition, KeepsStarts}
 use Rattle.automata_hybrid.specs.Cache.Stores.{with_next, with_searched, with_start, with_table}
-use Rattle.automata_hybrid.specs.Machines.Machine.{IsReached, Machine, next_of, slot_count, start_of, table_stride}
+use Rattle.automata_hybrid.specs.Machines.Machine.{IsReachable, next_of, slot_count, start_of, table_stride}
 use Rattle.automata_hybrid.specs.Cache.Usage.{Fits, cleared, refuses_to_clear}
 use Rattle.automata_config.specs.Options.{specialize_start_states_of}
 
+-- with the row that was found put back
 abbrev pub put_found : Rows → Option Row → Rows
 put_found t None = t
 put_found t (Some r) = put t r
@@ -22,52 +23,21 @@ grown c r = with_table c (with_row c.table r)
 abbrev pub cleared_saving : Stored → ℕ → Stored
 cleared_saving c id = with_table (cleared c) (put_found (cleared c).table (row_of c.table id))
 
--- what adding a state that is absent does: it grows where the state fits, and else clears first, which the clear rule
--- allows, and saves a row
-abbrev pub IsAdded : Stored → ℕ → Row → Stored → Type 0
-IsAdded old from r new =
+-- what adding a state that is absent does: the cache grows if the state fits, and else it is cleared first, if the
+-- clear rule allows that; this is what the clear leaves
+abbrev pub IsStateAdded : (old emptied : Stored) → Row → Stored → Type 0
+IsStateAdded old emptied r new =
     (Fits old (cost r.state) × (new ≡ grown old r))
-    ⊎ ((Fits old (cost r.state) → ⊥) × (refuses_to_clear old ≡ false) × (new ≡ grown (cleared_saving old from) r))
+    ⊎ ((Fits old (cost r.state) → ⊥) × (refuses_to_clear old ≡ false) × (new ≡ grown emptied r))
 
--- what adding a state that is absent returns, stepped to from a row: the ID of that row as it is now, and the new one
-pub record AddsNext (old new : Stored) (from : ℕ) (q : Powerset) (now next : ℕ) : Type 0 where
+-- what adding a state that is absent returns: its ID
+pub record AddsRow (old emptied new : Stored) (r : Row) (id : ℕ) : Type 0 where
   -- The cache grew, or was cleared first.
-  pub effect : IsAdded old from (record { state = q; started = false }) new
-  -- The row that was stepped from is there, and has this ID now.
-  pub saved : (p : Powerset) → Names old.table from p → Names new.table now p
-  -- The new ID names the state.
-  pub named : Names new.table next q
-  -- No other state was added.
-  pub only : (p : Powerset) → Has new.table p → Has old.table p ⊎ (p ≡ q)
-  -- Each start state that was cached is cached.
-  pub starts : KeepsStarts old.starts new.starts
-  -- The cache belongs to the same machine.
-  pub of : new.table.of ≡ old.table.of
-
--- the whole effect of computing a transition from a state to a target: it is written, at the row as it is after the
--- target was added, if no row had it
-abbrev pub IsComputed : Stored → (id class : ℕ) → (q target : Powerset) → Stored → ℕ → Type 0
-IsComputed old id class q target new next =
-    (Leads old.table next target × (new ≡ with_next old id class next))
-    ⊎ (Lacks old.table target × (from : ℕ) × (between : Stored)
-    × IsAdded old id (record { state = target; started = false }) between × Names between.table from q
-    × (new ≡ with_next between from class next))
-
--- what adding a start state that is absent does: it grows where the state fits, and else clears first, which the clear
--- rule allows
-abbrev pub IsAddedStart : Stored → Row → Stored → Type 0
-IsAddedStart old r new =
-    (Fits old (cost r.state) × (new ≡ grown old r))
-    ⊎ ((Fits old (cost r.state) → ⊥) × (refuses_to_clear old ≡ false) × (new ≡ grown (cleared old) r))
-
--- what adding a start state that is absent returns: its ID
-pub record AddsStart (old new : Stored) (r : Row) (id : ℕ) : Type 0 where
-  -- The cache grew, or was cleared first.
-  pub effect : IsAddedStart old r new
+  pub effect : IsStateAdded old emptied r new
   -- The ID names the state.
   pub named : Names new.table id r.state
   -- No other state was added.
-  pub only : (p : Powerset) → Has new.table p → Has old.table p ⊎ (p ≡ r.state)
+  pub only : (p : Powerset) → IsKnownState new.table p → IsKnownState old.table p ⊎ (p ≡ r.state)
   -- There are as many slots as before.
   pub slots : length new.starts ≡ length old.starts
   -- Each start state that was cached is cached.
@@ -75,11 +45,29 @@ pub record AddsStart (old new : Stored) (r : Row) (id : ℕ) : Type 0 where
   -- The cache belongs to the same machine.
   pub of : new.table.of ≡ old.table.of
 
+-- what adding a state that is absent returns, stepped to from a row: the ID of that row as it is now, and the new one
+pub record AddsNext (old new : Stored) (from : ℕ) (q : Powerset) (now next : ℕ) : Type 0 where
+  -- The state was added; a clear saves the row that was stepped from.
+  pub row : AddsRow old (cleared_saving old from) new (record { state = q; started = false }) next
+  -- That row is there, and has this ID now.
+  pub saved : (p : Powerset) → Names old.table from p → Names new.table now p
+
+-- the whole effect of computing a transition from a state to a target: it is written, at the row as it is after the
+-- target was added, if no row had it
+abbrev pub IsComputed : Stored → (id class : ℕ) → (q target : Powerset) → Stored → ℕ → Type 0
+IsComputed old id class q target new next =
+    (Leads old.table next target × (new ≡ with_next old id class next))
+    ⊎ (Lacks old.table target × (from : ℕ) × (between : Stored)
+    × IsStateAdded old (cleared_saving old id) (record { state = target; started = false }) between
+    × Names between.table from q
+    × (new ≡ with_next between from class next))
+
 -- the whole effect of computing a start: it is written, after its row was added, if no row had the state
 abbrev pub IsStarted : Stored → (slot : ℕ) → Row → Stored → ℕ → Type 0
 IsStarted old slot r new id =
     (Leads old.table id r.state × (new ≡ with_start old slot id))
-    ⊎ (Lacks old.table r.state × (between : Stored) × IsAddedStart old r between × (new ≡ with_start between slot id))
+    ⊎ (Lacks old.table r.state × (between : Stored) × IsStateAdded old (cleared old) r between
+    × (new ≡ with_start between slot id))
 
 -- a transition that was not cached is computed
 pub record IsStepChange (old new : Stored) : Type 0 where
@@ -92,24 +80,23 @@ pub record IsStepChange (old new : Stored) : Type 0 where
   pub next : ℕ
   pub computed : IsComputed old id class state (next_of old.table.of state class) new next
 
--- the row of the start state of a slot
-abbrev pub slot_row : Machine → ℕ → Row
-slot_row m slot = record { state = start_of m slot; started = specialize_start_states_of m.config }
-
 -- a start state that was not cached is computed
 pub record IsStartChange (old new : Stored) : Type 0 where
   pub slot : ℕ
   pub within : slot < slot_count old.table.of
   pub unknown : IsKnownStart old slot → ⊥
   pub id : ℕ
-  pub started : IsStarted old slot (slot_row old.table.of slot) new id
+  -- Its row has the start tag if the settings specialize start states.
+  pub started :
+      IsStarted old slot
+      (record { state = start_of old.table.of slot; started = specialize_start_states_of old.table.of.config }) new id
 
 -- a state that the cache lacks, as after a clear, is put back without the start tag
 pub record IsBackChange (old new : Stored) : Type 0 where
   pub state : Powerset
   pub lacks : Lacks old.table state
-  pub reached : IsReached old.table.of state
-  pub added : IsAddedStart old (record { state = state; started = false }) new
+  pub reached : IsReachable old.table.of state
+  pub added : IsStateAdded old (cleared old) (record { state = state; started = false }) new
 
 -- a step, a start state, or a state that is put back; one that fails changes nothing
 abbrev pub IsOneChange : Stored → Stored → Type 0

@@ -1,6 +1,6 @@
 -- What a clear keeps: the start states, each with its slots.
 use Rattle.std.specs.Prelude.{◌≡◌, ℕ, ◌+◌, ◌-◌, ◌/◌, ◌%◌, ◌<◌, ◌≤◌, List, [], ◌∷◌, ◌++◌, length, cond, Option}
-use Rattle.std.specs.Prelude.{None, Some, slice_get, slice_index, nat_le}
+use Rattle.std.specs.Prelude.{None, Some, is_some, slice_get, slice_index, nat_le, unwrap_or}
 use Rattle.automata_base.specs.Powersets.Powerset.{Powerset}
 use Rattle.automata_hybrid.specs.declared.dfa.row.Row.{Row}
 use Rattle.automata_hybrid.specs.Machines.Machine.{start_of, table_stride}
@@ -16,28 +16,21 @@ AllStarts t starts = (slot id : ℕ) → slice_get starts slot ≡ Some id → M
 abbrev pub row_of : Rows → ℕ → Option Row
 row_of t id = slice_get t.rows ((id % offset_limit) / table_stride t.of - 3)
 
-abbrev pub put_if : Option ℕ → Rows → Row → Rows
-put_if None t r = with_row t r
-put_if (Some id) t r = t
-
 -- with this row, unless its state has one
 abbrev pub put : Rows → Row → Rows
-put t r = put_if (id_of t r.state) t r
-
-abbrev pub or_unknown : Option ℕ → ℕ
-or_unknown None = unknown_id
-or_unknown (Some id) = id
+put t r = cond (is_some (id_of t r.state)) t (with_row t r)
 
 -- rows and slots while start states are kept
 pub record Kept : Type 0 where
   pub table : Rows
   pub starts : List ℕ
 
+-- the row that was found is put there, and its slot has its new ID
 abbrev pub keep_found : Option Row → Kept → Kept
 keep_found None k = k
 keep_found (Some r) k = record {
   table = put k.table r;
-  starts = k.starts ++ or_unknown (id_of (put k.table r) r.state) ∷ [];
+  starts = k.starts ++ unwrap_or (id_of (put k.table r) r.state) unknown_id ∷ [];
 }
 
 -- a slot that names a row: the row stays, and the slot has its new ID; another slot stays as it is

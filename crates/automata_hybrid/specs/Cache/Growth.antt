@@ -11,14 +11,14 @@ use Rattle.automata_hybrid.specs.Cache.Ids.{offset_limit, HasStartTag}
 use Rattle.automata_config.specs.Options.{specialize_start_states_of}
 use Rattle.automata_hybrid.specs.Machines.Machine.{greatest, slot_count, start_of, table_stride}
 use Rattle.automata_hybrid.specs.Cache.Progress.{progress_cleared}
-use Rattle.automata_hybrid.specs.Cache.Table.{IsValid, Names, Rows}
+use Rattle.automata_hybrid.specs.Cache.Table.{IsRowId, Names, Rows}
 
 -- nothing is lost: each row, each cached start state and each cached transition is as it was
 pub record Keeps (old new : Stored) : Type 0 where
   pub rows : (id : ℕ) (q : Powerset) → Names old.table id q → Names new.table id q
   pub starts : (slot : ℕ) → IsKnownStart old slot → slice_index new.starts slot ≡ slice_index old.starts slot
   pub cells :
-      (id class : ℕ) → IsValid old.table id → class < table_stride old.table.of → IsKnownTransition old id class
+      (id class : ℕ) → IsRowId old.table id → class < table_stride old.table.of → IsKnownTransition old id class
       → cell_of new id class ≡ cell_of old id class
 
 -- nothing was cleared between: the count of clears is the same, and below the greatest number, where it would stay

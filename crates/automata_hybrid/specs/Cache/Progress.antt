@@ -1,5 +1,5 @@
 -- The bytes searched, and the search in progress.
-use Rattle.std.specs.Prelude.{ℕ, ◌+◌, ◌-◌, ◌^◌, Option, None, Some, min}
+use Rattle.std.specs.Prelude.{ℕ, ◌+◌, ◌-◌, ◌^◌, Option, None, Some, min, option_map}
 use Rattle.automata_hybrid.specs.declared.dfa.progress.Progress.{Progress}
 use Rattle.automata_hybrid.specs.declared.dfa.progress.Searched.{Searched}
 
@@ -21,25 +21,23 @@ abbrev pub total_len : Searched → ℕ
 total_len s = with_open s.running s.bytes
 
 -- a search is begun at an offset; one that was open has ended where it was
-abbrev pub started : Searched → ℕ → Searched
-started s at = record { bytes = total_len s; running = Some (record { start = at; place = at }) }
-
-abbrev pub moved_to : Option Progress → ℕ → Option Progress
-moved_to None at = None
-moved_to (Some p) at = Some (record { start = p.start; place = at })
+abbrev pub progress_started : Searched → ℕ → Searched
+progress_started s at = record { bytes = total_len s; running = Some (record { start = at; place = at }) }
 
 -- the open search, if there is one, has come to an offset
-abbrev pub updated : Searched → ℕ → Searched
-updated s at = record { bytes = s.bytes; running = moved_to s.running at }
+abbrev pub progress_updated : Searched → ℕ → Searched
+progress_updated s at = record {
+  bytes = s.bytes;
+  running = option_map (λ (p : Progress). record { start = p.start; place = at }) s.running;
+}
 
 -- it has come to an offset and ended
-abbrev pub finished : Searched → ℕ → Searched
-finished s at = record { bytes = total_len (updated s at); running = None }
-
-abbrev pub from_place : Option Progress → Option Progress
-from_place None = None
-from_place (Some p) = Some (record { start = p.place; place = p.place })
+abbrev pub progress_finished : Searched → ℕ → Searched
+progress_finished s at = record { bytes = total_len (progress_updated s at); running = None }
 
 -- what a clear makes of it: nothing was searched, and an open search begins where it is
 abbrev pub progress_cleared : Searched → Searched
-progress_cleared s = record { bytes = 0; running = from_place s.running }
+progress_cleared s = record {
+  bytes = 0;
+  running = option_map (λ (p : Progress). record { start = p.place; place = p.place }) s.running;
+}

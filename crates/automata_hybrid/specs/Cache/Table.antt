@@ -23,6 +23,7 @@ has_patterns q = nat_lt 0 (length q.patterns)
 abbrev pub row_id : ℕ → Row → ℕ
 row_id at r = at + tags r.started (has_patterns r.state)
 
+-- the accounted bytes of a row's state
 abbrev pub row_cost : Row → ℕ
 row_cost r = cost r.state
 
@@ -64,7 +65,7 @@ TagsNewStates old new started =
     (q : Powerset) (id : ℕ) → id_of old q ≡ None → Names new id q → HasStartTag id ↔ (started ≡ true)
 
 -- some row has this state
-pub record Has (t : Rows) (q : Powerset) : Type 0 where
+pub record IsKnownState (t : Rows) (q : Powerset) : Type 0 where
   pub id : ℕ
   pub named : Names t id q
 
@@ -104,12 +105,7 @@ IsStepped t =
     (k class : ℕ) (r : Row) → slice_get t.rows k ≡ Some r → class < table_stride t.of
     → IsCell t r.state class (slice_index t.cells ((k + 3) * table_stride t.of + class))
 
--- each row is found by its state, so no two rows have one state
-abbrev pub IsDistinct : Rows → Type 0
-IsDistinct t =
-    (k : ℕ) (r : Row) → slice_get t.rows k ≡ Some r → Names t (row_id ((k + 3) * table_stride t.of) r) r.state
-
--- each row is found by its state, and stands below the limit of offsets
+-- each row is found by its state, so no two rows have one state, and stands below the limit of offsets
 abbrev pub HasRowIds : Rows → Type 0
 HasRowIds t =
     (k : ℕ) (r : Row) → slice_get t.rows k ≡ Some r
@@ -128,24 +124,12 @@ pub record AreRows (t : Rows) : Type 0 where
   pub small : length t.cells < offset_limit + table_stride t.of
   pub fixed : take (3 * table_stride t.of) t.cells ≡ fixed_rows (table_stride t.of)
   pub stepped : IsStepped t
-  pub distinct : IsDistinct t
+  pub ids : HasRowIds t
   pub alive : IsAlive t
-
--- the table, the states and the map fit each other
-pub record IsTable (t : Rows) (map : StateMap) (costs : ℕ) : Type 0 where
-  pub template : IsTemplate (table_stride t.of) (template_of t.of)
-  pub whole : length t.cells ≡ (length t.rows + 3) * table_stride t.of
-  pub small : length t.cells < offset_limit + table_stride t.of
-  pub fixed : take (3 * table_stride t.of) t.cells ≡ fixed_rows (table_stride t.of)
-  pub stepped : IsStepped t
-  pub distinct : IsDistinct t
-  pub alive : IsAlive t
-  pub mapped : (q : Powerset) → get powerset_eq map q ≡ id_of t q
-  pub costs_of : costs ≡ sum_by row_cost t.rows
 
 -- some row has exactly this ID
-abbrev pub IsValid : Rows → ℕ → Type 0
-IsValid t id = (q : Powerset) × Names t id q
+abbrev pub IsRowId : Rows → ℕ → Type 0
+IsRowId t id = (q : Powerset) × Names t id q
 
 -- the index of a cell in the list of all cells
 abbrev pub cell_at : ℕ → ℕ → ℕ
@@ -153,7 +137,7 @@ cell_at id class = id % offset_limit + class
 
 -- each row has a cell for each class
 abbrev pub HasCells : Rows → Type 0
-HasCells t = (id class : ℕ) → IsValid t id → class < table_stride t.of → cell_at id class < length t.cells
+HasCells t = (id class : ℕ) → IsRowId t id → class < table_stride t.of → cell_at id class < length t.cells
 
 -- IDs of rows have no high tag
 abbrev pub HasLowIds : Rows → Type 0
@@ -168,12 +152,11 @@ abbrev pub HasOwnStates : Rows → Type 0
 HasOwnStates t = (id : ℕ) (q : Powerset) → Names t id q → IsOwn t.of.nfa q
 
 -- what is true of the rows of each table
-pub record IsSound (t : Rows) : Type 0 where
+pub record IsSoundTable (t : Rows) : Type 0 where
   pub rows : AreRows t
   pub template : IsTemplate (table_stride t.of) (template_of t.of)
   -- The states cost no more than so many of the dearest.
   pub costs : sum_by row_cost t.rows ≤ length t.rows * greatest t.of
-  pub ids : HasRowIds t
   pub low : HasLowIds t
   pub tagged : (id : ℕ) → HasItsMatchTag t id
   pub alive : HasNoDeadRow t
@@ -197,8 +180,12 @@ pub record IsNewState (t : Rows) (q : Powerset) : Type 0 where
 abbrev pub with_cell : Rows → ℕ → ℕ → ℕ → Rows
 with_cell t id class next = record { of = t.of; cells = slice_set t.cells (cell_at id class) next; rows = t.rows }
 
--- the parts that a table holds are its machine's
+-- the parts of a table: its rows fit together, a new row and the length of each are its machine's, the map finds each
+-- state's row, and the costs are those of all states
 pub record IsHeld (t : Rows) (s : ℕ) (row : List ℕ) (map : StateMap) (costs : ℕ) : Type 0 where
-  pub table : IsTable t map costs
+  pub rows : AreRows t
+  pub cells : IsTemplate (table_stride t.of) (template_of t.of)
   pub stride : s ≡ table_stride t.of
   pub template : row ≡ template_of t.of
+  pub mapped : (q : Powerset) → get powerset_eq map q ≡ id_of t q
+  pub costs_of : costs ≡ sum_by row_cost t.rows

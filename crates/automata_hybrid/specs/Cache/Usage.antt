@@ -8,7 +8,7 @@ use Rattle.automata_base.specs.Powersets.Accounting.{row_size}
 use Rattle.automata_hybrid.specs.declared.dfa.settings.Settings.{Settings}
 use Rattle.automata_hybrid.specs.Cache.Ids.{offset_limit}
 use Rattle.automata_hybrid.specs.Machines.Machine.{Machine, greatest, table_stride, slot_count}
-use Rattle.automata_hybrid.specs.Cache.Table.{Rows, row_cost, Lacks}
+use Rattle.automata_hybrid.specs.Cache.Table.{row_cost, Lacks}
 use Rattle.automata_hybrid.specs.Cache.Clears.{AllStarts, KeepsAllStarts, kept}
 use Rattle.automata_hybrid.specs.Cache.Progress.{saturated, total_len, progress_cleared}
 use Rattle.automata_hybrid.specs.Cache.Stores.{Stored, settings_of}
@@ -16,14 +16,11 @@ use Rattle.automata_config.specs.Options.{minimum_cache_clear_count_of, minimum_
 
 -- the accounted bytes: those of the cells and of the slots, of the rows with the three fixed ones, and of their entries
 -- in the map, which has one of these three; the costs of all states, and the room for determinization
-abbrev pub usage_by : Rows → ℕ → ℕ → ℕ
-usage_by t slots fixed =
-    cell_size * length t.cells + cell_size * slots + row_size * (length t.rows + 3) + entry_size * (length t.rows + 1)
-    + fixed_rows_cost + sum_by row_cost t.rows + fixed
-
--- those of a cache
 abbrev pub usage : Stored → ℕ
-usage c = usage_by c.table (length c.starts) (fixed_cost c.table.of.nfa)
+usage c =
+    cell_size * length c.table.cells + cell_size * length c.starts + row_size * (length c.table.rows + 3)
+    + entry_size * (length c.table.rows + 1) + fixed_rows_cost + sum_by row_cost c.table.rows
+    + fixed_cost c.table.of.nfa
 
 -- what a new row takes beside the cost of its state: its cells, and its entries in the list and in the map
 abbrev pub row_usage : Machine → ℕ

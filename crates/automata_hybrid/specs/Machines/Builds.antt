@@ -10,8 +10,8 @@ use Rattle.automata_config.specs.Settling.{IsSettled}
 use Rattle.automata_hybrid.specs.Machines.Machine.{Machine}
 
 -- the machine of an automaton, its settings, and what was settled
-abbrev pub built : Options → Automaton → Settled → Machine
-built o a s = record {
+abbrev pub built_machine : Options → Automaton → Settled → Machine
+built_machine o a s = record {
   nfa = a;
   config = o;
   classes = s.classes;
@@ -21,7 +21,7 @@ built o a s = record {
 
 -- the machine is what settings make of an automaton
 abbrev pub Builds : Options → Automaton → Machine → Type 0
-Builds o a m = (s : Settled) × IsSettled o a s × (m ≡ built o a s)
+Builds o a m = (s : Settled) × IsSettled o a s × (m ≡ built_machine o a s)
 
 -- the automaton of one state, by the default flags, and these starts of its patterns
 abbrev pub one_state : State → List ℕ → Automaton

@@ -73,22 +73,22 @@ unfoldable pub template_of : Machine → List ℕ
 template_of m = marked m.classes m.quits (table_stride m) 256
 
 -- so many units, none a quit byte, lead to a state from the start state of some slot
-abbrev pub IsReachedBy : Machine → ℕ → Powerset → Type 0
-IsReachedBy m zero q = (slot : ℕ) × (slot < slot_count m) × (q ≡ start_of m slot)
-IsReachedBy m (suc units) q =
-    (before : Powerset) × (class : ℕ) × IsReachedBy m units before × (class < table_stride m)
+abbrev pub IsReachableBy : Machine → ℕ → Powerset → Type 0
+IsReachableBy m zero q = (slot : ℕ) × (slot < slot_count m) × (q ≡ start_of m slot)
+IsReachableBy m (suc units) q =
+    (before : Powerset) × (class : ℕ) × IsReachableBy m units before × (class < table_stride m)
     × (slice_index (template_of m) class ≡ unknown_id) × (q ≡ next_of m before class)
 
 -- a search can come to a state
-abbrev pub IsReached : Machine → Powerset → Type 0
-IsReached m q = ∥ ((units : ℕ) × IsReachedBy m units q) ∥₁
+abbrev pub IsReachable : Machine → Powerset → Type 0
+IsReachable m q = ∥ ((units : ℕ) × IsReachableBy m units q) ∥₁
 
 -- a state of a lazy DFA
 pub record IsStateOf (m : Machine) (q : Powerset) : Type 0 where
   -- It is made of what the automaton has.
   pub own : IsOwn m.nfa q
   -- A search can come to it.
-  pub reached : IsReached m q
+  pub reached : IsReachable m q
 
 -- the class of a unit that is no quit byte
 pub record IsClassOf (m : Machine) (class : ℕ) (unit : Option ℕ) : Type 0 where

@@ -1,8 +1,7 @@
 -- The start slots: one for each anchored mode and each kind of look-behind.
-use Rattle.std.specs.Prelude.{ℕ, suc, ◌+◌, ◌*◌, ◌<◌, Bool, true, Option, length}
+use Rattle.std.specs.Prelude.{ℕ, suc, ◌+◌, ◌*◌, Bool, true, Option}
 use Rattle.automata_base.specs.ByteClasses.LookBehind.{behind_of}
 use Rattle.automata_hybrid.specs.Machines.Machine.{Machine}
-use Rattle.automata_hybrid.specs.Cache.Stores.{Stored, IsKnownStart}
 use Rattle.automata_base.specs.declared.util.search.Anchored.{Anchored}
 use Rattle.automata_base.specs.declared.util.search.Anchored.TheVariants.{No, Yes, Pattern}
 use Rattle.automata_config.specs.Options.{starts_for_each_pattern_of}
@@ -26,7 +25,3 @@ abbrev pub supports : Machine → Anchored → Bool
 supports m No = true
 supports m Yes = true
 supports m (Pattern pattern) = starts_for_each_pattern_of m.config
-
--- there is such a slot, and its start state is cached
-abbrev pub HasStart : Stored → ℕ → Type 0
-HasStart c slot = (slot < length c.starts) × IsKnownStart c slot

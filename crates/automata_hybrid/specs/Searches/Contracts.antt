@@ -1,7 +1,6 @@
 -- What a search answers by its DFA and its input alone, whatever the cache, and what it makes of its cache.
 use Rattle.std.specs.Prelude.{ℕ, ◌≡◌, ◌<◌, ◌≤◌, length, true, false, Option, None, option_map, Result, Ok, Err, IfOk}
-use Rattle.std.specs.Prelude.{IfErr}
-use Rattle.std.specs.Prelude.{IfSome, OnOk}
+use Rattle.std.specs.Prelude.{IfErr, IfSome, OnOk}
 use Rattle.automata_base.specs.Answers.Answers.{Half, IsAnswer}
 use Rattle.automata_base.specs.Nfas.Engines.{engine_of}
 use Rattle.automata_base.specs.Haystacks.Input.{Input}
@@ -56,6 +55,7 @@ pub record IsUnsupported (way : Direction) (m : Machine) (input : Input) : Type 
   pub behind : quit_behind m (tape_in way input).before ≡ None
   pub mode : supports m input.anchored ≡ false
 
+-- the error that reports it
 abbrev pub unsupported_error : Input → SearchError
 unsupported_error input = search.Match (UnsupportedMode input.anchored)
 

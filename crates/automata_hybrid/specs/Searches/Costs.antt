@@ -1,6 +1,6 @@
 -- How often searches determinize, and when they clear nothing.
 use Rattle.std.specs.Prelude.{ℕ, zero, suc, ◌≡◌, ◌+◌, ◌-◌, ◌*◌, ◌<◌, ◌≤◌}
-use Rattle.automata_base.specs.Answers.Answers.{Tries, later}
+use Rattle.automata_base.specs.Answers.Answers.{later}
 use Rattle.automata_base.specs.Haystacks.Input.{Input}
 use Rattle.automata_base.specs.Haystacks.Tapes.{Direction, Forward}
 use Rattle.automata_base.specs.declared.util.search.Anchored.TheVariants.{No}
@@ -8,7 +8,8 @@ use Rattle.automata_hybrid.specs.Cache.Caches.{CacheView}
 use Rattle.automata_hybrid.specs.Cache.Growth.{HasRoom}
 use Rattle.automata_hybrid.specs.Searches.Cached.{KnowsItsStart}
 use Rattle.automata_hybrid.specs.Machines.Machine.{Machine}
-use Rattle.automata_hybrid.specs.Searches.Passes.{Finds, Skips}
+use Rattle.automata_hybrid.specs.Searches.Passes.{Skips}
+use Rattle.automata_hybrid.specs.Searches.Progress.{TriesSpans}
 
 -- the most determinizations of so many passes, the first over so many bytes and each later one over one byte less: a
 -- pass determinizes at most once for each byte, for its start and at its end
@@ -35,7 +36,7 @@ AreCostsInTurn way m input (suc passes) old new =
 pub record IsCostOfPasses (way : Direction) (m : Machine) (input : Input) (passes : ℕ)
     (old new : CacheView) : Type 0 where
   -- each is over a span that the search tries
-  pub tried : (k : ℕ) → k < passes → Tries (Finds way m) (Skips m) way input k × (input.start + k ≤ input.end)
+  pub tried : TriesSpans way m input passes
   -- each costs what a pass over its span may; and so all of them together
   pub each : AreCostsInTurn way m input passes old new
   pub counted : new.count ≤ old.count + passes_most passes (input.end - input.start)

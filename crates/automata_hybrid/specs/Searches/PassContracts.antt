@@ -1,12 +1,13 @@
 -- What a pass answers, and what it makes of its cache: the whole of it, or from some unit on.
 use Rattle.std.specs.Prelude.{ℕ, List, Bool, suc, ◌≡◌, ◌+◌, ◌-◌, ◌<◌, ◌≤◌, true, Option, Result, Ok, IfErr, OnOk}
-use Rattle.automata_base.specs.Haystacks.Input.{Input}
+use Rattle.automata_base.specs.Haystacks.Input.{Input, IsAllowed}
 use Rattle.automata_base.specs.Haystacks.Matches.{HalfMatch}
 use Rattle.automata_base.specs.Haystacks.Tapes.{Direction}
 use Rattle.automata_base.specs.declared.util.search.Anchored.{Anchored}
+use Rattle.automata_base.specs.declared.util.search.Span.{Span}
 use Rattle.automata_base.specs.Paths.Paths.{next}
 use Rattle.automata_config.specs.declared.error.SearchError.{SearchError}
-use Rattle.automata_hybrid.specs.Cache.Caches.{CacheView}
+use Rattle.automata_hybrid.specs.Cache.Caches.{CacheView, IsCacheOf}
 use Rattle.automata_hybrid.specs.Cache.Growth.{ClearedNothing, IsGrown, IsStill}
 use Rattle.automata_hybrid.specs.Searches.Cached.{IsOfInput, KnowsItsStart, KnowsPass, KnowsUnit}
 use Rattle.automata_hybrid.specs.Machines.Machine.{Machine}
@@ -20,9 +21,16 @@ use Rattle.automata_hybrid.specs.Steps.Starts.{MayStart}
 use Rattle.automata_hybrid.specs.Cache.Table.{Rows}
 
 -- the input of these parts
-abbrev pub input_at : List ℕ → (start end : ℕ) → Anchored → (earliest : Bool) → Input
-input_at haystack start end anchored earliest =
-    record { haystack = haystack; start = start; end = end; anchored = anchored; earliest = earliest }
+abbrev pub input_at : List ℕ → Span → Anchored → (earliest : Bool) → Input
+input_at haystack span anchored earliest =
+    record { haystack = haystack; start = span.start; end = span.end; anchored = anchored; earliest = earliest }
+
+-- a search over an input that is made again of its parts may begin with a cache
+pub record MayBegin (m : Machine) (c : CacheView) (input : Input) : Type 0 where
+  -- The cache belongs to the DFA.
+  pub of : IsCacheOf c m
+  -- The span lies in the haystack.
+  pub allowed : IsAllowed input
 
 -- what a pass over the span of an input answers
 pub record IsPassAnswer (way : Direction) (m : Machine) (input : Input) (half : Option HalfMatch) : Type 0 where
@@ -82,6 +90,13 @@ pub record IsKnownUpto (way : Direction) (m : Machine) (c : Stored) (input : Inp
   pub at : IsUnderway way m c.table input k id found
   pub learned : HasLearned way m c input k
   pub known : (j : ℕ) → j < k → KnowsUnit way m c input j
+
+-- so has one over the span of an input that is made again of its parts
+pub record IsTakenUp (way : Direction) (m : Machine) (c : Stored) (input : Input) (k id : ℕ)
+    (found : Option HalfMatch) : Type 0 where
+  -- The span lies in the haystack.
+  pub allowed : IsAllowed input
+  pub upto : IsKnownUpto way m c input k id found
 
 -- cached transitions led a pass to its unit at place `k`, which it reads from a state that this ID names by a cached
 -- transition too, and it reads none after it: this is what it answers

@@ -1,11 +1,10 @@
 -- A pass under way: what the functions of a search keep from unit to unit.
-use Rattle.std.specs.Prelude.{ℕ, suc, ◌≡◌, ◌-◌, ◌<◌, ◌≤◌, List, [], ◌∷◌, true, false, Option, Some, None}
+use Rattle.std.specs.Prelude.{ℕ, suc, ◌≡◌, ◌+◌, ◌-◌, ◌^◌, ◌<◌, ◌≤◌, List, [], ◌∷◌, true, false, Option, Some, None}
 use Rattle.automata_base.specs.Answers.Answers.{offset_in}
 use Rattle.automata_base.specs.ByteClasses.Classes.{is_quit}
 use Rattle.automata_base.specs.Haystacks.Input.{Input}
 use Rattle.automata_base.specs.Haystacks.Matches.{HalfMatch}
 use Rattle.automata_base.specs.Paths.Paths.{next}
-use Rattle.automata_base.specs.Powersets.Powerset.{Powerset, dead}
 use Rattle.automata_base.specs.Paths.Selections.{Pair}
 use Rattle.automata_base.specs.Haystacks.Tapes.{Direction}
 use Rattle.automata_base.specs.Answers.OfPasses.{reported_over}
@@ -15,11 +14,11 @@ use Rattle.automata_config.specs.declared.error.StepError.TheVariants as step
 use Rattle.automata_config.specs.declared.error.SearchError.{SearchError}
 use Rattle.automata_config.specs.declared.error.SearchError.TheVariants as search
 use Rattle.automata_hybrid.specs.Machines.Machine.{Machine, table_stride}
-use Rattle.automata_hybrid.specs.Cache.Table.{Rows, Names, Leads}
+use Rattle.automata_hybrid.specs.Cache.Table.{Rows, Names}
 use Rattle.automata_hybrid.specs.Searches.Passes.{HasReadNoQuit, Reads, tape_in, state_in, reported_in}
 use Rattle.automata_hybrid.specs.Cache.Stores.{Stored}
 use Rattle.automata_hybrid.specs.Searches.Cached.{KnowsItsStart, KnowsUnit}
-use Rattle.automata_hybrid.specs.Cache.Ids.{HasOnly, IsRunTag, unknown_id, HasDeadTag}
+use Rattle.automata_hybrid.specs.Cache.Ids.{HasMatchTag, HasOnly, IsRunTag, unknown_id}
 use Rattle.automata_hybrid.specs.Steps.Steps.{known_step, unit_class}
 use Rattle.automata_config.specs.Options.{match_kind_of}
 
@@ -45,10 +44,6 @@ pub record IsAt (way : Direction) (m : Machine) (t : Rows) (input : Input) (k id
   pub nothing : input.earliest ≡ true → found ≡ None
   pub clean : HasReadNoQuit way m input k
 
--- an ID has the dead tag exactly if it leads to the dead state, which no row has
-abbrev pub IsDeadTagged : Rows → ℕ → Type 0
-IsDeadTagged t id = (q : Powerset) → Leads t id q → (HasDeadTag id → q ≡ dead) × ((HasDeadTag id → ⊥) → Names t id q)
-
 -- the error of a step, as a search reports it at an offset
 abbrev pub step_refusal : StepError → (at : ℕ) → SearchError
 step_refusal (step.Cache err) at = search.Match (GaveUp at)
@@ -59,29 +54,18 @@ abbrev pub HasLearnedUnit : Direction → Machine → Stored → Input → ℕ �
 HasLearnedUnit way m c input k =
     KnowsUnit way m c input k × (unit_class m (next (tape_in way input) k) < table_stride c.table.of)
 
--- the unit at place `k` is no quit byte, its transition is cached, and the state after it reports nothing
-pub record IsQuiet (way : Direction) (m : Machine) (c : Stored) (input : Input) (k : ℕ) : Type 0 where
+-- the unit at place `k` is no quit byte, and its cached transition leads to an ID that has this tag and no other
+pub record IsTaken (way : Direction) (m : Machine) (c : Stored) (input : Input) (tag k : ℕ) : Type 0 where
   pub clean : (byte : ℕ) → next (tape_in way input) k ≡ Some byte → is_quit m.quits byte ≡ false
   pub known : HasLearnedUnit way m c input k
-  pub silent : (state_in way m input (suc k)).patterns ≡ []
+  pub leads : (id : ℕ) × Names c.table id (state_in way m input (suc k)) × HasOnly tag id
 
--- cached transitions led a pass from its first `from` units on to this ID after its first `to`; none of them reported
--- anything
-pub record IsFollowed (way : Direction) (m : Machine) (c : Stored) (input : Input) (from to id : ℕ) : Type 0 where
+-- cached transitions led a pass from its first `from` units on to this ID after its first `to`, each of them to an ID
+-- that has this tag and no other: without a tag, none of them reported anything
+pub record IsFollowed (way : Direction) (m : Machine) (c : Stored) (input : Input) (tag from to id : ℕ) : Type 0 where
   pub more : from ≤ to
   pub named : Names c.table id (state_in way m input to)
-  pub quiet : (k : ℕ) → from ≤ k → k < to → IsQuiet way m c input k
-
--- the unit at place `k` is no quit byte, and its transition is cached
-pub record IsTaken (way : Direction) (m : Machine) (c : Stored) (input : Input) (k : ℕ) : Type 0 where
-  pub clean : (byte : ℕ) → next (tape_in way input) k ≡ Some byte → is_quit m.quits byte ≡ false
-  pub known : HasLearnedUnit way m c input k
-
--- cached transitions led a pass from its first `from` units on, to this ID after its first `to`, whatever they reported
-pub record IsLed (way : Direction) (m : Machine) (c : Stored) (input : Input) (from to id : ℕ) : Type 0 where
-  pub more : from ≤ to
-  pub named : Names c.table id (state_in way m input to)
-  pub taken : (k : ℕ) → from ≤ k → k < to → IsTaken way m c input k
+  pub taken : (k : ℕ) → from ≤ k → k < to → IsTaken way m c input tag k
 
 -- a pass has read `k` units: the ID names its state there, and has this tag, none or that of a match, and no other
 pub record IsTagAt (way : Direction) (m : Machine) (t : Rows) (input : Input) (tag k id : ℕ) : Type 0 where
@@ -89,17 +73,33 @@ pub record IsTagAt (way : Direction) (m : Machine) (t : Rows) (input : Input) (t
   pub only : HasOnly tag id
   pub named : Names t id (state_in way m input k)
 
--- cached transitions led a pass so, between IDs that have this tag and no other: without a tag, none of them reported
--- anything
+-- they led it so from an ID that has this tag and no other
 pub record IsRun (way : Direction) (m : Machine) (c : Stored) (input : Input) (tag from to id : ℕ) : Type 0 where
-  pub led : IsLed way m c input from to id
-  pub quiet : tag ≡ 0 → IsFollowed way m c input from to id
+  pub followed : IsFollowed way m c input tag from to id
   pub only : HasOnly tag id
+
+-- the cached transition on the byte at place `k` leads from one ID to another; a pass follows it, if that has no tag or
+-- the match tag alone
+pub record IsNextId (way : Direction) (m : Machine) (c : Stored) (input : Input) (k id to : ℕ) : Type 0 where
+  pub within : k < input.end - input.start
+  pub cached : to ≡ known_step m c id (next (tape_in way input) k)
+  pub run : (tag : ℕ) → IsRunTag tag → HasOnly tag to → IsRun way m c input tag k (k + 1) to
 
 -- this ID was met after another one: unless it is the unknown one, the transition on the byte at place `k` leads to it
 abbrev pub IsMet : Direction → Machine → Stored → Input → (k id met : ℕ) → Type 0
-IsMet way m c input k id met =
-    met < unknown_id → (k < input.end - input.start) × (met ≡ known_step m c id (next (tape_in way input) k))
+IsMet way m c input k id met = met < unknown_id → IsNextId way m c input k id met
+
+-- the ID that was met so has the match tag and no other
+pub record MeetsMatch (way : Direction) (m : Machine) (c : Stored) (input : Input) (k id to : ℕ) : Type 0 where
+  pub met : IsMet way m c input k id to
+  pub only : HasOnly (2 ^ 27) to
+
+-- cached transitions led a pass on, over units of its span, to the ID of a state that has patterns
+pub record IsMatchRun (way : Direction) (m : Machine) (c : Stored) (input : Input) (from to id : ℕ) : Type 0 where
+  pub further : from < to
+  pub within : to ≤ input.end - input.start
+  pub followed : IsFollowed way m c input (2 ^ 27) from to id
+  pub reports : HasMatchTag id
 
 -- each transition that a pass took on its first `k` units is cached, at a class that rows have
 abbrev pub HasLearned : Direction → Machine → Stored → Input → ℕ → Type 0

@@ -21,7 +21,7 @@ use Rattle.automata_hybrid.specs.Cache.Stores.{Stored}
 use Rattle.automata_hybrid.specs.Cache.Usage.{GivesUp}
 use Rattle.automata_hybrid.specs.Machines.Machine.{Machine}
 use Rattle.automata_hybrid.specs.Steps.Starts.{IsStartRefusalAt, quit_behind}
-use Rattle.automata_hybrid.specs.Steps.Steps.{KnowsStep}
+use Rattle.automata_hybrid.specs.Steps.Steps.{KnowsStep, quits_on}
 use Rattle.automata_hybrid.specs.Cache.Table.{Names}
 use Rattle.automata_config.specs.Options.{match_kind_of}
 
@@ -55,10 +55,6 @@ MeetsNoQuit way m input =
     (quit_behind m (tape_in way input).before ≡ None)
     × ((k byte : ℕ) → Reads way m input k → next (tape_in way input) k ≡ Some byte → is_quit m.quits byte ≡ false)
 
--- the unit is no quit byte
-abbrev pub IsNoQuit : Machine → Option ℕ → Type 0
-IsNoQuit m unit = (byte : ℕ) → unit ≡ Some byte → is_quit m.quits byte ≡ false
-
 -- the transition from a state on a unit is not cached
 abbrev pub LacksStep : Machine → Stored → Powerset → (unit : Option ℕ) → Type 0
 LacksStep m c q unit = (id : ℕ) → Names c.table id q → KnowsStep m c id unit → ⊥
@@ -70,16 +66,17 @@ abbrev pub IsStepRefusal : Machine → Stored → Powerset → Option ℕ → (q
 IsStepRefusal m c q unit quit_at given_up_at (search.Match (QuitAt byte offset)) =
     (unit ≡ Some byte) × (is_quit m.quits byte ≡ true) × (offset ≡ quit_at)
 IsStepRefusal m c q unit quit_at given_up_at (search.Match (GaveUp offset)) =
-    IsNoQuit m unit × GivesUp c (successor m.nfa (match_kind_of m.config) q unit) × (offset ≡ given_up_at)
+    (quits_on m unit ≡ false) × GivesUp c (successor m.nfa (match_kind_of m.config) q unit) × (offset ≡ given_up_at)
 IsStepRefusal m c q unit quit_at given_up_at (search.Match (UnsupportedMode mode)) = ⊥
-IsStepRefusal m c q unit quit_at given_up_at search.OutOfMemory = IsNoQuit m unit × LacksStep m c q unit
+IsStepRefusal m c q unit quit_at given_up_at search.OutOfMemory = (quits_on m unit ≡ false) × LacksStep m c q unit
 IsStepRefusal m c q unit quit_at given_up_at search.NotAPair = ⊥
 
--- the offset of the unit at a place of a pass, and that of the "gave up" error there, which lies in the span
+-- the offset of the unit at a place of a pass
 abbrev pub unit_offset : Direction → Input → ℕ → ℕ
 unit_offset Forward input k = input.start + k
 unit_offset Backward input k = input.end - k - 1
 
+-- the offset of the "gave up" error there, which lies in the span
 abbrev pub given_up_offset : Direction → Input → ℕ → ℕ
 given_up_offset Forward input k = input.start + k
 given_up_offset Backward input k = max input.start (input.end - k - 1)
@@ -126,6 +123,7 @@ IsRefused way m c input e =
 abbrev pub with_base : HalfMatch → ℕ → Half
 with_base half base = record { pattern = half.pattern; offset = half.offset; base = base }
 
+-- a half match without that start
 abbrev pub without_base : Half → HalfMatch
 without_base half = record { pattern = half.pattern; offset = half.offset }
 

@@ -10,7 +10,7 @@ use Rattle.automata_hybrid.specs.Cache.Stores.{Stored, with_searched}
 use Rattle.automata_hybrid.specs.Cache.Changes.{IsComputed, IsStarted}
 use Rattle.automata_hybrid.specs.Searches.Cached.{KnowsItsStart, KnowsUnit}
 use Rattle.automata_hybrid.specs.Machines.Machine.{Machine}
-use Rattle.automata_hybrid.specs.Cache.Progress.{finished, started, updated}
+use Rattle.automata_hybrid.specs.Cache.Progress.{progress_finished, progress_started, progress_updated}
 use Rattle.automata_hybrid.specs.Searches.Passes.{Finds, HasReadNoQuit, IsUnitRefusal, Reads, Skips}
 use Rattle.automata_hybrid.specs.Searches.Passes.{behind_offset, given_up_offset, state_in, tape_in}
 use Rattle.automata_hybrid.specs.Machines.StartSlots.{slot_behind}
@@ -21,17 +21,19 @@ use Rattle.automata_hybrid.specs.Cache.Table.{Names}
 -- what a pass makes of the progress before its last step, which is at an offset: backward it has ended there
 abbrev pub before_last : Direction → Searched → (at : ℕ) → Searched
 before_last Forward s at = s
-before_last Backward s at = finished s at
+before_last Backward s at = progress_finished s at
 
--- with the search begun at the unit at a place; come to it; ended at it
+-- with the search begun at the unit at a place
 abbrev pub with_search_begun : Direction → Input → (k : ℕ) → Stored → Stored
-with_search_begun way input k c = with_searched c (started c.searched (given_up_offset way input k))
+with_search_begun way input k c = with_searched c (progress_started c.searched (given_up_offset way input k))
 
+-- with the search come to that unit
 abbrev pub with_search_moved : Direction → Input → (k : ℕ) → Stored → Stored
-with_search_moved way input k c = with_searched c (updated c.searched (given_up_offset way input k))
+with_search_moved way input k c = with_searched c (progress_updated c.searched (given_up_offset way input k))
 
+-- with the search ended at that unit
 abbrev pub with_search_ended : Direction → Input → (k : ℕ) → Stored → Stored
-with_search_ended way input k c = with_searched c (finished c.searched (given_up_offset way input k))
+with_search_ended way input k c = with_searched c (progress_finished c.searched (given_up_offset way input k))
 
 -- the unit at place `k` is read: if its transition is cached nothing changes, and if not, that transition is computed
 abbrev pub IsUnitRead : Direction → Machine → Input → (k : ℕ) → (old new : Stored) → Type 0

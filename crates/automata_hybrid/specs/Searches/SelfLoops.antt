@@ -19,12 +19,12 @@ abbrev pub above : ℕ → ℕ → ℕ
 above low byte = (byte + (256 - low)) % 256
 
 -- a range has a byte
-abbrev pub Has : LoopRange → ℕ → Type 0
-Has r byte = above r.low byte < r.size
+abbrev pub HasByte : LoopRange → ℕ → Type 0
+HasByte r byte = above r.low byte < r.size
 
 -- one of two ranges has a byte
 abbrev pub HasEither : LoopRange → LoopRange → ℕ → Type 0
-HasEither first second byte = Has first byte ⊎ Has second byte
+HasEither first second byte = HasByte first byte ⊎ HasByte second byte
 
 -- the byte at a place of bytes that are read from the front or from the back
 abbrev pub byte_in : Direction → List ℕ → ℕ → ℕ
@@ -46,7 +46,7 @@ pub record LoopsOn (m : Machine) (c : Stored) (id byte : ℕ) : Type 0 where
 
 -- an ID's row leads back to it on each byte of a range
 pub record IsLoopRange (m : Machine) (c : Stored) (id : ℕ) (r : LoopRange) : Type 0 where
-  pub loops : (byte : ℕ) → byte < 256 → Has r byte → LoopsOn m c id byte
+  pub loops : (byte : ℕ) → byte < 256 → HasByte r byte → LoopsOn m c id byte
 
 -- and on each byte of the two ranges that are kept of its self-loop
 pub record IsKnownLoop (m : Machine) (c : Stored) (id : ℕ) (k : KnownLoop) : Type 0 where

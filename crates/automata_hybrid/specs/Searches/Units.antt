@@ -12,7 +12,7 @@ use Rattle.automata_hybrid.specs.Cache.Growth.{ClearedNothing, IsGrown, IsStill}
 use Rattle.automata_hybrid.specs.Searches.Cached.{IsOfInput}
 use Rattle.automata_hybrid.specs.Machines.Machine.{Machine, table_stride}
 use Rattle.automata_hybrid.specs.Searches.PassState.{step_refusal}
-use Rattle.automata_hybrid.specs.Cache.Progress.{finished, updated}
+use Rattle.automata_hybrid.specs.Cache.Progress.{progress_finished, progress_updated}
 use Rattle.automata_hybrid.specs.Searches.Progress.{IsPassLeftAt, IsUnitRead}
 use Rattle.automata_hybrid.specs.Searches.Progress.{with_search_ended, with_search_moved}
 use Rattle.automata_hybrid.specs.Searches.Passes.{IsStepRefusal}
@@ -75,11 +75,11 @@ IsStepTaken m id unit old new to =
 pub record IsReadStep (m : Machine) (id : ℕ) (unit : Option ℕ) (at : ℕ) (old new : Stored)
     (result : Result ℕ SearchError) : Type 0 where
   -- If it returns Ok, the step was taken with the search at the offset.
-  pub taken : IfOk result (IsStepTaken m id unit (with_searched old (updated old.searched at)) new)
+  pub taken : IfOk result (IsStepTaken m id unit (with_searched old (progress_updated old.searched at)) new)
   -- If it fails, the search has only ended there at a quit byte, and else only moved there.
   pub left :
-      OnErr result (((quits_on m unit ≡ true) × (new ≡ with_searched old (finished old.searched at)))
-      ⊎ ((quits_on m unit ≡ false) × (new ≡ with_searched old (updated old.searched at))))
+      OnErr result (((quits_on m unit ≡ true) × (new ≡ with_searched old (progress_finished old.searched at)))
+      ⊎ ((quits_on m unit ≡ false) × (new ≡ with_searched old (progress_updated old.searched at))))
 
 -- what reading the last unit of a pass, at its place `k`, makes of what the cache holds
 pub record IsEndProgress {T : Type 0} (way : Direction) (m : Machine) (input : Input) (k : ℕ) (old new : Stored)

@@ -1,5 +1,5 @@
 -- Start states: when there is one, what it is, why a call for it fails, and what that does to the cache.
-use Rattle.std.specs.Prelude.{ℕ, ◌≡◌, ◌+◌, ◌<◌, ◌≤◌, ◌⊎◌, true, false, cond, Option, None, Some, slice_index}
+use Rattle.std.specs.Prelude.{ℕ, ◌≡◌, ◌+◌, ◌<◌, ◌≤◌, ◌⊎◌, true, false, cond, length, Option, None, Some, slice_index}
 use Rattle.automata_base.specs.Powersets.Powerset.{Powerset}
 use Rattle.automata_base.specs.ByteClasses.Classes.{is_quit}
 use Rattle.automata_base.specs.Retraced.Steps.{start_state_of}
@@ -15,13 +15,13 @@ use Rattle.automata_config.specs.declared.error.SearchError.TheVariants as searc
 use Rattle.automata_hybrid.specs.declared.dfa.row.Row.{Row}
 use Rattle.automata_hybrid.specs.Cache.Ids.{dead_id}
 use Rattle.automata_hybrid.specs.Machines.Machine.{Machine, table_stride, slot_count}
-use Rattle.automata_hybrid.specs.Cache.Table.{Has, HasItsMatchTag, KeepsStartTags, Leads, TagsNewStates}
-use Rattle.automata_hybrid.specs.Cache.Stores.{Stored}
+use Rattle.automata_hybrid.specs.Cache.Table.{IsKnownState, HasItsMatchTag, KeepsStartTags, Leads, TagsNewStates}
+use Rattle.automata_hybrid.specs.Cache.Stores.{IsKnownStart, Stored}
 use Rattle.automata_hybrid.specs.Cache.Usage.{GivesUp}
 use Rattle.automata_hybrid.specs.Cache.Changes.{IsStarted}
-use Rattle.automata_hybrid.specs.Cache.Caches.{CacheView, HasRow, counted}
+use Rattle.automata_hybrid.specs.Cache.Caches.{CacheView, HoldsRow, counted}
 use Rattle.automata_hybrid.specs.Cache.Growth.{IsGrown, KeepsProgress}
-use Rattle.automata_hybrid.specs.Machines.StartSlots.{supports, slot_behind, HasStart}
+use Rattle.automata_hybrid.specs.Machines.StartSlots.{supports, slot_behind}
 use Rattle.automata_config.specs.Options.{specialize_start_states_of}
 
 -- the look-behind byte, if it is a quit byte
@@ -53,9 +53,11 @@ start_row m mode behind = record {
   started = specialize_start_states_of m.config;
 }
 
--- a search may start, and its start state is cached
+-- a search may start, and its start state is cached: there is such a slot, which has an ID
 abbrev pub KnowsStart : Machine → Stored → Anchored → Option ℕ → Type 0
-KnowsStart m c mode behind = MayStart m mode behind × HasStart c (slot_behind m mode behind)
+KnowsStart m c mode behind =
+    MayStart m mode behind
+    × ((slot_behind m mode behind < length c.starts) × IsKnownStart c (slot_behind m mode behind))
 
 -- the ID of a start state that is cached
 abbrev pub known_start : Machine → Stored → Anchored → Option ℕ → ℕ
@@ -97,7 +99,7 @@ pub record IsStartAnswer (m : Machine) (mode : Anchored) (behind : Option ℕ) (
   -- The call returns Ok only if a search may start: the look-behind byte is no quit byte, and the mode is supported.
   pub may : MayStart m mode behind
   -- Its row is there.
-  pub row : HasRow new.store.table id
+  pub row : HoldsRow new id
   -- It names the start state.
   pub named : Leads new.store.table id (start_state_of m.nfa mode behind)
   -- It has the match tag exactly if its state has patterns.
@@ -163,4 +165,5 @@ pub record IsStartEffect (m : Machine) (mode : Anchored) (behind : Option ℕ) (
   pub added : TagsNewStates old.store.table new.store.table (specialize_start_states_of m.config)
   -- No state was added but the start state.
   pub only :
-      (q : Powerset) → Has new.store.table q → Has old.store.table q ⊎ (q ≡ start_state_of m.nfa mode behind)
+      (q : Powerset) → IsKnownState new.store.table q
+      → IsKnownState old.store.table q ⊎ (q ≡ start_state_of m.nfa mode behind)

@@ -7,11 +7,11 @@ use Rattle.automata_config.specs.declared.error.StepError.{StepError}
 use Rattle.automata_hybrid.specs.Cache.Stores.{Stored, IsCacheError, IsKnownTransition, cell_of}
 use Rattle.automata_hybrid.specs.Cache.Usage.{GivesUp}
 use Rattle.automata_hybrid.specs.Cache.Changes.{IsComputed}
-use Rattle.automata_hybrid.specs.Cache.Caches.{CacheView, HasRow, counted}
+use Rattle.automata_hybrid.specs.Cache.Caches.{CacheView, HoldsRow, counted}
 use Rattle.automata_hybrid.specs.Cache.Growth.{ClearedNothing, IsGrown, KeepsProgress}
 use Rattle.automata_hybrid.specs.Cache.Ids.{fixed_from, quit_id}
 use Rattle.automata_hybrid.specs.Machines.Machine.{Machine, table_stride}
-use Rattle.automata_hybrid.specs.Cache.Table.{Has, HasItsMatchTag, KeepsStartTags, Leads, Names, TagsNewStates}
+use Rattle.automata_hybrid.specs.Cache.Table.{IsKnownState, HasItsMatchTag, KeepsStartTags, Leads, Names, TagsNewStates}
 use Rattle.automata_config.specs.Options.{match_kind_of}
 
 -- the class of a byte or of the end
@@ -35,7 +35,7 @@ known_step m c id unit = cell_of c id (unit_class m unit)
 -- the ID that a step from an ID on a unit returns
 pub record IsStepAnswer (m : Machine) (id : ℕ) (unit : Option ℕ) (old new : CacheView) (next : ℕ) : Type 0 where
   -- Its row is there.
-  pub row : HasRow new.store.table next
+  pub row : HoldsRow new next
   -- It has the match tag exactly if its state has patterns.
   pub tag : HasItsMatchTag new.store.table next
   -- Dead leads to dead, and quit to quit.
@@ -99,5 +99,5 @@ pub record IsStepEffect (m : Machine) (id : ℕ) (unit : Option ℕ) (old new : 
   -- No state was added but the successor.
   pub only :
       (q : Powerset) → Names old.store.table id q
-      → (p : Powerset) → Has new.store.table p
-      → Has old.store.table p ⊎ (p ≡ successor m.nfa (match_kind_of m.config) q unit)
+      → (p : Powerset) → IsKnownState new.store.table p
+      → IsKnownState old.store.table p ⊎ (p ≡ successor m.nfa (match_kind_of m.config) q unit)

@@ -16,17 +16,18 @@ use Rattle.automata_config.specs.declared.error.SearchError.TheVariants as searc
 use Rattle.automata_hybrid.specs.Cache.Stores.{Stored}
 use Rattle.automata_hybrid.specs.Cache.Usage.{GivesUp}
 use Rattle.automata_hybrid.specs.Machines.Machine.{IsStateOf, Machine, greatest}
-use Rattle.automata_hybrid.specs.Searches.Passes.{HasReadNoQuit, IsNoQuit, IsUnitRefusal, Skips, behind_offset}
+use Rattle.automata_hybrid.specs.Searches.Passes.{HasReadNoQuit, IsUnitRefusal, Skips, behind_offset}
 use Rattle.automata_hybrid.specs.Searches.Passes.{given_up_offset}
 use Rattle.automata_hybrid.specs.Searches.Passes.{state_in, tape_in}
 use Rattle.automata_hybrid.specs.Steps.Starts.{IsStartRefusalAt, MayStart}
-use Rattle.automata_hybrid.specs.Cache.Table.{Rows, Has, Names}
+use Rattle.automata_hybrid.specs.Steps.Steps.{quits_on}
+use Rattle.automata_hybrid.specs.Cache.Table.{Rows, IsKnownState, Names}
 use Rattle.automata_hybrid.specs.Walks.State.{At, Ended, Fresh, Ids, Keeping, Stage, States, Walk}
 use Rattle.automata_config.specs.Options.{match_kind_of}
 
 -- the pairs that a pass reports by its first `k` units; their places are the pass's
-abbrev pub pairs_in : Direction → Machine → Input → ℕ → List Pair
-pairs_in way m input k = pairs_reported m.nfa (match_kind_of m.config) input.anchored (tape_in way input) k
+abbrev pub pairs_reported_in : Direction → Machine → Input → ℕ → List Pair
+pairs_reported_in way m input k = pairs_reported m.nfa (match_kind_of m.config) input.anchored (tape_in way input) k
 
 -- the whole list of a walk, by offsets
 abbrev pub AreWalked : Direction → Machine → Input → List Pair → Type 0
@@ -41,7 +42,7 @@ half_nth (pair ∷ pairs) (suc k) = half_nth pairs k
 -- by its first `n` units a pass reports `k` pairs to a walk, the split ones left out if they are skipped
 pub record HasReportedBy (way : Direction) (m : Machine) (input : Input) (n k : ℕ) : Type 0 where
   pub pairs : List Pair
-  pub unsplit : AreUnsplit (Skips m) way input (pairs_in way m input n) pairs
+  pub unsplit : AreUnsplit (Skips m) way input (pairs_reported_in way m input n) pairs
   pub count : k ≡ length pairs
 
 -- a walk over this input reads the unit at place `k`: the state there is not dead
@@ -61,7 +62,8 @@ pub record IsRowState (m : Machine) (q : Powerset) : Type 0 where
 
 -- a walk stands at the state after the unit at a place that is not skipped, none of its units a quit byte; it has
 -- reported `reported` patterns of this state, at least one, and `k` pairs in all
-pub record Stands (way : Direction) (m : Machine) (input : Input) (q : Powerset) (units reported k : ℕ) : Type 0 where
+pub record StandsAtState (way : Direction) (m : Machine) (input : Input) (q : Powerset) (units reported k : ℕ) :
+    Type 0 where
   pub undone : input.start ≤ input.end
   pub may : MayStart m input.anchored (tape_in way input).before
   pub place : ℕ
@@ -85,9 +87,10 @@ pub record HasReportedAll (way : Direction) (m : Machine) (input : Input) (k : �
   pub all : AreWalked way m input pairs
   pub none_left : length pairs ≤ k
 
+-- a walk has reported `k` pairs in all, by where it stands
 abbrev pub HasReportedAt : Direction → Machine → Input → Stage → (units reported k : ℕ) → Type 0
 HasReportedAt way m input Fresh units reported k = (k ≡ 0) × (units ≡ 0)
-HasReportedAt way m input (At q) units reported k = Stands way m input q units reported k
+HasReportedAt way m input (At q) units reported k = StandsAtState way m input q units reported k
 HasReportedAt way m input Ended units reported k = HasReportedAll way m input k
 
 -- a walk has reported the first `k` pairs of the walk over this input
@@ -111,7 +114,7 @@ ReportsNext way m input old new =
 -- cache may not be cleared
 abbrev pub IsPutBackRefusal : Stored → Powerset → (given_up_at : ℕ) → SearchError → Type 0
 IsPutBackRefusal c q at e =
-    ((Has c.table q → ⊥) × (e ≡ search.OutOfMemory)) ⊎ (GivesUp c q × (e ≡ search.Match (GaveUp at)))
+    ((IsKnownState c.table q → ⊥) × (e ≡ search.OutOfMemory)) ⊎ (GivesUp c q × (e ≡ search.Match (GaveUp at)))
 
 -- why a walk cannot go on: it has not begun and its start state fails, or it has and its state is not put back
 abbrev pub IsResumeRefusal : Direction → Machine → Stored → Input → Stage → (units : ℕ) → SearchError → Type 0
@@ -123,7 +126,7 @@ IsResumeRefusal way m c input Ended units e = ⊥
 -- the state after the unit at place `j` reports a pair, and cannot be held: the count of those who share it cannot
 -- rise, which is reported as out of memory
 pub record IsUnheld (way : Direction) (m : Machine) (input : Input) (j : ℕ) (e : SearchError) : Type 0 where
-  pub clean : IsNoQuit m (next (tape_in way input) j)
+  pub clean : quits_on m (next (tape_in way input) j) ≡ false
   pub reports : 0 < length (state_in way m input (suc j)).patterns
   pub unskipped : Skips m → is_split input.haystack (offset_in way input j) ≡ false
   pub memory : e ≡ search.OutOfMemory
@@ -183,7 +186,7 @@ IsAdvanceRefusal way m c input from e =
 -- the cache has the state that a walk goes on from
 abbrev pub HasItsState : Rows → Stage → Type 0
 HasItsState t Fresh = Unit {0}
-HasItsState t (At q) = Has t q
+HasItsState t (At q) = IsKnownState t q
 HasItsState t Ended = Unit {0}
 
 -- a call found no match, or the walk has read more units, or has reported one pattern more

@@ -13,8 +13,8 @@ use Rattle.automata_hybrid.specs.Machines.Machine.{Machine}
 use Rattle.automata_hybrid.specs.Searches.PassState.{HasLearnedUnit}
 use Rattle.automata_hybrid.specs.Searches.Passes.{HasReadNoQuit, Skips, tape_in}
 use Rattle.automata_hybrid.specs.Steps.Starts.{MayStart}
-use Rattle.automata_hybrid.specs.Cache.Table.{Has}
-use Rattle.automata_hybrid.specs.Walks.Answers.{HasReported, HasReportedBy, WalkReads, pairs_in}
+use Rattle.automata_hybrid.specs.Cache.Table.{IsKnownState}
+use Rattle.automata_hybrid.specs.Walks.Answers.{HasReported, HasReportedBy, WalkReads, pairs_reported_in}
 use Rattle.automata_hybrid.specs.Walks.State.{At, Ended, Fresh, Stage, Walk}
 
 -- the next call of a walk reads units: it has not ended, has reported all of where it stands, and units are left
@@ -27,7 +27,7 @@ pub record IsToRead (input : Input) (stage : Stage) (units reported : ℕ) : Typ
 -- what a walk goes on from is cached: its start, or the state that it holds, which the cache has
 abbrev pub KnowsItsState : Direction → Machine → Stored → Input → Stage → Type 0
 KnowsItsState way m c input Fresh = KnowsItsStart way m c input
-KnowsItsState way m c input (At q) = Has c.table q
+KnowsItsState way m c input (At q) = IsKnownState c.table q
 KnowsItsState way m c input Ended = Unit {0}
 
 -- the transition is cached on each unit that a walk reads after its first `from` ones, up to the pair after the first
@@ -59,7 +59,7 @@ KnowsWhich m c input set =
     → KnowsItsStart Forward m c input
     × ((j : ℕ) (pairs : List Pair)
     → WalkReads Forward m input j → HasReadNoQuit Forward m input j
-    → AreUnsplit (Skips m) Forward input (pairs_in Forward m input j) pairs → IsOpen input set pairs
+    → AreUnsplit (Skips m) Forward input (pairs_reported_in Forward m input j) pairs → IsOpen input set pairs
     → KnowsUnit Forward m c input j)
 
 -- the transitions on the units from one place of a pass to another are cached, at classes that rows have

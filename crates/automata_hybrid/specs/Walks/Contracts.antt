@@ -17,7 +17,8 @@ use Rattle.automata_hybrid.specs.Cache.Caches.{CacheView, counted}
 use Rattle.automata_hybrid.specs.Cache.Growth.{ClearedNothing, HasRoom, IsGrown, IsStill}
 use Rattle.automata_hybrid.specs.Searches.Cached.{IsOfInput, KnowsItsStart}
 use Rattle.automata_hybrid.specs.Walks.Cached.{KnowsItsState, KnowsWalk, KnowsWhich}
-use Rattle.automata_hybrid.specs.Cache.Changes.{IsAddedStart}
+use Rattle.automata_hybrid.specs.Cache.Changes.{IsStateAdded}
+use Rattle.automata_hybrid.specs.Cache.Usage.{cleared}
 use Rattle.automata_hybrid.specs.Machines.Machine.{Machine}
 use Rattle.automata_hybrid.specs.Searches.Contracts.{IsMemory, IsStoreOf, IsUnhindered, IsUnsupported}
 use Rattle.automata_hybrid.specs.Searches.Contracts.{unsupported_error}
@@ -28,7 +29,7 @@ use Rattle.automata_hybrid.specs.Walks.Answers.{half_nth}
 use Rattle.automata_hybrid.specs.Walks.Answers.{start_count}
 use Rattle.automata_hybrid.specs.Walks.State.{At, Fresh, Ids, Keeping, States, Walk, without_match}
 use Rattle.automata_hybrid.specs.Walks.Sets.{IsWhichRefusal}
-use Rattle.automata_hybrid.specs.Cache.Table.{Has}
+use Rattle.automata_hybrid.specs.Cache.Table.{IsKnownState}
 use Rattle.automata_hybrid.specs.Searches.Bounds.{LiesIn}
 use Rattle.automata_config.specs.Options.{match_kind_of}
 
@@ -62,7 +63,8 @@ pub record IsWalkCall (way : Direction) (m : Machine) (input : Input) (old new :
 -- a state was added again, without the start tag; the cache was cleared for it only if it does not fit
 abbrev pub IsPutBack : Powerset → (old new : CacheView) → Type 0
 IsPutBack q old new =
-    (new.count ≡ old.count) × IsAddedStart old.store (record { state = q; started = false }) new.store
+    (new.count ≡ old.count)
+    × IsStateAdded old.store (cleared old.store) (record { state = q; started = false }) new.store
 
 -- why a call fails though all that it uses is cached: because of its input; or, if states are kept, since the one
 -- that reports the next pair cannot be held
@@ -90,7 +92,7 @@ pub record IsCallEffect {T : Type 0} (keeping : Keeping) (way : Direction) (m : 
   pub there : HasItsState old.store.table walk.stage → IsGrown old new
   -- a held state that the cache lacks is put back first, and the cache grows from there
   pub put_back :
-      (q : Powerset) → walk.stage ≡ At q → (Has old.store.table q → ⊥)
+      (q : Powerset) → walk.stage ≡ At q → (IsKnownState old.store.table q → ⊥)
       → (new ≡ old) ⊎ ((between : CacheView) × IsPutBack q old between × IsGrown between new)
   -- if nothing was cleared, what it used is cached
   pub learned : ClearedNothing old.store new.store → OnOk result (KnowsWalk way m new.store input walk)

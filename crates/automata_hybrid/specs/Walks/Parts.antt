@@ -19,7 +19,7 @@ use Rattle.automata_hybrid.specs.Searches.Progress.{AreUnitsRead, IsLeftAt, IsUn
 use Rattle.automata_hybrid.specs.Walks.Progress.{IsCallStopped, IsResumed, ReadsNoUnit}
 use Rattle.automata_hybrid.specs.Searches.Passes.{state_in, tape_in}
 use Rattle.automata_hybrid.specs.Steps.Starts.{MayStart}
-use Rattle.automata_hybrid.specs.Cache.Table.{Has, Leads, Names, Rows}
+use Rattle.automata_hybrid.specs.Cache.Table.{IsKnownState, Leads, Names, Rows}
 use Rattle.automata_hybrid.specs.Walks.Answers.{GoesOn, HasItsState, HasReported, HasReportedBy, IsWalkOf}
 use Rattle.automata_hybrid.specs.Walks.Answers.{IsWalkRefusal, ReportsNext, WalkReads, start_count}
 use Rattle.automata_hybrid.specs.Walks.State.{At, Ended, Fresh, Ids, IsHeldAt, IsHeldItself, Keeping, Stage, Walk}
@@ -99,7 +99,7 @@ pub record IsResumeEffect {T : Type 0} (way : Direction) (m : Machine) (input : 
       → (new ≡ old) × IfErr result IsOfInput
   -- a held state that is not there is put back
   pub put_back :
-      (q : Powerset) → stage ≡ At q → (Has old.store.table q → ⊥)
+      (q : Powerset) → stage ≡ At q → (IsKnownState old.store.table q → ⊥)
       → OnOk result (IsPutBack q old new) × OnErr result (new ≡ old)
   -- the state is its start, or was put back; if that fails, nothing has changed
   pub resumed : OnOk result (IsResumed way m input stage old.store new.store)
@@ -111,9 +111,9 @@ pub record IsPutBackEffect {T E : Type 0} (q : Powerset) (old new : CacheView) (
   pub cost : new.count ≡ old.count
   pub grown : IsGrown old (counted new)
   -- a state that is there is answered, and nothing changes
-  pub there : Has old.store.table q → (new ≡ old) × IfErr result (λ e. ⊥)
+  pub there : IsKnownState old.store.table q → (new ≡ old) × IfErr result (λ e. ⊥)
   -- one that is not there is added again
-  pub again : (Has old.store.table q → ⊥) → OnOk result (IsPutBack q old new)
+  pub again : (IsKnownState old.store.table q → ⊥) → OnOk result (IsPutBack q old new)
 
 -- a walk has read so many units, and at least one is left: the ID names its state there
 pub record StandsAfterUnits (way : Direction) (m : Machine) (t : Rows) (input : Input) (units id : ℕ) : Type 0 where

@@ -8,11 +8,12 @@ use Rattle.automata_config.specs.declared.error.SearchError.{SearchError}
 use Rattle.automata_hybrid.specs.Cache.Stores.{Stored}
 use Rattle.automata_hybrid.specs.Walks.Cached.{IsOpen}
 use Rattle.automata_hybrid.specs.Machines.Machine.{Machine}
-use Rattle.automata_hybrid.specs.Cache.Changes.{IsAddedStart}
+use Rattle.automata_hybrid.specs.Cache.Changes.{IsStateAdded}
+use Rattle.automata_hybrid.specs.Cache.Usage.{cleared}
 use Rattle.automata_hybrid.specs.Searches.Progress.{AreUnitsRead, HasEndedAfter, HasItsStart, IsLeftAt, IsUnitRead}
 use Rattle.automata_hybrid.specs.Searches.Progress.{with_search_begun, with_search_moved}
 use Rattle.automata_hybrid.specs.Searches.Passes.{HasReadNoQuit, IsUnitRefusal}
-use Rattle.automata_hybrid.specs.Cache.Table.{Has}
+use Rattle.automata_hybrid.specs.Cache.Table.{IsKnownState}
 use Rattle.automata_hybrid.specs.Walks.Answers.{AreWalked, IsResumeRefusal, IsSilent, IsUnheld, ReportsNext, WalkReads}
 use Rattle.automata_hybrid.specs.Walks.State.{At, Ended, Fresh, Ids, Keeping, Stage, States, Walk, fresh_walk}
 
@@ -27,8 +28,8 @@ ReadsNoUnit input w =
 abbrev pub IsResumed : Direction → Machine → Input → Stage → (old new : Stored) → Type 0
 IsResumed way m input Fresh old new = HasItsStart way m input old new
 IsResumed way m input (At q) old new =
-    (Has old.table q × (new ≡ old))
-    ⊎ ((Has old.table q → ⊥) × IsAddedStart old (record { state = q; started = false }) new)
+    (IsKnownState old.table q × (new ≡ old))
+    ⊎ ((IsKnownState old.table q → ⊥) × IsStateAdded old (cleared old) (record { state = q; started = false }) new)
 IsResumed way m input Ended old new = ⊥
 
 -- a call reads the units after those of the walk: up to the one after which the next match is reported, or if there is

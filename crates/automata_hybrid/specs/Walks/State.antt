@@ -54,6 +54,7 @@ pub data Keeping : Type 0 where
   States : Keeping
   Ids : Keeping
 
+-- what is kept by what is held
 abbrev pub keeping_of : Held → Keeping
 keeping_of (held.State handle) = States
 keeping_of (held.Row id) = Ids
@@ -62,10 +63,12 @@ keeping_of (held.Row id) = Ids
 abbrev pub IsHandle : Handle → Powerset → Type 0
 IsHandle h q = (h.state ≡ q) × (h.key ≡ q)
 
+-- there is a handle, and it is one on this state
 abbrev pub IsHandleOn : Option Handle → Powerset → Type 0
 IsHandleOn None q = ⊥
 IsHandleOn (Some h) q = IsHandle h q
 
+-- there is an ID, and it is that of this state's row
 abbrev pub IsIdOf : Rows → Option ℕ → Powerset → Type 0
 IsIdOf t None q = ⊥
 IsIdOf t (Some id) q = Names t id q
@@ -92,6 +95,7 @@ IsHandleAt Fresh handle = handle ≡ None
 IsHandleAt (At q) handle = IsHandleOn handle q
 IsHandleAt Ended handle = Unit {0}
 
+-- what is held of a walk is no ID, but the state itself where it stands
 abbrev pub IsHeldItself : Stage → Held → Type 0
 IsHeldItself stage (held.State handle) = IsHandleAt stage handle
 IsHeldItself stage (held.Row id) = ⊥

@@ -1,3 +1,4 @@
+//! The builder of lazy DFAs, and two DFAs that need no pattern: one that always matches, and one that never does.
 ghost use Rattle.std.specs.Prelude.{◌≡◌, IfOk, IfErr, None};
 ghost use Rattle.automata_config.specs.Options.{unset, overwritten};
 ghost use Rattle.automata_config.specs.Settling.{settling_refusal};

@@ -1,25 +1,29 @@
+//! The cache of a lazy DFA: its store, the buffers to determinize into, and the self-loop that was followed last.
+//! Steps, start states and searches do all that they do to a cache by these methods. A state that does not fit is
+//! added after a clear, which makes the new store beside the old one: an error leaves the cache as it was.
 ghost use Rattle.std.specs.Prelude.{ℕ, ◌≡◌, ◌*◌, ◌%◌, ◌<◌, ◌≤◌, IfOk, IfErr, OnOk, OnErr, slice_index};
-ghost use Rattle.std.specs.Prelude.{length, is_some, IsSome, IsTrue, ◌+◌, ◌↔◌, false, None};
+ghost use Rattle.std.specs.Prelude.{length, is_some, IsSome, IsTrue, ◌+◌, ◌↔◌, ◌⊎◌, false, None};
 ghost use Rattle.automata_base.specs.Powersets.Powerset.{Powerset, cost, dead};
 ghost use Rattle.automata_base.specs.Retraced.Steps.{successor, start_state_of};
 ghost use Rattle.automata_hybrid.specs.Machines.OwnStates.{IsOwn};
 ghost use Rattle.automata_hybrid.specs.Machines.Machine.{IsClassOf, IsStateOf, greatest, next_of, start_of};
 ghost use Rattle.automata_hybrid.specs.Machines.Machine.{table_stride, template_of};
 ghost use Rattle.automata_hybrid.specs.Cache.Ids.{dead_id, unknown_id, offset_limit};
-ghost use Rattle.automata_hybrid.specs.Cache.Table.{id_of, Names, IsValid, Leads, MayLead, IsCell};
+ghost use Rattle.automata_hybrid.specs.Cache.Table.{id_of, Names, IsRowId, Leads, MayLead, IsCell};
 ghost use Rattle.automata_hybrid.specs.Cache.Table.{HasItsMatchTag};
 ghost use Rattle.automata_hybrid.specs.Cache.Table.{IsNewState};
 ghost use Rattle.automata_hybrid.specs.Cache.Stores.{IsSoundStore, cell_of, with_next, with_start};
 ghost use Rattle.automata_hybrid.specs.Cache.Stores.{with_searched};
-ghost use Rattle.automata_hybrid.specs.Cache.Usage.{usage, Fits};
-ghost use Rattle.automata_hybrid.specs.Cache.Changes.{AddsNext, AddsStart, IsAddedStart};
-ghost use Rattle.automata_hybrid.specs.Cache.Caches.{IsRow, IsCacheOf, fresh_cache, counted, with_store};
+ghost use Rattle.automata_hybrid.specs.Cache.Usage.{cleared, usage, Fits};
+ghost use Rattle.automata_hybrid.specs.Cache.Changes.{AddsNext, AddsRow, IsStateAdded};
+ghost use Rattle.automata_hybrid.specs.Cache.Caches.{HoldsRow, IsCacheOf, fresh_cache, counted, with_store};
 ghost use Rattle.automata_hybrid.specs.Cache.Growth.{IsAddRefused, IsAgainEffect};
 ghost use Rattle.automata_hybrid.specs.Searches.Contracts.{IsStoreOf};
 ghost use Rattle.automata_hybrid.specs.Steps.Starts.{IsStartSlot};
 ghost use Rattle.automata_hybrid.specs.Walks.Answers.{IsRowState};
 ghost use Rattle.automata_hybrid.specs.Walks.State.{IsHandle};
-ghost use Rattle.automata_hybrid.specs.Cache.Progress.{started, updated, finished, saturated, total_len};
+ghost use Rattle.automata_hybrid.specs.Cache.Progress.{progress_finished, progress_started, progress_updated};
+ghost use Rattle.automata_hybrid.specs.Cache.Progress.{saturated, total_len};
 ghost use Rattle.automata_config.specs.Options.{match_kind_of};
 
 use crate::dfa::store::Store;
@@ -47,7 +51,8 @@ pub(crate) enum Found {
 }
 
 /// The states that a lazy DFA has determinized, their transitions, and the buffers to determinize more. Its accounted
-/// bytes, `memory_usage`, never exceed the capacity of the DFA's settings, or the minimum capacity if that was raised to.
+/// bytes, `memory_usage`, never exceed the capacity of the DFA's settings, or the minimum capacity if that was raised
+/// to.
 #[derive(Drop)]
 pub struct Cache {
     store: Store,
@@ -126,7 +131,7 @@ impl Cache {
         unit: Option<u8>,
     ) -> Result<Key, AllocError>
         requires of { IsCacheOf self.old dfa.now }
-        requires valid { IsValid self.old.store.table id }
+        requires valid { IsRowId self.old.store.table id }
         requires class { IsClassOf dfa.now class unit }
         ensures value { IfOk result (λ k. (q : Powerset) → Names self.old.store.table id q
             → k ≡ next_of dfa.now q class) }
@@ -169,7 +174,7 @@ impl Cache {
 
     /// A handle on the state of a row. It allocates nothing. It fails only if the state cannot be shared once more.
     pub(crate) fn handle(&self, id: LazyStateID) -> Result<Handle, AllocError>
-        requires { IsValid self.now.store.table id }
+        requires { IsRowId self.now.store.table id }
         ensures { IfOk result (λ handle. (q : Powerset) → Names self.now.store.table id q → IsHandle handle q) }
     {
         Handle::of(self.store.table.state(id))
@@ -177,11 +182,11 @@ impl Cache {
 
     /// The state of a row, which only contracts see.
     pub(crate) fn snapshot(&self, id: LazyStateID) -> Snapshot<State>
-        requires { IsValid self.now.store.table id }
+        requires { IsRowId self.now.store.table id }
         ensures state { (q : Powerset) → Names self.now.store.table id q → result.value ≡ q }
         ensures row { IsRowState self.now.store.table.of result.value }
     {
-        self.see_store();
+        self.see_bounds();
         Snapshot::of(self.store.table.state(id))
     }
 
@@ -190,21 +195,21 @@ impl Cache {
         requires dfa { IsCacheOf self.old dfa.now }
         requires new { IsNewState self.old.store.table state }
         ensures named { IfOk result (λ id. Names self.new.store.table id state) }
-        ensures added { OnOk result (IsAddedStart self.old.store (record { state = state; started = false })
-            self.new.store) }
+        ensures added { OnOk result (IsStateAdded self.old.store (cleared self.old.store)
+            (record { state = state; started = false }) self.new.store) }
         ensures effect { IsAgainEffect self.old self.new }
         ensures refused { IfErr result (IsAddRefused self.old self.new state) }
     {
-        self.see_store();
+        self.see_bounds();
         let id = self.add_start(dfa, state, false)?;
-        self.see_store();
+        self.see_bounds();
         Ok(id)
     }
 
     /// Whether some row of the cache has exactly this ID now, tags included. A clear can end it, so ask before a step
     /// from an ID that you kept while other calls used the cache.
     pub fn is_valid(&self, id: LazyStateID) -> bool
-        ensures { IsTrue result ↔ IsRow self.now.store.table id }
+        ensures { IsTrue result ↔ ((id ≡ unknown_id) ⊎ HoldsRow self.now id) }
     {
         let table = &self.store.table;
         let stride = table.stride() as u32;
@@ -217,7 +222,7 @@ impl Cache {
     /// The cell of a row at a class, which may not be computed yet.
     #[inline(always)]
     pub(crate) fn cell(&self, id: LazyStateID, class: usize) -> LazyStateID
-        requires row { IsValid self.now.store.table id }
+        requires row { IsRowId self.now.store.table id }
         requires class { class < table_stride self.now.store.table.of }
         ensures value { result ≡ cell_of self.now.store id class }
         ensures named { (q : Powerset) → Names self.now.store.table id q → IsCell self.now.store.table q class result }
@@ -225,14 +230,14 @@ impl Cache {
         ensures own { (q : Powerset) → Names self.now.store.table id q → IsOwn self.now.store.table.of.nfa q }
         ensures stride { table_stride self.now.store.table.of ≤ 512 }
     {
-        self.see_store();
+        self.see_bounds();
         self.store.table.cell(id, class)
     }
 
     /// The same, of an ID whose row's offset is known.
     #[inline(always)]
     pub(crate) fn cell_in_row(&self, id: LazyStateID, row: usize, class: usize) -> LazyStateID
-        requires row { IsValid self.now.store.table id }
+        requires row { IsRowId self.now.store.table id }
         requires class { class < table_stride self.now.store.table.of }
         requires offset { row ≡ id % offset_limit }
         ensures value { result ≡ cell_of self.now.store id class }
@@ -241,13 +246,13 @@ impl Cache {
         ensures own { (q : Powerset) → Names self.now.store.table id q → IsOwn self.now.store.table.of.nfa q }
         ensures stride { table_stride self.now.store.table.of ≤ 512 }
     {
-        self.see_store();
+        self.see_bounds();
         self.store.table.cell_in_row(id, row, class)
     }
 
     /// Writes a transition.
     pub(crate) fn set_next(&mut self, id: LazyStateID, class: usize, next: LazyStateID)
-        requires row { IsValid self.old.store.table id }
+        requires row { IsRowId self.old.store.table id }
         requires class { class < table_stride self.old.store.table.of }
         requires free { slice_index (template_of self.old.store.table.of) class ≡ unknown_id }
         requires next { (q : Powerset) × Names self.old.store.table id q
@@ -266,7 +271,7 @@ impl Cache {
         state: State,
     ) -> Result<(LazyStateID, LazyStateID), StepError>
         requires dfa { IsCacheOf self.old dfa.now }
-        requires valid { IsValid self.old.store.table from }
+        requires valid { IsRowId self.old.store.table from }
         requires new { IsNewState self.old.store.table state }
         ensures answer { IfOk result (λ p. AddsNext self.old.store self.new.store from state p.0 p.1) }
         ensures counted { self.new.count ≡ self.old.count }
@@ -290,7 +295,7 @@ impl Cache {
         bytes: usize,
     ) -> Result<(LazyStateID, LazyStateID), StepError>
         requires dfa { IsCacheOf self.old dfa.now }
-        requires valid { IsValid self.old.store.table from }
+        requires valid { IsRowId self.old.store.table from }
         requires new { IsNewState self.old.store.table state }
         requires bytes { bytes ≡ cost state }
         requires full { Fits self.old.store (cost state) → ⊥ }
@@ -311,7 +316,7 @@ impl Cache {
         ensures leads { MayLead self.now.store.table result (start_of self.now.store.table.of slot) }
         ensures tag { HasItsMatchTag self.now.store.table result }
     {
-        self.see_store();
+        self.see_bounds();
         self.store.starts[slot]
     }
 
@@ -339,9 +344,7 @@ impl Cache {
         requires leads { Leads self.old.store.table id (start_of self.old.store.table.of slot) }
         ensures value { self.new ≡ with_store self.old (with_start self.old.store slot id) }
         ensures written { slice_index self.new.store.starts slot ≡ id }
-        ensures found { slice_index self.new.store.starts slot < unknown_id }
     {
-        self.see_store();
         self.store.starts[slot] = id;
     }
 
@@ -354,7 +357,7 @@ impl Cache {
     ) -> Result<LazyStateID, StepError>
         requires dfa { IsCacheOf self.old dfa.now }
         requires new { IsNewState self.old.store.table state }
-        ensures answer { IfOk result (AddsStart self.old.store self.new.store
+        ensures answer { IfOk result (AddsRow self.old.store (cleared self.old.store) self.new.store
             (record { state = state; started = started })) }
         ensures counted { self.new.count ≡ self.old.count }
         ensures refused { IfErr result (IsAddRefused self.old self.new state) }
@@ -380,7 +383,7 @@ impl Cache {
         requires new { IsNewState self.old.store.table state }
         requires bytes { bytes ≡ cost state }
         requires full { Fits self.old.store (cost state) → ⊥ }
-        ensures answer { IfOk result (AddsStart self.old.store self.new.store
+        ensures answer { IfOk result (AddsRow self.old.store (cleared self.old.store) self.new.store
             (record { state = state; started = started })) }
         ensures counted { self.new.count ≡ self.old.count }
         ensures refused { IfErr result (IsAddRefused self.old self.new state) }
@@ -396,17 +399,9 @@ impl Cache {
         LazyStateID::dead(self.store.table.stride() as u32)
     }
 
-    /// What is true of each cache. It does nothing.
-    pub(crate) fn see_store(&self)
-        ensures { IsSoundStore self.now.store }
-    {
-        let _clears = self.store.clears;
-        self.store.table.see_rows();
-    }
-
     /// The number of patterns of a row's state.
     pub(crate) fn match_len(&self, id: LazyStateID) -> usize
-        requires { IsValid self.now.store.table id }
+        requires { IsRowId self.now.store.table id }
         ensures { (q : Powerset) → Names self.now.store.table id q → result ≡ length q.patterns }
     {
         self.store.table.state(id).match_len()
@@ -414,7 +409,7 @@ impl Cache {
 
     /// A pattern of a row's state.
     pub(crate) fn match_pattern(&self, id: LazyStateID, index: usize) -> PatternID
-        requires valid { IsValid self.now.store.table id }
+        requires valid { IsRowId self.now.store.table id }
         requires index { (q : Powerset) → Names self.now.store.table id q → index < length q.patterns }
         ensures { (q : Powerset) → Names self.now.store.table id q → result ≡ slice_index q.patterns index }
     {
@@ -460,7 +455,7 @@ impl Cache {
     /// the bytes that it reads.
     pub fn search_start(&mut self, at: usize)
         ensures value { self.new ≡ with_store self.old (with_searched self.old.store
-            (started self.old.store.searched at)) }
+            (progress_started self.old.store.searched at)) }
         ensures table { self.new.store.table ≡ self.old.store.table }
         ensures counted { self.new.count ≡ self.old.count }
     {
@@ -470,7 +465,8 @@ impl Cache {
     /// The open search has come to an offset. There has to be one: `in_progress` is the test.
     pub fn search_update(&mut self, at: usize)
         requires { IsSome self.old.store.searched.running }
-        ensures { self.new ≡ with_store self.old (with_searched self.old.store (updated self.old.store.searched at)) }
+        ensures { self.new ≡ with_store self.old (with_searched self.old.store
+            (progress_updated self.old.store.searched at)) }
     {
         self.move_search(at);
     }
@@ -478,7 +474,8 @@ impl Cache {
     /// The open search ends at an offset. There has to be one: `in_progress` is the test.
     pub fn search_finish(&mut self, at: usize)
         requires { IsSome self.old.store.searched.running }
-        ensures { self.new ≡ with_store self.old (with_searched self.old.store (finished self.old.store.searched at)) }
+        ensures { self.new ≡ with_store self.old (with_searched self.old.store
+            (progress_finished self.old.store.searched at)) }
     {
         self.end_search(at);
     }
@@ -486,7 +483,7 @@ impl Cache {
     /// Moves the search to an offset, if one is open.
     pub(crate) fn move_search(&mut self, at: usize)
         ensures value { self.new ≡ with_store self.old (with_searched self.old.store
-            (updated self.old.store.searched at)) }
+            (progress_updated self.old.store.searched at)) }
         ensures table { self.new.store.table ≡ self.old.store.table }
         ensures counted { self.new.count ≡ self.old.count }
     {
@@ -496,7 +493,7 @@ impl Cache {
     /// Ends the search at an offset, if one is open.
     pub(crate) fn end_search(&mut self, at: usize)
         ensures value { self.new ≡ with_store self.old (with_searched self.old.store
-            (finished self.old.store.searched at)) }
+            (progress_finished self.old.store.searched at)) }
         ensures table { self.new.store.table ≡ self.old.store.table }
         ensures counted { self.new.count ≡ self.old.count }
     {
@@ -513,8 +510,8 @@ impl Cache {
         self.store.searched.count(bytes);
     }
 
-    /// The accounted bytes: rows of cells, states, start slots and the buffers of determinization. They never exceed the
-    /// capacity, or the minimum capacity if that was raised to.
+    /// The accounted bytes: rows of cells, states, start slots and the buffers of determinization. They never exceed
+    /// the capacity, or the minimum capacity if that was raised to.
     ///
     /// ```rust
     /// /// How many bytes the cache accounts for.
@@ -529,10 +526,13 @@ impl Cache {
         self.store.memory_usage()
     }
 
-    /// The cache is within the settings of the DFA that it belongs to. It does nothing.
+    /// What is true of each cache; among it, that it is within the settings of the DFA that it belongs to. It does
+    /// nothing.
     pub fn see_bounds(&self)
-        ensures { IsStoreOf self.now.store self.now.store.table.of }
+        ensures bounds { IsStoreOf self.now.store self.now.store.table.of }
+        ensures sound { IsSoundStore self.now.store }
     {
+        let _clears = self.store.clears;
         self.store.table.see_rows();
     }
 }

@@ -1,8 +1,10 @@
+//! What a clear keeps: the start states, with the slots that name them, and the state that the step which needs room
+//! is taken from. They are put into a new table, and nothing of the old one changes.
 ghost use Rattle.std.specs.Prelude.{◌≡◌, ◌+◌, ◌*◌, ◌^◌, ◌<◌, None, IfOk, OnOk};
 ghost use Rattle.std.specs.Prelude.{OnErr, length, sum_by};
 ghost use Rattle.automata_base.specs.Powersets.Powerset.{Powerset};
 ghost use Rattle.automata_hybrid.specs.Machines.Machine.{greatest, start_of, table_stride};
-ghost use Rattle.automata_hybrid.specs.Cache.Table.{id_of, Names, IsValid, row_cost, MayLead};
+ghost use Rattle.automata_hybrid.specs.Cache.Table.{id_of, Names, IsRowId, row_cost, MayLead};
 ghost use Rattle.automata_hybrid.specs.Cache.Clears.{AllStarts, IsPut, KeepsSlot, KeepsAllStarts};
 ghost use Rattle.automata_hybrid.specs.Cache.Ids.{offset_limit};
 
@@ -13,7 +15,7 @@ use std::alloc::AllocError;
 
 /// Adds a row of another table, unless its state is there, and gives its ID here.
 pub fn keep_row(kept: &mut Table, old: &Table, id: LazyStateID) -> Result<LazyStateID, AllocError>
-    requires valid { IsValid old.now id }
+    requires valid { IsRowId old.now id }
     requires of { kept.old.of ≡ old.now.of }
     requires fits { length kept.old.cells < offset_limit }
     requires costs { sum_by row_cost kept.old.rows + greatest old.now.of < 2 ^ 64 }

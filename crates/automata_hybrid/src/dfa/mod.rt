@@ -1,3 +1,8 @@
+//! The lazy DFA itself: its NFA, settings, byte classes and quit bytes. It has no states of its own: they are in a
+//! `Cache` (`cache`), which holds a `Store` (`store`), and that the `Table` of their rows (`table`, `row`), the start
+//! slots and the progress of searches (`progress`). `start` and `step` find an ID in the cache, or determinize its
+//! state and add a row; where the row does not fit, `clears` says what a clear keeps. `builder` makes DFAs, with the
+//! limits of their caches (`settings`).
 ghost use Rattle.std.specs.Prelude.{ℕ, ◌≡◌, ◌<◌, ◌≤◌, ◌^◌, IfOk, OnOk, OnErr, Some, None, true, false, slice_index};
 ghost use Rattle.std.specs.Prelude.{length};
 ghost use Rattle.automata_base.specs.Powersets.Powerset.{Powerset};
@@ -10,7 +15,7 @@ ghost use Rattle.automata_hybrid.specs.Machines.Machine.{IsMachine, next_of, tem
 ghost use Rattle.automata_config.specs.Settling.{IsSettled};
 ghost use Rattle.automata_config.specs.Options.{unset, match_kind_of, specialize_start_states_of};
 ghost use Rattle.automata_hybrid.specs.Cache.Caches.{fresh_cache};
-ghost use Rattle.automata_hybrid.specs.Machines.Builds.{built};
+ghost use Rattle.automata_hybrid.specs.Machines.Builds.{built_machine};
 ghost use Rattle.automata_hybrid.specs.Cache.Stores.{fresh_store, settings_of};
 ghost use Rattle.automata_config.specs.Options.{starts_for_each_pattern_of};
 ghost use Rattle.automata_hybrid.specs.Steps.Steps.{quits_on, unit_class};
@@ -40,8 +45,8 @@ use automata_config::config::{Config, Settled};
 use std::alloc::{AllocError, Global};
 use std::marker::Model;
 
-/// A lazy DFA: an NFA with its settings, byte classes and quit bytes, and the capacity of its caches. States, transitions
-/// and start slots are in a `Cache`.
+/// A lazy DFA: an NFA with its settings, byte classes and quit bytes, and the capacity of its caches. States,
+/// transitions and start slots are in a `Cache`.
 #[derive(Debug, Drop)]
 pub struct DFA {
     nfa: NFA,
@@ -103,7 +108,7 @@ impl DFA {
     /// The DFA of an NFA and of what its settings make of it.
     pub(crate) fn of_settled(nfa: NFA, config: Config, settled: Settled) -> DFA
         requires { IsSettled config nfa settled }
-        ensures { result ≡ built config nfa settled }
+        ensures { result ≡ built_machine config nfa settled }
     {
         let classes = *settled.classes();
         let _ = classes.stride();

@@ -1,6 +1,7 @@
+//! How many bytes were searched since the last clear. A search gives up only if they are few for the number of states.
 ghost use Rattle.std.specs.Prelude.{◌≡◌, ◌+◌, ◌-◌, Some, None};
-ghost use Rattle.automata_hybrid.specs.Cache.Progress.{distance, started, updated, finished, total_len};
-ghost use Rattle.automata_hybrid.specs.Cache.Progress.{progress_cleared, saturated};
+ghost use Rattle.automata_hybrid.specs.Cache.Progress.{distance, progress_finished, progress_started, progress_updated};
+ghost use Rattle.automata_hybrid.specs.Cache.Progress.{progress_cleared, saturated, total_len};
 
 /// A running search: where it began, and where it is.
 #[derive(Clone, Copy)]
@@ -42,7 +43,7 @@ impl Searched {
 
     /// A search begins at an offset.
     pub fn start(&mut self, at: usize)
-        ensures { self.new ≡ started self.old at }
+        ensures { self.new ≡ progress_started self.old at }
     {
         if let Some(running) = self.running {
             self.bytes = self.bytes.saturating_add(running.distance());
@@ -55,7 +56,7 @@ impl Searched {
 
     /// The open search is at an offset.
     pub fn update(&mut self, at: usize)
-        ensures { self.new ≡ updated self.old at }
+        ensures { self.new ≡ progress_updated self.old at }
     {
         if let Some(running) = &mut self.running {
             running.place = at;
@@ -64,7 +65,7 @@ impl Searched {
 
     /// The open search ends at an offset; none is open then.
     pub fn finish(&mut self, at: usize)
-        ensures { self.new ≡ finished self.old at }
+        ensures { self.new ≡ progress_finished self.old at }
     {
         if let Some(running) = self.running {
             let whole = Progress {

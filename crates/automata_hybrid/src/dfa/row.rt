@@ -1,3 +1,4 @@
+//! The state of a row, and its accounted bytes.
 ghost use Rattle.std.specs.Prelude.{◌≡◌, ◌+◌, ◌*◌, ◌^◌, ◌<◌, ◌↔◌, IsTrue};
 ghost use Rattle.automata_base.specs.Powersets.Powerset.{cost};
 ghost use Rattle.automata_base.specs.Powersets.Powerset.{dead};

@@ -1,16 +1,19 @@
-ghost use Rattle.std.specs.Prelude.{◌≡◌, ◌+◌, ◌-◌, ◌*◌, ◌<◌, ◌≤◌, IfOk, IfErr, IfSome, IfNone, ◌↔◌, Err, Some, false};
+//! Start states. There is a start slot for each anchored mode, and each pattern if the settings ask for that, after
+//! each kind of look-behind byte (`Start`). A slot has the ID of its start state once that was determinized, and is
+//! unknown before.
+ghost use Rattle.std.specs.Prelude.{◌≡◌, ◌+◌, ◌-◌, ◌*◌, ◌^◌, ◌<◌, ◌≤◌, IfOk, IfErr, IfSome, IfNone, ◌↔◌, Err, Some, false};
 ghost use Rattle.automata_base.specs.ByteClasses.LookBehind.{behind_of};
 ghost use Rattle.automata_base.specs.Powersets.Powerset.{dead};
 ghost use Rattle.automata_base.specs.ByteClasses.Classes.{is_quit};
 ghost use Rattle.automata_base.specs.Retraced.Steps.{start_state_of};
 ghost use Rattle.automata_hybrid.specs.Machines.Machine.{slot_count};
-ghost use Rattle.automata_base.specs.Haystacks.Tapes.{byte_before};
+ghost use Rattle.automata_base.specs.Haystacks.Tapes.{Backward, byte_before};
 ghost use Rattle.std.specs.Prelude.{slice_get};
 ghost use Rattle.automata_hybrid.specs.Steps.Starts.{quit_behind, start_refusal, search_refusal, KnowsStart};
 ghost use Rattle.automata_hybrid.specs.Steps.Starts.{IsStartSlot};
 ghost use Rattle.automata_hybrid.specs.Steps.Starts.{IsStartAnswer, IsStartRefused, IsStartRefusedAt, IsStartEffect};
 ghost use Rattle.automata_hybrid.specs.Machines.StartSlots.{supports, slot_of};
-ghost use Rattle.automata_hybrid.specs.Steps.BySteps.{StartsAt};
+ghost use Rattle.automata_hybrid.specs.Steps.BySteps.{StartsAt, StartsIn};
 ghost use Rattle.automata_hybrid.specs.Cache.Caches.{IsCacheOf};
 ghost use Rattle.automata_hybrid.specs.Cache.Ids.{unknown_id};
 
@@ -38,7 +41,7 @@ impl Cache {
         ensures refusal { IfErr result (IsStartRefused dfa.now mode prev self.old self.new) }
         ensures effect { IsStartEffect dfa.now mode prev self.old self.new }
     {
-        self.see_store();
+        self.see_bounds();
         let found = self.start_slot(slot);
         if !found.is_unknown() {
             return Ok(found);
@@ -66,34 +69,56 @@ impl Cache {
         ensures refusal { IfErr result (λ e. IsStartRefused dfa.now mode prev self.old self.new (start_refusal e)) }
         ensures effect { IsStartEffect dfa.now mode prev self.old self.new }
     {
-        self.see_store();
+        self.see_bounds();
         let key = self.determinize_start(dfa, mode, prev)?;
         match self.resolve(dfa, key)? {
             Found::Known(id) => {
                 self.set_start(slot, id);
-                self.see_store();
+                self.see_bounds();
                 Ok(id)
             }
             Found::New(state) => {
                 let id = self.add_start(dfa, state, dfa.specializes())?;
                 self.set_start(slot, id);
-                self.see_store();
+                self.see_bounds();
                 Ok(id)
             }
         }
     }
 }
 
-/// The kinds of look-behind bytes that are not the line terminator.
+/// What is before a start, as far as start states depend on it. A group has a start slot for each, in this order.
+enum Start {
+    /// A byte that is none of those below.
+    NonWordByte,
+    WordByte,
+    /// No byte: the start of the haystack, or for a reverse search its end.
+    Text,
+    LineLF,
+    LineCR,
+    /// The line terminator, where it is neither a line feed nor a carriage return.
+    CustomLineTerminator,
+}
+
+const N: u8 = Start::NonWordByte as u8;
+
+const W: u8 = Start::WordByte as u8;
+
+const F: u8 = Start::LineLF as u8;
+
+const R: u8 = Start::LineCR as u8;
+
+/// The kind of each look-behind byte that is not the line terminator, as the number of a `Start`. A table of numbers
+/// lies in memory as it is; one of an enum would be made anew at each call.
 const KINDS: [u8; 256] = [
-    0, 0, 0, 0, 0, 0, 0, 0, 0, 0, 3, 0, 0, 4, 0, 0, 0, 0, 0, 0, 0, 0, 0, 0, 0, 0, 0, 0, 0, 0, 0, 0,
-    0, 0, 0, 0, 0, 0, 0, 0, 0, 0, 0, 0, 0, 0, 0, 0, 1, 1, 1, 1, 1, 1, 1, 1, 1, 1, 0, 0, 0, 0, 0, 0,
-    0, 1, 1, 1, 1, 1, 1, 1, 1, 1, 1, 1, 1, 1, 1, 1, 1, 1, 1, 1, 1, 1, 1, 1, 1, 1, 1, 0, 0, 0, 0, 1,
-    0, 1, 1, 1, 1, 1, 1, 1, 1, 1, 1, 1, 1, 1, 1, 1, 1, 1, 1, 1, 1, 1, 1, 1, 1, 1, 1, 0, 0, 0, 0, 0,
-    0, 0, 0, 0, 0, 0, 0, 0, 0, 0, 0, 0, 0, 0, 0, 0, 0, 0, 0, 0, 0, 0, 0, 0, 0, 0, 0, 0, 0, 0, 0, 0,
-    0, 0, 0, 0, 0, 0, 0, 0, 0, 0, 0, 0, 0, 0, 0, 0, 0, 0, 0, 0, 0, 0, 0, 0, 0, 0, 0, 0, 0, 0, 0, 0,
-    0, 0, 0, 0, 0, 0, 0, 0, 0, 0, 0, 0, 0, 0, 0, 0, 0, 0, 0, 0, 0, 0, 0, 0, 0, 0, 0, 0, 0, 0, 0, 0,
-    0, 0, 0, 0, 0, 0, 0, 0, 0, 0, 0, 0, 0, 0, 0, 0, 0, 0, 0, 0, 0, 0, 0, 0, 0, 0, 0, 0, 0, 0, 0, 0,
+    N, N, N, N, N, N, N, N, N, N, F, N, N, R, N, N, N, N, N, N, N, N, N, N, N, N, N, N, N, N, N, N,
+    N, N, N, N, N, N, N, N, N, N, N, N, N, N, N, N, W, W, W, W, W, W, W, W, W, W, N, N, N, N, N, N,
+    N, W, W, W, W, W, W, W, W, W, W, W, W, W, W, W, W, W, W, W, W, W, W, W, W, W, W, N, N, N, N, W,
+    N, W, W, W, W, W, W, W, W, W, W, W, W, W, W, W, W, W, W, W, W, W, W, W, W, W, W, N, N, N, N, N,
+    N, N, N, N, N, N, N, N, N, N, N, N, N, N, N, N, N, N, N, N, N, N, N, N, N, N, N, N, N, N, N, N,
+    N, N, N, N, N, N, N, N, N, N, N, N, N, N, N, N, N, N, N, N, N, N, N, N, N, N, N, N, N, N, N, N,
+    N, N, N, N, N, N, N, N, N, N, N, N, N, N, N, N, N, N, N, N, N, N, N, N, N, N, N, N, N, N, N, N,
+    N, N, N, N, N, N, N, N, N, N, N, N, N, N, N, N, N, N, N, N, N, N, N, N, N, N, N, N, N, N, N, N,
 ];
 
 /// The kind of a look-behind byte that is the line terminator.
@@ -102,23 +127,22 @@ fn behind_line(byte: u8) -> usize
     ensures { result ≡ behind_of byte (Some byte) }
 {
     if byte == b'\n' {
-        3
+        Start::LineLF as usize
     } else if byte == b'\r' {
-        4
+        Start::LineCR as usize
     } else {
-        5
+        Start::CustomLineTerminator as usize
     }
 }
 
 impl DFA {
-    /// The kind of a look-behind byte: 0 for any byte that is not named here, 1 for a word byte, 2 for none, 3 for a
-    /// line feed, 4 for a carriage return, 5 for a line terminator that is neither of these two.
+    /// The kind of a look-behind byte, as the number of a `Start`.
     fn behind(&self, prev: Option<u8>) -> usize
         ensures value { result ≡ behind_of self.now.nfa.flags.line_terminator prev }
         ensures below { result < 6 }
     {
         let Some(byte) = prev else {
-            return 2;
+            return Start::Text as usize;
         };
         if byte == self.get_nfa().flags().line_terminator {
             return behind_line(byte);
@@ -130,10 +154,10 @@ impl DFA {
     fn slot(&self, group: usize, kind: usize) -> usize
         requires room { group * 6 + 6 ≤ slot_count self.now }
         requires kind { kind < 6 }
+        requires fits { slot_count self.now < 2 ^ 64 }
         ensures value { result ≡ group * 6 + kind }
         ensures within { result < slot_count self.now }
     {
-        self.see_machine();
         group * 6 + kind
     }
 
@@ -199,9 +223,9 @@ impl DFA {
         }
     }
 
-    /// The start state of an anchored mode after a look-behind byte. It fails if that is a quit byte, if the mode is not
-    /// supported, if the state does not fit and the settings allow no clear, and if memory runs out. A quit byte is
-    /// reported before a mode that is not supported.
+    /// The start state of an anchored mode after a look-behind byte. It fails if that is a quit byte, if the mode is
+    /// not supported, if the state does not fit and the settings allow no clear, and if memory runs out. A quit byte
+    /// is reported before a mode that is not supported.
     ///
     /// If you have an input, `start_state_forward` and `start_state_reverse` take the anchored mode and the look-behind
     /// byte from it. A cached start state allocates nothing.
@@ -222,7 +246,7 @@ impl DFA {
         if let Some(byte) = self.quits_behind(config.get_look_behind()) {
             return Err(StartError::Quit { byte });
         }
-        cache.see_store();
+        cache.see_bounds();
         match self.mode_slot(config.get_anchored(), config.get_look_behind())? {
             None => Ok(cache.dead()),
             Some(slot) => cache.start(self, slot, config.get_anchored(), config.get_look_behind()),
@@ -242,7 +266,7 @@ impl DFA {
         ensures answer { result < unknown_id → IsStartAnswer self.now mode prev cache.now cache.now result }
         ensures effect { result < unknown_id → IsStartEffect self.now mode prev cache.now cache.now }
     {
-        cache.see_store();
+        cache.see_bounds();
         if self.quits_behind(prev).is_some() {
             return LazyStateID::UNKNOWN;
         }
@@ -252,8 +276,8 @@ impl DFA {
         cache.start_slot(slot)
     }
 
-    /// The start state of a forward search. The look-behind byte is the one before the span. The error of a quit byte has
-    /// that byte's offset, and the "gave up" error the span's start.
+    /// The start state of a forward search. The look-behind byte is the one before the span. The error of a quit byte
+    /// has that byte's offset, and the "gave up" error the span's start.
     ///
     /// A search by steps begins with it; `docs/CALLING.md` has one in full:
     ///
@@ -285,7 +309,7 @@ impl DFA {
         let config = start::Config::from_input_forward(input);
         match self.start_state(cache, &config) {
             Ok(id) => {
-                cache.see_store();
+                cache.see_bounds();
                 Ok(id)
             }
             Err(error) => Err(search_refusal(
@@ -316,10 +340,15 @@ impl DFA {
             input.now.end input.now.end cache.old cache.new) }
         ensures effect { IsStartEffect self.now input.now.anchored (slice_get input.now.haystack input.now.end)
             cache.old cache.new }
+        ensures stands { IfOk result (StartsIn Backward self.now cache.new input.now) }
     {
+        let _haystack = input.haystack();
         let config = start::Config::from_input_reverse(input);
         match self.start_state(cache, &config) {
-            Ok(id) => Ok(id),
+            Ok(id) => {
+                cache.see_bounds();
+                Ok(id)
+            }
             Err(error) => Err(search_refusal(error, input.end(), input.end())),
         }
     }

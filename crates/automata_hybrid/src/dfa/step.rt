@@ -1,14 +1,17 @@
+//! Steps: the ID of the state after a byte, or after the haystack's end, as it is cached or by determinizing it; and
+//! the patterns that match at a state.
 ghost use Rattle.std.specs.Prelude.{◌≡◌, ◌%◌, ◌<◌, None, Some, IfOk, IfErr, length};
 ghost use Rattle.std.specs.Prelude.{slice_index, true, false};
+ghost use Rattle.automata_base.specs.Haystacks.Tapes.{Backward};
 ghost use Rattle.automata_base.specs.Powersets.Powerset.{Powerset};
 ghost use Rattle.automata_base.specs.Retraced.Steps.{successor};
 ghost use Rattle.automata_hybrid.specs.Machines.Machine.{table_stride};
-ghost use Rattle.automata_hybrid.specs.Cache.Table.{Names, IsValid, Leads, HasItsMatchTag};
+ghost use Rattle.automata_hybrid.specs.Cache.Table.{Names, IsRowId, Leads, HasItsMatchTag};
 ghost use Rattle.automata_hybrid.specs.Cache.Stores.{cell_of};
-ghost use Rattle.automata_hybrid.specs.Cache.Caches.{IsCacheOf, HasRow};
+ghost use Rattle.automata_hybrid.specs.Cache.Caches.{HoldsRow, IsCacheOf};
 ghost use Rattle.automata_hybrid.specs.Cache.Ids.{quit_id, unknown_id, offset_limit, HasMatchTag};
 ghost use Rattle.automata_base.specs.ByteClasses.Classes.{class_in, is_quit};
-ghost use Rattle.automata_hybrid.specs.Steps.BySteps.{HoldsRow, StepsOn};
+ghost use Rattle.automata_hybrid.specs.Steps.BySteps.{StepsIn, StepsOn};
 ghost use Rattle.automata_hybrid.specs.Steps.Steps.{IsStepAnswer, IsStepRefused, IsStepEffect, KnowsStep, quits_on};
 ghost use Rattle.automata_config.specs.Options.{match_kind_of};
 
@@ -29,14 +32,15 @@ impl Cache {
         unit: Option<u8>,
     ) -> Result<LazyStateID, StepError>
         requires of { IsCacheOf self.old dfa.now }
-        requires row { HasRow self.old.store.table id }
+        requires row { HoldsRow self.old id }
         ensures of { IsCacheOf self.new dfa.now }
         ensures answer { IfOk result (IsStepAnswer dfa.now id unit self.old self.new) }
         ensures refusal { IfErr result (IsStepRefused dfa.now id unit self.old self.new) }
         ensures effect { IsStepEffect dfa.now id unit self.old self.new }
         ensures stands { IfOk result (StepsOn dfa.now self.old self.new id unit) }
+        ensures back { IfOk result (StepsIn Backward dfa.now self.old self.new id unit) }
     {
-        self.see_store();
+        self.see_bounds();
         if id.is_fixed() {
             return Ok(id);
         }
@@ -46,7 +50,7 @@ impl Cache {
             return Ok(cell);
         }
         let next = self.compute_next(dfa, id, unit)?;
-        self.see_store();
+        self.see_bounds();
         Ok(next)
     }
 
@@ -59,7 +63,7 @@ impl Cache {
         unit: Option<u8>,
     ) -> Result<LazyStateID, StepError>
         requires of { IsCacheOf self.old dfa.now }
-        requires valid { IsValid self.old.store.table id }
+        requires valid { IsRowId self.old.store.table id }
         requires clean { quits_on dfa.now unit ≡ false }
         requires unknown { KnowsStep dfa.now self.old.store id unit → ⊥ }
         ensures of { IsCacheOf self.new dfa.now }
@@ -67,19 +71,19 @@ impl Cache {
         ensures refusal { IfErr result (IsStepRefused dfa.now id unit self.old self.new) }
         ensures effect { IsStepEffect dfa.now id unit self.old self.new }
     {
-        self.see_store();
+        self.see_bounds();
         let class = dfa.unit_class(unit);
         let key = self.determinize(dfa, id, class, unit)?;
         match self.resolve(dfa, key)? {
             Found::Known(to) => {
                 self.set_next(id, class, to);
-                self.see_store();
+                self.see_bounds();
                 Ok(to)
             }
             Found::New(state) => {
                 let (from, to) = self.add_next(dfa, id, state)?;
                 self.set_next(from, class, to);
-                self.see_store();
+                self.see_bounds();
                 Ok(to)
             }
         }
@@ -111,6 +115,7 @@ impl DFA {
         ensures refusal { IfErr result (IsStepRefused self.now id (Some byte) cache.old cache.new) }
         ensures effect { IsStepEffect self.now id (Some byte) cache.old cache.new }
         ensures stands { IfOk result (StepsOn self.now cache.old cache.new id (Some byte)) }
+        ensures back { IfOk result (StepsIn Backward self.now cache.old cache.new id (Some byte)) }
     {
         cache.next(self, id, Some(byte))
     }
@@ -131,6 +136,7 @@ impl DFA {
         ensures refusal { IfErr result (IsStepRefused self.now id None cache.old cache.new) }
         ensures effect { IsStepEffect self.now id None cache.old cache.new }
         ensures stands { IfOk result (StepsOn self.now cache.old cache.new id None) }
+        ensures back { IfOk result (StepsIn Backward self.now cache.old cache.new id None) }
     {
         cache.next(self, id, None)
     }
@@ -153,7 +159,7 @@ impl DFA {
             → Leads cache.now.store.table result
             (successor self.now.nfa (match_kind_of self.now.config) q (Some byte)) }
         ensures tag { HasItsMatchTag cache.now.store.table result }
-        ensures row { result < unknown_id → HasRow cache.now.store.table result }
+        ensures row { result < unknown_id → HoldsRow cache.now result }
     {
         cache.cell_in_row(id, id.untagged() as usize, self.class_of(byte))
     }
@@ -162,7 +168,7 @@ impl DFA {
     #[inline(always)]
     pub(crate) fn next_state_known(&self, cache: &Cache, id: LazyStateID, byte: u8) -> LazyStateID
         requires of { IsCacheOf cache.now self.now }
-        requires valid { IsValid cache.now.store.table id }
+        requires valid { IsRowId cache.now.store.table id }
         ensures value { result ≡ cell_of cache.now.store id (class_in self.now.classes byte) }
         ensures below { class_in self.now.classes byte < table_stride self.now }
         ensures quit { is_quit self.now.quits byte ≡ true → result ≡ quit_id (table_stride self.now) }
@@ -170,7 +176,7 @@ impl DFA {
             → (q : Powerset) → Names cache.now.store.table id q
             → Leads cache.now.store.table result
             (successor self.now.nfa (match_kind_of self.now.config) q (Some byte)) }
-        ensures row { result < unknown_id → HasRow cache.now.store.table result }
+        ensures row { result < unknown_id → HoldsRow cache.now result }
     {
         cache.cell(id, self.class_of(byte))
     }
@@ -185,9 +191,15 @@ impl DFA {
         byte: u8,
     ) -> LazyStateID
         requires of { IsCacheOf cache.now self.now }
-        requires valid { IsValid cache.now.store.table id }
+        requires valid { IsRowId cache.now.store.table id }
         requires offset { row ≡ id % offset_limit }
-        ensures { result ≡ cell_of cache.now.store id (class_in self.now.classes byte) }
+        ensures value { result ≡ cell_of cache.now.store id (class_in self.now.classes byte) }
+        ensures below { class_in self.now.classes byte < table_stride self.now }
+        ensures quit { is_quit self.now.quits byte ≡ true → result ≡ quit_id (table_stride self.now) }
+        ensures named { is_quit self.now.quits byte ≡ false → result < unknown_id
+            → (q : Powerset) → Names cache.now.store.table id q
+            → Leads cache.now.store.table result
+            (successor self.now.nfa (match_kind_of self.now.config) q (Some byte)) }
     {
         cache.cell_in_row(id, row, self.class_of(byte))
     }
@@ -201,7 +213,7 @@ impl DFA {
         ensures number { (q : Powerset) → Names cache.now.store.table id q → result ≡ length q.patterns }
         ensures some { 0 < result }
     {
-        cache.see_store();
+        cache.see_bounds();
         cache.match_len(id)
     }
 
@@ -222,7 +234,7 @@ impl DFA {
         requires index { (q : Powerset) → Names cache.now.store.table id q → index < length q.patterns }
         ensures { (q : Powerset) → Names cache.now.store.table id q → result ≡ slice_index q.patterns index }
     {
-        cache.see_store();
+        cache.see_bounds();
         cache.match_pattern(id, index)
     }
 }

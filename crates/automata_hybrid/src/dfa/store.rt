@@ -1,10 +1,13 @@
+//! What a clear replaces: the table of states, the start slots, the count of clears and the progress of searches. The
+//! rules of the settings are here: what a state costs, whether it fits, and whether a search gives up in place of a
+//! clear.
 ghost use Rattle.std.specs.Prelude.{ℕ, ◌≡◌, ◌+◌, ◌*◌, ◌<◌, ◌≤◌, ◌↔◌, None, IfOk, IfErr, OnOk, OnErr, length, IsTrue};
 ghost use Rattle.std.specs.Prelude.{true};
 ghost use Rattle.automata_base.specs.Powersets.Powerset.{Powerset, cost};
 ghost use Rattle.automata_base.specs.Powersets.Accounting.{minimum_capacity};
 ghost use Rattle.automata_hybrid.specs.Cache.Ids.{offset_limit};
 ghost use Rattle.automata_hybrid.specs.Machines.Machine.{IsTemplate, greatest, slot_count, table_stride, template_of};
-ghost use Rattle.automata_hybrid.specs.Cache.Table.{id_of, Names, IsNewState, IsValid};
+ghost use Rattle.automata_hybrid.specs.Cache.Table.{id_of, Names, IsNewState, IsRowId};
 ghost use Rattle.automata_hybrid.specs.Cache.Clears.{row_of};
 ghost use Rattle.automata_hybrid.specs.Cache.Stores.{with_table, IsCacheError, fresh_store, settings_of};
 ghost use Rattle.automata_hybrid.specs.Cache.Usage.{usage, Fits, FitsAny, IsCleared, refuses_to_clear};
@@ -191,7 +194,7 @@ impl Store {
 
     /// Takes the row of another table over, where few rows are here.
     pub fn keep_saved(&mut self, old: &Table, id: LazyStateID) -> Result<LazyStateID, AllocError>
-        requires valid { IsValid old.now id }
+        requires valid { IsRowId old.now id }
         requires of { self.old.table.of ≡ old.now.of }
         requires few { length self.old.table.rows ≤ length self.old.starts }
         ensures row { OnOk result (self.new ≡ with_table self.old (put_found self.old.table (row_of old.now id))) }

@@ -1,3 +1,6 @@
+//! The transition table: a row of cells for each state, after the three fixed rows (unknown, dead and quit), and the
+//! map from states to the IDs of their rows. An ID has the offset of its row, so that a step adds a class and loads
+//! one cell. The cell is unknown until the step has been taken once.
 ghost use Rattle.std.specs.Prelude.{ℕ, ◌≡◌, ◌+◌, ◌-◌, ◌*◌, ◌/◌, ◌%◌, ◌^◌, ◌<◌, ◌≤◌, None, Some, IfOk, IsTrue};
 ghost use Rattle.std.specs.Prelude.{◌↔◌, OnOk, OnErr, length, slice_index, slice_set, slice_get, sum_by, false, cond};
 ghost use Rattle.automata_base.specs.Powersets.Powerset.{Powerset, cost};
@@ -6,8 +9,8 @@ ghost use Rattle.automata_base.specs.Powersets.Powerset.{dead};
 ghost use Rattle.automata_hybrid.specs.Cache.Ids.{unknown_id, offset_limit};
 ghost use Rattle.automata_hybrid.specs.Machines.Machine.{IsStateOf, IsTemplate, greatest, marked, next_of};
 ghost use Rattle.automata_hybrid.specs.Machines.Machine.{table_stride, template_of};
-ghost use Rattle.automata_hybrid.specs.Cache.Table.{id_of, with_row, fresh, Names, Leads, row_cost, IsValid, HasState};
-ghost use Rattle.automata_hybrid.specs.Cache.Table.{IsNewState, IsSound};
+ghost use Rattle.automata_hybrid.specs.Cache.Table.{id_of, with_row, fresh, Names, Leads, row_cost, IsRowId, HasState};
+ghost use Rattle.automata_hybrid.specs.Cache.Table.{IsNewState, IsSoundTable};
 ghost use Rattle.automata_hybrid.specs.Cache.Table.{IsCell, cell_at, with_cell};
 
 use crate::dfa::row::Row;
@@ -92,7 +95,7 @@ impl Table {
 
     /// What is true of the rows of each table. It does nothing.
     pub fn see_rows(&self)
-        ensures { IsSound self.now }
+        ensures { IsSoundTable self.now }
     {
         let _rows = &self.rows;
     }
@@ -114,7 +117,7 @@ impl Table {
 
     /// The state that an ID names.
     pub fn state(&self, id: LazyStateID) -> &State
-        requires { IsValid self.now id }
+        requires { IsRowId self.now id }
         ensures named { (q : Powerset) → Names self.now id q → result.now ≡ q }
         ensures of { IsStateOf self.now.of result.now }
         ensures cost { cost result.now ≤ greatest self.now.of }
@@ -212,7 +215,7 @@ impl Table {
 
     /// The index of the row that has this ID.
     pub fn row_index(&self, id: LazyStateID) -> usize
-        requires { IsValid self.now id }
+        requires { IsRowId self.now id }
         ensures value { result ≡ (id % offset_limit) / table_stride self.now.of - 3 }
         ensures row { (q : Powerset) → Names self.now id q → HasState self.now result q }
         ensures within { result < length self.now.rows }
@@ -222,7 +225,7 @@ impl Table {
 
     /// Whether a row after the fixed ones has exactly this ID, tags included.
     pub fn has_row(&self, id: LazyStateID) -> bool
-        ensures { IsTrue result ↔ IsValid self.now id }
+        ensures { IsTrue result ↔ IsRowId self.now id }
     {
         let offset = id.offset();
         let index = offset as usize / self.stride;
@@ -238,7 +241,7 @@ impl Table {
 
     /// The cell of a row at a class.
     pub fn cell(&self, id: LazyStateID, class: usize) -> LazyStateID
-        requires row { IsValid self.now id }
+        requires row { IsRowId self.now id }
         requires class { class < table_stride self.now.of }
         ensures value { result ≡ slice_index self.now.cells (cell_at id class) }
         ensures named { (q : Powerset) → Names self.now id q → IsCell self.now q class result }
@@ -250,7 +253,7 @@ impl Table {
     /// The same, of an ID whose row's offset is known: no tag has to be taken off.
     #[inline(always)]
     pub fn cell_in_row(&self, id: LazyStateID, row: usize, class: usize) -> LazyStateID
-        requires row { IsValid self.now id }
+        requires row { IsRowId self.now id }
         requires class { class < table_stride self.now.of }
         requires offset { row ≡ id % offset_limit }
         ensures value { result ≡ slice_index self.now.cells (cell_at id class) }
@@ -262,7 +265,7 @@ impl Table {
 
     /// Writes a transition.
     pub fn set_cell(&mut self, id: LazyStateID, class: usize, next: LazyStateID)
-        requires row { IsValid self.old id }
+        requires row { IsRowId self.old id }
         requires class { class < table_stride self.old.of }
         requires free { slice_index (template_of self.old.of) class ≡ unknown_id }
         requires next { (q : Powerset) × Names self.old id q × Leads self.old next (next_of self.old.of q class) }

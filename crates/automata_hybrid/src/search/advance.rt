@@ -12,7 +12,7 @@ ghost use Rattle.automata_hybrid.specs.Walks.Parts.{IsAdvanceEffect, IsUnitEffec
 ghost use Rattle.automata_hybrid.specs.Searches.Passes.{HasReadNoQuit, IsUnitRefusal, Skips, behind_offset};
 ghost use Rattle.automata_hybrid.specs.Searches.Passes.{state_in, tape_in, unit_offset};
 ghost use Rattle.automata_hybrid.specs.Steps.Starts.{IsStartAnswer, IsStartEffect, IsStartRefusedAt};
-ghost use Rattle.automata_hybrid.specs.Cache.Table.{IsValid, Leads, Names};
+ghost use Rattle.automata_hybrid.specs.Cache.Table.{IsRowId, Leads, Names};
 ghost use Rattle.automata_hybrid.specs.Walks.Answers.{IsAdvanceRefusal, IsArrival, WalkReads};
 ghost use Rattle.automata_hybrid.specs.Walks.State.{way_of};
 
@@ -32,15 +32,6 @@ pub(crate) struct Arrival {
 }
 
 impl DFA {
-    /// Offsets inside a character are skipped, or they are not.
-    pub(crate) fn see_skips(&self)
-        ensures { Skips self.now ⊎ (Skips self.now → ⊥) }
-    {
-        let nfa = self.get_nfa();
-        let _utf8 = nfa.is_utf8();
-        let _empty = nfa.has_empty();
-    }
-
     /// The start state of a search in a direction.
     #[inline(always)]
     pub(crate) fn walk_start(
@@ -85,7 +76,6 @@ impl DFA {
         ensures refusal { IfErr result (IsUnitRefusal (way_of way) self.now cache.new.store input.now place) }
         ensures effect { IsUnitEffect (way_of way) self.now input.now place cache.old cache.new result }
     {
-        let _haystack = input.haystack();
         let at = span_offset(input, way, place);
         let quit_at = unit_offset(input, way, place);
         self.read(cache, id, unit_at(input, way, place), quit_at, at)
@@ -103,7 +93,7 @@ impl DFA {
         requires of { IsCacheOf cache.now self.now }
         requires open { input.now.start ≤ input.now.end }
         requires within { place ≤ input.now.end - input.now.start }
-        requires valid { IsValid cache.now.store.table id }
+        requires valid { IsRowId cache.now.store.table id }
         ensures yes { result ≡ true
             → (Skips self.now → is_split input.now.haystack (offset_in (way_of way) input.now place) ≡ false)
             × ((q : Powerset) → Names cache.now.store.table id q → 0 < length q.patterns) }
@@ -111,7 +101,7 @@ impl DFA {
             → (Skips self.now × (is_split input.now.haystack (offset_in (way_of way) input.now place) ≡ true))
             ⊎ ((q : Powerset) → Names cache.now.store.table id q → q.patterns ≡ []) }
     {
-        cache.see_store();
+        cache.see_bounds();
         if !id.is_match() {
             return false;
         }
@@ -132,7 +122,7 @@ impl DFA {
         requires within { start ≤ input.now.end - input.now.start }
         requires named { Names cache.now.store.table from (state_in (way_of way) self.now input.now start) }
         ensures within { result.at ≤ input.now.end - input.now.start }
-        ensures followed { IsFollowed (way_of way) self.now cache.now.store input.now start result.at result.id }
+        ensures followed { IsFollowed (way_of way) self.now cache.now.store input.now 0 start result.at result.id }
     {
         match way {
             Way::Forward => self.follow(cache, input, Way::Forward, start, from),
@@ -166,7 +156,7 @@ impl DFA {
         while read <= last {
             let stop = self.follow_walk(cache, input, way, read, id);
             let next = self.read_unit(cache, input, way, stop.id, stop.at)?;
-            cache.see_store();
+            cache.see_bounds();
             if next.is_dead() {
                 return Ok(Arrival {
                     id: None,

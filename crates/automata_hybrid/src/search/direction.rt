@@ -1,6 +1,6 @@
 //! All in which the directions of a search differ. A place is counted from where the search begins; an offset is one of
 //! the haystack.
-ghost use Rattle.std.specs.Prelude.{ℕ, ◌≡◌, ◌+◌, ◌-◌, ◌<◌, ◌≤◌, Some, true, false, length};
+ghost use Rattle.std.specs.Prelude.{ℕ, ◌≡◌, ◌+◌, ◌-◌, ◌^◌, ◌<◌, ◌≤◌, Some, true, false, length};
 ghost use Rattle.automata_base.specs.Answers.Answers.{later, offset_in};
 ghost use Rattle.automata_base.specs.Paths.Paths.{next};
 ghost use Rattle.automata_hybrid.specs.Cache.Caches.{with_store};
@@ -35,7 +35,8 @@ pub(crate) fn last_place(input: &Input<'_>) -> usize
 pub(crate) fn place_offset(input: &Input<'_>, way: Way, place: usize) -> usize
     requires open { input.now.start ≤ input.now.end }
     requires within { place ≤ input.now.end - input.now.start }
-    ensures { result ≡ offset_in (way_of way) input.now place }
+    ensures value { result ≡ offset_in (way_of way) input.now place }
+    ensures inside { input.now.end ≤ length input.now.haystack }
 {
     let _haystack = input.haystack();
     match way {
@@ -73,6 +74,7 @@ pub(crate) fn bytes_from<'h>(input: &Input<'h>, way: Way, place: usize) -> &'h [
     requires open { input.now.start ≤ input.now.end }
     requires within { place ≤ input.now.end - input.now.start }
     ensures long { length result.now ≡ input.now.end - input.now.start - place }
+    ensures bound { input.now.end < 2 ^ 63 }
     ensures units { (k : ℕ) → k < length result.now
         → next (tape_in (way_of way) input.now) (place + k) ≡ Some (byte_in (way_of way) result.now k) }
 {
@@ -126,7 +128,8 @@ pub(crate) fn unit_offset(input: &Input<'_>, way: Way, place: usize) -> usize
 pub(crate) fn span_offset(input: &Input<'_>, way: Way, place: usize) -> usize
     requires open { input.now.start ≤ input.now.end }
     requires within { place ≤ input.now.end - input.now.start }
-    ensures { result ≡ given_up_offset (way_of way) input.now place }
+    ensures value { result ≡ given_up_offset (way_of way) input.now place }
+    ensures inside { input.now.end ≤ length input.now.haystack }
 {
     let at = place_offset(input, way, place);
     match way {

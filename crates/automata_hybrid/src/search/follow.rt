@@ -1,14 +1,12 @@
 //! Following cached transitions, eight a turn: into states that report nothing or into match states, and along
 //! self-loops.
-ghost use Rattle.std.specs.Prelude.{ℕ, ◌≡◌, ◌+◌, ◌-◌, ◌^◌, ◌<◌, ◌≤◌};
-ghost use Rattle.automata_base.specs.Paths.Paths.{next};
+ghost use Rattle.std.specs.Prelude.{◌≡◌, ◌+◌, ◌-◌, ◌<◌, ◌≤◌};
 ghost use Rattle.automata_hybrid.specs.Cache.Caches.{IsCacheOf};
-ghost use Rattle.automata_hybrid.specs.Cache.Ids.{fixed_from, offset_limit, HasOnly, HasMatchTag};
-ghost use Rattle.automata_hybrid.specs.Searches.PassState.{IsFollowed, IsLed, IsMet, IsRun, IsTagAt};
-ghost use Rattle.automata_hybrid.specs.Searches.Passes.{state_in, tape_in};
+ghost use Rattle.automata_hybrid.specs.Cache.Ids.{fixed_from, HasOnly};
+ghost use Rattle.automata_hybrid.specs.Searches.PassState.{IsFollowed, IsMatchRun, IsMet, IsRun, IsTagAt, MeetsMatch};
+ghost use Rattle.automata_hybrid.specs.Searches.Passes.{state_in};
 ghost use Rattle.automata_hybrid.specs.Searches.SelfLoops.{IsSelfLoop};
-ghost use Rattle.automata_hybrid.specs.Steps.Steps.{known_step};
-ghost use Rattle.automata_hybrid.specs.Cache.Table.{IsValid, Names};
+ghost use Rattle.automata_hybrid.specs.Cache.Table.{IsRowId, Names};
 ghost use Rattle.automata_hybrid.specs.Walks.State.{way_of};
 
 use crate::dfa::DFA;
@@ -46,7 +44,7 @@ impl DFA {
         requires within { start ≤ input.now.end - input.now.start }
         requires named { Names cache.now.store.table from (state_in (way_of way) self.now input.now start) }
         ensures within { result.at ≤ input.now.end - input.now.start }
-        ensures followed { IsFollowed (way_of way) self.now cache.now.store input.now start result.at result.id }
+        ensures followed { IsFollowed (way_of way) self.now cache.now.store input.now 0 start result.at result.id }
         ensures met { IsMet (way_of way) self.now cache.now.store input.now result.at result.id result.next }
     {
         if from.has_only(0) {
@@ -59,7 +57,6 @@ impl DFA {
                 next: LazyStateID::UNKNOWN,
             };
         }
-        self.see_byte(cache, input, way, start, from);
         Stop {
             at: start,
             id: from,
@@ -67,8 +64,8 @@ impl DFA {
         }
     }
 
-    /// Follows cached transitions into states that have patterns, from an ID after which one with the match tag alone was
-    /// met.
+    /// Follows cached transitions into states that have patterns, from an ID after which one with the match tag alone
+    /// was met.
     #[inline(always)]
     pub(super) fn follow_matches(
         &self,
@@ -82,14 +79,11 @@ impl DFA {
         requires of { IsCacheOf cache.now self.now }
         requires open { input.now.start ≤ input.now.end }
         requires named { Names cache.now.store.table from (state_in (way_of way) self.now input.now start) }
-        requires met { IsMet (way_of way) self.now cache.now.store input.now start from next × HasOnly (2 ^ 27) next }
-        ensures within { (start < result.at) × (result.at ≤ input.now.end - input.now.start) }
-        ensures led { IsLed (way_of way) self.now cache.now.store input.now start result.at result.id }
-        ensures reports { HasMatchTag result.id }
+        requires met { MeetsMatch (way_of way) self.now cache.now.store input.now start from next }
+        ensures run { IsMatchRun (way_of way) self.now cache.now.store input.now start result.at result.id }
         ensures met { IsMet (way_of way) self.now cache.now.store input.now result.at result.id result.next }
     {
         let _haystack = input.haystack();
-        self.see_byte(cache, input, way, start, from);
         self.follow_tag(cache, input, way, start + 1, next, LazyStateID::MATCH)
     }
 
@@ -237,26 +231,7 @@ impl DFA {
             → IsRun (way_of way) self.now cache.now.store input.now tag place (place + 1) result }
         ensures met { IsMet (way_of way) self.now cache.now.store input.now place id result }
     {
-        self.see_byte(cache, input, way, place, id);
         self.next_state_in_row(cache, id, row, byte_at(input, way, place))
-    }
-
-    /// A cached transition on the byte at a place leads on, and if it leads to an ID without a tag, reports nothing. It
-    /// does nothing.
-    #[inline(always)]
-    fn see_byte(&self, cache: &Cache, input: &Input<'_>, way: Way, place: usize, id: LazyStateID)
-        requires of { IsCacheOf cache.now self.now }
-        requires within { place < input.now.end - input.now.start }
-        requires named { Names cache.now.store.table id (state_in (way_of way) self.now input.now place) }
-        ensures led { (to : ℕ) → to < fixed_from
-            → to ≡ known_step self.now cache.now.store id (next (tape_in (way_of way) input.now) place)
-            → IsLed (way_of way) self.now cache.now.store input.now place (place + 1) to }
-        ensures followed { (to : ℕ) → to < offset_limit
-            → to ≡ known_step self.now cache.now.store id (next (tape_in (way_of way) input.now) place)
-            → IsFollowed (way_of way) self.now cache.now.store input.now place (place + 1) to }
-    {
-        self.see_machine();
-        let _next = self.next_state_known(cache, id, byte_at(input, way, place));
     }
 
     /// Follows the self-loop of an ID that may have a tag, if its row has one.
@@ -270,14 +245,13 @@ impl DFA {
         id: LazyStateID,
     ) -> usize
         requires of { IsCacheOf cache.now self.now }
-        requires valid { IsValid cache.now.store.table id }
+        requires valid { IsRowId cache.now.store.table id }
         requires plain { id < fixed_from }
         requires open { input.now.start ≤ input.now.end }
         requires within { start ≤ input.now.end - input.now.start }
         ensures within { result ≤ input.now.end - input.now.start }
         ensures loops { IsSelfLoop (way_of way) self.now cache.now.store input.now id start result }
     {
-        let _haystack = input.haystack();
         start + self.follow_self_loop(cache, id, way, bytes_from(input, way, start))
     }
 }

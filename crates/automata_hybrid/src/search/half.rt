@@ -1,14 +1,13 @@
 //! Searches for one end of a match: one span after another, as long as offsets inside a character are skipped.
 ghost use Rattle.std.specs.Prelude.{◌≡◌, ◌<◌, IfOk, IfErr, IfSome};
 ghost use Rattle.std.specs.Prelude.{None, Err, Ok};
-ghost use Rattle.automata_base.specs.Haystacks.Input.{Allows};
 ghost use Rattle.automata_base.specs.Haystacks.Tapes.{Forward, Backward};
 ghost use Rattle.automata_hybrid.specs.Cache.Caches.{IsCacheOf};
 ghost use Rattle.automata_hybrid.specs.Searches.Costs.{IsCostUpto};
 ghost use Rattle.automata_hybrid.specs.Searches.Contracts.{IsBased, IsHalf, IsSearchEffect, IsUnsupported, based_half};
 ghost use Rattle.automata_hybrid.specs.Searches.Contracts.{halves};
 ghost use Rattle.automata_hybrid.specs.Searches.Contracts.{unsupported_error};
-ghost use Rattle.automata_hybrid.specs.Searches.PassContracts.{input_at};
+ghost use Rattle.automata_hybrid.specs.Searches.PassContracts.{MayBegin, input_at};
 ghost use Rattle.automata_hybrid.specs.Searches.Passes.{IsFound, IsRefused};
 ghost use Rattle.automata_hybrid.specs.Walks.State.{way_of};
 
@@ -34,8 +33,8 @@ fn without_base(
 }
 
 impl DFA {
-    /// The pattern and the end of a match: under `MatchKind::LeftmostFirst` of the first one, under `All` of the one that
-    /// ends last; with an earliest input, of the match that ends first.
+    /// The pattern and the end of a match: under `MatchKind::LeftmostFirst` of the first one, under `All` of the one
+    /// that ends last; with an earliest input, of the match that ends first.
     ///
     /// ```rust
     /// let input = Input::new(line).earliest(true);
@@ -182,18 +181,18 @@ impl DFA {
         earliest: bool,
         way: Way,
     ) -> Result<Option<(HalfMatch, usize)>, SearchError>
-        requires { IsCacheOf cache.old self.now × Allows haystack.now span.start span.end }
+        requires { MayBegin self.now cache.old (input_at haystack.now span anchored earliest) }
         ensures of { IsCacheOf cache.new self.now }
         ensures found { IfOk result (λ o. IsFound (way_of way) self.now
-            (input_at haystack.now span.start span.end anchored earliest) (based_half o)) }
+            (input_at haystack.now span anchored earliest) (based_half o)) }
         ensures refusal { IfErr result (IsRefused (way_of way) self.now cache.new.store
-            (input_at haystack.now span.start span.end anchored earliest)) }
+            (input_at haystack.now span anchored earliest)) }
         ensures effect { IsSearchEffect (way_of way) self.now
-            (input_at haystack.now span.start span.end anchored earliest) cache.old cache.new result }
+            (input_at haystack.now span anchored earliest) cache.old cache.new result }
         ensures upto { way_of way ≡ Forward
             → IfOk result (λ o. IfSome o (λ p. IsCostUpto self.now
-            (input_at haystack.now span.start span.end anchored earliest) p.1 cache.old cache.new)) }
-        ensures unsupported { let input = input_at haystack.now span.start span.end anchored earliest in
+            (input_at haystack.now span anchored earliest) p.1 cache.old cache.new)) }
+        ensures unsupported { let input = input_at haystack.now span anchored earliest in
             IsUnsupported (way_of way) self.now input → result ≡ Err (unsupported_error input) }
         ensures done { span.end < span.start → result ≡ Ok None }
     {

@@ -3,7 +3,7 @@ ghost use Rattle.std.specs.Prelude.{◌≡◌, ◌-◌, ◌<◌, ◌≤◌, None
 ghost use Rattle.automata_base.specs.Paths.Paths.{next};
 ghost use Rattle.automata_hybrid.specs.Cache.Caches.{IsCacheOf};
 ghost use Rattle.automata_hybrid.specs.Cache.Ids.{unknown_id};
-ghost use Rattle.automata_hybrid.specs.Cache.Table.{IsValid, Names};
+ghost use Rattle.automata_hybrid.specs.Cache.Table.{IsRowId, Names};
 ghost use Rattle.automata_hybrid.specs.Searches.PassContracts.{IsKnownEnd, IsKnownUpto, IsUnderway};
 ghost use Rattle.automata_hybrid.specs.Searches.PassState.{IsMet};
 ghost use Rattle.automata_hybrid.specs.Searches.Passes.{state_in, tape_in};
@@ -71,13 +71,12 @@ impl DFA {
     #[inline(always)]
     fn known_step(&self, cache: &Cache, id: LazyStateID, unit: Option<u8>) -> LazyStateID
         requires of { IsCacheOf cache.now self.now }
-        requires valid { IsValid cache.now.store.table id }
+        requires valid { IsRowId cache.now.store.table id }
         ensures value { result ≡ known_step self.now cache.now.store id unit }
         ensures answer { result < unknown_id → IsStepAnswer self.now id unit cache.now cache.now result }
         ensures effect { result < unknown_id → IsReadEffect self.now id unit cache.now cache.now (Ok result) }
     {
-        self.see_machine();
-        cache.see_store();
+        cache.see_bounds();
         cache.cell(id, self.unit_class(unit))
     }
 
@@ -131,7 +130,7 @@ impl DFA {
         ensures left { result.ended ≡ false
             → IsKnownUpto (way_of way) self.now cache.now.store input.now result.at result.id result.found }
     {
-        cache.see_store();
+        cache.see_bounds();
         let last = last_place(input);
         let run = self.run(cache, input, way, 0, start, None);
         let next = self.known_next(cache, input, way, run.at, run.id, run.next);

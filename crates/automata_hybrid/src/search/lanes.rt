@@ -1,7 +1,7 @@
 //! Which of 32 bytes are in a range, or in one of two, all compared at once.
 ghost use Rattle.std.specs.Prelude.{◌+◌, ◌<◌, ◌≡◌, ◌≤◌, ◌^◌, ℕ, IsTrue, length, slice_index};
 ghost use Rattle.std.specs.Int.{bit_at};
-ghost use Rattle.automata_hybrid.specs.Searches.SelfLoops.{Has, HasEither, above, byte_in, lane_of};
+ghost use Rattle.automata_hybrid.specs.Searches.SelfLoops.{HasByte, HasEither, above, byte_in, lane_of};
 ghost use Rattle.automata_hybrid.specs.Walks.State.{way_of};
 
 use crate::search::direction::Way;
@@ -29,7 +29,7 @@ fn outside_at(way: Way, range: LoopRange, bytes: &[u8], at: usize) -> u64
     requires { at + 32 ≤ length bytes.now }
     ensures small { result < 2 ^ 32 }
     ensures near { (k : ℕ) → k < 32 → bit_at result (lane_of (way_of way) k) ≡ 0
-        → Has range (byte_in (way_of way) bytes.now (at + k)) }
+        → HasByte range (byte_in (way_of way) bytes.now (at + k)) }
 {
     let from = match way {
         Way::Forward => at,
@@ -53,7 +53,7 @@ fn outside_both(way: Way, first: LoopRange, second: LoopRange, bytes: &[u8], at:
 #[inline(always)]
 pub(super) fn are_in(way: Way, range: LoopRange, bytes: &[u8], at: usize) -> bool
     requires { at + 32 ≤ length bytes.now }
-    ensures { IsTrue result → (k : ℕ) → at ≤ k → k < at + 32 → Has range (byte_in (way_of way) bytes.now k) }
+    ensures { IsTrue result → (k : ℕ) → at ≤ k → k < at + 32 → HasByte range (byte_in (way_of way) bytes.now k) }
 {
     outside_at(way, range, bytes, at) == 0
 }

@@ -4,7 +4,7 @@ ghost use Rattle.automata_hybrid.specs.Cache.Caches.{IsCacheOf};
 ghost use Rattle.automata_hybrid.specs.Cache.Ids.{fixed_from};
 ghost use Rattle.automata_hybrid.specs.Machines.Machine.{table_stride};
 ghost use Rattle.automata_hybrid.specs.Searches.SelfLoops.{IsLoopRange, LoopsOn};
-ghost use Rattle.automata_hybrid.specs.Cache.Table.{IsValid};
+ghost use Rattle.automata_hybrid.specs.Cache.Table.{IsRowId};
 
 use crate::dfa::DFA;
 use crate::dfa::cache::Cache;
@@ -38,13 +38,13 @@ impl DFA {
     /// Whether a row has a cached self-loop on the bytes from one on, before another: on those of each class.
     fn loops_between(&self, cache: &Cache, id: LazyStateID, from: usize, to: usize) -> bool
         requires of { IsCacheOf cache.now self.now }
-        requires valid { IsValid cache.now.store.table id }
+        requires valid { IsRowId cache.now.store.table id }
         requires plain { id < fixed_from }
         requires within { to ≤ 256 }
         ensures { IsTrue result → (byte : ℕ) → from ≤ byte → byte < to → LoopsOn self.now cache.now.store id byte }
     {
         self.see_machine();
-        cache.see_store();
+        cache.see_bounds();
         if from >= to {
             return true;
         }
@@ -61,7 +61,7 @@ impl DFA {
     /// Whether it is known to do so on each byte of a range.
     pub(super) fn loops_on_range(&self, cache: &Cache, id: LazyStateID, range: LoopRange) -> bool
         requires of { IsCacheOf cache.now self.now }
-        requires valid { IsValid cache.now.store.table id }
+        requires valid { IsRowId cache.now.store.table id }
         requires plain { id < fixed_from }
         ensures { IsTrue result → IsLoopRange self.now cache.now.store id range }
     {
@@ -89,7 +89,7 @@ impl DFA {
     /// class of byte 0 follows that of byte 255.
     fn classes_around(&self, cache: &Cache, id: LazyStateID, class: usize) -> (usize, usize, u16)
         requires of { IsCacheOf cache.now self.now }
-        requires valid { IsValid cache.now.store.table id }
+        requires valid { IsRowId cache.now.store.table id }
         requires class { class < table_stride self.now }
     {
         let end = self.end_class();
@@ -117,7 +117,7 @@ impl DFA {
     /// The range around a byte on which a row has a cached self-loop.
     pub(super) fn range_around(&self, cache: &Cache, id: LazyStateID, byte: u8) -> LoopRange
         requires of { IsCacheOf cache.now self.now }
-        requires valid { IsValid cache.now.store.table id }
+        requires valid { IsRowId cache.now.store.table id }
         requires plain { id < fixed_from }
         ensures { IsLoopRange self.now cache.now.store id result }
     {

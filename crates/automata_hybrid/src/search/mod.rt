@@ -1,3 +1,9 @@
+//! Searches. Here is what one unit does to the state of a search. `follow` runs over cached transitions, and
+//! `self_loop` over a row that leads back to itself, by the ranges of bytes that `loop_range` finds and `lanes`
+//! compares. `known` is a pass over a span that only reads the cache, `pass` one that determinizes, and `half` one
+//! pass after another: the public searches for one end of a match. A `walk` is an overlapping search between its
+//! calls; `advance` takes it to the next match, `overlapping` is one call, and `which` collects the patterns of all.
+//! `direction` has all in which the two directions differ.
 ghost use Rattle.std.specs.Prelude.{◌≡◌, slice_index, ◌<◌, IfOk, IfErr, OnErr};
 ghost use Rattle.std.specs.Prelude.{Some, None, true, false};
 ghost use Rattle.automata_base.specs.Powersets.Powerset.{Powerset};
@@ -10,7 +16,7 @@ ghost use Rattle.automata_hybrid.specs.Searches.Passes.{Skips};
 ghost use Rattle.automata_base.specs.declared.util.search.MatchErrorKind.TheVariants.{Quit as QuitAt};
 ghost use Rattle.automata_hybrid.specs.Cache.Ids.{unknown_id, HasMatchTag};
 ghost use Rattle.automata_hybrid.specs.Steps.Steps.{IsStepAnswer, IsStepEffect, known_step};
-ghost use Rattle.automata_hybrid.specs.Cache.Table.{IsValid, Leads, Names};
+ghost use Rattle.automata_hybrid.specs.Cache.Table.{IsRowId, Leads, Names};
 
 mod advance;
 mod direction;
@@ -92,7 +98,7 @@ impl DFA {
         at: usize,
     ) -> Result<LazyStateID, SearchError>
         requires of { IsCacheOf cache.old self.now }
-        requires valid { IsValid cache.old.store.table id }
+        requires valid { IsRowId cache.old.store.table id }
         ensures of { IsCacheOf cache.new self.now }
         ensures answer { IfOk result (IsStepAnswer self.now id (Some byte) cache.old cache.new) }
         ensures refusal { IfErr result (IsStepRefusedAt self.now id (Some byte) at cache.old cache.new) }
@@ -115,7 +121,7 @@ impl DFA {
         at: usize,
     ) -> Result<LazyStateID, SearchError>
         requires of { IsCacheOf cache.old self.now }
-        requires valid { IsValid cache.old.store.table id }
+        requires valid { IsRowId cache.old.store.table id }
         requires met { met < unknown_id → met ≡ known_step self.now cache.old.store id (Some byte) }
         ensures of { IsCacheOf cache.new self.now }
         ensures answer { IfOk result (IsStepAnswer self.now id (Some byte) cache.old cache.new) }
@@ -125,7 +131,7 @@ impl DFA {
         if met.is_unknown() {
             return self.step(cache, id, byte, at);
         }
-        cache.see_store();
+        cache.see_bounds();
         let _cell = cache.cell(id, self.class_of(byte));
         Ok(met)
     }
@@ -143,7 +149,7 @@ impl DFA {
         at: usize,
     ) -> Result<LazyStateID, SearchError>
         requires of { IsCacheOf cache.old self.now }
-        requires valid { IsValid cache.old.store.table id }
+        requires valid { IsRowId cache.old.store.table id }
         requires met { met < unknown_id → met ≡ known_step self.now cache.old.store id (Some byte) }
         ensures of { IsCacheOf cache.new self.now }
         ensures answer { IfOk result (IsReadAnswer self.now id (Some byte) cache.old cache.new) }
@@ -152,10 +158,10 @@ impl DFA {
         ensures step { IsReadStep self.now id (Some byte) at cache.old.store cache.new.store result }
     {
         self.see_machine();
-        cache.see_store();
+        cache.see_bounds();
         cache.move_search(at);
         let next = self.step_met(cache, id, met, byte, at)?;
-        cache.see_store();
+        cache.see_bounds();
         if next.is_quit() {
             cache.end_search(at);
             return Err(quit(byte, quit_at));
@@ -174,7 +180,7 @@ impl DFA {
         at: usize,
     ) -> Result<LazyStateID, SearchError>
         requires of { IsCacheOf cache.old self.now }
-        requires valid { IsValid cache.old.store.table id }
+        requires valid { IsRowId cache.old.store.table id }
         ensures of { IsCacheOf cache.new self.now }
         ensures answer { IfOk result (IsReadAnswer self.now id unit cache.old cache.new) }
         ensures refusal { IfErr result (IsReadRefusal self.now id unit quit_at at cache.old cache.new) }
@@ -200,7 +206,7 @@ impl DFA {
         at: usize,
     ) -> Result<LazyStateID, SearchError>
         requires of { IsCacheOf cache.old self.now }
-        requires valid { IsValid cache.old.store.table id }
+        requires valid { IsRowId cache.old.store.table id }
         ensures of { IsCacheOf cache.new self.now }
         ensures answer { IfOk result (IsReadAnswer self.now id unit cache.old cache.new) }
         ensures refusal { IfErr result (IsReadRefusal self.now id unit quit_at at cache.old cache.new) }
@@ -209,11 +215,11 @@ impl DFA {
         ensures kept { OnErr result (cache.new.store ≡ cache.old.store) }
     {
         self.see_machine();
-        cache.see_store();
+        cache.see_bounds();
         match unit {
             Some(byte) => {
                 let next = self.step(cache, id, byte, at)?;
-                cache.see_store();
+                cache.see_bounds();
                 if next.is_quit() {
                     return Err(quit(byte, quit_at));
                 }
@@ -231,7 +237,7 @@ impl DFA {
         at: usize,
     ) -> Result<LazyStateID, SearchError>
         requires of { IsCacheOf cache.old self.now }
-        requires valid { IsValid cache.old.store.table id }
+        requires valid { IsRowId cache.old.store.table id }
         ensures of { IsCacheOf cache.new self.now }
         ensures answer { IfOk result (IsReadAnswer self.now id None cache.old cache.new) }
         ensures refusal { IfErr result (IsReadRefusal self.now id None at at cache.old cache.new) }
@@ -240,7 +246,7 @@ impl DFA {
         ensures kept { OnErr result (cache.new.store ≡ cache.old.store) }
     {
         self.see_machine();
-        cache.see_store();
+        cache.see_bounds();
         match self.next_eoi_state(cache, id) {
             Ok(next) => Ok(next),
             Err(error) => Err(refusal(error, at)),
@@ -251,11 +257,11 @@ impl DFA {
     #[inline(always)]
     fn first_pattern(&self, cache: &Cache, id: LazyStateID) -> PatternID
         requires of { IsCacheOf cache.now self.now }
-        requires valid { IsValid cache.now.store.table id }
+        requires valid { IsRowId cache.now.store.table id }
         requires tagged { HasMatchTag id }
         ensures { (q : Powerset) → Names cache.now.store.table id q → result ≡ slice_index q.patterns 0 }
     {
-        cache.see_store();
+        cache.see_bounds();
         if self.pattern_len() == 1 {
             return PatternID::ZERO;
         }
@@ -266,11 +272,11 @@ impl DFA {
     #[inline(never)]
     fn first_of_many(&self, cache: &Cache, id: LazyStateID) -> PatternID
         requires of { IsCacheOf cache.now self.now }
-        requires valid { IsValid cache.now.store.table id }
+        requires valid { IsRowId cache.now.store.table id }
         requires tagged { HasMatchTag id }
         ensures { (q : Powerset) → Names cache.now.store.table id q → result ≡ slice_index q.patterns 0 }
     {
-        cache.see_store();
+        cache.see_bounds();
         cache.match_pattern(id, 0)
     }
 
@@ -287,7 +293,7 @@ impl DFA {
         requires leads { (q : Powerset) × Leads cache.now.store.table id q }
         ensures { (q : Powerset) → Leads cache.now.store.table id q → result ≡ half_at q.patterns at found }
     {
-        cache.see_store();
+        cache.see_bounds();
         if id.is_fixed() {
             return found;
         }

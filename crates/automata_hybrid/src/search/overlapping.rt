@@ -159,12 +159,11 @@ impl DFA {
         ensures effect { IsCallEffect (keeping_of held.old) (way_of way) self.now input.now walk.old walk.new
             cache.old cache.new result }
     {
-        self.see_skips();
-        let _haystack = input.haystack();
+        let _skips = self.skips();
         let from = self.resume(cache, input, way, walk, held)?;
         let place = span_offset(input, way, walk.units());
         cache.search_start(place);
-        cache.see_store();
+        cache.see_bounds();
         if from.is_dead() {
             cache.end_search(place);
             walk.end(walk.units());

@@ -1,5 +1,5 @@
 //! One run over the span of an input, in either direction.
-ghost use Rattle.std.specs.Prelude.{◌≡◌, ◌-◌, ◌<◌, ◌≤◌, IfOk, IfErr, OnOk, Option};
+ghost use Rattle.std.specs.Prelude.{◌≡◌, ◌-◌, ◌<◌, ◌≤◌, IfOk, IfErr, OnOk};
 ghost use Rattle.std.specs.Prelude.{None, Err};
 ghost use Rattle.automata_base.specs.Haystacks.Input.{Allows};
 ghost use Rattle.automata_base.specs.Paths.Paths.{next};
@@ -7,6 +7,7 @@ ghost use Rattle.automata_base.specs.Powersets.Powerset.{Powerset, dead};
 ghost use Rattle.automata_hybrid.specs.Cache.Caches.{IsCacheOf};
 ghost use Rattle.automata_hybrid.specs.Searches.Contracts.{IsUnsupported, unsupported_error};
 ghost use Rattle.automata_hybrid.specs.Searches.PassContracts.{IsKnownUpto, IsPassAnswer, IsPassEffect};
+ghost use Rattle.automata_hybrid.specs.Searches.PassContracts.{IsTakenUp};
 ghost use Rattle.automata_hybrid.specs.Searches.PassContracts.{IsRestEffect, IsUnderway, input_at};
 ghost use Rattle.automata_hybrid.specs.Searches.PassState.{HasRun, IsAt, IsMet};
 ghost use Rattle.automata_hybrid.specs.Searches.Units.{IsEndProgress, IsStillProgress};
@@ -22,7 +23,6 @@ use crate::search::direction::{
     Way, byte_at, byte_offset, bytes_read, end_before_last, keeps_none, last_place, place_offset,
     span_offset, unit_at, unit_offset,
 };
-use crate::search::known::Known;
 use automata_base::util::search::{Anchored, HalfMatch, Input, Span};
 use automata_config::error::SearchError;
 
@@ -55,7 +55,7 @@ pub(super) fn input_of<'h>(
     earliest: bool,
 ) -> Input<'h>
     requires { Allows haystack.now span.start span.end }
-    ensures { result ≡ input_at haystack.now span.start span.end anchored earliest }
+    ensures { result ≡ input_at haystack.now span anchored earliest }
 {
     Input::new(haystack)
         .span(span)
@@ -64,11 +64,11 @@ pub(super) fn input_of<'h>(
 }
 
 impl DFA {
-    /// One run over the span, which is not done. While all that it reads is cached, it changes nothing, and it counts its
-    /// bytes once it has ended.
-    // `begin_of` and `rest` are not inlined, so that a search which finds all that it needs cached keeps its numbers in
-    // registers. What they are lent and what they return stands in memory, which is cleared first: so they are given the
-    // parts of the input, and what they return is taken apart.
+    /// One run over the span, which is not done. While all that it reads is cached, it changes nothing, and it counts
+    /// its bytes once it has ended.
+    // `begin_of` and `rest` are not inlined, so that a search which finds all that it needs cached keeps its numbers
+    // in registers. What they are lent and what they return stands in memory, which is cleared first: so they are
+    // given the parts of the input, and what they return is taken apart.
     #[inline(always)]
     pub(super) fn pass(
         &self,
@@ -86,7 +86,6 @@ impl DFA {
         ensures effect { IsPassEffect (way_of way) self.now input.now cache.old cache.new result }
     {
         cache.see_bounds();
-        cache.see_store();
         let start = self.known_start(cache, input, way);
         if start.is_fixed() || keeps_none(input, way) {
             return match self.begin_of(
@@ -101,18 +100,13 @@ impl DFA {
                 Err(error) => Err(error),
             };
         }
-        let Known {
-            ended,
-            at,
-            id,
-            found,
-        } = self.known_pass(cache, input, way, start);
-        if ended {
-            cache.count_search(bytes_read(input, way, at));
-            return Ok(found);
+        let known = self.known_pass(cache, input, way, start);
+        if known.ended {
+            cache.count_search(bytes_read(input, way, known.at));
+            return Ok(known.found);
         }
         cache.search_start(span_offset(input, way, 0));
-        let before = again(found);
+        let before = again(known.found);
         match self.rest(
             cache,
             input.haystack(),
@@ -120,8 +114,8 @@ impl DFA {
             input.get_anchored(),
             input.get_earliest(),
             way,
-            at,
-            id,
+            known.at,
+            known.id,
             before,
         ) {
             Ok(found) => Ok(found),
@@ -141,16 +135,17 @@ impl DFA {
         way: Way,
     ) -> Result<Option<HalfMatch>, SearchError>
         requires of { IsCacheOf cache.old self.now }
-        requires open { Allows haystack.now span.start span.end × (span.start ≤ span.end) }
+        requires allowed { Allows haystack.now span.start span.end }
+        requires open { span.start ≤ span.end }
         ensures of { IsCacheOf cache.new self.now }
         ensures answer { IfOk result (IsPassAnswer (way_of way) self.now
-            (input_at haystack.now span.start span.end anchored earliest)) }
+            (input_at haystack.now span anchored earliest)) }
         ensures refusal { IfErr result (IsPassRefusal (way_of way) self.now cache.new.store
-            (input_at haystack.now span.start span.end anchored earliest)) }
-        ensures unsupported { let input = input_at haystack.now span.start span.end anchored earliest in
+            (input_at haystack.now span anchored earliest)) }
+        ensures unsupported { let input = input_at haystack.now span anchored earliest in
             IsUnsupported (way_of way) self.now input → result ≡ Err (unsupported_error input) }
         ensures effect { IsPassEffect (way_of way) self.now
-            (input_at haystack.now span.start span.end anchored earliest) cache.old cache.new result }
+            (input_at haystack.now span anchored earliest) cache.old cache.new result }
     {
         let own = input_of(haystack, span, anchored, earliest);
         self.begin(cache, &own, way)
@@ -178,7 +173,7 @@ impl DFA {
             Ok(start) => start,
             Err(error) => return Err(error),
         };
-        cache.see_store();
+        cache.see_bounds();
         if keeps_none(input, way) {
             if start.is_dead() {
                 return Ok(None);
@@ -243,7 +238,7 @@ impl DFA {
             };
         }
         let stop = self.follow_matches(cache, input, way, quiet.at, quiet.id, quiet.next);
-        cache.see_store();
+        cache.see_bounds();
         let offset = place_offset(input, way, stop.at - 1);
         let pattern = self.first_pattern(cache, stop.id);
         Place {
@@ -269,19 +264,19 @@ impl DFA {
         before: Option<HalfMatch>,
     ) -> Result<Option<HalfMatch>, SearchError>
         requires of { IsCacheOf cache.old self.now }
-        requires at { Allows haystack.now span.start span.end × IsKnownUpto (way_of way) self.now cache.old.store
-            (input_at haystack.now span.start span.end anchored earliest) from start before }
+        requires at { IsTakenUp (way_of way) self.now cache.old.store
+            (input_at haystack.now span anchored earliest) from start before }
         ensures of { IsCacheOf cache.new self.now }
         ensures answer { IfOk result (IsPassAnswer (way_of way) self.now
-            (input_at haystack.now span.start span.end anchored earliest)) }
+            (input_at haystack.now span anchored earliest)) }
         ensures refusal { IfErr result (IsPassRefusal (way_of way) self.now cache.new.store
-            (input_at haystack.now span.start span.end anchored earliest)) }
+            (input_at haystack.now span anchored earliest)) }
         ensures effect { IsRestEffect (way_of way) self.now
-            (input_at haystack.now span.start span.end anchored earliest) 0 cache.old cache.new result }
+            (input_at haystack.now span anchored earliest) 0 cache.old cache.new result }
         ensures ended { OnOk result (EndsAtLast (way_of way) self.now
-            (input_at haystack.now span.start span.end anchored earliest) cache.old.store cache.new.store) }
+            (input_at haystack.now span anchored earliest) cache.old.store cache.new.store) }
         ensures left { IfErr result (IsStoppedAt (way_of way) self.now
-            (input_at haystack.now span.start span.end anchored earliest) cache.old.store cache.new.store) }
+            (input_at haystack.now span anchored earliest) cache.old.store cache.new.store) }
     {
         let own = input_of(haystack, span, anchored, earliest);
         match way {
@@ -325,7 +320,7 @@ impl DFA {
                 Ok(next) => next,
                 Err(error) => return Err(error),
             };
-            cache.see_store();
+            cache.see_bounds();
             if next.is_dead() {
                 cache.end_search(offset);
                 return Ok(run.found);
@@ -394,7 +389,6 @@ impl DFA {
         ensures effect { IsRestEffect (way_of way) self.now input.now 0 cache.old cache.new result }
         ensures progress { IsStillProgress (way_of way) self.now input.now cache.old.store cache.new.store result }
     {
-        let _haystack = input.haystack();
         let at = span_offset(input, way, 0);
         let unit = unit_at(input, way, 0);
         let next = self.read_still(cache, id, unit, unit_offset(input, way, 0), at)?;

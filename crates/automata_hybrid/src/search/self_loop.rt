@@ -4,7 +4,7 @@ ghost use Rattle.std.specs.Prelude.{◌≡◌, ◌+◌, ◌<◌, ◌≤◌, IsTr
 ghost use Rattle.automata_hybrid.specs.Cache.Caches.{IsCacheOf};
 ghost use Rattle.automata_hybrid.specs.Cache.Ids.{fixed_from};
 ghost use Rattle.automata_hybrid.specs.Searches.SelfLoops.{IsKnownLoop, IsLoopRun, LoopsOn, LoopsOver, byte_in};
-ghost use Rattle.automata_hybrid.specs.Cache.Table.{IsValid};
+ghost use Rattle.automata_hybrid.specs.Cache.Table.{IsRowId};
 ghost use Rattle.automata_hybrid.specs.Walks.State.{way_of};
 
 use crate::dfa::DFA;
@@ -78,7 +78,7 @@ impl DFA {
     #[inline(always)]
     fn loops_on(&self, cache: &Cache, id: LazyStateID, byte: u8) -> bool
         requires of { IsCacheOf cache.now self.now }
-        requires valid { IsValid cache.now.store.table id }
+        requires valid { IsRowId cache.now.store.table id }
         requires plain { id < fixed_from }
         ensures { IsTrue result → LoopsOn self.now cache.now.store id byte }
     {
@@ -97,7 +97,7 @@ impl DFA {
         at: usize,
     ) -> bool
         requires of { IsCacheOf cache.now self.now }
-        requires valid { IsValid cache.now.store.table id }
+        requires valid { IsRowId cache.now.store.table id }
         requires plain { id < fixed_from }
         requires within { at + 8 ≤ length bytes.now }
         ensures { IsTrue result → LoopsOver self.now cache.now.store id (way_of way) bytes.now at (at + 8) }
@@ -122,7 +122,7 @@ impl DFA {
         end: usize,
     ) -> usize
         requires of { IsCacheOf cache.now self.now }
-        requires valid { IsValid cache.now.store.table id }
+        requires valid { IsRowId cache.now.store.table id }
         requires plain { id < fixed_from }
         requires within { start ≤ end }
         requires inside { end ≤ length bytes.now }
@@ -142,7 +142,7 @@ impl DFA {
     /// A row's self-loop, of which a first range is looked for, around a byte.
     fn find_first(&self, cache: &Cache, id: LazyStateID, byte: u8) -> KnownLoop
         requires of { IsCacheOf cache.now self.now }
-        requires valid { IsValid cache.now.store.table id }
+        requires valid { IsRowId cache.now.store.table id }
         requires plain { id < fixed_from }
         ensures { IsKnownLoop self.now cache.now.store id result }
     {
@@ -160,7 +160,7 @@ impl DFA {
     /// And a second one, around a byte that is outside the first.
     fn find_second(&self, cache: &Cache, id: LazyStateID, known: KnownLoop, byte: u8) -> KnownLoop
         requires of { IsCacheOf cache.now self.now }
-        requires valid { IsValid cache.now.store.table id }
+        requires valid { IsRowId cache.now.store.table id }
         requires plain { id < fixed_from }
         requires known { IsKnownLoop self.now cache.now.store id known }
         ensures { IsKnownLoop self.now cache.now.store id result }
@@ -180,7 +180,7 @@ impl DFA {
     #[inline(always)]
     fn tested(&self, cache: &Cache, id: LazyStateID, kept: KnownLoop, byte: u8) -> KnownLoop
         requires of { IsCacheOf cache.now self.now }
-        requires valid { IsValid cache.now.store.table id }
+        requires valid { IsRowId cache.now.store.table id }
         requires plain { id < fixed_from }
         ensures { IsKnownLoop self.now cache.now.store id result }
     {
@@ -209,7 +209,7 @@ impl DFA {
         start: usize,
     ) -> usize
         requires of { IsCacheOf cache.now self.now }
-        requires valid { IsValid cache.now.store.table id }
+        requires valid { IsRowId cache.now.store.table id }
         requires plain { id < fixed_from }
         requires known { IsKnownLoop self.now cache.now.store id known }
         requires within { start ≤ length bytes.now }
@@ -257,7 +257,7 @@ impl DFA {
     #[inline(always)]
     fn follow_many(&self, cache: &Cache, id: LazyStateID, way: Way, bytes: &[u8]) -> usize
         requires of { IsCacheOf cache.now self.now }
-        requires valid { IsValid cache.now.store.table id }
+        requires valid { IsRowId cache.now.store.table id }
         requires plain { id < fixed_from }
         requires long { 8 ≤ length bytes.now }
         requires first { LoopsOver self.now cache.now.store id (way_of way) bytes.now 0 8 }
@@ -283,7 +283,7 @@ impl DFA {
     #[inline(never)]
     fn follow_many_fwd(&self, cache: &Cache, id: LazyStateID, bytes: &[u8]) -> usize
         requires of { IsCacheOf cache.now self.now }
-        requires valid { IsValid cache.now.store.table id }
+        requires valid { IsRowId cache.now.store.table id }
         requires plain { id < fixed_from }
         requires long { 8 ≤ length bytes.now }
         requires first { LoopsOver self.now cache.now.store id (way_of Way.Forward) bytes.now 0 8 }
@@ -295,7 +295,7 @@ impl DFA {
     #[inline(never)]
     fn follow_many_rev(&self, cache: &Cache, id: LazyStateID, bytes: &[u8]) -> usize
         requires of { IsCacheOf cache.now self.now }
-        requires valid { IsValid cache.now.store.table id }
+        requires valid { IsRowId cache.now.store.table id }
         requires plain { id < fixed_from }
         requires long { 8 ≤ length bytes.now }
         requires first { LoopsOver self.now cache.now.store id (way_of Way.Backward) bytes.now 0 8 }
@@ -315,7 +315,7 @@ impl DFA {
         bytes: &[u8],
     ) -> usize
         requires of { IsCacheOf cache.now self.now }
-        requires valid { IsValid cache.now.store.table id }
+        requires valid { IsRowId cache.now.store.table id }
         requires plain { id < fixed_from }
         ensures { IsLoopRun self.now cache.now.store id (way_of way) bytes.now 0 result }
     {

@@ -2,7 +2,7 @@
 ghost use Rattle.std.specs.Prelude.{◌≡◌, ◌+◌, ◌<◌, ◌^◌, IfOk, OnErr, true, false};
 ghost use Rattle.std.specs.Prelude.{None};
 ghost use Rattle.automata_base.specs.Powersets.Powerset.{Powerset};
-ghost use Rattle.automata_hybrid.specs.Cache.Table.{IsValid, Names};
+ghost use Rattle.automata_hybrid.specs.Cache.Table.{IsRowId, Names};
 ghost use Rattle.automata_hybrid.specs.Walks.State.{At, Ended, Fresh, States, ended_walk, fresh_walk, keeping_of};
 ghost use Rattle.automata_hybrid.specs.Walks.State.{Holds, HoldsNone, IsHandle, IsHeldItself, with_match};
 ghost use Rattle.automata_hybrid.specs.Walks.State.{without_match};
@@ -72,7 +72,7 @@ impl Held {
 
     /// The state of a row, held in the same way.
     pub(crate) fn of_row(&self, cache: &Cache, id: LazyStateID) -> Result<Held, AllocError>
-        requires { IsValid cache.now.store.table id }
+        requires { IsRowId cache.now.store.table id }
         ensures holds { IfOk result (λ held. (q : Powerset) → Names cache.now.store.table id q
             → Holds cache.now.store.table held q) }
         ensures keeping { IfOk result (λ held. keeping_of held ≡ keeping_of self.now) }

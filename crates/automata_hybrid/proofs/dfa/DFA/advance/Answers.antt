@@ -12,7 +12,7 @@ use Rattle.automata_hybrid.specs.Searches.Passes.{HasReadNoQuit, state_in, tape_
 use Rattle.automata_hybrid.specs.Cache.Table.{Names}
 use Rattle.automata_hybrid.specs.Walks.Answers.{IsSilent, WalkReads}
 use Rattle.automata_hybrid.specs.Walks.State.{way_of}
-use Rattle.automata_hybrid.proofs.Searches.QuietRuns.{followed_clean, followed_silent}
+use Rattle.automata_hybrid.proofs.Searches.Runs.{followed_clean, followed_silent}
 use Rattle.automata_hybrid.proofs.Cache.Growth.{grown_same, grown_trans, nothing_first, nothing_second}
 use Rattle.automata_hybrid.proofs.Walks.Cached.{unit_knows, units_more, units_none}
 use Rattle.automata_hybrid.proofs.Searches.Reads.{at_err}
@@ -46,9 +46,9 @@ pub loop-read-preserved : goal.loop-read-preserved
 loop-read-preserved c =
     let d : Direction = way_of c.args.way in
     let k : ℕ = c.follow_walk-stop.result.at in
-    let f : IsFollowed d c.args.self.now c.loop-read.cache.store c.args.input.now c.loop-read.read k c.follow_walk-stop.result.id = c.follow_walk-stop.ensures.followed in
+    let f : IsFollowed d c.args.self.now c.loop-read.cache.store c.args.input.now 0 c.loop-read.read k c.follow_walk-stop.result.id = c.follow_walk-stop.ensures.followed in
     let more : suc k ≡ k + 1 = omega arith in
-    let named : Names c.read_unit.new.cache.store.table c.in_ok-next.next (state_in d c.args.self.now c.args.input.now (suc k)) = (dead_tagged c.read_unit.new.cache.store.table c.in_ok-next.next (c.see_store.ensures.low c.in_ok-next.next) c.see_store.ensures.small _ c.in_ok-next.ensures.leads).1 (λ b. false_true (c.if-is_dead.ensures.1 b)) in
+    let named : Names c.read_unit.new.cache.store.table c.in_ok-next.next (state_in d c.args.self.now c.args.input.now (suc k)) = (dead_tagged c.read_unit.new.cache.store.table c.in_ok-next.next (c.see_bounds.ensures.sound.low c.in_ok-next.next) c.see_bounds.ensures.sound.small _ c.in_ok-next.ensures.leads).1 (λ b. false_true (c.if-is_dead.ensures.1 b)) in
     let clean : HasReadNoQuit d c.args.self.now c.args.input.now (suc k) = clean_more d c.args.self.now c.args.input.now k (followed_clean f c.loop-read.invariant.clean) c.in_ok-next.ensures.clean in
     let silent : IsSilent d c.args.self.now c.args.input.now c.args.units (suc k) =
     silent_step d c.args.self.now c.args.input.now c.args.units k (followed_silent f c.loop-read.invariant.silent)
@@ -74,7 +74,7 @@ loop-read-preserved c =
           (c.loop-read.invariant.learned first) f (c.in_ok-next.ensures.effect.learned second)));
       silent = subst (IsSilent d c.args.self.now c.args.input.now c.args.units) more silent;
       progress = subst (λ n. AreReadTo d c.args.self.now c.args.input.now c.args.units n c.args.cache.now.store c.read_unit.new.cache.store) more
-          (read_then d c.args.self.now c.args.input.now c.args.units c.args.cache.now.store c.loop-read.read k c.loop-read.cache.store (read_exactly d c.args.self.now c.args.input.now c.args.units c.args.cache.now.store c.loop-read.read c.loop-read.cache.store c.loop-read.invariant.progress) f.more (λ j l h. (f.quiet j l h).known.0) c.read_unit.new.cache.store c.in_ok-next.ensures.effect.read);
+          (read_then d c.args.self.now c.args.input.now c.args.units c.args.cache.now.store c.loop-read.read k c.loop-read.cache.store (read_exactly d c.args.self.now c.args.input.now c.args.units c.args.cache.now.store c.loop-read.read c.loop-read.cache.store c.loop-read.invariant.progress) f.more (λ j l h. (f.taken j l h).known.0) c.read_unit.new.cache.store c.in_ok-next.ensures.effect.read);
       reads = λ less. (k, sym more, c.in_ok-next.ensures.reads);
     }
 
@@ -82,7 +82,7 @@ pub returns-in_err-next-clause-refusal : goal.returns-in_err-next-clause-refusal
 returns-in_err-next-clause-refusal c =
     let d : Direction = way_of c.args.way in
     let k : ℕ = c.follow_walk-stop.result.at in
-    let f : IsFollowed d c.args.self.now c.loop-read.cache.store c.args.input.now c.loop-read.read k c.follow_walk-stop.result.id = c.follow_walk-stop.ensures.followed in
+    let f : IsFollowed d c.args.self.now c.loop-read.cache.store c.args.input.now 0 c.loop-read.read k c.follow_walk-stop.result.id = c.follow_walk-stop.ensures.followed in
     if_err c.from_residual.result _ _ c.from_residual.ensures.1
     (k, omega (arith, c.loop-read.invariant.from, f.more), c.in_err-next.ensures.reads, followed_clean f c.loop-read.invariant.clean, followed_silent f c.loop-read.invariant.silent, c.in_err-next.ensures.refusal)
 
@@ -90,9 +90,9 @@ pub returns-then-is_dead-clause-arrives : goal.returns-then-is_dead-clause-arriv
 returns-then-is_dead-clause-arrives c =
     let d : Direction = way_of c.args.way in
     let k : ℕ = c.follow_walk-stop.result.at in
-    let f : IsFollowed d c.args.self.now c.loop-read.cache.store c.args.input.now c.loop-read.read k c.follow_walk-stop.result.id = c.follow_walk-stop.ensures.followed in
-    let units : c.args.input.now.end - c.args.input.now.start ≡ length (tape_in d c.args.input.now).bytes = units_in d c.args.input.now c.requires.from.undone c.haystack-haystack.ensures.within.1 in
-    let dies : state_in d c.args.self.now c.args.input.now (suc k) ≡ dead = (dead_tagged c.read_unit.new.cache.store.table c.in_ok-next.next (c.see_store.ensures.low c.in_ok-next.next) c.see_store.ensures.small _ c.in_ok-next.ensures.leads).0 (c.if-is_dead.ensures.0 refl) in
+    let f : IsFollowed d c.args.self.now c.loop-read.cache.store c.args.input.now 0 c.loop-read.read k c.follow_walk-stop.result.id = c.follow_walk-stop.ensures.followed in
+    let units : c.args.input.now.end - c.args.input.now.start ≡ length (tape_in d c.args.input.now).bytes = units_in d c.args.input.now c.requires.from.undone c.last_place-last.ensures.inside in
+    let dies : state_in d c.args.self.now c.args.input.now (suc k) ≡ dead = (dead_tagged c.read_unit.new.cache.store.table c.in_ok-next.next (c.see_bounds.ensures.sound.low c.in_ok-next.next) c.see_bounds.ensures.sound.small _ c.in_ok-next.ensures.leads).0 (c.if-is_dead.ensures.0 refl) in
     finish_dead d c.args.self.now c.args.input.now c.args.units k _ (omega (arith, c.loop-read.invariant.from, f.more)) (omega (arith, units, c.follow_walk-stop.ensures.within)) (omega arith)
     (clean_more d c.args.self.now c.args.input.now k (followed_clean f c.loop-read.invariant.clean) c.in_ok-next.ensures.clean) dies (followed_silent f c.loop-read.invariant.silent)
 
@@ -100,10 +100,10 @@ pub returns-then-reports-clause-arrives : goal.returns-then-reports-clause-arriv
 returns-then-reports-clause-arrives c =
     let d : Direction = way_of c.args.way in
     let k : ℕ = c.follow_walk-stop.result.at in
-    let f : IsFollowed d c.args.self.now c.loop-read.cache.store c.args.input.now c.loop-read.read k c.follow_walk-stop.result.id = c.follow_walk-stop.ensures.followed in
-    let units : c.args.input.now.end - c.args.input.now.start ≡ length (tape_in d c.args.input.now).bytes = units_in d c.args.input.now c.requires.from.undone c.haystack-haystack.ensures.within.1 in
+    let f : IsFollowed d c.args.self.now c.loop-read.cache.store c.args.input.now 0 c.loop-read.read k c.follow_walk-stop.result.id = c.follow_walk-stop.ensures.followed in
+    let units : c.args.input.now.end - c.args.input.now.start ≡ length (tape_in d c.args.input.now).bytes = units_in d c.args.input.now c.requires.from.undone c.last_place-last.ensures.inside in
     let more : suc k ≡ k + 1 = omega arith in
-    let named : Names c.read_unit.new.cache.store.table c.in_ok-next.next (state_in d c.args.self.now c.args.input.now (suc k)) = (dead_tagged c.read_unit.new.cache.store.table c.in_ok-next.next (c.see_store.ensures.low c.in_ok-next.next) c.see_store.ensures.small _ c.in_ok-next.ensures.leads).1 (λ b. false_true (c.if-is_dead.ensures.1 b)) in
+    let named : Names c.read_unit.new.cache.store.table c.in_ok-next.next (state_in d c.args.self.now c.args.input.now (suc k)) = (dead_tagged c.read_unit.new.cache.store.table c.in_ok-next.next (c.see_bounds.ensures.sound.low c.in_ok-next.next) c.see_bounds.ensures.sound.small _ c.in_ok-next.ensures.leads).1 (λ b. false_true (c.if-is_dead.ensures.1 b)) in
     let yes = c.reports.ensures.yes c.if-reports.true in
     record {
       place = k;
@@ -120,7 +120,7 @@ returns-then-reports-clause-arrives c =
 pub returns-clause-arrives : goal.returns-clause-arrives
 returns-clause-arrives c =
     let d : Direction = way_of c.args.way in
-    let units : c.args.input.now.end - c.args.input.now.start ≡ length (tape_in d c.args.input.now).bytes = units_in d c.args.input.now c.requires.from.undone c.haystack-haystack.ensures.within.1 in
+    let units : c.args.input.now.end - c.args.input.now.start ≡ length (tape_in d c.args.input.now).bytes = units_in d c.args.input.now c.requires.from.undone c.last_place-last.ensures.inside in
     let all : c.loop-read.read ≡ suc (length (tape_in d c.args.input.now).bytes) = omega (arith, units, c.loop-read-test.false, c.last_place-last.ensures.place, c.loop-read.invariant.within) in
     finish_read d c.args.self.now c.args.input.now c.args.units c.loop-read.read all c.loop-read.invariant.from c.loop-read.invariant.clean c.loop-read.invariant.silent
 
@@ -128,7 +128,7 @@ pub returns-in_err-next-clause-effect : goal.returns-in_err-next-clause-effect
 returns-in_err-next-clause-effect c =
     let d : Direction = way_of c.args.way in
     let k : ℕ = c.follow_walk-stop.result.at in
-    let f : IsFollowed d c.args.self.now c.loop-read.cache.store c.args.input.now c.loop-read.read k c.follow_walk-stop.result.id = c.follow_walk-stop.ensures.followed in
+    let f : IsFollowed d c.args.self.now c.loop-read.cache.store c.args.input.now 0 c.loop-read.read k c.follow_walk-stop.result.id = c.follow_walk-stop.ensures.followed in
     let from : c.args.units ≤ k = omega (arith, c.loop-read.invariant.from, f.more) in
     at_err c.from_residual.result _ (λ (r : Result Arrival SearchError). IsAdvanceEffect d c.args.self.now c.args.input.now c.args.units c.args.cache.now c.read_unit.new.cache r) c.from_residual.ensures.1
     (record {
@@ -144,14 +144,14 @@ returns-in_err-next-clause-effect c =
       left =
           call_stopped d c.args.self.now c.args.input.now c.args.units k c.args.cache.now.store c.read_unit.new.cache.store c.in_err-next.field-0.0 c.in_err-next.ensures.reads
           (followed_clean f c.loop-read.invariant.clean) (followed_silent f c.loop-read.invariant.silent) c.in_err-next.ensures.refusal
-          (left_then d c.args.self.now c.args.input.now c.args.units c.args.cache.now.store c.loop-read.read k c.loop-read.cache.store (read_exactly d c.args.self.now c.args.input.now c.args.units c.args.cache.now.store c.loop-read.read c.loop-read.cache.store c.loop-read.invariant.progress) f.more (λ j l h. (f.quiet j l h).known.0) c.read_unit.new.cache.store c.in_err-next.ensures.effect.left);
+          (left_then d c.args.self.now c.args.input.now c.args.units c.args.cache.now.store c.loop-read.read k c.loop-read.cache.store (read_exactly d c.args.self.now c.args.input.now c.args.units c.args.cache.now.store c.loop-read.read c.loop-read.cache.store c.loop-read.invariant.progress) f.more (λ j l h. (f.taken j l h).known.0) c.read_unit.new.cache.store c.in_err-next.ensures.effect.left);
     })
 
 pub returns-then-is_dead-clause-effect : goal.returns-then-is_dead-clause-effect
 returns-then-is_dead-clause-effect c =
     let d : Direction = way_of c.args.way in
     let k : ℕ = c.follow_walk-stop.result.at in
-    let f : IsFollowed d c.args.self.now c.loop-read.cache.store c.args.input.now c.loop-read.read k c.follow_walk-stop.result.id = c.follow_walk-stop.ensures.followed in
+    let f : IsFollowed d c.args.self.now c.loop-read.cache.store c.args.input.now 0 c.loop-read.read k c.follow_walk-stop.result.id = c.follow_walk-stop.ensures.followed in
     let from : c.args.units ≤ k = omega (arith, c.loop-read.invariant.from, f.more) in
     let more : suc k ≡ k + 1 = omega arith in
     record {
@@ -170,7 +170,7 @@ returns-then-is_dead-clause-effect c =
           (c.loop-read.invariant.learned first) f (c.in_ok-next.ensures.effect.learned second)));
       read =
           arrived_read d c.args.self.now c.args.input.now c.args.units k (k + 1) c.args.cache.now.store c.read_unit.new.cache.store from more c.in_ok-next.ensures.reads
-          (read_then d c.args.self.now c.args.input.now c.args.units c.args.cache.now.store c.loop-read.read k c.loop-read.cache.store (read_exactly d c.args.self.now c.args.input.now c.args.units c.args.cache.now.store c.loop-read.read c.loop-read.cache.store c.loop-read.invariant.progress) f.more (λ j l h. (f.quiet j l h).known.0) c.read_unit.new.cache.store c.in_ok-next.ensures.effect.read);
+          (read_then d c.args.self.now c.args.input.now c.args.units c.args.cache.now.store c.loop-read.read k c.loop-read.cache.store (read_exactly d c.args.self.now c.args.input.now c.args.units c.args.cache.now.store c.loop-read.read c.loop-read.cache.store c.loop-read.invariant.progress) f.more (λ j l h. (f.taken j l h).known.0) c.read_unit.new.cache.store c.in_ok-next.ensures.effect.read);
       left = tt;
     }
 
@@ -178,7 +178,7 @@ pub returns-then-reports-clause-effect : goal.returns-then-reports-clause-effect
 returns-then-reports-clause-effect c =
     let d : Direction = way_of c.args.way in
     let k : ℕ = c.follow_walk-stop.result.at in
-    let f : IsFollowed d c.args.self.now c.loop-read.cache.store c.args.input.now c.loop-read.read k c.follow_walk-stop.result.id = c.follow_walk-stop.ensures.followed in
+    let f : IsFollowed d c.args.self.now c.loop-read.cache.store c.args.input.now 0 c.loop-read.read k c.follow_walk-stop.result.id = c.follow_walk-stop.ensures.followed in
     let from : c.args.units ≤ k = omega (arith, c.loop-read.invariant.from, f.more) in
     let more : suc k ≡ k + 1 = omega arith in
     record {
@@ -197,7 +197,7 @@ returns-then-reports-clause-effect c =
           (c.loop-read.invariant.learned first) f (c.in_ok-next.ensures.effect.learned second)));
       read =
           arrived_read d c.args.self.now c.args.input.now c.args.units k (k + 1) c.args.cache.now.store c.read_unit.new.cache.store from more c.in_ok-next.ensures.reads
-          (read_then d c.args.self.now c.args.input.now c.args.units c.args.cache.now.store c.loop-read.read k c.loop-read.cache.store (read_exactly d c.args.self.now c.args.input.now c.args.units c.args.cache.now.store c.loop-read.read c.loop-read.cache.store c.loop-read.invariant.progress) f.more (λ j l h. (f.quiet j l h).known.0) c.read_unit.new.cache.store c.in_ok-next.ensures.effect.read);
+          (read_then d c.args.self.now c.args.input.now c.args.units c.args.cache.now.store c.loop-read.read k c.loop-read.cache.store (read_exactly d c.args.self.now c.args.input.now c.args.units c.args.cache.now.store c.loop-read.read c.loop-read.cache.store c.loop-read.invariant.progress) f.more (λ j l h. (f.taken j l h).known.0) c.read_unit.new.cache.store c.in_ok-next.ensures.effect.read);
       left = tt;
     }
 

@@ -8,7 +8,7 @@ use Rattle.automata_hybrid.specs.Cache.Stores.{Stored, with_searched}
 use Rattle.automata_hybrid.specs.Cache.Caches.{CacheView}
 use Rattle.automata_hybrid.specs.Machines.Machine.{Machine, slot_count}
 use Rattle.automata_hybrid.specs.Searches.PassContracts.{IsKnownUpto, IsPassEffect, IsRestEffect}
-use Rattle.automata_hybrid.specs.Cache.Progress.{started}
+use Rattle.automata_hybrid.specs.Cache.Progress.{progress_started}
 use Rattle.automata_hybrid.specs.Searches.Progress.{EndsAtLast, IsStoppedAt, with_search_begun, with_search_ended}
 use Rattle.automata_hybrid.specs.Searches.Passes.{IsPassRefusal, Reads, state_in}
 use Rattle.automata_hybrid.specs.Cache.Table.{Rows, Names}
@@ -25,13 +25,13 @@ use Rattle.automata_hybrid.proofs.dfa.DFA.begin.Goals as goal
 pub returns-then-is_dead-clause-answer : goal.returns-then-is_dead-clause-answer
 returns-then-is_dead-clause-answer c =
     let d : Direction = way_of c.args.way in
-    let dies : state_in d c.args.self.now c.args.input.now 0 ≡ dead = begins_dead d c.args.self.now c.walk_start.new.cache.store.table c.args.input.now c.in-Ok.start c.in-Ok.ensures.answer.named (c.see_store.ensures.low c.in-Ok.start) c.see_store.ensures.small (c.if-is_dead.ensures.0 refl) in
+    let dies : state_in d c.args.self.now c.args.input.now 0 ≡ dead = begins_dead d c.args.self.now c.walk_start.new.cache.store.table c.args.input.now c.in-Ok.start c.in-Ok.ensures.answer.named (c.see_bounds-2.ensures.sound.low c.in-Ok.start) c.see_bounds-2.ensures.sound.small (c.if-is_dead.ensures.0 refl) in
     record { found = starts_dead d c.args.self.now c.args.input.now dies; clean = clean_start d c.args.self.now c.args.input.now dies c.in-Ok.ensures.answer.may.0; supported = c.in-Ok.ensures.answer.may.1 }
 
 pub returns-then-is_dead-2-clause-answer : goal.returns-then-is_dead-2-clause-answer
 returns-then-is_dead-2-clause-answer c =
     let d : Direction = way_of c.args.way in
-    let dies : state_in d c.args.self.now c.args.input.now 0 ≡ dead = begins_dead d c.args.self.now c.walk_start.new.cache.store.table c.args.input.now c.in-Ok.start c.in-Ok.ensures.answer.named (c.see_store.ensures.low c.in-Ok.start) c.see_store.ensures.small (c.if-is_dead-2.ensures.0 refl) in
+    let dies : state_in d c.args.self.now c.args.input.now 0 ≡ dead = begins_dead d c.args.self.now c.walk_start.new.cache.store.table c.args.input.now c.in-Ok.start c.in-Ok.ensures.answer.named (c.see_bounds-2.ensures.sound.low c.in-Ok.start) c.see_bounds-2.ensures.sound.small (c.if-is_dead-2.ensures.0 refl) in
     record { found = starts_dead d c.args.self.now c.args.input.now dies; clean = clean_start d c.args.self.now c.args.input.now dies c.in-Ok.ensures.answer.may.0; supported = c.in-Ok.ensures.answer.may.1 }
 
 pub rest-requires-clause-at : goal.rest-requires-clause-at
@@ -46,13 +46,13 @@ rest-requires-clause-at c =
         may = c.in-Ok.ensures.answer.may;
         at = starts_at d c.args.self.now c.search_start.new.self.store.table c.args.input.now c.in-Ok.start
             (subst (λ (t : Rows). Names t c.in-Ok.start (state_in d c.args.self.now c.args.input.now 0)) (sym c.search_start.ensures.table)
-            (begins_alive d c.args.self.now c.walk_start.new.cache.store.table c.args.input.now c.in-Ok.start c.in-Ok.ensures.answer.named (c.see_store.ensures.low c.in-Ok.start) c.see_store.ensures.small (λ b. false_true (c.if-is_dead-2.ensures.1 b))));
+            (begins_alive d c.args.self.now c.walk_start.new.cache.store.table c.args.input.now c.in-Ok.start c.in-Ok.ensures.answer.named (c.see_bounds-2.ensures.sound.low c.in-Ok.start) c.see_bounds-2.ensures.sound.small (λ b. false_true (c.if-is_dead-2.ensures.1 b))));
       };
-    } in (
-      subst (λ (i : Input). Allows i.haystack i.start i.end) (sym (same_input c.args.input.now c.haystack.result.now c.get_span.result.start c.get_span.result.end c.get_anchored.result c.get_earliest.result c.haystack.ensures.same c.get_span.ensures.start c.get_span.ensures.end c.get_anchored.ensures c.get_earliest.ensures)) c.get_span.ensures.within,
-      subst (λ (i : Input). IsKnownUpto d c.args.self.now c.search_start.new.self.store i 0 c.in-Ok.start None)
-          (sym (same_input c.args.input.now c.haystack.result.now c.get_span.result.start c.get_span.result.end c.get_anchored.result c.get_earliest.result c.haystack.ensures.same c.get_span.ensures.start c.get_span.ensures.end c.get_anchored.ensures c.get_earliest.ensures)) at,
-    )
+    } in record {
+      allowed = subst (λ (i : Input). Allows i.haystack i.start i.end) (sym (same_input c.args.input.now c.haystack.result.now c.get_span.result c.get_anchored.result c.get_earliest.result c.haystack.ensures.same c.get_span.ensures.start c.get_span.ensures.end c.get_anchored.ensures c.get_earliest.ensures)) c.get_span.ensures.within;
+      upto = subst (λ (i : Input). IsKnownUpto d c.args.self.now c.search_start.new.self.store i 0 c.in-Ok.start None)
+          (sym (same_input c.args.input.now c.haystack.result.now c.get_span.result c.get_anchored.result c.get_earliest.result c.haystack.ensures.same c.get_span.ensures.start c.get_span.ensures.end c.get_anchored.ensures c.get_earliest.ensures)) at;
+    }
 
 pub find_still-requires-clause-at : goal.find_still-requires-clause-at
 find_still-requires-clause-at c =
@@ -61,24 +61,24 @@ find_still-requires-clause-at c =
       undone = c.requires.«open»;
       may = c.in-Ok.ensures.answer.may;
       at = starts_at d c.args.self.now c.walk_start.new.cache.store.table c.args.input.now c.in-Ok.start
-          (begins_alive d c.args.self.now c.walk_start.new.cache.store.table c.args.input.now c.in-Ok.start c.in-Ok.ensures.answer.named (c.see_store.ensures.low c.in-Ok.start) c.see_store.ensures.small (λ b. false_true (c.if-is_dead.ensures.1 b)));
+          (begins_alive d c.args.self.now c.walk_start.new.cache.store.table c.args.input.now c.in-Ok.start c.in-Ok.ensures.answer.named (c.see_bounds-2.ensures.sound.low c.in-Ok.start) c.see_bounds-2.ensures.sound.small (λ b. false_true (c.if-is_dead.ensures.1 b)));
     }
 
 pub returns-in-Err-clause-effect : goal.returns-in-Err-clause-effect
 returns-in-Err-clause-effect c =
     let d : Direction = way_of c.args.way in
-    (pass_unstarted d c.args.self.now c.args.input.now _ _ c.args.cache.now c.walk_start.new.cache c.in-Err.error (c.see_bounds.ensures.slots ∙ ap (λ (d : Machine). slot_count d) c.requires.of)
+    (pass_unstarted d c.args.self.now c.args.input.now _ _ c.args.cache.now c.walk_start.new.cache c.in-Err.error (c.see_bounds.ensures.bounds.slots ∙ ap (λ (d : Machine). slot_count d) c.requires.of)
     c.in-Err.ensures.refusal c.in-Err.ensures.effect refl refl)
 
 pub returns-then-is_dead-clause-effect : goal.returns-then-is_dead-clause-effect
 returns-then-is_dead-clause-effect c =
     let d : Direction = way_of c.args.way in
-    let dies : state_in d c.args.self.now c.args.input.now 0 ≡ dead = begins_dead d c.args.self.now c.walk_start.new.cache.store.table c.args.input.now c.in-Ok.start c.in-Ok.ensures.answer.named (c.see_store.ensures.low c.in-Ok.start) c.see_store.ensures.small (c.if-is_dead.ensures.0 refl) in
-    pass_rest d c.args.self.now c.args.input.now c.in-Ok.start c.args.cache.now c.walk_start.new.cache c.walk_start.new.cache c.walk_start.new.cache {s = c.walk_start.new.cache.store.searched} _ (c.see_bounds.ensures.slots ∙ ap (λ (d : Machine). slot_count d) c.requires.of)
+    let dies : state_in d c.args.self.now c.args.input.now 0 ≡ dead = begins_dead d c.args.self.now c.walk_start.new.cache.store.table c.args.input.now c.in-Ok.start c.in-Ok.ensures.answer.named (c.see_bounds-2.ensures.sound.low c.in-Ok.start) c.see_bounds-2.ensures.sound.small (c.if-is_dead.ensures.0 refl) in
+    pass_rest d c.args.self.now c.args.input.now c.in-Ok.start c.args.cache.now c.walk_start.new.cache c.walk_start.new.cache c.walk_start.new.cache {s = c.walk_start.new.cache.store.searched} _ (c.see_bounds.ensures.bounds.slots ∙ ap (λ (d : Machine). slot_count d) c.requires.of)
     c.in-Ok.ensures.answer c.in-Ok.ensures.effect refl
     (rest_dead d c.args.self.now c.args.input.now c.walk_start.new.cache c.walk_start.new.cache {s = c.walk_start.new.cache.store.searched} _ refl dies) (
       c.walk_start.new.cache.store,
-      (start_had d c.args.self.now c.args.input.now c.args.cache.now c.walk_start.new.cache c.in-Ok.start (c.see_bounds.ensures.slots ∙ ap (λ (d : Machine). slot_count d) c.requires.of) c.in-Ok.ensures.effect c.in-Ok.ensures.answer),
+      (start_had d c.args.self.now c.args.input.now c.args.cache.now c.walk_start.new.cache c.in-Ok.start (c.see_bounds.ensures.bounds.slots ∙ ap (λ (d : Machine). slot_count d) c.requires.of) c.in-Ok.ensures.effect c.in-Ok.ensures.answer),
       inl (c.if-keeps_none.ensures.yes refl, inr (stops_start d c.args.self.now c.args.input.now dies 0 (omega arith), refl)),
     )
     tt
@@ -87,18 +87,18 @@ pub returns-then-is_dead-2-clause-effect : goal.returns-then-is_dead-2-clause-ef
 returns-then-is_dead-2-clause-effect c =
     let d : Direction = way_of c.args.way in
     let begins : c.search_start.new.self.store ≡ with_search_begun d c.args.input.now 0 c.walk_start.new.cache.store =
-    subst (λ at. c.search_start.new.self.store ≡ with_searched c.walk_start.new.cache.store (started c.walk_start.new.cache.store.searched at)) c.span_offset-first.ensures (ap (λ (v : CacheView). v.store) c.search_start.ensures.value) in
-    let dies : state_in d c.args.self.now c.args.input.now 0 ≡ dead = begins_dead d c.args.self.now c.walk_start.new.cache.store.table c.args.input.now c.in-Ok.start c.in-Ok.ensures.answer.named (c.see_store.ensures.low c.in-Ok.start) c.see_store.ensures.small (c.if-is_dead-2.ensures.0 refl) in
-    pass_rest d c.args.self.now c.args.input.now c.in-Ok.start c.args.cache.now c.walk_start.new.cache c.search_start.new.self c.end_search.new.self _ (c.see_bounds.ensures.slots ∙ ap (λ (d : Machine). slot_count d) c.requires.of)
+    subst (λ at. c.search_start.new.self.store ≡ with_searched c.walk_start.new.cache.store (progress_started c.walk_start.new.cache.store.searched at)) c.span_offset-first.ensures.value (ap (λ (v : CacheView). v.store) c.search_start.ensures.value) in
+    let dies : state_in d c.args.self.now c.args.input.now 0 ≡ dead = begins_dead d c.args.self.now c.walk_start.new.cache.store.table c.args.input.now c.in-Ok.start c.in-Ok.ensures.answer.named (c.see_bounds-2.ensures.sound.low c.in-Ok.start) c.see_bounds-2.ensures.sound.small (c.if-is_dead-2.ensures.0 refl) in
+    pass_rest d c.args.self.now c.args.input.now c.in-Ok.start c.args.cache.now c.walk_start.new.cache c.search_start.new.self c.end_search.new.self _ (c.see_bounds.ensures.bounds.slots ∙ ap (λ (d : Machine). slot_count d) c.requires.of)
     c.in-Ok.ensures.answer c.in-Ok.ensures.effect c.search_start.ensures.value
     (rest_dead d c.args.self.now c.args.input.now c.search_start.new.self c.end_search.new.self _ c.end_search.ensures.value dies) (
       c.walk_start.new.cache.store,
-      (start_had d c.args.self.now c.args.input.now c.args.cache.now c.walk_start.new.cache c.in-Ok.start (c.see_bounds.ensures.slots ∙ ap (λ (d : Machine). slot_count d) c.requires.of) c.in-Ok.ensures.effect c.in-Ok.ensures.answer),
+      (start_had d c.args.self.now c.args.input.now c.args.cache.now c.walk_start.new.cache c.in-Ok.start (c.see_bounds.ensures.bounds.slots ∙ ap (λ (d : Machine). slot_count d) c.requires.of) c.in-Ok.ensures.effect c.in-Ok.ensures.answer),
       inr (
         c.if-keeps_none.ensures.no refl,
         pass_dies d c.args.self.now c.args.input.now (with_search_begun d c.args.input.now 0 c.walk_start.new.cache.store) c.end_search.new.self.store
             (stops_start d c.args.self.now c.args.input.now dies)
-            (ended_here d c.args.input.now 0 c.span_offset-first.result c.search_start.new.self c.end_search.new.self (sym c.span_offset-first.ensures) c.end_search.ensures.value
+            (ended_here d c.args.input.now 0 c.span_offset-first.result c.search_start.new.self c.end_search.new.self (sym c.span_offset-first.ensures.value) c.end_search.ensures.value
             ∙ ap (λ (v : Stored). with_search_ended d c.args.input.now 0 v) begins),
       ),
     )
@@ -110,22 +110,22 @@ returns-then-keeps_none-clause-effect c =
     let reads : Reads d c.args.self.now c.args.input.now 0 =
     at_reads d c.args.self.now c.walk_start.new.cache.store.table c.args.input.now 0 c.in-Ok.start None
     (starts_at d c.args.self.now c.walk_start.new.cache.store.table c.args.input.now c.in-Ok.start
-    (begins_alive d c.args.self.now c.walk_start.new.cache.store.table c.args.input.now c.in-Ok.start c.in-Ok.ensures.answer.named (c.see_store.ensures.low c.in-Ok.start) c.see_store.ensures.small (λ b. false_true (c.if-is_dead.ensures.1 b))))
-    (omega arith) (c.see_store.ensures.alive c.in-Ok.start) in
-    pass_rest d c.args.self.now c.args.input.now c.in-Ok.start c.args.cache.now c.walk_start.new.cache c.walk_start.new.cache c.find_still.new.cache {s = c.walk_start.new.cache.store.searched} c.find_still.result (c.see_bounds.ensures.slots ∙ ap (λ (d : Machine). slot_count d) c.requires.of)
+    (begins_alive d c.args.self.now c.walk_start.new.cache.store.table c.args.input.now c.in-Ok.start c.in-Ok.ensures.answer.named (c.see_bounds-2.ensures.sound.low c.in-Ok.start) c.see_bounds-2.ensures.sound.small (λ b. false_true (c.if-is_dead.ensures.1 b))))
+    (omega arith) (c.see_bounds-2.ensures.sound.alive c.in-Ok.start) in
+    pass_rest d c.args.self.now c.args.input.now c.in-Ok.start c.args.cache.now c.walk_start.new.cache c.walk_start.new.cache c.find_still.new.cache {s = c.walk_start.new.cache.store.searched} c.find_still.result (c.see_bounds.ensures.bounds.slots ∙ ap (λ (d : Machine). slot_count d) c.requires.of)
     c.in-Ok.ensures.answer c.in-Ok.ensures.effect refl
     c.find_still.ensures.effect
     (IfOk-weaker c.find_still.result _ _
     (λ _ read. (
       c.walk_start.new.cache.store,
-      (start_had d c.args.self.now c.args.input.now c.args.cache.now c.walk_start.new.cache c.in-Ok.start (c.see_bounds.ensures.slots ∙ ap (λ (d : Machine). slot_count d) c.requires.of) c.in-Ok.ensures.effect c.in-Ok.ensures.answer),
+      (start_had d c.args.self.now c.args.input.now c.args.cache.now c.walk_start.new.cache c.in-Ok.start (c.see_bounds.ensures.bounds.slots ∙ ap (λ (d : Machine). slot_count d) c.requires.of) c.in-Ok.ensures.effect c.in-Ok.ensures.answer),
       inl (c.if-keeps_none.ensures.yes refl, inl (reads, read)),
     ))
     c.find_still.ensures.progress.read)
     (if_both c.find_still.result _ _ _
     (λ error refused kept. inr (
       c.walk_start.new.cache.store,
-      (start_had d c.args.self.now c.args.input.now c.args.cache.now c.walk_start.new.cache c.in-Ok.start (c.see_bounds.ensures.slots ∙ ap (λ (d : Machine). slot_count d) c.requires.of) c.in-Ok.ensures.effect c.in-Ok.ensures.answer),
+      (start_had d c.args.self.now c.args.input.now c.args.cache.now c.walk_start.new.cache c.in-Ok.start (c.see_bounds.ensures.bounds.slots ∙ ap (λ (d : Machine). slot_count d) c.requires.of) c.in-Ok.ensures.effect c.in-Ok.ensures.answer),
       inl (c.if-keeps_none.ensures.yes refl, reads, refused, kept),
     ))
     c.find_still.ensures.refusal c.find_still.ensures.progress.kept)
@@ -136,24 +136,24 @@ returns-then-keeps_none-clause-refusal c =
     IfErr-weaker c.find_still.result _ _
     (λ error refused. place_refuses d c.args.self.now c.walk_start.new.cache.store.table c.find_still.new.cache.store c.args.input.now 0 c.in-Ok.start None error
     (starts_at d c.args.self.now c.walk_start.new.cache.store.table c.args.input.now c.in-Ok.start
-    (begins_alive d c.args.self.now c.walk_start.new.cache.store.table c.args.input.now c.in-Ok.start c.in-Ok.ensures.answer.named (c.see_store.ensures.low c.in-Ok.start) c.see_store.ensures.small (λ b. false_true (c.if-is_dead.ensures.1 b))))
-    (omega arith) (c.see_store.ensures.alive c.in-Ok.start) c.in-Ok.ensures.answer.may.0 refused)
+    (begins_alive d c.args.self.now c.walk_start.new.cache.store.table c.args.input.now c.in-Ok.start c.in-Ok.ensures.answer.named (c.see_bounds-2.ensures.sound.low c.in-Ok.start) c.see_bounds-2.ensures.sound.small (λ b. false_true (c.if-is_dead.ensures.1 b))))
+    (omega arith) (c.see_bounds-2.ensures.sound.alive c.in-Ok.start) c.in-Ok.ensures.answer.may.0 refused)
     c.find_still.ensures.refusal
 
 pub returns-clause-effect : goal.returns-clause-effect
 returns-clause-effect c =
     let d : Direction = way_of c.args.way in
     let begins : c.search_start.new.self.store ≡ with_search_begun d c.args.input.now 0 c.walk_start.new.cache.store =
-    subst (λ at. c.search_start.new.self.store ≡ with_searched c.walk_start.new.cache.store (started c.walk_start.new.cache.store.searched at)) c.span_offset-first.ensures (ap (λ (v : CacheView). v.store) c.search_start.ensures.value) in
-    pass_rest d c.args.self.now c.args.input.now c.in-Ok.start c.args.cache.now c.walk_start.new.cache c.search_start.new.self c.rest.new.cache _ (c.see_bounds.ensures.slots ∙ ap (λ (d : Machine). slot_count d) c.requires.of)
+    subst (λ at. c.search_start.new.self.store ≡ with_searched c.walk_start.new.cache.store (progress_started c.walk_start.new.cache.store.searched at)) c.span_offset-first.ensures.value (ap (λ (v : CacheView). v.store) c.search_start.ensures.value) in
+    pass_rest d c.args.self.now c.args.input.now c.in-Ok.start c.args.cache.now c.walk_start.new.cache c.search_start.new.self c.rest.new.cache _ (c.see_bounds.ensures.bounds.slots ∙ ap (λ (d : Machine). slot_count d) c.requires.of)
     c.in-Ok.ensures.answer c.in-Ok.ensures.effect c.search_start.ensures.value
-    (subst (λ (i : Input). IsRestEffect d c.args.self.now i 0 c.search_start.new.self c.rest.new.cache (Ok c.in_ok-found.found)) (same_input c.args.input.now c.haystack.result.now c.get_span.result.start c.get_span.result.end c.get_anchored.result c.get_earliest.result c.haystack.ensures.same c.get_span.ensures.start c.get_span.ensures.end c.get_anchored.ensures c.get_earliest.ensures) c.in_ok-found.ensures.effect) (
+    (subst (λ (i : Input). IsRestEffect d c.args.self.now i 0 c.search_start.new.self c.rest.new.cache (Ok c.in_ok-found.found)) (same_input c.args.input.now c.haystack.result.now c.get_span.result c.get_anchored.result c.get_earliest.result c.haystack.ensures.same c.get_span.ensures.start c.get_span.ensures.end c.get_anchored.ensures c.get_earliest.ensures) c.in_ok-found.ensures.effect) (
       c.walk_start.new.cache.store,
-      (start_had d c.args.self.now c.args.input.now c.args.cache.now c.walk_start.new.cache c.in-Ok.start (c.see_bounds.ensures.slots ∙ ap (λ (d : Machine). slot_count d) c.requires.of) c.in-Ok.ensures.effect c.in-Ok.ensures.answer),
+      (start_had d c.args.self.now c.args.input.now c.args.cache.now c.walk_start.new.cache c.in-Ok.start (c.see_bounds.ensures.bounds.slots ∙ ap (λ (d : Machine). slot_count d) c.requires.of) c.in-Ok.ensures.effect c.in-Ok.ensures.answer),
       inr (
         c.if-keeps_none.ensures.no refl,
         subst (λ (v : Stored). EndsAtLast d c.args.self.now c.args.input.now v c.rest.new.cache.store) begins
-            (subst (λ (i : Input). EndsAtLast d c.args.self.now i c.search_start.new.self.store c.rest.new.cache.store) (same_input c.args.input.now c.haystack.result.now c.get_span.result.start c.get_span.result.end c.get_anchored.result c.get_earliest.result c.haystack.ensures.same c.get_span.ensures.start c.get_span.ensures.end c.get_anchored.ensures c.get_earliest.ensures) c.in_ok-found.ensures.ended),
+            (subst (λ (i : Input). EndsAtLast d c.args.self.now i c.search_start.new.self.store c.rest.new.cache.store) (same_input c.args.input.now c.haystack.result.now c.get_span.result c.get_anchored.result c.get_earliest.result c.haystack.ensures.same c.get_span.ensures.start c.get_span.ensures.end c.get_anchored.ensures c.get_earliest.ensures) c.in_ok-found.ensures.ended),
       ),
     )
     tt
@@ -162,19 +162,19 @@ pub returns-in_err-found-clause-effect : goal.returns-in_err-found-clause-effect
 returns-in_err-found-clause-effect c =
     let d : Direction = way_of c.args.way in
     let begins : c.search_start.new.self.store ≡ with_search_begun d c.args.input.now 0 c.walk_start.new.cache.store =
-    subst (λ at. c.search_start.new.self.store ≡ with_searched c.walk_start.new.cache.store (started c.walk_start.new.cache.store.searched at)) c.span_offset-first.ensures (ap (λ (v : CacheView). v.store) c.search_start.ensures.value) in
+    subst (λ at. c.search_start.new.self.store ≡ with_searched c.walk_start.new.cache.store (progress_started c.walk_start.new.cache.store.searched at)) c.span_offset-first.ensures.value (ap (λ (v : CacheView). v.store) c.search_start.ensures.value) in
     at_err c.from_residual.result _ (IsPassEffect d c.args.self.now c.args.input.now c.args.cache.now c.rest.new.cache) c.from_residual.ensures.1
-    (pass_rest d c.args.self.now c.args.input.now c.in-Ok.start c.args.cache.now c.walk_start.new.cache c.search_start.new.self c.rest.new.cache (Err c.in_err-found.field-0.0) (c.see_bounds.ensures.slots ∙ ap (λ (d : Machine). slot_count d) c.requires.of)
+    (pass_rest d c.args.self.now c.args.input.now c.in-Ok.start c.args.cache.now c.walk_start.new.cache c.search_start.new.self c.rest.new.cache (Err c.in_err-found.field-0.0) (c.see_bounds.ensures.bounds.slots ∙ ap (λ (d : Machine). slot_count d) c.requires.of)
     c.in-Ok.ensures.answer c.in-Ok.ensures.effect c.search_start.ensures.value
-    (subst (λ (i : Input). IsRestEffect d c.args.self.now i 0 c.search_start.new.self c.rest.new.cache (Err c.in_err-found.field-0.0)) (same_input c.args.input.now c.haystack.result.now c.get_span.result.start c.get_span.result.end c.get_anchored.result c.get_earliest.result c.haystack.ensures.same c.get_span.ensures.start c.get_span.ensures.end c.get_anchored.ensures c.get_earliest.ensures) c.in_err-found.ensures.effect)
+    (subst (λ (i : Input). IsRestEffect d c.args.self.now i 0 c.search_start.new.self c.rest.new.cache (Err c.in_err-found.field-0.0)) (same_input c.args.input.now c.haystack.result.now c.get_span.result c.get_anchored.result c.get_earliest.result c.haystack.ensures.same c.get_span.ensures.start c.get_span.ensures.end c.get_anchored.ensures c.get_earliest.ensures) c.in_err-found.ensures.effect)
     tt
     (inr (
       c.walk_start.new.cache.store,
-      (start_had d c.args.self.now c.args.input.now c.args.cache.now c.walk_start.new.cache c.in-Ok.start (c.see_bounds.ensures.slots ∙ ap (λ (d : Machine). slot_count d) c.requires.of) c.in-Ok.ensures.effect c.in-Ok.ensures.answer),
+      (start_had d c.args.self.now c.args.input.now c.args.cache.now c.walk_start.new.cache c.in-Ok.start (c.see_bounds.ensures.bounds.slots ∙ ap (λ (d : Machine). slot_count d) c.requires.of) c.in-Ok.ensures.effect c.in-Ok.ensures.answer),
       inr (
         c.if-keeps_none.ensures.no refl,
         subst (λ (v : Stored). IsStoppedAt d c.args.self.now c.args.input.now v c.rest.new.cache.store c.in_err-found.field-0.0) begins
-            (subst (λ (i : Input). IsStoppedAt d c.args.self.now i c.search_start.new.self.store c.rest.new.cache.store c.in_err-found.field-0.0) (same_input c.args.input.now c.haystack.result.now c.get_span.result.start c.get_span.result.end c.get_anchored.result c.get_earliest.result c.haystack.ensures.same c.get_span.ensures.start c.get_span.ensures.end c.get_anchored.ensures c.get_earliest.ensures) c.in_err-found.ensures.left),
+            (subst (λ (i : Input). IsStoppedAt d c.args.self.now i c.search_start.new.self.store c.rest.new.cache.store c.in_err-found.field-0.0) (same_input c.args.input.now c.haystack.result.now c.get_span.result c.get_anchored.result c.get_earliest.result c.haystack.ensures.same c.get_span.ensures.start c.get_span.ensures.end c.get_anchored.ensures c.get_earliest.ensures) c.in_err-found.ensures.left),
       ),
     )))
 
@@ -182,4 +182,4 @@ pub returns-in_err-found-clause-refusal : goal.returns-in_err-found-clause-refus
 returns-in_err-found-clause-refusal c =
     let d : Direction = way_of c.args.way in
     at_err c.from_residual.result _ (λ r. IfErr r (IsPassRefusal d c.args.self.now c.rest.new.cache.store c.args.input.now)) c.from_residual.ensures.1
-    (subst (λ (i : Input). IsPassRefusal d c.args.self.now c.rest.new.cache.store i c.in_err-found.field-0.0) (same_input c.args.input.now c.haystack.result.now c.get_span.result.start c.get_span.result.end c.get_anchored.result c.get_earliest.result c.haystack.ensures.same c.get_span.ensures.start c.get_span.ensures.end c.get_anchored.ensures c.get_earliest.ensures) c.in_err-found.ensures.refusal)
+    (subst (λ (i : Input). IsPassRefusal d c.args.self.now c.rest.new.cache.store i c.in_err-found.field-0.0) (same_input c.args.input.now c.haystack.result.now c.get_span.result c.get_anchored.result c.get_earliest.result c.haystack.ensures.same c.get_span.ensures.start c.get_span.ensures.end c.get_anchored.ensures c.get_earliest.ensures) c.in_err-found.ensures.refusal)

@@ -1,4 +1,4 @@
-use Rattle.std.proofs.Common.{ℕ, ◌≡◌, ◌∙◌, ◌+◌, ◌<◌, List, Bool, Option, Some, true, false, map, get_or, ap, subst, refl, sym, arith}
+use Rattle.std.proofs.Common.{ℕ, ◌≡◌, ◌∙◌, ◌+◌, ◌<◌, List, Bool, true, false, map, get_or, ap, subst, refl, sym, arith}
 use Rattle.std.specs.List.{range_with_len}
 use Rattle.std.specs.Prelude.{eqb, if◌then◌else◌}
 use Rattle.std.proofs.lemmas.List.FromFn.{get_or-map-range_with_len}

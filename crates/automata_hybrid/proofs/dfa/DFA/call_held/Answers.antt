@@ -99,7 +99,7 @@ returns-in-Err-clause-call c =
           (subst WalkLiesWithin c.get_nfa.ensures c.walk_is_right.ensures.within) haystack.within.1
           c.args.walk.now c.go_on.new.walk refused c.requires.walk.reported tt c.in-Err.ensures.err.0;
       refused = c.in-Err.ensures.err.0;
-      errors = λ k reported. (cache, is_store cache m c.in-Err.ensures.of c.see_bounds.ensures, r.why k reported);
+      errors = λ k reported. (cache, is_store cache m c.in-Err.ensures.of c.see_bounds.ensures.bounds, r.why k reported);
       unsupported = λ fresh u. ap Err (r.unsupported fresh u);
       free = λ f.
           walk_memory d m cache input haystack.within.1 c.in-Err.ensures.of f.reach f.supported f.clears States c.args.walk.now

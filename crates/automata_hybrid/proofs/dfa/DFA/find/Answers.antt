@@ -45,7 +45,7 @@ loop-at-init c =
 
 pub read_met-requires-clause-met : goal.read_met-requires-clause-met
 read_met-requires-clause-met c = λ low.
-    (c.run-run.ensures.met low).1 ∙ ap (known_step c.args.self.now c.loop-at.cache.store c.run-run.result.id) c.byte_at-byte.ensures
+    (c.run-run.ensures.met low).cached ∙ ap (known_step c.args.self.now c.loop-at.cache.store c.run-run.result.id) c.byte_at-byte.ensures
 
 pub find_end-requires-clause-at : goal.find_end-requires-clause-at
 find_end-requires-clause-at c =
@@ -87,7 +87,7 @@ returns-then-is_dead-clause-answer c =
     let at : IsAt d c.args.self.now c.loop-at.cache.store.table c.args.input.now k c.run-run.result.id c.run-run.result.found = c.run-run.ensures.at in
     let read : next (tape_in d c.args.input.now) k ≡ Some c.byte_at-byte.result = c.byte_at-byte.ensures in
     let few : k ≤ length (tape_in d c.args.input.now).bytes = (let u = units_in d c.args.input.now c.requires.at.at.undone c.last_place-last.ensures.inside in omega (arith, u, inside)) in
-    dead_answer d c.args.self.now c.args.input.now k c.run-run.result.id _ c.run-run.result.found c.loop-at.cache c.loop-at.cache c.read_met.new.cache c.end_search.new.self {s = c.loop-at.cache.store.searched} refl c.end_search.ensures.value (record { undone = c.requires.at.at.undone; may = c.requires.at.at.may; at = at }) read c.in-Ok.next None c.in-Ok.ensures.answer (λ l. (dead_tagged c.read_met.new.cache.store.table c.in-Ok.next (c.see_store.ensures.low c.in-Ok.next) c.see_store.ensures.small _ l).0 (c.if-is_dead.ensures.0 refl)) few
+    dead_answer d c.args.self.now c.args.input.now k c.run-run.result.id _ c.run-run.result.found c.loop-at.cache c.loop-at.cache c.read_met.new.cache c.end_search.new.self {s = c.loop-at.cache.store.searched} refl c.end_search.ensures.value (record { undone = c.requires.at.at.undone; may = c.requires.at.at.may; at = at }) read c.in-Ok.next None c.in-Ok.ensures.answer (λ l. (dead_tagged c.read_met.new.cache.store.table c.in-Ok.next (c.see_bounds.ensures.sound.low c.in-Ok.next) c.see_bounds.ensures.sound.small _ l).0 (c.if-is_dead.ensures.0 refl)) few
 
 pub returns-then-is_dead-clause-effect : goal.returns-then-is_dead-clause-effect
 returns-then-is_dead-clause-effect c =
@@ -100,7 +100,7 @@ returns-then-is_dead-clause-effect c =
     rest_then d c.args.self.now c.args.input.now k c.args.cache.now c.loop-at.cache c.loop-at.cache c.end_search.new.self {s = c.loop-at.cache.store.searched} _ refl (omega (arith, inside))
     c.loop-at.invariant.grown (omega (arith, c.loop-at.invariant.counted, c.run-run.ensures.run.more)) c.loop-at.invariant.idle (λ begin nothing. (let had = c.loop-at.invariant.learned begin nothing in (had.0, c.run-run.ensures.run.learned had.1)))
     (rest_read d c.args.self.now c.args.input.now k c.run-run.result.id _ c.run-run.result.found c.loop-at.cache c.loop-at.cache c.read_met.new.cache c.end_search.new.self {s = c.loop-at.cache.store.searched} refl c.end_search.ensures.value (record { undone = c.requires.at.at.undone; may = c.requires.at.at.may; at = at }) read c.in-Ok.next _ c.in-Ok.ensures.effect c.in-Ok.ensures.of (omega (arith, inside)) few
-    (dead_stops d c.args.self.now c.args.input.now k c.run-run.result.id _ c.run-run.result.found c.loop-at.cache c.loop-at.cache c.read_met.new.cache c.end_search.new.self {s = c.loop-at.cache.store.searched} refl c.end_search.ensures.value (record { undone = c.requires.at.at.undone; may = c.requires.at.at.may; at = at }) read c.in-Ok.next None c.in-Ok.ensures.answer (λ l. (dead_tagged c.read_met.new.cache.store.table c.in-Ok.next (c.see_store.ensures.low c.in-Ok.next) c.see_store.ensures.small _ l).0 (c.if-is_dead.ensures.0 refl))))
+    (dead_stops d c.args.self.now c.args.input.now k c.run-run.result.id _ c.run-run.result.found c.loop-at.cache c.loop-at.cache c.read_met.new.cache c.end_search.new.self {s = c.loop-at.cache.store.searched} refl c.end_search.ensures.value (record { undone = c.requires.at.at.undone; may = c.requires.at.at.may; at = at }) read c.in-Ok.next None c.in-Ok.ensures.answer (λ l. (dead_tagged c.read_met.new.cache.store.table c.in-Ok.next (c.see_bounds.ensures.sound.low c.in-Ok.next) c.see_bounds.ensures.sound.small _ l).0 (c.if-is_dead.ensures.0 refl))))
 
 pub found_at-found-requires-clause-leads : goal.found_at-found-requires-clause-leads
 found_at-found-requires-clause-leads c =
@@ -120,7 +120,7 @@ returns-then-is_some-clause-answer c =
     let at : IsAt d c.args.self.now c.loop-at.cache.store.table c.args.input.now k c.run-run.result.id c.run-run.result.found = c.run-run.ensures.at in
     let read : next (tape_in d c.args.input.now) k ≡ Some c.byte_at-byte.result = c.byte_at-byte.ensures in
     let few : k ≤ length (tape_in d c.args.input.now).bytes = (let u = units_in d c.args.input.now c.requires.at.at.undone c.last_place-last.ensures.inside in omega (arith, u, inside)) in
-    first_answer d c.args.self.now c.args.input.now k c.run-run.result.id _ c.run-run.result.found c.loop-at.cache c.loop-at.cache c.read_met.new.cache c.end_search-then-is_some.new.self {s = c.loop-at.cache.store.searched} refl c.end_search-then-is_some.ensures.value (record { undone = c.requires.at.at.undone; may = c.requires.at.at.may; at = at }) read c.in-Ok.next c.found_at-found.result c.in-Ok.ensures.answer c.place_offset.result c.place_offset.ensures c.found_at-found.ensures (sym c.get_earliest.ensures ∙ c.if-get_earliest.true) (some_is c.found_at-found.result c.if-is_some.ensures) few
+    first_answer d c.args.self.now c.args.input.now k c.run-run.result.id _ c.run-run.result.found c.loop-at.cache c.loop-at.cache c.read_met.new.cache c.end_search-then-is_some.new.self {s = c.loop-at.cache.store.searched} refl c.end_search-then-is_some.ensures.value (record { undone = c.requires.at.at.undone; may = c.requires.at.at.may; at = at }) read c.in-Ok.next c.found_at-found.result c.in-Ok.ensures.answer c.place_offset.result c.place_offset.ensures.value c.found_at-found.ensures (sym c.get_earliest.ensures ∙ c.if-get_earliest.true) (some_is c.found_at-found.result c.if-is_some.ensures) few
 
 pub returns-then-is_some-clause-effect : goal.returns-then-is_some-clause-effect
 returns-then-is_some-clause-effect c =
@@ -133,7 +133,7 @@ returns-then-is_some-clause-effect c =
     rest_then d c.args.self.now c.args.input.now k c.args.cache.now c.loop-at.cache c.loop-at.cache c.end_search-then-is_some.new.self {s = c.loop-at.cache.store.searched} _ refl (omega (arith, inside))
     c.loop-at.invariant.grown (omega (arith, c.loop-at.invariant.counted, c.run-run.ensures.run.more)) c.loop-at.invariant.idle (λ begin nothing. (let had = c.loop-at.invariant.learned begin nothing in (had.0, c.run-run.ensures.run.learned had.1)))
     (rest_read d c.args.self.now c.args.input.now k c.run-run.result.id _ c.run-run.result.found c.loop-at.cache c.loop-at.cache c.read_met.new.cache c.end_search-then-is_some.new.self {s = c.loop-at.cache.store.searched} refl c.end_search-then-is_some.ensures.value (record { undone = c.requires.at.at.undone; may = c.requires.at.at.may; at = at }) read c.in-Ok.next _ c.in-Ok.ensures.effect c.in-Ok.ensures.of (omega (arith, inside)) few
-    (first_stops d c.args.self.now c.args.input.now k c.run-run.result.id _ c.run-run.result.found c.loop-at.cache c.loop-at.cache c.read_met.new.cache c.end_search-then-is_some.new.self {s = c.loop-at.cache.store.searched} refl c.end_search-then-is_some.ensures.value (record { undone = c.requires.at.at.undone; may = c.requires.at.at.may; at = at }) read c.in-Ok.next c.found_at-found.result c.in-Ok.ensures.answer c.place_offset.result c.place_offset.ensures c.found_at-found.ensures (sym c.get_earliest.ensures ∙ c.if-get_earliest.true) (some_is c.found_at-found.result c.if-is_some.ensures)))
+    (first_stops d c.args.self.now c.args.input.now k c.run-run.result.id _ c.run-run.result.found c.loop-at.cache c.loop-at.cache c.read_met.new.cache c.end_search-then-is_some.new.self {s = c.loop-at.cache.store.searched} refl c.end_search-then-is_some.ensures.value (record { undone = c.requires.at.at.undone; may = c.requires.at.at.may; at = at }) read c.in-Ok.next c.found_at-found.result c.in-Ok.ensures.answer c.place_offset.result c.place_offset.ensures.value c.found_at-found.ensures (sym c.get_earliest.ensures ∙ c.if-get_earliest.true) (some_is c.found_at-found.result c.if-is_some.ensures)))
 
 pub loop-at-preserved : goal.loop-at-preserved
 loop-at-preserved c =
@@ -165,7 +165,7 @@ loop-at-preserved c =
           (c.run-run.ensures.run.learned before.1) at.named read (c.in-Ok.ensures.effect.learned after) c.in-Ok.ensures.effect.below in
           (step.0, subst (HasLearned d c.args.self.now c.read_met.new.cache.store c.args.input.now) more step.1));
       within = omega (arith, inside);
-      at = subst (λ n. IsAt d c.args.self.now c.read_met.new.cache.store.table c.args.input.now n c.in-Ok.next c.found_at-found.result) more (more_at d c.args.self.now c.loop-at.cache.store.table c.read_met.new.cache.store.table c.args.input.now k c.run-run.result.id c.in-Ok.next _ c.run-run.result.found c.found_at-found.result at read c.in-Ok.ensures.answer.named (quit_free c.args.self.now _ c.in-Ok.ensures.answer.clean) (c.place_offset.result, c.place_offset.ensures, c.found_at-found.ensures) first (λ l. (dead_tagged c.read_met.new.cache.store.table c.in-Ok.next (c.see_store.ensures.low c.in-Ok.next) c.see_store.ensures.small _ l).1 (λ b. false_true (c.if-is_dead.ensures.1 b))));
+      at = subst (λ n. IsAt d c.args.self.now c.read_met.new.cache.store.table c.args.input.now n c.in-Ok.next c.found_at-found.result) more (more_at d c.args.self.now c.loop-at.cache.store.table c.read_met.new.cache.store.table c.args.input.now k c.run-run.result.id c.in-Ok.next _ c.run-run.result.found c.found_at-found.result at read c.in-Ok.ensures.answer.named (quit_free c.args.self.now _ c.in-Ok.ensures.answer.clean) (c.place_offset.result, c.place_offset.ensures.value, c.found_at-found.ensures) first (λ l. (dead_tagged c.read_met.new.cache.store.table c.in-Ok.next (c.see_bounds.ensures.sound.low c.in-Ok.next) c.see_bounds.ensures.sound.small _ l).1 (λ b. false_true (c.if-is_dead.ensures.1 b))));
       progress = read_exactly d c.args.self.now c.args.input.now 0 c.args.cache.now.store (c.run-run.result.at + 1) c.read_met.new.cache.store
           (subst (λ n. AreReadTo d c.args.self.now c.args.input.now 0 n c.args.cache.now.store c.read_met.new.cache.store) more
           (read_then d c.args.self.now c.args.input.now 0 c.args.cache.now.store c.loop-at.at k c.loop-at.cache.store c.loop-at.invariant.progress c.run-run.ensures.run.more c.run-run.ensures.run.known c.read_met.new.cache.store
@@ -236,7 +236,7 @@ returns-then-is_dead-clause-ended c =
     let given : given_up_offset d c.args.input.now k ≡ c.byte_offset-offset.result = span_unit d c.args.input.now k inside ∙ sym c.byte_offset-offset.ensures.unit in
     let read : next (tape_in d c.args.input.now) k ≡ Some c.byte_at-byte.result = c.byte_at-byte.ensures in
     let few : k ≤ length (tape_in d c.args.input.now).bytes = (let u = units_in d c.args.input.now c.requires.at.at.undone c.last_place-last.ensures.inside in omega (arith, u, inside)) in
-    let stops : Reads d c.args.self.now c.args.input.now (suc k) → ⊥ = stops_dead d c.args.self.now c.loop-at.cache.store.table c.read_met.new.cache.store.table c.args.input.now k c.run-run.result.id c.in-Ok.next _ c.run-run.result.found None at read c.in-Ok.ensures.answer.named (quit_free c.args.self.now _ c.in-Ok.ensures.answer.clean) (λ l. (dead_tagged c.read_met.new.cache.store.table c.in-Ok.next (c.see_store.ensures.low c.in-Ok.next) c.see_store.ensures.small _ l).0 (c.if-is_dead.ensures.0 refl)) (suc k) (omega arith) in
+    let stops : Reads d c.args.self.now c.args.input.now (suc k) → ⊥ = stops_dead d c.args.self.now c.loop-at.cache.store.table c.read_met.new.cache.store.table c.args.input.now k c.run-run.result.id c.in-Ok.next _ c.run-run.result.found None at read c.in-Ok.ensures.answer.named (quit_free c.args.self.now _ c.in-Ok.ensures.answer.clean) (λ l. (dead_tagged c.read_met.new.cache.store.table c.in-Ok.next (c.see_bounds.ensures.sound.low c.in-Ok.next) c.see_bounds.ensures.sound.small _ l).0 (c.if-is_dead.ensures.0 refl)) (suc k) (omega arith) in
     pass_last d c.args.self.now c.args.input.now k c.args.cache.now.store c.read_met.new.cache.store c.end_search.new.self.store
     (at_reads d c.args.self.now c.loop-at.cache.store.table c.args.input.now k c.run-run.result.id c.run-run.result.found at few c.in-Ok.ensures.effect.alive) stops
     (read_then d c.args.self.now c.args.input.now 0 c.args.cache.now.store c.loop-at.at k c.loop-at.cache.store c.loop-at.invariant.progress c.run-run.ensures.run.more c.run-run.ensures.run.known c.read_met.new.cache.store
@@ -252,7 +252,7 @@ returns-then-is_some-clause-ended c =
     let given : given_up_offset d c.args.input.now k ≡ c.byte_offset-offset.result = span_unit d c.args.input.now k inside ∙ sym c.byte_offset-offset.ensures.unit in
     let read : next (tape_in d c.args.input.now) k ≡ Some c.byte_at-byte.result = c.byte_at-byte.ensures in
     let few : k ≤ length (tape_in d c.args.input.now).bytes = (let u = units_in d c.args.input.now c.requires.at.at.undone c.last_place-last.ensures.inside in omega (arith, u, inside)) in
-    let stops : Reads d c.args.self.now c.args.input.now (suc k) → ⊥ = stops_ends d c.args.self.now c.loop-at.cache.store.table c.read_met.new.cache.store.table c.args.input.now k c.run-run.result.id c.in-Ok.next _ c.run-run.result.found c.found_at-found.result at read c.in-Ok.ensures.answer.named (quit_free c.args.self.now _ c.in-Ok.ensures.answer.clean) (c.place_offset.result, c.place_offset.ensures, c.found_at-found.ensures) (sym c.get_earliest.ensures ∙ c.if-get_earliest.true) (some_is c.found_at-found.result c.if-is_some.ensures) (suc k) (omega arith) in
+    let stops : Reads d c.args.self.now c.args.input.now (suc k) → ⊥ = stops_ends d c.args.self.now c.loop-at.cache.store.table c.read_met.new.cache.store.table c.args.input.now k c.run-run.result.id c.in-Ok.next _ c.run-run.result.found c.found_at-found.result at read c.in-Ok.ensures.answer.named (quit_free c.args.self.now _ c.in-Ok.ensures.answer.clean) (c.place_offset.result, c.place_offset.ensures.value, c.found_at-found.ensures) (sym c.get_earliest.ensures ∙ c.if-get_earliest.true) (some_is c.found_at-found.result c.if-is_some.ensures) (suc k) (omega arith) in
     pass_last d c.args.self.now c.args.input.now k c.args.cache.now.store c.read_met.new.cache.store c.end_search-then-is_some.new.self.store
     (at_reads d c.args.self.now c.loop-at.cache.store.table c.args.input.now k c.run-run.result.id c.run-run.result.found at few c.in-Ok.ensures.effect.alive) stops
     (read_then d c.args.self.now c.args.input.now 0 c.args.cache.now.store c.loop-at.at k c.loop-at.cache.store c.loop-at.invariant.progress c.run-run.ensures.run.more c.run-run.ensures.run.known c.read_met.new.cache.store

@@ -10,7 +10,7 @@ use Rattle.automata_hybrid.specs.Searches.Progress.{before_last}
 use Rattle.automata_hybrid.specs.Cache.Stores.{with_searched}
 use Rattle.automata_hybrid.specs.Searches.Passes.{given_up_offset, state_in, tape_in, unit_offset}
 use Rattle.automata_config.specs.Options.{match_kind_of}
-use Rattle.automata_hybrid.specs.Cache.Table.{IsValid, Rows, Leads, Names}
+use Rattle.automata_hybrid.specs.Cache.Table.{IsRowId, Rows, Leads, Names}
 use Rattle.automata_hybrid.specs.Walks.State.{way_of}
 use Rattle.automata_hybrid.proofs.Searches.Directions.{units_in}
 use Rattle.automata_hybrid.proofs.Searches.PassContracts.{last_answer, rest_read, rest_refused, stands_alive}
@@ -20,7 +20,7 @@ use Rattle.automata_hybrid.proofs.dfa.DFA.find_end.Goals as goal
 
 pub read-requires-clause-valid : goal.read-requires-clause-valid
 read-requires-clause-valid c =
-    subst (λ (t : Rows). IsValid t c.args.id) (sym c.end_before_last.ensures.table) (_, c.requires.at.at.named)
+    subst (λ (t : Rows). IsRowId t c.args.id) (sym c.end_before_last.ensures.table) (_, c.requires.at.at.named)
 
 pub found_at-requires-clause-leads : goal.found_at-requires-clause-leads
 found_at-requires-clause-leads c =
@@ -37,7 +37,7 @@ returns-clause-answer c =
     let d : Direction = way_of c.args.way in
     let k : ℕ = c.args.input.now.end - c.args.input.now.start in
     let unit : next (tape_in d c.args.input.now) k ≡ c.unit_at-unit.result = sym (c.unit_at-unit.ensures ∙ ap (next (tape_in d c.args.input.now)) c.last_place-last.ensures.place) in
-    let place : c.place_offset.result ≡ offset_in d c.args.input.now k = c.place_offset.ensures ∙ ap (offset_in d c.args.input.now) c.last_place-last.ensures.place in
+    let place : c.place_offset.result ≡ offset_in d c.args.input.now k = c.place_offset.ensures.value ∙ ap (offset_in d c.args.input.now) c.last_place-last.ensures.place in
     let units : k ≡ length (tape_in d c.args.input.now).bytes = units_in d c.args.input.now c.requires.at.undone c.last_place-last.ensures.inside in
     last_answer d c.args.self.now c.args.input.now k c.args.id c.unit_at-unit.result c.args.found c.args.cache.now c.end_before_last.new.cache c.read.new.cache c.end_search.new.self c.end_before_last.ensures.value c.end_search.ensures.value c.requires.at unit c.in-Ok.next c.found_at.result c.in-Ok.ensures.answer c.place_offset.result place
     (λ q l. c.found_at.ensures q (subst (λ (t : Rows). Leads t c.in-Ok.next q) (sym c.end_search.ensures.table) l)) units
@@ -62,7 +62,7 @@ returns-clause-progress c =
     let d : Direction = way_of c.args.way in
     let k : ℕ = c.args.input.now.end - c.args.input.now.start in
     let unit : next (tape_in d c.args.input.now) k ≡ c.unit_at-unit.result = sym (c.unit_at-unit.ensures ∙ ap (next (tape_in d c.args.input.now)) c.last_place-last.ensures.place) in
-    let place : given_up_offset d c.args.input.now k ≡ c.span_offset-at.result = sym (c.span_offset-at.ensures ∙ ap (given_up_offset d c.args.input.now) c.last_place-last.ensures.place) in
+    let place : given_up_offset d c.args.input.now k ≡ c.span_offset-at.result = sym (c.span_offset-at.ensures.value ∙ ap (given_up_offset d c.args.input.now) c.last_place-last.ensures.place) in
     let begins : c.end_before_last.new.cache.store ≡ with_searched c.args.cache.now.store (before_last d c.args.cache.now.store.searched (given_up_offset d c.args.input.now k)) =
     subst (λ at. c.end_before_last.new.cache.store ≡ with_searched c.args.cache.now.store (before_last d c.args.cache.now.store.searched at)) (sym place) (ap (λ (v : CacheView). v.store) c.end_before_last.ensures.value) in
     let named : Names c.end_before_last.new.cache.store.table c.args.id (state_in d c.args.self.now c.args.input.now k) =
@@ -81,7 +81,7 @@ returns-in-Err-clause-refusal c =
     let k : ℕ = c.args.input.now.end - c.args.input.now.start in
     let unit : next (tape_in d c.args.input.now) k ≡ c.unit_at-unit.result = sym (c.unit_at-unit.ensures ∙ ap (next (tape_in d c.args.input.now)) c.last_place-last.ensures.place) in
     let quits : c.unit_offset.result ≡ unit_offset d c.args.input.now k = c.unit_offset.ensures ∙ ap (unit_offset d c.args.input.now) c.last_place-last.ensures.place in
-    let place : c.span_offset-at.result ≡ given_up_offset d c.args.input.now k = c.span_offset-at.ensures ∙ ap (given_up_offset d c.args.input.now) c.last_place-last.ensures.place in
+    let place : c.span_offset-at.result ≡ given_up_offset d c.args.input.now k = c.span_offset-at.ensures.value ∙ ap (given_up_offset d c.args.input.now) c.last_place-last.ensures.place in
     (unit_refuses d c.args.self.now c.end_before_last.new.cache.store.table c.read.new.cache.store c.args.input.now k c.args.id c.unit_offset.result c.span_offset-at.result c.unit_at-unit.result c.args.found c.in-Err.error
     (subst (λ (t : Rows). IsAt d c.args.self.now t c.args.input.now k c.args.id c.args.found) (sym c.end_before_last.ensures.table) c.requires.at.at)
     unit (sym quits) (sym place) c.in-Err.ensures.refusal)
@@ -106,7 +106,7 @@ returns-in-Err-clause-progress c =
     let d : Direction = way_of c.args.way in
     let k : ℕ = c.args.input.now.end - c.args.input.now.start in
     let unit : next (tape_in d c.args.input.now) k ≡ c.unit_at-unit.result = sym (c.unit_at-unit.ensures ∙ ap (next (tape_in d c.args.input.now)) c.last_place-last.ensures.place) in
-    let place : given_up_offset d c.args.input.now k ≡ c.span_offset-at.result = sym (c.span_offset-at.ensures ∙ ap (given_up_offset d c.args.input.now) c.last_place-last.ensures.place) in
+    let place : given_up_offset d c.args.input.now k ≡ c.span_offset-at.result = sym (c.span_offset-at.ensures.value ∙ ap (given_up_offset d c.args.input.now) c.last_place-last.ensures.place) in
     let begins : c.end_before_last.new.cache.store ≡ with_searched c.args.cache.now.store (before_last d c.args.cache.now.store.searched (given_up_offset d c.args.input.now k)) =
     subst (λ at. c.end_before_last.new.cache.store ≡ with_searched c.args.cache.now.store (before_last d c.args.cache.now.store.searched at)) (sym place) (ap (λ (v : CacheView). v.store) c.end_before_last.ensures.value) in
     let named : Names c.end_before_last.new.cache.store.table c.args.id (state_in d c.args.self.now c.args.input.now k) =

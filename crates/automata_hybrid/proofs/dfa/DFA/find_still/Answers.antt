@@ -17,15 +17,15 @@ found_at-requires-clause-leads c = (_, c.in_ok-next.ensures.answer.named _ c.req
 pub returns-clause-answer : goal.returns-clause-answer
 returns-clause-answer c =
     let d : Direction = way_of c.args.way in
-    let units : c.args.input.now.end - c.args.input.now.start ≡ length (tape_in d c.args.input.now).bytes = units_in d c.args.input.now c.requires.at.undone c.haystack-haystack.ensures.within.1 in
+    let units : c.args.input.now.end - c.args.input.now.start ≡ length (tape_in d c.args.input.now).bytes = units_in d c.args.input.now c.requires.at.undone c.span_offset-at.ensures.inside in
     let last : 0 ≡ length (tape_in d c.args.input.now).bytes = omega (arith, units, none_empty d c.args.input.now c.requires.none) in
-    last_answer d c.args.self.now c.args.input.now 0 c.args.id c.unit_at-unit.result None c.args.cache.now c.args.cache.now c.read_still.new.cache c.read_still.new.cache {s = c.args.cache.now.store.searched} {s' = c.read_still.new.cache.store.searched} refl refl c.requires.at (sym c.unit_at-unit.ensures) c.in_ok-next.next c.found_at.result c.in_ok-next.ensures.answer c.place_offset.result c.place_offset.ensures
+    last_answer d c.args.self.now c.args.input.now 0 c.args.id c.unit_at-unit.result None c.args.cache.now c.args.cache.now c.read_still.new.cache c.read_still.new.cache {s = c.args.cache.now.store.searched} {s' = c.read_still.new.cache.store.searched} refl refl c.requires.at (sym c.unit_at-unit.ensures) c.in_ok-next.next c.found_at.result c.in_ok-next.ensures.answer c.place_offset.result c.place_offset.ensures.value
     c.found_at.ensures last
 
 pub returns-clause-effect : goal.returns-clause-effect
 returns-clause-effect c =
     let d : Direction = way_of c.args.way in
-    let units : c.args.input.now.end - c.args.input.now.start ≡ length (tape_in d c.args.input.now).bytes = units_in d c.args.input.now c.requires.at.undone c.haystack-haystack.ensures.within.1 in
+    let units : c.args.input.now.end - c.args.input.now.start ≡ length (tape_in d c.args.input.now).bytes = units_in d c.args.input.now c.requires.at.undone c.span_offset-at.ensures.inside in
     let last : 0 ≡ length (tape_in d c.args.input.now).bytes = omega (arith, units, none_empty d c.args.input.now c.requires.none) in
     rest_read d c.args.self.now c.args.input.now 0 c.args.id c.unit_at-unit.result None c.args.cache.now c.args.cache.now c.read_still.new.cache c.read_still.new.cache {s = c.args.cache.now.store.searched} {s' = c.read_still.new.cache.store.searched} refl refl c.requires.at (sym c.unit_at-unit.ensures) c.in_ok-next.next _ c.in_ok-next.ensures.effect c.in_ok-next.ensures.of (omega arith) (omega arith) (stops_last d c.args.self.now c.args.input.now 0 last)
 
@@ -33,7 +33,7 @@ pub returns-in_err-next-clause-refusal : goal.returns-in_err-next-clause-refusal
 returns-in_err-next-clause-refusal c =
     if_err c.from_residual.result _ _ c.from_residual.ensures.1
     (unit_refuses (way_of c.args.way) c.args.self.now c.args.cache.now.store.table c.read_still.new.cache.store c.args.input.now 0 c.args.id c.unit_offset.result c.span_offset-at.result c.unit_at-unit.result None c.in_err-next.field-0.0
-    c.requires.at.at (sym c.unit_at-unit.ensures) (sym c.unit_offset.ensures) (sym c.span_offset-at.ensures) c.in_err-next.ensures.refusal)
+    c.requires.at.at (sym c.unit_at-unit.ensures) (sym c.unit_offset.ensures) (sym c.span_offset-at.ensures.value) c.in_err-next.ensures.refusal)
 
 pub returns-in_err-next-clause-effect : goal.returns-in_err-next-clause-effect
 returns-in_err-next-clause-effect c =

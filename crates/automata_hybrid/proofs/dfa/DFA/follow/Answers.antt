@@ -1,7 +1,8 @@
-use Rattle.std.proofs.Common.{◌∙◌, ap, sym, refl, arith}
-use Rattle.automata_hybrid.specs.Steps.Steps.{known_step}
+use Rattle.std.proofs.Common.{◌<◌, sym, subst, refl, arith}
+use Rattle.automata_base.specs.ByteClasses.Classes.{class_in}
+use Rattle.automata_hybrid.specs.Machines.Machine.{Machine, table_stride}
 use Rattle.automata_hybrid.specs.Walks.State.{way_of}
-use Rattle.automata_hybrid.proofs.Searches.QuietRuns.{followed_none}
+use Rattle.automata_hybrid.proofs.Searches.Runs.{followed_none, met_at}
 use Rattle.automata_hybrid.proofs.dfa.DFA.follow.Goals as goal
 
 pub follow_tag-requires-clause-at : goal.follow_tag-requires-clause-at
@@ -9,18 +10,19 @@ follow_tag-requires-clause-at c =
     record { kind = record { upto = omega arith; whole = refl }; only = c.if-has_only.ensures.0 refl; named = c.requires.named }
 
 pub returns-then-has_only-clause-followed : goal.returns-then-has_only-clause-followed
-returns-then-has_only-clause-followed c = c.follow_tag.ensures.run.quiet refl
+returns-then-has_only-clause-followed c = c.follow_tag.ensures.run.followed
 
 pub returns-then-start-last_place-clause-followed : goal.returns-then-start-last_place-clause-followed
 returns-then-start-last_place-clause-followed c =
-    followed_none (way_of c.args.way) c.args.self.now c.args.cache.now.store c.args.input.now c.args.start c.args.from c.requires.named
+    followed_none (way_of c.args.way) c.args.self.now c.args.cache.now.store c.args.input.now 0 c.args.start c.args.from c.requires.named
 
 pub returns-clause-followed : goal.returns-clause-followed
 returns-clause-followed c =
-    followed_none (way_of c.args.way) c.args.self.now c.args.cache.now.store c.args.input.now c.args.start c.args.from c.requires.named
+    followed_none (way_of c.args.way) c.args.self.now c.args.cache.now.store c.args.input.now 0 c.args.start c.args.from c.requires.named
 
 pub returns-clause-met : goal.returns-clause-met
-returns-clause-met c = λ low. (
-  omega (arith, c.if-start-last_place.false, c.last_place.ensures.place),
-  c.next_state_known.ensures.value ∙ ap (known_step c.args.self.now c.args.cache.now.store c.args.from) (sym c.byte_at.ensures),
-)
+returns-clause-met c =
+    met_at (way_of c.args.way) c.args.self.now c.args.cache.now.store c.args.input.now c.args.start c.args.from c.next_state_known.result c.byte_at.result
+    (omega (arith, c.if-start-last_place.false, c.last_place.ensures.place)) c.byte_at.ensures c.next_state_known.ensures.value
+    (subst (λ (m : Machine). class_in c.args.self.now.classes c.byte_at.result < table_stride m) (sym c.requires.of) c.next_state_known.ensures.below)
+    c.next_state_known.ensures.quit c.next_state_known.ensures.named c.requires.named

@@ -1,8 +1,9 @@
-use Rattle.std.proofs.Common.{◌≡◌, ◌∙◌, ap, sym, arith}
-use Rattle.automata_base.specs.Paths.Paths.{next}
-use Rattle.automata_hybrid.specs.Searches.Passes.{tape_in}
-use Rattle.automata_hybrid.specs.Steps.Steps.{known_step}
+use Rattle.std.proofs.Common.{◌<◌, subst, sym, arith}
+use Rattle.automata_base.specs.ByteClasses.Classes.{class_in}
+use Rattle.automata_hybrid.specs.Machines.Machine.{Machine, table_stride}
+use Rattle.automata_hybrid.specs.Searches.PassState.{IsMet}
 use Rattle.automata_hybrid.specs.Walks.State.{way_of}
+use Rattle.automata_hybrid.proofs.Searches.Runs.{met_at}
 use Rattle.automata_hybrid.proofs.dfa.DFA.follow_byte.Goals as goal
 use Rattle.automata_hybrid.proofs.dfa.DFA.follow_byte.Goals.{After-next_state_in_row}
 
@@ -13,15 +14,15 @@ pub next_state_in_row-requires-clause-offset : goal.next_state_in_row-requires-c
 next_state_in_row-requires-clause-offset c =
     omega (arith, c.requires.row, c.requires.at.kind.upto, c.requires.at.kind.whole, c.requires.at.only.from, c.requires.at.only.below)
 
-there : (c : After-next_state_in_row) → c.next_state_in_row.result ≡ known_step c.args.self.now c.args.cache.now.store c.args.id (next (tape_in (way_of c.args.way) c.args.input.now) c.args.place)
-there c = c.next_state_in_row.ensures ∙ ap (known_step c.args.self.now c.args.cache.now.store c.args.id) (sym c.byte_at.ensures)
+met : (c : After-next_state_in_row) → IsMet (way_of c.args.way) c.args.self.now c.args.cache.now.store c.args.input.now c.args.place c.args.id c.next_state_in_row.result
+met c =
+    met_at (way_of c.args.way) c.args.self.now c.args.cache.now.store c.args.input.now c.args.place c.args.id c.next_state_in_row.result c.byte_at.result
+    c.requires.within c.byte_at.ensures c.next_state_in_row.ensures.value
+    (subst (λ (m : Machine). class_in c.args.self.now.classes c.byte_at.result < table_stride m) (sym c.requires.of) c.next_state_in_row.ensures.below)
+    c.next_state_in_row.ensures.quit c.next_state_in_row.ensures.named c.requires.at.named
 
 pub returns-clause-run : goal.returns-clause-run
-returns-clause-run c = λ only. record {
-  led = c.see_byte.ensures.led c.next_state_in_row.result (omega (arith, only.below, c.requires.at.kind.upto)) (there c);
-  quiet = λ none. c.see_byte.ensures.followed c.next_state_in_row.result (omega (arith, only.below, none)) (there c);
-  only = only;
-}
+returns-clause-run c = λ only. (met c (omega (arith, only.below, c.requires.at.kind.upto))).run c.args.tag c.requires.at.kind only
 
 pub returns-clause-met : goal.returns-clause-met
-returns-clause-met c = λ low. (c.requires.within, there c)
+returns-clause-met c = met c

@@ -77,7 +77,7 @@ returns-in-Some-clause-answer c =
       reports =
           next_same d m input (without_match w) left.0 c.new.result stage few
           (subst (λ (v : Walk). c.new.result.pattern ≡ get_or left.0.patterns v.reported 0) c.forget_match.ensures (ap (λ (h : HalfMatch). h.pattern) c.new.ensures ∙ left.3))
-          (ap (λ (h : HalfMatch). h.offset) c.new.ensures ∙ (c.place_offset-place.ensures ∙ ap (λ n. offset_in d input (n - 1)) (c.units-in-Some.ensures ∙ ap (λ (v : Walk). v.units) c.forget_match.ensures)));
+          (ap (λ (h : HalfMatch). h.offset) c.new.ensures ∙ (c.place_offset-place.ensures.value ∙ ap (λ n. offset_in d input (n - 1)) (c.units-in-Some.ensures ∙ ap (λ (v : Walk). v.units) c.forget_match.ensures)));
       goes_on = inr (λ ended. ended_at left.0 (sym ended ∙ stage), inr (refl, refl));
       stops = λ undone on ended. absurd (ended_at left.0 (sym ended ∙ stage));
       there = λ there. there;

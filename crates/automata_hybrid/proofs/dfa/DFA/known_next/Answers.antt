@@ -5,12 +5,12 @@ use Rattle.automata_hybrid.specs.Steps.Steps.{IsStepAnswer, known_step}
 use Rattle.automata_hybrid.proofs.dfa.DFA.known_next.Goals as goal
 
 pub returns-clause-value : goal.returns-clause-value
-returns-clause-value c = λ low. (c.requires.met low).1
+returns-clause-value c = λ low. (c.requires.met low).cached
 
 pub returns-clause-answer : goal.returns-clause-answer
 returns-clause-answer c = λ low.
     let same : c.known_step-next.result ≡ c.args.met =
-    c.known_step-next.ensures.value ∙ (ap (known_step c.args.self.now c.args.cache.now.store c.args.id) (sym c.byte_at.ensures) ∙ sym (c.requires.met low).1) in
+    c.known_step-next.ensures.value ∙ (ap (known_step c.args.self.now c.args.cache.now.store c.args.id) (sym c.byte_at.ensures) ∙ sym (c.requires.met low).cached) in
     subst (λ (u : Option ℕ). IsStepAnswer c.args.self.now c.args.id u c.args.cache.now c.args.cache.now c.args.met) (sym c.byte_at.ensures)
     (subst (IsStepAnswer c.args.self.now c.args.id (Some c.byte_at.result) c.args.cache.now c.args.cache.now) same
     (c.known_step-next.ensures.answer (subst (λ n. n < 2 ^ 31) (sym same) low)))
@@ -18,7 +18,7 @@ returns-clause-answer c = λ low.
 pub returns-clause-effect : goal.returns-clause-effect
 returns-clause-effect c = λ low.
     let same : c.known_step-next.result ≡ c.args.met =
-    c.known_step-next.ensures.value ∙ (ap (known_step c.args.self.now c.args.cache.now.store c.args.id) (sym c.byte_at.ensures) ∙ sym (c.requires.met low).1) in
+    c.known_step-next.ensures.value ∙ (ap (known_step c.args.self.now c.args.cache.now.store c.args.id) (sym c.byte_at.ensures) ∙ sym (c.requires.met low).cached) in
     subst (λ (u : Option ℕ). IsReadEffect c.args.self.now c.args.id u c.args.cache.now c.args.cache.now (Ok c.args.met)) (sym c.byte_at.ensures)
     (subst (λ n. IsReadEffect c.args.self.now c.args.id (Some c.byte_at.result) c.args.cache.now c.args.cache.now (Ok n)) same
     (c.known_step-next.ensures.effect (subst (λ n. n < 2 ^ 31) (sym same) low)))

@@ -10,12 +10,12 @@ pub returns-clause-answer : goal.returns-clause-answer
 returns-clause-answer c = λ low.
     known_answer c.args.self.now c.args.id c.args.unit c.args.cache.now c.unit_class.result c.cell.result c.requires.of c.requires.valid
     c.unit_class.ensures.value c.unit_class.ensures.small c.unit_class.ensures.quit c.unit_class.ensures.free
-    c.cell.ensures.value c.cell.ensures.named (c.see_store.ensures.low c.args.id c.requires.valid.0 c.requires.valid.1) low c.cell.ensures.tag
-    (λ q n. c.unit_class.ensures.alike q (subst (λ (d : Machine). IsOwn d.nfa q) c.requires.of (c.see_store.ensures.own c.args.id q n)))
+    c.cell.ensures.value c.cell.ensures.named (c.see_bounds.ensures.sound.low c.args.id c.requires.valid.0 c.requires.valid.1) low c.cell.ensures.tag
+    (λ q n. c.unit_class.ensures.alike q (subst (λ (d : Machine). IsOwn d.nfa q) c.requires.of (c.see_bounds.ensures.sound.own c.args.id q n)))
 
 pub returns-clause-effect : goal.returns-clause-effect
 returns-clause-effect c = λ low.
     read_answered c.args.self.now c.args.id c.args.unit c.args.cache.now c.args.cache.now c.args.cache.now {s = c.args.cache.now.store.searched} refl
-    (c.see_store.ensures.alive c.args.id) (subst (λ n. n < table_stride c.args.self.now) c.unit_class.ensures.value c.unit_class.ensures.below)
+    (c.see_bounds.ensures.sound.alive c.args.id) (subst (λ n. n < table_stride c.args.self.now) c.unit_class.ensures.value c.unit_class.ensures.below)
     (same_effect c.args.self.now c.args.id c.args.unit c.args.cache.now (λ _. subst (λ n. n < 2 ^ 31) (c.cell.ensures.value ∙ ap (cell_of c.args.cache.now.store c.args.id) c.unit_class.ensures.value) low))
-    c.cell.result c.cell.result (c.see_store.ensures.low c.args.id c.requires.valid.0 c.requires.valid.1) (returns-clause-answer c low)
+    c.cell.result c.cell.result (c.see_bounds.ensures.sound.low c.args.id c.requires.valid.0 c.requires.valid.1) (returns-clause-answer c low)

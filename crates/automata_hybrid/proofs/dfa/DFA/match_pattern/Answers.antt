@@ -1,9 +1,9 @@
-use Rattle.automata_hybrid.proofs.Steps.Ids.{HasRow-matched}
+use Rattle.automata_hybrid.proofs.Steps.Ids.{HoldsRow-matched}
 use Rattle.automata_hybrid.proofs.dfa.DFA.match_pattern.Goals as goal
 
 pub match_pattern-requires-clause-valid : goal.match_pattern-requires-clause-valid
 match_pattern-requires-clause-valid c =
-    HasRow-matched c.args.cache.now.store.table c.args.id c.see_store.ensures.small c.requires.row c.requires.tagged
+    HoldsRow-matched c.args.cache.now c.args.id c.see_bounds.ensures.sound.small c.requires.row c.requires.tagged
 
 pub returns : goal.returns
 returns c = c.match_pattern.ensures

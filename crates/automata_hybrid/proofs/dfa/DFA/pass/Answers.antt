@@ -6,7 +6,7 @@ use Rattle.automata_base.specs.Haystacks.Input.{Allows, Input}
 use Rattle.automata_base.specs.Haystacks.Matches.{HalfMatch}
 use Rattle.automata_base.specs.Haystacks.Tapes.{Direction}
 use Rattle.automata_hybrid.specs.Cache.Caches.{CacheView, with_store}
-use Rattle.automata_hybrid.specs.Cache.Progress.{saturated, started, total_len}
+use Rattle.automata_hybrid.specs.Cache.Progress.{saturated, progress_started, total_len}
 use Rattle.automata_hybrid.specs.Cache.Stores.{Stored, with_searched}
 use Rattle.automata_hybrid.specs.Machines.Machine.{Machine, slot_count}
 use Rattle.automata_hybrid.specs.Searches.PassContracts.{IsKnownUpto, IsPassEffect, IsRestEffect}
@@ -21,8 +21,8 @@ use Rattle.automata_hybrid.proofs.Searches.UnitsRead.{start_had}
 use Rattle.automata_hybrid.proofs.Steps.Ids.{low_bit}
 use Rattle.automata_hybrid.proofs.dfa.DFA.pass.Goals as goal
 
-pub known_pass-ended-requires-clause-at : goal.known_pass-ended-requires-clause-at
-known_pass-ended-requires-clause-at c =
+pub known_pass-known-requires-clause-at : goal.known_pass-known-requires-clause-at
+known_pass-known-requires-clause-at c =
     let d : Direction = way_of c.args.way in
     let low : c.known_start-start.result < 2 ^ 31 = grind (arith, common_steps, c.if-is_fixed.ensures) in
     let a = c.known_start-start.ensures.answer low in
@@ -30,69 +30,69 @@ known_pass-ended-requires-clause-at c =
       undone = c.requires.«open»;
       may = a.may;
       at = starts_at d c.args.self.now c.args.cache.now.store.table c.args.input.now c.known_start-start.result
-          (begins_alive d c.args.self.now c.args.cache.now.store.table c.args.input.now c.known_start-start.result a.named (c.see_store.ensures.low c.known_start-start.result) c.see_store.ensures.small
+          (begins_alive d c.args.self.now c.args.cache.now.store.table c.args.input.now c.known_start-start.result a.named (c.see_bounds.ensures.sound.low c.known_start-start.result) c.see_bounds.ensures.sound.small
           (λ b. (let l : c.known_start-start.result < 2 ^ 29 = grind (arith, common_steps, c.if-is_fixed.ensures) in low_bit 30 c.known_start-start.result (omega (arith, l)) b)));
     }
 
-pub returns-then-ended-clause-effect : goal.returns-then-ended-clause-effect
-returns-then-ended-clause-effect c =
+pub returns-then-known-clause-effect : goal.returns-then-known-clause-effect
+returns-then-known-clause-effect c =
     let d : Direction = way_of c.args.way in
     let low : c.known_start-start.result < 2 ^ 31 = grind (arith, common_steps, c.if-is_fixed.ensures) in
-    let slots : length c.args.cache.now.store.starts ≡ slot_count c.args.self.now = c.see_bounds.ensures.slots ∙ ap (λ (d : Machine). slot_count d) c.requires.of in
+    let slots : length c.args.cache.now.store.starts ≡ slot_count c.args.self.now = c.see_bounds.ensures.bounds.slots ∙ ap (λ (d : Machine). slot_count d) c.requires.of in
     let a = c.known_start-start.ensures.answer low in
     let e = c.known_start-start.ensures.effect low in
     let had = start_had d c.args.self.now c.args.input.now c.args.cache.now c.args.cache.now c.known_start-start.result slots e a in
-    let end = c.known_pass-ended.ensures.ended c.if-ended.true in
-    let few : c.known_pass-ended.result.at ≤ length (tape_in d c.args.input.now).bytes = end.reads.0 in
+    let end = c.known_pass-known.ensures.ended c.if-known.true in
+    let few : c.known_pass-known.result.at ≤ length (tape_in d c.args.input.now).bytes = end.reads.0 in
     let counted = subst (λ n. c.count_search.new.self ≡ with_store c.args.cache.now (with_searched c.args.cache.now.store (record { bytes = saturated (total_len c.args.cache.now.store.searched + n); running = None })))
     c.bytes_read.ensures c.count_search.ensures.value in
     pass_rest d c.args.self.now c.args.input.now c.known_start-start.result c.args.cache.now c.args.cache.now c.args.cache.now c.count_search.new.self {s = c.args.cache.now.store.searched} _ slots a e refl
-    (known_rest d c.args.self.now c.args.input.now c.known_pass-ended.result.at c.known_pass-ended.result.id c.args.cache.now c.known_pass-ended.result.found c.count_search.new.self end counted c.requires.of few) (
+    (known_rest d c.args.self.now c.args.input.now c.known_pass-known.result.at c.known_pass-known.result.id c.args.cache.now c.known_pass-known.result.found c.count_search.new.self end counted c.requires.of few) (
       c.args.cache.now.store,
       had,
-      inr (c.if-keeps_none.ensures.no refl, known_ended d c.args.self.now c.args.input.now c.known_pass-ended.result.at c.known_pass-ended.result.id c.args.cache.now c.known_pass-ended.result.found c.count_search.new.self end counted),
+      inr (c.if-keeps_none.ensures.no refl, known_ended d c.args.self.now c.args.input.now c.known_pass-known.result.at c.known_pass-known.result.id c.args.cache.now c.known_pass-known.result.found c.count_search.new.self end counted),
     )
     tt
 
 pub rest-requires-clause-at : goal.rest-requires-clause-at
 rest-requires-clause-at c =
     let d : Direction = way_of c.args.way in
-    let k : IsKnownUpto d c.args.self.now c.args.cache.now.store c.args.input.now c.known_pass-ended.result.at c.known_pass-ended.result.id c.known_pass-ended.result.found = c.known_pass-ended.ensures.left c.if-ended.false in
-    let same = same_input c.args.input.now c.haystack-2.result.now c.get_span-2.result.start c.get_span-2.result.end c.get_anchored-2.result c.get_earliest-2.result c.haystack-2.ensures.same c.get_span-2.ensures.start c.get_span-2.ensures.end c.get_anchored-2.ensures c.get_earliest-2.ensures in
+    let k : IsKnownUpto d c.args.self.now c.args.cache.now.store c.args.input.now c.known_pass-known.result.at c.known_pass-known.result.id c.known_pass-known.result.found = c.known_pass-known.ensures.left c.if-known.false in
+    let same = same_input c.args.input.now c.haystack-2.result.now c.get_span-2.result c.get_anchored-2.result c.get_earliest-2.result c.haystack-2.ensures.same c.get_span-2.ensures.start c.get_span-2.ensures.end c.get_anchored-2.ensures c.get_earliest-2.ensures in
     let upto =
-    subst (λ (o : Option HalfMatch). IsKnownUpto d c.args.self.now c.search_start.new.self.store c.args.input.now c.known_pass-ended.result.at c.known_pass-ended.result.id o) (sym c.again-before.ensures)
-    (subst (λ (v : CacheView). IsKnownUpto d c.args.self.now v.store c.args.input.now c.known_pass-ended.result.at c.known_pass-ended.result.id c.known_pass-ended.result.found) (sym c.search_start.ensures.value)
-    (record { within = k.within; at = k.at; learned = k.learned; known = k.known })) in (
-      subst (λ (i : Input). Allows i.haystack i.start i.end) (sym same) c.get_span-2.ensures.within,
-      subst (λ (i : Input). IsKnownUpto d c.args.self.now c.search_start.new.self.store i c.known_pass-ended.result.at c.known_pass-ended.result.id c.again-before.result) (sym same) upto,
-    )
+    subst (λ (o : Option HalfMatch). IsKnownUpto d c.args.self.now c.search_start.new.self.store c.args.input.now c.known_pass-known.result.at c.known_pass-known.result.id o) (sym c.again-before.ensures)
+    (subst (λ (v : CacheView). IsKnownUpto d c.args.self.now v.store c.args.input.now c.known_pass-known.result.at c.known_pass-known.result.id c.known_pass-known.result.found) (sym c.search_start.ensures.value)
+    (record { within = k.within; at = k.at; learned = k.learned; known = k.known })) in record {
+      allowed = subst (λ (i : Input). Allows i.haystack i.start i.end) (sym same) c.get_span-2.ensures.within;
+      upto = subst (λ (i : Input). IsKnownUpto d c.args.self.now c.search_start.new.self.store i c.known_pass-known.result.at c.known_pass-known.result.id c.again-before.result) (sym same) upto;
+    }
 
 pub returns-in-Err-clause-refusal : goal.returns-in-Err-clause-refusal
 returns-in-Err-clause-refusal c =
-    subst (λ (i : Input). IsPassRefusal (way_of c.args.way) c.args.self.now c.begin_of.new.cache.store i c.in-Err.error) (same_input c.args.input.now c.haystack.result.now c.get_span.result.start c.get_span.result.end c.get_anchored.result c.get_earliest.result c.haystack.ensures.same c.get_span.ensures.start c.get_span.ensures.end c.get_anchored.ensures c.get_earliest.ensures) c.in-Err.ensures.refusal
+    subst (λ (i : Input). IsPassRefusal (way_of c.args.way) c.args.self.now c.begin_of.new.cache.store i c.in-Err.error) (same_input c.args.input.now c.haystack.result.now c.get_span.result c.get_anchored.result c.get_earliest.result c.haystack.ensures.same c.get_span.ensures.start c.get_span.ensures.end c.get_anchored.ensures c.get_earliest.ensures) c.in-Err.ensures.refusal
 
 pub returns-in-Err-rest-clause-refusal : goal.returns-in-Err-rest-clause-refusal
 returns-in-Err-rest-clause-refusal c =
-    subst (λ (i : Input). IsPassRefusal (way_of c.args.way) c.args.self.now c.rest.new.cache.store i c.in-Err-rest.error) (same_input c.args.input.now c.haystack-2.result.now c.get_span-2.result.start c.get_span-2.result.end c.get_anchored-2.result c.get_earliest-2.result c.haystack-2.ensures.same c.get_span-2.ensures.start c.get_span-2.ensures.end c.get_anchored-2.ensures c.get_earliest-2.ensures) c.in-Err-rest.ensures.refusal
+    subst (λ (i : Input). IsPassRefusal (way_of c.args.way) c.args.self.now c.rest.new.cache.store i c.in-Err-rest.error) (same_input c.args.input.now c.haystack-2.result.now c.get_span-2.result c.get_anchored-2.result c.get_earliest-2.result c.haystack-2.ensures.same c.get_span-2.ensures.start c.get_span-2.ensures.end c.get_anchored-2.ensures c.get_earliest-2.ensures) c.in-Err-rest.ensures.refusal
 
 pub returns-in-Ok-rest-clause-effect : goal.returns-in-Ok-rest-clause-effect
 returns-in-Ok-rest-clause-effect c =
     let d : Direction = way_of c.args.way in
     let low : c.known_start-start.result < 2 ^ 31 = grind (arith, common_steps, c.if-is_fixed.ensures) in
-    let slots : length c.args.cache.now.store.starts ≡ slot_count c.args.self.now = c.see_bounds.ensures.slots ∙ ap (λ (d : Machine). slot_count d) c.requires.of in
+    let slots : length c.args.cache.now.store.starts ≡ slot_count c.args.self.now = c.see_bounds.ensures.bounds.slots ∙ ap (λ (d : Machine). slot_count d) c.requires.of in
     let a = c.known_start-start.ensures.answer low in
     let e = c.known_start-start.ensures.effect low in
     let had = start_had d c.args.self.now c.args.input.now c.args.cache.now c.args.cache.now c.known_start-start.result slots e a in
     let begins : c.search_start.new.self.store ≡ with_search_begun d c.args.input.now 0 c.args.cache.now.store =
-    subst (λ at. c.search_start.new.self.store ≡ with_searched c.args.cache.now.store (started c.args.cache.now.store.searched at)) c.span_offset.ensures (ap (λ (v : CacheView). v.store) c.search_start.ensures.value) in
+    subst (λ at. c.search_start.new.self.store ≡ with_searched c.args.cache.now.store (progress_started c.args.cache.now.store.searched at)) c.span_offset.ensures.value (ap (λ (v : CacheView). v.store) c.search_start.ensures.value) in
     pass_rest d c.args.self.now c.args.input.now c.known_start-start.result c.args.cache.now c.args.cache.now c.search_start.new.self c.rest.new.cache (Ok c.in-Ok-rest.found) slots a e c.search_start.ensures.value
-    (subst (λ (i : Input). IsRestEffect d c.args.self.now i 0 c.search_start.new.self c.rest.new.cache (Ok c.in-Ok-rest.found)) (same_input c.args.input.now c.haystack-2.result.now c.get_span-2.result.start c.get_span-2.result.end c.get_anchored-2.result c.get_earliest-2.result c.haystack-2.ensures.same c.get_span-2.ensures.start c.get_span-2.ensures.end c.get_anchored-2.ensures c.get_earliest-2.ensures) c.in-Ok-rest.ensures.effect) (
+    (subst (λ (i : Input). IsRestEffect d c.args.self.now i 0 c.search_start.new.self c.rest.new.cache (Ok c.in-Ok-rest.found)) (same_input c.args.input.now c.haystack-2.result.now c.get_span-2.result c.get_anchored-2.result c.get_earliest-2.result c.haystack-2.ensures.same c.get_span-2.ensures.start c.get_span-2.ensures.end c.get_anchored-2.ensures c.get_earliest-2.ensures) c.in-Ok-rest.ensures.effect) (
       c.args.cache.now.store,
       had,
       inr (
         c.if-keeps_none.ensures.no refl,
         subst (λ (v : Stored). EndsAtLast d c.args.self.now c.args.input.now v c.rest.new.cache.store) begins
-            (subst (λ (i : Input). EndsAtLast d c.args.self.now i c.search_start.new.self.store c.rest.new.cache.store) (same_input c.args.input.now c.haystack-2.result.now c.get_span-2.result.start c.get_span-2.result.end c.get_anchored-2.result c.get_earliest-2.result c.haystack-2.ensures.same c.get_span-2.ensures.start c.get_span-2.ensures.end c.get_anchored-2.ensures c.get_earliest-2.ensures) c.in-Ok-rest.ensures.ended),
+            (subst (λ (i : Input). EndsAtLast d c.args.self.now i c.search_start.new.self.store c.rest.new.cache.store) (same_input c.args.input.now c.haystack-2.result.now c.get_span-2.result c.get_anchored-2.result c.get_earliest-2.result c.haystack-2.ensures.same c.get_span-2.ensures.start c.get_span-2.ensures.end c.get_anchored-2.ensures c.get_earliest-2.ensures) c.in-Ok-rest.ensures.ended),
       ),
     )
     tt
@@ -101,14 +101,14 @@ pub returns-in-Err-rest-clause-effect : goal.returns-in-Err-rest-clause-effect
 returns-in-Err-rest-clause-effect c =
     let d : Direction = way_of c.args.way in
     let low : c.known_start-start.result < 2 ^ 31 = grind (arith, common_steps, c.if-is_fixed.ensures) in
-    let slots : length c.args.cache.now.store.starts ≡ slot_count c.args.self.now = c.see_bounds.ensures.slots ∙ ap (λ (d : Machine). slot_count d) c.requires.of in
+    let slots : length c.args.cache.now.store.starts ≡ slot_count c.args.self.now = c.see_bounds.ensures.bounds.slots ∙ ap (λ (d : Machine). slot_count d) c.requires.of in
     let a = c.known_start-start.ensures.answer low in
     let e = c.known_start-start.ensures.effect low in
     let had = start_had d c.args.self.now c.args.input.now c.args.cache.now c.args.cache.now c.known_start-start.result slots e a in
     let begins : c.search_start.new.self.store ≡ with_search_begun d c.args.input.now 0 c.args.cache.now.store =
-    subst (λ at. c.search_start.new.self.store ≡ with_searched c.args.cache.now.store (started c.args.cache.now.store.searched at)) c.span_offset.ensures (ap (λ (v : CacheView). v.store) c.search_start.ensures.value) in
+    subst (λ at. c.search_start.new.self.store ≡ with_searched c.args.cache.now.store (progress_started c.args.cache.now.store.searched at)) c.span_offset.ensures.value (ap (λ (v : CacheView). v.store) c.search_start.ensures.value) in
     pass_rest d c.args.self.now c.args.input.now c.known_start-start.result c.args.cache.now c.args.cache.now c.search_start.new.self c.rest.new.cache (Err c.in-Err-rest.error) slots a e c.search_start.ensures.value
-    (subst (λ (i : Input). IsRestEffect {T = Option HalfMatch} d c.args.self.now i 0 c.search_start.new.self c.rest.new.cache (Err c.in-Err-rest.error)) (same_input c.args.input.now c.haystack-2.result.now c.get_span-2.result.start c.get_span-2.result.end c.get_anchored-2.result c.get_earliest-2.result c.haystack-2.ensures.same c.get_span-2.ensures.start c.get_span-2.ensures.end c.get_anchored-2.ensures c.get_earliest-2.ensures) c.in-Err-rest.ensures.effect)
+    (subst (λ (i : Input). IsRestEffect {T = Option HalfMatch} d c.args.self.now i 0 c.search_start.new.self c.rest.new.cache (Err c.in-Err-rest.error)) (same_input c.args.input.now c.haystack-2.result.now c.get_span-2.result c.get_anchored-2.result c.get_earliest-2.result c.haystack-2.ensures.same c.get_span-2.ensures.start c.get_span-2.ensures.end c.get_anchored-2.ensures c.get_earliest-2.ensures) c.in-Err-rest.ensures.effect)
     tt
     (inr (
       c.args.cache.now.store,
@@ -116,14 +116,14 @@ returns-in-Err-rest-clause-effect c =
       inr (
         c.if-keeps_none.ensures.no refl,
         subst (λ (v : Stored). IsStoppedAt d c.args.self.now c.args.input.now v c.rest.new.cache.store c.in-Err-rest.error) begins
-            (subst (λ (i : Input). IsStoppedAt d c.args.self.now i c.search_start.new.self.store c.rest.new.cache.store c.in-Err-rest.error) (same_input c.args.input.now c.haystack-2.result.now c.get_span-2.result.start c.get_span-2.result.end c.get_anchored-2.result c.get_earliest-2.result c.haystack-2.ensures.same c.get_span-2.ensures.start c.get_span-2.ensures.end c.get_anchored-2.ensures c.get_earliest-2.ensures) c.in-Err-rest.ensures.left),
+            (subst (λ (i : Input). IsStoppedAt d c.args.self.now i c.search_start.new.self.store c.rest.new.cache.store c.in-Err-rest.error) (same_input c.args.input.now c.haystack-2.result.now c.get_span-2.result c.get_anchored-2.result c.get_earliest-2.result c.haystack-2.ensures.same c.get_span-2.ensures.start c.get_span-2.ensures.end c.get_anchored-2.ensures c.get_earliest-2.ensures) c.in-Err-rest.ensures.left),
       ),
     ))
 
 pub returns-in-Ok-clause-effect : goal.returns-in-Ok-clause-effect
 returns-in-Ok-clause-effect c =
-    subst (λ (i : Input). IsPassEffect {T = Option HalfMatch} (way_of c.args.way) c.args.self.now i c.args.cache.now c.begin_of.new.cache (Ok c.in-Ok.found)) (same_input c.args.input.now c.haystack.result.now c.get_span.result.start c.get_span.result.end c.get_anchored.result c.get_earliest.result c.haystack.ensures.same c.get_span.ensures.start c.get_span.ensures.end c.get_anchored.ensures c.get_earliest.ensures) c.in-Ok.ensures.effect
+    subst (λ (i : Input). IsPassEffect {T = Option HalfMatch} (way_of c.args.way) c.args.self.now i c.args.cache.now c.begin_of.new.cache (Ok c.in-Ok.found)) (same_input c.args.input.now c.haystack.result.now c.get_span.result c.get_anchored.result c.get_earliest.result c.haystack.ensures.same c.get_span.ensures.start c.get_span.ensures.end c.get_anchored.ensures c.get_earliest.ensures) c.in-Ok.ensures.effect
 
 pub returns-in-Err-clause-effect : goal.returns-in-Err-clause-effect
 returns-in-Err-clause-effect c =
-    subst (λ (i : Input). IsPassEffect {T = Option HalfMatch} (way_of c.args.way) c.args.self.now i c.args.cache.now c.begin_of.new.cache (Err c.in-Err.error)) (same_input c.args.input.now c.haystack.result.now c.get_span.result.start c.get_span.result.end c.get_anchored.result c.get_earliest.result c.haystack.ensures.same c.get_span.ensures.start c.get_span.ensures.end c.get_anchored.ensures c.get_earliest.ensures) c.in-Err.ensures.effect
+    subst (λ (i : Input). IsPassEffect {T = Option HalfMatch} (way_of c.args.way) c.args.self.now i c.args.cache.now c.begin_of.new.cache (Err c.in-Err.error)) (same_input c.args.input.now c.haystack.result.now c.get_span.result c.get_anchored.result c.get_earliest.result c.haystack.ensures.same c.get_span.ensures.start c.get_span.ensures.end c.get_anchored.ensures c.get_earliest.ensures) c.in-Err.ensures.effect

@@ -1,7 +1,8 @@
 use Rattle.std.proofs.Common.{◌≡◌, ◌∙◌, None, Some, false, refl, subst, sym}
 use Rattle.automata_base.specs.Powersets.Powerset.{Powerset}
 use Rattle.automata_base.proofs.Paths.Orders.{none_some}
-use Rattle.automata_hybrid.specs.Cache.Changes.{IsAddedStart}
+use Rattle.automata_hybrid.specs.Cache.Changes.{IsStateAdded}
+use Rattle.automata_hybrid.specs.Cache.Usage.{cleared}
 use Rattle.automata_hybrid.specs.Walks.Parts.{IsPutBackEffect}
 use Rattle.automata_hybrid.specs.Cache.Table.{IsNewState, id_of}
 use Rattle.automata_hybrid.proofs.Cache.Additions.{new_state}
@@ -50,7 +51,7 @@ returns-clause-effect c =
       there = λ has. absurd (none_some (sym none ∙ has.named));
       again = λ lacks. (
         c.add_again.ensures.effect.cost,
-        subst (λ (q : Powerset). IsAddedStart c.args.cache.now.store (record { state = q; started = false }) c.add_again.new.self.store)
+        subst (λ (q : Powerset). IsStateAdded c.args.cache.now.store (cleared c.args.cache.now.store) (record { state = q; started = false }) c.add_again.new.self.store)
             c.in_ok-state.ensures.cases c.in_ok-id.ensures.added,
       );
     }

@@ -25,8 +25,8 @@ returns-clause-effect c =
     unit_effect d c.args.self.now c.args.input.now c.args.place c.args.id c.unit_at.result c.args.cache.now c.args.cache.now c.read.new.cache {s = c.args.cache.now.store.searched} c.read.result
     (sym c.unit_at.ensures) refl c.requires.at.named c.read.ensures.of c.read.ensures.effect
     (IfOk-weaker c.read.result _ _
-    (λ n taken. taken_here d c.args.self.now c.args.input.now c.args.place c.args.id c.span_offset-at.result c.unit_at.result c.args.cache.now.store c.requires.at.named (sym c.unit_at.ensures) (sym c.span_offset-at.ensures) c.read.new.cache.store n taken)
+    (λ n taken. taken_here d c.args.self.now c.args.input.now c.args.place c.args.id c.span_offset-at.result c.unit_at.result c.args.cache.now.store c.requires.at.named (sym c.unit_at.ensures) (sym c.span_offset-at.ensures.value) c.read.new.cache.store n taken)
     c.read.ensures.step.taken)
     (IfErr-weaker c.read.result _ _
-    (λ e left. refused_here d c.args.self.now c.args.input.now c.args.place c.args.id c.span_offset-at.result c.unit_at.result c.args.cache.now.store c.requires.at.named (sym c.unit_at.ensures) (sym c.span_offset-at.ensures) c.read.new.cache.store left)
+    (λ e left. refused_here d c.args.self.now c.args.input.now c.args.place c.args.id c.span_offset-at.result c.unit_at.result c.args.cache.now.store c.requires.at.named (sym c.unit_at.ensures) (sym c.span_offset-at.ensures.value) c.read.new.cache.store left)
     c.read.ensures.step.left)

@@ -19,7 +19,7 @@ returns-then-is_fresh-clause-refusal c =
 pub returns-then-is_fresh-clause-effect : goal.returns-then-is_fresh-clause-effect
 returns-then-is_fresh-clause-effect c =
     start_effect (way_of c.args.way) c.args.self.now c.args.input.now c.args.walk.now c.args.cache.now c.walk_start.new.cache c.walk_start.result
-    (c.is_fresh.ensures.yes c.if-is_fresh.true) c.requires.walk.reported c.walk_start.ensures.answer (c.see_bounds.ensures.slots ∙ ap (λ (m : Machine). slot_count m) c.requires.of) c.walk_start.ensures.refusal c.walk_start.ensures.effect
+    (c.is_fresh.ensures.yes c.if-is_fresh.true) c.requires.walk.reported c.walk_start.ensures.answer (c.see_bounds.ensures.bounds.slots ∙ ap (λ (m : Machine). slot_count m) c.requires.of) c.walk_start.ensures.refusal c.walk_start.ensures.effect
 
 pub returns-in-Ok-clause-effect : goal.returns-in-Ok-clause-effect
 returns-in-Ok-clause-effect c =

@@ -1,8 +1,8 @@
 use Rattle.std.proofs.Common.{suc, ◌≡◌, ◌∙◌, ◌-◌, Some, ap, sym, arith}
 use Rattle.automata_base.specs.Haystacks.Matches.{HalfMatch}
 use Rattle.automata_hybrid.specs.Cache.Table.{Rows}
-use Rattle.automata_hybrid.proofs.Searches.QuietRuns.{followed_at, followed_learned}
-use Rattle.automata_hybrid.proofs.Searches.Runs.{first_half, known_after, led_at, led_learned}
+use Rattle.automata_hybrid.proofs.Searches.Runs.{first_half, followed_at, followed_known, followed_learned, known_after}
+use Rattle.automata_hybrid.proofs.Searches.Runs.{matched_at}
 use Rattle.automata_hybrid.proofs.Steps.Ids.{Leads-Names}
 use Rattle.automata_hybrid.proofs.dfa.DFA.run.Goals as goal
 
@@ -15,7 +15,7 @@ returns-then-get_earliest-clause-run c =
     record {
       more = followed.more;
       within = c.follow-quiet.ensures.within;
-      known = λ k from below. (followed.quiet k from below).known.0;
+      known = followed_known followed;
       learned = followed_learned followed;
     }
 
@@ -28,28 +28,28 @@ returns-then-not-has_only-clause-run c =
     record {
       more = followed.more;
       within = c.follow-quiet.ensures.within;
-      known = λ k from below. (followed.quiet k from below).known.0;
+      known = followed_known followed;
       learned = followed_learned followed;
     }
 
 pub returns-clause-at : goal.returns-clause-at
 returns-clause-at c =
-    let led = c.follow_matches-stop.ensures.led in
-    let further = c.follow_matches-stop.ensures.within.0 in
+    let matches = c.follow_matches-stop.ensures.run.followed in
+    let further = c.follow_matches-stop.ensures.run.further in
     let here : c.follow_matches-stop.result.at ≡ suc (c.follow_matches-stop.result.at - 1) = omega (arith, further) in
     let t : Rows = c.args.cache.now.store.table in
-    led_at led (c.follow_matches-stop.result.at - 1) c.place_offset-offset.result (sym c.get_earliest.ensures ∙ c.if-get_earliest.false) here c.place_offset-offset.ensures
-    ((c.see_store.ensures.tagged _ _ led.named).0 c.follow_matches-stop.ensures.reports)
-    (λ q l. ap (λ (h : HalfMatch). Some h) c.new.ensures ∙ first_half q.patterns c.first_pattern-pattern.result c.place_offset-offset.result c.args.found ((c.see_store.ensures.tagged _ q (Leads-Names t _ q l (c.see_store.ensures.low _ _ led.named))).0 c.follow_matches-stop.ensures.reports) (c.first_pattern-pattern.ensures q (Leads-Names t _ q l (c.see_store.ensures.low _ _ led.named))))
+    matched_at matches (c.follow_matches-stop.result.at - 1) c.place_offset-offset.result (sym c.get_earliest.ensures ∙ c.if-get_earliest.false) here c.place_offset-offset.ensures.value
+    ((c.see_bounds.ensures.sound.tagged _ _ matches.named).0 c.follow_matches-stop.ensures.run.reports)
+    (λ q l. ap (λ (h : HalfMatch). Some h) c.new.ensures ∙ first_half q.patterns c.first_pattern-pattern.result c.place_offset-offset.result c.args.found ((c.see_bounds.ensures.sound.tagged _ q (Leads-Names t _ q l (c.see_bounds.ensures.sound.low _ _ matches.named))).0 c.follow_matches-stop.ensures.run.reports) (c.first_pattern-pattern.ensures q (Leads-Names t _ q l (c.see_bounds.ensures.sound.low _ _ matches.named))))
     (followed_at c.follow-quiet.ensures.followed c.requires.at)
 
 pub returns-clause-run : goal.returns-clause-run
 returns-clause-run c =
     let followed = c.follow-quiet.ensures.followed in
-    let led = c.follow_matches-stop.ensures.led in
+    let matches = c.follow_matches-stop.ensures.run.followed in
     record {
-      more = omega (arith, followed.more, led.more);
-      within = c.follow_matches-stop.ensures.within.1;
-      known = known_after followed led;
-      learned = λ learned. led_learned led (followed_learned followed learned);
+      more = omega (arith, followed.more, matches.more);
+      within = c.follow_matches-stop.ensures.run.within;
+      known = known_after followed matches;
+      learned = λ learned. followed_learned matches (followed_learned followed learned);
     }

@@ -19,23 +19,23 @@ use Rattle.automata_hybrid.proofs.dfa.DFA.search.Goals as goal
 
 pub returns-in-Ok-clause-found : goal.returns-in-Ok-clause-found
 returns-in-Ok-clause-found c =
-    subst (λ (i : Input). IsFound (way_of c.args.way) c.args.self.now i (based_half c.in-Ok.found)) (same_input c.args.input.now c.haystack.result.now c.get_span.result.start c.get_span.result.end c.get_anchored.result c.get_earliest.result c.haystack.ensures.same c.get_span.ensures.start c.get_span.ensures.end c.get_anchored.ensures c.get_earliest.ensures) c.in-Ok.ensures.found
+    subst (λ (i : Input). IsFound (way_of c.args.way) c.args.self.now i (based_half c.in-Ok.found)) (same_input c.args.input.now c.haystack.result.now c.get_span.result c.get_anchored.result c.get_earliest.result c.haystack.ensures.same c.get_span.ensures.start c.get_span.ensures.end c.get_anchored.ensures c.get_earliest.ensures) c.in-Ok.ensures.found
 
 pub returns-in-Ok-clause-effect : goal.returns-in-Ok-clause-effect
 returns-in-Ok-clause-effect c =
-    subst (λ (i : Input). IsSearchEffect {T = Option (HalfMatch × ℕ)} (way_of c.args.way) c.args.self.now i c.args.cache.now c.search_skipping.new.cache (Ok c.in-Ok.found)) (same_input c.args.input.now c.haystack.result.now c.get_span.result.start c.get_span.result.end c.get_anchored.result c.get_earliest.result c.haystack.ensures.same c.get_span.ensures.start c.get_span.ensures.end c.get_anchored.ensures c.get_earliest.ensures) c.in-Ok.ensures.effect
+    subst (λ (i : Input). IsSearchEffect {T = Option (HalfMatch × ℕ)} (way_of c.args.way) c.args.self.now i c.args.cache.now c.search_skipping.new.cache (Ok c.in-Ok.found)) (same_input c.args.input.now c.haystack.result.now c.get_span.result c.get_anchored.result c.get_earliest.result c.haystack.ensures.same c.get_span.ensures.start c.get_span.ensures.end c.get_anchored.ensures c.get_earliest.ensures) c.in-Ok.ensures.effect
 
 pub returns-in-Ok-clause-upto : goal.returns-in-Ok-clause-upto
 returns-in-Ok-clause-upto c = λ forward.
-    subst (λ (i : Input). IfSome c.in-Ok.found (λ p. IsCostUpto c.args.self.now i p.1 c.args.cache.now c.search_skipping.new.cache)) (same_input c.args.input.now c.haystack.result.now c.get_span.result.start c.get_span.result.end c.get_anchored.result c.get_earliest.result c.haystack.ensures.same c.get_span.ensures.start c.get_span.ensures.end c.get_anchored.ensures c.get_earliest.ensures) (c.in-Ok.ensures.upto forward)
+    subst (λ (i : Input). IfSome c.in-Ok.found (λ p. IsCostUpto c.args.self.now i p.1 c.args.cache.now c.search_skipping.new.cache)) (same_input c.args.input.now c.haystack.result.now c.get_span.result c.get_anchored.result c.get_earliest.result c.haystack.ensures.same c.get_span.ensures.start c.get_span.ensures.end c.get_anchored.ensures c.get_earliest.ensures) (c.in-Ok.ensures.upto forward)
 
 pub returns-in-Err-clause-refusal : goal.returns-in-Err-clause-refusal
 returns-in-Err-clause-refusal c =
-    subst (λ (i : Input). IsRefused (way_of c.args.way) c.args.self.now c.search_skipping.new.cache.store i c.in-Err.error) (same_input c.args.input.now c.haystack.result.now c.get_span.result.start c.get_span.result.end c.get_anchored.result c.get_earliest.result c.haystack.ensures.same c.get_span.ensures.start c.get_span.ensures.end c.get_anchored.ensures c.get_earliest.ensures) c.in-Err.ensures.refusal
+    subst (λ (i : Input). IsRefused (way_of c.args.way) c.args.self.now c.search_skipping.new.cache.store i c.in-Err.error) (same_input c.args.input.now c.haystack.result.now c.get_span.result c.get_anchored.result c.get_earliest.result c.haystack.ensures.same c.get_span.ensures.start c.get_span.ensures.end c.get_anchored.ensures c.get_earliest.ensures) c.in-Err.ensures.refusal
 
 pub returns-in-Err-clause-effect : goal.returns-in-Err-clause-effect
 returns-in-Err-clause-effect c =
-    subst (λ (i : Input). IsSearchEffect {T = Option (HalfMatch × ℕ)} (way_of c.args.way) c.args.self.now i c.args.cache.now c.search_skipping.new.cache (Err c.in-Err.error)) (same_input c.args.input.now c.haystack.result.now c.get_span.result.start c.get_span.result.end c.get_anchored.result c.get_earliest.result c.haystack.ensures.same c.get_span.ensures.start c.get_span.ensures.end c.get_anchored.ensures c.get_earliest.ensures) c.in-Err.ensures.effect
+    subst (λ (i : Input). IsSearchEffect {T = Option (HalfMatch × ℕ)} (way_of c.args.way) c.args.self.now i c.args.cache.now c.search_skipping.new.cache (Err c.in-Err.error)) (same_input c.args.input.now c.haystack.result.now c.get_span.result c.get_anchored.result c.get_earliest.result c.haystack.ensures.same c.get_span.ensures.start c.get_span.ensures.end c.get_anchored.ensures c.get_earliest.ensures) c.in-Err.ensures.effect
 
 pub returns-in-Ok-Some-clause-found : goal.returns-in-Ok-Some-clause-found
 returns-in-Ok-Some-clause-found c =

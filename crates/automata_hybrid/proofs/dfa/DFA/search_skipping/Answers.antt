@@ -10,10 +10,10 @@ use Rattle.automata_hybrid.proofs.dfa.DFA.search_skipping.Goals as goal
 
 pub returns-in-Forward-clause-found : goal.returns-in-Forward-clause-found
 returns-in-Forward-clause-found c =
-    subst (λ (w : Way). IfOk c.search_spans.result (λ o. IsFound (way_of w) c.args.self.now (input_at c.args.haystack.now c.args.span.start c.args.span.end c.args.anchored c.args.earliest) (based_half o))) (sym c.in-Forward.is)
+    subst (λ (w : Way). IfOk c.search_spans.result (λ o. IsFound (way_of w) c.args.self.now (input_at c.args.haystack.now c.args.span c.args.anchored c.args.earliest) (based_half o))) (sym c.in-Forward.is)
     (subst (λ (i : Input). IfOk c.search_spans.result (λ o. IsFound (way_of Way.Forward) c.args.self.now i (based_half o))) c.input_of-own.ensures c.search_spans.ensures.found)
 
 pub returns-in-Backward-clause-found : goal.returns-in-Backward-clause-found
 returns-in-Backward-clause-found c =
-    subst (λ (w : Way). IfOk c.search_spans-in-Backward.result (λ o. IsFound (way_of w) c.args.self.now (input_at c.args.haystack.now c.args.span.start c.args.span.end c.args.anchored c.args.earliest) (based_half o))) (sym c.in-Backward.is)
+    subst (λ (w : Way). IfOk c.search_spans-in-Backward.result (λ o. IsFound (way_of w) c.args.self.now (input_at c.args.haystack.now c.args.span c.args.anchored c.args.earliest) (based_half o))) (sym c.in-Backward.is)
     (subst (λ (i : Input). IfOk c.search_spans-in-Backward.result (λ o. IsFound (way_of Way.Backward) c.args.self.now i (based_half o))) c.input_of-own.ensures c.search_spans-in-Backward.ensures.found)

@@ -23,4 +23,4 @@ returns-clause-reports c =
     subst (ReportsNext d c.args.self.now c.args.input.now c.args.walk.now) (sym now)
     (next_arrives d c.args.self.now c.args.input.now c.args.walk.now c.args.cache.now.store.table c.args.id c.args.units q c.new-half.result
     c.requires.«open» c.requires.may c.requires.here c.requires.arrives state row
-    (ap (λ (h : HalfMatch). h.pattern) c.new-half.ensures ∙ pattern) (ap (λ (h : HalfMatch). h.offset) c.new-half.ensures ∙ c.place_offset-at.ensures))
+    (ap (λ (h : HalfMatch). h.pattern) c.new-half.ensures ∙ pattern) (ap (λ (h : HalfMatch). h.offset) c.new-half.ensures ∙ c.place_offset-at.ensures.value))

@@ -34,7 +34,7 @@ knows_here :
     → KnowsStart c.args.self.now c.args.cache.now.store c.args.mode c.args.prev
 knows_here c low =
     knows_slot c.args.self.now c.args.cache.now.store c.args.mode c.args.prev c.in-Ok-Some.slot (slot_here c)
-    (c.see_store.ensures.slots ∙ ap (λ (m : Machine). slot_count m) c.requires) (subst (λ n. n < 2 ^ 31) c.start_slot.ensures.value low)
+    (c.see_bounds.ensures.sound.slots ∙ ap (λ (m : Machine). slot_count m) c.requires) (subst (λ n. n < 2 ^ 31) c.start_slot.ensures.value low)
 
 pub returns-clause-answer : goal.returns-clause-answer
 returns-clause-answer c = λ low.

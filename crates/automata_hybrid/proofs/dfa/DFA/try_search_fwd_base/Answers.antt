@@ -37,7 +37,7 @@ returns-clause-based c =
           (λ o found. (ends Forward (match_kind_of m.config) input _ (haystack.bytes, haystack.within.1) (found_reported Forward m input _ found)).1 late all)
           s.found;
       within = lies_past m input lies haystack.within.1 r s.found;
-      errors = may_refuse r Forward m cache input (is_store cache m s.of c.see_bounds.ensures) s.refusal;
+      errors = may_refuse r Forward m cache input (is_store cache m s.of c.see_bounds.ensures.bounds) s.refusal;
       unsupported = s.unsupported;
       free = λ f.
           IfErr-weaker r _ _ (λ e x. refused_memory Forward m cache input e haystack.within.1 s.of f.reach f.supported f.clears x)

@@ -42,7 +42,7 @@ returns-clause-half c =
           (λ o found. (ends Backward (match_kind_of m.config) input _ (haystack.bytes, haystack.within.1) (found_reported Backward m input _ found)).1 late all)
           s.found);
       within = lies_in m input lies haystack.within.1 Backward (halves r) found;
-      errors = halves_err _ r (may_refuse r Backward m cache input (is_store cache m s.of c.see_bounds.ensures) s.refusal);
+      errors = halves_err _ r (may_refuse r Backward m cache input (is_store cache m s.of c.see_bounds.ensures.bounds) s.refusal);
       unsupported = λ u. ap halves (s.unsupported u);
       free = λ f.
           halves_err _ r

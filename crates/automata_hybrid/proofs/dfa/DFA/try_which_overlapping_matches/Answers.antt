@@ -16,7 +16,7 @@ returns-clause-which c =
     record {
       reported = s.reported;
       errors =
-          may_refuse_which r m cache input c.args.patset.now c.collect-reported.new.patset (is_store cache m s.of c.see_bounds.ensures)
+          may_refuse_which r m cache input c.args.patset.now c.collect-reported.new.patset (is_store cache m s.of c.see_bounds.ensures.bounds)
           s.refusal;
       free = λ f.
           IfErr-weaker r _ _ (λ e x.

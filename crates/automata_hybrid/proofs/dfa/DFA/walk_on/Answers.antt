@@ -9,7 +9,7 @@ use Rattle.automata_hybrid.specs.Cache.Caches.{CacheView, with_store}
 use Rattle.automata_hybrid.specs.Cache.Growth.{IsGrown}
 use Rattle.automata_hybrid.specs.Machines.Machine.{Machine}
 use Rattle.automata_hybrid.specs.Walks.Contracts.{IsCallEffect}
-use Rattle.automata_hybrid.specs.Cache.Progress.{started}
+use Rattle.automata_hybrid.specs.Cache.Progress.{progress_started}
 use Rattle.automata_hybrid.specs.Walks.Parts.{IsAdvanceEffect, IsCallAnswer, IsCallRefused}
 use Rattle.automata_hybrid.specs.Searches.Progress.{with_search_begun}
 use Rattle.automata_hybrid.specs.Walks.Progress.{IsCallStopped}
@@ -22,6 +22,7 @@ use Rattle.automata_hybrid.specs.declared.search.advance.Arrival.{Arrival}
 use Rattle.automata_hybrid.proofs.Cache.Growth.{grown_after, grown_moved, grown_trans}
 use Rattle.automata_hybrid.proofs.Walks.Cached.{has_state, state_after, still_same, unit_knows, units_none}
 use Rattle.automata_hybrid.proofs.Searches.Reads.{at_err}
+use Rattle.automata_hybrid.proofs.Searches.Skips.{skips_or_not}
 use Rattle.automata_hybrid.proofs.Walks.Parts.{known_refusal, refused_on}
 use Rattle.automata_hybrid.proofs.Walks.Progress.{call_leaves, reads_some, step_refuses}
 use Rattle.automata_hybrid.proofs.Searches.UnitsRead.{ended_here}
@@ -40,7 +41,7 @@ returns-in_err-from-clause-refusal c =
     let r = c.requires.walk.reads in
     if_err c.from_residual.result _ _ c.from_residual.ensures.1
     (refused_on (keeping_of c.args.held.now) d c.args.self.now c.args.input.now w _ _ c.requires.walk.reported r (λ k t.
-    (r.undone, inl (reported_here d c.args.self.now c.args.input.now w k c.see_skips.ensures t r.on r.all_reported, c.in_err-from.ensures.refusal))))
+    (r.undone, inl (reported_here d c.args.self.now c.args.input.now w k (skips_or_not c.skips-skips.result c.skips-skips.ensures.yes c.skips-skips.ensures.no) t r.on r.all_reported, c.in_err-from.ensures.refusal))))
 
 pub returns-in_err-from-clause-effect : goal.returns-in_err-from-clause-effect
 returns-in_err-from-clause-effect c =
@@ -76,9 +77,9 @@ returns-then-is_dead-clause-answer c =
     let input : Input = c.args.input.now in
     let w : Walk = c.args.walk.now in
     let r = c.requires.walk.reads in
-    let units : input.end - input.start ≡ length (tape_in d input).bytes = units_in d input r.undone c.haystack-haystack.ensures.within.1 in
+    let units : input.end - input.start ≡ length (tape_in d input).bytes = units_in d input r.undone c.span_offset-place.ensures.inside in
     let leads : Leads c.search_start.new.self.store.table c.in_ok-from.from (state_in d m input w.units) = subst (λ (t : Rows). Leads t c.in_ok-from.from (state_in d m input w.units)) (sym c.search_start.ensures.table) c.in_ok-from.ensures.answer.leads in
-    let dies : state_in d m input w.units ≡ dead = (dead_tagged c.search_start.new.self.store.table c.in_ok-from.from (c.see_store.ensures.low c.in_ok-from.from) c.see_store.ensures.small _ leads).0 (c.if-is_dead.ensures.0 refl) in
+    let dies : state_in d m input w.units ≡ dead = (dead_tagged c.search_start.new.self.store.table c.in_ok-from.from (c.see_bounds.ensures.sound.low c.in_ok-from.from) c.see_bounds.ensures.sound.small _ leads).0 (c.if-is_dead.ensures.0 refl) in
     let clean : HasReadNoQuit d m input w.units = clean_here d m input w c.requires.walk.reported.0 c.requires.walk.reported.1 r.on in
     let ends : Finishes d m input w.units w.units = finish_start d m input w.units (omega (arith, units, r.left)) clean dies in
     let same : c.end.new.self ≡ ended_walk w w.units = c.end.ensures ∙ ap (ended_walk w) c.units-then-is_dead.ensures in
@@ -86,7 +87,7 @@ returns-then-is_dead-clause-answer c =
     (record {
       reports =
           next_finishes d m input w w w.units r.undone c.in_ok-from.ensures.answer.may
-          (λ k t. reported_here d m input w k c.see_skips.ensures t r.on r.all_reported) ends;
+          (λ k t. reported_here d m input w k (skips_or_not c.skips-skips.result c.skips-skips.ensures.yes c.skips-skips.ensures.no) t r.on r.all_reported) ends;
       goes_on = inl refl;
       stops = λ undone on ended. ends.stops;
       there = λ there. tt;
@@ -104,12 +105,12 @@ returns-then-is_dead-clause-effect c =
     let old : CacheView = c.args.cache.now in
     let between : CacheView = c.resume.new.cache in
     let new : CacheView = c.end_search.new.self in
-    let first : c.span_offset-place.result ≡ given_up_offset d input w.units = c.span_offset-place.ensures ∙ ap (given_up_offset d input) c.units.ensures in
+    let first : c.span_offset-place.result ≡ given_up_offset d input w.units = c.span_offset-place.ensures.value ∙ ap (given_up_offset d input) c.units.ensures in
     let same : c.end.new.self ≡ ended_walk w w.units = c.end.ensures ∙ ap (ended_walk w) c.units-then-is_dead.ensures in
     let leads : Leads c.search_start.new.self.store.table c.in_ok-from.from (state_in d m input w.units) = subst (λ (t : Rows). Leads t c.in_ok-from.from (state_in d m input w.units)) (sym c.search_start.ensures.table) c.in_ok-from.ensures.answer.leads in
-    let dies : state_in d m input w.units ≡ dead = (dead_tagged c.search_start.new.self.store.table c.in_ok-from.from (c.see_store.ensures.low c.in_ok-from.from) c.see_store.ensures.small _ leads).0 (c.if-is_dead.ensures.0 refl) in
+    let dies : state_in d m input w.units ≡ dead = (dead_tagged c.search_start.new.self.store.table c.in_ok-from.from (c.see_bounds.ensures.sound.low c.in_ok-from.from) c.see_bounds.ensures.sound.small _ leads).0 (c.if-is_dead.ensures.0 refl) in
     let begins : c.search_start.new.self.store ≡ with_search_begun d input w.units between.store =
-    subst (λ at. c.search_start.new.self.store ≡ with_searched between.store (started between.store.searched at)) first (ap (λ (v : CacheView). v.store) c.search_start.ensures.value) in
+    subst (λ at. c.search_start.new.self.store ≡ with_searched between.store (progress_started between.store.searched at)) first (ap (λ (v : CacheView). v.store) c.search_start.ensures.value) in
     let moved : IsGrown between new = grown_trans between c.search_start.new.self new
     (grown_moved between c.search_start.new.self c.search_start.ensures.value)
     (grown_moved c.search_start.new.self new c.end_search.ensures.value) in
@@ -162,7 +163,7 @@ returns-in_err-arrival-clause-refusal c =
     let r : IsAdvanceRefusal d c.args.self.now c.advance.new.cache.store c.args.input.now w.units c.in_err-arrival.field-0.0 = subst (λ n. IsAdvanceRefusal d c.args.self.now c.advance.new.cache.store c.args.input.now n c.in_err-arrival.field-0.0) c.units-2.ensures c.in_err-arrival.ensures.refusal in
     if_err c.from_residual-in_err-arrival.result _ _ c.from_residual-in_err-arrival.ensures.1
     (refused_on (keeping_of c.args.held.now) d c.args.self.now c.args.input.now w _ _ c.requires.walk.reported s (λ k t.
-    (s.undone, inr (c.in_ok-from.ensures.answer.may, (r.0, r.1, r.2, r.3, r.4 k (reported_here d c.args.self.now c.args.input.now w k c.see_skips.ensures t s.on s.all_reported), step_refuses (keeping_of c.args.held.now) d c.args.self.now c.advance.new.cache.store c.args.input.now r.0 c.in_err-arrival.field-0.0 r.5)))))
+    (s.undone, inr (c.in_ok-from.ensures.answer.may, (r.0, r.1, r.2, r.3, r.4 k (reported_here d c.args.self.now c.args.input.now w k (skips_or_not c.skips-skips.result c.skips-skips.ensures.yes c.skips-skips.ensures.no) t s.on s.all_reported), step_refuses (keeping_of c.args.held.now) d c.args.self.now c.advance.new.cache.store c.args.input.now r.0 c.in_err-arrival.field-0.0 r.5)))))
 
 pub returns-in_err-arrival-clause-effect : goal.returns-in_err-arrival-clause-effect
 returns-in_err-arrival-clause-effect c =
@@ -177,9 +178,9 @@ returns-in_err-arrival-clause-effect c =
     let between : CacheView = c.resume.new.cache in
     let begun : CacheView = c.search_start.new.self in
     let new : CacheView = c.advance.new.cache in
-    let first : c.span_offset-place.result ≡ given_up_offset d input w.units = c.span_offset-place.ensures ∙ ap (given_up_offset d input) c.units.ensures in
+    let first : c.span_offset-place.result ≡ given_up_offset d input w.units = c.span_offset-place.ensures.value ∙ ap (given_up_offset d input) c.units.ensures in
     let begins : begun.store ≡ with_search_begun d input w.units between.store =
-    subst (λ at. begun.store ≡ with_searched between.store (started between.store.searched at)) first (ap (λ (v : CacheView). v.store) c.search_start.ensures.value) in
+    subst (λ at. begun.store ≡ with_searched between.store (progress_started between.store.searched at)) first (ap (λ (v : CacheView). v.store) c.search_start.ensures.value) in
     let began : IsGrown between begun = grown_moved between begun c.search_start.ensures.value in
     let moved : IsGrown between new = grown_trans between begun new began a.grown in
     let grown = grown_after old between new e.grown moved in
@@ -207,7 +208,7 @@ returns-in_err-arrival-clause-effect c =
           let count : begun.count ≡ old.count = c.search_start.ensures.counted ∙ ap (λ (v : CacheView). v.count) same.0 in
           let has = has_state d m old.store input w.stage all.0 in
           let to : IsGrown old begun = grown_trans old between begun (e.there has) began in
-          let here : HasReportedBy d m input c.units-2.result k = subst (λ n. HasReportedBy d m input n k) (sym c.units-2.ensures) (reported_here d m input w k c.see_skips.ensures c.requires.walk.reported.1 r.on r.all_reported) in
+          let here : HasReportedBy d m input c.units-2.result k = subst (λ n. HasReportedBy d m input n k) (sym c.units-2.ensures) (reported_here d m input w k (skips_or_not c.skips-skips.result c.skips-skips.ensures.yes c.skips-skips.ensures.no) c.requires.walk.reported.1 r.on r.all_reported) in
           let idle = a.known k here (λ j l reads clean reported. unit_knows d m old begun input w.units j k to count all.1 (subst (λ n. n ≤ j) c.units-2.ensures l) reads clean reported) in
           ((there has).idle (idle.0 ∙ count), known_refusal (keeping_of c.args.held.now) d m input w c.in_err-arrival.field-0.0 idle.1));
       ended = tt;
@@ -228,9 +229,9 @@ returns-in_default-clause-answer c =
     let w : Walk = c.args.walk.now in
     let r = c.requires.walk.reads in
     let arrival : Arrival = c.in_ok-arrival.arrival in
-    let first : c.span_offset-place.result ≡ given_up_offset d input w.units = c.span_offset-place.ensures ∙ ap (given_up_offset d input) c.units.ensures in
-    let begins : c.search_start.new.self ≡ with_store c.resume.new.cache (with_searched c.resume.new.cache.store (started c.resume.new.cache.store.searched (given_up_offset d input w.units))) =
-    subst (λ at. c.search_start.new.self ≡ with_store c.resume.new.cache (with_searched c.resume.new.cache.store (started c.resume.new.cache.store.searched at))) first c.search_start.ensures.value in
+    let first : c.span_offset-place.result ≡ given_up_offset d input w.units = c.span_offset-place.ensures.value ∙ ap (given_up_offset d input) c.units.ensures in
+    let begins : c.search_start.new.self ≡ with_store c.resume.new.cache (with_searched c.resume.new.cache.store (progress_started c.resume.new.cache.store.searched (given_up_offset d input w.units))) =
+    subst (λ at. c.search_start.new.self ≡ with_store c.resume.new.cache (with_searched c.resume.new.cache.store (progress_started c.resume.new.cache.store.searched at))) first c.search_start.ensures.value in
     let advanced : IsAdvanceEffect d m input w.units c.search_start.new.self c.advance.new.cache (Ok arrival) =
     subst (λ n. IsAdvanceEffect d m input n c.search_start.new.self c.advance.new.cache (Ok arrival)) c.units-2.ensures c.in_ok-arrival.ensures.effect in
     let arrives : IsArrival d m c.advance.new.cache.store.table input w.units arrival.id arrival.units =
@@ -239,13 +240,13 @@ returns-in_default-clause-answer c =
     let finish : Finishes d m input w.units arrival.units = subst (λ (o : Option ℕ). IsArrival d m c.advance.new.cache.store.table input w.units o arrival.units) c.in_default.«is» arrives in
     subst (λ (x : Walk). IsCallAnswer d m input w x c.args.cache.now.store c.end_search-in_default.new.self.store) (sym ended)
     (record {
-      reports = next_finishes d m input w w arrival.units r.undone c.in_ok-from.ensures.answer.may (λ k t. reported_here d m input w k c.see_skips.ensures t r.on r.all_reported) finish;
+      reports = next_finishes d m input w w arrival.units r.undone c.in_ok-from.ensures.answer.may (λ k t. reported_here d m input w k (skips_or_not c.skips-skips.result c.skips-skips.ensures.yes c.skips-skips.ensures.no) t r.on r.all_reported) finish;
       goes_on = inl refl;
       stops = λ undone on ends. finish.stops;
       there = λ there. tt;
       learned =
           learned_on d m input w c.in_ok-from.from c.args.cache.now c.resume.new.cache c.search_start.new.self c.advance.new.cache
-          c.haystack-haystack.ensures.within.1 c.see_skips.ensures c.requires.walk.reported r c.in_ok-from.ensures.effect c.in_ok-from.ensures.answer begins arrival advanced arrives
+          c.span_offset-place.ensures.inside (skips_or_not c.skips-skips.result c.skips-skips.ensures.yes c.skips-skips.ensures.no) c.requires.walk.reported r c.in_ok-from.ensures.effect c.in_ok-from.ensures.answer begins arrival advanced arrives
           arrival.units c.end_search-in_default.new.self refl c.end_search-in_default.ensures.value;
     })
 
@@ -257,9 +258,9 @@ returns-in_default-clause-effect c =
     let w : Walk = c.args.walk.now in
     let r = c.requires.walk.reads in
     let arrival : Arrival = c.in_ok-arrival.arrival in
-    let first : c.span_offset-place.result ≡ given_up_offset d input w.units = c.span_offset-place.ensures ∙ ap (given_up_offset d input) c.units.ensures in
-    let begins : c.search_start.new.self ≡ with_store c.resume.new.cache (with_searched c.resume.new.cache.store (started c.resume.new.cache.store.searched (given_up_offset d input w.units))) =
-    subst (λ at. c.search_start.new.self ≡ with_store c.resume.new.cache (with_searched c.resume.new.cache.store (started c.resume.new.cache.store.searched at))) first c.search_start.ensures.value in
+    let first : c.span_offset-place.result ≡ given_up_offset d input w.units = c.span_offset-place.ensures.value ∙ ap (given_up_offset d input) c.units.ensures in
+    let begins : c.search_start.new.self ≡ with_store c.resume.new.cache (with_searched c.resume.new.cache.store (progress_started c.resume.new.cache.store.searched (given_up_offset d input w.units))) =
+    subst (λ at. c.search_start.new.self ≡ with_store c.resume.new.cache (with_searched c.resume.new.cache.store (progress_started c.resume.new.cache.store.searched at))) first c.search_start.ensures.value in
     let advanced : IsAdvanceEffect d m input w.units c.search_start.new.self c.advance.new.cache (Ok arrival) =
     subst (λ n. IsAdvanceEffect d m input n c.search_start.new.self c.advance.new.cache (Ok arrival)) c.units-2.ensures c.in_ok-arrival.ensures.effect in
     let arrives : IsArrival d m c.advance.new.cache.store.table input w.units arrival.id arrival.units =
@@ -268,8 +269,8 @@ returns-in_default-clause-effect c =
     let finish : Finishes d m input w.units arrival.units = subst (λ (o : Option ℕ). IsArrival d m c.advance.new.cache.store.table input w.units o arrival.units) c.in_default.«is» arrives in
     subst (λ (x : Walk). IsCallEffect {T = Unit {0}} (keeping_of c.args.held.now) d m input w x c.args.cache.now c.end_search-in_default.new.self (Ok tt)) (sym ended)
     (effect_on d m input w c.in_ok-from.from c.args.cache.now c.resume.new.cache c.search_start.new.self c.advance.new.cache
-    c.haystack-haystack.ensures.within.1 c.see_skips.ensures c.requires.walk.reported r c.in_ok-from.ensures.effect c.in_ok-from.ensures.answer begins arrival advanced arrives
-    (keeping_of c.args.held.now) (ended_walk w arrival.units) c.end_search-in_default.new.self c.span_offset-last.result refl c.span_offset-last.ensures c.end_search-in_default.ensures.value
+    c.span_offset-place.ensures.inside (skips_or_not c.skips-skips.result c.skips-skips.ensures.yes c.skips-skips.ensures.no) c.requires.walk.reported r c.in_ok-from.ensures.effect c.in_ok-from.ensures.answer begins arrival advanced arrives
+    (keeping_of c.args.held.now) (ended_walk w arrival.units) c.end_search-in_default.new.self c.span_offset-last.result refl c.span_offset-last.ensures.value c.end_search-in_default.ensures.value
     (λ e. (
       refl,
       finish.stops arrival.units (omega arith),
@@ -283,9 +284,9 @@ returns-in_err-next-clause-refusal c =
     let w : Walk = c.args.walk.now in
     let r = c.requires.walk.reads in
     let arrival : Arrival = c.in_ok-arrival.arrival in
-    let first : c.span_offset-place.result ≡ given_up_offset d input w.units = c.span_offset-place.ensures ∙ ap (given_up_offset d input) c.units.ensures in
-    let begins : c.search_start.new.self ≡ with_store c.resume.new.cache (with_searched c.resume.new.cache.store (started c.resume.new.cache.store.searched (given_up_offset d input w.units))) =
-    subst (λ at. c.search_start.new.self ≡ with_store c.resume.new.cache (with_searched c.resume.new.cache.store (started c.resume.new.cache.store.searched at))) first c.search_start.ensures.value in
+    let first : c.span_offset-place.result ≡ given_up_offset d input w.units = c.span_offset-place.ensures.value ∙ ap (given_up_offset d input) c.units.ensures in
+    let begins : c.search_start.new.self ≡ with_store c.resume.new.cache (with_searched c.resume.new.cache.store (progress_started c.resume.new.cache.store.searched (given_up_offset d input w.units))) =
+    subst (λ at. c.search_start.new.self ≡ with_store c.resume.new.cache (with_searched c.resume.new.cache.store (progress_started c.resume.new.cache.store.searched at))) first c.search_start.ensures.value in
     let advanced : IsAdvanceEffect d m input w.units c.search_start.new.self c.advance.new.cache (Ok arrival) =
     subst (λ n. IsAdvanceEffect d m input n c.search_start.new.self c.advance.new.cache (Ok arrival)) c.units-2.ensures c.in_ok-arrival.ensures.effect in
     let arrives : IsArrival d m c.advance.new.cache.store.table input w.units arrival.id arrival.units =
@@ -294,7 +295,7 @@ returns-in_err-next-clause-refusal c =
     if_err c.from_residual-in_err-next.result search.OutOfMemory _ c.from_residual-in_err-next.ensures.1
     (subst (λ k. IsCallRefused k d m input w c.advance.new.cache.store search.OutOfMemory) (sym c.in_err-next.ensures.refused)
     (refused_unheld d m input w c.in_ok-from.from c.args.cache.now c.resume.new.cache c.search_start.new.self c.advance.new.cache
-    c.haystack-haystack.ensures.within.1 c.see_skips.ensures c.requires.walk.reported r c.in_ok-from.ensures.effect c.in_ok-from.ensures.answer begins arrival advanced arrives c.in-Some.id arrived))
+    c.span_offset-place.ensures.inside (skips_or_not c.skips-skips.result c.skips-skips.ensures.yes c.skips-skips.ensures.no) c.requires.walk.reported r c.in_ok-from.ensures.effect c.in_ok-from.ensures.answer begins arrival advanced arrives c.in-Some.id arrived))
 
 pub returns-in_err-next-clause-effect : goal.returns-in_err-next-clause-effect
 returns-in_err-next-clause-effect c =
@@ -304,9 +305,9 @@ returns-in_err-next-clause-effect c =
     let w : Walk = c.args.walk.now in
     let r = c.requires.walk.reads in
     let arrival : Arrival = c.in_ok-arrival.arrival in
-    let first : c.span_offset-place.result ≡ given_up_offset d input w.units = c.span_offset-place.ensures ∙ ap (given_up_offset d input) c.units.ensures in
-    let begins : c.search_start.new.self ≡ with_store c.resume.new.cache (with_searched c.resume.new.cache.store (started c.resume.new.cache.store.searched (given_up_offset d input w.units))) =
-    subst (λ at. c.search_start.new.self ≡ with_store c.resume.new.cache (with_searched c.resume.new.cache.store (started c.resume.new.cache.store.searched at))) first c.search_start.ensures.value in
+    let first : c.span_offset-place.result ≡ given_up_offset d input w.units = c.span_offset-place.ensures.value ∙ ap (given_up_offset d input) c.units.ensures in
+    let begins : c.search_start.new.self ≡ with_store c.resume.new.cache (with_searched c.resume.new.cache.store (progress_started c.resume.new.cache.store.searched (given_up_offset d input w.units))) =
+    subst (λ at. c.search_start.new.self ≡ with_store c.resume.new.cache (with_searched c.resume.new.cache.store (progress_started c.resume.new.cache.store.searched at))) first c.search_start.ensures.value in
     let advanced : IsAdvanceEffect d m input w.units c.search_start.new.self c.advance.new.cache (Ok arrival) =
     subst (λ n. IsAdvanceEffect d m input n c.search_start.new.self c.advance.new.cache (Ok arrival)) c.units-2.ensures c.in_ok-arrival.ensures.effect in
     let arrives : IsArrival d m c.advance.new.cache.store.table input w.units arrival.id arrival.units =
@@ -315,11 +316,11 @@ returns-in_err-next-clause-effect c =
     at_err c.from_residual-in_err-next.result search.OutOfMemory (λ (x : Result (Unit {0}) SearchError). IsCallEffect (keeping_of c.args.held.now) d m input w w c.args.cache.now c.advance.new.cache x) c.from_residual-in_err-next.ensures.1
     (subst (λ k. IsCallEffect {T = Unit {0}} k d m input w w c.args.cache.now c.advance.new.cache (Err search.OutOfMemory)) (sym c.in_err-next.ensures.refused)
     (effect_unheld d m input w c.in_ok-from.from c.args.cache.now c.resume.new.cache c.search_start.new.self c.advance.new.cache
-    c.haystack-haystack.ensures.within.1 c.see_skips.ensures c.requires.walk.reported r c.in_ok-from.ensures.effect c.in_ok-from.ensures.answer begins arrival advanced arrives c.in-Some.id arrived w))
+    c.span_offset-place.ensures.inside (skips_or_not c.skips-skips.result c.skips-skips.ensures.yes c.skips-skips.ensures.no) c.requires.walk.reported r c.in_ok-from.ensures.effect c.in_ok-from.ensures.answer begins arrival advanced arrives c.in-Some.id arrived w))
 
 pub stand-requires-clause-here : goal.stand-requires-clause-here
 stand-requires-clause-here c = λ k t.
-    reported_here (way_of c.args.way) c.args.self.now c.args.input.now c.args.walk.now k c.see_skips.ensures t c.requires.walk.reads.on c.requires.walk.reads.all_reported
+    reported_here (way_of c.args.way) c.args.self.now c.args.input.now c.args.walk.now k (skips_or_not c.skips-skips.result c.skips-skips.ensures.yes c.skips-skips.ensures.no) t c.requires.walk.reads.on c.requires.walk.reads.all_reported
 
 pub stand-requires-clause-arrives : goal.stand-requires-clause-arrives
 stand-requires-clause-arrives c =
@@ -329,9 +330,9 @@ stand-requires-clause-arrives c =
     let w : Walk = c.args.walk.now in
     let r = c.requires.walk.reads in
     let arrival : Arrival = c.in_ok-arrival.arrival in
-    let first : c.span_offset-place.result ≡ given_up_offset d input w.units = c.span_offset-place.ensures ∙ ap (given_up_offset d input) c.units.ensures in
-    let begins : c.search_start.new.self ≡ with_store c.resume.new.cache (with_searched c.resume.new.cache.store (started c.resume.new.cache.store.searched (given_up_offset d input w.units))) =
-    subst (λ at. c.search_start.new.self ≡ with_store c.resume.new.cache (with_searched c.resume.new.cache.store (started c.resume.new.cache.store.searched at))) first c.search_start.ensures.value in
+    let first : c.span_offset-place.result ≡ given_up_offset d input w.units = c.span_offset-place.ensures.value ∙ ap (given_up_offset d input) c.units.ensures in
+    let begins : c.search_start.new.self ≡ with_store c.resume.new.cache (with_searched c.resume.new.cache.store (progress_started c.resume.new.cache.store.searched (given_up_offset d input w.units))) =
+    subst (λ at. c.search_start.new.self ≡ with_store c.resume.new.cache (with_searched c.resume.new.cache.store (progress_started c.resume.new.cache.store.searched at))) first c.search_start.ensures.value in
     let advanced : IsAdvanceEffect d m input w.units c.search_start.new.self c.advance.new.cache (Ok arrival) =
     subst (λ n. IsAdvanceEffect d m input n c.search_start.new.self c.advance.new.cache (Ok arrival)) c.units-2.ensures c.in_ok-arrival.ensures.effect in
     let arrives : IsArrival d m c.advance.new.cache.store.table input w.units arrival.id arrival.units =
@@ -347,9 +348,9 @@ returns-clause-answer c =
     let w : Walk = c.args.walk.now in
     let r = c.requires.walk.reads in
     let arrival : Arrival = c.in_ok-arrival.arrival in
-    let first : c.span_offset-place.result ≡ given_up_offset d input w.units = c.span_offset-place.ensures ∙ ap (given_up_offset d input) c.units.ensures in
-    let begins : c.search_start.new.self ≡ with_store c.resume.new.cache (with_searched c.resume.new.cache.store (started c.resume.new.cache.store.searched (given_up_offset d input w.units))) =
-    subst (λ at. c.search_start.new.self ≡ with_store c.resume.new.cache (with_searched c.resume.new.cache.store (started c.resume.new.cache.store.searched at))) first c.search_start.ensures.value in
+    let first : c.span_offset-place.result ≡ given_up_offset d input w.units = c.span_offset-place.ensures.value ∙ ap (given_up_offset d input) c.units.ensures in
+    let begins : c.search_start.new.self ≡ with_store c.resume.new.cache (with_searched c.resume.new.cache.store (progress_started c.resume.new.cache.store.searched (given_up_offset d input w.units))) =
+    subst (λ at. c.search_start.new.self ≡ with_store c.resume.new.cache (with_searched c.resume.new.cache.store (progress_started c.resume.new.cache.store.searched at))) first c.search_start.ensures.value in
     let advanced : IsAdvanceEffect d m input w.units c.search_start.new.self c.advance.new.cache (Ok arrival) =
     subst (λ n. IsAdvanceEffect d m input n c.search_start.new.self c.advance.new.cache (Ok arrival)) c.units-2.ensures c.in_ok-arrival.ensures.effect in
     let arrives : IsArrival d m c.advance.new.cache.store.table input w.units arrival.id arrival.units =
@@ -363,7 +364,7 @@ returns-clause-answer c =
       there = λ there. subst (λ (x : Stage). HasItsState c.end_search-2.new.self.store.table x) (sym s.at.1) (record { id = c.in-Some.id; named = s.at.2 });
       learned =
           learned_on d m input w c.in_ok-from.from c.args.cache.now c.resume.new.cache c.search_start.new.self c.advance.new.cache
-          c.haystack-haystack.ensures.within.1 c.see_skips.ensures c.requires.walk.reported r c.in_ok-from.ensures.effect c.in_ok-from.ensures.answer begins arrival advanced arrives
+          c.span_offset-place.ensures.inside (skips_or_not c.skips-skips.result c.skips-skips.ensures.yes c.skips-skips.ensures.no) c.requires.walk.reported r c.in_ok-from.ensures.effect c.in_ok-from.ensures.answer begins arrival advanced arrives
           c.stand.new.walk.units c.end_search-2.new.self s.units c.end_search-2.ensures.value;
     }
 
@@ -375,17 +376,17 @@ returns-clause-effect c =
     let w : Walk = c.args.walk.now in
     let r = c.requires.walk.reads in
     let arrival : Arrival = c.in_ok-arrival.arrival in
-    let first : c.span_offset-place.result ≡ given_up_offset d input w.units = c.span_offset-place.ensures ∙ ap (given_up_offset d input) c.units.ensures in
-    let begins : c.search_start.new.self ≡ with_store c.resume.new.cache (with_searched c.resume.new.cache.store (started c.resume.new.cache.store.searched (given_up_offset d input w.units))) =
-    subst (λ at. c.search_start.new.self ≡ with_store c.resume.new.cache (with_searched c.resume.new.cache.store (started c.resume.new.cache.store.searched at))) first c.search_start.ensures.value in
+    let first : c.span_offset-place.result ≡ given_up_offset d input w.units = c.span_offset-place.ensures.value ∙ ap (given_up_offset d input) c.units.ensures in
+    let begins : c.search_start.new.self ≡ with_store c.resume.new.cache (with_searched c.resume.new.cache.store (progress_started c.resume.new.cache.store.searched (given_up_offset d input w.units))) =
+    subst (λ at. c.search_start.new.self ≡ with_store c.resume.new.cache (with_searched c.resume.new.cache.store (progress_started c.resume.new.cache.store.searched at))) first c.search_start.ensures.value in
     let advanced : IsAdvanceEffect d m input w.units c.search_start.new.self c.advance.new.cache (Ok arrival) =
     subst (λ n. IsAdvanceEffect d m input n c.search_start.new.self c.advance.new.cache (Ok arrival)) c.units-2.ensures c.in_ok-arrival.ensures.effect in
     let arrives : IsArrival d m c.advance.new.cache.store.table input w.units arrival.id arrival.units =
     subst (λ n. IsArrival d m c.advance.new.cache.store.table input n arrival.id arrival.units) c.units-2.ensures c.in_ok-arrival.ensures.arrives in
     let s = c.stand.ensures in
     effect_on d m input w c.in_ok-from.from c.args.cache.now c.resume.new.cache c.search_start.new.self c.advance.new.cache
-    c.haystack-haystack.ensures.within.1 c.see_skips.ensures c.requires.walk.reported r c.in_ok-from.ensures.effect c.in_ok-from.ensures.answer begins arrival advanced arrives
-    (keeping_of c.args.held.now) c.stand.new.walk c.end_search-2.new.self c.span_offset-last.result s.units c.span_offset-last.ensures c.end_search-2.ensures.value
+    c.span_offset-place.ensures.inside (skips_or_not c.skips-skips.result c.skips-skips.ensures.yes c.skips-skips.ensures.no) c.requires.walk.reported r c.in_ok-from.ensures.effect c.in_ok-from.ensures.answer begins arrival advanced arrives
+    (keeping_of c.args.held.now) c.stand.new.walk c.end_search-2.new.self c.span_offset-last.result s.units c.span_offset-last.ensures.value c.end_search-2.ensures.value
     (λ ended. absurd (ended_at s.at.0 (sym ended ∙ s.at.1)))
 
 pub returns-clause-held : goal.returns-clause-held

@@ -16,9 +16,9 @@ returns-clause-effect c =
           grown_again c.args.self.now c.add_start.new.self c.args.state c.requires.new.lacks c.requires.new.own.reached added.effect c.in_ok-id.ensures.counted
           added.of added.starts
           (tagged_none c.args.self.now.store.table c.add_start.new.self.store.table
-          (again_keeps c.args.self.now.store c.add_start.new.self.store r c.see_store.ensures.ids c.see_store-2.ensures.ids c.requires.new.lacks.0 added.effect)
-          (again_adds c.args.self.now.store c.add_start.new.self.store r c.see_store.ensures.ids c.see_store-2.ensures.ids c.requires.new.lacks.0 added.effect))
-          c.see_store.ensures.cells c.see_store.ensures.wide c.see_store.ensures.clears c.requires.new.cheap;
+          (again_keeps c.args.self.now.store c.add_start.new.self.store r c.see_bounds.ensures.sound.ids c.see_bounds-2.ensures.sound.ids c.requires.new.lacks.0 added.effect)
+          (again_adds c.args.self.now.store c.add_start.new.self.store r c.see_bounds.ensures.sound.ids c.see_bounds-2.ensures.sound.ids c.requires.new.lacks.0 added.effect))
+          c.see_bounds.ensures.sound.cells c.see_bounds.ensures.sound.wide c.see_bounds.ensures.sound.clears c.requires.new.cheap;
       progress = added_progress c.args.self.now.store c.add_start.new.self.store r added.effect;
     }
 

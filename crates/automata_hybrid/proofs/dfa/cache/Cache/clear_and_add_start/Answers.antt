@@ -2,8 +2,8 @@ use Rattle.std.proofs.Common.{sym, subst}
 use Rattle.automata_hybrid.specs.declared.dfa.row.Row.{Row}
 use Rattle.automata_hybrid.specs.Cache.Caches.{CacheView}
 use Rattle.automata_base.specs.Powersets.Powerset.{cost}
-use Rattle.automata_hybrid.specs.Cache.Usage.{Fits}
-use Rattle.automata_hybrid.specs.Cache.Changes.{AddsStart}
+use Rattle.automata_hybrid.specs.Cache.Usage.{Fits, cleared}
+use Rattle.automata_hybrid.specs.Cache.Changes.{AddsRow}
 use Rattle.automata_hybrid.specs.Cache.Table.{IsNewState}
 use Rattle.automata_hybrid.proofs.Cache.Additions.{new_there, start_clears}
 use Rattle.automata_hybrid.proofs.dfa.cache.Cache.clear_and_add_start.Goals as goal
@@ -17,7 +17,7 @@ replace-requires-clause-new c =
 pub returns-clause-answer : goal.returns-clause-answer
 returns-clause-answer c =
     let r : Row = record { state = c.args.state; started = c.args.started } in
-    subst (λ (v : CacheView). AddsStart v.store c.replace.new.self r c.in_ok-id.id) c.self.view_is
+    subst (λ (v : CacheView). AddsRow v.store (cleared v.store) c.replace.new.self r c.in_ok-id.id) c.self.view_is
     (start_clears c.self.inside.store c.in_ok-fresh.fresh c.replace.new.self r c.in_ok-id.id
     (subst (λ (v : CacheView). Fits v.store (cost c.args.state) → ⊥) (sym c.self.view_is) c.requires.full)
     c.in_ok-fresh.ensures.cleared c.in_ok-id.ensures.ok c.in_ok-id.ensures.named)

@@ -11,16 +11,16 @@ use Rattle.automata_hybrid.proofs.Cache.Additions.{cheap, looked_up, new_state}
 use Rattle.automata_hybrid.proofs.Steps.Steps.{ComputesStep, computed_answer, computed_effect, computes_known}
 use Rattle.automata_hybrid.proofs.Steps.Steps.{computes_new, refused_effect}
 use Rattle.automata_hybrid.proofs.Searches.PassState.{if_err}
-use Rattle.automata_hybrid.proofs.dfa.cache.Cache.compute_next.Goals.{After-see_store-in-Known, After-see_store-in-New}
+use Rattle.automata_hybrid.proofs.dfa.cache.Cache.compute_next.Goals.{After-see_bounds-in-Known, After-see_bounds-in-New}
 use Rattle.automata_hybrid.proofs.dfa.cache.Cache.compute_next.Goals as goal
 
-known : (c : After-see_store-in-Known) → ComputesStep c.args.dfa.now c.args.id c.args.unit c.args.self.now c.set_next.new.self c.unit_class-class.result c.in-Known.to
+known : (c : After-see_bounds-in-Known) → ComputesStep c.args.dfa.now c.args.id c.args.unit c.args.self.now c.set_next.new.self c.unit_class-class.result c.in-Known.to
 known c =
     let leads : Leads c.resolve.new.self.store.table c.in-Known.to c.in_ok-key.key = looked_up c.determinize.new.self c.resolve.new.self c.in_ok-key.key _ (Known c.in-Known.to) c.resolve.ensures.same c.in-Known.is c.in_ok-to.ensures.found in
     computes_known c.args.dfa.now c.args.id c.args.unit c.args.self.now c.resolve.new.self c.set_next.new.self c.unit_class-class.result c.in-Known.to c.in_ok-key.key
     (c.resolve.ensures.same ∙ c.determinize.ensures.counted) c.set_next.ensures leads c.in_ok-key.ensures.successor
 
-new : (c : After-see_store-in-New) → ComputesStep c.args.dfa.now c.args.id c.args.unit c.args.self.now c.set_next-in-New.new.self c.unit_class-class.result c.in_ok-from-in-New.to
+new : (c : After-see_bounds-in-New) → ComputesStep c.args.dfa.now c.args.id c.args.unit c.args.self.now c.set_next-in-New.new.self c.unit_class-class.result c.in_ok-from-in-New.to
 new c =
     let found : IsLookedUp c.resolve.new.self.store.table c.in_ok-key.key (New c.in-New.state) = looked_up c.determinize.new.self c.resolve.new.self c.in_ok-key.key _ (New c.in-New.state) c.resolve.ensures.same c.in-New.is c.in_ok-to.ensures.found in
     computes_new c.args.dfa.now c.args.id c.args.unit c.args.self.now c.resolve.new.self c.add_next.new.self c.set_next-in-New.new.self c.unit_class-class.result c.in_ok-from-in-New.from c.in_ok-from-in-New.to c.in-New.state c.in_ok-key.key
@@ -42,17 +42,17 @@ add_next-requires-clause-new c =
 
 pub returns-in_err-key-clause-effect : goal.returns-in_err-key-clause-effect
 returns-in_err-key-clause-effect c =
-    refused_effect c.args.dfa.now c.args.id c.args.unit c.args.self.now c.determinize.new.self (c.see_store.ensures.low c.args.id c.requires.valid.0 c.requires.valid.1) c.requires.clean c.requires.unknown
+    refused_effect c.args.dfa.now c.args.id c.args.unit c.args.self.now c.determinize.new.self (c.see_bounds.ensures.sound.low c.args.id c.requires.valid.0 c.requires.valid.1) c.requires.clean c.requires.unknown
     c.determinize.ensures.counted
 
 pub returns-in_err-to-clause-effect : goal.returns-in_err-to-clause-effect
 returns-in_err-to-clause-effect c =
-    refused_effect c.args.dfa.now c.args.id c.args.unit c.args.self.now c.resolve.new.self (c.see_store.ensures.low c.args.id c.requires.valid.0 c.requires.valid.1) c.requires.clean c.requires.unknown
+    refused_effect c.args.dfa.now c.args.id c.args.unit c.args.self.now c.resolve.new.self (c.see_bounds.ensures.sound.low c.args.id c.requires.valid.0 c.requires.valid.1) c.requires.clean c.requires.unknown
     (c.resolve.ensures.same ∙ c.determinize.ensures.counted)
 
 pub returns-in_err-from-in-New-clause-effect : goal.returns-in_err-from-in-New-clause-effect
 returns-in_err-from-in-New-clause-effect c =
-    refused_effect c.args.dfa.now c.args.id c.args.unit c.args.self.now c.add_next.new.self (c.see_store.ensures.low c.args.id c.requires.valid.0 c.requires.valid.1) c.requires.clean c.requires.unknown
+    refused_effect c.args.dfa.now c.args.id c.args.unit c.args.self.now c.add_next.new.self (c.see_bounds.ensures.sound.low c.args.id c.requires.valid.0 c.requires.valid.1) c.requires.clean c.requires.unknown
     (c.in_err-from-in-New.ensures.refused.kept ∙ (c.resolve.ensures.same ∙ c.determinize.ensures.counted))
 
 pub returns-in_err-from-in-New-clause-refusal : goal.returns-in_err-from-in-New-clause-refusal
@@ -62,7 +62,7 @@ returns-in_err-from-in-New-clause-refusal c =
     if_err c.from_residual-in_err-from-in-New.result _ _ c.from_residual-in_err-from-in-New.ensures.1 (record {
       gives_up = λ cache q named. subst (GivesUp c.args.self.now.store) (found.0 ∙ c.in_ok-key.ensures.successor q named)
           (subst (λ (v : CacheView). GivesUp v.store c.in-New.state) same (c.in_err-from-in-New.ensures.refused.gives_up cache));
-      low = c.see_store.ensures.low c.args.id c.requires.valid.0 c.requires.valid.1;
+      low = c.see_bounds.ensures.sound.low c.args.id c.requires.valid.0 c.requires.valid.1;
       clean = c.requires.clean;
       unknown = c.requires.unknown;
       unchanged = c.in_err-from-in-New.ensures.refused.kept ∙ same;
@@ -71,27 +71,27 @@ returns-in_err-from-in-New-clause-refusal c =
 pub returns-in-Known-clause-answer : goal.returns-in-Known-clause-answer
 returns-in-Known-clause-answer c =
     computed_answer c.args.dfa.now c.args.id c.args.unit c.args.self.now c.set_next.new.self c.unit_class-class.result c.in-Known.to (known c)
-    c.requires.of c.requires.valid (c.see_store.ensures.low c.args.id c.requires.valid.0 c.requires.valid.1) c.requires.clean c.requires.unknown c.unit_class-class.ensures.value c.unit_class-class.ensures.below c.see_store.ensures.cells
-    c.see_store-in-Known.ensures.low c.see_store-in-Known.ensures.small (c.see_store-in-Known.ensures.tagged c.in-Known.to)
+    c.requires.of c.requires.valid (c.see_bounds.ensures.sound.low c.args.id c.requires.valid.0 c.requires.valid.1) c.requires.clean c.requires.unknown c.unit_class-class.ensures.value c.unit_class-class.ensures.below c.see_bounds.ensures.sound.cells
+    c.see_bounds-in-Known.ensures.sound.low c.see_bounds-in-Known.ensures.sound.small (c.see_bounds-in-Known.ensures.sound.tagged c.in-Known.to)
 
 pub returns-in-Known-clause-effect : goal.returns-in-Known-clause-effect
 returns-in-Known-clause-effect c =
     computed_effect c.args.dfa.now c.args.id c.args.unit c.args.self.now c.set_next.new.self c.unit_class-class.result c.in-Known.to (known c)
-    c.requires.of c.requires.valid (c.see_store.ensures.low c.args.id c.requires.valid.0 c.requires.valid.1) c.requires.clean c.requires.unknown c.unit_class-class.ensures.value c.unit_class-class.ensures.below c.see_store.ensures.cells
-    c.see_store.ensures.wide c.see_store.ensures.clears (cheap c.args.dfa.now c.args.self.now.store.table.of c.in_ok-key.key (successor c.args.dfa.now.nfa (match_kind_of c.args.dfa.now.config) c.requires.valid.0 c.args.unit) c.requires.of (c.in_ok-key.ensures.successor c.requires.valid.0 c.requires.valid.1) c.in_ok-key.ensures.cost)
-    c.see_store.ensures.ids c.see_store-in-Known.ensures.ids
+    c.requires.of c.requires.valid (c.see_bounds.ensures.sound.low c.args.id c.requires.valid.0 c.requires.valid.1) c.requires.clean c.requires.unknown c.unit_class-class.ensures.value c.unit_class-class.ensures.below c.see_bounds.ensures.sound.cells
+    c.see_bounds.ensures.sound.wide c.see_bounds.ensures.sound.clears (cheap c.args.dfa.now c.args.self.now.store.table.of c.in_ok-key.key (successor c.args.dfa.now.nfa (match_kind_of c.args.dfa.now.config) c.requires.valid.0 c.args.unit) c.requires.of (c.in_ok-key.ensures.successor c.requires.valid.0 c.requires.valid.1) c.in_ok-key.ensures.cost)
+    c.see_bounds.ensures.sound.ids c.see_bounds-in-Known.ensures.sound.ids
     (sym (c.in_ok-key.ensures.successor c.requires.valid.0 c.requires.valid.1) ∙ c.in_ok-key.ensures.value c.requires.valid.0 c.requires.valid.1)
 
 pub returns-in_ok-from-in-New-clause-answer : goal.returns-in_ok-from-in-New-clause-answer
 returns-in_ok-from-in-New-clause-answer c =
     computed_answer c.args.dfa.now c.args.id c.args.unit c.args.self.now c.set_next-in-New.new.self c.unit_class-class.result c.in_ok-from-in-New.to (new c)
-    c.requires.of c.requires.valid (c.see_store.ensures.low c.args.id c.requires.valid.0 c.requires.valid.1) c.requires.clean c.requires.unknown c.unit_class-class.ensures.value c.unit_class-class.ensures.below c.see_store.ensures.cells
-    c.see_store-in-New.ensures.low c.see_store-in-New.ensures.small (c.see_store-in-New.ensures.tagged c.in_ok-from-in-New.to)
+    c.requires.of c.requires.valid (c.see_bounds.ensures.sound.low c.args.id c.requires.valid.0 c.requires.valid.1) c.requires.clean c.requires.unknown c.unit_class-class.ensures.value c.unit_class-class.ensures.below c.see_bounds.ensures.sound.cells
+    c.see_bounds-in-New.ensures.sound.low c.see_bounds-in-New.ensures.sound.small (c.see_bounds-in-New.ensures.sound.tagged c.in_ok-from-in-New.to)
 
 pub returns-in_ok-from-in-New-clause-effect : goal.returns-in_ok-from-in-New-clause-effect
 returns-in_ok-from-in-New-clause-effect c =
     computed_effect c.args.dfa.now c.args.id c.args.unit c.args.self.now c.set_next-in-New.new.self c.unit_class-class.result c.in_ok-from-in-New.to (new c)
-    c.requires.of c.requires.valid (c.see_store.ensures.low c.args.id c.requires.valid.0 c.requires.valid.1) c.requires.clean c.requires.unknown c.unit_class-class.ensures.value c.unit_class-class.ensures.below c.see_store.ensures.cells
-    c.see_store.ensures.wide c.see_store.ensures.clears (cheap c.args.dfa.now c.args.self.now.store.table.of c.in_ok-key.key (successor c.args.dfa.now.nfa (match_kind_of c.args.dfa.now.config) c.requires.valid.0 c.args.unit) c.requires.of (c.in_ok-key.ensures.successor c.requires.valid.0 c.requires.valid.1) c.in_ok-key.ensures.cost)
-    c.see_store.ensures.ids c.see_store-in-New.ensures.ids
+    c.requires.of c.requires.valid (c.see_bounds.ensures.sound.low c.args.id c.requires.valid.0 c.requires.valid.1) c.requires.clean c.requires.unknown c.unit_class-class.ensures.value c.unit_class-class.ensures.below c.see_bounds.ensures.sound.cells
+    c.see_bounds.ensures.sound.wide c.see_bounds.ensures.sound.clears (cheap c.args.dfa.now c.args.self.now.store.table.of c.in_ok-key.key (successor c.args.dfa.now.nfa (match_kind_of c.args.dfa.now.config) c.requires.valid.0 c.args.unit) c.requires.of (c.in_ok-key.ensures.successor c.requires.valid.0 c.requires.valid.1) c.in_ok-key.ensures.cost)
+    c.see_bounds.ensures.sound.ids c.see_bounds-in-New.ensures.sound.ids
     (sym (c.in_ok-key.ensures.successor c.requires.valid.0 c.requires.valid.1) ∙ c.in_ok-key.ensures.value c.requires.valid.0 c.requires.valid.1)

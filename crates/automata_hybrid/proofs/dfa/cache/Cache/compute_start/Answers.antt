@@ -1,29 +1,34 @@
-use Rattle.std.proofs.Common.{◌≡◌, ◌∙◌, ap, inr, sym, subst}
+use Rattle.std.proofs.Common.{◌≡◌, ◌∙◌, ◌<◌, ◌^◌, ap, arith, inr, sym, subst}
 use Rattle.automata_base.specs.Powersets.Powerset.{Powerset}
 use Rattle.automata_base.specs.Retraced.Steps.{start_state_of}
 use Rattle.automata_hybrid.specs.Cache.Caches.{CacheView}
 use Rattle.automata_hybrid.specs.Cache.LookUps.{IsLookedUp}
 use Rattle.automata_hybrid.specs.Machines.Machine.{Machine, slot_count}
-use Rattle.automata_hybrid.specs.Cache.Table.{IsNewState, Leads}
+use Rattle.automata_hybrid.specs.Cache.Table.{IsNewState, Leads, Names}
 use Rattle.automata_hybrid.specs.declared.dfa.cache.Found.TheVariants.{Known, New}
 use Rattle.automata_hybrid.proofs.Cache.Additions.{cheap, looked_up, new_state}
+use Rattle.automata_hybrid.proofs.Cache.Usage.{Leads-known}
 use Rattle.automata_hybrid.proofs.Steps.Starts.{ComputesStart, computed_answer, computed_effect, computes_known}
 use Rattle.automata_hybrid.proofs.Steps.Starts.{computes_new, refused_effect, slot_leads}
-use Rattle.automata_hybrid.proofs.dfa.cache.Cache.compute_start.Goals.{After-see_store-in-Known, After-see_store-in-New}
+use Rattle.automata_hybrid.proofs.dfa.cache.Cache.compute_start.Goals.{After-see_bounds-in-Known, After-see_bounds-in-New}
 use Rattle.automata_hybrid.proofs.dfa.cache.Cache.compute_start.Goals as goal
 
-known : (c : After-see_store-in-Known) → ComputesStart c.args.dfa.now c.args.mode c.args.prev c.args.self.now c.set_start.new.self c.args.slot c.in-Known.id
+known : (c : After-see_bounds-in-Known) → ComputesStart c.args.dfa.now c.args.mode c.args.prev c.args.self.now c.set_start.new.self c.args.slot c.in-Known.id
 known c =
     let leads : Leads c.resolve.new.self.store.table c.in-Known.id c.in_ok-key.key = looked_up c.determinize_start.new.self c.resolve.new.self c.in_ok-key.key _ (Known c.in-Known.id) c.resolve.ensures.same c.in-Known.is c.in_ok-id.ensures.found in
+    let there = subst (λ (v : CacheView). Leads v.store.table c.in-Known.id c.in_ok-key.key) (sym c.set_start.ensures.value) leads in
+    let found : c.in-Known.id < 2 ^ 31 = Leads-known c.set_start.new.self.store.table c.in-Known.id c.in_ok-key.key c.see_bounds-in-Known.ensures.sound.low c.see_bounds-in-Known.ensures.sound.small there in
     computes_known c.args.dfa.now c.args.mode c.args.prev c.args.self.now c.resolve.new.self c.set_start.new.self c.args.slot c.in-Known.id c.in_ok-key.key
-    (c.resolve.ensures.same ∙ c.determinize_start.ensures.counted) c.set_start.ensures.value leads c.in_ok-key.ensures.value c.set_start.ensures.written c.set_start.ensures.found
+    (c.resolve.ensures.same ∙ c.determinize_start.ensures.counted) c.set_start.ensures.value leads c.in_ok-key.ensures.value c.set_start.ensures.written (subst (λ n. n < 2 ^ 31) (sym c.set_start.ensures.written) found)
 
-new : (c : After-see_store-in-New) → ComputesStart c.args.dfa.now c.args.mode c.args.prev c.args.self.now c.set_start-in-New.new.self c.args.slot c.in_ok-id-in-New.id
+new : (c : After-see_bounds-in-New) → ComputesStart c.args.dfa.now c.args.mode c.args.prev c.args.self.now c.set_start-in-New.new.self c.args.slot c.in_ok-id-in-New.id
 new c =
     let found : IsLookedUp c.resolve.new.self.store.table c.in_ok-key.key (New c.in-New.state) = looked_up c.determinize_start.new.self c.resolve.new.self c.in_ok-key.key _ (New c.in-New.state) c.resolve.ensures.same c.in-New.is c.in_ok-id.ensures.found in
+    let named = subst (λ (v : CacheView). Names v.store.table c.in_ok-id-in-New.id c.in-New.state) (sym c.set_start-in-New.ensures.value) c.in_ok-id-in-New.ensures.answer.named in
+    let low : c.in_ok-id-in-New.id < 2 ^ 29 = c.see_bounds-in-New.ensures.sound.low c.in_ok-id-in-New.id c.in-New.state named in
     computes_new c.args.dfa.now c.args.mode c.args.prev c.args.self.now c.resolve.new.self c.add_start.new.self c.set_start-in-New.new.self c.args.slot c.in_ok-id-in-New.id c.in-New.state c.in_ok-key.key c.specializes.result
     (c.resolve.ensures.same ∙ c.determinize_start.ensures.counted) c.in_ok-id-in-New.ensures.answer c.in_ok-id-in-New.ensures.counted c.set_start-in-New.ensures.value found.0 found.1 c.in_ok-key.ensures.value c.specializes.ensures
-    c.set_start-in-New.ensures.written c.set_start-in-New.ensures.found
+    c.set_start-in-New.ensures.written (subst (λ n. n < 2 ^ 31) (sym c.set_start-in-New.ensures.written) (omega (arith, low)))
 
 pub determinize_start-requires-clause-slot : goal.determinize_start-requires-clause-slot
 determinize_start-requires-clause-slot c = (c.args.slot, c.requires.slot)
@@ -51,28 +56,28 @@ add_start-requires-clause-new c =
 pub returns-in-Known-clause-answer : goal.returns-in-Known-clause-answer
 returns-in-Known-clause-answer c =
     computed_answer c.args.dfa.now c.args.mode c.args.prev c.args.self.now c.set_start.new.self c.args.slot c.in-Known.id (known c)
-    c.requires.slot c.requires.unknown (c.see_store.ensures.slots ∙ ap (λ (m : Machine). slot_count m) c.requires.of)
-    (c.see_store-in-Known.ensures.tagged c.in-Known.id)
+    c.requires.slot c.requires.unknown (c.see_bounds.ensures.sound.slots ∙ ap (λ (m : Machine). slot_count m) c.requires.of)
+    (c.see_bounds-in-Known.ensures.sound.tagged c.in-Known.id)
 
 pub returns-in-Known-clause-effect : goal.returns-in-Known-clause-effect
 returns-in-Known-clause-effect c =
     computed_effect c.args.dfa.now c.args.mode c.args.prev c.args.self.now c.set_start.new.self c.args.slot c.in-Known.id (known c)
-    c.requires.slot c.requires.unknown (c.see_store.ensures.slots ∙ ap (λ (m : Machine). slot_count m) c.requires.of)
-    c.see_store.ensures.cells c.see_store.ensures.wide c.see_store.ensures.clears (cheap c.args.dfa.now c.args.self.now.store.table.of c.in_ok-key.key (start_state_of c.args.dfa.now.nfa c.args.mode c.args.prev) c.requires.of c.in_ok-key.ensures.value c.in_ok-key.ensures.cost)
-    c.see_store.ensures.ids c.see_store-in-Known.ensures.ids c.requires.of
+    c.requires.slot c.requires.unknown (c.see_bounds.ensures.sound.slots ∙ ap (λ (m : Machine). slot_count m) c.requires.of)
+    c.see_bounds.ensures.sound.cells c.see_bounds.ensures.sound.wide c.see_bounds.ensures.sound.clears (cheap c.args.dfa.now c.args.self.now.store.table.of c.in_ok-key.key (start_state_of c.args.dfa.now.nfa c.args.mode c.args.prev) c.requires.of c.in_ok-key.ensures.value c.in_ok-key.ensures.cost)
+    c.see_bounds.ensures.sound.ids c.see_bounds-in-Known.ensures.sound.ids c.requires.of
 
 pub returns-in_ok-id-in-New-clause-answer : goal.returns-in_ok-id-in-New-clause-answer
 returns-in_ok-id-in-New-clause-answer c =
     computed_answer c.args.dfa.now c.args.mode c.args.prev c.args.self.now c.set_start-in-New.new.self c.args.slot c.in_ok-id-in-New.id (new c)
-    c.requires.slot c.requires.unknown (c.see_store.ensures.slots ∙ ap (λ (m : Machine). slot_count m) c.requires.of)
-    (c.see_store-in-New.ensures.tagged c.in_ok-id-in-New.id)
+    c.requires.slot c.requires.unknown (c.see_bounds.ensures.sound.slots ∙ ap (λ (m : Machine). slot_count m) c.requires.of)
+    (c.see_bounds-in-New.ensures.sound.tagged c.in_ok-id-in-New.id)
 
 pub returns-in_ok-id-in-New-clause-effect : goal.returns-in_ok-id-in-New-clause-effect
 returns-in_ok-id-in-New-clause-effect c =
     computed_effect c.args.dfa.now c.args.mode c.args.prev c.args.self.now c.set_start-in-New.new.self c.args.slot c.in_ok-id-in-New.id (new c)
-    c.requires.slot c.requires.unknown (c.see_store.ensures.slots ∙ ap (λ (m : Machine). slot_count m) c.requires.of)
-    c.see_store.ensures.cells c.see_store.ensures.wide c.see_store.ensures.clears (cheap c.args.dfa.now c.args.self.now.store.table.of c.in_ok-key.key (start_state_of c.args.dfa.now.nfa c.args.mode c.args.prev) c.requires.of c.in_ok-key.ensures.value c.in_ok-key.ensures.cost)
-    c.see_store.ensures.ids c.see_store-in-New.ensures.ids c.requires.of
+    c.requires.slot c.requires.unknown (c.see_bounds.ensures.sound.slots ∙ ap (λ (m : Machine). slot_count m) c.requires.of)
+    c.see_bounds.ensures.sound.cells c.see_bounds.ensures.sound.wide c.see_bounds.ensures.sound.clears (cheap c.args.dfa.now c.args.self.now.store.table.of c.in_ok-key.key (start_state_of c.args.dfa.now.nfa c.args.mode c.args.prev) c.requires.of c.in_ok-key.ensures.value c.in_ok-key.ensures.cost)
+    c.see_bounds.ensures.sound.ids c.see_bounds-in-New.ensures.sound.ids c.requires.of
 
 pub returns-in_err-key-clause-effect : goal.returns-in_err-key-clause-effect
 returns-in_err-key-clause-effect c =

@@ -1,11 +1,12 @@
-use Rattle.std.proofs.Common.{refl, subst}
+use Rattle.std.proofs.Common.{refl, subst, arith}
 use Rattle.automata_hybrid.specs.Cache.Caches.{CacheView}
+use Rattle.automata_hybrid.specs.Cache.Stores.{IsSoundStore}
 use Rattle.automata_hybrid.specs.declared.dfa.cache.Cache.TheInside.{Inside}
 use Rattle.automata_hybrid.specs.Searches.Contracts.{IsStoreOf}
 use Rattle.automata_hybrid.proofs.dfa.cache.Cache.see_bounds.Goals as goal
 
-pub returns : goal.returns
-returns c =
+pub returns-clause-bounds : goal.returns-clause-bounds
+returns-clause-bounds c =
     subst (λ (v : CacheView). IsStoreOf v.store v.store.table.of) c.self.view_is
     (subst (λ (i : Inside). IsStoreOf i.store i.store.table.of) c.self-inside.view_is (record {
       of = refl;
@@ -13,4 +14,21 @@ returns c =
       starts = c.self-inside.invariant.named;
       slots = c.self-inside.invariant.slots;
       within = c.self-inside.invariant.within;
+    }))
+
+pub returns-clause-sound : goal.returns-clause-sound
+returns-clause-sound c =
+    let r = c.see_rows.ensures in
+    subst (λ (v : CacheView). IsSoundStore v.store) c.self.view_is
+    (subst (λ (i : Inside). IsSoundStore i.store) c.self-inside.view_is (record {
+      small = r.template.small;
+      wide = r.template.whole;
+      ids = r.rows.ids;
+      low = r.low;
+      tagged = r.tagged;
+      alive = r.alive;
+      own = r.own;
+      cells = r.cells;
+      slots = c.self-inside.invariant.slots;
+      clears = omega arith;
     }))

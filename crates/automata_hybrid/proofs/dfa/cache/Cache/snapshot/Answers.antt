@@ -20,5 +20,5 @@ returns-clause-row c =
       cheap = subst (λ (p : Powerset). cost p ≤ greatest c.args.self.now.store.table.of) (sym c.of.ensures)
           (subst (λ (v : CacheView). cost c.state.result.now ≤ greatest v.store.table.of) c.self.view_is
           (subst (λ (i : Inside). cost c.state.result.now ≤ greatest i.store.table.of) c.self-inside.view_is c.state.ensures.cost));
-      alive = λ dies. c.see_store.ensures.alive c.args.id q c.requires.1 (sym named ∙ (sym c.of.ensures ∙ dies));
+      alive = λ dies. c.see_bounds.ensures.sound.alive c.args.id q c.requires.1 (sym named ∙ (sym c.of.ensures ∙ dies));
     }

@@ -1,15 +1,15 @@
 use Rattle.std.proofs.Common.{◌≡◌, ◌∙◌, ℕ, List, sym, ap, ◌+◌, ◌<◌, length, get_or, arith, subst}
 use Rattle.std.proofs.lemmas.Grind.{common_steps}
 use Rattle.automata_hybrid.proofs.Cache.Places.{Names-Placed, Placed-cell, Placed-IsCell}
-use Rattle.automata_hybrid.specs.Cache.Table.{Rows, IsTable, IsCell, cell_at}
+use Rattle.automata_hybrid.specs.Cache.Table.{AreRows, Rows, IsCell, cell_at}
 use Rattle.automata_hybrid.proofs.dfa.table.Table.cell.Goals as goal
 
 pub cell_in-requires : goal.cell_in-requires
 cell_in-requires c =
     let t : Rows = c.args.self.now in
-    let i : IsTable t c.self.inside.map c.self.inside.costs = subst (λ (v : Rows). IsTable v c.self.inside.map c.self.inside.costs) c.self.view_is c.self.invariant.table in
-    let p = Names-Placed t c.self.inside.map c.self.inside.costs c.args.id c.requires.row.0 i c.requires.row.1 in
-    let l : cell_at c.args.id c.args.class < length t.cells = Placed-cell t c.self.inside.map c.self.inside.costs c.args.id c.args.class c.requires.row.0 i p c.requires.class in
+    let i : AreRows t = subst AreRows c.self.view_is c.self.invariant.rows in
+    let p = Names-Placed t c.args.id c.requires.row.0 i c.requires.row.1 in
+    let l : cell_at c.args.id c.args.class < length t.cells = Placed-cell t c.args.id c.args.class c.requires.row.0 i p c.requires.class in
     let s : length c.self.inside.cells.items ≡ length t.cells = ap (λ (v : Rows). length v.cells) c.self.view_is in
     grind (arith, common_steps, l, s, c.offset.ensures)
 
@@ -23,6 +23,6 @@ returns-clause-value c = read c
 pub returns-clause-named : goal.returns-clause-named
 returns-clause-named c = λ q h.
     let t : Rows = c.args.self.now in
-    let i : IsTable t c.self.inside.map c.self.inside.costs = subst (λ (v : Rows). IsTable v c.self.inside.map c.self.inside.costs) c.self.view_is c.self.invariant.table in
-    let p = Names-Placed t c.self.inside.map c.self.inside.costs c.args.id q i h in
-    subst (IsCell t q c.args.class) (sym (read c)) (Placed-IsCell t c.self.inside.map c.self.inside.costs c.args.id c.args.class q i p c.requires.class)
+    let i : AreRows t = subst AreRows c.self.view_is c.self.invariant.rows in
+    let p = Names-Placed t c.args.id q i h in
+    subst (IsCell t q c.args.class) (sym (read c)) (Placed-IsCell t c.args.id c.args.class q i p c.requires.class)

@@ -2,7 +2,7 @@ use Rattle.std.proofs.Common.{◌≡◌, ◌∙◌, sym, ap, ◌+◌, ◌*◌, �
 use Rattle.std.proofs.lemmas.Option.{slice_get_read}
 use Rattle.automata_base.specs.Powersets.Powerset.{Powerset, cost}
 use Rattle.automata_hybrid.specs.Machines.Machine.{IsStateOf, greatest, table_stride}
-use Rattle.automata_hybrid.specs.Cache.Table.{Rows, IsTable, id_of, row_id}
+use Rattle.automata_hybrid.specs.Cache.Table.{AreRows, Rows, id_of, row_id}
 use Rattle.automata_hybrid.specs.declared.dfa.row.Row.{Row}
 use Rattle.automata_hybrid.proofs.dfa.table.Table.copied_row.Goals as goal
 
@@ -17,8 +17,8 @@ pub returns-clause-had : goal.returns-clause-had
 returns-clause-had c = λ n.
     let t : Rows = c.args.self.now in
     let r : Row = c.index-row.result.now in
-    let i : IsTable t c.self.inside.map c.self.inside.costs = subst (λ (v : Rows). IsTable v c.self.inside.map c.self.inside.costs) c.self.view_is c.self.invariant.table in
-    let d = i.distinct c.args.row r (at c) in
+    let i : AreRows t = subst AreRows c.self.view_is c.self.invariant.rows in
+    let d = (i.ids c.args.row r (at c)).0 in
     let m : id_of t r.state ≡ None = subst (λ q. id_of t q ≡ None) (ap (λ (v : Row). v.state) c.in_ok-copy.ensures.cases) n in
     let clash : None ≡ Some (row_id ((c.args.row + 3) * table_stride t.of) r) = sym m ∙ d in
     cc
@@ -26,11 +26,11 @@ returns-clause-had c = λ n.
 pub returns-clause-cost : goal.returns-clause-cost
 returns-clause-cost c =
     let t : Rows = c.args.self.now in
-    let i : IsTable t c.self.inside.map c.self.inside.costs = subst (λ (v : Rows). IsTable v c.self.inside.map c.self.inside.costs) c.self.view_is c.self.invariant.table in
+    let i : AreRows t = subst AreRows c.self.view_is c.self.invariant.rows in
     subst (λ q. cost q ≤ greatest t.of) (sym (ap (λ (v : Row). v.state) c.in_ok-copy.ensures.cases)) (i.alive c.args.row c.index-row.result.now (at c)).1
 
 pub returns-clause-of : goal.returns-clause-of
 returns-clause-of c =
     let t : Rows = c.args.self.now in
-    let i : IsTable t c.self.inside.map c.self.inside.costs = subst (λ (v : Rows). IsTable v c.self.inside.map c.self.inside.costs) c.self.view_is c.self.invariant.table in
+    let i : AreRows t = subst AreRows c.self.view_is c.self.invariant.rows in
     subst (λ (q : Powerset). IsStateOf t.of q) (sym (ap (λ (v : Row). v.state) c.in_ok-copy.ensures.cases)) (i.alive c.args.row c.index-row.result.now (at c)).2

@@ -3,8 +3,9 @@ use Rattle.std.proofs.Common.{length, vec_len, get_or, slice_get, Some}
 use Rattle.std.proofs.lemmas.Bool.{eqb-true, eq-eqb}
 use Rattle.std.proofs.lemmas.Option.{slice_get_read}
 use Rattle.automata_hybrid.specs.declared.dfa.row.Row.{Row}
-use Rattle.automata_hybrid.proofs.Cache.Places.{placed_valid, valid_at, some_inj}
-use Rattle.automata_hybrid.specs.Cache.Table.{Rows, IsTable, IsValid, row_id}
+use Rattle.automata_hybrid.proofs.Cache.Places.{placed_valid, valid_at}
+use Rattle.automata_hybrid.proofs.Cases.{same_some}
+use Rattle.automata_hybrid.specs.Cache.Table.{AreRows, Rows, IsRowId, row_id}
 use Rattle.automata_hybrid.proofs.dfa.table.Table.has_row.Goals as goal
 use Rattle.automata_hybrid.proofs.dfa.table.Table.has_row.Goals.{then-index-lt3-via-then-index-lt3}
 use Rattle.automata_hybrid.proofs.dfa.table.Table.has_row.Goals.{then-index-lt3-via-else-index-lt3+then-len-index}
@@ -13,13 +14,14 @@ use Rattle.automata_hybrid.specs.Machines.Machine.{table_stride}
 pub returns-then-index-lt3 : goal.returns-then-index-lt3
 returns-then-index-lt3 c =
     let t : Rows = c.args.self.now in
-    let i : IsTable t c.self.inside.map c.self.inside.costs = subst (λ (v : Rows). IsTable v c.self.inside.map c.self.inside.costs) c.self.view_is c.self.invariant.table in
+    let i : AreRows t = subst AreRows c.self.view_is c.self.invariant.rows in
+    let positive : 0 < table_stride t.of = subst (λ (v : Rows). 0 < table_stride v.of) c.self.view_is c.self.invariant.cells.positive in
     let s : c.self.inside.stride ≡ table_stride t.of = c.self.invariant.stride ∙ ap (λ (v : Rows). table_stride v.of) c.self.view_is in
     let e : c.offset-offset.result / c.self.inside.stride ≡ (c.args.id % 2 ^ 27) / table_stride t.of =
     ap (λ n. n / c.self.inside.stride) c.offset-offset.ensures ∙ ap (λ z. (c.args.id % 2 ^ 27) / z) s in
     let rows : length c.self.inside.rows.items ≡ length t.rows = ap (λ (v : Rows). length v.rows) c.self.view_is in
-    let none : IsValid t c.args.id → ⊥ =
-    λ v. let a = valid_at t c.self.inside.map c.self.inside.costs c.args.id i v in
+    let none : IsRowId t c.args.id → ⊥ =
+    λ v. let a = valid_at t c.args.id i positive v in
     let len : vec_len c.self.inside.rows ≡ length c.self.inside.rows.items = c.self.inside.rows.ok.0 in
     elim c.then-index-lt3.branch [
       | then-index-lt3-via-then-index-lt3 w ↦ omega (arith, e, a.behind, w.if-index-lt3.true)
@@ -29,19 +31,21 @@ returns-then-index-lt3 c =
 pub returns-then-index-self : goal.returns-then-index-self
 returns-then-index-self c =
     let t : Rows = c.args.self.now in
-    let i : IsTable t c.self.inside.map c.self.inside.costs = subst (λ (v : Rows). IsTable v c.self.inside.map c.self.inside.costs) c.self.view_is c.self.invariant.table in
+    let i : AreRows t = subst AreRows c.self.view_is c.self.invariant.rows in
+    let positive : 0 < table_stride t.of = subst (λ (v : Rows). 0 < table_stride v.of) c.self.view_is c.self.invariant.cells.positive in
     let s : c.self.inside.stride ≡ table_stride t.of = c.self.invariant.stride ∙ ap (λ (v : Rows). table_stride v.of) c.self.view_is in
     let e : c.offset-offset.result / c.self.inside.stride ≡ (c.args.id % 2 ^ 27) / table_stride t.of =
     ap (λ n. n / c.self.inside.stride) c.offset-offset.ensures ∙ ap (λ z. (c.args.id % 2 ^ 27) / z) s in (
       (λ f. absurd (true≢false (sym f))),
-      λ v. let a = valid_at t c.self.inside.map c.self.inside.costs c.args.id i v in
+      λ v. let a = valid_at t c.args.id i positive v in
           absurd (c.if-index-self.true (ap (λ n. n * c.self.inside.stride) e ∙ ap (λ z. (c.args.id % 2 ^ 27) / table_stride t.of * z) s ∙ a.at ∙ sym c.offset-offset.ensures)),
     )
 
 pub returns : goal.returns
 returns c =
     let t : Rows = c.args.self.now in
-    let i : IsTable t c.self.inside.map c.self.inside.costs = subst (λ (v : Rows). IsTable v c.self.inside.map c.self.inside.costs) c.self.view_is c.self.invariant.table in
+    let i : AreRows t = subst AreRows c.self.view_is c.self.invariant.rows in
+    let positive : 0 < table_stride t.of = subst (λ (v : Rows). 0 < table_stride v.of) c.self.view_is c.self.invariant.cells.positive in
     let s : c.self.inside.stride ≡ table_stride t.of = c.self.invariant.stride ∙ ap (λ (v : Rows). table_stride v.of) c.self.view_is in
     let e : c.offset-offset.result / c.self.inside.stride ≡ (c.args.id % 2 ^ 27) / table_stride t.of =
     ap (λ n. n / c.self.inside.stride) c.offset-offset.ensures ∙ ap (λ z. (c.args.id % 2 ^ 27) / z) s in
@@ -57,10 +61,10 @@ returns c =
     let at : c.offset-offset.result / c.self.inside.stride * table_stride t.of ≡ c.args.id % 2 ^ 27 =
     ap (λ z. c.offset-offset.result / c.self.inside.stride * z) (sym s) ∙ c.if-index-self.false ∙ c.offset-offset.ensures in
     let made : c.id.result ≡ row_id (c.args.id % 2 ^ 27) row = c.id.ensures ∙ ap (λ n. row_id n row) c.offset-offset.ensures in (
-      (λ yes. placed_valid t c.self.inside.map c.self.inside.costs c.args.id (c.offset-offset.result / c.self.inside.stride) row i three has at
+      (λ yes. placed_valid t c.args.id (c.offset-offset.result / c.self.inside.stride) row i three has at
           (eqb-true c.args.id c.id.result (sym c.eq.ensures ∙ yes) ∙ made)),
-      (λ v. let a = valid_at t c.self.inside.map c.self.inside.costs c.args.id i v in
+      (λ v. let a = valid_at t c.args.id i positive v in
           let one : a.row ≡ row =
-          some_inj a.row row (sym a.has ∙ ap (λ n. slice_get t.rows (n - 3)) (sym e) ∙ has) in
+          same_some (sym a.has ∙ ap (λ n. slice_get t.rows (n - 3)) (sym e) ∙ has) in
           c.eq.ensures ∙ eq-eqb c.args.id c.id.result (a.same ∙ ap (λ r. row_id (c.args.id % 2 ^ 27) r) one ∙ sym made)),
     )

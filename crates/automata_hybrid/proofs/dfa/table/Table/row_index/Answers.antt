@@ -1,16 +1,17 @@
-use Rattle.std.proofs.Common.{◌≡◌, ◌∙◌, ap, ◌+◌, ◌/◌, ◌%◌, ◌^◌, arith, subst, refl}
+use Rattle.std.proofs.Common.{◌≡◌, ◌∙◌, ap, ◌+◌, ◌/◌, ◌%◌, ◌^◌, ◌<◌, arith, subst, refl}
 use Rattle.automata_hybrid.proofs.Cache.Places.{Names-Placed, Placed-place, Placed-HasState}
-use Rattle.automata_hybrid.specs.Cache.Table.{Rows, IsTable}
+use Rattle.automata_hybrid.specs.Cache.Table.{AreRows, Rows}
 use Rattle.automata_hybrid.proofs.dfa.table.Table.row_index.Goals as goal
 use Rattle.automata_hybrid.specs.Machines.Machine.{table_stride}
 
 pub overflow_sub-result : goal.overflow_sub-result
 overflow_sub-result c =
     let t : Rows = c.args.self.now in
-    let i : IsTable t c.self.inside.map c.self.inside.costs = subst (λ (v : Rows). IsTable v c.self.inside.map c.self.inside.costs) c.self.view_is c.self.invariant.table in
+    let positive : 0 < table_stride t.of = subst (λ (v : Rows). 0 < table_stride v.of) c.self.view_is c.self.invariant.cells.positive in
+    let i : AreRows t = subst AreRows c.self.view_is c.self.invariant.rows in
     let s : c.self.inside.stride ≡ table_stride t.of = c.self.invariant.stride ∙ ap (λ (v : Rows). table_stride v.of) c.self.view_is in
-    let p = Names-Placed t c.self.inside.map c.self.inside.costs c.args.id c.requires.0 i c.requires.1 in
-    let e : (c.args.id % 2 ^ 27) / table_stride t.of ≡ p.place + 3 = Placed-place t c.self.inside.map c.self.inside.costs c.args.id c.requires.0 i p in
+    let p = Names-Placed t c.args.id c.requires.0 i c.requires.1 in
+    let e : (c.args.id % 2 ^ 27) / table_stride t.of ≡ p.place + 3 = Placed-place t c.args.id c.requires.0 positive p in
     rw (c.offset.ensures, s, e) (omega arith)
 
 pub returns-clause-value : goal.returns-clause-value
@@ -21,15 +22,17 @@ returns-clause-value c =
 pub returns-clause-row : goal.returns-clause-row
 returns-clause-row c = λ q h.
     let t : Rows = c.args.self.now in
-    let i : IsTable t c.self.inside.map c.self.inside.costs = subst (λ (v : Rows). IsTable v c.self.inside.map c.self.inside.costs) c.self.view_is c.self.invariant.table in
+    let positive : 0 < table_stride t.of = subst (λ (v : Rows). 0 < table_stride v.of) c.self.view_is c.self.invariant.cells.positive in
+    let i : AreRows t = subst AreRows c.self.view_is c.self.invariant.rows in
     let s : c.self.inside.stride ≡ table_stride t.of = c.self.invariant.stride ∙ ap (λ (v : Rows). table_stride v.of) c.self.view_is in
-    Placed-HasState t c.self.inside.map c.self.inside.costs c.args.id _ q i (Names-Placed t c.self.inside.map c.self.inside.costs c.args.id q i h) (rw (c.offset.ensures, s) refl)
+    Placed-HasState t c.args.id _ q positive (Names-Placed t c.args.id q i h) (rw (c.offset.ensures, s) refl)
 
 pub returns-clause-within : goal.returns-clause-within
 returns-clause-within c =
     let t : Rows = c.args.self.now in
-    let i : IsTable t c.self.inside.map c.self.inside.costs = subst (λ (v : Rows). IsTable v c.self.inside.map c.self.inside.costs) c.self.view_is c.self.invariant.table in
+    let positive : 0 < table_stride t.of = subst (λ (v : Rows). 0 < table_stride v.of) c.self.view_is c.self.invariant.cells.positive in
+    let i : AreRows t = subst AreRows c.self.view_is c.self.invariant.rows in
     let s : c.self.inside.stride ≡ table_stride t.of = c.self.invariant.stride ∙ ap (λ (v : Rows). table_stride v.of) c.self.view_is in
-    let p = Names-Placed t c.self.inside.map c.self.inside.costs c.args.id c.requires.0 i c.requires.1 in
-    let e : (c.args.id % 2 ^ 27) / table_stride t.of ≡ p.place + 3 = Placed-place t c.self.inside.map c.self.inside.costs c.args.id c.requires.0 i p in
+    let p = Names-Placed t c.args.id c.requires.0 i c.requires.1 in
+    let e : (c.args.id % 2 ^ 27) / table_stride t.of ≡ p.place + 3 = Placed-place t c.args.id c.requires.0 positive p in
     rw (c.offset.ensures, s, e) (omega (arith, p.within))

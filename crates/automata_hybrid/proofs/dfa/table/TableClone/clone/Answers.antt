@@ -1,29 +1,11 @@
-use Rattle.std.proofs.Common.{◌≡◌, ◌∙◌, ℕ, List, sym, subst}
+use Rattle.std.proofs.Common.{◌≡◌, ◌∙◌, ap, sym, subst}
 use Rattle.std.specs.List.{each_same}
 use Rattle.std.specs.Map.{lookup}
 use Rattle.std.proofs.lemmas.Map.Entries.{entries_from_clone}
-use Rattle.automata_base.specs.Powersets.Powerset.{Powerset}
 use Rattle.automata_base.specs.Powersets.Equal.{powerset_eq}
-use Rattle.automata_hybrid.specs.Cache.Table.{IsHeld, Rows, StateMap, id_of}
+use Rattle.automata_hybrid.specs.Cache.Table.{IsHeld, Rows}
+use Rattle.automata_hybrid.proofs.Cache.Rows.{IsHeld-map}
 use Rattle.automata_hybrid.proofs.dfa.table.TableClone.clone.Goals as goal
-
--- a map with the same entries serves as well
-mapped : (t : Rows) (s : ℕ) (row : List ℕ) (old new : StateMap) (costs : ℕ) → new.entries ≡ old.entries → IsHeld t s row old costs → IsHeld t s row new costs
-mapped t s row old new costs e h = record {
-  table = record {
-    template = h.table.template;
-    whole = h.table.whole;
-    small = h.table.small;
-    fixed = h.table.fixed;
-    stepped = h.table.stepped;
-    distinct = h.table.distinct;
-    alive = h.table.alive;
-    mapped = subst (λ es. (q : Powerset) → lookup (powerset_eq q) es ≡ id_of t q) (sym e) h.table.mapped;
-    costs_of = h.table.costs_of;
-  };
-  stride = h.stride;
-  template = h.template;
-}
 
 -- the rows and the cells are the same
 same :
@@ -43,7 +25,7 @@ invariant_of-result c =
     let map = entries_from_clone _ _ (λ x y h. h) (λ x y h. h) c.self.inside.map.entries c.in_ok-map.map.entries c.in_ok-map.ensures.cases in
     let held = subst (λ row. IsHeld t c.self.inside.stride row c.self.inside.map c.self.inside.costs) (sym template) c.self.invariant in
     subst (λ v. IsHeld v c.self.inside.stride c.in_ok-template.template.items c.in_ok-map.map c.self.inside.costs) (sym (same c))
-    (mapped t _ _ c.self.inside.map c.in_ok-map.map _ map held)
+    (IsHeld-map t _ _ c.self.inside.map c.in_ok-map.map _ held (λ p. ap (lookup (powerset_eq p)) map))
 
 pub returns : goal.returns
 returns c = record { cases = same c ∙ c.self.view_is }
