@@ -142,7 +142,8 @@ impl Cache {
         ensures counted { self.new ≡ counted self.old }
     {
         let from = self.store.table.state(id);
-        let key = next_key(dfa.get_nfa(), &mut self.scratch, dfa.kind(), from, unit)?;
+        let kind = dfa.get_config().get_match_kind();
+        let key = next_key(dfa.get_nfa(), &mut self.scratch, kind, from, unit)?;
         Ok(key)
     }
 
@@ -156,7 +157,7 @@ impl Cache {
             self.scratch.recycle(key);
             return Ok(Found::Known(id));
         }
-        let made = key.to_state(dfa.alloc());
+        let made = key.to_state(dfa.get_nfa().alloc());
         self.scratch.recycle(key);
         let state = made?;
         if row::is_dead(&state) {

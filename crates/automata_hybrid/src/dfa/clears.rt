@@ -74,7 +74,7 @@ pub fn keep_starts(
     ensures { IfOk result (λ p. KeepsAllStarts old.now starts.now (record { table = p.0; starts = p.1.items })) }
 {
     let mut table = old.emptied(dfa)?;
-    let mut slots = Vec::with_capacity(dfa.alloc(), starts.len())?;
+    let mut slots = Vec::with_capacity(dfa.get_nfa().alloc(), starts.len())?;
     for id in starts {
         table.see_rows();
         keep_slot(&mut table, &mut slots, old, *id)?;

@@ -13,7 +13,7 @@ ghost use Rattle.automata_base.specs.Powersets.Accounting.{start_slots};
 ghost use Rattle.automata_hybrid.specs.Cache.Ids.{quit_id, unknown_id};
 ghost use Rattle.automata_hybrid.specs.Machines.Machine.{IsMachine, next_of, template_of, table_stride, slot_count};
 ghost use Rattle.automata_config.specs.Settling.{IsSettled};
-ghost use Rattle.automata_config.specs.Options.{unset, match_kind_of, specialize_start_states_of};
+ghost use Rattle.automata_config.specs.Options.{unset, match_kind_of};
 ghost use Rattle.automata_hybrid.specs.Cache.Caches.{fresh_cache};
 ghost use Rattle.automata_hybrid.specs.Machines.Builds.{built_machine};
 ghost use Rattle.automata_hybrid.specs.Cache.Stores.{fresh_store, settings_of};
@@ -39,10 +39,9 @@ use crate::dfa::table::new_row;
 use automata_base::nfa::thompson::NFA;
 use automata_base::util::alphabet::ByteClasses;
 use automata_base::util::byte_set::ByteSet;
-use automata_base::util::search::MatchKind;
 use automata_config::accounting::{fixed_cost, start_slots};
 use automata_config::config::{Config, Settled};
-use std::alloc::{AllocError, Global};
+use std::alloc::AllocError;
 use std::marker::Model;
 
 /// A lazy DFA: an NFA with its settings, byte classes and quit bytes, and the capacity of its caches. States,
@@ -159,11 +158,6 @@ impl DFA {
         0
     }
 
-    /// The allocator of its NFA.
-    pub(crate) fn alloc(&self) -> Global {
-        self.nfa.alloc()
-    }
-
     /// The NFA.
     pub fn get_nfa(&self) -> &NFA
         ensures { result.now ≡ self.now.nfa }
@@ -171,31 +165,11 @@ impl DFA {
         &self.nfa
     }
 
-    /// Whether each pattern has start states of its own.
-    pub(crate) fn starts_each_pattern(&self) -> bool
-        ensures { result ≡ starts_for_each_pattern_of self.now.config }
-    {
-        self.config.get_starts_for_each_pattern()
-    }
-
     /// The number of patterns.
     pub fn pattern_len(&self) -> usize
         ensures { result ≡ length self.now.nfa.start_pattern }
     {
         self.nfa.pattern_starts().len()
-    }
-
-    /// Whether start states are tagged.
-    pub(crate) fn specializes(&self) -> bool
-        ensures { result ≡ specialize_start_states_of self.now.config }
-    {
-        self.config.get_specialize_start_states()
-    }
-
-    pub(crate) fn kind(&self) -> MatchKind
-        ensures { result ≡ match_kind_of self.now.config }
-    {
-        self.config.get_match_kind()
     }
 
     /// The class of a byte.

@@ -78,7 +78,8 @@ impl Cache {
                 Ok(id)
             }
             Found::New(state) => {
-                let id = self.add_start(dfa, state, dfa.specializes())?;
+                let started = dfa.get_config().get_specialize_start_states();
+                let id = self.add_start(dfa, state, started)?;
                 self.set_start(slot, id);
                 self.see_bounds();
                 Ok(id)
@@ -179,7 +180,7 @@ impl DFA {
             Anchored::No => Ok(Some(self.slot(0, kind))),
             Anchored::Yes => Ok(Some(self.slot(1, kind))),
             Anchored::Pattern(pattern) => {
-                if !self.starts_each_pattern() {
+                if !self.get_config().get_starts_for_each_pattern() {
                     return Err(StartError::UnsupportedAnchored {
                         mode: Anchored::Pattern(pattern),
                     });

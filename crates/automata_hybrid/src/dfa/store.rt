@@ -84,7 +84,7 @@ impl Store {
     {
         let _capacity = settings.capacity;
         let table = Table::fresh(dfa, stride, template, FIRST_ROWS)?;
-        let mut starts = Vec::with_capacity(dfa.alloc(), slots)?;
+        let mut starts = Vec::with_capacity(dfa.get_nfa().alloc(), slots)?;
         starts.resize(slots, LazyStateID::UNKNOWN)?;
         Ok(Store {
             table,

@@ -185,7 +185,7 @@ impl Table {
         requires room { (room + 3) * stride < 2 ^ 64 }
         ensures { IfOk result (λ t. t ≡ fresh dfa.now) }
     {
-        let alloc = dfa.alloc();
+        let alloc = dfa.get_nfa().alloc();
         let mut cells = Vec::with_capacity(alloc, (room + 3) * stride)?;
         cells.resize(stride, LazyStateID::UNKNOWN)?;
         cells.resize(2 * stride, LazyStateID::dead(stride as u32))?;
@@ -209,7 +209,7 @@ impl Table {
         requires { dfa.now ≡ self.now.of }
         ensures { IfOk result (λ t. t ≡ fresh self.now.of) }
     {
-        let template = Vec::from_slice(dfa.alloc(), &self.template)?;
+        let template = Vec::from_slice(dfa.get_nfa().alloc(), &self.template)?;
         Table::fresh(dfa, self.stride, template, self.rows.len())
     }
 

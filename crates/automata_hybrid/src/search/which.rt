@@ -1,5 +1,5 @@
 //! The set of the patterns that match, found by one overlapping search forward.
-ghost use Rattle.std.specs.Prelude.{IfErr};
+ghost use Rattle.std.specs.Prelude.{◌≤◌, IfErr, length};
 ghost use Rattle.automata_hybrid.specs.Cache.Caches.{IsCacheOf};
 ghost use Rattle.automata_hybrid.specs.Walks.Contracts.{IsSetReported, IsWhich, IsWhichEffect};
 ghost use Rattle.automata_hybrid.specs.Walks.Sets.{IsWhichRefusal};
@@ -40,7 +40,6 @@ impl DFA {
         // What it does to the cache.
         ensures effect { IsWhichEffect self.now input.now patset.old cache.old cache.new result }
     {
-        let _haystack = input.haystack();
         let reported = self.collect(cache, input, patset);
         cache.see_bounds();
         reported
@@ -58,6 +57,7 @@ impl DFA {
         ensures reported { IsSetReported self.now input.now patset.old patset.new result }
         ensures refusal { IfErr result (IsWhichRefusal self.now cache.new.store input.now patset.old patset.new) }
         ensures effect { IsWhichEffect self.now input.now patset.old cache.old cache.new result }
+        ensures inside { input.now.end ≤ length input.now.haystack }
     {
         walk_is_right(self.get_nfa());
         let _haystack = input.haystack();

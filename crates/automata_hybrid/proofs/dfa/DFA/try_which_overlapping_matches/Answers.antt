@@ -20,6 +20,6 @@ returns-clause-which c =
           s.refusal;
       free = λ f.
           IfErr-weaker r _ _ (λ e x.
-          walk_memory Forward m cache input c.haystack-haystack.ensures.within.1 s.of f.reach f.supported f.clears Ids x.0 x.1 e x.3)
+          walk_memory Forward m cache input s.inside s.of f.reach f.supported f.clears Ids x.0 x.1 e x.3)
           s.refusal;
     }

@@ -11,6 +11,7 @@ use Rattle.automata_hybrid.proofs.Cache.Usage.{Leads-known}
 use Rattle.automata_hybrid.proofs.Steps.Starts.{ComputesStart, computed_answer, computed_effect, computes_known}
 use Rattle.automata_hybrid.proofs.Steps.Starts.{computes_new, refused_effect, slot_leads}
 use Rattle.automata_hybrid.proofs.dfa.cache.Cache.compute_start.Goals.{After-see_bounds-in-Known, After-see_bounds-in-New}
+use Rattle.automata_config.specs.Options.{Options, specialize_start_states_of}
 use Rattle.automata_hybrid.proofs.dfa.cache.Cache.compute_start.Goals as goal
 
 known : (c : After-see_bounds-in-Known) → ComputesStart c.args.dfa.now c.args.mode c.args.prev c.args.self.now c.set_start.new.self c.args.slot c.in-Known.id
@@ -26,8 +27,8 @@ new c =
     let found : IsLookedUp c.resolve.new.self.store.table c.in_ok-key.key (New c.in-New.state) = looked_up c.determinize_start.new.self c.resolve.new.self c.in_ok-key.key _ (New c.in-New.state) c.resolve.ensures.same c.in-New.is c.in_ok-id.ensures.found in
     let named = subst (λ (v : CacheView). Names v.store.table c.in_ok-id-in-New.id c.in-New.state) (sym c.set_start-in-New.ensures.value) c.in_ok-id-in-New.ensures.answer.named in
     let low : c.in_ok-id-in-New.id < 2 ^ 29 = c.see_bounds-in-New.ensures.sound.low c.in_ok-id-in-New.id c.in-New.state named in
-    computes_new c.args.dfa.now c.args.mode c.args.prev c.args.self.now c.resolve.new.self c.add_start.new.self c.set_start-in-New.new.self c.args.slot c.in_ok-id-in-New.id c.in-New.state c.in_ok-key.key c.specializes.result
-    (c.resolve.ensures.same ∙ c.determinize_start.ensures.counted) c.in_ok-id-in-New.ensures.answer c.in_ok-id-in-New.ensures.counted c.set_start-in-New.ensures.value found.0 found.1 c.in_ok-key.ensures.value c.specializes.ensures
+    computes_new c.args.dfa.now c.args.mode c.args.prev c.args.self.now c.resolve.new.self c.add_start.new.self c.set_start-in-New.new.self c.args.slot c.in_ok-id-in-New.id c.in-New.state c.in_ok-key.key c.get_specialize_start_states-started.result
+    (c.resolve.ensures.same ∙ c.determinize_start.ensures.counted) c.in_ok-id-in-New.ensures.answer c.in_ok-id-in-New.ensures.counted c.set_start-in-New.ensures.value found.0 found.1 c.in_ok-key.ensures.value (c.get_specialize_start_states-started.ensures ∙ ap (λ (o : Options). specialize_start_states_of o) c.get_config.ensures)
     c.set_start-in-New.ensures.written (subst (λ n. n < 2 ^ 31) (sym c.set_start-in-New.ensures.written) (omega (arith, low)))
 
 pub determinize_start-requires-clause-slot : goal.determinize_start-requires-clause-slot

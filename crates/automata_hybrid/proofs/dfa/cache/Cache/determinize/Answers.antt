@@ -10,7 +10,7 @@ use Rattle.automata_hybrid.specs.Cache.Table.{Names}
 use Rattle.automata_hybrid.specs.Cache.Caches.{CacheView}
 use Rattle.automata_hybrid.specs.declared.dfa.cache.Cache.TheInside.{Inside}
 use Rattle.automata_hybrid.proofs.dfa.cache.Cache.determinize.Goals as goal
-use Rattle.automata_config.specs.Options.{match_kind_of}
+use Rattle.automata_config.specs.Options.{Options, match_kind_of}
 
 pub next_key-requires-clause-is_of : goal.next_key-requires-clause-is_of
 unfolding IsOwn
@@ -28,7 +28,8 @@ from_row c =
 -- and its key is the next state of the class
 next_row : (c : goal.In_ok-key) → c.in_ok-key.key ≡ next_of c.args.dfa.now c.state-from.result.now c.args.class
 next_row c =
-    let same : successor c.get_nfa.result.now c.kind.result c.state-from.result.now c.args.unit ≡ successor c.args.dfa.now.nfa (match_kind_of c.args.dfa.now.config) c.state-from.result.now c.args.unit = λ i. successor (c.get_nfa.ensures i) (c.kind.ensures i) c.state-from.result.now c.args.unit in
+    let kind = c.get_match_kind-kind.ensures ∙ ap (λ (o : Options). match_kind_of o) c.get_config.ensures in
+    let same : successor c.get_nfa.result.now c.get_match_kind-kind.result c.state-from.result.now c.args.unit ≡ successor c.args.dfa.now.nfa (match_kind_of c.args.dfa.now.config) c.state-from.result.now c.args.unit = λ i. successor (c.get_nfa.ensures i) (kind i) c.state-from.result.now c.args.unit in
     c.in_ok-key.ensures.made.same ∙ (same ∙ c.requires.class.alike c.state-from.result.now (from_row c).own)
 
 pub returns-clause-is_of : goal.returns-clause-is_of
