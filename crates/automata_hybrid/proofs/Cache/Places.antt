@@ -117,7 +117,7 @@ AreRows-with_cell t id class next q i h l free leads =
       fixed = take-set-le (3 * table_stride t.of) t.cells (cell_at id class) next far ∙ i.fixed;
       stepped = stepped p;
       ids = i.ids;
-      alive = i.alive;
+      states = i.states;
     } where
       le3 : (k : ℕ) → 3 ≤ k + 3
       le3 k = omega arith
@@ -146,7 +146,7 @@ costs_le (r ∷ rs) m all =
     omega (arith, one, more, e, f)
 
 pub AreRows-costs : (t : Rows) → AreRows t → sum_by row_cost t.rows ≤ length t.rows * greatest t.of
-AreRows-costs t i = costs_le t.rows (greatest t.of) (λ k r h. (i.alive k r h).1)
+AreRows-costs t i = costs_le t.rows (greatest t.of) (λ k r h. (i.states k r h).cheap)
 
 -- an ID at a row's offset, with that row's tags, is the row's
 pub placed_valid :
@@ -234,10 +234,10 @@ Names-silent t id q h l =
 -- no row has the dead state
 pub Names-alive : (t : Rows) (id : ℕ) (q : Powerset) → AreRows t → Names t id q → q ≡ dead → ⊥
 Names-alive t id q i h d =
-    let p = Names-Placed t id q i h in (i.alive p.place p.row p.has).0 (p.state ∙ d)
+    let p = Names-Placed t id q i h in (i.states p.place p.row p.has).alive (p.state ∙ d)
 
 -- the states of rows are the DFA's
 pub Names-own : (t : Rows) (id : ℕ) (q : Powerset) → AreRows t → Names t id q → IsStateOf t.of q
 Names-own t id q i h =
     let p = Names-Placed t id q i h in
-    subst (IsStateOf t.of) p.state (i.alive p.place p.row p.has).2
+    subst (IsStateOf t.of) p.state (i.states p.place p.row p.has).own
