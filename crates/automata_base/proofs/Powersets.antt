@@ -12,7 +12,6 @@ pub mod Keeping
 pub mod Leaves
 pub mod Made
 pub mod Making
-pub mod Repeats
 pub mod Sound
 pub mod Sparsely
 pub mod Stepping

@@ -1,5 +1,5 @@
 -- Lists of numbers: their members, and states in the order of their least keys.
-use Rattle.std.specs.Prelude.{ℕ, zero, suc, ◌≡◌, ◌&&◌, Bool, true, ltb, List, [], ◌∷◌, ◌⊎◌, Option, Some, None}
+use Rattle.std.specs.Prelude.{ℕ, ◌≡◌, ◌&&◌, Bool, true, ltb, List, [], ◌∷◌, ◌⊎◌, Option, Some, None, slice_get}
 use Rattle.automata_base.specs.Paths.Order.{Before, Upto}
 
 -- A member of the list.
@@ -7,11 +7,10 @@ abbrev pub In : ℕ → List ℕ → Type 0
 In x [] = ⊥
 In x (y ∷ ys) = (x ≡ y) ⊎ In x ys
 
--- The element at a place, if there is one.
-abbrev pub nth : {A : Type 0} → List A → ℕ → Option A
-nth [] k = None
-nth (x ∷ xs) zero = Some x
-nth (x ∷ xs) (suc k) = nth xs k
+-- No element repeats.
+abbrev pub Distinct : List ℕ → Type 0
+Distinct [] = Unit {0}
+Distinct (x ∷ xs) = (In x xs → ⊥) × Distinct xs
 
 -- Each state has a least key, which is before all keys of the states after it.
 abbrev pub Sorted : (ℕ → List ℕ → Type 0) → List ℕ → Type 0
@@ -37,7 +36,7 @@ pick g (x ∷ xs) = cons_some (g x) (pick g xs)
 -- A key that begins with a root's index goes on with a path from that root.
 abbrev pub From : (ℕ → List ℕ → ℕ → Type 0) → List ℕ → ℕ → List ℕ → Type 0
 From S roots q [] = ⊥
-From S roots q (k ∷ path) = (root : ℕ) × (nth roots k ≡ Some root) × S root path q
+From S roots q (k ∷ path) = (root : ℕ) × (slice_get roots k ≡ Some root) × S root path q
 
 -- The list has just the states that fit.
 abbrev pub IsSet : (ℕ → Type 0) → List ℕ → Type 0

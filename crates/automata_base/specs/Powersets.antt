@@ -11,3 +11,5 @@ pub mod Code
 pub mod Scratch
 pub mod Shared
 pub mod Members
+pub mod Rooms
+pub mod SparseSet

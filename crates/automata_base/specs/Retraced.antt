@@ -1,12 +1,12 @@
 pub mod Steps
 pub mod Passes
-pub mod ComputedPass
+pub mod Computed
 pub mod Once
-pub mod Rooms
 pub mod Expanding
-pub mod SparseSet
 pub mod Boundaries
 pub mod DepthFirst
 pub mod ReversedEdges
 pub mod Copies
 pub mod DenseRuns
+pub mod Decoders
+pub mod Reach

@@ -5,7 +5,7 @@ use Rattle.std.specs.List.{list_all, list_any, range_with_len}
 use Rattle.automata_base.specs.Powersets.Accounting.{start_slots, max_cost, fixed_cost, minimum_capacity}
 use Rattle.automata_base.specs.Powersets.Accounting.{effective_capacity}
 use Rattle.automata_base.specs.ByteClasses.Classes.{is_quit, class_of, class_in, stride_for}
-use Rattle.automata_base.specs.Retraced.ComputedPass.{any_node}
+use Rattle.automata_base.specs.Nfas.Nfa.{any_node}
 use Rattle.automata_base.specs.Haystacks.Looks.{look_index}
 use Rattle.automata_base.specs.Nfas.Nodes.{Automaton, nfa_of}
 use Rattle.automata_base.specs.declared.util.look.Look.{Look}

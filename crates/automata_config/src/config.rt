@@ -395,9 +395,7 @@ impl Config {
         ensures whole { length result ≡ 256 }
         ensures set { result ≡ options.quits_of self.now }
     {
-        let quits = self.quits.unwrap_or(ByteSet::empty());
-        quits.see_bytes();
-        quits
+        ByteSet::or_empty(self.quits)
     }
 }
 
@@ -440,11 +438,11 @@ fn holds_non_ascii(quits: &ByteSet) -> bool
 
 // The quit set joined with the bytes from 0x80 on.
 fn with_non_ascii(quits: &ByteSet) -> ByteSet
+    requires { length quits.now ≡ 256 }
     ensures whole { length result ≡ 256 }
     ensures set { (byte : ℕ) → byte < 256 → is_quit result byte ≡ (is_quit quits.now byte || nat_le 128 byte) }
 {
     let mut all = *quits;
-    all.see_bytes();
     for byte in 128..256usize {
         all = all.with(byte as u8, true);
     }

@@ -6,7 +6,7 @@ use crate::catalogue::Entry;
 use crate::error::RunError;
 use crate::keyword::Keyword;
 use regex_automata::hybrid::dfa::Config;
-use regex_automata::replay::Request;
+use regex_automata::replay::{Request, Way};
 use regex_automata::util::primitives::PatternID;
 use regex_automata::util::search::{Anchored, Input, MatchKind, Span};
 use std::alloc::{AllocError, Global};
@@ -34,7 +34,7 @@ enum Order {
     IsMatch(Query),
     Iterate(Query),
     Tokenise(Query),
-    BeginWalk { reverse: bool, query: Query },
+    BeginWalk { way: Way, query: Query },
     StepWalk(usize),
     Which { capacity: usize, query: Query },
     Reset(usize),
@@ -164,13 +164,13 @@ impl Order {
 
     fn parse_walk(alloc: Global, words: &[&[u8]]) -> Result<Order, LineError> {
         let (direction, rest) = words.split_first().ok_or(LineError::Bad)?;
-        let reverse = match Keyword::spelled(*direction) {
-            Some(Keyword::Forward) => false,
-            Some(Keyword::Reverse) => true,
+        let way = match Keyword::spelled(*direction) {
+            Some(Keyword::Forward) => Way::Forward,
+            Some(Keyword::Reverse) => Way::Backward,
             _ => return Err(LineError::Bad),
         };
         let query = Query::parse(alloc, rest)?;
-        Ok(Order::BeginWalk { reverse, query })
+        Ok(Order::BeginWalk { way, query })
     }
 
     fn parse_which(alloc: Global, words: &[&[u8]]) -> Result<Order, LineError> {
@@ -188,8 +188,8 @@ impl Order {
             Order::IsMatch(query) => Request::IsMatch(query.input()),
             Order::Iterate(query) => Request::Iterate(query.input()),
             Order::Tokenise(query) => Request::Tokenise(query.input()),
-            Order::BeginWalk { reverse, query } => Request::BeginWalk {
-                reverse: *reverse,
+            Order::BeginWalk { way, query } => Request::BeginWalk {
+                way: *way,
                 input: query.input(),
             },
             Order::StepWalk(number) => Request::StepWalk(*number),

@@ -1,4 +1,4 @@
--- The tokens of an input, one after another. A place is an offset of the haystack here.
+-- The tokens of an input, one after another.
 use Rattle.std.specs.Prelude.{ℕ, ◌≡◌, ◌<◌, ◌≤◌, ◌⊎◌, ◌-◌, ◌++◌, Bool, true, false, if◌then◌else◌, nat_lt, List, [], ◌∷◌}
 use Rattle.std.specs.Prelude.{length, Option, None, Some, Result, Ok, Err, IfErr, IfSome, slice_range}
 use Rattle.automata_base.specs.Answers.Answers.{IsAnswer}
@@ -25,26 +25,26 @@ use Rattle.regex_automata.specs.declared.tokens.error.TokenError.TheVariants.{No
 use Rattle.regex_automata.specs.declared.tokens.token.Token.{Token}
 use Rattle.automata_config.specs.Options.{match_kind_of}
 
--- what is searched at a place: what is left of the span, anchored and not earliest
-abbrev pub asked : List ℕ → (end place : ℕ) → Input
-asked h end place = record { haystack = h; start = place; end = end; anchored = Yes; earliest = false }
+-- what is searched at an offset: what is left of the span, anchored and not earliest
+abbrev pub asked : List ℕ → (end offset : ℕ) → Input
+asked h end offset = record { haystack = h; start = offset; end = end; anchored = Yes; earliest = false }
 
--- what the answer there makes: a token up to its end, if that is past the place; no token, if it ends at the place or
+-- what the answer there makes: a token up to its end, if that is past the offset; no token, if it ends at the offset or
 -- there is none; and an error is passed on
-abbrev pub item_of : (place : ℕ) → Result (Option HalfMatch) SearchError → Result Match TokenError
-item_of place (Ok (Some half)) =
-    if nat_lt place half.offset
-    then Ok (record { pattern = half.pattern; start = place; end = half.offset })
-    else Err (NoToken place)
-item_of place (Ok None) = Err (NoToken place)
-item_of place (Err e) = Err (Search e)
+abbrev pub item_of : (offset : ℕ) → Result (Option HalfMatch) SearchError → Result Match TokenError
+item_of offset (Ok (Some half)) =
+    if nat_lt offset half.offset
+    then Ok (record { pattern = half.pattern; start = offset; end = half.offset })
+    else Err (NoToken offset)
+item_of offset (Ok None) = Err (NoToken offset)
+item_of offset (Err e) = Err (Search e)
 
--- an item at a place before the span's end: what an answer makes that the forward search there returns
-abbrev pub IsItemAt : Machine → List ℕ → (end place : ℕ) → Result Match TokenError → Type 0
-IsItemAt m h end place item =
-    (place < end)
+-- an item at an offset before the span's end: what an answer makes that the forward search there returns
+abbrev pub IsItemAt : Machine → List ℕ → (end offset : ℕ) → Result Match TokenError → Type 0
+IsItemAt m h end offset item =
+    (offset < end)
     × ((answer : Result (Option HalfMatch) SearchError)
-    × IsHalf Forward m (asked h end place) answer × (item ≡ item_of place answer))
+    × IsHalf Forward m (asked h end offset) answer × (item ≡ item_of offset answer))
 
 -- the bytes of a match; and of matches, joined
 abbrev pub match_bytes : List ℕ → Match → List ℕ
@@ -58,110 +58,110 @@ joined h (t ∷ ts) = match_bytes h t ++ joined h ts
 abbrev pub match_of : Token → Match
 match_of t = record { pattern = t.pattern; start = t.span.start; end = t.span.end }
 
--- a token at a place: the item there, with its bytes
-pub record IsTokenAt (m : Machine) (h : List ℕ) (end place : ℕ) (t : Token) : Type 0 where
-  pub item : IsItemAt m h end place (Ok (match_of t))
+-- a token at an offset: the item there, with its bytes
+pub record IsTokenAt (m : Machine) (h : List ℕ) (end offset : ℕ) (t : Token) : Type 0 where
+  pub item : IsItemAt m h end offset (Ok (match_of t))
   pub bytes : t.bytes.now ≡ match_bytes h (match_of t)
-  -- it begins at the place, goes past it, and lies before the span's end, and its pattern is one of the NFA's
-  pub start : t.span.start ≡ place
-  pub past : place < t.span.end
+  -- it begins at the offset, goes past it, and lies before the span's end, and its pattern is one of the NFA's
+  pub start : t.span.start ≡ offset
+  pub past : offset < t.span.end
   pub within : t.span.end ≤ end
   pub pattern : t.pattern < length m.nfa.start_pattern
 
--- no token at a place before the span's end: the search there finds no match, or an empty one
-pub record IsNoTokenAt (m : Machine) (h : List ℕ) (end place : ℕ) : Type 0 where
-  pub within : place < end
+-- no token at an offset before the span's end: the search there finds no match, or an empty one
+pub record IsNoTokenAt (m : Machine) (h : List ℕ) (end offset : ℕ) : Type 0 where
+  pub within : offset < end
   pub none :
-      IsHalf Forward m (asked h end place) (Ok None)
+      IsHalf Forward m (asked h end offset) (Ok None)
       ⊎ ((pattern : ℕ)
-      × IsHalf Forward m (asked h end place) (Ok (Some (record { pattern = pattern; offset = place }))))
+      × IsHalf Forward m (asked h end offset) (Ok (Some (record { pattern = pattern; offset = offset }))))
 
--- an error names this place, or is that of a search that fails over this cache
-abbrev pub IsRefusedAt : Machine → Stored → List ℕ → (end place : ℕ) → TokenError → Type 0
-IsRefusedAt m c h end place (NoToken at) = (at ≡ place) × IsNoTokenAt m h end place
-IsRefusedAt m c h end place (Search e) = IsRefused Forward m c (asked h end place) e
+-- an error names this offset, or is that of a search that fails over this cache
+abbrev pub IsRefusedAt : Machine → Stored → List ℕ → (end offset : ℕ) → TokenError → Type 0
+IsRefusedAt m c h end offset (NoToken at) = (at ≡ offset) × IsNoTokenAt m h end offset
+IsRefusedAt m c h end offset (Search e) = IsRefused Forward m c (asked h end offset) e
 
--- a token at a place, or the error there
-abbrev pub IsGivenAt : Machine → Stored → List ℕ → (end place : ℕ) → Result Token TokenError → Type 0
-IsGivenAt m c h end place (Ok t) = IsTokenAt m h end place t
-IsGivenAt m c h end place (Err e) = IsItemAt m h end place (Err e) × IsRefusedAt m c h end place e
+-- a token at an offset, or the error there
+abbrev pub IsGivenAt : Machine → Stored → List ℕ → (end offset : ℕ) → Result Token TokenError → Type 0
+IsGivenAt m c h end offset (Ok t) = IsTokenAt m h end offset t
+IsGivenAt m c h end offset (Err e) = IsItemAt m h end offset (Err e) × IsRefusedAt m c h end offset e
 
--- one item, and the iteration before and after it: the place, and whether an error was reported. There is no item at
+-- one item, and the iteration before and after it: the offset, and whether an error was reported. There is no item at
 -- the span's end, and none after an error
 abbrev pub GivesToken :
     Machine → Stored → List ℕ → (end : ℕ) → Option (Result Token TokenError)
-    → (place place' : ℕ) → (failed failed' : Bool) → Type 0
-GivesToken m c h end None place place' failed failed' =
-    ((failed ≡ true) ⊎ (end ≤ place)) × (place' ≡ place) × (failed' ≡ failed)
-GivesToken m c h end (Some (Ok t)) place place' failed failed' =
-    IsTokenAt m h end place t × (place' ≡ t.span.end) × (failed ≡ false) × (failed' ≡ false)
-GivesToken m c h end (Some (Err e)) place place' failed failed' =
-    IsGivenAt m c h end place (Err e) × (place' ≡ place) × (failed ≡ false) × (failed' ≡ true)
+    → (offset offset' : ℕ) → (failed failed' : Bool) → Type 0
+GivesToken m c h end None offset offset' failed failed' =
+    ((failed ≡ true) ⊎ (end ≤ offset)) × (offset' ≡ offset) × (failed' ≡ failed)
+GivesToken m c h end (Some (Ok t)) offset offset' failed failed' =
+    IsTokenAt m h end offset t × (offset' ≡ t.span.end) × (failed ≡ false) × (failed' ≡ false)
+GivesToken m c h end (Some (Err e)) offset offset' failed failed' =
+    IsGivenAt m c h end offset (Err e) × (offset' ≡ offset) × (failed ≡ false) × (failed' ≡ true)
 
--- the search at a place has ended, or was left where it failed; if none is made nothing changes
+-- the search at an offset has ended, or was left where it failed; if none is made nothing changes
 abbrev pub LeavesAt :
-    Machine → List ℕ → (end place : ℕ) → (old new : Stored) → Result Token TokenError → Type 0
-LeavesAt m h end place old new (Ok t) = EndsProgress Forward m (asked h end place) old new
-LeavesAt m h end place old new (Err (NoToken at)) = EndsProgress Forward m (asked h end place) old new
-LeavesAt m h end place old new (Err (Search e)) = LeavesProgress Forward m (asked h end place) old new e
+    Machine → List ℕ → (end offset : ℕ) → (old new : Stored) → Result Token TokenError → Type 0
+LeavesAt m h end offset old new (Ok t) = EndsProgress Forward m (asked h end offset) old new
+LeavesAt m h end offset old new (Err (NoToken at)) = EndsProgress Forward m (asked h end offset) old new
+LeavesAt m h end offset old new (Err (Search e)) = LeavesProgress Forward m (asked h end offset) old new e
 
 abbrev pub LeavesToken :
-    Machine → List ℕ → (end place : ℕ) → (old new : CacheView) → Option (Result Token TokenError) → Type 0
-LeavesToken m h end place old new None = new ≡ old
-LeavesToken m h end place old new (Some r) = LeavesAt m h end place old.store new.store r
+    Machine → List ℕ → (end offset : ℕ) → (old new : CacheView) → Option (Result Token TokenError) → Type 0
+LeavesToken m h end offset old new None = new ≡ old
+LeavesToken m h end offset old new (Some r) = LeavesAt m h end offset old.store new.store r
 
 -- no token, or a search that fails by what it was given, and not for lack of room
 abbrev pub IsTokenOfInput : TokenError → Type 0
 IsTokenOfInput (NoToken at) = Unit {0}
 IsTokenOfInput (Search e) = IsOfInput e
 
--- all that the search at a place uses is cached, unless it failed
-abbrev pub HasLearnedAt : Machine → Stored → List ℕ → (end place : ℕ) → Result Token TokenError → Type 0
-HasLearnedAt m c h end place (Ok t) = Knows Forward m c (asked h end place)
-HasLearnedAt m c h end place (Err (NoToken at)) = Knows Forward m c (asked h end place)
-HasLearnedAt m c h end place (Err (Search e)) = Unit {0}
+-- all that the search at an offset uses is cached, unless it failed
+abbrev pub HasLearnedAt : Machine → Stored → List ℕ → (end offset : ℕ) → Result Token TokenError → Type 0
+HasLearnedAt m c h end offset (Ok t) = Knows Forward m c (asked h end offset)
+HasLearnedAt m c h end offset (Err (NoToken at)) = Knows Forward m c (asked h end offset)
+HasLearnedAt m c h end offset (Err (Search e)) = Unit {0}
 
 -- what an item does to the forward cache
-pub record IsTokenEffect (m : Machine) (h : List ℕ) (end place : ℕ) (old new : CacheView)
+pub record IsTokenEffect (m : Machine) (h : List ℕ) (end offset : ℕ) (old new : CacheView)
     (item : Option (Result Token TokenError)) : Type 0 where
   -- it is one pass at most
-  pub cost : IsCostOfPass Forward m (asked h end place) old new
+  pub cost : IsCostOfPass Forward m (asked h end offset) old new
   -- until the next clear nothing is lost
   pub grown : IsGrown old new
   -- and what it used is cached
-  pub learned : ClearedNothing old.store new.store → IfSome item (HasLearnedAt m new.store h end place)
+  pub learned : ClearedNothing old.store new.store → IfSome item (HasLearnedAt m new.store h end offset)
   -- with all that cached it does not run out of memory, and changes nothing but the progress
   pub known :
-      Knows Forward m old.store (asked h end place)
+      Knows Forward m old.store (asked h end offset)
       → IsStill old new × IfSome item (λ r. IfErr r IsTokenOfInput)
   -- the searched bytes, and the search that is open: what its pass leaves
-  pub progress : LeavesToken m h end place old new item
+  pub progress : LeavesToken m h end offset old new item
 
 -- how many items may come
-abbrev pub most_tokens : (failed : Bool) → (end place : ℕ) → ℕ
-most_tokens true end place = 0
-most_tokens false end place = end - place
+abbrev pub most_tokens : (failed : Bool) → (end offset : ℕ) → ℕ
+most_tokens true end offset = 0
+most_tokens false end offset = end - offset
 
--- tokens one after another, the first at this place: each is the item where the one before ended. After the last comes
+-- tokens one after another, the first at this offset: each is the item where the one before ended. After the last comes
 -- the span's end, or an error, which is the item there or out of memory for the list
-abbrev pub AreGiven : Machine → List ℕ → (end place : ℕ) → List Match → Option TokenError → Type 0
-AreGiven m h end place [] None = end ≤ place
-AreGiven m h end place [] (Some e) = (e ≡ Search search.OutOfMemory) ⊎ IsItemAt m h end place (Err e)
-AreGiven m h end place (t ∷ ts) error = IsItemAt m h end place (Ok t) × AreGiven m h end t.end ts error
+abbrev pub AreGiven : Machine → List ℕ → (end offset : ℕ) → List Match → Option TokenError → Type 0
+AreGiven m h end offset [] None = end ≤ offset
+AreGiven m h end offset [] (Some e) = (e ≡ Search search.OutOfMemory) ⊎ IsItemAt m h end offset (Err e)
+AreGiven m h end offset (t ∷ ts) error = IsItemAt m h end offset (Ok t) × AreGiven m h end t.end ts error
 
--- the same by what searches find: a token ends where an answer does, past its place; there is no token if there is no
--- answer, or one that ends at the place
+-- the same by what searches find: a token ends where an answer does, past its offset; there is no token if there is no
+-- answer, or one that ends at the offset
 abbrev pub AreFoundBy :
-    (Finds : Input → Option HalfMatch → Type 0) → List ℕ → (end place : ℕ) → List Match → Option TokenError → Type 0
-AreFoundBy Finds h end place [] None = end ≤ place
-AreFoundBy Finds h end place [] (Some (NoToken at)) =
-    (at ≡ place) × (place < end)
-    × (Finds (asked h end place) None
-    ⊎ ((pattern : ℕ) × Finds (asked h end place) (Some (record { pattern = pattern; offset = place }))))
-AreFoundBy Finds h end place [] (Some (Search e)) = Unit {0}
-AreFoundBy Finds h end place (t ∷ ts) error =
-    (t.start ≡ place) × (place < t.end) × (t.end ≤ end)
-    × Finds (asked h end place) (Some (record { pattern = t.pattern; offset = t.end }))
+    (Finds : Input → Option HalfMatch → Type 0) → List ℕ → (end offset : ℕ) → List Match → Option TokenError → Type 0
+AreFoundBy Finds h end offset [] None = end ≤ offset
+AreFoundBy Finds h end offset [] (Some (NoToken at)) =
+    (at ≡ offset) × (offset < end)
+    × (Finds (asked h end offset) None
+    ⊎ ((pattern : ℕ) × Finds (asked h end offset) (Some (record { pattern = pattern; offset = offset }))))
+AreFoundBy Finds h end offset [] (Some (Search e)) = Unit {0}
+AreFoundBy Finds h end offset (t ∷ ts) error =
+    (t.start ≡ offset) × (offset < t.end) × (t.end ≤ end)
+    × Finds (asked h end offset) (Some (record { pattern = t.pattern; offset = t.end }))
     × AreFoundBy Finds h end t.end ts error
 
 -- one list of bytes begins another
@@ -175,7 +175,7 @@ IsNoTokenOrMemory (Search e) = IsMemory e
 
 -- the tokens of an input, one after another; or the first ones, and the error that ended them
 pub record AreTokensUpto (m : Machine) (input : Input) (ts : List Match) (error : Option TokenError) : Type 0 where
-  -- each is what an answer makes that the search at its place returns
+  -- each is what an answer makes that the search at its offset returns
   pub given : AreGiven m input.haystack input.end input.start ts error
   -- for every NFA, what the passes report
   pub found : AreFoundBy (λ i. WithoutBase (IsFound Forward m i)) input.haystack input.end input.start ts error

@@ -2,7 +2,7 @@
 use Rattle.std.proofs.Common.{ℕ, suc, ◌≡◌, ◌<◌, ◌≤◌, ◌+◌, ◌-◌, true, List, [], ◌∷◌, length, inl, inr, sym, ap, ◌∙◌}
 use Rattle.std.proofs.Common.{subst, arith}
 use Rattle.automata_base.specs.Haystacks.Looks.{holds}
-use Rattle.automata_base.specs.Lists.{nth}
+use Rattle.std.specs.Prelude.{slice_get}
 use Rattle.automata_base.specs.Nfas.Nfa.{Nfa}
 use Rattle.automata_base.specs.Paths.Paths.{Tape, prev, next, truth, IsPathFrom}
 use Rattle.automata_base.proofs.Paths.Walks.{hop_more}
@@ -16,7 +16,7 @@ use Rattle.automata_base.proofs.Paths.Included.{Includes}
 abbrev pub AreAlike : Tape → Tape → (a b m : ℕ) → Type 0
 AreAlike t t' a b m =
     (i i' : ℕ) → a + i ≡ b + i' → i ≤ m
-    → (prev t i ≡ prev t' i') × (next t i ≡ next t' i') × (i < m → nth t.bytes i ≡ nth t'.bytes i')
+    → (prev t i ≡ prev t' i') × (next t i ≡ next t' i') × (i < m → slice_get t.bytes i ≡ slice_get t'.bytes i')
 
 truth_same :
     (n : Nfa) (t t' : Tape) (i i' : ℕ) → prev t i ≡ prev t' i' → next t i ≡ next t' i'
@@ -58,9 +58,9 @@ forward_alike h s e s' e' m k k' l l' i i' c b = (
   forward_prev h s e i (omega (arith, k, b))
       ∙ (ap (λ v. byte_before h v) c ∙ sym (forward_prev h s' e' i' (omega (arith, k', c, b)))),
   forward_next h s e i (omega (arith, k, b)) l
-      ∙ (ap (λ v. nth h v) c ∙ sym (forward_next h s' e' i' (omega (arith, k', c, b)) l')),
+      ∙ (ap (λ v. slice_get h v) c ∙ sym (forward_next h s' e' i' (omega (arith, k', c, b)) l')),
   λ d. forward_byte h s e i (omega (arith, k, d))
-      ∙ (ap (λ v. nth h v) c ∙ sym (forward_byte h s' e' i' (omega (arith, k', c, d)))),
+      ∙ (ap (λ v. slice_get h v) c ∙ sym (forward_byte h s' e' i' (omega (arith, k', c, d)))),
 )
 
 -- Two reverse tapes from one end.

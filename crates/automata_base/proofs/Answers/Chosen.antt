@@ -31,7 +31,7 @@ StartsAt d t k i pattern path rest =
     (path ≡ skips k (0 ∷ rest)) × ((z : ℕ) × IsPathFrom d.nfa t k [] d.anchored rest i z × (accepts d.nfa z ≡ Some pattern))
 
 pub starts_at :
-    (d : Engine) (x : ℕ) (t : Tape) (i pattern : ℕ) (path : List ℕ) → LoopsLazily d x
+    (d : Engine) (x : ℕ) (t : Tape) (i pattern : ℕ) (path : List ℕ) → LoopsLazily d.nfa d.anchored d.unanchored x
     → Accepts d.nfa t d.unanchored i pattern path → (k : ℕ) × (rest : List ℕ) × StartsAt d t k i pattern path rest
 starts_at d x t i pattern path loop a =
     (w.0, w.1, (w.2, (a.0, subst (λ v. IsPathFrom d.nfa t v [] d.anchored w.1 i a.0) (omega arith) w.3, a.2)))
@@ -41,7 +41,7 @@ starts_at d x t i pattern path loop a =
 
 -- That is the place at which the path first stands on the anchored start.
 pub lazy_start :
-    (d : Engine) (x : ℕ) (t : Tape) (k i pattern : ℕ) (path rest : List ℕ) → LoopsLazily d x → HasBytes t → i ≤ length t.bytes
+    (d : Engine) (x : ℕ) (t : Tape) (k i pattern : ℕ) (path rest : List ℕ) → LoopsLazily d.nfa d.anchored d.unanchored x → HasBytes t → i ≤ length t.bytes
     → StartsAt d t k i pattern path rest → IsPathStart d No t path k
 lazy_start d x t k i pattern path rest loop bytes l s = (
   skips k (0 ∷ []),
@@ -63,7 +63,7 @@ same_start d t path same = ([], path, refl, (refl, same), none)
 -- No path from the anchored start to the chosen path's end begins before it.
 pub least_start :
     (d : Engine) (x : ℕ) (earliest : Bool) (t : Tape) (k i pattern : ℕ) (path rest : List ℕ)
-    → LoopsLazily d x → HasBytes t → Chooses d earliest t d.unanchored i pattern path
+    → LoopsLazily d.nfa d.anchored d.unanchored x → HasBytes t → Chooses d earliest t d.unanchored i pattern path
     → StartsAt d t k i pattern path rest
     → (k' p z : ℕ) (other : List ℕ) → IsPathFrom d.nfa t k' [] d.anchored other i z → accepts d.nfa z ≡ Some p → k ≤ k'
 least_start d x earliest t k i pattern path rest loop bytes c s k' p z other h m = ⊎_elim

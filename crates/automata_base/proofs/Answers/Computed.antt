@@ -5,7 +5,7 @@ use Rattle.std.proofs.Common.{true≢false, eq-or-lt_of_le, ltb-true, ltb-false,
 use Rattle.std.proofs.lemmas.Bool.{eqb-false}
 use Rattle.automata_base.specs.Paths.Selections.{Pair}
 use Rattle.automata_base.specs.Paths.Paths.{Tape}
-use Rattle.automata_base.specs.Retraced.ComputedPass.{search_of, pairs_upto}
+use Rattle.automata_base.specs.Retraced.Passes.{search_of, pairs_upto}
 use Rattle.automata_base.specs.Powersets.Passes.{IsTape}
 use Rattle.automata_base.proofs.Paths.Finals.{search_right, walked_right}
 use Rattle.automata_base.specs.Haystacks.Tapes.{IsHaystack, Direction, Forward, Backward, tape_of, is_split}

@@ -2,10 +2,11 @@
 use Rattle.std.proofs.Common.{ℕ, ◌≡◌, ◌<◌, Bool, true, false, ◌&&◌, ◌||◌, List, [], ◌∷◌, ◌⊎◌, length, Option, Some}
 use Rattle.std.proofs.Common.{None, inl, inr, refl, sym, ap, ◌∙◌, subst, arith, ⊎_elim, true≢false}
 use Rattle.std.proofs.lemmas.Bool.{cases_order}
-use Rattle.automata_base.specs.Lists.{In, nth, From}
+use Rattle.automata_base.specs.Lists.{In, From}
+use Rattle.std.specs.Prelude.{slice_get}
 use Rattle.automata_base.specs.Nfas.Nfa.{Nfa, hop, accepts}
 use Rattle.automata_base.specs.Paths.Paths.{IsPathAt, all_true, Run, IsClosure}
-use Rattle.automata_base.specs.Retraced.ComputedPass.{closure_of}
+use Rattle.automata_base.specs.Retraced.Computed.{closure_of}
 use Rattle.automata_base.proofs.Paths.Walks.{walk_run}
 use Rattle.automata_base.proofs.Paths.Sets.{HasWalk, walk_then, in_nth, nth_in}
 use Rattle.automata_base.proofs.Paths.Readings.{sorted_has}
@@ -76,7 +77,7 @@ starts_closure d s = closure_right d.nfa all_true d.starts s.0 below
 pub empty_there : (d : Engine) → IsSound d → HasEmptyMatch d → has_empty d ≡ true
 empty_there d s e = any_here d.nfa (closure_of d.nfa all_true d.starts) e.1 e.2 reached e.5
   where
-    k : (k : ℕ) × (nth d.starts k ≡ Some e.0)
+    k : (k : ℕ) × (slice_get d.starts k ≡ Some e.0)
     k = in_nth d.starts e.0 e.3
 
     w : HasWalk d.nfa all_true e.0 e.1

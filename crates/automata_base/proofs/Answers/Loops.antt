@@ -3,7 +3,8 @@ use Rattle.std.proofs.Common.{le-leb, ◌&&◌, ℕ, zero, suc, ◌≡◌, ◌<�
 use Rattle.std.proofs.Common.{◌++◌, ◌⊎◌, length, Some, None, inl, inr, refl, sym, ap, ap₂, ◌∙◌, subst, arith, ⊎_elim}
 use Rattle.automata_base.specs.Paths.Order.{Before, Begins}
 use Rattle.automata_base.specs.Haystacks.Looks.{within}
-use Rattle.automata_base.specs.Lists.{In, nth}
+use Rattle.automata_base.specs.Lists.{In}
+use Rattle.std.specs.Prelude.{slice_get}
 use Rattle.automata_base.specs.Nfas.Nfa.{Nfa, Split, Truth, node, hop, hop_at, takes, takes_at, accepts, accepts_at}
 use Rattle.automata_base.specs.Paths.Paths.{Tape, truth, IsPathFrom, all_true}
 use Rattle.automata_base.proofs.Paths.Orders.{some_inj, none_some, cons_head, cons_tail, nil_cons}
@@ -48,7 +49,7 @@ union_hop :
     → ((e ≡ 0) × (r ≡ a)) ⊎ ((e ≡ 1) × (r ≡ x))
 union_hop n A u a x e r c h = go e (subst (λ v. hop_at v A e ≡ Some r) c h)
   where
-    go : (e : ℕ) → nth (a ∷ x ∷ []) e ≡ Some r → ((e ≡ 0) × (r ≡ a)) ⊎ ((e ≡ 1) × (r ≡ x))
+    go : (e : ℕ) → slice_get (a ∷ x ∷ []) e ≡ Some r → ((e ≡ 0) × (r ≡ a)) ⊎ ((e ≡ 1) × (r ≡ x))
     go zero h = inl (refl, sym (some_inj h))
     go (suc zero) h = inr (refl, sym (some_inj h))
     go (suc (suc e)) h = absurd (none_some h)
@@ -117,7 +118,7 @@ lazily n t u a x c d i (e ∷ e' ∷ path) j z p m (inl h) =
               subst (λ v. IsPathFrom n t v [] a w.1 j z) (omega arith) w.3,
             )
 
-pub nth_some : (xs : List ℕ) (i : ℕ) → i < length xs → (u : ℕ) × (nth xs i ≡ Some u)
+pub nth_some : (xs : List ℕ) (i : ℕ) → i < length xs → (u : ℕ) × (slice_get xs i ≡ Some u)
 nth_some [] i l = absurd (omega (arith, l))
 nth_some (x ∷ xs) zero l = (x, refl)
 nth_some (x ∷ xs) (suc i) l = nth_some xs i (omega (arith, l))
@@ -128,7 +129,7 @@ any_takes n x u b c l =
     (ap (λ v. cond v (Some u) None) (ap₂ (λ v w. v && w) (le-leb 0 b (omega arith)) (le-leb b 255 (omega (arith, l)))))
 
 abbrev pub HasBytes : Tape → Type 0
-HasBytes t = (o b : ℕ) → nth t.bytes o ≡ Some b → b < 256
+HasBytes t = (o b : ℕ) → slice_get t.bytes o ≡ Some b → b < 256
 
 -- The two states of the loop differ, and neither is the anchored start.
 pub union_apart :
@@ -166,7 +167,7 @@ skipping n t u a x c d f bytes (suc k) i rest j z l h =
       ),
     )
   where
-    b : (v : ℕ) × (nth t.bytes i ≡ Some v)
+    b : (v : ℕ) × (slice_get t.bytes i ≡ Some v)
     b = nth_some t.bytes i (omega (arith, l))
 
 -- Before its last skipped byte no path of the loop stands on the anchored start.

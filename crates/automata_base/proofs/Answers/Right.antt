@@ -20,7 +20,7 @@ use Rattle.automata_base.proofs.Answers.Backs.{end_inside, forward_bytes}
 use Rattle.automata_base.proofs.Answers.Starts.{mode_cases, Answered, answered, unanchored, back_answer, goes_to_start}
 use Rattle.automata_base.proofs.Answers.Starts.{start_unsplit, anchored_back}
 use Rattle.automata_base.proofs.Answers.Turning.{turn_answers, turn_outcome}
-use Rattle.automata_base.proofs.Answers.Once.{no_half}
+use Rattle.automata_base.proofs.Paths.Orders.{none_some}
 
 -- An anchored path starts at its first place.
 pub anchored_start : (d : Engine) (m : Anchored) (t : Tape) (path : List ℕ) → (m ≡ No → ⊥) → IsPathStart d m t path 0
@@ -36,7 +36,7 @@ Looped d input half i path =
 
 looped :
     (d : Engine) (x : ℕ) (input : Input) (half : Half) (q i : ℕ) (path : List ℕ)
-    → LoopsLazily d x → IsHaystack input.haystack → input.end ≤ length input.haystack → input.anchored ≡ No
+    → LoopsLazily d.nfa d.anchored d.unanchored x → IsHaystack input.haystack → input.end ≤ length input.haystack → input.anchored ≡ No
     → Answered d input half q i path → Looped d input half i path
 looped d x input half q i path loop bytes w m a = (
   s.0,
@@ -61,7 +61,7 @@ looped d x input half q i path loop bytes w m a = (
 -- If no reverse search is made, the chosen path starts at the base.
 pub short_start :
     (d : Engine) (input : Input) (half : Half) (q i : ℕ) (path : List ℕ)
-    → BeginsLazily d → IsHaystack input.haystack → input.end ≤ length input.haystack
+    → BeginsLazily d.nfa d.anchored d.unanchored → IsHaystack input.haystack → input.end ≤ length input.haystack
     → Answered d input half q i path → IsShort d input half
     → IsPathStart d input.anchored (forward_tape input.haystack half.base input.end) path 0
 short_start d input half q i path lazy bytes w a short = go (mode_cases input.anchored) lazy short
@@ -73,7 +73,7 @@ short_start d input half q i path lazy bytes w a short = go (mode_cases input.an
     same m e = subst (λ v. IsPathStart d v t path 0) (sym m) (same_start d t path e)
 
     go :
-        (input.anchored ≡ No) ⊎ (input.anchored ≡ No → ⊥) → BeginsLazily d → IsShort d input half → IsPathStart d input.anchored t path 0
+        (input.anchored ≡ No) ⊎ (input.anchored ≡ No → ⊥) → BeginsLazily d.nfa d.anchored d.unanchored → IsShort d input half → IsPathStart d input.anchored t path 0
     go (inr f) lazy short = anchored_start d input.anchored t path f
     go (inl m) (inl e) short = same m e
     go (inl m) (inr loop) (inr (inl f)) = absurd (f m)
@@ -99,7 +99,7 @@ start_found f r input half q i path pair keeps bytes w a long = go (mode_cases i
     h : List ℕ
     h = input.haystack
 
-    go : (input.anchored ≡ No) ⊎ (input.anchored ≡ No → ⊥) → BeginsLazily f → StartFound f r input half path
+    go : (input.anchored ≡ No) ⊎ (input.anchored ≡ No → ⊥) → BeginsLazily f.nfa f.anchored f.unanchored → StartFound f r input half path
     go (inr g) lazy = absurd (long (inr (inl g)))
     go (inl m) (inl e) = absurd (long (inr (inr e)))
     go (inl m) (inr loop) = (c.0, c.4, omega (arith, c.3, a.1), finds)
@@ -142,7 +142,7 @@ far_right f r input NotAPair pair keeps bytes w s =
     absurd (none_found (b.3 None s.2.1))
   where
     none_found : {P : Half → Type 0} → (found : Half) × (◌≡◌ {A = Option Half} None (Some found)) × P found → ⊥
-    none_found h = no_half h.1
+    none_found h = none_some h.1
 far_right f r input (Found (Some m)) pair keeps bytes w s = (Some m, refl, go s.2)
   where
     half : Half

@@ -11,7 +11,8 @@ use Rattle.automata_base.specs.Answers.Answers.{Half, IsAnswer, SelectsOver}
 use Rattle.automata_base.specs.Haystacks.Input.{Input}
 use Rattle.automata_base.specs.Answers.TruePairs.{IsTruePair, KeepsUtf8}
 use Rattle.automata_base.specs.Answers.Spans.{IsPathStart, Chooses, IsSpan, FindsStart, Outcome, Found, IsTrySearch}
-use Rattle.automata_base.specs.Answers.Spans.{from, IsNextItem, AreMatches, AreSpans, TryFinds, AreFound, Rise}
+use Rattle.automata_base.specs.Answers.Spans.{from, IsNextItem, AreFirst, AreMatches, AreSpans, TryFinds}
+use Rattle.automata_base.specs.Answers.Spans.{AreFound, Rise}
 use Rattle.automata_base.specs.Haystacks.Matches.{Match}
 use Rattle.automata_base.proofs.Answers.Backs.{end_inside}
 use Rattle.automata_base.proofs.Answers.Bytes.{tape_length}
@@ -100,7 +101,7 @@ pub tries_inside : (f r : Engine) → StaysInside (TryFinds f r)
 tries_inside f r input m w s = try_inside f r input m w s
 
 -- The next match ends in the span, and past the last end if the iteration stands there.
-next_inside :
+pub next_inside :
     (Finds : Input → Option Match → Type 0) (input : Input) (start : ℕ) (last : Option ℕ) (m : Match)
     → StaysInside Finds → input.end ≤ length input.haystack → IsNextItem Finds input start last (Some m)
     → (start ≤ m.start) × (m.start ≤ m.end) × (m.end ≤ input.end) × (last ≡ Some start → start < m.end)
@@ -120,90 +121,83 @@ next_inside Finds input start last m stays w (inr s) =
     let f = stays (from (suc start) input) m w s.3 in
     (omega (arith, f.0), f.1, f.2, λ e. omega (arith, f.0, f.1))
 
-rise_from :
-    (Finds : Input → Option Match → Type 0) (input : Input) (start : ℕ) (ms : List Match)
-    → StaysInside Finds → input.end ≤ length input.haystack → AreMatches Finds input start (Some start) ms
-    → Rise input.end (Some start) ms
-rise_from Finds input start [] stays w s = tt
-rise_from Finds input start (m ∷ ms) stays w s =
-    let f = next_inside Finds input start (Some start) m stays w s.0 in
-    (f.0, f.1, f.3 refl, f.2, rise_from Finds input m.end ms stays w s.1)
+-- All matches begin as the first ones do.
+pub all_first :
+    (Finds : Input → Option Match → Type 0) (input : Input) (start : ℕ) (last : Option ℕ) (ms : List Match)
+    → AreMatches Finds input start last ms → AreFirst Finds input start last ms
+all_first Finds input start last [] s = tt
+all_first Finds input start last (m ∷ ms) s = (s.0, all_first Finds input m.end (Some m.end) ms s.1)
 
-pub matches_rise :
-    (Finds : Input → Option Match → Type 0) (input : Input) (ms : List Match)
-    → StaysInside Finds → input.end ≤ length input.haystack → AreMatches Finds input input.start None ms
-    → Rise input.end None ms
-matches_rise Finds input [] stays w s = tt
-matches_rise Finds input (m ∷ ms) stays w s =
-    let f = next_inside Finds input input.start None m stays w s.0 in
-    (f.1, f.2, rise_from Finds input m.end ms stays w s.1)
+module _ (Finds : Input → Option Match → Type 0) (input : Input) (stays : StaysInside Finds) (w : input.end ≤ length input.haystack) where
+  rise_from : (start : ℕ) (ms : List Match) → AreFirst Finds input start (Some start) ms → Rise input.end (Some start) ms
+  rise_from start [] s = tt
+  rise_from start (m ∷ ms) s =
+      let f = next_inside Finds input start (Some start) m stays w s.0 in
+      (f.0, f.1, f.3 refl, f.2, rise_from m.end ms s.1)
 
-count_from : (end start : ℕ) (ms : List Match) → start ≤ end → Rise end (Some start) ms → start + length ms ≤ end
-count_from end start [] l r = omega (arith, l)
-count_from end start (m ∷ ms) l r =
-    let g = count_from end m.end ms r.3 r.4 in omega (arith, g, r.2)
+  pub first_rise : (ms : List Match) → AreFirst Finds input input.start None ms → Rise input.end None ms
+  first_rise [] s = tt
+  first_rise (m ∷ ms) s =
+      let f = next_inside Finds input input.start None m stays w s.0 in (f.1, f.2, rise_from m.end ms s.1)
 
--- At most one match more than the span has bytes.
-pub matches_count :
-    (Finds : Input → Option Match → Type 0) (input : Input) (ms : List Match)
-    → StaysInside Finds → input.end ≤ length input.haystack → AreMatches Finds input input.start None ms
-    → length ms ≤ suc (input.end - input.start)
-matches_count Finds input [] stays w s = omega arith
-matches_count Finds input (m ∷ ms) stays w s =
-    let f = next_inside Finds input input.start None m stays w s.0 in
-    let g = count_from input.end m.end ms f.2 (rise_from Finds input m.end ms stays w s.1) in
-    omega (arith, g, f.0, f.1)
+  count_from : (end start : ℕ) (ms : List Match) → start ≤ end → Rise end (Some start) ms → start + length ms ≤ end
+  count_from end start [] l r = omega (arith, l)
+  count_from end start (m ∷ ms) l r = let g = count_from end m.end ms r.3 r.4 in omega (arith, g, r.2)
+
+  -- At most one match more than the span has bytes.
+  pub first_few : (ms : List Match) → AreFirst Finds input input.start None ms → length ms ≤ suc (input.end - input.start)
+  first_few [] s = omega arith
+  first_few (m ∷ ms) s =
+      let f = next_inside Finds input input.start None m stays w s.0 in
+      let g = count_from input.end m.end ms f.2 (rise_from m.end ms s.1) in
+      omega (arith, g, f.0, f.1)
+
+  matches_rise : (ms : List Match) → AreMatches Finds input input.start None ms → Rise input.end None ms × (length ms ≤ suc (input.end - input.start))
+  matches_rise ms s = let f = all_first Finds input input.start None ms s in (first_rise ms f, first_few ms f)
 
 pub spans_rise :
     (d : Engine) (input : Input) (ms : List Match)
     → input.end ≤ length input.haystack → AreSpans d input ms
     → Rise input.end None ms × (length ms ≤ suc (input.end - input.start))
-spans_rise d input ms w s =
-    (matches_rise (IsSpan d) input ms (spans_inside d) w s, matches_count (IsSpan d) input ms (spans_inside d) w s)
+spans_rise d input ms w s = matches_rise (IsSpan d) input (spans_inside d) w ms s
 
 -- So too for two DFAs that are no pair.
 pub found_rise :
     (f r : Engine) (input : Input) (ms : List Match)
     → input.end ≤ length input.haystack → AreFound f r input ms
     → Rise input.end None ms × (length ms ≤ suc (input.end - input.start))
-found_rise f r input ms w s = (
-  matches_rise (TryFinds f r) input ms (tries_inside f r) w s,
-  matches_count (TryFinds f r) input ms (tries_inside f r) w s,
-)
+found_rise f r input ms w s = matches_rise (TryFinds f r) input (tries_inside f r) w ms s
+
+-- If what one finds from each place is what another finds there, so are the matches.
+module _
+    (F G : Input → Option Match → Type 0) (input : Input)
+    (right : (start : ℕ) (o : Option Match) → F (from start input) o → G (from start input) o)
+  where
+    next_right : (start : ℕ) (last : Option ℕ) (o : Option Match) → IsNextItem F input start last o → IsNextItem G input start last o
+    next_right start last None (inl s) = inl (right start None s)
+    next_right start last None (inr s) = inr (s.0, right start (Some s.0) s.1, s.2, right (suc start) None s.3)
+    next_right start last (Some m) (inl s) = inl (right start (Some m) s.0, s.1)
+    next_right start last (Some m) (inr s) = inr (s.0, right start (Some s.0) s.1, s.2, right (suc start) (Some m) s.3)
+
+    pub matches_right : (start : ℕ) (last : Option ℕ) (ms : List Match) → AreMatches F input start last ms → AreMatches G input start last ms
+    matches_right start last [] s = next_right start last None s
+    matches_right start last (m ∷ ms) s = (next_right start last (Some m) s.0, matches_right m.end (Some m.end) ms s.1)
+
+    pub first_right : (start : ℕ) (last : Option ℕ) (ms : List Match) → AreFirst F input start last ms → AreFirst G input start last ms
+    first_right start last [] s = tt
+    first_right start last (m ∷ ms) s = (next_right start last (Some m) s.0, first_right m.end (Some m.end) ms s.1)
 
 -- Over a true pair under the UTF-8 promise what is found is the spans.
-next_right :
-    (f r : Engine) (input : Input) (start : ℕ) (last : Option ℕ) (o : Option Match)
-    → IsTruePair f r → KeepsUtf8 Forward f → IsHaystack input.haystack → input.end ≤ length input.haystack
-    → IsNextItem (TryFinds f r) input start last o → IsNextItem (IsSpan f) input start last o
-next_right f r input start last o pair keeps bytes w s = go o s
-  where
-    span : (start : ℕ) (o : Option Match) → TryFinds f r (from start input) o → IsSpan f (from start input) o
-    span start o s =
-        let g = span_right f r (from start input) (Found o) pair keeps bytes w s in
-        subst (λ v. IsSpan f (from start input) v) (same_found g.1) g.2
-      where
-        same_found : {a b : Option Match} → ◌≡◌ {A = Outcome} (Found a) (Found b) → b ≡ a
-        same_found e = cc
-
-    go : (o : Option Match) → IsNextItem (TryFinds f r) input start last o → IsNextItem (IsSpan f) input start last o
-    go None (inl s) = inl (span start None s)
-    go None (inr s) = inr (s.0, span start (Some s.0) s.1, s.2, span (suc start) None s.3)
-    go (Some m) (inl s) = inl (span start (Some m) s.0, s.1)
-    go (Some m) (inr s) = inr (s.0, span start (Some s.0) s.1, s.2, span (suc start) (Some m) s.3)
-
-matches_right :
-    (f r : Engine) (input : Input) (start : ℕ) (last : Option ℕ) (ms : List Match)
-    → IsTruePair f r → KeepsUtf8 Forward f → IsHaystack input.haystack → input.end ≤ length input.haystack
-    → AreMatches (TryFinds f r) input start last ms → AreMatches (IsSpan f) input start last ms
-matches_right f r input start last [] pair keeps bytes w s = next_right f r input start last None pair keeps bytes w s
-matches_right f r input start last (m ∷ ms) pair keeps bytes w s = (
-  next_right f r input start last (Some m) pair keeps bytes w s.0,
-  matches_right f r input m.end (Some m.end) ms pair keeps bytes w s.1,
-)
-
 pub spans_right :
     (f r : Engine) (input : Input) (ms : List Match)
     → IsTruePair f r → KeepsUtf8 Forward f → IsHaystack input.haystack → input.end ≤ length input.haystack
     → AreFound f r input ms → AreSpans f input ms
-spans_right f r input ms pair keeps bytes w s = matches_right f r input input.start None ms pair keeps bytes w s
+spans_right f r input ms pair keeps bytes w s = matches_right (TryFinds f r) (IsSpan f) input span input.start None ms s
+  where
+    same_found : {a b : Option Match} → ◌≡◌ {A = Outcome} (Found a) (Found b) → b ≡ a
+    same_found e = cc
+
+    span : (start : ℕ) (o : Option Match) → TryFinds f r (from start input) o → IsSpan f (from start input) o
+    span start o s =
+        let g = span_right f r (from start input) (Found o) pair keeps bytes w s in
+        subst (λ v. IsSpan f (from start input) v) (same_found g.1) g.2

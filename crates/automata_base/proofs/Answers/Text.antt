@@ -3,12 +3,12 @@ use Rattle.std.proofs.Common.{ℕ, ◌≡◌, ◌<◌, ◌≤◌, Bool, true, fa
 use Rattle.std.proofs.Common.{◌∙◌, arith, leb-true}
 use Rattle.std.proofs.lemmas.Bool.{lt-leb}
 use Rattle.std.proofs.lemmas.Str.{IsCharBoundary-start}
-use Rattle.automata_base.specs.Lists.{nth}
+use Rattle.std.specs.Prelude.{slice_get}
 use Rattle.automata_base.specs.Haystacks.Looks.{within}
 use Rattle.automata_base.specs.Haystacks.Tapes.{is_continuation, is_split, between}
 use Rattle.automata_base.proofs.Answers.Bytes.{nth_between}
 
-pub first_unsplit : (bs : List ℕ) → IsUtf8 bs → is_continuation (nth bs 0) ≡ false
+pub first_unsplit : (bs : List ℕ) → IsUtf8 bs → is_continuation (slice_get bs 0) ≡ false
 first_unsplit [] u = refl
 first_unsplit (c ∷ cs) u = go (leb 128 c) refl
   where
@@ -23,5 +23,5 @@ first_unsplit (c ∷ cs) u = go (leb 128 c) refl
 
 pub unsplit : (h : List ℕ) (s e : ℕ) → s < e → IsUtf8 (between h s e) → is_split h s ≡ false
 unsplit h s e l u =
-    ap (λ v. is_continuation v) (ap (λ v. nth h v) (omega arith) ∙ sym (nth_between h s e 0 (omega (arith, l))))
+    ap (λ v. is_continuation v) (ap (λ v. slice_get h v) (omega arith) ∙ sym (nth_between h s e 0 (omega (arith, l))))
     ∙ first_unsplit (between h s e) u

@@ -3,11 +3,12 @@ use Rattle.std.proofs.Common.{ℕ, zero, suc, ◌≡◌, ◌<◌, ◌≤◌, ◌
 use Rattle.std.proofs.Common.{reverse, Option, Some, None, inl, inr, refl, sym, ap, ◌∙◌, subst, arith, ⊎_elim}
 use Rattle.std.proofs.Common.{eq-or-lt_of_le}
 use Rattle.std.proofs.lemmas.Bool.{cases_lt}
-use Rattle.automata_base.specs.Lists.{nth}
+use Rattle.std.specs.Prelude.{slice_get}
 use Rattle.automata_base.specs.Paths.Paths.{Tape, next_in, IsLookAcyclic}
 use Rattle.automata_base.specs.Powersets.Passes.{IsUnit, IsTape}
 use Rattle.automata_base.specs.Paths.Selections.{Pair}
-use Rattle.automata_base.specs.Retraced.ComputedPass.{search_of, IsInRange}
+use Rattle.automata_base.specs.Retraced.Passes.{search_of}
+use Rattle.automata_base.specs.Nfas.Accepted.{IsInRange}
 use Rattle.automata_base.proofs.Paths.Finals.{search_right}
 use Rattle.automata_base.specs.Haystacks.Tapes.{IsHaystack, Direction, Forward, Backward, tape_of, between, byte_before}
 use Rattle.automata_base.specs.Haystacks.Tapes.{is_split}
@@ -34,7 +35,7 @@ unit_of (Some u) f = f u refl
 
 before_unit : (h : List ℕ) (o : ℕ) → IsHaystack h → IsUnit (byte_before h o)
 before_unit h zero bytes = tt
-before_unit h (suc o) bytes = unit_of (nth h o) (bytes o)
+before_unit h (suc o) bytes = unit_of (slice_get h o) (bytes o)
 
 next_unit : (xs : List ℕ) (after : Option ℕ) (i : ℕ) → IsHaystack xs → IsUnit after → IsUnit (next_in xs after i)
 next_unit [] after i b a = a
@@ -50,7 +51,7 @@ reverse_bytes xs b o u e =
 pub tape_units :
     (way : Direction) (h : List ℕ) (s e : ℕ) → IsHaystack h → s ≤ e → e ≤ length h → IsTape (tape_of way h s e)
 tape_units Forward h s e b l w i =
-    next_unit (between h s e) (nth h e) i (λ o u g. forward_bytes h s e b l w o u g) (unit_of (nth h e) (b e))
+    next_unit (between h s e) (slice_get h e) i (λ o u g. forward_bytes h s e b l w o u g) (unit_of (slice_get h e) (b e))
 tape_units Backward h s e b l w i =
     next_unit (reverse (between h s e)) (byte_before h s) i
     (reverse_bytes (between h s e) (λ o u g. forward_bytes h s e b l w o u g)) (before_unit h s b)

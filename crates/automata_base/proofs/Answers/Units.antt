@@ -1,11 +1,11 @@
 -- The reverse search reads no unit that the forward search did not read up to its match.
 use Rattle.std.proofs.Common.{ℕ, suc, ◌≡◌, ◌<◌, ◌≤◌, ◌+◌, ◌-◌, Bool, List, length, Option, Some, inl, inr, sym, ap, ◌∙◌}
 use Rattle.std.proofs.Common.{arith, ⊎_elim, eq-or-lt_of_le}
-use Rattle.automata_base.specs.Lists.{nth}
+use Rattle.std.specs.Prelude.{slice_get}
 use Rattle.automata_base.specs.Haystacks.Tapes.{forward_tape, reverse_tape, byte_before, ReadsUpto, MeetsNone}
 use Rattle.automata_base.proofs.Answers.Bytes.{forward_next, forward_prev, reverse_next}
 
-before_suc : (h : List ℕ) (o p : ℕ) → o ≡ suc p → byte_before h o ≡ nth h p
+before_suc : (h : List ℕ) (o p : ℕ) → o ≡ suc p → byte_before h o ≡ slice_get h p
 before_suc h o p e = ap (λ v. byte_before h v) e
 
 pub back_reads :

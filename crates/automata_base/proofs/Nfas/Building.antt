@@ -1,4 +1,3 @@
 pub mod Patches
 pub mod Prefixes
 pub mod Refusals
-pub mod Shapes

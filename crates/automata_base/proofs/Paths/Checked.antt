@@ -2,14 +2,16 @@
 use Rattle.std.proofs.Common.{ℕ, zero, suc, ◌≡◌, ◌<◌, ◌+◌, Bool, true, false, cond, not, ltb, List, [], ◌∷◌}
 use Rattle.std.proofs.Common.{length, Option, Some, None, inl, inr, refl, sym, ap, ◌∙◌, subst, arith, true≢false}
 use Rattle.std.proofs.lemmas.Bool.{ltb-true}
-use Rattle.automata_base.specs.Lists.{In, nth, all_below}
+use Rattle.automata_base.specs.Lists.{In, all_below}
+use Rattle.std.specs.Prelude.{slice_get}
 use Rattle.automata_base.specs.Nfas.Nfa.{Nfa, Node, Split, Assert, Read, Accept, Range, Truth, node, node_or_fail}
 use Rattle.automata_base.specs.Nfas.Nfa.{hop_at, takes_at, takes_in}
 use Rattle.automata_base.specs.Haystacks.Looks.{within}
 use Rattle.automata_base.specs.Paths.Paths.{Tape, next, next_in, all_true, IsLookAcyclic}
 use Rattle.automata_base.specs.Powersets.Passes.{IsUnit, IsTape}
 use Rattle.automata_base.specs.Powersets.Closure.{children_at}
-use Rattle.automata_base.specs.Retraced.ComputedPass.{is_in, closure_of, IsInRange}
+use Rattle.automata_base.specs.Retraced.Computed.{is_in, closure_of}
+use Rattle.automata_base.specs.Nfas.Accepted.{IsInRange}
 use Rattle.automata_base.proofs.Paths.Checks.{ranges_below, node_below, nodes_below, is_in_range, no_way_back}
 use Rattle.automata_base.proofs.Paths.Checks.{no_ways_back, is_look_cycle_free, unit_fits, tape_fits}
 use Rattle.automata_base.proofs.Paths.Orders.{some_inj, none_some}
@@ -31,7 +33,7 @@ ranges_in N (r ∷ rs) u y e t = go (within r.lo r.hi u) t (ranges_in N rs u y (
     go true t ih = subst (λ v. v < N) (some_inj t) (ltb-true r.next N (and_parts (ltb r.next N) (ranges_below N rs) e).0)
     go false t ih = ih t
 
-node_in : (N : ℕ) (nodes : List Node) (q : ℕ) → nodes_below N nodes ≡ true → node_below N (node_or_fail (nth nodes q)) ≡ true
+node_in : (N : ℕ) (nodes : List Node) (q : ℕ) → nodes_below N nodes ≡ true → node_below N (node_or_fail (slice_get nodes q)) ≡ true
 node_in N [] q e = refl
 node_in N (x ∷ xs) zero e = (and_parts (node_below N x) (nodes_below N xs) e).0
 node_in N (x ∷ xs) (suc q) e = node_in N xs q (and_parts (node_below N x) (nodes_below N xs) e).1
@@ -61,13 +63,13 @@ in_range n e = (
 
 way_back :
     (n : Nfa) (k : ℕ) (nodes : List Node) (q : ℕ) → no_ways_back n k nodes ≡ true
-    → no_way_back n (k + q) (node_or_fail (nth nodes q)) ≡ true
+    → no_way_back n (k + q) (node_or_fail (slice_get nodes q)) ≡ true
 way_back n k [] q e = refl
 way_back n k (x ∷ xs) zero e =
     subst (λ v. no_way_back n v x ≡ true) (omega arith) (and_parts (no_way_back n k x) (no_ways_back n (suc k) xs) e).0
 way_back n k (x ∷ xs) (suc q) e =
     let f : suc k + q ≡ k + suc q = omega arith in
-    subst (λ v. no_way_back n v (node_or_fail (nth xs q)) ≡ true) f
+    subst (λ v. no_way_back n v (node_or_fail (slice_get xs q)) ≡ true) f
     (way_back n (suc k) xs q (and_parts (no_way_back n k x) (no_ways_back n (suc k) xs) e).1)
 
 pub look_cycle_free : (n : Nfa) → is_in_range n ≡ true → is_look_cycle_free n ≡ true → IsLookAcyclic n

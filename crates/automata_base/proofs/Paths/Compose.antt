@@ -2,19 +2,20 @@
 use Rattle.std.proofs.Common.{ℕ, zero, suc, ◌≡◌, ◌<◌, List, [], ◌∷◌, ◌++◌, ◌⊎◌, Option, Some, None, inl, inr, refl, sym}
 use Rattle.std.proofs.Common.{ap, ◌∙◌, subst, arith}
 use Rattle.automata_base.specs.Paths.Order.{Before, Upto, Begins}
-use Rattle.automata_base.specs.Lists.{In, nth, Sorted, IsListOf, cons_some, pick, From}
+use Rattle.automata_base.specs.Lists.{In, Sorted, IsListOf, cons_some, pick, From}
+use Rattle.std.specs.Prelude.{slice_get}
 use Rattle.automata_base.proofs.Paths.Orders.{cons_head, cons_tail, none_some, before_then, before_after, upto_after}
 use Rattle.automata_base.proofs.Paths.Orders.{before_append}
 
 -- The index of a state among those that are picked.
-pub put_nth : (o : Option ℕ) (ys : List ℕ) (r : ℕ) → (k : ℕ) × (nth ys k ≡ Some r) → (k : ℕ) × (nth (cons_some o ys) k ≡ Some r)
+pub put_nth : (o : Option ℕ) (ys : List ℕ) (r : ℕ) → (k : ℕ) × (slice_get ys k ≡ Some r) → (k : ℕ) × (slice_get (cons_some o ys) k ≡ Some r)
 put_nth None ys r h = h
 put_nth (Some x) ys r h = (suc h.0, h.1)
 
-pub in_pick : (g : ℕ → Option ℕ) (N : List ℕ) (y r : ℕ) → In y N → g y ≡ Some r → (k : ℕ) × (nth (pick g N) k ≡ Some r)
+pub in_pick : (g : ℕ → Option ℕ) (N : List ℕ) (y r : ℕ) → In y N → g y ≡ Some r → (k : ℕ) × (slice_get (pick g N) k ≡ Some r)
 in_pick g [] y r h e = elim h [ ]
 in_pick g (x ∷ xs) y r (inl h) e =
-    (zero, subst (λ o. nth (cons_some o (pick g xs)) zero ≡ Some r) (sym e ∙ ap g h) refl)
+    (zero, subst (λ o. slice_get (cons_some o (pick g xs)) zero ≡ Some r) (sym e ∙ ap g h) refl)
 in_pick g (x ∷ xs) y r (inr h) e = put_nth (g x) (pick g xs) r (in_pick g xs y r h e)
 
 -- The keys of the others, seen from the picked state at index `k`, whose least key is `p`.
@@ -25,7 +26,7 @@ Order3 P k k' p y =
 
 abbrev pub Rank : (ℕ → List ℕ → Type 0) → (ℕ → Option ℕ) → List ℕ → List ℕ → ℕ → List ℕ → Type 0
 Rank P g N picked k p =
-    (y r : ℕ) → In y N → g y ≡ Some r → (k' : ℕ) × (nth picked k' ≡ Some r) × Order3 P k k' p y
+    (y r : ℕ) → In y N → g y ≡ Some r → (k' : ℕ) × (slice_get picked k' ≡ Some r) × Order3 P k k' p y
 
 abbrev pub Found : (ℕ → List ℕ → Type 0) → (ℕ → Option ℕ) → List ℕ → List ℕ → ℕ → ℕ → Type 0
 Found P g N picked k r =
@@ -38,13 +39,13 @@ shift P k k' p y (inr (inr h)) = inr (inr (omega arith))
 
 pub found :
     (P : ℕ → List ℕ → Type 0) (g : ℕ → Option ℕ) (N : List ℕ) (k r : ℕ)
-    → Sorted P N → nth (pick g N) k ≡ Some r → Found P g N (pick g N) k r
+    → Sorted P N → slice_get (pick g N) k ≡ Some r → Found P g N (pick g N) k r
 found P g [] k r s e = absurd (none_some e)
 found P g (x ∷ xs) k r s e = go (g x) refl k e (λ k'. found P g xs k' r s.4)
   where
     go :
-        (o : Option ℕ) → g x ≡ o → (k : ℕ) → nth (cons_some o (pick g xs)) k ≡ Some r
-        → ((k' : ℕ) → nth (pick g xs) k' ≡ Some r → Found P g xs (pick g xs) k' r)
+        (o : Option ℕ) → g x ≡ o → (k : ℕ) → slice_get (cons_some o (pick g xs)) k ≡ Some r
+        → ((k' : ℕ) → slice_get (pick g xs) k' ≡ Some r → Found P g xs (pick g xs) k' r)
         → Found P g (x ∷ xs) (cons_some o (pick g xs)) k r
     go None gx k e ih = (f.0, f.1, f.2, f.3, rank)
       where

@@ -7,8 +7,8 @@ use Rattle.automata_base.specs.Paths.Paths.{Tape, IsLookAcyclic}
 use Rattle.automata_base.specs.Powersets.Cuts.{MatchKind, All}
 use Rattle.automata_base.specs.Paths.Selections.{Accepts, Pair, IsNearest, IsFarthest, Pairs, Reports, Selects}
 use Rattle.automata_base.specs.Paths.Selections.{IsOverlappingOn}
-use Rattle.automata_base.specs.Retraced.ComputedPass.{reported_of, pair_at, last_of, earlier_or, first_of, search_of}
-use Rattle.automata_base.specs.Retraced.ComputedPass.{pairs_upto, IsInRange}
+use Rattle.automata_base.specs.Retraced.Passes.{earlier_or, first_among, last_among, pair_at, pairs_upto, reported_of, search_of}
+use Rattle.automata_base.specs.Nfas.Accepted.{IsInRange}
 use Rattle.automata_base.specs.Powersets.Passes.{IsTape}
 use Rattle.automata_base.proofs.Paths.Searches.{sel_right, walk_right}
 use Rattle.automata_base.proofs.Paths.Sets.{nearest_right, farthest_right, pairs_right}
@@ -23,10 +23,10 @@ IsLast At k (Some pair) =
     × ((j : ℕ) → pair.place < j → j < k → At j [])
 
 last_right :
-    (n : Nfa) (kind : MatchKind) (start : ℕ) (t : Tape) (At : ℕ → List ℕ → Type 0) (k : ℕ)
-    → ((i : ℕ) → At i (reported_of n kind start t i)) → IsLast At k (last_of n kind start t k)
-last_right n kind start t At zero f = λ i l. absurd (omega (arith, l))
-last_right n kind start t At (suc k) f = go (reported_of n kind start t k) (f k) (last_of n kind start t k) (last_right n kind start t At k f)
+    (reported : ℕ → List ℕ) (At : ℕ → List ℕ → Type 0) (k : ℕ) → ((i : ℕ) → At i (reported i))
+    → IsLast At k (last_among reported k)
+last_right reported At zero f = λ i l. absurd (omega (arith, l))
+last_right reported At (suc k) f = go (reported k) (f k) (last_among reported k) (last_right reported At k f)
   where
     new : (i : ℕ) → i < suc k → (i ≡ k) ⊎ (i < k)
     new i l = eq-or-lt_of_le (le_of_suc-le-suc l)
@@ -48,10 +48,10 @@ IsFirst At k (Some pair) =
     (rest : List ℕ) × (pair.place < k) × At pair.place (pair.pattern ∷ rest) × ((j : ℕ) → j < pair.place → At j [])
 
 first_right :
-    (n : Nfa) (kind : MatchKind) (start : ℕ) (t : Tape) (At : ℕ → List ℕ → Type 0) (k : ℕ)
-    → ((i : ℕ) → At i (reported_of n kind start t i)) → IsFirst At k (first_of n kind start t k)
-first_right n kind start t At zero f = λ i l. absurd (omega (arith, l))
-first_right n kind start t At (suc k) f = go (first_of n kind start t k) (first_right n kind start t At k f) (reported_of n kind start t k) (f k)
+    (reported : ℕ → List ℕ) (At : ℕ → List ℕ → Type 0) (k : ℕ) → ((i : ℕ) → At i (reported i))
+    → IsFirst At k (first_among reported k)
+first_right reported At zero f = λ i l. absurd (omega (arith, l))
+first_right reported At (suc k) f = go (first_among reported k) (first_right reported At k f) (reported k) (f k)
   where
     new : (i : ℕ) → i < suc k → (i ≡ k) ⊎ (i < k)
     new i l = eq-or-lt_of_le (le_of_suc-le-suc l)
@@ -65,15 +65,15 @@ pub pass_sel_right :
     (kind : MatchKind) (earliest : Bool) (n : Nfa) (t : Tape) (start : ℕ)
     → IsInRange n → start < length n.nodes → PassSelects kind earliest n t start (search_of kind earliest n t start)
 pass_sel_right kind true n t start r l =
-    go (first_of n kind start t (suc (length t.bytes)))
-    (first_right n kind start t (Reports kind n t start) (suc (length t.bytes)) (λ i. reported_right n kind start t i r l))
+    go (first_among (reported_of n kind start t) (suc (length t.bytes)))
+    (first_right (reported_of n kind start t) (Reports kind n t start) (suc (length t.bytes)) (λ i. reported_right n kind start t i r l))
   where
     go : (o : Option Pair) → IsFirst (Reports kind n t start) (suc (length t.bytes)) o → PassSelects kind true n t start o
     go None h = λ i b. h i (omega (arith, b))
     go (Some pair) h = (h.0, le_of_suc-le-suc h.1, h.2, h.3)
 pass_sel_right kind false n t start r l =
-    go (last_of n kind start t (suc (length t.bytes)))
-    (last_right n kind start t (Reports kind n t start) (suc (length t.bytes)) (λ i. reported_right n kind start t i r l))
+    go (last_among (reported_of n kind start t) (suc (length t.bytes)))
+    (last_right (reported_of n kind start t) (Reports kind n t start) (suc (length t.bytes)) (λ i. reported_right n kind start t i r l))
   where
     go : (o : Option Pair) → IsLast (Reports kind n t start) (suc (length t.bytes)) o → PassSelects kind false n t start o
     go None h = λ i b. h i (omega (arith, b))

@@ -2,7 +2,8 @@
 use Rattle.std.proofs.Common.{ℕ, zero, suc, ◌≡◌, ◌<◌, ◌+◌, Bool, true, false, cond, List, [], ◌∷◌, ◌++◌, ◌⊎◌, length}
 use Rattle.std.proofs.Common.{Some, None, inl, inr, refl, sym, ap, ap₂, ◌∙◌, subst, arith, ⊎_elim}
 use Rattle.automata_base.specs.Paths.Order.{Before, Upto}
-use Rattle.automata_base.specs.Lists.{In, nth, Sorted, IsListOf, From}
+use Rattle.automata_base.specs.Lists.{In, Sorted, IsListOf, From}
+use Rattle.std.specs.Prelude.{slice_get}
 use Rattle.automata_base.specs.Nfas.Nfa.{Nfa, Node, Split, Assert, Read, Accept, Truth, node, hop, hop_at}
 use Rattle.automata_base.specs.Paths.Paths.{IsPathAt, IsClosure}
 use Rattle.automata_base.specs.Powersets.Closure.{children, children_at, Visits, done, skip, visit}
@@ -13,22 +14,22 @@ use Rattle.automata_base.proofs.Paths.Sift.{same}
 use Rattle.automata_base.proofs.Paths.Readings.{sorted_has}
 use Rattle.std.proofs.lemmas.Bool.{cases_eq}
 
-hop_children_at : (x : Node) (A : Truth) (e : ℕ) → hop_at x A e ≡ nth (children_at x A) e
+hop_children_at : (x : Node) (A : Truth) (e : ℕ) → hop_at x A e ≡ slice_get (children_at x A) e
 hop_children_at (Split alternates) A e = refl
 hop_children_at (Assert look next) A zero = go (A look)
   where
-    go : (b : Bool) → cond b (Some next) None ≡ nth (cond b (next ∷ []) []) 0
+    go : (b : Bool) → cond b (Some next) None ≡ slice_get (cond b (next ∷ []) []) 0
     go true = refl
     go false = refl
 hop_children_at (Assert look next) A (suc e) = go (A look)
   where
-    go : (b : Bool) → None ≡ nth (cond b (next ∷ []) []) (suc e)
+    go : (b : Bool) → None ≡ slice_get (cond b (next ∷ []) []) (suc e)
     go true = refl
     go false = refl
 hop_children_at (Read ranges) A e = refl
 hop_children_at (Accept p) A e = refl
 
-pub hop_children : (n : Nfa) (A : Truth) (q e : ℕ) → hop n A q e ≡ nth (children n A q) e
+pub hop_children : (n : Nfa) (A : Truth) (q e : ℕ) → hop n A q e ≡ slice_get (children n A q) e
 hop_children n A q e = hop_children_at (node n q) A e
 
 -- A walk from a root that was not seen.
@@ -95,25 +96,25 @@ meets n A S seen x r (e ∷ path) z f d w =
             (λ (j : In w.0 (x ∷ [])). ⊎_elim (λ (s : w.0 ≡ x). h.0 s) (λ (b : ⊥). b) j)
             (in_either w.0 (r ∷ seen) (x ∷ []) i)
 
-nth_first : (xs ys : List ℕ) (k r : ℕ) → nth xs k ≡ Some r → (k < length xs) × (nth (xs ++ ys) k ≡ Some r)
+nth_first : (xs ys : List ℕ) (k r : ℕ) → slice_get xs k ≡ Some r → (k < length xs) × (slice_get (xs ++ ys) k ≡ Some r)
 nth_first [] ys k r e = absurd (none_some e)
 nth_first (x ∷ xs) ys zero r e = (omega arith, e)
 nth_first (x ∷ xs) ys (suc k) r e = let w = nth_first xs ys k r e in (omega (arith, w.0), w.1)
 
-nth_second : (xs ys : List ℕ) (k r : ℕ) → nth ys k ≡ Some r → (j : ℕ) × (j ≡ length xs + k) × (nth (xs ++ ys) j ≡ Some r)
+nth_second : (xs ys : List ℕ) (k r : ℕ) → slice_get ys k ≡ Some r → (j : ℕ) × (j ≡ length xs + k) × (slice_get (xs ++ ys) j ≡ Some r)
 nth_second [] ys k r e = (k, omega arith, e)
 nth_second (x ∷ xs) ys k r e = let w = nth_second xs ys k r e in (suc w.0, omega (arith, w.1), w.2)
 
 nth_either :
-    (xs ys : List ℕ) (j r : ℕ) → nth (xs ++ ys) j ≡ Some r
-    → ((j < length xs) × (nth xs j ≡ Some r)) ⊎ ((k : ℕ) × (j ≡ length xs + k) × (nth ys k ≡ Some r))
+    (xs ys : List ℕ) (j r : ℕ) → slice_get (xs ++ ys) j ≡ Some r
+    → ((j < length xs) × (slice_get xs j ≡ Some r)) ⊎ ((k : ℕ) × (j ≡ length xs + k) × (slice_get ys k ≡ Some r))
 nth_either [] ys j r e = inr (j, omega arith, e)
 nth_either (x ∷ xs) ys zero r e = inl (omega arith, e)
 nth_either (x ∷ xs) ys (suc j) r e = go (nth_either xs ys j r e)
   where
     go :
-        ((j < length xs) × (nth xs j ≡ Some r)) ⊎ ((k : ℕ) × (j ≡ length xs + k) × (nth ys k ≡ Some r))
-        → ((suc j < suc (length xs)) × (nth xs j ≡ Some r)) ⊎ ((k : ℕ) × (suc j ≡ suc (length xs) + k) × (nth ys k ≡ Some r))
+        ((j < length xs) × (slice_get xs j ≡ Some r)) ⊎ ((k : ℕ) × (j ≡ length xs + k) × (slice_get ys k ≡ Some r))
+        → ((suc j < suc (length xs)) × (slice_get xs j ≡ Some r)) ⊎ ((k : ℕ) × (suc j ≡ suc (length xs) + k) × (slice_get ys k ≡ Some r))
     go (inl h) = inl (omega (arith, h.0), h.1)
     go (inr h) = inr (h.0, omega (arith, h.1), h.2)
 
@@ -139,7 +140,7 @@ module _ (n : Nfa) (A : Truth) (x : ℕ) (S stack : List ℕ) (new : In x S → 
       ⊎ (((e k : ℕ) × (s p : List ℕ) × (e < length (children n A x)) × P q (e ∷ s) × (other ≡ suc k ∷ p))
       ⊎ ((j k : ℕ) × (p : List ℕ) × (j ≡ length (children n A x) + k) × P q (j ∷ p) × (other ≡ suc k ∷ p)))
 
-  child : (e r : ℕ) → hop n A x e ≡ Some r → nth (children n A x) e ≡ Some r
+  child : (e r : ℕ) → hop n A x e ≡ Some r → slice_get (children n A x) e ≡ Some r
   child e r h = sym (hop_children n A x e) ∙ h
 
   classify : (q : ℕ) (other : List ℕ) → Other q other → Pre q other
@@ -248,8 +249,8 @@ module _ (n : Nfa) (A : Truth) (x : ℕ) (S stack : List ℕ) (new : In x S → 
   image q (j ∷ p) h = go (nth_either (children n A x) stack j h.0 h.1)
     where
       go :
-          ((j < length (children n A x)) × (nth (children n A x) j ≡ Some h.0))
-          ⊎ ((k : ℕ) × (j ≡ length (children n A x) + k) × (nth stack k ≡ Some h.0))
+          ((j < length (children n A x)) × (slice_get (children n A x) j ≡ Some h.0))
+          ⊎ ((k : ℕ) × (j ≡ length (children n A x) + k) × (slice_get stack k ≡ Some h.0))
           → (image : List ℕ) × Other q image × Carries P Other (j ∷ p) image
       go (inl c) =
           (0 ∷ (j ∷ p), (other_end q (j ∷ p) h, (x, refl, (new, (h.0, hop_children n A x j ∙ c.1, h.2.0, h.2.1)))), carries_first j p)

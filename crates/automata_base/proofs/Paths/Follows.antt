@@ -2,10 +2,10 @@
 use Rattle.std.proofs.Common.{ℕ, suc, ◌≡◌, Bool, true, false, eqb, List, [], ◌∷◌, Option, Some, None, inl, inr, refl}
 use Rattle.std.proofs.Common.{sym, ap, ap₂, ◌∙◌, true≢false}
 use Rattle.std.proofs.lemmas.Bool.{eqb-true, eq-eqb}
-use Rattle.automata_base.specs.Lists.{nth}
+use Rattle.std.specs.Prelude.{slice_get}
 use Rattle.automata_base.specs.Nfas.Nfa.{Nfa, hop}
 use Rattle.automata_base.specs.Paths.Paths.{Tape, truth, IsPathFrom, Moves}
-use Rattle.automata_base.specs.Retraced.ComputedPass.{is_in}
+use Rattle.automata_base.specs.Retraced.Computed.{is_in}
 use Rattle.automata_base.proofs.Paths.Follow.{Stand, taken, follow}
 use Rattle.automata_base.proofs.Paths.Orders.{none_some}
 use Rattle.automata_base.proofs.Paths.Places.{hop_takes}
@@ -26,14 +26,14 @@ stand_state i q j z e = ap (λ (s : Stand). s.state) (some_stand e)
 pub nowhere : (j z : ℕ) → ◌≡◌ {A = Option Stand} None (stand j z) → ⊥
 nowhere j z e = cc
 
-taken_moves : (n : Nfa) (t : Tape) (i q r : ℕ) → taken n (nth t.bytes i) q ≡ Some r → Moves n t i q r
-taken_moves n t i q r h = go (nth t.bytes i) refl h
+taken_moves : (n : Nfa) (t : Tape) (i q r : ℕ) → taken n (slice_get t.bytes i) q ≡ Some r → Moves n t i q r
+taken_moves n t i q r h = go (slice_get t.bytes i) refl h
   where
-    go : (o : Option ℕ) → nth t.bytes i ≡ o → taken n o q ≡ Some r → Moves n t i q r
+    go : (o : Option ℕ) → slice_get t.bytes i ≡ o → taken n o q ≡ Some r → Moves n t i q r
     go None e h = absurd (none_some h)
     go (Some u) e h = (u, e, h)
 
-moves_taken : (n : Nfa) (t : Tape) (i q r : ℕ) → Moves n t i q r → taken n (nth t.bytes i) q ≡ Some r
+moves_taken : (n : Nfa) (t : Tape) (i q r : ℕ) → Moves n t i q r → taken n (slice_get t.bytes i) q ≡ Some r
 moves_taken n t i q r m = ap (λ o. taken n o q) m.1 ∙ m.2
 
 abbrev pub next_follow : Nfa → Tape → ℕ → List ℕ → ℕ → ℕ → List ℕ → Option ℕ → Option Stand
@@ -41,7 +41,7 @@ next_follow n t i seen q e path o =
     elim o [
       | Some r ↦ elim (is_in r (q ∷ seen)) [ true ↦ None | false ↦ follow n t i (q ∷ seen) r path ]
       | None ↦ elim (eqb e 0) [
-        | true ↦ elim (taken n (nth t.bytes i) q) [ Some r ↦ follow n t (suc i) [] r path | None ↦ None ]
+        | true ↦ elim (taken n (slice_get t.bytes i) q) [ Some r ↦ follow n t (suc i) [] r path | None ↦ None ]
         | false ↦ None
       ]
     ]
@@ -60,7 +60,7 @@ follow_path n t i seen q (e ∷ path) j z h =
     Leave = (r : ℕ) → follow n t (suc i) [] r path ≡ stand j z → IsPathFrom n t (suc i) [] r path j z
 
     byte :
-        (b : Bool) → eqb e 0 ≡ b → (o : Option ℕ) → taken n (nth t.bytes i) q ≡ o
+        (b : Bool) → eqb e 0 ≡ b → (o : Option ℕ) → taken n (slice_get t.bytes i) q ≡ o
         → elim b [ true ↦ elim o [ Some r ↦ follow n t (suc i) [] r path | None ↦ None ] | false ↦ None ] ≡ stand j z
         → Leave → IsPathFrom n t i seen q (e ∷ path) j z
     byte false f o g h leave = absurd (nowhere j z h)
@@ -77,7 +77,7 @@ follow_path n t i seen q (e ∷ path) j z h =
     go :
         (o : Option ℕ) → hop n (truth n t i) q e ≡ o → next_follow n t i seen q e path o ≡ stand j z
         → Stay → Leave → IsPathFrom n t i seen q (e ∷ path) j z
-    go None g h s l = byte (eqb e 0) refl (taken n (nth t.bytes i) q) refl h l
+    go None g h s l = byte (eqb e 0) refl (taken n (slice_get t.bytes i) q) refl h l
     go (Some r) g h s l = stay r g (is_in r (q ∷ seen)) refl h s
 
 pub path_follow :
@@ -101,12 +101,12 @@ path_follow n t i seen q (e ∷ path) j z (inr h) =
     reads o = elim o [ Some r ↦ follow n t (suc i) [] r path | None ↦ None ]
 
     tests : Bool → Option Stand
-    tests b = elim b [ true ↦ reads (taken n (nth t.bytes i) q) | false ↦ None ]
+    tests b = elim b [ true ↦ reads (taken n (slice_get t.bytes i) q) | false ↦ None ]
 
     no_hop : (o : Option ℕ) → hop n (truth n t i) q e ≡ o → next_follow n t i seen q e path o ≡ tests (eqb e 0)
     no_hop None g = refl
     no_hop (Some r) g = absurd (hop_takes n q (truth n t i) e h.2.0 r h.0 g h.2.2)
 
-    zero_edge : (b : Bool) → b ≡ true → tests b ≡ reads (taken n (nth t.bytes i) q)
+    zero_edge : (b : Bool) → b ≡ true → tests b ≡ reads (taken n (slice_get t.bytes i) q)
     zero_edge true f = refl
     zero_edge false f = absurd (true≢false (sym f))

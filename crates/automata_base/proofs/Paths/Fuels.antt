@@ -8,7 +8,8 @@ use Rattle.automata_base.specs.Lists.{In}
 use Rattle.automata_base.specs.Nfas.Nfa.{Nfa, Truth}
 use Rattle.automata_base.specs.Paths.Paths.{IsClosure}
 use Rattle.automata_base.specs.Powersets.Closure.{children, Visits, done, skip, visit}
-use Rattle.automata_base.specs.Retraced.ComputedPass.{is_in, visits_with, first_visits, closure_of, IsInRange}
+use Rattle.automata_base.specs.Retraced.Computed.{is_in, visits_with, first_visits, closure_of}
+use Rattle.automata_base.specs.Nfas.Accepted.{IsInRange}
 use Rattle.automata_base.proofs.Paths.Walks.{in_either}
 use Rattle.automata_base.proofs.Paths.FirstVisits.{visits_closure}
 use Rattle.std.proofs.lemmas.Bool.{or_cases}

@@ -2,7 +2,8 @@
 use Rattle.std.proofs.Common.{ℕ, zero, suc, ◌≡◌, ◌<◌, ◌≤◌, List, [], ◌∷◌, ◌⊎◌, length, Option, Some, None, inl, inr}
 use Rattle.std.proofs.Common.{refl, sym, ap, ◌∙◌, subst, arith, ⊎_elim, eq-or-lt_of_le, le_of_suc-le-suc}
 use Rattle.automata_base.specs.Paths.Order.{Before, Upto}
-use Rattle.automata_base.specs.Lists.{nth, IsListOf, cons_some, pick, From}
+use Rattle.automata_base.specs.Lists.{IsListOf, cons_some, pick, From}
+use Rattle.std.specs.Prelude.{slice_get}
 use Rattle.automata_base.specs.Nfas.Nfa.{Nfa, accepts, ends, takes}
 use Rattle.automata_base.specs.Paths.Paths.{IsPathAt, Tape, IsPath, truth, prev, next, next_in, IsLookAcyclic}
 use Rattle.automata_base.specs.Powersets.Cuts.{MatchKind, All, LeftmostFirst, cut, cut_for, IsOnce, targets}
@@ -20,7 +21,7 @@ use Rattle.automata_base.proofs.Paths.Readings.{once_is_none, once_is_one, patte
 use Rattle.automata_base.proofs.Paths.Decisions.{decides}
 
 -- Inside the span the next unit is a byte.
-pub next_byte : (bytes : List ℕ) (after : Option ℕ) (i : ℕ) → i < length bytes → (u : ℕ) × (nth bytes i ≡ Some u) × (next_in bytes after i ≡ Some u)
+pub next_byte : (bytes : List ℕ) (after : Option ℕ) (i : ℕ) → i < length bytes → (u : ℕ) × (slice_get bytes i ≡ Some u) × (next_in bytes after i ≡ Some u)
 next_byte [] after i h = absurd (omega (arith, h))
 next_byte (u ∷ us) after zero h = (u, refl, refl)
 next_byte (u ∷ us) after (suc i) h = next_byte us after i (omega (arith, h))
@@ -202,7 +203,7 @@ Onward kind n t start i L u =
 
 onward :
     (kind : MatchKind) (n : Nfa) (t : Tape) (start i : ℕ) (L : List ℕ) (u : ℕ) (best : Option (List ℕ))
-    → nth t.bytes i ≡ Some u → IsBestFor kind n t start best i
+    → slice_get t.bytes i ≡ Some u → IsBestFor kind n t start best i
     → IsListOf (EndsWithin n t start best i) (pick (ends n) L) → Onward kind n t start i L u
 onward All n t start i L u best byte b l = (None, refl, on)
   where
@@ -242,13 +243,13 @@ means_succ kind n t start i P Q free tape_of inside m s = go (next_byte t.bytes 
     L : List ℕ
     L = s.0
 
-    go : (u : ℕ) × (nth t.bytes i ≡ Some u) × (next t i ≡ Some u) → Means kind n t start (suc i) Q
+    go : (u : ℕ) × (slice_get t.bytes i ≡ Some u) × (next t i ≡ Some u) → Means kind n t start (suc i) Q
     go b = (w.0, s.1, pick (λ v. takes n v b.0) (cut_for kind n s.0), arrival, w.1, w.2)
       where
         w : Onward kind n t start i s.0 b.0
         w = onward kind n t start i s.0 b.0 m.0 b.1 m.4 (means_decided kind n t start i P s.0 free tape_of m s.2)
 
-        arrival : IsClosureOf n s.1 (pick (λ v. takes n v b.0) (cut_for kind n s.0)) (nth t.bytes i) Q
+        arrival : IsClosureOf n s.1 (pick (λ v. takes n v b.0) (cut_for kind n s.0)) (slice_get t.bytes i) Q
         arrival =
             subst (λ v. IsClosureOf n s.1 (pick (λ v. takes n v b.0) (cut_for kind n s.0)) v Q) (sym b.1)
             (subst (λ v. IsClosureOf n s.1 (targets n v (cut_for kind n s.0)) v Q) b.2 s.4)

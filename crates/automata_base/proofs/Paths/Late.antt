@@ -2,7 +2,8 @@
 use Rattle.std.proofs.Common.{ℕ, ◌≡◌, Bool, true, false, cond, List, [], ◌∷◌, ◌++◌, ◌⊎◌, Some, None, inl, inr, refl}
 use Rattle.std.proofs.Common.{sym, ap, ◌∙◌, subst, true≢false}
 use Rattle.automata_base.specs.Paths.Order.{Begins}
-use Rattle.automata_base.specs.Lists.{nth, IsListOf, pick, From}
+use Rattle.automata_base.specs.Lists.{IsListOf, pick, From}
+use Rattle.std.specs.Prelude.{slice_get}
 use Rattle.automata_base.specs.Nfas.Nfa.{Nfa, Node, Split, Assert, Read, Accept, Truth, node, hop, hop_at, keep, ends}
 use Rattle.automata_base.specs.Nfas.Nfa.{stays_at, ends_at}
 use Rattle.automata_base.specs.Paths.Paths.{IsPathAt, all_true, HasEpsilonPath, LeadsOn, IsLookAcyclic, IsClosure}
@@ -181,5 +182,5 @@ late n K T roots C L more free c l =
         apart y r' [] p g b = absurd p
         apart y r' (k' ∷ other) p g b =
             clear_apart n K h.1.0 f.1 f.0 [] other b.0 b.1 y f.5 (cons_tail b.2)
-            (subst (λ v. IsPathAt n K [] v other y) (some_inj (sym p.1 ∙ (ap (λ v. nth roots v) (sym (cons_head b.2)) ∙ h.1.1))) p.2)
+            (subst (λ v. IsPathAt n K [] v other y) (some_inj (sym p.1 ∙ (ap (λ v. slice_get roots v) (sym (cons_head b.2)) ∙ h.1.1))) p.2)
             (kept_at (stays_at (node n y)) y r' g)

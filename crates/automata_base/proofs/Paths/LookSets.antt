@@ -3,7 +3,7 @@ use Rattle.std.proofs.Common.{ℕ, zero, suc, ◌≡◌, ◌<◌, ◌+◌, ◌*�
 use Rattle.std.proofs.Common.{length, Option, Some, None, refl, sym, ap, ◌∙◌, arith, cond}
 use Rattle.std.specs.Int.{bit_at}
 use Rattle.std.proofs.lemmas.Nat.Bits.{bit_at-suc, bit_at-zero, bit_at-lt, bit_at_lowest}
-use Rattle.automata_base.specs.Lists.{nth}
+use Rattle.std.specs.Prelude.{slice_get}
 use Rattle.automata_base.specs.Haystacks.Looks.{Look, Start, End, StartLF, EndLF, StartCRLF, EndCRLF, WordAscii}
 use Rattle.automata_base.specs.Haystacks.Looks.{WordAsciiNegate, WordUnicode, WordUnicodeNegate, WordStartAscii}
 use Rattle.automata_base.specs.Haystacks.Looks.{WordEndAscii, WordStartUnicode, WordEndUnicode, WordStartHalfAscii}
@@ -20,14 +20,14 @@ low_of true m = omega arith
 low_of false m = omega arith
 
 -- the bit of a look of the list
-bit_from : (A : Truth) (looks : List Look) (k : ℕ) (look : Look) → nth looks k ≡ Some look → bit_at (bits_from A looks) k ≡ cond (A look) 1 0
+bit_from : (A : Truth) (looks : List Look) (k : ℕ) (look : Look) → slice_get looks k ≡ Some look → bit_at (bits_from A looks) k ≡ cond (A look) 1 0
 bit_from A [] k look e = cc
 bit_from A (x ∷ xs) zero look e =
     bit_at_lowest (cond (A x) 1 0 + 2 * bits_from A xs) ∙ (low_of (A x) (bits_from A xs) ∙ ap (λ y. cond (A y) 1 0) (let same : x ≡ look = cc in same))
 bit_from A (x ∷ xs) (suc k) look e =
     bit_at-suc (cond (A x) 1 0 + 2 * bits_from A xs) k ∙ (ap (λ m. bit_at m k) (half_of (A x) (bits_from A xs)) ∙ bit_from A xs k look e)
 
-pub nth_index : (look : Look) → nth all_looks (look_index look) ≡ Some look
+pub nth_index : (look : Look) → slice_get all_looks (look_index look) ≡ Some look
 nth_index Start = refl
 nth_index End = refl
 nth_index StartLF = refl
@@ -74,7 +74,7 @@ low_bit : (m : ℕ) (b : Bool) → m % 2 ≡ cond b 1 0 → m ≡ cond b 1 0 + 2
 low_bit m true e = omega (arith, e)
 low_bit m false e = omega (arith, e)
 
-bits_back : (A : Truth) (looks : List Look) (m : ℕ) → m < 2 ^ length looks → ((k : ℕ) (look : Look) → nth looks k ≡ Some look → bit_at m k ≡ cond (A look) 1 0) → m ≡ bits_from A looks
+bits_back : (A : Truth) (looks : List Look) (m : ℕ) → m < 2 ^ length looks → ((k : ℕ) (look : Look) → slice_get looks k ≡ Some look → bit_at m k ≡ cond (A look) 1 0) → m ≡ bits_from A looks
 bits_back A [] m l h = omega (arith, l)
 bits_back A (x ∷ xs) m l h =
     low_bit m (A x) (sym (bit_at_lowest m) ∙ h 0 x refl)
@@ -84,7 +84,7 @@ index_or : Option Look → ℕ
 index_or None = 18
 index_or (Some look) = look_index look
 
-index_of : (k : ℕ) (look : Look) → nth all_looks k ≡ Some look → k ≡ look_index look
+index_of : (k : ℕ) (look : Look) → slice_get all_looks k ≡ Some look → k ≡ look_index look
 unfolding index_or
 index_of zero look e = ap index_or e
 index_of (suc zero) look e = ap index_or e

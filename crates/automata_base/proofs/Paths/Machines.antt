@@ -8,9 +8,10 @@ use Rattle.automata_base.specs.Haystacks.Looks.{WordAsciiNegate, WordUnicode, Wo
 use Rattle.automata_base.specs.Haystacks.Looks.{WordEndAscii, WordStartUnicode, WordEndUnicode, WordStartHalfAscii}
 use Rattle.automata_base.specs.Haystacks.Looks.{WordEndHalfAscii, WordStartHalfUnicode, WordEndHalfUnicode, holds}
 use Rattle.automata_base.specs.Haystacks.Looks.{is_absent, is_byte, is_word, differ, first_half, second_half}
-use Rattle.automata_base.specs.Lists.{In, nth, From, pick}
+use Rattle.automata_base.specs.Lists.{In, From, pick}
+use Rattle.std.specs.Prelude.{slice_get}
 use Rattle.automata_base.specs.Nfas.Nfa.{Nfa, Node, Split, Assert, Read, Accept, Truth, node, node_or_fail, takes}
-use Rattle.automata_base.specs.Nfas.Nfa.{accepts, keep}
+use Rattle.automata_base.specs.Nfas.Nfa.{accepts, keep, looks_at, any_node}
 use Rattle.automata_base.specs.Paths.Paths.{IsPathAt, Tape, next, IsClosure}
 use Rattle.automata_base.specs.Powersets.Cuts.{MatchKind, cut_for, targets, IsOnce}
 use Rattle.automata_base.specs.Powersets.Passes.{IsUnit, Occurs, IsKnownLook, IsNeeded, IsMake, is_word_look}
@@ -19,9 +20,11 @@ use Rattle.automata_base.specs.Powersets.Passes.{IsPass}
 use Rattle.automata_base.specs.Powersets.Powerset.{Powerset}
 use Rattle.automata_base.specs.Paths.Selections.{Reports}
 use Rattle.automata_base.specs.Powersets.Closure.{children, Visits, done, skip, visit}
-use Rattle.automata_base.specs.Retraced.ComputedPass.{is_in, closure_of, once_past, looks_at, any_node, any_state}
-use Rattle.automata_base.specs.Retraced.ComputedPass.{always, known_looks, is_full, make, arrive, has_news, any_look}
-use Rattle.automata_base.specs.Retraced.ComputedPass.{decide, successor_of, pass_of, reported_of, IsInRange}
+use Rattle.automata_base.specs.Retraced.Computed.{is_in, closure_of, once_past, any_state}
+use Rattle.automata_base.specs.Retraced.Computed.{always, known_looks, is_full, make, arrive, has_news, any_look}
+use Rattle.automata_base.specs.Retraced.Computed.{decide, successor_of}
+use Rattle.automata_base.specs.Retraced.Passes.{pass_of, reported_of}
+use Rattle.automata_base.specs.Nfas.Accepted.{IsInRange}
 use Rattle.automata_base.specs.Haystacks.Looks.{look_index}
 use Rattle.automata_base.proofs.Paths.Orders.{none_some, nil_cons}
 use Rattle.automata_base.proofs.Paths.Sift.{same, in_picked}
@@ -83,7 +86,7 @@ and_true false b e f = absurd (true≢false (sym e))
 abbrev pub looks : List Look
 looks = Start ∷ End ∷ StartLF ∷ EndLF ∷ StartCRLF ∷ EndCRLF ∷ WordAscii ∷ WordAsciiNegate ∷ WordUnicode ∷ WordUnicodeNegate ∷ WordStartAscii ∷ WordEndAscii ∷ WordStartUnicode ∷ WordEndUnicode ∷ WordStartHalfAscii ∷ WordEndHalfAscii ∷ WordStartHalfUnicode ∷ WordEndHalfUnicode ∷ []
 
-look_of : (a : Look) → nth looks (look_index a) ≡ Some a
+look_of : (a : Look) → slice_get looks (look_index a) ≡ Some a
 look_of Start = refl
 look_of End = refl
 look_of StartLF = refl
@@ -107,7 +110,7 @@ some_look : {x y : Look} → ◌≡◌ {A = Option Look} (Some x) (Some y) → x
 some_look e = cc
 
 pub code_one : (a b : Look) → eqb (look_index a) (look_index b) ≡ true → a ≡ b
-code_one a b e = some_look (sym (look_of a) ∙ (ap (λ v. nth looks v) (eqb-true (look_index a) (look_index b) e) ∙ look_of b))
+code_one a b e = some_look (sym (look_of a) ∙ (ap (λ v. slice_get looks v) (eqb-true (look_index a) (look_index b) e) ∙ look_of b))
 
 looks_at_true : (f : Look → Bool) (x : Node) → looks_at f x ≡ true → (look : Look) × (next : ℕ) × (x ≡ Assert look next) × (f look ≡ true)
 looks_at_true f (Split alternates) e = absurd (true≢false (sym e))
@@ -117,21 +120,21 @@ looks_at_true f (Accept p) e = absurd (true≢false (sym e))
 
 pub any_node_true :
     (f : Look → Bool) (xs : List Node) → any_node f xs ≡ true
-    → (q : ℕ) × (look : Look) × (next : ℕ) × (node_or_fail (nth xs q) ≡ Assert look next) × (f look ≡ true)
+    → (q : ℕ) × (look : Look) × (next : ℕ) × (node_or_fail (slice_get xs q) ≡ Assert look next) × (f look ≡ true)
 any_node_true f [] e = absurd (true≢false (sym e))
 any_node_true f (x ∷ xs) e = go (or_cases (looks_at f x) (any_node f xs) e) (any_node_true f xs)
   where
     go :
         (looks_at f x ≡ true) ⊎ (any_node f xs ≡ true)
         → (any_node f xs ≡ true
-        → (q : ℕ) × (look : Look) × (next : ℕ) × (node_or_fail (nth xs q) ≡ Assert look next) × (f look ≡ true))
-        → (q : ℕ) × (look : Look) × (next : ℕ) × (node_or_fail (nth (x ∷ xs) q) ≡ Assert look next) × (f look ≡ true)
+        → (q : ℕ) × (look : Look) × (next : ℕ) × (node_or_fail (slice_get xs q) ≡ Assert look next) × (f look ≡ true))
+        → (q : ℕ) × (look : Look) × (next : ℕ) × (node_or_fail (slice_get (x ∷ xs) q) ≡ Assert look next) × (f look ≡ true)
     go (inl h) ih = let w = looks_at_true f x h in (0, w.0, w.1, w.2, w.3)
     go (inr h) ih = let w = ih h in (suc w.0, w.1, w.2, w.3, w.4)
 
 pub any_node_from :
     (f : Look → Bool) (xs : List Node) (q : ℕ) (look : Look) (next : ℕ)
-    → node_or_fail (nth xs q) ≡ Assert look next → f look ≡ true → any_node f xs ≡ true
+    → node_or_fail (slice_get xs q) ≡ Assert look next → f look ≡ true → any_node f xs ≡ true
 any_node_from f [] q look next e t = absurd (apart e)
   where
     apart : Split [] ≡ Assert look next → ⊥
@@ -379,7 +382,7 @@ any_look_true f (x ∷ xs) e = go (f x) refl e (any_look_true f xs)
     go true h k again = (x, h)
     go false h k again = again k
 
-any_look_from : (f : Look → Bool) (looks : List Look) (k : ℕ) (look : Look) → nth looks k ≡ Some look → f look ≡ true → any_look f looks ≡ true
+any_look_from : (f : Look → Bool) (looks : List Look) (k : ℕ) (look : Look) → slice_get looks k ≡ Some look → f look ≡ true → any_look f looks ≡ true
 any_look_from f [] k look e h = cc
 any_look_from f (x ∷ xs) zero look e h =
     let same : x ≡ look = cc in ap (λ b. b || any_look f xs) (ap f same ∙ h)

@@ -5,7 +5,7 @@ use Rattle.automata_base.specs.Nfas.Nfa.{Nfa}
 use Rattle.automata_base.specs.Paths.Paths.{Tape}
 use Rattle.automata_base.specs.Powersets.Cuts.{MatchKind, All, LeftmostFirst}
 use Rattle.automata_base.specs.Paths.Selections.{Pair, Selects, IsOverlappingOn}
-use Rattle.automata_base.specs.Retraced.ComputedPass.{search_of, pairs_upto}
+use Rattle.automata_base.specs.Retraced.Passes.{search_of, pairs_upto}
 use Rattle.automata_base.proofs.Paths.Checks.{is_in_range, is_look_cycle_free, tape_fits}
 use Rattle.automata_base.proofs.Paths.Samples.{ab, aa, abc, bound, crlf, date, whole, answer}
 use Rattle.automata_base.proofs.Paths.Checked.{in_range, look_cycle_free, is_tape}

@@ -5,7 +5,7 @@ use Rattle.automata_base.specs.Nfas.Nfa.{Nfa, Node, Split, Assert, Read, Accept}
 use Rattle.automata_base.specs.Paths.Paths.{Tape}
 use Rattle.automata_base.specs.Powersets.Cuts.{All, LeftmostFirst}
 use Rattle.automata_base.specs.Paths.Selections.{Pair}
-use Rattle.automata_base.specs.Retraced.ComputedPass.{search_of, reported_of}
+use Rattle.automata_base.specs.Retraced.Passes.{search_of, reported_of}
 
 abbrev pub read : ℕ → ℕ → ℕ → Node
 read lo hi next = Read (record { lo = lo; hi = hi; next = next } ∷ [])

@@ -3,7 +3,8 @@ use Rattle.std.proofs.Common.{ℕ, zero, suc, ◌≡◌, ◌<◌, ◌≤◌, Boo
 use Rattle.std.proofs.Common.{None, inl, inr, sym, subst, arith, ⊎_elim, eq-or-lt_of_le, le_of_suc-le-suc}
 use Rattle.std.proofs.lemmas.Bool.{cases_lt}
 use Rattle.automata_base.specs.Paths.Order.{Before, Upto}
-use Rattle.automata_base.specs.Lists.{In, nth}
+use Rattle.automata_base.specs.Lists.{In}
+use Rattle.std.specs.Prelude.{slice_get}
 use Rattle.automata_base.specs.Nfas.Nfa.{Nfa}
 use Rattle.automata_base.specs.Paths.Paths.{Tape, IsPathFrom, IsLookAcyclic}
 use Rattle.automata_base.specs.Powersets.Cuts.{MatchKind, All, LeftmostFirst}
@@ -29,7 +30,7 @@ walk_right kind n t start pairs free tape_of p =
     pairs_map (Reports kind n t start) (ArePatternsAt kind n t start) (suc (length t.bytes)) pairs
     (λ i patterns l. pass_reports kind n t start i patterns free tape_of (le_of_suc-le-suc l)) p
 
-pub nth_inside : (xs : List ℕ) (i u : ℕ) → nth xs i ≡ Some u → i < length xs
+pub nth_inside : (xs : List ℕ) (i u : ℕ) → slice_get xs i ≡ Some u → i < length xs
 nth_inside [] i u e = absurd (none_some e)
 nth_inside (x ∷ xs) zero u e = omega arith
 nth_inside (x ∷ xs) (suc i) u e = let k = nth_inside xs i u e in omega (arith, k)

@@ -2,7 +2,8 @@
 use Rattle.std.proofs.Common.{ℕ, zero, suc, ◌≡◌, ◌<◌, ◌≤◌, true, false, List, [], ◌∷◌, ◌++◌, ◌⊎◌, ◌↔◌, length, Option}
 use Rattle.std.proofs.Common.{Some, None, inl, inr, refl, sym, ap, ◌∙◌, subst, arith, ⊎_elim, eq-or-lt_of_le}
 use Rattle.std.proofs.Common.{le_of_suc-le-suc}
-use Rattle.automata_base.specs.Lists.{In, IsSet, nth, IsListOf, cons_some, pick, From}
+use Rattle.automata_base.specs.Lists.{In, IsSet, IsListOf, cons_some, pick, From}
+use Rattle.std.specs.Prelude.{slice_get}
 use Rattle.automata_base.specs.Haystacks.Looks.{Look}
 use Rattle.automata_base.specs.Nfas.Nfa.{Nfa, Truth, node, hop, takes, accepts, keep, ends, stays_at, ends_at}
 use Rattle.automata_base.specs.Paths.Paths.{IsPathAt, Tape, IsPath, truth, prev, next, IsClosure}
@@ -103,7 +104,7 @@ decides_set n K patterns roots C prev u Q L unit known c make (inl h) = (from_li
         let v = walk_then n T [] k.0 p x q (walk_more n K T [] k.0 p x more k.2) w in
         (i ∷ v.0, (k.0, k.1, v.1))
 
-    inside : (xs : List ℕ) (k r : ℕ) → nth xs k ≡ Some r → In r xs
+    inside : (xs : List ℕ) (k r : ℕ) → slice_get xs k ≡ Some r → In r xs
     inside [] k r e = none_some e
     inside (x ∷ xs) zero r e = inl (sym (some_inj e))
     inside (x ∷ xs) (suc k) r e = inr (inside xs k r e)
@@ -139,19 +140,19 @@ IsMet n t start i q = (path : List ℕ) × IsPath n t start i q path
 abbrev pub EndsMet : Nfa → Tape → ℕ → ℕ → ℕ → Type 0
 EndsMet n t start i q = (ends n q ≡ Some q) × IsMet n t start i q
 
-pub nth_in : (xs : List ℕ) (k r : ℕ) → nth xs k ≡ Some r → In r xs
+pub nth_in : (xs : List ℕ) (k r : ℕ) → slice_get xs k ≡ Some r → In r xs
 nth_in [] k r e = none_some e
 nth_in (x ∷ xs) zero r e = inl (sym (some_inj e))
 nth_in (x ∷ xs) (suc k) r e = inr (nth_in xs k r e)
 
-pub in_nth : (xs : List ℕ) (r : ℕ) → In r xs → (k : ℕ) × (nth xs k ≡ Some r)
+pub in_nth : (xs : List ℕ) (r : ℕ) → In r xs → (k : ℕ) × (slice_get xs k ≡ Some r)
 in_nth [] r i = absurd i
 in_nth (x ∷ xs) r (inl e) = (0, ap Some (sym e))
 in_nth (x ∷ xs) r (inr i) = let w = in_nth xs r i in (suc w.0, w.1)
 
 pub step_set :
     (n : Nfa) (t : Tape) (start i u : ℕ) (N : List ℕ)
-    → nth t.bytes i ≡ Some u → IsSet (EndsMet n t start i) N
+    → slice_get t.bytes i ≡ Some u → IsSet (EndsMet n t start i) N
     → (q : ℕ) → Reached n (truth n t (suc i)) (pick (λ b. takes n b u) N) q ↔ IsMet n t start (suc i) q
 step_set n t start i u N byte s q = (λ r. there r.0 r.1, λ m. back m.0 m.1)
   where
@@ -234,7 +235,7 @@ means_set_succ kind n t start i P Q tape_of inside quiet m s = go (next_byte t.b
     N : IsSet (EndsMet n t start i) (pick (ends n) s.0)
     N = decided_set n t start i P s.0 tape_of m s.2
 
-    go : (u : ℕ) × (nth t.bytes i ≡ Some u) × (next t i ≡ Some u) → MeansSet n t start (suc i) Q
+    go : (u : ℕ) × (slice_get t.bytes i ≡ Some u) × (next t i ≡ Some u) → MeansSet n t start (suc i) Q
     go b = (s.1, pick (λ v. takes n v b.0) (cut_for kind n s.0), arrival, λ q. subst (Goal q) (sym e) (step_set n t start i b.0 (pick (ends n) s.0) b.1 N q))
       where
         Goal : ℕ → List ℕ → Type 0
@@ -243,7 +244,7 @@ means_set_succ kind n t start i P Q tape_of inside quiet m s = go (next_byte t.b
         e : pick (λ v. takes n v b.0) (cut_for kind n s.0) ≡ pick (λ v. takes n v b.0) (pick (ends n) s.0)
         e = quiet_targets kind n t start i b.0 s.0 quiet N
 
-        arrival : IsClosureOf n s.1 (pick (λ v. takes n v b.0) (cut_for kind n s.0)) (nth t.bytes i) Q
+        arrival : IsClosureOf n s.1 (pick (λ v. takes n v b.0) (cut_for kind n s.0)) (slice_get t.bytes i) Q
         arrival =
             subst (λ v. IsClosureOf n s.1 (pick (λ v. takes n v b.0) (cut_for kind n s.0)) v Q) (sym b.1)
             (subst (λ v. IsClosureOf n s.1 (targets n v (cut_for kind n s.0)) v Q) b.2 s.4)

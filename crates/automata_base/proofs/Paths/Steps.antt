@@ -2,7 +2,8 @@
 use Rattle.std.proofs.Common.{ℕ, suc, ◌≡◌, ◌<◌, ◌≤◌, cond, List, [], ◌∷◌, ◌++◌, ◌⊎◌, Option, Some, None, inl, inr, refl}
 use Rattle.std.proofs.Common.{sym, ap, ◌∙◌, subst, arith}
 use Rattle.automata_base.specs.Paths.Order.{Before, Begins}
-use Rattle.automata_base.specs.Lists.{nth, IsListOf, pick, From}
+use Rattle.automata_base.specs.Lists.{IsListOf, pick, From}
+use Rattle.std.specs.Prelude.{slice_get}
 use Rattle.automata_base.specs.Nfas.Nfa.{Nfa, Node, Split, Assert, Read, Accept, node, takes, takes_at, accepts, ends}
 use Rattle.automata_base.specs.Nfas.Nfa.{ends_at}
 use Rattle.automata_base.specs.Paths.Paths.{IsPathAt, Tape, IsPathFrom, IsPath, Moves, truth}
@@ -57,7 +58,7 @@ within_less (Some a) p z zs w = before_trans p (p ++ (z ∷ zs)) a (before_begin
 -- One byte on.
 pub step :
     (n : Nfa) (t : Tape) (start i u : ℕ) (best : Option (List ℕ)) (N xs : List ℕ)
-    → nth t.bytes i ≡ Some u → IsPast n t start best i
+    → slice_get t.bytes i ≡ Some u → IsPast n t start best i
     → IsListOf (EndsWithin n t start best i) N
     → IsListOf (Ending n (From (λ root path q. IsPathAt n (truth n t (suc i)) [] root path q) (pick (λ b. takes n b u) N))) xs
     → IsListOf (EndsWithin n t start best (suc i)) xs

@@ -5,7 +5,7 @@ use Rattle.automata_base.specs.Paths.Order.{Upto}
 use Rattle.automata_base.specs.Lists.{pick, From}
 use Rattle.automata_base.specs.Haystacks.Looks.{Look}
 use Rattle.automata_base.specs.Nfas.Nfa.{Nfa, accepts}
-use Rattle.automata_base.specs.Paths.Paths.{IsPathAt, Tape, next}
+use Rattle.automata_base.specs.Paths.Paths.{IsPathAt, Tape}
 use Rattle.automata_base.specs.Powersets.Cuts.{MatchKind, All, LeftmostFirst, cut_for, IsOnce, targets}
 use Rattle.automata_base.specs.Powersets.Passes.{IsMake, IsNeeded, IsClosureOf, IsDecided, true_looks, IsSuccessor}
 use Rattle.automata_base.specs.Powersets.Powerset.{Powerset}

@@ -1,7 +1,8 @@
 -- Paths at one place.
 use Rattle.std.proofs.Common.{ℕ, zero, suc, ◌≡◌, Bool, true, false, cond, List, [], ◌∷◌, ◌++◌, ◌⊎◌, Option, Some, None}
 use Rattle.std.proofs.Common.{inl, inr, refl, sym, subst, ⊎_elim}
-use Rattle.automata_base.specs.Lists.{In, nth}
+use Rattle.automata_base.specs.Lists.{In}
+use Rattle.std.specs.Prelude.{slice_get}
 use Rattle.automata_base.specs.Nfas.Nfa.{Nfa, Node, Split, Assert, Read, Accept, Truth, node, hop, hop_at}
 use Rattle.automata_base.specs.Paths.Paths.{IsPathAt, all_true, Run, HasEpsilonPath, LeadsOn}
 use Rattle.automata_base.proofs.Paths.Orders.{none_some}
@@ -20,7 +21,7 @@ in_either x (z ∷ xs) ys (inr h) = ⊎_elim (λ (k : In x xs). inl (inr k)) (λ
 
 -- The edge that a union or a capture has whatever the looks.
 abbrev pub fork_at : Node → ℕ → Option ℕ
-fork_at (Split alternates) e = nth alternates e
+fork_at (Split alternates) e = slice_get alternates e
 fork_at (Assert look next) e = None
 fork_at (Read ranges) e = None
 fork_at (Accept p) e = None

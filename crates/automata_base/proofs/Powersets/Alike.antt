@@ -4,8 +4,8 @@ use Rattle.std.proofs.Common.{length, Option, Some, None, refl, sym, ap, ◌∙�
 use Rattle.std.proofs.lemmas.Bool.{eqb-true}
 use Rattle.automata_base.specs.declared.util.search.Anchored.{Anchored}
 use Rattle.automata_base.specs.ByteClasses.LookBehind.{behind_of}
-use Rattle.automata_base.specs.Retraced.ComputedPass.{first_visits, closure_of, once_past, known_looks, make, arrive}
-use Rattle.automata_base.specs.Retraced.ComputedPass.{any_look, decide}
+use Rattle.automata_base.specs.Retraced.Computed.{first_visits, closure_of, once_past, known_looks, make, arrive}
+use Rattle.automata_base.specs.Retraced.Computed.{any_look, decide}
 use Rattle.automata_base.specs.Powersets.Cuts.{MatchKind, All, LeftmostFirst, cut_for, targets}
 use Rattle.automata_base.specs.Lists.{pick}
 use Rattle.automata_base.specs.Haystacks.Looks.{Look, is_word_byte}
@@ -13,8 +13,8 @@ use Rattle.automata_base.specs.Nfas.Nfa.{Nfa, Truth, accepts}
 use Rattle.automata_base.specs.Nfas.Nodes.{Automaton, nfa_of}
 use Rattle.automata_base.specs.Powersets.Passes.{true_looks}
 use Rattle.automata_base.specs.Powersets.Powerset.{Powerset, dead}
-use Rattle.automata_base.specs.Paths.Starts.{mode_start}
-use Rattle.automata_base.specs.Retraced.Steps.{start_or_dead, start_state_of, successor, NeedsOwnLooks}
+use Rattle.automata_base.specs.Paths.Starts.{mode_start, NeedsOwnLooks}
+use Rattle.automata_base.specs.Retraced.Steps.{start_or_dead, start_state_of, successor}
 use Rattle.automata_base.specs.Haystacks.LookSets.{truth_of, all_looks}
 use Rattle.automata_base.proofs.Powersets.AlikeUnits.{SeesAlike, arrive_alike, decide_alike}
 use Rattle.automata_base.proofs.Paths.LookSets.{truth_of_none}

@@ -10,16 +10,16 @@ use Rattle.automata_base.specs.ByteClasses.Classes.{is_quit, bounds, transitions
 use Rattle.automata_base.specs.ByteClasses.Classes.{look_bounds, state_bounds, states_bound, is_boundary}
 use Rattle.automata_base.specs.ByteClasses.Classes.{boundary_count, class_of}
 use Rattle.automata_base.specs.Haystacks.Looks.{differ}
-use Rattle.automata_base.specs.Retraced.ComputedPass.{any_node, looks_at}
-use Rattle.automata_base.specs.Lists.{nth}
+use Rattle.std.specs.Prelude.{slice_get}
 use Rattle.automata_base.specs.Powersets.Cuts.{MatchKind}
 use Rattle.automata_base.specs.Haystacks.Looks.{Look, Start, End, StartLF, EndLF, StartCRLF, EndCRLF, within}
 use Rattle.automata_base.specs.Haystacks.Looks.{is_word_byte}
-use Rattle.automata_base.specs.Nfas.Nfa.{takes, takes_at, takes_in, node_or_fail}
+use Rattle.automata_base.specs.Nfas.Nfa.{takes, takes_at, takes_in, node_or_fail, any_node, looks_at}
 use Rattle.automata_base.specs.Nfas.Nodes.{Automaton, nfa_of, node_of, nodes_of, ranges_of, dense_from}
 use Rattle.automata_base.specs.Powersets.Passes.{is_word_look, is_crlf_look}
 use Rattle.automata_base.specs.Powersets.Powerset.{Powerset}
-use Rattle.automata_base.specs.Retraced.Steps.{successor, NeedsOwnLooks}
+use Rattle.automata_base.specs.Retraced.Steps.{successor}
+use Rattle.automata_base.specs.Paths.Starts.{NeedsOwnLooks}
 use Rattle.automata_base.proofs.Powersets.Alike.{alike_step}
 use Rattle.automata_base.proofs.ByteClasses.Boundaries.{count_none, count_grows}
 use Rattle.automata_base.proofs.Powersets.AlikeBytes.{is_line_look, IsAlike}
@@ -129,7 +129,7 @@ state_next t (is.Match pattern) b h = refl
 
 takes_next :
     (t : ℕ) (states : List State) (q b : ℕ) → states_bound t states (suc b) ≡ false
-    → takes_at (node_or_fail (nth (nodes_of states) q)) b ≡ takes_at (node_or_fail (nth (nodes_of states) q)) (suc b)
+    → takes_at (node_or_fail (slice_get (nodes_of states) q)) b ≡ takes_at (node_or_fail (slice_get (nodes_of states) q)) (suc b)
 takes_next t [] q b h = refl
 takes_next t (s ∷ ss) zero b h = state_next t s b (or_parts (state_bounds t s (suc b)) (states_bound t ss (suc b)) h).0
 takes_next t (s ∷ ss) (suc q) b h = takes_next t ss q b (or_parts (state_bounds t s (suc b)) (states_bound t ss (suc b)) h).1

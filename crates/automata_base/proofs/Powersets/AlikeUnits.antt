@@ -1,15 +1,15 @@
 -- Units in which an NFA's looks see the same make the same of a list of states.
 use Rattle.std.proofs.Common.{ℕ, zero, suc, ◌≡◌, Bool, true, false, not, ◌&&◌, ◌||◌, cond, eqb, List, [], ◌∷◌, ◌++◌}
 use Rattle.std.proofs.Common.{length, Option, refl, ap, ap₂, ◌∙◌}
-use Rattle.automata_base.specs.Retraced.ComputedPass.{is_in, visits_with, first_visits, closure_of, any_node, any_state}
-use Rattle.automata_base.specs.Retraced.ComputedPass.{always, known_looks, is_full, arrive, any_look, decide}
+use Rattle.automata_base.specs.Retraced.Computed.{is_in, visits_with, first_visits, closure_of, any_state}
+use Rattle.automata_base.specs.Retraced.Computed.{always, known_looks, is_full, arrive, any_look, decide}
 use Rattle.automata_base.specs.Lists.{pick}
 use Rattle.automata_base.specs.Haystacks.Looks.{Look, Start, End, StartLF, EndLF, StartCRLF, EndCRLF, WordAscii}
 use Rattle.automata_base.specs.Haystacks.Looks.{WordAsciiNegate, WordUnicode, WordUnicodeNegate, WordStartAscii}
 use Rattle.automata_base.specs.Haystacks.Looks.{WordEndAscii, WordStartUnicode, WordEndUnicode, WordStartHalfAscii}
 use Rattle.automata_base.specs.Haystacks.Looks.{WordEndHalfAscii, WordStartHalfUnicode, WordEndHalfUnicode, is_absent}
 use Rattle.automata_base.specs.Haystacks.Looks.{is_byte, is_word, differ, first_half, second_half, look_index}
-use Rattle.automata_base.specs.Nfas.Nfa.{Nfa, Node, Split, Assert, Read, Accept, Truth, node, keep}
+use Rattle.automata_base.specs.Nfas.Nfa.{Nfa, Node, Split, Assert, Read, Accept, Truth, node, keep, any_node}
 use Rattle.automata_base.specs.Powersets.Passes.{Occurs, is_word_look, is_crlf_look, decided, true_looks}
 use Rattle.automata_base.specs.Powersets.Powerset.{Powerset}
 use Rattle.automata_base.specs.Haystacks.LookSets.{truth_of, set_of, all_looks}

@@ -3,8 +3,7 @@ use Rattle.std.proofs.Common.{◌≡◌, ◌≢◌, ◌<◌, ◌≤◌, ◌+◌,
 use Rattle.std.proofs.Common.{sym, ap, ◌∙◌, subst, inl, inr, arith, Bool, true, false, cond, eqb}
 use Rattle.std.specs.Prelude.{Contains, AllPairs, ◌==◌}
 use Rattle.std.proofs.lemmas.Bool.{cases_eq, eq-eqb, ne_eqb, cases_Bool, both_ways, false_from_ne_true, cond_both}
-use Rattle.automata_base.specs.Lists.{In}
-use Rattle.automata_base.specs.Retraced.Once.{Distinct}
+use Rattle.automata_base.specs.Lists.{In, Distinct}
 use Rattle.automata_base.proofs.Paths.Walks.{in_either}
 
 abbrev pub Within : List ℕ → List ℕ → Type 0

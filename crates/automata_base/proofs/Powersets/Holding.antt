@@ -1,13 +1,12 @@
 -- What a sparse set holds, over its two lists.
 use Rattle.std.proofs.Common.{◌≡◌, ◌<◌, ◌≤◌, ◌+◌, ◌⊎◌, ℕ, List, [], ◌∷◌, ◌++◌, length, get_or, set, take, sym, ap, ◌∙◌}
 use Rattle.std.proofs.Common.{subst, inl, inr, arith, length-append}
-use Rattle.std.specs.Prelude.{Contains, AllPairs, ◌≢◌}
+use Rattle.std.specs.Prelude.{AllPairs, ◌≢◌}
 use Rattle.std.proofs.lemmas.Bool.{cases_eq}
 use Rattle.std.proofs.lemmas.List.{get_or-take, length-take-le, get_or_default, length-set, get_or-set_same}
 use Rattle.std.proofs.lemmas.List.{get_or-set_other}
-use Rattle.automata_base.specs.Lists.{In}
-use Rattle.automata_base.specs.Retraced.Once.{Distinct}
-use Rattle.automata_base.proofs.Powersets.Distinct.{Contains-In, pairs_distinct, distinct_append}
+use Rattle.automata_base.specs.Lists.{In, Distinct}
+use Rattle.automata_base.proofs.Powersets.Distinct.{Contains-In, In-Contains, pairs_distinct, distinct_append}
 use Rattle.automata_base.proofs.Powersets.Distinct.{distinct_below}
 use Rattle.automata_base.proofs.Paths.Walks.{in_either}
 
@@ -26,7 +25,7 @@ module _ (dense sparse : List ℕ) (len : ℕ) (within : len ≤ length dense)
       let at : i ≡ j = sym (back i li) ∙ (ap (λ z. get_or sparse z 0) same ∙ back j lj) in
       omega arith
 
-  members_distinct : Distinct (take len dense)
+  pub members_distinct : Distinct (take len dense)
   members_distinct = pairs_distinct (take len dense) apart
 
   pub members_below : (x : ℕ) → In x (take len dense) → x < length dense
@@ -39,7 +38,7 @@ module _ (dense sparse : List ℕ) (len : ℕ) (within : len ≤ length dense)
       omega arith
 
   -- a number that is below the capacity and not a member leaves room for it
-  pub has_room : (id : ℕ) → id < length dense → (Contains (take len dense) id → ⊥) → len < length dense
+  pub has_room : (id : ℕ) → id < length dense → (In id (take len dense) → ⊥) → len < length dense
   has_room id l new =
       let most : length (take len dense ++ id ∷ []) ≤ length dense = distinct_below (length dense) (take len dense ++ id ∷ []) all (λ x i. small x i) in
       let parts : length (take len dense ++ id ∷ []) ≡ length (take len dense) + 1 = length-append (take len dense) (id ∷ []) in
@@ -47,10 +46,7 @@ module _ (dense sparse : List ℕ) (len : ℕ) (within : len ≤ length dense)
       omega arith
     where
       only : (x : ℕ) → In x (take len dense) → In x (id ∷ []) → ⊥
-      only x i (inl e) = new (In-to (subst (λ z. In z (take len dense)) e i))
-        where
-          In-to : In id (take len dense) → Contains (take len dense) id
-          In-to = Contains-In id (take len dense)
+      only x i (inl e) = new (subst (λ z. In z (take len dense)) e i)
       only x i (inr j) = j
 
       all : Distinct (take len dense ++ id ∷ [])
@@ -79,7 +75,7 @@ module _ (dense sparse : List ℕ) (len : ℕ) (within : len ≤ length dense)
           let b : get_or dense k 0 < length dense = below k lk in
           omega arith
 
-  pub back_set : (id k : ℕ) → id < length sparse → len < length dense → (Contains (take len dense) id → ⊥) → k < len + 1 →
+  pub back_set : (id k : ℕ) → id < length sparse → len < length dense → (In id (take len dense) → ⊥) → k < len + 1 →
       get_or (set sparse id len) (get_or (set dense len id) k 0) 0 ≡ k
   back_set id k l room new m = go (cases_eq k len)
     where
@@ -89,6 +85,6 @@ module _ (dense sparse : List ℕ) (len : ℕ) (within : len ≤ length dense)
           ∙ (get_or-set_same sparse id len 0 l ∙ sym e)
       go (inr ne) =
           let lk : k < len = omega arith in
-          let other : get_or dense k 0 ≡ id → ⊥ = λ e. new (k, (let n : length (take len dense) ≡ len = length-take-le len dense within in let h : k < length (take len dense) = omega arith in h), taken k id lk ∙ e) in
+          let other : get_or dense k 0 ≡ id → ⊥ = λ e. new (In-Contains id (take len dense) (k, (let n : length (take len dense) ≡ len = length-take-le len dense within in let h : k < length (take len dense) = omega arith in h), taken k id lk ∙ e)) in
           ap (λ z. get_or (set sparse id len) z 0) (get_or-set_other dense len k id 0 ne)
           ∙ (get_or-set_other sparse id (get_or dense k 0) len 0 other ∙ back k lk)

@@ -3,15 +3,15 @@ use Rattle.std.proofs.Common.{ℕ, ◌≡◌, ◌<◌, ◌≤◌, ◌+◌, ◌||
 use Rattle.std.proofs.Common.{length, get_or, take, drop, Option, Some, None, refl, sym, ap, ◌∙◌, subst, arith}
 use Rattle.std.proofs.Common.{append_assoc, append-nil, length-append}
 use Rattle.std.proofs.lemmas.List.{at_drop_more, take_more, drop_all, take_all}
-use Rattle.automata_base.specs.Lists.{In, pick, cons_some}
+use Rattle.automata_base.specs.Lists.{In, pick, cons_some, Distinct}
 use Rattle.automata_base.specs.Haystacks.Looks.{Look}
 use Rattle.automata_base.specs.Nfas.Nfa.{Nfa, Node, Split, Assert, Read, Accept, node, keep, stays_at, accepts}
-use Rattle.automata_base.specs.Nfas.Nfa.{accepts_at, takes, takes_at}
-use Rattle.automata_base.specs.Retraced.ComputedPass.{looks_at, any_state, is_in}
+use Rattle.automata_base.specs.Nfas.Nfa.{accepts_at, takes, takes_at, looks_at}
+use Rattle.automata_base.specs.Retraced.Computed.{any_state, is_in}
 use Rattle.automata_base.specs.Powersets.Cuts.{cut, cut_after, targets}
 use Rattle.automata_base.proofs.Powersets.Distinct.{In-get_or, distinct_append, distinct_below}
-use Rattle.automata_base.specs.Retraced.Once.{once_from, Distinct}
-use Rattle.automata_base.specs.Retraced.ComputedPass.{once_past}
+use Rattle.automata_base.specs.Retraced.Once.{once_from}
+use Rattle.automata_base.specs.Retraced.Computed.{once_past}
 use Rattle.automata_base.specs.Powersets.Cuts.{IsOnce}
 use Rattle.automata_base.proofs.Paths.Machines.{once_right}
 use Rattle.automata_base.specs.Powersets.Results.{AreMatched}

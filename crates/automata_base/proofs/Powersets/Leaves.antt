@@ -2,7 +2,6 @@
 use Rattle.std.proofs.Common.{◌≡◌, ◌<◌, ◌≤◌, ◌+◌, ◌⊎◌, Bool, true, false, cond, ℕ, zero, suc, List, [], ◌∷◌, ◌++◌, length}
 use Rattle.std.proofs.Common.{refl, sym, ap, ◌∙◌, subst, inl, inr, arith, length-append, drop, length-drop, append_assoc, get_or, reverse}
 use Rattle.std.proofs.lemmas.List.{reverse-append, reverse-reverse}
-use Rattle.std.specs.Prelude.{Contains}
 use Rattle.std.proofs.lemmas.Bool.{cases_Bool, cond_both}
 use Rattle.automata_base.specs.declared.nfa.thompson.State.{State}
 use Rattle.automata_base.specs.Lists.{In}
@@ -13,7 +12,6 @@ use Rattle.automata_base.specs.Haystacks.LookSets.{truth_of}
 use Rattle.automata_base.specs.Powersets.Closure.{children, children_at, IsUnderWay}
 use Rattle.automata_base.specs.Retraced.Expanding.{IsExpanded, Extends}
 use Rattle.automata_base.proofs.Paths.Loops.{under_way_skip, under_way_visit}
-use Rattle.automata_base.proofs.Powersets.Distinct.{In-Contains, Contains-In}
 use Rattle.automata_base.proofs.Paths.FirstVisits.{in_right}
 use Rattle.automata_base.proofs.Paths.Walks.{in_either, in_left}
 use Rattle.automata_base.proofs.Powersets.Distinct.{among, among-In, In-among, unvisited}
@@ -22,15 +20,15 @@ use Rattle.automata_base.proofs.Powersets.Walking.{Walking, work, extra_at, new_
 
 -- a leaf on top is visited, or was
 pub leaf_on : (n : Nfa) (A : Truth) (roots rest order after : List ℕ) (q : ℕ) (added : Bool) → children n A q ≡ []
-    → (added ≡ true → Contains order q → ⊥) → (added ≡ true → after ≡ order ++ q ∷ [])
-    → (added ≡ false → Contains order q) → (added ≡ false → after ≡ order)
+    → (added ≡ true → In q order → ⊥) → (added ≡ true → after ≡ order ++ q ∷ [])
+    → (added ≡ false → In q order) → (added ≡ false → after ≡ order)
     → IsUnderWay n A roots (q ∷ rest) order → IsUnderWay n A roots rest after
 leaf_on n A roots rest order after q true leaf new grown had same u =
     subst (IsUnderWay n A roots rest) (sym (grown refl))
     (subst (λ s. IsUnderWay n A roots (s ++ rest) (order ++ q ∷ [])) leaf
-    (under_way_visit n A roots q rest order (λ i. new refl (Contains-In q order i)) u))
+    (under_way_visit n A roots q rest order (new refl) u))
 leaf_on n A roots rest order after q false leaf new grown had same u =
-    subst (IsUnderWay n A roots rest) (sym (same refl)) (under_way_skip n A roots q rest order (In-Contains q order (had refl)) u)
+    subst (IsUnderWay n A roots rest) (sym (same refl)) (under_way_skip n A roots q rest order (had refl) u)
 
 pub extends_on : (first order after : List ℕ) (q : ℕ) (added : Bool)
     → (added ≡ true → after ≡ order ++ q ∷ []) → (added ≡ false → after ≡ order) → Extends first order → Extends first after
@@ -93,7 +91,7 @@ waiting_on a looks old start order after was waiting kids x w =
     back q (inr i) = in_right q kids was i
 
 pub expanded_step : (a : Automaton) (looks : ℕ) (old : List ℕ) (start : ℕ) (order seen after stack waiting : List ℕ) (q : ℕ) (state : State)
-    → IsChecked a → state ≡ get_or a.states q state → (Contains order q → ⊥) → seen ≡ order ++ q ∷ []
+    → IsChecked a → state ≡ get_or a.states q state → (In q order → ⊥) → seen ≡ order ++ q ∷ []
     → IsExpanded (nfa_of a) (truth_of looks) (children_at (node_of state) (truth_of looks)) seen after stack waiting
     → Walking a looks old start order (q ∷ stack)
     → Walking a looks old start after waiting × (work a after waiting < work a order (q ∷ stack))
@@ -105,7 +103,7 @@ expanded_step a looks old start order seen after stack waiting q state checked i
 
 -- the children of a new state are states
 pub children_below : (a : Automaton) (looks : ℕ) (old : List ℕ) (start : ℕ) (order seen stack : List ℕ) (q : ℕ) (state : State)
-    → IsChecked a → state ≡ get_or a.states q state → (Contains order q → ⊥) → seen ≡ order ++ q ∷ []
+    → IsChecked a → state ≡ get_or a.states q state → (In q order → ⊥) → seen ≡ order ++ q ∷ []
     → Walking a looks old start order (q ∷ stack)
     → (p : ℕ) → In p (children_at (node_of state) (truth_of looks)) → p < length a.states
 children_below a looks old start order seen stack q state checked is new grown w p i =

@@ -4,12 +4,11 @@ use Rattle.std.proofs.Common.{length, get_or, drop, Option, Some, None, refl, sy
 use Rattle.std.proofs.lemmas.List.{at_drop_more, drop_all, take_all}
 use Rattle.std.proofs.lemmas.List.Sums.{sum_by_more}
 use Rattle.std.proofs.Common.{leb, take, ◌-◌}
-use Rattle.std.specs.Prelude.{sum_by}
+use Rattle.std.specs.Prelude.{sum_by, slice_get}
 use Rattle.std.proofs.lemmas.Bool.{ltb-true}
 use Rattle.automata_base.specs.Haystacks.Looks.{Look}
-use Rattle.automata_base.specs.Nfas.Nfa.{node_or_fail, accepts_at}
-use Rattle.automata_base.specs.Lists.{nth, all_below}
-use Rattle.automata_base.specs.Retraced.ComputedPass.{looks_at, any_node}
+use Rattle.automata_base.specs.Nfas.Nfa.{node_or_fail, accepts_at, looks_at, any_node}
+use Rattle.automata_base.specs.Lists.{all_below}
 use Rattle.automata_base.proofs.Paths.Checks.{node_below, nodes_below, ranges_below}
 use Rattle.automata_base.specs.declared.nfa.thompson.State.{State}
 use Rattle.automata_base.specs.declared.nfa.thompson.State.TheVariants.{ByteRange, Sparse, Dense, Look as LookState}
@@ -18,7 +17,7 @@ use Rattle.automata_base.specs.declared.nfa.thompson.Transition.{Transition}
 use Rattle.automata_base.specs.Nfas.Nodes.{node_of, nodes_of, ranges_of, dense_from, extra_of, stack_room}
 use Rattle.automata_base.specs.Nfas.Nodes.{Automaton, nfa_of}
 use Rattle.std.specs.Prelude.{All}
-use Rattle.automata_base.specs.Retraced.ComputedPass.{IsInRange}
+use Rattle.automata_base.specs.Nfas.Accepted.{IsInRange}
 use Rattle.automata_base.proofs.Paths.Checked.{in_range, below_in}
 use Rattle.automata_base.proofs.Powersets.Walking.{nodes_length}
 use Rattle.automata_base.proofs.Powersets.Distinct.{In-get_or}
@@ -106,7 +105,7 @@ match_fits P (Capture next pattern index slot) p h e = absurd (none_apart p e)
 match_fits P Fail p h e = absurd (none_apart p e)
 match_fits P (Match pattern) p h e = subst (λ z. z < P) (some_same pattern p e) (ltb-true pattern P h)
 
-pub patterns_fit : (P : ℕ) (xs : List State) (q p : ℕ) → matches_below P xs ≡ true → accepts_at (node_or_fail (nth (nodes_of xs) q)) ≡ Some p → p < P
+pub patterns_fit : (P : ℕ) (xs : List State) (q p : ℕ) → matches_below P xs ≡ true → accepts_at (node_or_fail (slice_get (nodes_of xs) q)) ≡ Some p → p < P
 patterns_fit P [] q p h e = absurd (none_apart p e)
 patterns_fit P (x ∷ xs) zero p h e = match_fits P x p (and_parts (match_below P x) (matches_below P xs) h).0 e
 patterns_fit P (x ∷ xs) (suc q) p h e = patterns_fit P xs q p (and_parts (match_below P x) (matches_below P xs) h).1 e

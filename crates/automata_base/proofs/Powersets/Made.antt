@@ -3,7 +3,7 @@ use Rattle.std.proofs.Common.{ℕ, ◌≡◌, ◌<◌, ◌≤◌, List, [], ◌�
 use Rattle.std.proofs.Common.{ap, ◌∙◌, subst, arith}
 use Rattle.automata_base.specs.declared.util.search.Anchored.{Anchored}
 use Rattle.automata_base.specs.Powersets.Accounting.{max_cost}
-use Rattle.automata_base.specs.Retraced.ComputedPass.{known_looks}
+use Rattle.automata_base.specs.Retraced.Computed.{known_looks}
 use Rattle.automata_base.specs.Powersets.Cuts.{MatchKind, cut_for, targets}
 use Rattle.automata_base.specs.Nfas.Accepted.{IsChecked}
 use Rattle.automata_base.specs.Haystacks.Looks.{Look}

@@ -3,8 +3,8 @@ use Rattle.std.proofs.Common.{ℕ, ◌≡◌, ◌&&◌, Bool, true, false, eqb, 
 use Rattle.std.proofs.lemmas.Bool.{eq-eqb}
 use Rattle.automata_base.specs.Haystacks.Looks as l
 use Rattle.automata_base.specs.Lists.{pick}
-use Rattle.automata_base.specs.Nfas.Nfa.{Nfa, keep}
-use Rattle.automata_base.specs.Retraced.ComputedPass.{any_node, any_state, known_looks, is_full, make}
+use Rattle.automata_base.specs.Nfas.Nfa.{Nfa, keep, any_node}
+use Rattle.automata_base.specs.Retraced.Computed.{any_state, known_looks, is_full, make}
 use Rattle.automata_base.specs.Haystacks.Looks.{look_index}
 use Rattle.automata_base.specs.Powersets.Passes.{is_word_look, is_crlf_look, IsMake}
 use Rattle.automata_base.proofs.Paths.Machines.{any_node_true, any_node_from, any_state_true, any_state_from, code_one}

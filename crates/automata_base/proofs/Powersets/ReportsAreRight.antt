@@ -3,12 +3,11 @@ use Rattle.std.proofs.Common.{ℕ, zero, suc, ◌≡◌, ◌<◌, ◌≤◌, Boo
 use Rattle.std.proofs.Common.{refl, sym, ap, ◌∙◌, subst, arith}
 use Rattle.std.specs.Prelude.{slice_get, All}
 use Rattle.automata_base.specs.Answers.Answers.{Half, SelectsFrom, SelectsOver, later, Answers, IsInput}
-use Rattle.automata_base.specs.Retraced.ComputedPass.{IsInRange, pair_at, earlier_or}
+use Rattle.automata_base.specs.Retraced.Passes.{pair_at, earlier_or}
 use Rattle.automata_base.specs.Powersets.Cuts.{MatchKind, All as KindAll}
-use Rattle.automata_base.specs.Nfas.Accepted.{IsChecked}
+use Rattle.automata_base.specs.Nfas.Accepted.{IsChecked, IsInRange}
 use Rattle.automata_base.specs.Nfas.Engines.{Anchored, No, Yes, Pattern, IsSkipping, engine_of, first_state}
 use Rattle.automata_base.specs.Haystacks.Input.{Input}
-use Rattle.automata_base.specs.Lists.{nth}
 use Rattle.automata_base.specs.Nfas.Nodes.{Automaton, nfa_of, nodes_of}
 use Rattle.automata_base.specs.Paths.Paths.{Tape, next, IsLookAcyclic}
 use Rattle.automata_base.specs.Powersets.Passes.{IsTape}
@@ -65,15 +64,10 @@ none_reported :
 none_reported kind true a mode t e = none_first a kind mode t (suc (length t.bytes)) e
 none_reported kind false a mode t e = none_last a kind mode t (suc (length t.bytes)) e
 
-get_nth : (xs : List ℕ) (k : ℕ) → nth xs k ≡ slice_get xs k
-get_nth [] k = refl
-get_nth (x ∷ xs) zero = refl
-get_nth (x ∷ xs) (suc k) = get_nth xs k
-
 pub first_is : (a : Automaton) (kind : MatchKind) (mode : Anchored) → first_state (engine_of a kind) mode ≡ mode_start a mode
 first_is a kind No = refl
 first_is a kind Yes = refl
-first_is a kind (Pattern p) = get_nth a.start_pattern p
+first_is a kind (Pattern p) = refl
 
 nodes_length : (states : List _) → length (nodes_of states) ≡ length states
 nodes_length [] = refl

@@ -5,17 +5,18 @@ use Rattle.automata_base.specs.declared.nfa.thompson.Data.{Data}
 use Rattle.automata_base.specs.Nfas.Nodes.{stack_room}
 use Rattle.automata_base.specs.Nfas.Accepted.{IsLooks}
 use Rattle.automata_base.specs.Nfas.Automata.{automaton_of, IsConsistent}
-use Rattle.automata_base.specs.Nfas.Reach.{AreLooksAcyclic, ReachesMatch, SkipsFrom}
+use Rattle.automata_base.specs.Retraced.Reach.{AreLooksAcyclic, ReachesMatch}
+use Rattle.automata_base.specs.Nfas.Getters.{SkipsLazily}
 use Rattle.automata_base.specs.Nfas.Errors.{states_refusal}
 use Rattle.automata_base.proofs.Powersets.ListTests.{checked_range, checked_starts, patterns_fit}
-use Rattle.automata_base.proofs.Nfas.Reach.Led.{acyclic_is, empty_is, lazily_is}
+use Rattle.automata_base.proofs.Nfas.Reach.Led.{acyclic_is, empty_is}
 use Rattle.automata_base.proofs.Nfas.Reach.Refused.{passing, room_small}
 
 pub sound :
     (d : Data) → states_refusal d.states.items d.start_anchored d.start_unanchored d.start_pattern.items ≡ None
     → IsLooks (automaton_of d) d.looks → d.room ≡ stack_room d.states.items
     → IsTrue d.has_empty ↔ ReachesMatch d.states.items d.start_pattern.items
-    → IsTrue d.skips_lazily ↔ SkipsFrom d.states.items d.start_anchored d.start_unanchored
+    → IsTrue d.skips_lazily ↔ SkipsLazily (automaton_of d)
     → IsTrue d.is_look_acyclic ↔ AreLooksAcyclic d.states.items
     → IsConsistent d
 sound d none looks room empty skips acyclic =
@@ -35,6 +36,6 @@ sound d none looks room empty skips acyclic =
       looks = looks;
       room = room;
       empty = empty_is (automaton_of d) (IsTrue d.has_empty) empty;
-      skips = lazily_is (automaton_of d) tests.ordered (IsTrue d.skips_lazily) skips;
+      skips = skips;
       acyclic = acyclic_is (automaton_of d) (IsTrue d.is_look_acyclic) acyclic;
     }

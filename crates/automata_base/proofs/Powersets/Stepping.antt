@@ -2,7 +2,8 @@
 use Rattle.std.proofs.Common.{ℕ, ◌≡◌, ◌<◌, List, [], ◌∷◌, length, Option, Some, None, inl, inr, sym, subst, ap, ◌∙◌}
 use Rattle.std.proofs.Common.{refl, true, true≢false}
 use Rattle.automata_base.specs.declared.util.search.Anchored.{Anchored}
-use Rattle.automata_base.specs.Retraced.ComputedPass.{IsInRange, start_behind, successor_of}
+use Rattle.automata_base.specs.Retraced.Computed.{start_behind, successor_of}
+use Rattle.automata_base.specs.Nfas.Accepted.{IsInRange}
 use Rattle.automata_base.specs.Powersets.Cuts.{MatchKind}
 use Rattle.automata_base.specs.Lists.{In}
 use Rattle.automata_base.specs.Nfas.Nfa.{Nfa}
@@ -12,8 +13,8 @@ use Rattle.automata_base.specs.Powersets.Passes.{IsSuccessor, IsMake, Occurs}
 use Rattle.automata_base.specs.Haystacks.LookSets.{truth_of}
 use Rattle.automata_base.proofs.Paths.LookSets.{truth_of_none}
 use Rattle.automata_base.specs.Powersets.Powerset.{Powerset}
-use Rattle.automata_base.specs.Paths.Starts.{IsOf, IsStartAt, IsStartOf, mode_start}
-use Rattle.automata_base.specs.Retraced.Steps.{start_or_dead, start_state_of, successor, NeedsOwnLooks}
+use Rattle.automata_base.specs.Paths.Starts.{IsOf, IsStartAt, IsStartOf, mode_start, NeedsOwnLooks}
+use Rattle.automata_base.specs.Retraced.Steps.{start_or_dead, start_state_of, successor}
 use Rattle.automata_base.specs.Laws.Steps.{PowersetStartsAreRight, SuccessorsAreRight}
 use Rattle.automata_base.proofs.Powersets.Walking.{nodes_length}
 use Rattle.automata_base.proofs.Paths.Machines.{arrive_right, succ_right}

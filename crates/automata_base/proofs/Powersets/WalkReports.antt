@@ -4,7 +4,6 @@ use Rattle.std.proofs.Common.{length, Option, Some, None, refl, sym, ap, ap₂, 
 use Rattle.std.specs.Prelude.{IsTrue}
 use Rattle.automata_base.specs.Answers.Answers.{AreUnsplit, IsInput, IsOverlappingFrom, OverlapsOver, Walks}
 use Rattle.automata_base.specs.Answers.Answers.{with_offsets, without_split}
-use Rattle.automata_base.specs.Retraced.ComputedPass.{pairs_upto}
 use Rattle.automata_base.specs.Powersets.Cuts.{MatchKind}
 use Rattle.automata_base.specs.Nfas.Accepted.{IsChecked}
 use Rattle.automata_base.specs.Nfas.Engines.{Anchored, IsSkipping, engine_of, first_state}
@@ -19,19 +18,11 @@ use Rattle.automata_base.specs.Haystacks.Tapes.{Direction, tape_of}
 use Rattle.automata_base.specs.Retraced.Passes.{pairs_reported}
 use Rattle.automata_base.specs.Laws.Walks.{AreReported, OverlappingIsReported, SpanReports, WalkIsRight, WalksAreOne}
 use Rattle.automata_base.specs.Laws.Walks.{WalksAreReported}
-use Rattle.automata_base.proofs.Powersets.PassReports.{reported_is}
+use Rattle.automata_base.proofs.Powersets.PassReports.{pairs_is}
 use Rattle.automata_base.proofs.Powersets.ReportsAreRight.{first_is, none_at, start_below}
 use Rattle.automata_base.proofs.Paths.Finals.{walked_right}
 use Rattle.automata_base.proofs.Paths.Unique.{walk_one}
 use Rattle.automata_base.proofs.Answers.Total.{tape_units}
-
-pairs_is :
-    (a : Automaton) (kind : MatchKind) (mode : Anchored) (t : Tape) (start k : ℕ)
-    → mode_start a mode ≡ Some start → pairs_reported a kind mode t k ≡ pairs_upto (nfa_of a) kind start t k
-unfolding pairs_reported
-pairs_is a kind mode t start zero e = refl
-pairs_is a kind mode t start (suc k) e =
-    ap₂ (λ ps xs. ps ++ at_place k xs) (pairs_is a kind mode t start k e) (reported_is a kind mode t start k e)
 
 -- a mode without a start reports nothing
 none_pairs :

@@ -1,8 +1,9 @@
 -- The steps of the walk over a stack with fixed room.
 use Rattle.std.proofs.Common.{◌≡◌, ◌<◌, ◌≤◌, ◌+◌, ◌⊎◌, Bool, true, false, ℕ, zero, suc, List, [], ◌∷◌, ◌++◌, length}
 use Rattle.std.proofs.Common.{get_or, take, refl, sym, ap, ◌∙◌, subst, inl, inr, arith, length-append, reverse}
-use Rattle.std.proofs.Common.{append_assoc}
-use Rattle.std.specs.Prelude.{Contains, sum_by, slice_index_or}
+use Rattle.std.proofs.Common.{append_assoc, Some}
+use Rattle.std.specs.Prelude.{sum_by, slice_index_or, slice_get}
+use Rattle.std.proofs.lemmas.Option.{get_or_from_slice_get}
 use Rattle.std.proofs.lemmas.Bool.{cond_both}
 use Rattle.std.proofs.lemmas.List.{take_all, reverse-append, length-reverse}
 use Rattle.std.proofs.lemmas.List.Sums.{sum_by_more}
@@ -12,11 +13,11 @@ use Rattle.automata_base.specs.declared.nfa.thompson.State.TheVariants.{BinaryUn
 use Rattle.automata_base.specs.Nfas.Nodes.{Automaton, nfa_of, nodes_of, node_of, extra_of, stack_room}
 use Rattle.automata_base.specs.Haystacks.LookSets.{truth_of}
 use Rattle.automata_base.specs.Nfas.Accepted.{IsChecked}
-use Rattle.automata_base.specs.Lists.{In, nth}
+use Rattle.automata_base.specs.Lists.{In}
 use Rattle.automata_base.specs.Nfas.Nfa.{Truth, node_or_fail}
 use Rattle.automata_base.specs.Powersets.Closure.{children, children_at, IsUnderWay}
 use Rattle.automata_base.proofs.Paths.Loops.{under_way_skip, under_way_visit}
-use Rattle.automata_base.proofs.Powersets.Distinct.{In-Contains, Contains-In, unvisited, unvisited_push}
+use Rattle.automata_base.proofs.Powersets.Distinct.{unvisited, unvisited_push}
 use Rattle.automata_base.proofs.Powersets.Distinct.{unvisited_most, among}
 use Rattle.automata_base.proofs.Paths.Walks.{in_either}
 
@@ -24,8 +25,12 @@ pub nodes_length : (states : List State) → length (nodes_of states) ≡ length
 nodes_length [] = refl
 nodes_length (x ∷ xs) = ap suc (nodes_length xs)
 
+-- A state that was found at a number.
+pub state_read : (states : List State) (q : ℕ) (s : State) → slice_get states q ≡ Some s → s ≡ get_or states q s
+state_read states q s e = sym (get_or_from_slice_get states q s s e)
+
 pub node_at :
-    (states : List State) (x : ℕ) (s d : State) → x < length states → s ≡ get_or states x d → node_or_fail (nth (nodes_of states) x) ≡ node_of s
+    (states : List State) (x : ℕ) (s d : State) → x < length states → s ≡ get_or states x d → node_or_fail (slice_get (nodes_of states) x) ≡ node_of s
 node_at [] x s d l e = absurd (omega (arith, l))
 node_at (y ∷ ys) zero s d l e = ap (λ v. node_of v) (sym e)
 node_at (y ∷ ys) (suc x) s d l e = node_at ys x s d (omega (arith, l)) e
@@ -90,26 +95,26 @@ walk_begins a looks old start l =
     below q (inl e) = subst (λ z. z < length a.states) (sym e) l
     below q (inr i) = elim i [ ]
 
-walk_skips : (a : Automaton) (looks : ℕ) (old : List ℕ) (start : ℕ) (order stack : List ℕ) (q : ℕ) → Contains order q →
+walk_skips : (a : Automaton) (looks : ℕ) (old : List ℕ) (start : ℕ) (order stack : List ℕ) (q : ℕ) → In q order →
     Walking a looks old start order (q ∷ stack) → Walking a looks old start order stack
 walk_skips a looks old start order stack q had w =
     record {
-      way = λ roots tail u. under_way_skip (nfa_of a) (truth_of looks) roots q (stack ++ tail) order (In-Contains q order had) (w.way roots tail u);
+      way = λ roots tail u. under_way_skip (nfa_of a) (truth_of looks) roots q (stack ++ tail) order had (w.way roots tail u);
       room = (let room : suc (length stack) + unvisited (extra_at a.states) order (length a.states) ≤ stack_room a.states = w.room in omega arith);
       below = λ p i. w.below p (inr i);
     }
 
-walk_visits : (a : Automaton) (looks : ℕ) (old : List ℕ) (start : ℕ) (order stack : List ℕ) (q : ℕ) → IsChecked a → (Contains order q → ⊥) →
+walk_visits : (a : Automaton) (looks : ℕ) (old : List ℕ) (start : ℕ) (order stack : List ℕ) (q : ℕ) → IsChecked a → (In q order → ⊥) →
     Walking a looks old start order (q ∷ stack) → Walking a looks old start (order ++ q ∷ []) (children (nfa_of a) (truth_of looks) q ++ stack)
 walk_visits a looks old start order stack q checked new w =
     record {
       way = λ roots tail u.
           subst (λ s. IsUnderWay (nfa_of a) (truth_of looks) roots s (order ++ q ∷ [])) (sym (append_assoc (children (nfa_of a) (truth_of looks) q) stack tail))
-          (under_way_visit (nfa_of a) (truth_of looks) roots q (stack ++ tail) order (λ i. new (Contains-In q order i)) (w.way roots tail u));
+          (under_way_visit (nfa_of a) (truth_of looks) roots q (stack ++ tail) order new (w.way roots tail u));
       room =
           (let room : suc (length stack) + unvisited (extra_at a.states) order (length a.states) ≤ stack_room a.states = w.room in
           let took : unvisited (extra_at a.states) (order ++ q ∷ []) (length a.states) + extra_at a.states q ≡ unvisited (extra_at a.states) order (length a.states) =
-          unvisited_push (extra_at a.states) order q (length a.states) (w.below q (inl refl)) (λ i. new (Contains-In q order i)) in
+          unvisited_push (extra_at a.states) order q (length a.states) (w.below q (inl refl)) new in
           let short : length (children (nfa_of a) (truth_of looks) q) ≤ extra_at a.states q + 1 = few a (truth_of looks) q (w.below q (inl refl)) in
           let both : length (children (nfa_of a) (truth_of looks) q ++ stack) ≡ length (children (nfa_of a) (truth_of looks) q) + length stack = length-append (children (nfa_of a) (truth_of looks) q) stack in
           omega arith);
@@ -128,12 +133,12 @@ work_skips : (a : Automaton) (order stack : List ℕ) (q : ℕ) → work a order
 unfolding work
 work_skips a order stack q = omega arith
 
-work_visits : (a : Automaton) (looks : ℕ) (order stack : List ℕ) (q : ℕ) → q < length a.states → (Contains order q → ⊥) →
+work_visits : (a : Automaton) (looks : ℕ) (order stack : List ℕ) (q : ℕ) → q < length a.states → (In q order → ⊥) →
     work a (order ++ q ∷ []) (children (nfa_of a) (truth_of looks) q ++ stack) < work a order (q ∷ stack)
 unfolding work
 work_visits a looks order stack q l new =
     let took : unvisited (λ p. suc (extra_at a.states p)) (order ++ q ∷ []) (length a.states) + suc (extra_at a.states q) ≡ unvisited (λ p. suc (extra_at a.states p)) order (length a.states) =
-    unvisited_push (λ p. suc (extra_at a.states p)) order q (length a.states) l (λ i. new (Contains-In q order i)) in
+    unvisited_push (λ p. suc (extra_at a.states p)) order q (length a.states) l new in
     let short : length (children (nfa_of a) (truth_of looks) q) ≤ extra_at a.states q + 1 = few a (truth_of looks) q l in
     let both : length (children (nfa_of a) (truth_of looks) q ++ stack) ≡ length (children (nfa_of a) (truth_of looks) q) + length stack = length-append (children (nfa_of a) (truth_of looks) q) stack in
     omega arith
@@ -146,7 +151,7 @@ read_children a A q state l is = sym (ap (λ n. children_at n A) (node_at a.stat
 
 -- a state that is new: what stands on the stack then is its children, over what stood there
 pub new_step : (a : Automaton) (looks : ℕ) (old : List ℕ) (start : ℕ) (order order' stack stack' : List ℕ) (q : ℕ) (state : State) →
-    IsChecked a → state ≡ get_or a.states q state → (Contains order q → ⊥) → order' ≡ order ++ q ∷ [] → stack' ≡ children_at (node_of state) (truth_of looks) ++ stack →
+    IsChecked a → state ≡ get_or a.states q state → (In q order → ⊥) → order' ≡ order ++ q ∷ [] → stack' ≡ children_at (node_of state) (truth_of looks) ++ stack →
     Walking a looks old start order (q ∷ stack) →
     Walking a looks old start order' stack' × (work a order' stack' < work a order (q ∷ stack))
 new_step a looks old start order order' stack stack' q state checked is new grown put w =
@@ -158,7 +163,7 @@ new_step a looks old start order order' stack stack' q state checked is new grow
 
 -- a state that was there
 pub old_step : (a : Automaton) (looks : ℕ) (old : List ℕ) (start : ℕ) (order order' stack : List ℕ) (q : ℕ) →
-    Contains order q → order' ≡ order → Walking a looks old start order (q ∷ stack) →
+    In q order → order' ≡ order → Walking a looks old start order (q ∷ stack) →
     Walking a looks old start order' stack × (work a order' stack < work a order (q ∷ stack))
 old_step a looks old start order order' stack q had same w =
     let P : List ℕ → Type 0 = λ o. Walking a looks old start o stack × (work a o stack < work a order (q ∷ stack)) in
@@ -167,21 +172,21 @@ old_step a looks old start order order' stack q had same w =
 -- a state without epsilon edges: the set has it, and nothing is left
 pub leaf_step : (a : Automaton) (looks : ℕ) (old : List ℕ) (start : ℕ) (after : List ℕ) (state : State) (added : Bool) →
     IsChecked a → state ≡ get_or a.states start state → children_at (node_of state) (truth_of looks) ≡ [] → start < length a.states →
-    (added ≡ true → Contains old start → ⊥) → (added ≡ true → after ≡ old ++ start ∷ []) →
-    (added ≡ false → Contains old start) → (added ≡ false → after ≡ old) → Walking a looks old start after []
+    (added ≡ true → In start old → ⊥) → (added ≡ true → after ≡ old ++ start ∷ []) →
+    (added ≡ false → In start old) → (added ≡ false → after ≡ old) → Walking a looks old start after []
 leaf_step a looks old start after state true checked is leaf below new grown had same =
     (new_step a looks old start old after [] [] start state checked is (new refl) (grown refl) (ap (λ z. z ++ []) (sym leaf)) (walk_begins a looks old start below)).0
 leaf_step a looks old start after state false checked is leaf below new grown had same =
     (old_step a looks old start old after [] start (had refl) (same refl) (walk_begins a looks old start below)).0
 
 -- the children of a new state find room
-pub step_room : (a : Automaton) (looks : ℕ) (old : List ℕ) (start : ℕ) (order items : List ℕ) (q : ℕ) (state : State) → state ≡ get_or a.states q state → (Contains order q → ⊥) →
+pub step_room : (a : Automaton) (looks : ℕ) (old : List ℕ) (start : ℕ) (order items : List ℕ) (q : ℕ) (state : State) → state ≡ get_or a.states q state → (In q order → ⊥) →
     Walking a looks old start order (q ∷ reverse items) → length items + length (children_at (node_of state) (truth_of looks)) ≤ stack_room a.states
 step_room a looks old start order items q state is new w =
     let below : q < length a.states = w.below q (inl refl) in
     let room : suc (length (reverse items)) + unvisited (extra_at a.states) order (length a.states) ≤ stack_room a.states = w.room in
     let took : unvisited (extra_at a.states) (order ++ q ∷ []) (length a.states) + extra_at a.states q ≡ unvisited (extra_at a.states) order (length a.states) =
-    unvisited_push (extra_at a.states) order q (length a.states) below (λ i. new (Contains-In q order i)) in
+    unvisited_push (extra_at a.states) order q (length a.states) below new in
     let short : length (children (nfa_of a) (truth_of looks) q) ≤ extra_at a.states q + 1 = few a (truth_of looks) q below in
     let same : length (children_at (node_of state) (truth_of looks)) ≡ length (children (nfa_of a) (truth_of looks) q) = ap length (read_children a (truth_of looks) q state below is) in
     let turned : length (reverse items) ≡ length items = length-reverse items in

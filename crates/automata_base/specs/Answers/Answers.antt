@@ -3,7 +3,7 @@ use Rattle.std.specs.Prelude.{ℕ, ◌≡◌, ◌<◌, ◌≤◌, ◌+◌, ◌-�
 use Rattle.std.specs.Prelude.{Option, Some, None}
 use Rattle.automata_base.specs.Lists.{In}
 use Rattle.automata_base.specs.Paths.Paths.{Tape, IsLookAcyclic}
-use Rattle.automata_base.specs.Retraced.ComputedPass.{IsInRange}
+use Rattle.automata_base.specs.Nfas.Accepted.{IsInRange}
 use Rattle.automata_base.specs.Paths.Selections.{Pair, Selects, IsOverlappingOn}
 use Rattle.automata_base.specs.Haystacks.Tapes.{IsHaystack, Direction, Forward, Backward, tape_of, offset, is_split}
 use Rattle.automata_base.specs.Nfas.Engines.{Engine, Anchored, No, first_state, IsSkipping}

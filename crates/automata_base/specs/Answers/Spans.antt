@@ -112,6 +112,12 @@ AreMatches Finds input start last [] = IsNextItem Finds input start last None
 AreMatches Finds input start last (m ∷ ms) =
     IsNextItem Finds input start last (Some m) × AreMatches Finds input m.end (Some m.end) ms
 
+-- The first of them, whatever comes after.
+abbrev pub AreFirst : (Finds : Input → Option Match → Type 0) → Input → ℕ → Option ℕ → List Match → Type 0
+AreFirst Finds input start last [] = Unit {0}
+AreFirst Finds input start last (m ∷ ms) =
+    IsNextItem Finds input start last (Some m) × AreFirst Finds input m.end (Some m.end) ms
+
 -- The matches of an input, one after another: by the spans of its paths, and by the search over two DFAs.
 abbrev pub AreSpans : Engine → Input → List Match → Type 0
 AreSpans d input ms = AreMatches (IsSpan d) input input.start None ms

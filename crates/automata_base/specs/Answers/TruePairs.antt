@@ -15,7 +15,7 @@ IsTruePair f r =
     (r.kind ≡ All) × (f.utf8 ≡ r.utf8) × (HasEmptyMatch f ↔ HasEmptyMatch r)
     × ((h : List ℕ) (i j pattern : ℕ) → IsHaystack h → i ≤ j → j ≤ length h
     → Joins Forward f h i j pattern ↔ Joins Backward r h i j pattern)
-    × BeginsLazily f
+    × BeginsLazily f.nfa f.anchored f.unanchored
 
 -- In UTF-8 mode every accepting path of an anchored mode that is not empty reads UTF-8.
 abbrev pub KeepsUtf8 : Direction → Engine → Type 0

@@ -28,7 +28,8 @@ truths_by_bytes words truths l same = fill_by_all (has_byte words) truths 256 fa
 
 -- A bit of a word.
 pub at_word :
-    (words : List ℕ) (byte k i : ℕ) → byte ≡ 64 * k + i → i < 64 → has_byte words byte ≡ eqb (bit_at (get_or words k 0) i) 1
+    (words : List ℕ) (byte k i : ℕ) → byte ≡ 64 * k + i → i < 64
+    → has_byte words byte ≡ eqb (bit_at (get_or words k 0) i) 1
 at_word words byte k i e l =
     ap (λ z. eqb (bit_at (get_or words z 0) (byte % 64)) 1) (quotient byte k i e l)
     ∙ ap (λ z. eqb (bit_at (get_or words k 0) z) 1) (remainder byte k i e l)
@@ -46,7 +47,9 @@ unfolding word_of
 of_bits truth zero w h same = omega (arith, h)
 of_bits truth (suc n) w h same =
     let low : truth 0 ≡ eqb (w % 2) 1 = same 0 (omega arith) ∙ ap (λ z. eqb z 1) (bit_at_lowest w) in
-    let rest : word_of (λ i. truth (suc i)) n ≡ w / 2 = of_bits (λ i. truth (suc i)) n (w / 2) (half w n h) (λ i l. same (suc i) (omega (arith, l)) ∙ ap (λ z. eqb z 1) (bit_at-suc w i)) in
+    let rest : word_of (λ i. truth (suc i)) n ≡ w / 2 =
+    of_bits (λ i. truth (suc i)) n (w / 2) (half w n h)
+    (λ i l. same (suc i) (omega (arith, l)) ∙ ap (λ z. eqb z 1) (bit_at-suc w i)) in
     let first : cond (truth 0) 1 0 ≡ w % 2 = ap (λ b. cond b 1 0) low ∙ parity (w % 2) (omega arith) in
     omega (arith, first, rest)
   where
@@ -66,13 +69,16 @@ words_back (a ∷ []) h = absurd (omega (arith, h.whole))
 words_back (a ∷ b ∷ []) h = absurd (omega (arith, h.whole))
 words_back (a ∷ b ∷ c ∷ []) h = absurd (omega (arith, h.whole))
 words_back (a ∷ b ∷ c ∷ d ∷ e ∷ rest) h = absurd (omega (arith, h.whole))
-words_back (a ∷ b ∷ c ∷ d ∷ []) h = four _ _ _ _ (one 0 (omega arith)) (one 1 (omega arith)) (one 2 (omega arith)) (one 3 (omega arith))
+words_back (a ∷ b ∷ c ∷ d ∷ []) h =
+    four _ _ _ _ (one 0 (omega arith)) (one 1 (omega arith)) (one 2 (omega arith)) (one 3 (omega arith))
   where
     words : List ℕ
     words = a ∷ b ∷ c ∷ d ∷ []
 
     one : (k : ℕ) → k < 4 → word_at (truths_of words) k ≡ get_or words k 0
-    one k l = of_bits _ 64 (get_or words k 0) (h.small k l) (λ i m. truth_in words (64 * k + i) (omega (arith, l, m)) ∙ at_word words (64 * k + i) k i refl m)
+    one k l =
+        of_bits _ 64 (get_or words k 0) (h.small k l)
+        (λ i m. truth_in words (64 * k + i) (omega (arith, l, m)) ∙ at_word words (64 * k + i) k i refl m)
 
     four : (p q r s : ℕ) → p ≡ a → q ≡ b → r ≡ c → s ≡ d → p ∷ q ∷ r ∷ s ∷ [] ≡ words
     four p q r s e f g h =

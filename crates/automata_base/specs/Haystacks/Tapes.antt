@@ -1,19 +1,18 @@
 -- A haystack, its offsets, and the tapes of its spans. An offset is a position between bytes, from 0 to the length; a
 -- place is a position on a tape, counted from where a search begins.
 use Rattle.std.specs.Prelude.{ℕ, zero, suc, ◌≡◌, ◌<◌, ◌≤◌, ◌+◌, ◌-◌, Bool, false, List, ◌⊎◌, take, drop, reverse}
-use Rattle.std.specs.Prelude.{Option, Some, None}
-use Rattle.automata_base.specs.Lists.{nth}
+use Rattle.std.specs.Prelude.{Option, Some, None, slice_get}
 use Rattle.automata_base.specs.Haystacks.Looks.{within}
 use Rattle.automata_base.specs.Paths.Paths.{Tape, prev, next}
 
 -- Each number is a byte.
 abbrev pub IsHaystack : List ℕ → Type 0
-IsHaystack h = (o u : ℕ) → nth h o ≡ Some u → u < 256
+IsHaystack h = (o u : ℕ) → slice_get h o ≡ Some u → u < 256
 
--- The byte before an offset; the one after it is `nth h o`. Either is missing only outside the haystack.
+-- The byte before an offset; the one after it is `slice_get h o`. Either is missing only outside the haystack.
 abbrev pub byte_before : List ℕ → ℕ → Option ℕ
 byte_before h zero = None
-byte_before h (suc o) = nth h o
+byte_before h (suc o) = slice_get h o
 
 -- The bytes of the span `s..e`.
 abbrev pub between : List ℕ → ℕ → ℕ → List ℕ
@@ -21,11 +20,11 @@ between h s e = take (e - s) (drop s h)
 
 -- The span read from `s` to `e`: place `i` is the offset `s + i`.
 abbrev pub forward_tape : List ℕ → ℕ → ℕ → Tape
-forward_tape h s e = record { before = byte_before h s; bytes = between h s e; after = nth h e }
+forward_tape h s e = record { before = byte_before h s; bytes = between h s e; after = slice_get h e }
 
 -- The span read from `e` to `s`: place `i` is the offset `e - i`.
 abbrev pub reverse_tape : List ℕ → ℕ → ℕ → Tape
-reverse_tape h s e = record { before = nth h e; bytes = reverse (between h s e); after = byte_before h s }
+reverse_tape h s e = record { before = slice_get h e; bytes = reverse (between h s e); after = byte_before h s }
 
 -- A search reads its span to the right or to the left.
 pub data Direction : Type 0 where
@@ -48,7 +47,7 @@ is_continuation (Some u) = within 128 191 u
 
 -- An offset is inside a character, a split place: it is inside the haystack and its byte is 0x80 to 0xBF.
 abbrev pub is_split : List ℕ → ℕ → Bool
-is_split h o = is_continuation (nth h o)
+is_split h o = is_continuation (slice_get h o)
 
 -- The units that a pass reads up to place `m`: the byte before its first place, and the unit at each place.
 abbrev pub ReadsUpto : Tape → ℕ → Option ℕ → Type 0

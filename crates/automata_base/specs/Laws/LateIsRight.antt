@@ -6,7 +6,8 @@ use Rattle.automata_base.specs.Paths.Paths.{Tape, IsLookAcyclic}
 use Rattle.automata_base.specs.Powersets.Cuts.{MatchKind, All}
 use Rattle.automata_base.specs.Powersets.Passes.{IsTape}
 use Rattle.automata_base.specs.Paths.Selections.{Accepts, Selects, IsOverlappingOn, IsNearest, IsFarthest}
-use Rattle.automata_base.specs.Retraced.ComputedPass.{search_of, pairs_upto, reported_of, IsInRange}
+use Rattle.automata_base.specs.Retraced.Passes.{search_of, pairs_upto, reported_of}
+use Rattle.automata_base.specs.Nfas.Accepted.{IsInRange}
 
 -- Without a look cycle, a search by passes selects what the ordered paths select.
 abbrev pub SearchesAreRight : Type 0

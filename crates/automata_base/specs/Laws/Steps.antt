@@ -2,7 +2,7 @@
 use Rattle.std.specs.Prelude.{ℕ, ◌≡◌, ◌<◌, ◌↔◌, Bool, true, false, List, length, Option, Some}
 use Rattle.automata_base.specs.ByteClasses.LookBehind.{behind_of}
 use Rattle.automata_base.specs.ByteClasses.Classes.{class_of, is_quit}
-use Rattle.automata_base.specs.Retraced.ComputedPass.{IsInRange}
+use Rattle.automata_base.specs.Nfas.Accepted.{IsInRange}
 use Rattle.automata_base.specs.Powersets.Cuts.{MatchKind, All}
 use Rattle.automata_base.specs.Nfas.Engines.{Anchored}
 use Rattle.automata_base.specs.Nfas.Nodes.{Automaton, nfa_of, nodes_of}
@@ -10,8 +10,8 @@ use Rattle.automata_base.specs.Paths.Paths.{Tape, IsLookAcyclic}
 use Rattle.automata_base.specs.Powersets.Passes.{IsSuccessor, IsTape}
 use Rattle.automata_base.specs.Powersets.Powerset.{Powerset, dead}
 use Rattle.automata_base.specs.Paths.Selections.{Selects, IsNearest, IsFarthest}
-use Rattle.automata_base.specs.Paths.Starts.{IsOf, IsStartOf, mode_start}
-use Rattle.automata_base.specs.Retraced.Steps.{start_state_of, successor, NeedsOwnLooks}
+use Rattle.automata_base.specs.Paths.Starts.{IsOf, IsStartOf, mode_start, NeedsOwnLooks}
+use Rattle.automata_base.specs.Retraced.Steps.{start_state_of, successor}
 use Rattle.automata_base.specs.Retraced.Passes.{reported_by}
 
 -- bytes of one class lead a powerset state to one successor

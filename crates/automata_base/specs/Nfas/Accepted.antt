@@ -1,12 +1,19 @@
 -- What `NFA::from_states` accepts.
 use Rattle.std.specs.Prelude.{ℕ, ◌+◌, ◌^◌, ◌≡◌, ◌<◌, ◌≤◌, Some, true, eqb, length, All}
+use Rattle.automata_base.specs.Lists.{In}
 use Rattle.automata_base.specs.Nfas.Nodes.{Automaton, nfa_of, stack_room}
 use Rattle.automata_base.specs.Haystacks.LookSets.{truth_of}
 use Rattle.automata_base.specs.Haystacks.Looks.{Look}
-use Rattle.automata_base.specs.Nfas.Nfa.{accepts}
-use Rattle.automata_base.specs.Retraced.ComputedPass.{IsInRange, any_node}
+use Rattle.automata_base.specs.Nfas.Nfa.{Nfa, Truth, accepts, any_node, takes}
+use Rattle.automata_base.specs.Powersets.Closure.{children}
 use Rattle.automata_base.specs.Haystacks.Looks.{look_index}
 use Rattle.automata_base.specs.Nfas.Errors.{states_ordered}
+
+-- Each edge leads to a state of the NFA.
+abbrev pub IsInRange : Nfa → Type 0
+IsInRange n =
+    ((q c : ℕ) (A : Truth) → In c (children n A q) → c < length n.nodes)
+    × ((q u r : ℕ) → takes n q u ≡ Some r → r < length n.nodes)
 
 -- At most 2^27 states, and at most 2^27 patterns, each number in range, ranges in order.
 pub record IsChecked (a : Automaton) : Type 0 where

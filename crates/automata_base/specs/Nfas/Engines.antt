@@ -1,6 +1,6 @@
 -- What is searched with: an NFA, its starts, its UTF-8 flag and a match kind.
-use Rattle.std.specs.Prelude.{ℕ, ◌≡◌, Bool, true, List, [], ◌∷◌, ◌⊎◌, Option, Some}
-use Rattle.automata_base.specs.Lists.{In, nth}
+use Rattle.std.specs.Prelude.{ℕ, ◌≡◌, Bool, true, List, [], ◌∷◌, ◌⊎◌, Option, Some, slice_get}
+use Rattle.automata_base.specs.Lists.{In}
 use Rattle.automata_base.specs.Nfas.Nfa.{Nfa, Node, Split, Read, node, hop, takes, accepts}
 use Rattle.automata_base.specs.Paths.Paths.{all_true, HasEpsilonPath}
 use Rattle.automata_base.specs.Powersets.Cuts.{MatchKind}
@@ -21,7 +21,7 @@ pub record Engine : Type 0 where
 abbrev pub first_state : Engine → Anchored → Option ℕ
 first_state d No = Some d.unanchored
 first_state d Yes = Some d.anchored
-first_state d (Pattern k) = nth d.starts k
+first_state d (Pattern k) = slice_get d.starts k
 
 -- A match is reached by epsilon edges from some pattern's start, looks taken as true.
 abbrev pub MatchesEmpty : Nfa → (starts : List ℕ) → Type 0
@@ -57,14 +57,15 @@ any_byte next = Read (record { lo = 0; hi = 255; next = next } ∷ [])
 
 -- The unanchored start is a union that first tries the anchored start and then, after any byte, itself, and no edge
 -- leads back to it from the anchored start.
-abbrev pub LoopsLazily : Engine → ℕ → Type 0
-LoopsLazily d skip =
-    (node d.nfa d.unanchored ≡ Split (d.anchored ∷ skip ∷ [])) × (node d.nfa skip ≡ any_byte d.unanchored)
-    × (Reaches d.nfa d.anchored d.unanchored → ⊥)
+abbrev pub LoopsLazily : Nfa → (anchored unanchored skip : ℕ) → Type 0
+LoopsLazily n anchored unanchored skip =
+    (node n unanchored ≡ Split (anchored ∷ skip ∷ [])) × (node n skip ≡ any_byte unanchored)
+    × (Reaches n anchored unanchored → ⊥)
 
 -- Unanchored searches begin anchored, or after any bytes, the fewest first.
-abbrev pub BeginsLazily : Engine → Type 0
-BeginsLazily d = BeginsAnchored d ⊎ ((skip : ℕ) × LoopsLazily d skip)
+abbrev pub BeginsLazily : Nfa → (anchored unanchored : ℕ) → Type 0
+BeginsLazily n anchored unanchored =
+    (unanchored ≡ anchored) ⊎ ((skip : ℕ) × LoopsLazily n anchored unanchored skip)
 
 -- An NFA, searched under a match kind.
 abbrev pub engine_of : Automaton → MatchKind → Engine

@@ -1,45 +1,57 @@
--- The tests of `NFA::from_states`.
-use Rattle.std.specs.Prelude.{ℕ, ◌+◌, ◌^◌, Option, Some, None, sum_by, length, Bool, true, ◌&&◌, ltb, leb}
+-- The tests of `NFA::from_states`. They depend only on the shapes of states.
+use Rattle.std.specs.Prelude.{ℕ, ◌+◌, ◌^◌, Option, Some, None, sum_by, length, map, Bool, true, ◌&&◌, ltb, leb}
 use Rattle.std.specs.Prelude.{if◌then◌else◌, List, [], ◌∷◌}
 use Rattle.automata_base.specs.declared.nfa.thompson.NfaError.{NfaError}
 use Rattle.automata_base.specs.declared.nfa.thompson.NfaError.TheVariants.{TooLarge, StartRange, StateRange, Ranges}
 use Rattle.automata_base.specs.declared.nfa.thompson.NfaError.TheVariants.{PatternRange}
 use Rattle.automata_base.specs.declared.nfa.thompson.State.{State}
-use Rattle.automata_base.specs.declared.nfa.thompson.State.TheVariants as is
 use Rattle.automata_base.specs.declared.nfa.thompson.Transition.{Transition}
 use Rattle.automata_base.specs.Lists.{all_below}
+use Rattle.automata_base.specs.Nfas.Shapes.{Shape, EmptyShape, RangeShape, SparseShape, DenseShape, LookShape}
+use Rattle.automata_base.specs.Nfas.Shapes.{UnionShape, UnionReverseShape, BinaryUnionShape, CaptureShape, FailShape}
+use Rattle.automata_base.specs.Nfas.Shapes.{MatchShape, shape_of}
 
 abbrev pub transitions_below : ℕ → List Transition → Bool
 transitions_below n [] = true
 transitions_below n (t ∷ ts) = ltb t.next n && transitions_below n ts
 
 -- Each state number is in range.
+abbrev pub shape_below : ℕ → Shape → Bool
+shape_below n (EmptyShape next) = ltb next n
+shape_below n (RangeShape lo hi next) = ltb next n
+shape_below n (SparseShape ts) = transitions_below n ts
+shape_below n (DenseShape targets) = all_below n targets
+shape_below n (LookShape look next) = ltb next n
+shape_below n (UnionShape alternates) = all_below n alternates
+shape_below n (UnionReverseShape alternates) = all_below n alternates
+shape_below n (BinaryUnionShape alt1 alt2) = ltb alt1 n && ltb alt2 n
+shape_below n (CaptureShape next pattern index slot) = ltb next n
+shape_below n FailShape = true
+shape_below n (MatchShape pattern) = true
+
 abbrev pub state_below : ℕ → State → Bool
-state_below n (is.ByteRange lo hi next) = ltb next n
-state_below n (is.Sparse ts) = transitions_below n ts.items
-state_below n (is.Dense targets) = all_below n targets.value
-state_below n (is.Look look next) = ltb next n
-state_below n (is.Union alternates) = all_below n alternates.items
-state_below n (is.BinaryUnion alt1 alt2) = ltb alt1 n && ltb alt2 n
-state_below n (is.Capture next pattern index slot) = ltb next n
-state_below n is.Fail = true
-state_below n (is.Match pattern) = true
+state_below n state = shape_below n (shape_of state)
 
 abbrev pub states_below : ℕ → List State → Bool
 states_below n [] = true
 states_below n (x ∷ xs) = state_below n x && states_below n xs
 
 -- Each pattern is in range.
+abbrev pub shape_matches_below : ℕ → Shape → Bool
+shape_matches_below P (EmptyShape next) = true
+shape_matches_below P (RangeShape lo hi next) = true
+shape_matches_below P (SparseShape ts) = true
+shape_matches_below P (DenseShape targets) = true
+shape_matches_below P (LookShape look next) = true
+shape_matches_below P (UnionShape alternates) = true
+shape_matches_below P (UnionReverseShape alternates) = true
+shape_matches_below P (BinaryUnionShape alt1 alt2) = true
+shape_matches_below P (CaptureShape next pattern index slot) = true
+shape_matches_below P FailShape = true
+shape_matches_below P (MatchShape pattern) = ltb pattern P
+
 abbrev pub match_below : ℕ → State → Bool
-match_below P (is.ByteRange lo hi next) = true
-match_below P (is.Sparse ts) = true
-match_below P (is.Dense targets) = true
-match_below P (is.Look look next) = true
-match_below P (is.Union alternates) = true
-match_below P (is.BinaryUnion alt1 alt2) = true
-match_below P (is.Capture next pattern index slot) = true
-match_below P is.Fail = true
-match_below P (is.Match pattern) = ltb pattern P
+match_below P state = shape_matches_below P (shape_of state)
 
 abbrev pub matches_below : ℕ → List State → Bool
 matches_below P [] = true
@@ -50,32 +62,42 @@ abbrev pub ordered_from : ℕ → List Transition → Bool
 ordered_from low [] = true
 ordered_from low (t ∷ ts) = leb low t.lo && leb t.lo t.hi && ordered_from (t.hi + 1) ts
 
+abbrev pub shape_ordered : Shape → Bool
+shape_ordered (EmptyShape next) = true
+shape_ordered (RangeShape lo hi next) = leb lo hi
+shape_ordered (SparseShape ts) = ordered_from 0 ts
+shape_ordered (DenseShape targets) = true
+shape_ordered (LookShape look next) = true
+shape_ordered (UnionShape alternates) = true
+shape_ordered (UnionReverseShape alternates) = true
+shape_ordered (BinaryUnionShape alt1 alt2) = true
+shape_ordered (CaptureShape next pattern index slot) = true
+shape_ordered FailShape = true
+shape_ordered (MatchShape pattern) = true
+
 abbrev pub state_ordered : State → Bool
-state_ordered (is.ByteRange lo hi next) = leb lo hi
-state_ordered (is.Sparse ts) = ordered_from 0 ts.items
-state_ordered (is.Dense targets) = true
-state_ordered (is.Look look next) = true
-state_ordered (is.Union alternates) = true
-state_ordered (is.BinaryUnion alt1 alt2) = true
-state_ordered (is.Capture next pattern index slot) = true
-state_ordered is.Fail = true
-state_ordered (is.Match pattern) = true
+state_ordered state = shape_ordered (shape_of state)
 
 abbrev pub states_ordered : List State → Bool
 states_ordered [] = true
 states_ordered (x ∷ xs) = state_ordered x && states_ordered xs
 
 -- How many alternates a state has: only unions have any.
+abbrev pub shape_alternates : Shape → ℕ
+shape_alternates (EmptyShape next) = 0
+shape_alternates (RangeShape lo hi next) = 0
+shape_alternates (SparseShape ts) = 0
+shape_alternates (DenseShape targets) = 0
+shape_alternates (LookShape look next) = 0
+shape_alternates (UnionShape alternates) = length alternates
+shape_alternates (UnionReverseShape alternates) = length alternates
+shape_alternates (BinaryUnionShape alt1 alt2) = 2
+shape_alternates (CaptureShape next pattern index slot) = 0
+shape_alternates FailShape = 0
+shape_alternates (MatchShape pattern) = 0
+
 abbrev pub alternates_of : State → ℕ
-alternates_of (is.ByteRange lo hi next) = 0
-alternates_of (is.Sparse ts) = 0
-alternates_of (is.Dense targets) = 0
-alternates_of (is.Look look next) = 0
-alternates_of (is.Union alternates) = length alternates.items
-alternates_of (is.BinaryUnion alt1 alt2) = 2
-alternates_of (is.Capture next pattern index slot) = 0
-alternates_of is.Fail = 0
-alternates_of (is.Match pattern) = 0
+alternates_of state = shape_alternates (shape_of state)
 
 -- At most 2^27 states, and at most 2^27 patterns.
 abbrev pub is_small : List State → List ℕ → Bool
@@ -93,12 +115,19 @@ starts_below n anchored unanchored starts = ltb anchored n && ltb unanchored n &
 abbrev pub unless : Bool → NfaError → Option NfaError → Option NfaError
 unless passes error later = if passes then later else Some error
 
+abbrev pub every : (Shape → Bool) → List Shape → Bool
+every test [] = true
+every test (x ∷ xs) = test x && every test xs
+
 -- The error of the first test that fails; none if all pass.
-unfoldable pub states_refusal : List State → (anchored unanchored : ℕ) → (starts : List ℕ) → Option NfaError
-states_refusal states anchored unanchored starts =
-    unless (is_small states starts) TooLarge
-    (unless (is_narrow states) TooLarge
-    (unless (starts_below (length states) anchored unanchored starts) StartRange
-    (unless (states_below (length states) states) StateRange
-    (unless (states_ordered states) Ranges
-    (unless (matches_below (length starts) states) PatternRange None)))))
+unfoldable pub refusal_of : List Shape → (anchored unanchored : ℕ) → (starts : List ℕ) → Option NfaError
+refusal_of shapes anchored unanchored starts =
+    unless (leb (length shapes) (2 ^ 27) && leb (length starts) (2 ^ 27)) TooLarge
+    (unless (leb (sum_by shape_alternates shapes) (2 ^ 31)) TooLarge
+    (unless (starts_below (length shapes) anchored unanchored starts) StartRange
+    (unless (every (shape_below (length shapes)) shapes) StateRange
+    (unless (every shape_ordered shapes) Ranges
+    (unless (every (shape_matches_below (length starts)) shapes) PatternRange None)))))
+
+abbrev pub states_refusal : List State → (anchored unanchored : ℕ) → (starts : List ℕ) → Option NfaError
+states_refusal states anchored unanchored starts = refusal_of (map shape_of states) anchored unanchored starts

@@ -1,7 +1,7 @@
 -- A reversed NFA: which edges it has, so that it accepts backward what the other one accepts.
-use Rattle.std.specs.Prelude.{ℕ, ◌≡◌, ◌<◌, ◌≤◌, ◌-◌, ◌↔◌, ◌⊎◌, not, List, [], ◌∷◌, length, Some}
+use Rattle.std.specs.Prelude.{ℕ, ◌≡◌, ◌<◌, ◌≤◌, ◌-◌, ◌↔◌, ◌⊎◌, not, List, [], ◌∷◌, length, Some, slice_get}
 use Rattle.automata_base.specs.declared.nfa.thompson.Flags.{Flags}
-use Rattle.automata_base.specs.Lists.{In, nth}
+use Rattle.automata_base.specs.Lists.{In}
 use Rattle.automata_base.specs.Haystacks.Looks.{Look, Start, End, StartLF, EndLF, StartCRLF, EndCRLF}
 use Rattle.automata_base.specs.Haystacks.Looks.{WordAscii, WordAsciiNegate, WordUnicode, WordUnicodeNegate}
 use Rattle.automata_base.specs.Haystacks.Looks.{WordStartAscii, WordEndAscii, WordStartUnicode, WordEndUnicode}
@@ -9,7 +9,8 @@ use Rattle.automata_base.specs.Haystacks.Looks.{WordStartHalfAscii, WordEndHalfA
 use Rattle.automata_base.specs.Haystacks.Looks.{WordEndHalfUnicode}
 use Rattle.automata_base.specs.Nfas.Nfa.{Nfa, Node, Range, Split, Assert, Read, Accept, node, accepts}
 use Rattle.automata_base.specs.Powersets.Cuts.{MatchKind, All}
-use Rattle.automata_base.specs.Nfas.Engines.{MatchesEmpty, BeginsLazily, engine_of}
+use Rattle.automata_base.specs.Nfas.Engines.{MatchesEmpty, engine_of}
+use Rattle.automata_base.specs.Nfas.Getters.{SkipsLazily}
 use Rattle.automata_base.specs.Nfas.Nodes.{Automaton, nfa_of}
 use Rattle.automata_base.specs.Retraced.DenseRuns.{ranged_nfa}
 use Rattle.automata_base.specs.Nfas.Accepted.{IsChecked}
@@ -123,7 +124,7 @@ pub record IsMirror (n m : Nfa) (first : ℕ) (entries : List ℕ) (root : ℕ) 
   pub goes : (s t : ℕ) (l : Label) → In s reached → HasArc n s l t → In t reached
   pub roots : node m root ≡ Split entries
   pub parts :
-      (p entry : ℕ) → nth entries p ≡ Some entry
+      (p entry : ℕ) → slice_get entries p ≡ Some entry
       → (place : ℕ → ℕ) × (kept : List ℕ) × IsPart n m first reached p entry place kept
 
 -- The flags of the reversed NFA.
@@ -144,7 +145,7 @@ BeginsAlike a = MatchesEmpty (nfa_of a) a.start_pattern ↔ MatchesEmpty (nfa_of
 -- From the start of a pattern, the reversed one accepts by that pattern what the other accepts from its anchored start.
 abbrev pub IsReversedByPattern : Automaton → Automaton → Type 0
 IsReversedByPattern a b =
-    (k entry : ℕ) → nth b.start_pattern k ≡ Some entry
+    (k entry : ℕ) → slice_get b.start_pattern k ≡ Some entry
     → (h : List ℕ) (i j pattern : ℕ) → i ≤ j → j ≤ length h
     → ((path : List ℕ) × Accepts (nfa_of b) (reverse_tape h i j) entry (j - i) pattern path)
     ↔ ((pattern ≡ k)
@@ -157,6 +158,5 @@ PatternsAreReversed = (a b : Automaton) → IsChecked a → IsReversed a b → I
 -- An NFA and its reversed one are a true pair.
 abbrev pub ReversedIsTrue : Type 0
 ReversedIsTrue =
-    (a b : Automaton) (kind : MatchKind) → IsChecked a → IsReversed a b → BeginsAlike a
-    → BeginsLazily (engine_of a kind)
+    (a b : Automaton) (kind : MatchKind) → IsChecked a → IsReversed a b → BeginsAlike a → SkipsLazily a
     → IsTruePair (engine_of a kind) (engine_of b All)

@@ -1,7 +1,7 @@
 -- An NFA as paths see it: its states, the line terminator and the reverse flag.
-use Rattle.std.specs.Prelude.{ℕ, zero, suc, Bool, true, false, cond, List, [], ◌∷◌, Option, Some, None}
+use Rattle.std.specs.Prelude.{ℕ, zero, suc, Bool, true, false, ◌||◌, cond, List, [], ◌∷◌, Option, Some, None}
 use Rattle.automata_base.specs.Haystacks.Looks.{Look, within}
-use Rattle.automata_base.specs.Lists.{nth}
+use Rattle.std.specs.Prelude.{slice_get}
 
 -- Bytes from `lo` to `hi` lead to `next`.
 pub record Range : Type 0 where
@@ -27,14 +27,14 @@ node_or_fail (Some x) = x
 
 -- The state of a number. Past the last one it is a fail state.
 abbrev pub node : Nfa → ℕ → Node
-node n q = node_or_fail (nth n.nodes q)
+node n q = node_or_fail (slice_get n.nodes q)
 
 -- Which looks hold at a place.
 abbrev pub Truth : Type 0
 Truth = Look → Bool
 
 abbrev pub hop_at : Node → Truth → ℕ → Option ℕ
-hop_at (Split alternates) A e = nth alternates e
+hop_at (Split alternates) A e = slice_get alternates e
 hop_at (Assert look next) A zero = cond (A look) (Some next) None
 hop_at (Assert look next) A (suc e) = None
 hop_at (Read ranges) A e = None
@@ -88,3 +88,15 @@ ends_at (Accept p) = true
 
 abbrev pub ends : Nfa → ℕ → Option ℕ
 ends n q = cond (ends_at (node n q)) (Some q) None
+
+-- Whether a state is a look that passes the test.
+abbrev pub looks_at : (Look → Bool) → Node → Bool
+looks_at f (Split alternates) = false
+looks_at f (Assert look next) = f look
+looks_at f (Read ranges) = false
+looks_at f (Accept p) = false
+
+-- Whether some node is one.
+abbrev pub any_node : (Look → Bool) → List Node → Bool
+any_node f [] = false
+any_node f (x ∷ xs) = looks_at f x || any_node f xs

@@ -1,7 +1,7 @@
 -- Paths through an NFA along a tape.
-use Rattle.std.specs.Prelude.{ℕ, zero, suc, ◌≡◌, true, List, [], ◌∷◌, ◌⊎◌, Option, Some}
+use Rattle.std.specs.Prelude.{ℕ, zero, suc, ◌≡◌, true, List, [], ◌∷◌, ◌⊎◌, Option, Some, slice_get}
 use Rattle.automata_base.specs.Haystacks.Looks.{Look, holds}
-use Rattle.automata_base.specs.Lists.{In, nth, IsListOf, From}
+use Rattle.automata_base.specs.Lists.{In, IsListOf, From}
 use Rattle.automata_base.specs.Nfas.Nfa.{Nfa, Assert, Truth, node, hop, takes}
 
 -- A span as a search reads it: its bytes in the order in which they are read, and the bytes of the haystack beside it.
@@ -12,7 +12,7 @@ pub record Tape : Type 0 where
 
 abbrev pub prev_in : Option ℕ → List ℕ → ℕ → Option ℕ
 prev_in before bytes zero = before
-prev_in before bytes (suc i) = nth bytes i
+prev_in before bytes (suc i) = slice_get bytes i
 
 abbrev pub next_in : List ℕ → Option ℕ → ℕ → Option ℕ
 next_in [] after i = after
@@ -32,7 +32,7 @@ truth n t i look = holds n.terminator n.reverse look (prev t i) (next t i)
 
 -- At place `i` the state `q` has an edge to `r` at the next place of the span.
 abbrev pub Moves : Nfa → Tape → ℕ → ℕ → ℕ → Type 0
-Moves n t i q r = (u : ℕ) × (nth t.bytes i ≡ Some u) × (takes n q u ≡ Some r)
+Moves n t i q r = (u : ℕ) × (slice_get t.bytes i ≡ Some u) × (takes n q u ≡ Some r)
 
 -- A path at one place, by the numbers of its edges, from `q` to `z`, past no state of `seen` and none twice.
 abbrev pub IsPathAt : Nfa → Truth → List ℕ → ℕ → List ℕ → ℕ → Type 0

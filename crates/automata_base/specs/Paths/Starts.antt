@@ -1,11 +1,13 @@
 -- Where the paths of an anchored mode start, and the powerset state that stands for them.
-use Rattle.std.specs.Prelude.{ℕ, ◌≡◌, ◌<◌, length, slice_get, Option, Some, None}
+use Rattle.std.specs.Prelude.{ℕ, ◌≡◌, ◌<◌, length, slice_get, true, Option, Some, None}
 use Rattle.automata_base.specs.declared.util.search.Anchored.{Anchored}
 use Rattle.automata_base.specs.declared.util.search.Anchored.TheVariants.{No, Yes, Pattern}
 use Rattle.automata_base.specs.Nfas.Nodes.{Automaton, nfa_of}
+use Rattle.automata_base.specs.Haystacks.Looks.{Look}
+use Rattle.automata_base.specs.Haystacks.LookSets.{truth_of}
 use Rattle.automata_base.specs.Lists.{In}
 use Rattle.automata_base.specs.Nfas.Nfa.{Nfa}
-use Rattle.automata_base.specs.Powersets.Passes.{IsStart}
+use Rattle.automata_base.specs.Powersets.Passes.{IsStart, Occurs}
 use Rattle.automata_base.specs.Powersets.Powerset.{Powerset, dead}
 
 -- The state where the paths of an anchored mode start; none past the last pattern.
@@ -26,3 +28,7 @@ IsStartOf a mode prev Q = IsStartAt (nfa_of a) (mode_start a mode) prev Q
 -- Every NFA state of the powerset state is one of the NFA's.
 abbrev pub IsOf : Automaton → Powerset → Type 0
 IsOf a q = (s : ℕ) → In s q.nfa → s < length a.states
+
+-- The looks that a powerset state needs are looks of the automaton
+abbrev pub NeedsOwnLooks : Automaton → Powerset → Type 0
+NeedsOwnLooks a q = (look : Look) → truth_of q.needed look ≡ true → Occurs (nfa_of a) look

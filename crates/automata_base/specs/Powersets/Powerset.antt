@@ -1,6 +1,7 @@
 -- Powerset states, what holds for each of them, and their cost.
-use Rattle.std.specs.Prelude.{ℕ, List, [], Bool, false, ◌+◌, ◌*◌, ◌<◌, ◌^◌, nat_eq, length}
-use Rattle.std.specs.List.{AllByRecursion, IsDistinct}
+use Rattle.std.specs.Prelude.{ℕ, List, [], Bool, false, ◌+◌, ◌*◌, ◌<◌, ◌^◌, length}
+use Rattle.std.specs.List.{AllByRecursion}
+use Rattle.automata_base.specs.Lists.{Distinct}
 
 -- a powerset state: NFA states in order, patterns, the looks known and needed, whether it is after a word byte, and
 -- half way through a CRLF
@@ -20,7 +21,7 @@ IsId id = id < 2147483647
 pub record IsPowerset (q : Powerset) : Type 0 where
   pub nfa : AllByRecursion IsId q.nfa
   pub patterns : AllByRecursion IsId q.patterns
-  pub distinct : IsDistinct nat_eq q.patterns
+  pub distinct : Distinct q.patterns
   pub known : q.known < 2 ^ 32
   pub needed : q.needed < 2 ^ 32
 

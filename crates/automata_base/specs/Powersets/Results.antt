@@ -3,14 +3,13 @@ use Rattle.std.specs.Prelude.{ℕ, ◌≡◌, ◌≤◌, length, List, Option}
 use Rattle.automata_base.specs.Powersets.Accounting.{max_cost}
 use Rattle.automata_base.specs.Powersets.Cuts.{IsOnce, MatchKind}
 use Rattle.automata_base.specs.Nfas.Engines.{Anchored}
-use Rattle.automata_base.specs.Lists.{pick}
+use Rattle.automata_base.specs.Lists.{pick, Distinct}
 use Rattle.automata_base.specs.Nfas.Nfa.{accepts}
 use Rattle.automata_base.specs.Nfas.Nodes.{Automaton, nfa_of}
-use Rattle.automata_base.specs.Retraced.Once.{Distinct}
 use Rattle.automata_base.specs.Powersets.Passes.{IsClosureOf, IsSuccessor}
 use Rattle.automata_base.specs.Powersets.Powerset.{Powerset, cost}
-use Rattle.automata_base.specs.Paths.Starts.{IsOf, IsStartOf}
-use Rattle.automata_base.specs.Retraced.Steps.{NeedsOwnLooks, start_state_of, successor}
+use Rattle.automata_base.specs.Paths.Starts.{IsOf, IsStartOf, NeedsOwnLooks}
+use Rattle.automata_base.specs.Retraced.Steps.{start_state_of, successor}
 use Rattle.automata_base.specs.Answers.Within.{ReportsOwn}
 
 -- the powerset state where the searches of a mode start after a byte, or after none

@@ -2,7 +2,7 @@
 use Rattle.std.specs.Prelude.{ℕ}
 use Rattle.automata_base.specs.Nfas.Accepted.{IsChecked}
 use Rattle.automata_base.specs.Nfas.Nodes.{Automaton}
-use Rattle.automata_base.specs.Retraced.Rooms.{IsStepRoom}
+use Rattle.automata_base.specs.Powersets.Rooms.{IsStepRoom}
 use Rattle.automata_base.specs.declared.util.determinize.scratch.Scratch.TheInside.{Inside}
 
 -- What contracts see: the NFA that it was made for, and how often it was used.

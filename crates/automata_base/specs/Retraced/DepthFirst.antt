@@ -1,8 +1,8 @@
 -- A depth-first search, and the order in which it finishes states.
-use Rattle.std.specs.Prelude.{ℕ, ◌≡◌, ◌<◌, ◌⊎◌, List, [], ◌∷◌, take, Some}
+use Rattle.std.specs.Prelude.{ℕ, ◌≡◌, ◌<◌, ◌⊎◌, List, [], ◌∷◌, take, Some, slice_get}
 use Rattle.automata_base.specs.declared.nfa.thompson.finishing.Frame.{Frame}
-use Rattle.automata_base.specs.Lists.{In, nth}
-use Rattle.automata_base.specs.Nfas.Reach.{Route}
+use Rattle.automata_base.specs.Lists.{In}
+use Rattle.automata_base.specs.Retraced.Reach.{Route}
 
 -- `p` leads to `z` by at least one edge.
 abbrev pub LeadsBy : (ℕ → List ℕ) → ℕ → ℕ → Type 0
@@ -11,7 +11,7 @@ LeadsBy targets p z = (r : ℕ) × (way : List ℕ) × In r (targets p) × Route
 -- A state that stands before another one and leads to it is on a cycle.
 abbrev pub IsFinishingOrder : (ℕ → List ℕ) → List ℕ → Type 0
 IsFinishingOrder targets xs =
-    (i q p : ℕ) → nth xs i ≡ Some q → In p (take i xs) → (p ≡ q → ⊥) × (LeadsBy targets p q → LeadsBy targets p p)
+    (i q p : ℕ) → slice_get xs i ≡ Some q → In p (take i xs) → (p ≡ q → ⊥) × (LeadsBy targets p q → LeadsBy targets p p)
 
 -- The states on the stack, the top first.
 abbrev pub states_in : List Frame → List ℕ

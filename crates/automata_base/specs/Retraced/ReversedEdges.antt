@@ -1,6 +1,6 @@
 -- How the code reverses edges: for each state what leads to it, and the states that stand for edges.
 use Rattle.std.specs.Prelude.{ℕ, zero, suc, ◌+◌, ◌≡◌, List, [], ◌∷◌, ◌++◌, length, slice_index_or, cond, eqb, Some}
-use Rattle.std.specs.Prelude.{Option, None, map, ◌↔◌, ◌⊎◌, Bool, false}
+use Rattle.std.specs.Prelude.{Option, None, map, ◌↔◌, ◌⊎◌, Bool, false, slice_get}
 use Rattle.automata_base.specs.declared.nfa.thompson.State.{State}
 use Rattle.automata_base.specs.declared.nfa.thompson.State.TheVariants as is
 use Rattle.automata_base.specs.declared.nfa.thompson.Transition.{Transition}
@@ -8,8 +8,8 @@ use Rattle.automata_base.specs.declared.nfa.thompson.turn.EdgesByTarget.{EdgesBy
 use Rattle.automata_base.specs.Nfas.Mirrors.{flip}
 use Rattle.automata_base.specs.Nfas.Nfa.{Node, Split, Assert, Read, Accept, accepts_at}
 use Rattle.automata_base.specs.Nfas.Nodes.{node_of, nodes_of}
-use Rattle.automata_base.specs.Lists.{In, nth}
-use Rattle.automata_base.specs.Nfas.Reach.{IsReached}
+use Rattle.automata_base.specs.Lists.{In}
+use Rattle.automata_base.specs.Retraced.Reach.{IsReached}
 use Rattle.automata_base.specs.Retraced.DenseRuns.{runs_from}
 use Rattle.automata_base.specs.declared.nfa.thompson.reach.Edges.TheVariants.{Every}
 use Rattle.std.specs.declared.alloc.Global.{Global}
@@ -84,7 +84,7 @@ no_lists (suc n) = [] ∷ no_lists n
 abbrev pub IsHead : (n : ℕ) → List State → (alternates : List ℕ) → State → Type 0
 IsHead n helpers alternates s =
     ((v : Vec ℕ Global) × (s ≡ is.Union v) × (v.items ≡ alternates))
-    ⊎ ((j : ℕ) × (alternates ≡ (n + j) ∷ []) × (nth helpers j ≡ Some s))
+    ⊎ ((j : ℕ) × (alternates ≡ (n + j) ∷ []) × (slice_get helpers j ≡ Some s))
 
 abbrev pub AreHeads : (n : ℕ) → List State → List (List ℕ) → List State → Type 0
 AreHeads n helpers [] [] = Unit {0}
@@ -148,9 +148,9 @@ pub record IsCopied (nodes : List Node) (turned : List State) (roots : List ℕ)
     Type 0 where
   pub reached : (q : ℕ) → In q items ↔ IsReached Every turned roots q
   pub each :
-      (k q : ℕ) → nth items k ≡ Some q
-      → nth nodes (base + k) ≡ Some (copied (copy_of base items) p (slice_index_or turned q is.Fail))
-  pub enters : nth nodes entry ≡ Some (Split (map (copy_of base items) roots))
+      (k q : ℕ) → slice_get items k ≡ Some q
+      → slice_get nodes (base + k) ≡ Some (copied (copy_of base items) p (slice_index_or turned q is.Fail))
+  pub enters : slice_get nodes entry ≡ Some (Split (map (copy_of base items) roots))
 
 -- They are there for some base.
 abbrev pub HasCopies : List Node → List State → List ℕ → (p entry : ℕ) → Type 0
@@ -159,7 +159,7 @@ HasCopies nodes turned roots p entry = (base : ℕ) × (items : List ℕ) × IsC
 -- There are copies for each pattern, each entry in order.
 abbrev pub HaveCopies : List Node → List State → (turned : List State) → (reached entries : List ℕ) → Type 0
 HaveCopies nodes states turned reached entries =
-    (p entry : ℕ) → nth entries p ≡ Some entry → HasCopies nodes turned (matches_in states p reached) p entry
+    (p entry : ℕ) → slice_get entries p ≡ Some entry → HasCopies nodes turned (matches_in states p reached) p entry
 
 -- These states are what a reversed NFA is made of: the copies for each pattern, and after them the root, which goes on
 -- to each pattern's entry.

@@ -1,15 +1,12 @@
 -- The powerset construction as functions: each state has one start and one successor on a unit.
-use Rattle.std.specs.Prelude.{ℕ, ◌≡◌, true, Option, Some, None}
+use Rattle.std.specs.Prelude.{ℕ, Option, Some, None}
 use Rattle.automata_base.specs.declared.util.search.Anchored.{Anchored}
-use Rattle.automata_base.specs.Retraced.ComputedPass.{start_behind, successor_of}
+use Rattle.automata_base.specs.Retraced.Computed.{start_behind, successor_of}
 use Rattle.automata_base.specs.Powersets.Cuts.{MatchKind}
-use Rattle.automata_base.specs.Haystacks.Looks.{Look}
 use Rattle.automata_base.specs.Nfas.Nfa.{Nfa}
 use Rattle.automata_base.specs.Nfas.Nodes.{Automaton, nfa_of}
-use Rattle.automata_base.specs.Powersets.Passes.{Occurs}
 use Rattle.automata_base.specs.Powersets.Powerset.{Powerset, dead}
 use Rattle.automata_base.specs.Paths.Starts.{mode_start}
-use Rattle.automata_base.specs.Haystacks.LookSets.{truth_of}
 
 abbrev pub start_or_dead : Nfa → Option ℕ → Option ℕ → Powerset
 start_or_dead n None prev = dead
@@ -22,7 +19,3 @@ start_state_of a mode prev = start_or_dead (nfa_of a) (mode_start a mode) prev
 -- the successor on a byte, or on the end
 unfoldable pub successor : Automaton → MatchKind → Powerset → Option ℕ → Powerset
 successor a kind q unit = successor_of (nfa_of a) kind q unit
-
--- the looks that a powerset state needs are looks of the automaton
-abbrev pub NeedsOwnLooks : Automaton → Powerset → Type 0
-NeedsOwnLooks a q = (look : Look) → truth_of q.needed look ≡ true → Occurs (nfa_of a) look

@@ -60,19 +60,14 @@ impl ByteClasses {
         self.map[usize::from(byte)]
     }
 
-    /// Classes rise by at most one from byte to byte. It does nothing.
-    pub fn see_rising(&self)
-        ensures { AreClasses self.now }
-    {
-        let _map = &self.map;
-    }
-
-    /// The number of classes, the one of the end of the input included: 2 to 257.
+    /// The number of classes, the one of the end of the input included: 2 to 257. Classes rise by at most one from byte
+    /// to byte.
     pub fn alphabet_len(&self) -> usize
         ensures number { result ≡ alphabet_length self.now }
         ensures many { 2 ≤ result }
         ensures above { (byte : ℕ) → byte < 256 → class_in self.now byte + 1 < result }
         ensures few { result ≤ 257 }
+        ensures rising { AreClasses self.now }
     {
         usize::from(self.map[255]) + 2
     }

@@ -1,11 +1,12 @@
-ghost use Rattle.std.specs.Prelude.{◌≡◌, ◌<◌, ℕ, length, replicate, slice_set, eqb, false, IsTrue};
+ghost use Rattle.std.specs.Prelude.{◌≡◌, ◌<◌, ℕ, length, replicate, slice_set, eqb, false, unwrap_or, IsTrue};
 ghost use Rattle.std.specs.Int.{bit_at};
 ghost use Rattle.automata_base.specs.ByteClasses.Classes.{is_quit};
 
+use std::fmt;
 use std::marker::Model;
 
 /// A set of bytes, in 256 bits. Contracts see for each byte whether it is in the set.
-#[derive(Clone, Copy, Debug)]
+#[derive(Clone, Copy)]
 pub struct ByteSet {
     words: [u64; 4],
 }
@@ -34,11 +35,18 @@ impl ByteSet {
         ByteSet { words: [0; 4] }
     }
 
-    /// What is true of each set. It does nothing.
-    pub fn see_bytes(&self)
-        ensures { length self.now ≡ 256 }
+    /// The set, or the one without a byte if there is none.
+    pub fn or_empty(set: Option<ByteSet>) -> ByteSet
+        ensures same { result ≡ unwrap_or set (replicate 256 false) }
+        ensures whole { length result ≡ 256 }
     {
-        let _words = &self.words;
+        match set {
+            Some(set) => {
+                let words = set.words;
+                ByteSet { words }
+            }
+            None => ByteSet::empty(),
+        }
     }
 
     /// Whether it has no byte.
@@ -65,6 +73,19 @@ impl ByteSet {
         let mut words = self.words;
         words[index] = with_bit(words[index], byte % 64, yes);
         ByteSet { words }
+    }
+}
+
+/// Its bytes, as a set.
+impl fmt::Debug for ByteSet {
+    fn fmt<W: fmt::Write>(&self, f: &mut fmt::Formatter<W>) -> fmt::Result {
+        let mut set = f.debug_set();
+        for byte in 0..256usize {
+            if self.contains(byte as u8) {
+                set.entry(&byte);
+            }
+        }
+        set.finish()
     }
 }
 

@@ -1,6 +1,5 @@
 //! What a start state depends on.
-ghost use Rattle.std.specs.Prelude.{◌≡◌};
-ghost use Rattle.automata_base.specs.Lists.{nth};
+ghost use Rattle.std.specs.Prelude.{◌≡◌, slice_get};
 
 use crate::util::search::{Anchored, Input};
 use std::marker::Model;
@@ -24,7 +23,6 @@ impl Model for Config {
 
 impl Config {
     ghost use Rattle.std.specs.Prelude.{◌≡◌, None};
-    ghost use Rattle.automata_base.specs.Lists.{nth};
     ghost use Rattle.automata_base.specs.Haystacks.Tapes.{byte_before};
 
     /// No look-behind byte, and not anchored.
@@ -59,7 +57,7 @@ impl Config {
     /// The configuration of a reverse search. The look-behind byte is the one at the span's end, in the haystack.
     pub fn from_input_reverse(input: &Input<'_>) -> Config
         ensures { result ≡ record {
-          look_behind = nth input.now.haystack input.now.end;
+          look_behind = slice_get input.now.haystack input.now.end;
           anchored = input.now.anchored;
         } }
     {
@@ -107,7 +105,7 @@ impl Config {
 
 // The byte of the haystack at an offset, if it has one there.
 fn byte_at(haystack: &[u8], offset: usize) -> Option<u8>
-    ensures { result ≡ nth haystack.now offset }
+    ensures { result ≡ slice_get haystack.now offset }
 {
     haystack.get(offset).copied()
 }

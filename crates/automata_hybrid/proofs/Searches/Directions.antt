@@ -1,12 +1,11 @@
 -- The directions of a search: the units at its places and their offsets, and where it begins.
-use Rattle.std.specs.Prelude.{IsBitSet}
+use Rattle.std.specs.Prelude.{IsBitSet, slice_get}
 use Rattle.std.proofs.Common.{ℕ, suc, ◌≡◌, ◌∙◌, ◌+◌, ◌-◌, ◌≤◌, ◌<◌, ◌^◌, false, List, length, take, drop, get_or}
 use Rattle.std.proofs.Common.{Option, Some, refl, sym, ap, subst, arith}
 use Rattle.std.proofs.lemmas.Simd.{get_or-chunk, length-chunk}
 use Rattle.automata_base.specs.Answers.Answers.{later, offset_in}
 use Rattle.automata_base.specs.ByteClasses.Classes.{is_quit}
 use Rattle.automata_base.specs.Haystacks.Input.{Input}
-use Rattle.automata_base.specs.Lists.{nth}
 use Rattle.automata_base.specs.Paths.Paths.{next}
 use Rattle.automata_base.specs.Powersets.Powerset.{Powerset, dead}
 use Rattle.automata_base.specs.Retraced.Steps.{start_state_of}
@@ -35,11 +34,11 @@ units_in Backward input s l = backward_units input s l
 pub unit_forward :
     (w : Way) (input : Input) (place at : ℕ)
     → w ≡ way.Forward → input.start ≤ input.end → place ≤ input.end - input.start → input.end ≤ length input.haystack
-    → at ≡ offset_in (way_of w) input place → next (tape_in (way_of w) input) place ≡ nth input.haystack at
+    → at ≡ offset_in (way_of w) input place → next (tape_in (way_of w) input) place ≡ slice_get input.haystack at
 unit_forward w input place at e s p l o =
-    subst (λ (v : Way). at ≡ offset_in (way_of v) input place → next (tape_in (way_of v) input) place ≡ nth input.haystack at) (sym e) forward o
+    subst (λ (v : Way). at ≡ offset_in (way_of v) input place → next (tape_in (way_of v) input) place ≡ slice_get input.haystack at) (sym e) forward o
   where
-    forward : at ≡ input.start + place → next (tape_in Forward input) place ≡ nth input.haystack at
+    forward : at ≡ input.start + place → next (tape_in Forward input) place ≡ slice_get input.haystack at
     forward f =
         let k : place ≡ at - input.start = omega (arith, f) in
         ap (next (tape_in Forward input)) k ∙ forward_unit input at (omega (arith, f)) (omega (arith, f, p, s)) l

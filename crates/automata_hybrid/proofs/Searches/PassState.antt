@@ -2,7 +2,7 @@
 use Rattle.std.proofs.Common.{ℕ, zero, suc, ◌≡◌, ◌<◌, ◌≤◌, ◌⊎◌, inl, inr, Bool, true, false, List, [], ◌∷◌, length}
 use Rattle.std.proofs.Common.{Option, Some, None, refl, sym, ap, ◌∙◌, subst, arith, eq-or-lt_of_le}
 use Rattle.automata_base.specs.Answers.Answers.{offset_in}
-use Rattle.automata_base.specs.Retraced.ComputedPass.{pair_at, earlier_or}
+use Rattle.automata_base.specs.Retraced.Passes.{pair_at, earlier_or}
 use Rattle.automata_base.specs.declared.util.search.MatchKind.{MatchKind}
 use Rattle.automata_base.specs.declared.util.search.Anchored.{Anchored}
 use Rattle.automata_base.specs.Haystacks.Input.{Input}

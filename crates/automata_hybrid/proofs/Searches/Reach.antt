@@ -4,7 +4,7 @@ use Rattle.std.proofs.Common.{Some, None, refl, sym, ap, subst, arith}
 use Rattle.automata_base.specs.Answers.Answers.{later}
 use Rattle.automata_base.specs.ByteClasses.Classes.{is_quit}
 use Rattle.automata_base.specs.Haystacks.Input.{Input}
-use Rattle.automata_base.specs.Lists.{nth}
+use Rattle.std.specs.Prelude.{slice_get}
 use Rattle.automata_base.specs.Paths.Paths.{next}
 use Rattle.automata_base.specs.Powersets.Powerset.{Powerset}
 use Rattle.automata_base.specs.Haystacks.Tapes.{Direction, Forward, Backward, byte_before}
@@ -27,7 +27,7 @@ use Rattle.automata_hybrid.proofs.Searches.Directions.{later_anchored}
 
 -- a byte of the haystack in reach of a span
 abbrev pub InReach : Input → ℕ → Type 0
-InReach input byte = (at : ℕ) × (input.start ≤ at + 1) × (at ≤ input.end) × (nth input.haystack at ≡ Some byte)
+InReach input byte = (at : ℕ) × (input.start ≤ at + 1) × (at ≤ input.end) × (slice_get input.haystack at ≡ Some byte)
 
 before_reach : (input : Input) (o byte : ℕ) → input.start ≤ o → o ≤ input.end → byte_before input.haystack o ≡ Some byte → InReach input byte
 before_reach input zero byte s e h = absurd (none_some h)
@@ -47,7 +47,7 @@ pub unit_reach :
 unit_reach Forward input k byte l w n h =
     let u : input.end - input.start ≡ length (tape_in Forward input).bytes = forward_units input l w in
     let e : input.start + k - input.start ≡ k = omega arith in
-    let read : nth input.haystack (input.start + k) ≡ Some byte =
+    let read : slice_get input.haystack (input.start + k) ≡ Some byte =
     sym (forward_unit input (input.start + k) (omega arith) (omega (arith, u, n, l)) w)
     ∙ (ap (next (tape_in Forward input)) e ∙ h) in
     (input.start + k, omega arith, omega (arith, u, n, l), read)

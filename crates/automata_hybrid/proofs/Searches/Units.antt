@@ -2,7 +2,7 @@
 use Rattle.std.proofs.Common.{ℕ, zero, suc, ◌≡◌, ◌<◌, ◌≤◌, ◌+◌, ◌-◌, List, [], ◌∷◌, length, Some, None, refl, sym, ap}
 use Rattle.std.proofs.Common.{ap₂, ◌∙◌, arith, get_or}
 use Rattle.automata_base.specs.Haystacks.Input.{Input}
-use Rattle.automata_base.specs.Lists.{nth}
+use Rattle.std.specs.Prelude.{slice_get}
 use Rattle.automata_base.specs.Paths.Paths.{next}
 use Rattle.automata_base.specs.Haystacks.Tapes.{Forward, Backward, byte_before}
 use Rattle.automata_base.proofs.Answers.Bytes.{forward_next, forward_length, reverse_next, tape_length}
@@ -11,10 +11,10 @@ use Rattle.automata_hybrid.specs.Searches.Passes.{tape_in}
 -- forward the unit at an offset is the byte there
 pub forward_unit :
     (input : Input) (at : ℕ) → input.start ≤ at → at ≤ input.end → input.end ≤ length input.haystack
-    → next (tape_in Forward input) (at - input.start) ≡ nth input.haystack at
+    → next (tape_in Forward input) (at - input.start) ≡ slice_get input.haystack at
 forward_unit input at s e l =
     let n : input.start + (at - input.start) ≡ at = omega (arith, s) in
-    forward_next input.haystack input.start input.end (at - input.start) (omega (arith, n, e)) l ∙ ap (nth input.haystack) n
+    forward_next input.haystack input.start input.end (at - input.start) (omega (arith, n, e)) l ∙ ap (slice_get input.haystack) n
 
 pub forward_units :
     (input : Input) → input.start ≤ input.end → input.end ≤ length input.haystack
@@ -33,12 +33,12 @@ pub backward_units :
     → input.end - input.start ≡ length (tape_in Backward input).bytes
 backward_units input s l = sym (tape_length input.haystack input.start input.end s l)
 
-pub nth_read : (xs : List ℕ) (k x d : ℕ) → k < length xs → x ≡ get_or xs k d → nth xs k ≡ Some x
+pub nth_read : (xs : List ℕ) (k x d : ℕ) → k < length xs → x ≡ get_or xs k d → slice_get xs k ≡ Some x
 nth_read [] k x d l e = absurd (omega (arith, l))
 nth_read (y ∷ ys) zero x d l e = ap Some (sym e)
 nth_read (y ∷ ys) (suc k) x d l e = nth_read ys k x d (omega (arith, l)) e
 
-pub nth_past : (xs : List ℕ) (k : ℕ) → length xs ≤ k → nth xs k ≡ None
+pub nth_past : (xs : List ℕ) (k : ℕ) → length xs ≤ k → slice_get xs k ≡ None
 nth_past [] k l = refl
 nth_past (y ∷ ys) zero l = absurd (omega (arith, l))
 nth_past (y ∷ ys) (suc k) l = nth_past ys k (omega (arith, l))

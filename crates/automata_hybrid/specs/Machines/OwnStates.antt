@@ -1,8 +1,7 @@
 -- What states of an automaton are made of.
 use Rattle.automata_base.specs.Nfas.Nodes.{Automaton}
 use Rattle.automata_base.specs.Powersets.Powerset.{Powerset}
-use Rattle.automata_base.specs.Paths.Starts.{IsOf}
-use Rattle.automata_base.specs.Retraced.Steps.{NeedsOwnLooks}
+use Rattle.automata_base.specs.Paths.Starts.{IsOf, NeedsOwnLooks}
 use Rattle.automata_base.specs.Answers.Within.{ReportsOwn}
 
 -- the states, the looks and the patterns of a powerset state are the automaton's

@@ -4,7 +4,7 @@ use Rattle.automata_base.specs.Answers.Answers.{Answers, Half, Tries, later, off
 use Rattle.automata_base.specs.ByteClasses.Classes.{is_quit}
 use Rattle.automata_base.specs.Nfas.Engines.{IsSkipping, engine_of}
 use Rattle.automata_base.specs.Haystacks.Input.{Input}
-use Rattle.automata_base.specs.Lists.{nth}
+use Rattle.std.specs.Prelude.{slice_get}
 use Rattle.automata_base.specs.Haystacks.Matches.{HalfMatch}
 use Rattle.automata_base.specs.Paths.Paths.{Tape, next}
 use Rattle.automata_base.specs.Powersets.Powerset.{Powerset, dead}
@@ -134,5 +134,5 @@ WithoutBase P found = (answer : Option Half) × P answer × (found ≡ option_ma
 -- no byte is a quit byte from the one before the span to the one after it
 abbrev pub NoQuitInReach : Machine → Input → Type 0
 NoQuitInReach m input =
-    (at byte : ℕ) → input.start ≤ at + 1 → at ≤ input.end → nth input.haystack at ≡ Some byte
+    (at byte : ℕ) → input.start ≤ at + 1 → at ≤ input.end → slice_get input.haystack at ≡ Some byte
     → is_quit m.quits byte ≡ false

@@ -226,7 +226,7 @@ impl DFA {
         ensures number { slot_count self.now ≡ start_slots self.now.nfa (starts_for_each_pattern_of self.now.config) }
         ensures fits { slot_count self.now < 2 ^ 64 }
     {
-        self.classes.see_rising();
+        let _len = self.classes.alphabet_len();
     }
 
     /// The fixed rows alone.

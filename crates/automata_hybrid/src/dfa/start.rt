@@ -8,7 +8,7 @@ ghost use Rattle.automata_base.specs.ByteClasses.Classes.{is_quit};
 ghost use Rattle.automata_base.specs.Retraced.Steps.{start_state_of};
 ghost use Rattle.automata_hybrid.specs.Machines.Machine.{slot_count};
 ghost use Rattle.automata_base.specs.Haystacks.Tapes.{Backward, byte_before};
-ghost use Rattle.automata_base.specs.Lists.{nth};
+ghost use Rattle.std.specs.Prelude.{slice_get};
 ghost use Rattle.automata_hybrid.specs.Steps.Starts.{quit_behind, start_refusal, search_refusal, KnowsStart};
 ghost use Rattle.automata_hybrid.specs.Steps.Starts.{IsStartSlot};
 ghost use Rattle.automata_hybrid.specs.Steps.Starts.{IsStartAnswer, IsStartRefused, IsStartRefusedAt, IsStartEffect};
@@ -335,11 +335,11 @@ impl DFA {
         requires { IsCacheOf cache.old self.now }
         ensures of { IsCacheOf cache.new self.now }
         ensures answer { IfOk result
-            (IsStartAnswer self.now input.now.anchored (nth input.now.haystack input.now.end) cache.old cache.new) }
+            (IsStartAnswer self.now input.now.anchored (slice_get input.now.haystack input.now.end) cache.old cache.new) }
         ensures refusal { IfErr result
-            (IsStartRefusedAt self.now input.now.anchored (nth input.now.haystack input.now.end)
+            (IsStartRefusedAt self.now input.now.anchored (slice_get input.now.haystack input.now.end)
             input.now.end input.now.end cache.old cache.new) }
-        ensures effect { IsStartEffect self.now input.now.anchored (nth input.now.haystack input.now.end)
+        ensures effect { IsStartEffect self.now input.now.anchored (slice_get input.now.haystack input.now.end)
             cache.old cache.new }
         ensures stands { IfOk result (StartsIn Backward self.now cache.new input.now) }
     {

@@ -1,22 +1,16 @@
 -- The walks that a replay keeps, beside those of the history.
-use Rattle.std.proofs.Common.{◌≡◌, ℕ, zero, suc, ◌<◌, ◌≤◌, List, [], ◌∷◌, ◌++◌, length, get_or, refl, sym, ◌∙◌, ap}
+use Rattle.std.proofs.Common.{◌≡◌, ℕ, zero, suc, ◌≤◌, List, [], ◌∷◌, ◌++◌, length, refl, sym, ◌∙◌, ap}
 use Rattle.std.proofs.Common.{arith, subst, Some, None}
 use Rattle.std.proofs.Math.ListN.{set}
-use Rattle.automata_base.specs.Lists.{nth}
+use Rattle.std.specs.Prelude.{slice_get}
 use Rattle.regex_automata.specs.Replay.Histories.{Begun, stepped, step_at}
 use Rattle.regex_automata.specs.Replay.Players.{IsWalk, AreWalks}
 use Rattle.regex_automata.specs.declared.hybrid.regex.Regex.{Regex}
 use Rattle.regex_automata.specs.declared.replay.walks.KeptWalk.{KeptWalk}
-use Rattle.regex_automata.proofs.Results.{same_some}
+use Rattle.automata_base.proofs.Paths.Orders.{none_some, some_inj}
 
--- an element within a list, whatever the default
-pub any_default : (ks : List KeptWalk) (n : ℕ) (j k : KeptWalk) → n < length ks → get_or ks n j ≡ get_or ks n k
-any_default [] n j k lt = absurd (omega arith)
-any_default (x ∷ xs) zero j k lt = refl
-any_default (x ∷ xs) (suc n) j k lt = any_default xs n j k (omega arith)
-
-pub same_at : (ks : List KeptWalk) (n : ℕ) (j k : KeptWalk) → n < length ks → j ≡ get_or ks n j → k ≡ get_or ks n k → j ≡ k
-same_at ks n j k lt at_j at_k = at_j ∙ any_default ks n j k lt ∙ sym at_k
+pub same_at : (ks : List KeptWalk) (n : ℕ) (j k : KeptWalk) → slice_get ks n ≡ Some j → slice_get ks n ≡ Some k → j ≡ k
+same_at ks n j k at_j at_k = some_inj (sym at_j ∙ at_k)
 
 module _ (rs : List Regex) where
   -- one more
@@ -35,7 +29,7 @@ module _ (rs : List Regex) where
   length-walks (v ∷ ws) (j ∷ ks) all = ap suc (length-walks ws ks all.1)
 
   -- after the last there is none
-  pub no_walk : (ws : List Begun) (ks : List KeptWalk) (n : ℕ) → AreWalks rs ws ks → length ks ≤ n → nth ws n ≡ None
+  pub no_walk : (ws : List Begun) (ks : List KeptWalk) (n : ℕ) → AreWalks rs ws ks → length ks ≤ n → slice_get ws n ≡ None
   no_walk [] ks n all le = refl
   no_walk (v ∷ ws) [] n all le = absurd all
   no_walk (v ∷ ws) (j ∷ ks) zero all le = absurd (omega arith)
@@ -44,30 +38,30 @@ module _ (rs : List Regex) where
   -- the walk that is kept under a number
   pub walk_at :
       (ws : List Begun) (ks : List KeptWalk) (n : ℕ) (k : KeptWalk)
-      → AreWalks rs ws ks → n < length ks → k ≡ get_or ks n k → (w : Begun) × (nth ws n ≡ Some w) × IsWalk rs w k
-  walk_at [] [] n k all lt is = absurd (omega arith)
-  walk_at [] (j ∷ ks) n k all lt is = absurd all
-  walk_at (v ∷ ws) [] n k all lt is = absurd all
-  walk_at (v ∷ ws) (j ∷ ks) zero k all lt is = (v, refl, subst (λ x. IsWalk rs v x) (sym is) all.0)
-  walk_at (v ∷ ws) (j ∷ ks) (suc n) k all lt is = walk_at ws ks n k all.1 (omega arith) is
+      → AreWalks rs ws ks → slice_get ks n ≡ Some k → (w : Begun) × (slice_get ws n ≡ Some w) × IsWalk rs w k
+  walk_at [] [] n k all is = absurd (none_some is)
+  walk_at [] (j ∷ ks) n k all is = absurd all
+  walk_at (v ∷ ws) [] n k all is = absurd all
+  walk_at (v ∷ ws) (j ∷ ks) zero k all is = (v, refl, subst (λ x. IsWalk rs v x) (some_inj is) all.0)
+  walk_at (v ∷ ws) (j ∷ ks) (suc n) k all is = walk_at ws ks n k all.1 is
 
   -- a walk that reported one more pair
   pub walks_step :
       (ws : List Begun) (ks : List KeptWalk) (n : ℕ) (w : Begun) (k : KeptWalk)
-      → AreWalks rs ws ks → nth ws n ≡ Some w → IsWalk rs (stepped w) k → AreWalks rs (step_at n ws) (set ks n k)
+      → AreWalks rs ws ks → slice_get ws n ≡ Some w → IsWalk rs (stepped w) k → AreWalks rs (step_at n ws) (set ks n k)
   walks_step [] [] n w k all at one = tt
   walks_step [] (j ∷ ks) n w k all at one = absurd all
   walks_step (v ∷ ws) [] n w k all at one = absurd all
   walks_step (v ∷ ws) (j ∷ ks) zero w k all at one =
-      (subst (λ x. IsWalk rs (stepped x) k) (sym (same_some at)) one, all.1)
+      (subst (λ x. IsWalk rs (stepped x) k) (sym (some_inj at)) one, all.1)
   walks_step (v ∷ ws) (j ∷ ks) (suc n) w k all at one = (all.0, walks_step ws ks n w k all.1 at one)
 
   -- or none
   pub walks_same :
       (ws : List Begun) (ks : List KeptWalk) (n : ℕ) (w : Begun) (k : KeptWalk)
-      → AreWalks rs ws ks → nth ws n ≡ Some w → IsWalk rs w k → AreWalks rs ws (set ks n k)
+      → AreWalks rs ws ks → slice_get ws n ≡ Some w → IsWalk rs w k → AreWalks rs ws (set ks n k)
   walks_same [] [] n w k all at one = tt
   walks_same [] (j ∷ ks) n w k all at one = absurd all
   walks_same (v ∷ ws) [] n w k all at one = absurd all
-  walks_same (v ∷ ws) (j ∷ ks) zero w k all at one = (subst (λ x. IsWalk rs x k) (sym (same_some at)) one, all.1)
+  walks_same (v ∷ ws) (j ∷ ks) zero w k all at one = (subst (λ x. IsWalk rs x k) (sym (some_inj at)) one, all.1)
   walks_same (v ∷ ws) (j ∷ ks) (suc n) w k all at one = (all.0, walks_same ws ks n w k all.1 at one)

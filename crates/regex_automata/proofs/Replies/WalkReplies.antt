@@ -1,9 +1,9 @@
 -- A step of a walk, by what is kept of it and by the history.
-use Rattle.std.proofs.Common.{◌≡◌, ℕ, ◌+◌, ◌<◌, ◌≤◌, List, length, get_or, Option, Some, None, Result, Ok, Err, Bool}
+use Rattle.std.proofs.Common.{◌≡◌, ℕ, ◌+◌, ◌≤◌, List, length, Option, Some, None, Result, Ok, Err, Bool}
 use Rattle.std.proofs.Common.{eq-eqb, if◌then◌else◌, sym, subst, ap, refl, ◌∙◌}
 use Rattle.std.proofs.Math.ListN.{set}
 use Rattle.std.proofs.lemmas.Bool.{ne_eqb}
-use Rattle.automata_base.specs.Lists.{nth}
+use Rattle.std.specs.Prelude.{slice_get}
 use Rattle.automata_base.specs.Haystacks.Input.{Input}
 use Rattle.automata_base.specs.Haystacks.Matches.{HalfMatch}
 use Rattle.automata_config.specs.declared.error.SearchError.{SearchError}
@@ -27,25 +27,25 @@ use Rattle.regex_automata.proofs.Replies.KeptWalks.{no_walk, walk_at, same_at, w
 
 -- the walk that is kept under a number belongs to the player's regex
 of_current : (h : History) (s : Player) (w : Begun) (k : KeptWalk)
-    → HasPlayed h s → IsWalk s.regexes.now w k → k.regex ≡ s.current → nth s.regexes.now w.regex ≡ Some s.regex.now
+    → HasPlayed h s → IsWalk s.regexes.now w k → k.regex ≡ s.current → slice_get s.regexes.now w.regex ≡ Some s.regex.now
 of_current h s w k a is e =
-    ap (nth s.regexes.now) (sym is.regex ∙ e ∙ a.current) ∙ a.regex
+    ap (slice_get s.regexes.now) (sym is.regex ∙ e ∙ a.current) ∙ a.regex
 
 reported_there : (h : History) (s : Player) (n : ℕ) (k : KeptWalk)
-    → HasPlayed h s → n < length s.walks.items → k ≡ get_or s.walks.items n k → k.regex ≡ s.current
+    → HasPlayed h s → slice_get s.walks.items n ≡ Some k → k.regex ≡ s.current
     → (j : ℕ) × HasAnsweredBy s.regex.now k j
-reported_there h s n k a lt is e =
-    let (w, at, walk) = walk_at s.regexes.now h.walks s.walks.items n k a.walks lt is in
+reported_there h s n k a is e =
+    let (w, at, walk) = walk_at s.regexes.now h.walks s.walks.items n k a.walks is in
     (w.reported, walk.reported s.regex.now (of_current h s w k a walk e))
 
 -- the same under another view of the list
 pub reported_at : (h : History) (s : Player) (n : ℕ) (k old : KeptWalk) (ks : List KeptWalk) → ks ≡ s.walks.items
-    → HasPlayed h s → n < length s.walks.items → k ≡ get_or s.walks.items n k → k.regex ≡ s.current → old ≡ get_or ks n old
+    → HasPlayed h s → slice_get s.walks.items n ≡ Some k → k.regex ≡ s.current → slice_get ks n ≡ Some old
     → (j : ℕ) × HasAnsweredBy s.regex.now old j
-reported_at h s n k old ks same a lt is e at =
+reported_at h s n k old ks same a is e at =
     subst (λ (x : KeptWalk). (j : ℕ) × HasAnsweredBy s.regex.now x j)
-    (same_at s.walks.items n k old lt is (at ∙ ap (λ (xs : List KeptWalk). get_or xs n old) same))
-    (reported_there h s n k a lt is e)
+    (same_at s.walks.items n k old is (ap (λ (xs : List KeptWalk). slice_get xs n) (sym same) ∙ at))
+    (reported_there h s n k a is e)
 
 pub no_walk_reply : (h : History) (s : Player) (n : ℕ)
     → HasPlayed h s → length s.walks.items ≤ n → IsReply s.regexes.now h (request.StepWalk n) (reply.Bad fault.NoWalk)
@@ -63,10 +63,10 @@ other_regex : (current : ℕ) (w : Begun) → (w.regex ≡ current → ⊥) → 
 other_regex current w ne = ap unless_same (ne_eqb w.regex current ne)
 
 pub other_reply : (h : History) (s : Player) (n : ℕ) (k : KeptWalk)
-    → HasPlayed h s → n < length s.walks.items → k ≡ get_or s.walks.items n k → (k.regex ≡ s.current → ⊥)
+    → HasPlayed h s → slice_get s.walks.items n ≡ Some k → (k.regex ≡ s.current → ⊥)
     → IsReply s.regexes.now h (request.StepWalk n) (reply.Bad fault.OtherRegex)
-other_reply h s n k a lt is ne =
-    let (w, at, walk) = walk_at s.regexes.now h.walks s.walks.items n k a.walks lt is in
+other_reply h s n k a is ne =
+    let (w, at, walk) = walk_at s.regexes.now h.walks s.walks.items n k a.walks is in
     is_bad s.regexes.now h (request.StepWalk n) (reply.Bad fault.OtherRegex) s.regex.now fault.OtherRegex a.regex
     (ap (walk_fault h.current) at ∙ other_regex h.current w (λ e. ne (walk.regex ∙ e ∙ sym a.current))) refl
 
@@ -74,15 +74,15 @@ other_reply h s n k a lt is ne =
 begun_step : (rs : List Regex) (r : Regex) (w : Begun) (k : KeptWalk) (result : Result (Option HalfMatch) SearchError)
     → IsWalk rs w k → IsStepFrom r k w.reported result → IsStepOf r (Some w) result
 begun_step rs r w k result walk h =
-    subst (λ (i : Input). IsStep (direction_of w.reverse) (dfa_of w.reverse r) i w.reported result) walk.input
-    (subst (λ b. IsStep (direction_of b) (dfa_of b r) k.input w.reported result) walk.reverse h)
+    subst (λ (i : Input). IsStep (direction_of w.way) (dfa_of w.way r) i w.reported result) walk.input
+    (subst (λ b. IsStep (direction_of b) (dfa_of b r) k.input w.reported result) walk.way h)
 
 pub step_reply : (h : History) (s : Player) (n : ℕ) (k : KeptWalk) (result : Result (Option HalfMatch) SearchError)
-    → HasPlayed h s → n < length s.walks.items → k ≡ get_or s.walks.items n k → k.regex ≡ s.current
+    → HasPlayed h s → slice_get s.walks.items n ≡ Some k → k.regex ≡ s.current
     → ((j : ℕ) → HasAnsweredBy s.regex.now k j → IsStepFrom s.regex.now k j result)
     → IsReply s.regexes.now h (request.StepWalk n) (reply.Half result)
-step_reply h s n k result a lt is e returned =
-    let (w, at, walk) = walk_at s.regexes.now h.walks s.walks.items n k a.walks lt is in
+step_reply h s n k result a is e returned =
+    let (w, at, walk) = walk_at s.regexes.now h.walks s.walks.items n k a.walks is in
     is_own s.regexes.now h (request.StepWalk n) (reply.Half result) s.regex.now a.regex
     (ap (walk_fault h.current) at ∙ same_regex h.current w (sym walk.regex ∙ e ∙ a.current))
     (subst (λ (o : Option Begun). IsStepOf s.regex.now o result) (sym at)
@@ -93,16 +93,16 @@ begun_made :
     (rs : List Regex) (r : Regex) (w : Begun) (k : KeptWalk) (old new : Cache) (result : Result (Option HalfMatch) SearchError)
     → IsWalk rs w k → HasAnsweredBy r k w.reported → MakesStep r k old new result → IsWalkStepped r (Some w) old new result
 begun_made rs r w k old new result walk reported made =
-    subst (λ (i : Input). IsCalled (direction_of w.reverse) (dfa_of w.reverse r) i w.reported (own_of w.reverse old) (own_of w.reverse new) result × (other_of w.reverse new ≡ other_of w.reverse old)) walk.input
-    (subst (λ b. IsCalled (direction_of b) (dfa_of b r) k.input w.reported (own_of b old) (own_of b new) result × (other_of b new ≡ other_of b old)) walk.reverse
+    subst (λ (i : Input). IsCalled (direction_of w.way) (dfa_of w.way r) i w.reported (own_of w.way old) (own_of w.way new) result × (other_of w.way new ≡ other_of w.way old)) walk.input
+    (subst (λ b. IsCalled (direction_of b) (dfa_of b r) k.input w.reported (own_of b old) (own_of b new) result × (other_of b new ≡ other_of b old)) walk.way
     (made.0 w.reported reported, made.1))
 
 pub step_made :
     (h : History) (s : Player) (n : ℕ) (k : KeptWalk) (old new : Cache) (result : Result (Option HalfMatch) SearchError)
-    → HasPlayed h s → n < length s.walks.items → k ≡ get_or s.walks.items n k → k.regex ≡ s.current
+    → HasPlayed h s → slice_get s.walks.items n ≡ Some k → k.regex ≡ s.current
     → MakesStep s.regex.now k old new result → AreMade s.regexes.now h (request.StepWalk n) (reply.Half result) old new
-step_made h s n k old new result a lt is e made =
-    let (w, at, walk) = walk_at s.regexes.now h.walks s.walks.items n k a.walks lt is in
+step_made h s n k old new result a is e made =
+    let (w, at, walk) = walk_at s.regexes.now h.walks s.walks.items n k a.walks is in
     subst (λ (o : Option Regex). IsMadeByOf o h.walks (request.StepWalk n) old new (reply.Half result)) (sym a.regex)
     (subst (λ (o : Option Begun). IsWalkStepped s.regex.now o old new result) (sym at)
     (begun_made s.regexes.now s.regex.now w k old new result walk (walk.reported s.regex.now (of_current h s w k a walk e)) made))
@@ -112,25 +112,25 @@ some_regex : {v w : Regex} → Some v ≡ Some w → v ≡ w
 some_regex e = cc
 
 goes_on : (rs : List Regex) (r : Regex) (w : Begun) (old new : KeptWalk) (found : Option HalfMatch)
-    → nth rs w.regex ≡ Some r → IsWalk rs w old → Goes r old new (Ok found) → IsWalk rs (stepped w) new
+    → slice_get rs w.regex ≡ Some r → IsWalk rs w old → Goes r old new (Ok found) → IsWalk rs (stepped w) new
 goes_on rs r w old new found at is g = record {
   regex = g.regex ∙ is.regex;
-  reverse = g.reverse ∙ is.reverse;
+  way = g.way ∙ is.way;
   input = g.input ∙ is.input;
   reported = λ x e. subst (λ (v : Regex). HasAnsweredBy v new (w.reported + 1)) (some_regex (sym at ∙ e)) (g.reported w.reported (is.reported r at));
 }
 
 stays : (rs : List Regex) (r : Regex) (w : Begun) (old new : KeptWalk) (error : SearchError)
-    → nth rs w.regex ≡ Some r → IsWalk rs w old → Goes r old new (Err error) → IsWalk rs w new
+    → slice_get rs w.regex ≡ Some r → IsWalk rs w old → Goes r old new (Err error) → IsWalk rs w new
 stays rs r w old new error at is g = record {
   regex = g.regex ∙ is.regex;
-  reverse = g.reverse ∙ is.reverse;
+  way = g.way ∙ is.way;
   input = g.input ∙ is.input;
   reported = λ x e. subst (λ (v : Regex). HasAnsweredBy v new w.reported) (some_regex (sym at ∙ e)) (g.kept w.reported (is.reported r at));
 }
 
 walks_after : (rs : List Regex) (r : Regex) (h : History) (ks : List KeptWalk) (n : ℕ) (w : Begun) (old new : KeptWalk) (result : Result (Option HalfMatch) SearchError)
-    → AreWalks rs h.walks ks → nth h.walks n ≡ Some w → nth rs w.regex ≡ Some r → IsWalk rs w old → Goes r old new result
+    → AreWalks rs h.walks ks → slice_get h.walks n ≡ Some w → slice_get rs w.regex ≡ Some r → IsWalk rs w old → Goes r old new result
     → AreWalks rs (after_step h n (reply.Half result)).walks (set ks n new)
 walks_after rs r h ks n w old new (Ok found) all at of is g =
     walks_step rs h.walks ks n w new all at (goes_on rs r w old new found of is g)
@@ -143,17 +143,17 @@ current_after h n (Ok found) = refl
 current_after h n (Err error) = refl
 
 pub at_stepped : (h : History) (s t : Player) (n : ℕ) (old : KeptWalk) (xs ks : List KeptWalk) (result : Result (Option HalfMatch) SearchError)
-    → HasPlayed h s → n < length s.walks.items → old ≡ get_or s.walks.items n old → old.regex ≡ s.current
+    → HasPlayed h s → slice_get s.walks.items n ≡ Some old → old.regex ≡ s.current
     → xs ≡ s.walks.items → (new : KeptWalk) × Goes s.regex.now old new result × (ks ≡ set xs n new)
     → t.regexes.now ≡ s.regexes.now → t.regex.now ≡ s.regex.now → t.current ≡ s.current → AreCachesOf t.cache s.regex.now
     → t.walks.items ≡ ks
     → HasPlayed (after_step h n (reply.Half result)) t
-at_stepped h s t n old xs ks result a lt is e same goes rs r current of items =
-    let (w, at, walk) = walk_at s.regexes.now h.walks s.walks.items n old a.walks lt is in
+at_stepped h s t n old xs ks result a is e same goes rs r current of items =
+    let (w, at, walk) = walk_at s.regexes.now h.walks s.walks.items n old a.walks is in
     let (new, g, set_is) = goes in
     record {
       current = current ∙ a.current ∙ sym (current_after h n result);
-      regex = ap (λ (xs : List Regex). nth xs (after_step h n (reply.Half result)).current) rs ∙ ap (nth s.regexes.now) (current_after h n result) ∙ a.regex ∙ ap Some (sym r);
+      regex = ap (λ (xs : List Regex). slice_get xs (after_step h n (reply.Half result)).current) rs ∙ ap (slice_get s.regexes.now) (current_after h n result) ∙ a.regex ∙ ap Some (sym r);
       of = subst (λ (v : Regex). AreCachesOf t.cache v) (sym r) of;
       walks = subst (λ (xs : List Regex). AreWalks xs (after_step h n (reply.Half result)).walks t.walks.items) (sym rs)
           (subst (λ (ws : List KeptWalk). AreWalks s.regexes.now (after_step h n (reply.Half result)).walks ws) (sym (items ∙ set_is ∙ ap (λ (js : List KeptWalk). set js n new) same))

@@ -3,7 +3,7 @@ use Rattle.std.proofs.Common.{◌≡◌, ◌==◌, ℕ, zero, suc, Bool, true, f
 use Rattle.std.proofs.Common.{Result, Ok, Err, IfOk, MatchOption, if◌then◌else◌, ap, refl, sym, subst, ◌∙◌, add-one}
 use Rattle.std.proofs.lemmas.Bool.{eqb-true, eqb-false}
 use Rattle.automata_base.specs.Haystacks.Input.{Input}
-use Rattle.automata_base.specs.Lists.{nth}
+use Rattle.std.specs.Prelude.{slice_get}
 use Rattle.automata_base.specs.Haystacks.Matches.{HalfMatch}
 use Rattle.automata_base.specs.Paths.Selections.{Pair}
 use Rattle.automata_config.specs.declared.error.SearchError.{SearchError}
@@ -17,9 +17,10 @@ use Rattle.regex_automata.specs.declared.replay.requests.Request.{Request}
 use Rattle.regex_automata.specs.declared.replay.requests.Request.TheVariants as request
 use Rattle.regex_automata.specs.declared.replay.requests.Reply.{Reply}
 use Rattle.regex_automata.specs.declared.replay.requests.Reply.TheVariants as reply
+use Rattle.regex_automata.specs.declared.replay.requests.Way.{Way}
 use Rattle.regex_automata.specs.declared.replay.requests.Fault.{Fault}
 use Rattle.regex_automata.specs.declared.replay.requests.Fault.TheVariants as fault
-use Rattle.regex_automata.proofs.Results.{none_some, same_some, some_none}
+use Rattle.automata_base.proofs.Paths.Orders.{none_some, some_inj, some_none}
 
 half_bad : {result : Result (Option HalfMatch) SearchError} {why : Fault} → reply.Half result ≡ reply.Bad why → ⊥
 half_bad e = cc
@@ -31,7 +32,7 @@ reported_of (Some w) = w.reported
 
 -- one walk at two times
 abbrev Same : Begun → Begun → Type 0
-Same v w = (v.regex ≡ w.regex) × (v.reverse ≡ w.reverse) × (v.input ≡ w.input)
+Same v w = (v.regex ≡ w.regex) × (v.way ≡ w.way) × (v.input ≡ w.input)
 
 abbrev Becomes : Option Begun → Begun → Type 0
 Becomes None w = Unit {0}
@@ -40,16 +41,16 @@ Becomes (Some v) w = Same v w
 becomes_itself : (now : Option Begun) (w : Begun) → now ≡ Some w → Becomes now w
 becomes_itself None w e = tt
 becomes_itself (Some v) w e =
-    let i = same_some e in
-    (ap (λ (x : Begun). x.regex) i, ap (λ (x : Begun). x.reverse) i, ap (λ (x : Begun). x.input) i)
+    let i = some_inj e in
+    (ap (λ (x : Begun). x.regex) i, ap (λ (x : Begun). x.way) i, ap (λ (x : Begun). x.input) i)
 
 -- a walk that is begun has reported nothing, and the others stay
-push_other : (ws : List Begun) (new : Begun) (k : ℕ) (v : Begun) → nth ws k ≡ Some v → nth (ws ++ new ∷ []) k ≡ Some v
+push_other : (ws : List Begun) (new : Begun) (k : ℕ) (v : Begun) → slice_get ws k ≡ Some v → slice_get (ws ++ new ∷ []) k ≡ Some v
 push_other [] new k v e = absurd (none_some e)
 push_other (x ∷ ws) new zero v e = e
 push_other (x ∷ ws) new (suc k) v e = push_other ws new k v e
 
-push_reported : (ws : List Begun) (new : Begun) (k : ℕ) → new.reported ≡ 0 → nth ws k ≡ None → reported_of (nth (ws ++ new ∷ []) k) ≡ 0
+push_reported : (ws : List Begun) (new : Begun) (k : ℕ) → new.reported ≡ 0 → slice_get ws k ≡ None → reported_of (slice_get (ws ++ new ∷ []) k) ≡ 0
 push_reported [] new zero z e = z
 push_reported [] new (suc k) z e = refl
 push_reported (x ∷ ws) new zero z e = absurd (some_none e)
@@ -60,12 +61,12 @@ abbrev with_step : Option Begun → Option Begun
 with_step None = None
 with_step (Some v) = Some (stepped v)
 
-step_same : (ws : List Begun) (j : ℕ) → nth (step_at j ws) j ≡ with_step (nth ws j)
+step_same : (ws : List Begun) (j : ℕ) → slice_get (step_at j ws) j ≡ with_step (slice_get ws j)
 step_same [] j = refl
 step_same (x ∷ ws) zero = refl
 step_same (x ∷ ws) (suc j) = step_same ws j
 
-step_other : (ws : List Begun) (j k : ℕ) → (j ≡ k → ⊥) → nth (step_at j ws) k ≡ nth ws k
+step_other : (ws : List Begun) (j k : ℕ) → (j ≡ k → ⊥) → slice_get (step_at j ws) k ≡ slice_get ws k
 step_other [] j k ne = refl
 step_other (x ∷ ws) zero zero ne = absurd (ne refl)
 step_other (x ∷ ws) zero (suc k) ne = refl
@@ -77,7 +78,7 @@ by_regex :
     (ws : List Begun) (k : ℕ) (b : Bool) (r : Option Regex) (found : Option HalfMatch)
     → MatchOption (if b then None else Some fault.OtherRegex) (IsOwnValueBy r ws (request.StepWalk k) (reply.Half (Ok found)))
     (λ why. reply.Half (Ok found) ≡ reply.Bad why)
-    → (b ≡ true) × ((x : Regex) × (r ≡ Some x) × IsStepOf x (nth ws k) (Ok found))
+    → (b ≡ true) × ((x : Regex) × (r ≡ Some x) × IsStepOf x (slice_get ws k) (Ok found))
 by_regex ws k true None found own = absurd own
 by_regex ws k true (Some r) found own = (refl, (r, refl, own))
 by_regex ws k false r found own = absurd (half_bad own)
@@ -86,7 +87,7 @@ by_walk :
     (ws : List Begun) (k current : ℕ) (o : Option Begun) (r : Option Regex) (found : Option HalfMatch)
     → MatchOption (walk_fault current o) (IsOwnValueBy r ws (request.StepWalk k) (reply.Half (Ok found)))
     (λ why. reply.Half (Ok found) ≡ reply.Bad why)
-    → (v : Begun) × (o ≡ Some v) × (v.regex ≡ current) × ((x : Regex) × (r ≡ Some x) × IsStepOf x (nth ws k) (Ok found))
+    → (v : Begun) × (o ≡ Some v) × (v.regex ≡ current) × ((x : Regex) × (r ≡ Some x) × IsStepOf x (slice_get ws k) (Ok found))
 by_walk ws k current None r found own = absurd (half_bad own)
 by_walk ws k current (Some v) r found own =
     let (same, step) = by_regex ws k (v.regex == current) r found own in
@@ -95,40 +96,40 @@ by_walk ws k current (Some v) r found own =
 step_of :
     (rs : List Regex) (h : History) (k : ℕ) (found : Option HalfMatch)
     → IsReply rs h (request.StepWalk k) (reply.Half (Ok found))
-    → (v : Begun) × (nth h.walks k ≡ Some v) × ((x : Regex) × (nth rs v.regex ≡ Some x) × IsStepOf x (Some v) (Ok found))
+    → (v : Begun) × (slice_get h.walks k ≡ Some v) × ((x : Regex) × (slice_get rs v.regex ≡ Some x) × IsStepOf x (Some v) (Ok found))
 step_of [] h k found own = absurd (half_bad own)
 step_of (y ∷ rs) h k found own =
-    let (v, at, current, (x, is, step)) = by_walk h.walks k h.current (nth h.walks k) (nth (y ∷ rs) h.current) found own in
-    (v, at, (x, ap (nth (y ∷ rs)) current ∙ is, subst (λ (o : Option Begun). IsStepOf x o (Ok found)) at step))
+    let (v, at, current, (x, is, step)) = by_walk h.walks k h.current (slice_get h.walks k) (slice_get (y ∷ rs) h.current) found own in
+    (v, at, (x, ap (slice_get (y ∷ rs)) current ∙ is, subst (λ (o : Option Begun). IsStepOf x o (Ok found)) at step))
 
 -- the walk `w` of the regex `r`: each Ok reply to its steps is a pair of this list, or none after the last
 module _
-    (rs : List Regex) (k : ℕ) (w : Begun) (r : Regex) (of : nth rs w.regex ≡ Some r) (pairs : List Pair)
-    (names : (reported : ℕ) (found : Option HalfMatch) → IsStep (direction_of w.reverse) (dfa_of w.reverse r) w.input reported (Ok found) → found ≡ half_nth pairs reported) where
+    (rs : List Regex) (k : ℕ) (w : Begun) (r : Regex) (of : slice_get rs w.regex ≡ Some r) (pairs : List Pair)
+    (names : (reported : ℕ) (found : Option HalfMatch) → IsStep (direction_of w.way) (dfa_of w.way r) w.input reported (Ok found) → found ≡ half_nth pairs reported) where
   -- what is reported of a walk from where it stands now, which is the walk `w` at the end
   abbrev Reports : Option Begun → List (Option HalfMatch) → Type 0
   Reports now steps = AreReportedFrom (reported_of now) pairs steps × Becomes now w
 
   over_begin :
       (new : Begun) (ws : List Begun) (steps : List (Option HalfMatch)) (now : Option Begun)
-      → nth ws k ≡ now → new.reported ≡ 0 → Reports (nth (ws ++ new ∷ []) k) steps → Reports now steps
+      → slice_get ws k ≡ now → new.reported ≡ 0 → Reports (slice_get (ws ++ new ∷ []) k) steps → Reports now steps
   over_begin new ws steps None e z h = (subst (λ n. AreReportedFrom n pairs steps) (push_reported ws new k z e) h.0, tt)
   over_begin new ws steps (Some v) e z h = subst (λ (o : Option Begun). Reports o steps) (push_other ws new k v e) h
 
   same_step :
-      (v : Begun) (x : Regex) (found : Option HalfMatch) → Same v w → nth rs v.regex ≡ Some x → IsStepOf x (Some v) (Ok found)
+      (v : Begun) (x : Regex) (found : Option HalfMatch) → Same v w → slice_get rs v.regex ≡ Some x → IsStepOf x (Some v) (Ok found)
       → found ≡ half_nth pairs v.reported
-  same_step v x found (regex, reverse, input) at step =
-      let same : x ≡ r = same_some (sym at ∙ ap (nth rs) regex ∙ of) in
+  same_step v x found (regex, way, input) at step =
+      let same : x ≡ r = some_inj (sym at ∙ ap (slice_get rs) regex ∙ of) in
       names v.reported found
-      (subst (λ (y : Regex). IsStep (direction_of w.reverse) (dfa_of w.reverse y) w.input v.reported (Ok found)) same
-      (subst (λ (i : Input). IsStep (direction_of w.reverse) (dfa_of w.reverse x) i v.reported (Ok found)) input
-      (subst (λ b. IsStep (direction_of b) (dfa_of b x) v.input v.reported (Ok found)) reverse step)))
+      (subst (λ (y : Regex). IsStep (direction_of w.way) (dfa_of w.way y) w.input v.reported (Ok found)) same
+      (subst (λ (i : Input). IsStep (direction_of w.way) (dfa_of w.way x) i v.reported (Ok found)) input
+      (subst (λ b. IsStep (direction_of b) (dfa_of b x) v.input v.reported (Ok found)) way step)))
 
   over_own_step :
       (h : History) (found : Option HalfMatch) (steps : List (Option HalfMatch))
       → IsReply rs h (request.StepWalk k) (reply.Half (Ok found))
-      → Reports (nth (step_at k h.walks) k) steps → Reports (nth h.walks k) (found ∷ steps)
+      → Reports (slice_get (step_at k h.walks) k) steps → Reports (slice_get h.walks k) (found ∷ steps)
   over_own_step h found steps own more =
       let (v, at, (x, is, step)) = step_of rs h k found own in
       let m : Reports (Some (stepped v)) steps = subst (λ (o : Option Begun). Reports o steps) (step_same h.walks k ∙ ap with_step at) more in
@@ -139,32 +140,32 @@ module _
   over_step :
       (h : History) (j : ℕ) (found : Option HalfMatch) (steps : List (Option HalfMatch)) (b : Bool)
       → (j == k) ≡ b → IsReply rs h (request.StepWalk j) (reply.Half (Ok found))
-      → Reports (nth (step_at j h.walks) k) steps → Reports (nth h.walks k) (if b then found ∷ steps else steps)
+      → Reports (slice_get (step_at j h.walks) k) steps → Reports (slice_get h.walks k) (if b then found ∷ steps else steps)
   over_step h j found steps true e own more =
       let same : j ≡ k = eqb-true j k e in
       over_own_step h found steps (subst (λ n. IsReply rs h (request.StepWalk n) (reply.Half (Ok found))) same own)
-      (subst (λ n. Reports (nth (step_at n h.walks) k) steps) same more)
+      (subst (λ n. Reports (slice_get (step_at n h.walks) k) steps) same more)
   over_step h j found steps false e own more =
       subst (λ (o : Option Begun). Reports o steps) (step_other h.walks j k (eqb-false j k e)) more
 
   -- back over one request
   over_begins :
-      (h : History) (reverse : Bool) (input : Input) (a : Reply) (steps : List (Option HalfMatch))
-      → Reports (nth (after h (request.BeginWalk reverse input) a).walks k) steps → Reports (nth h.walks k) steps
-  over_begins h reverse input (reply.Begun (Ok n)) steps more = over_begin _ h.walks steps (nth h.walks k) refl refl more
-  over_begins h reverse input (reply.Begun (Err e)) steps more = more
-  over_begins h reverse input (reply.Half x) steps more = more
-  over_begins h reverse input (reply.Span x) steps more = more
-  over_begins h reverse input (reply.Truth x) steps more = more
-  over_begins h reverse input (reply.Spans x y) steps more = more
-  over_begins h reverse input (reply.Tokens x y) steps more = more
-  over_begins h reverse input (reply.Patterns x y) steps more = more
-  over_begins h reverse input (reply.Done x) steps more = more
-  over_begins h reverse input (reply.Bad x) steps more = more
+      (h : History) (way : Way) (input : Input) (a : Reply) (steps : List (Option HalfMatch))
+      → Reports (slice_get (after h (request.BeginWalk way input) a).walks k) steps → Reports (slice_get h.walks k) steps
+  over_begins h way input (reply.Begun (Ok n)) steps more = over_begin _ h.walks steps (slice_get h.walks k) refl refl more
+  over_begins h way input (reply.Begun (Err e)) steps more = more
+  over_begins h way input (reply.Half x) steps more = more
+  over_begins h way input (reply.Span x) steps more = more
+  over_begins h way input (reply.Truth x) steps more = more
+  over_begins h way input (reply.Spans x y) steps more = more
+  over_begins h way input (reply.Tokens x y) steps more = more
+  over_begins h way input (reply.Patterns x y) steps more = more
+  over_begins h way input (reply.Done x) steps more = more
+  over_begins h way input (reply.Bad x) steps more = more
 
   over_steps :
       (h : History) (j : ℕ) (a : Reply) (steps : List (Option HalfMatch)) → IsReply rs h (request.StepWalk j) a
-      → Reports (nth (after h (request.StepWalk j) a).walks k) steps → Reports (nth h.walks k) (report k (request.StepWalk j) a steps)
+      → Reports (slice_get (after h (request.StepWalk j) a).walks k) steps → Reports (slice_get h.walks k) (report k (request.StepWalk j) a steps)
   over_steps h j (reply.Half (Ok found)) steps own more = over_step h j found steps (j == k) refl own more
   over_steps h j (reply.Half (Err e)) steps own more = more
   over_steps h j (reply.Begun x) steps own more = more
@@ -178,7 +179,7 @@ module _
 
   over_resets :
       (h : History) (n : ℕ) (a : Reply) (steps : List (Option HalfMatch))
-      → Reports (nth (after h (request.Reset n) a).walks k) steps → Reports (nth h.walks k) steps
+      → Reports (slice_get (after h (request.Reset n) a).walks k) steps → Reports (slice_get h.walks k) steps
   over_resets h n (reply.Done (Ok d)) steps more = more
   over_resets h n (reply.Done (Err e)) steps more = more
   over_resets h n (reply.Half x) steps more = more
@@ -192,8 +193,8 @@ module _
 
   over_request :
       (h : History) (q : Request) (a : Reply) (steps : List (Option HalfMatch)) → IsReply rs h q a
-      → Reports (nth (after h q a).walks k) steps → Reports (nth h.walks k) (report k q a steps)
-  over_request h (request.BeginWalk reverse input) a steps own more = over_begins h reverse input a steps more
+      → Reports (slice_get (after h q a).walks k) steps → Reports (slice_get h.walks k) (report k q a steps)
+  over_request h (request.BeginWalk way input) a steps own more = over_begins h way input a steps more
   over_request h (request.StepWalk j) a steps own more = over_steps h j a steps own more
   over_request h (request.Reset n) a steps own more = over_resets h n a steps more
   over_request h (request.SearchFwd i) a steps own more = more
@@ -207,8 +208,8 @@ module _
   -- and over a script
   reports :
       (h : History) (qs : List Request) (answers : List Reply)
-      → AreRepliesAfter rs h qs answers → nth (history h qs answers).walks k ≡ Some w → Reports (nth h.walks k) (reported_to k qs answers)
-  reports h [] [] all e = (tt, becomes_itself (nth h.walks k) w e)
+      → AreRepliesAfter rs h qs answers → slice_get (history h qs answers).walks k ≡ Some w → Reports (slice_get h.walks k) (reported_to k qs answers)
+  reports h [] [] all e = (tt, becomes_itself (slice_get h.walks k) w e)
   reports h [] (a ∷ answers) all e = absurd all
   reports h (q ∷ qs) [] all e = absurd all
   reports h (q ∷ qs) (a ∷ answers) all e = over_request h q a (reported_to k qs answers) all.0 (reports (after h q a) qs answers all.1 e)

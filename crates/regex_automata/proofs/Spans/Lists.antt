@@ -1,16 +1,17 @@
 -- The matches that a loop over an iteration collects.
-use Rattle.std.proofs.Common.{ℕ, suc, ◌≡◌, ◌∙◌, inl, inr, Bool, true, false, List, [], ◌∷◌, ◌++◌, Option, Some, None}
+use Rattle.std.proofs.Common.{ℕ, ◌≡◌, ◌∙◌, Bool, true, false, List, [], ◌∷◌, ◌++◌, Option, Some, None}
 use Rattle.std.proofs.Common.{refl, sym, ap, subst}
 use Rattle.std.specs.Prelude.{Ok}
 use Rattle.automata_base.specs.Haystacks.Input.{Input}
 use Rattle.automata_base.specs.Haystacks.Matches.{Match}
-use Rattle.automata_base.specs.Answers.Spans.{AreMatches, IsEmptyAt, IsNextItem, from}
+use Rattle.automata_base.specs.Answers.Spans.{AreFirst, AreMatches, IsNextItem, from}
 use Rattle.automata_config.specs.declared.error.SearchError.{SearchError}
-use Rattle.regex_automata.specs.Spans.Iteration.{AreCollected, AreFirst, GivesItem, IsBeginning, IsNextMatch}
+use Rattle.regex_automata.specs.Spans.Iteration.{AreCollected, GivesItem, IsBeginning, IsNextMatch}
 use Rattle.regex_automata.specs.Spans.Outcomes.{FindsMatch}
 use Rattle.regex_automata.specs.declared.hybrid.regex.Regex.{Regex}
 use Rattle.regex_automata.specs.declared.hybrid.regex.caches.Cache.{Cache}
-use Rattle.regex_automata.proofs.Results.{none_some, same_some}
+use Rattle.automata_base.proofs.Answers.Once.{FindsOnce, next_none, next_some}
+use Rattle.automata_base.proofs.Answers.Rising.{all_first, first_right, matches_right}
 
 -- the first matches of an iteration, and where it is after them
 abbrev pub ComesTo : (Finds : Input → Option Match → Type 0) → Input → ℕ → Option ℕ → List Match → ℕ → Option ℕ → Type 0
@@ -49,24 +50,12 @@ module _ (Finds : Input → Option Match → Type 0) (input : Input) where
   collected ms (Some e) at before c next = comes_first input.start None ms at before c
 
 -- if what searches find is right, the matches are right
-module _ (F G : Input → Option Match → Type 0) (input : Input) (right : (start : ℕ) (o : Option Match) → F (from start input) o → G (from start input) o) where
-  next_right : (start : ℕ) (last : Option ℕ) (o : Option Match) → IsNextItem F input start last o → IsNextItem G input start last o
-  next_right start last None (inl f) = inl (right start None f)
-  next_right start last None (inr f) = inr (f.0, right start (Some f.0) f.1, f.2, right (suc start) None f.3)
-  next_right start last (Some m) (inl f) = inl (right start (Some m) f.0, f.1)
-  next_right start last (Some m) (inr f) = inr (f.0, right start (Some f.0) f.1, f.2, right (suc start) (Some m) f.3)
-
-  matches_right : (start : ℕ) (last : Option ℕ) (ms : List Match) → AreMatches F input start last ms → AreMatches G input start last ms
-  matches_right start last [] f = next_right start last None f
-  matches_right start last (m ∷ ms) f = (next_right start last (Some m) f.0, matches_right m.end (Some m.end) ms f.1)
-
-  first_right : (start : ℕ) (last : Option ℕ) (ms : List Match) → AreFirst F input start last ms → AreFirst G input start last ms
-  first_right start last [] f = tt
-  first_right start last (m ∷ ms) f = (next_right start last (Some m) f.0, first_right m.end (Some m.end) ms f.1)
-
-  pub collected_right : (ms : List Match) (error : Option SearchError) → AreCollected F input ms error → AreCollected G input ms error
-  collected_right ms None f = matches_right input.start None ms f
-  collected_right ms (Some e) f = first_right input.start None ms f
+pub collected_right :
+    (F G : Input → Option Match → Type 0) (input : Input)
+    (right : (start : ℕ) (o : Option Match) → F (from start input) o → G (from start input) o)
+    (ms : List Match) (error : Option SearchError) → AreCollected F input ms error → AreCollected G input ms error
+collected_right F G input right ms None f = matches_right F G input right input.start None ms f
+collected_right F G input right ms (Some e) f = first_right F G input right input.start None ms f
 
 -- what an item says
 pub item_match :
@@ -105,45 +94,20 @@ input_turn input now next k same e =
     let f : next ≡ from k input = e ∙ ap (λ (i : Input). from k i) same in
     f ∙ ap (λ n. from n input) (sym (ap (λ (i : Input). i.start) f))
 
--- if searches find one answer, there is one next match
-abbrev pub FindsOnce : (Input → Option Match → Type 0) → Type 0
-FindsOnce F = (input : Input) (a b : Option Match) → F input a → F input b → a ≡ b
-
+-- if searches find one answer, the first matches are a beginning of all matches
 module _ (F : Input → Option Match → Type 0) (one : FindsOnce F) (input : Input) where
-  next_none :
-      (start : ℕ) (last : Option ℕ) (m : Match) → IsNextItem F input start last None → IsNextItem F input start last (Some m) → ⊥
-  next_none start last m (inl s) (inl t) = none_some (one (from start input) None (Some m) s t.0)
-  next_none start last m (inl s) (inr t) = none_some (one (from start input) None (Some t.0) s t.1)
-  next_none start last m (inr s) (inl t) =
-      t.1 (subst (λ (v : Match). IsEmptyAt last v) (same_some (one (from start input) (Some s.0) (Some m) s.1 t.0)) s.2)
-  next_none start last m (inr s) (inr t) = none_some (one (from (suc start) input) None (Some m) s.3 t.3)
-
-  next_some :
-      (start : ℕ) (last : Option ℕ) (m n : Match) → IsNextItem F input start last (Some m) → IsNextItem F input start last (Some n) → m ≡ n
-  next_some start last m n (inl s) (inl t) = same_some (one (from start input) (Some m) (Some n) s.0 t.0)
-  next_some start last m n (inl s) (inr t) =
-      absurd (s.1 (subst (λ (v : Match). IsEmptyAt last v) (same_some (one (from start input) (Some t.0) (Some m) t.1 s.0)) t.2))
-  next_some start last m n (inr s) (inl t) =
-      absurd (t.1 (subst (λ (v : Match). IsEmptyAt last v) (same_some (one (from start input) (Some s.0) (Some n) s.1 t.0)) s.2))
-  next_some start last m n (inr s) (inr t) = same_some (one (from (suc start) input) (Some m) (Some n) s.3 t.3)
-
-  -- so the first matches are a beginning of all matches
   pub first_begins :
       (start : ℕ) (last : Option ℕ) (ms all : List Match)
       → AreFirst F input start last ms → AreMatches F input start last all → IsBeginning ms all
   first_begins start last [] all f g = (all, refl)
-  first_begins start last (m ∷ ms) [] f g = absurd (next_none start last m g f.0)
+  first_begins start last (m ∷ ms) [] f g = absurd (next_none F input start last m one g f.0)
   first_begins start last (m ∷ ms) (n ∷ all) f g =
-      let e : m ≡ n = next_some start last m n f.0 g.0 in
+      let e : m ≡ n = next_some F input start last m n one f.0 g.0 in
       let rest = first_begins m.end (Some m.end) ms all f.1 (subst (λ (v : Match). AreMatches F input v.end (Some v.end) all) (sym e) g.1) in
       (rest.0, ap (λ (l : List Match). n ∷ l) rest.1 ∙ ap (λ (v : Match). v ∷ (ms ++ rest.0)) (sym e))
-
-  all_first : (start : ℕ) (last : Option ℕ) (ms : List Match) → AreMatches F input start last ms → AreFirst F input start last ms
-  all_first start last [] f = tt
-  all_first start last (m ∷ ms) f = (f.0, all_first m.end (Some m.end) ms f.1)
 
   pub collected_begins :
       (ms all : List Match) (error : Option SearchError) → AreCollected F input ms error → AreMatches F input input.start None all
       → IsBeginning ms all
-  collected_begins ms all None f g = first_begins input.start None ms all (all_first input.start None ms f) g
+  collected_begins ms all None f g = first_begins input.start None ms all (all_first F input input.start None ms f) g
   collected_begins ms all (Some e) f g = first_begins input.start None ms all f g

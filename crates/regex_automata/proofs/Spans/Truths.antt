@@ -4,7 +4,6 @@ use Rattle.std.proofs.Common.{Option, Some, None, refl, sym, ap, subst, arith}
 use Rattle.std.specs.Prelude.{is_some}
 use Rattle.std.specs.Option.{option_map}
 use Rattle.automata_base.specs.Answers.Answers.{Half, IsInput, IsSplit, Tries, later, offset_in}
-use Rattle.automata_base.specs.Retraced.ComputedPass.{earlier_or, pair_at}
 use Rattle.automata_base.specs.Nfas.Engines.{engine_of}
 use Rattle.automata_base.specs.Haystacks.Input.{Input}
 use Rattle.automata_base.specs.Haystacks.Matches.{HalfMatch}
@@ -13,7 +12,7 @@ use Rattle.automata_base.specs.Paths.Paths.{IsLookAcyclic, Tape}
 use Rattle.automata_base.specs.Paths.Selections.{Pair}
 use Rattle.automata_base.specs.Answers.Spans.{IsMatch, in_full}
 use Rattle.automata_base.specs.Haystacks.Tapes.{Forward, forward_tape}
-use Rattle.automata_base.specs.Retraced.Passes.{first_reported, last_reported, reported_at}
+use Rattle.automata_base.specs.Retraced.Passes.{first_reported, last_reported, reported_at, earlier_or, pair_at}
 use Rattle.automata_base.specs.Answers.OfPasses.{IsNearestAnswer, IsReported, ReportsOver, ReportedIsRight, reported_over}
 use Rattle.automata_base.specs.declared.util.search.Anchored.{Anchored}
 use Rattle.automata_base.specs.declared.util.search.Anchored.TheVariants.{No}

@@ -27,118 +27,118 @@ same_place a b h = cc
 
 module _ (m : Machine) (h : List ℕ) (end : ℕ) (few : end ≤ length h) where
   abbrev IsHalfAt : ℕ → Result (Option HalfMatch) SearchError → Type 0
-  IsHalfAt place r = IsHalf Forward m (asked h end place) r
+  IsHalfAt offset r = IsHalf Forward m (asked h end offset) r
 
-  half_in : (place : ℕ) (half : HalfMatch) → IsHalfAt place (Ok (Some half)) → LiesIn m (asked h end place) half
-  half_in place half returned = returned.within
+  half_in : (offset : ℕ) (half : HalfMatch) → IsHalfAt offset (Ok (Some half)) → LiesIn m (asked h end offset) half
+  half_in offset half returned = returned.within
 
-  -- a token is an answer past its place
+  -- a token is an answer past its offset
   abbrev pub Reports : ℕ → Match → Type 0
-  Reports place t =
-      IsHalfAt place (Ok (Some (record { pattern = t.pattern; offset = t.end })))
-      × (t.start ≡ place) × (place < t.end) × (t.end ≤ end)
+  Reports offset t =
+      IsHalfAt offset (Ok (Some (record { pattern = t.pattern; offset = t.end })))
+      × (t.start ≡ offset) × (offset < t.end) × (t.end ≤ end)
 
   past_place :
-      (place : ℕ) (half : HalfMatch) (t : Match) → place < half.offset → IsHalfAt place (Ok (Some half))
-      → t ≡ record { pattern = half.pattern; start = place; end = half.offset } → Reports place t
-  past_place place half t past returned is =
-      subst (λ (n : Match). Reports place n) (sym is) (returned, refl, past, (half_in place half returned).upto)
+      (offset : ℕ) (half : HalfMatch) (t : Match) → offset < half.offset → IsHalfAt offset (Ok (Some half))
+      → t ≡ record { pattern = half.pattern; start = offset; end = half.offset } → Reports offset t
+  past_place offset half t past returned is =
+      subst (λ (n : Match). Reports offset n) (sym is) (returned, refl, past, (half_in offset half returned).upto)
 
-  token_is : (place : ℕ) (t : Match) → IsItemAt m h end place (Ok t) → Reports place t
-  token_is place t (ahead, (Ok (Some half), returned, is)) = go (nat_lt place half.offset) refl where
-    go : (past : Bool) → nat_lt place half.offset ≡ past → Reports place t
+  token_is : (offset : ℕ) (t : Match) → IsItemAt m h end offset (Ok t) → Reports offset t
+  token_is offset t (ahead, (Ok (Some half), returned, is)) = go (nat_lt offset half.offset) refl where
+    go : (past : Bool) → nat_lt offset half.offset ≡ past → Reports offset t
     go true e =
-        past_place place half t (ltb-true place half.offset e) returned
-        (same_ok (is ∙ ap (λ (b : Bool). if b then Ok (record { pattern = half.pattern; start = place; end = half.offset }) else Err (NoToken place)) e))
+        past_place offset half t (ltb-true offset half.offset e) returned
+        (same_ok (is ∙ ap (λ (b : Bool). if b then Ok (record { pattern = half.pattern; start = offset; end = half.offset }) else Err (NoToken offset)) e))
     go false e =
-        absurd (ok_err (is ∙ ap (λ (b : Bool). if b then Ok (record { pattern = half.pattern; start = place; end = half.offset }) else Err (NoToken place)) e))
-  token_is place t (ahead, (Ok None, returned, is)) = absurd (ok_err is)
-  token_is place t (ahead, (Err e, returned, is)) = absurd (ok_err is)
+        absurd (ok_err (is ∙ ap (λ (b : Bool). if b then Ok (record { pattern = half.pattern; start = offset; end = half.offset }) else Err (NoToken offset)) e))
+  token_is offset t (ahead, (Ok None, returned, is)) = absurd (ok_err is)
+  token_is offset t (ahead, (Err e, returned, is)) = absurd (ok_err is)
 
   -- with its bytes it is returned
   pub token_is_given :
-      (place : ℕ) (t : Token) (answer : Result (Option HalfMatch) SearchError) → place < end → IsHalfAt place answer
-      → ◌≡◌ {A = Result Match TokenError} (Ok (match_of t)) (item_of place answer)
-      → t.bytes.now ≡ match_bytes h (match_of t) → IsTokenAt m h end place t
-  token_is_given place t answer ahead returned is bytes =
-      let item : IsItemAt m h end place (Ok (match_of t)) = (ahead, (answer, returned, is)) in
-      let reports = token_is place (match_of t) item in
+      (offset : ℕ) (t : Token) (answer : Result (Option HalfMatch) SearchError) → offset < end → IsHalfAt offset answer
+      → ◌≡◌ {A = Result Match TokenError} (Ok (match_of t)) (item_of offset answer)
+      → t.bytes.now ≡ match_bytes h (match_of t) → IsTokenAt m h end offset t
+  token_is_given offset t answer ahead returned is bytes =
+      let item : IsItemAt m h end offset (Ok (match_of t)) = (ahead, (answer, returned, is)) in
+      let reports = token_is offset (match_of t) item in
       record { item = item; bytes = bytes; start = reports.1; past = reports.2; within = reports.3; pattern = reports.0.within.pattern }
 
-  -- no token is no answer, or one at its place
+  -- no token is no answer, or one at its offset
   abbrev pub ReportsNone : ℕ → Type 0
-  ReportsNone place =
-      IsHalfAt place (Ok None)
-      ⊎ ((pattern : ℕ) × IsHalfAt place (Ok (Some (record { pattern = pattern; offset = place }))))
+  ReportsNone offset =
+      IsHalfAt offset (Ok None)
+      ⊎ ((pattern : ℕ) × IsHalfAt offset (Ok (Some (record { pattern = pattern; offset = offset }))))
 
-  at_place : (place : ℕ) (half : HalfMatch) → half.offset ≤ place → IsHalfAt place (Ok (Some half)) → ReportsNone place
-  at_place place half upto returned =
-      let low = (half_in place half returned).from in
-      let same : half.offset ≡ place = omega (arith, low, upto) in
-      inr (half.pattern, subst (λ n. IsHalfAt place (Ok (Some (record { pattern = half.pattern; offset = n })))) same returned)
+  at_place : (offset : ℕ) (half : HalfMatch) → half.offset ≤ offset → IsHalfAt offset (Ok (Some half)) → ReportsNone offset
+  at_place offset half upto returned =
+      let low = (half_in offset half returned).from in
+      let same : half.offset ≡ offset = omega (arith, low, upto) in
+      inr (half.pattern, subst (λ n. IsHalfAt offset (Ok (Some (record { pattern = half.pattern; offset = n })))) same returned)
 
   no_token_is :
-      (place at : ℕ) → IsItemAt m h end place (Err (NoToken at)) → (at ≡ place) × (place < end) × ReportsNone place
-  no_token_is place at (ahead, (Ok (Some half), returned, is)) = go (nat_lt place half.offset) refl where
-    go : (past : Bool) → nat_lt place half.offset ≡ past → (at ≡ place) × (place < end) × ReportsNone place
+      (offset at : ℕ) → IsItemAt m h end offset (Err (NoToken at)) → (at ≡ offset) × (offset < end) × ReportsNone offset
+  no_token_is offset at (ahead, (Ok (Some half), returned, is)) = go (nat_lt offset half.offset) refl where
+    go : (past : Bool) → nat_lt offset half.offset ≡ past → (at ≡ offset) × (offset < end) × ReportsNone offset
     go true e =
-        absurd (err_ok (is ∙ ap (λ (b : Bool). if b then Ok (record { pattern = half.pattern; start = place; end = half.offset }) else Err (NoToken place)) e))
+        absurd (err_ok (is ∙ ap (λ (b : Bool). if b then Ok (record { pattern = half.pattern; start = offset; end = half.offset }) else Err (NoToken offset)) e))
     go false e = (
-      same_place at place (same_err (is ∙ ap (λ (b : Bool). if b then Ok (record { pattern = half.pattern; start = place; end = half.offset }) else Err (NoToken place)) e)),
+      same_place at offset (same_err (is ∙ ap (λ (b : Bool). if b then Ok (record { pattern = half.pattern; start = offset; end = half.offset }) else Err (NoToken offset)) e)),
       ahead,
-      at_place place half (ltb-false place half.offset e) returned,
+      at_place offset half (ltb-false offset half.offset e) returned,
     )
-  no_token_is place at (ahead, (Ok None, returned, is)) = (same_place at place (same_err is), ahead, inl returned)
-  no_token_is place at (ahead, (Err e, returned, is)) = absurd (no_search at e (same_err is))
+  no_token_is offset at (ahead, (Ok None, returned, is)) = (same_place at offset (same_err is), ahead, inl returned)
+  no_token_is offset at (ahead, (Err e, returned, is)) = absurd (no_search at e (same_err is))
 
   -- if what an answer makes is no token, it is the error that is returned
   pub error_is_given :
-      (c : Stored) (place : ℕ) (answer : Result (Option HalfMatch) SearchError) (e : TokenError) → place < end
-      → IsHalfAt place answer → IfErr answer (IsRefused Forward m c (asked h end place))
-      → ◌≡◌ {A = Result Match TokenError} (Err e) (item_of place answer) → IsGivenAt m c h end place (Err e)
-  error_is_given c place answer (NoToken at) ahead returned refused is =
-      let item : IsItemAt m h end place (Err (NoToken at)) = (ahead, (answer, returned, is)) in
-      let none = no_token_is place at item in
+      (c : Stored) (offset : ℕ) (answer : Result (Option HalfMatch) SearchError) (e : TokenError) → offset < end
+      → IsHalfAt offset answer → IfErr answer (IsRefused Forward m c (asked h end offset))
+      → ◌≡◌ {A = Result Match TokenError} (Err e) (item_of offset answer) → IsGivenAt m c h end offset (Err e)
+  error_is_given c offset answer (NoToken at) ahead returned refused is =
+      let item : IsItemAt m h end offset (Err (NoToken at)) = (ahead, (answer, returned, is)) in
+      let none = no_token_is offset at item in
       (item, (none.0, record { within = none.1; none = none.2 }))
-  error_is_given c place (Ok o) (Search e) ahead returned refused is = absurd (answer_is_no_refusal place o e is)
-  error_is_given c place (Err d) (Search e) ahead returned refused is = (
+  error_is_given c offset (Ok o) (Search e) ahead returned refused is = absurd (answer_is_no_refusal offset o e is)
+  error_is_given c offset (Err d) (Search e) ahead returned refused is = (
     (ahead, (Err d, returned, is)),
-    subst (IsRefused Forward m c (asked h end place)) (sym (same_search e d (same_err is))) refused,
+    subst (IsRefused Forward m c (asked h end offset)) (sym (same_search e d (same_err is))) refused,
   )
 
   -- and an error is the search's own
-  refused_is : (place : ℕ) (e : SearchError) → IsItemAt m h end place (Err (Search e)) → IsHalfAt place (Err e)
-  refused_is place e (ahead, (Ok (Some half), returned, is)) = go (nat_lt place half.offset) refl where
-    go : (past : Bool) → nat_lt place half.offset ≡ past → IsHalfAt place (Err e)
+  refused_is : (offset : ℕ) (e : SearchError) → IsItemAt m h end offset (Err (Search e)) → IsHalfAt offset (Err e)
+  refused_is offset e (ahead, (Ok (Some half), returned, is)) = go (nat_lt offset half.offset) refl where
+    go : (past : Bool) → nat_lt offset half.offset ≡ past → IsHalfAt offset (Err e)
     go true k =
-        absurd (err_ok (is ∙ ap (λ (b : Bool). if b then Ok (record { pattern = half.pattern; start = place; end = half.offset }) else Err (NoToken place)) k))
+        absurd (err_ok (is ∙ ap (λ (b : Bool). if b then Ok (record { pattern = half.pattern; start = offset; end = half.offset }) else Err (NoToken offset)) k))
     go false k =
-        absurd (no_search place e (sym (same_err (is ∙ ap (λ (b : Bool). if b then Ok (record { pattern = half.pattern; start = place; end = half.offset }) else Err (NoToken place)) k))))
-  refused_is place e (ahead, (Ok None, returned, is)) = absurd (no_search place e (sym (same_err is)))
-  refused_is place e (ahead, (Err d, returned, is)) =
-      subst (λ (x : SearchError). IsHalfAt place (Err x)) (sym (same_search e d (same_err is))) returned
+        absurd (no_search offset e (sym (same_err (is ∙ ap (λ (b : Bool). if b then Ok (record { pattern = half.pattern; start = offset; end = half.offset }) else Err (NoToken offset)) k))))
+  refused_is offset e (ahead, (Ok None, returned, is)) = absurd (no_search offset e (sym (same_err is)))
+  refused_is offset e (ahead, (Err d, returned, is)) =
+      subst (λ (x : SearchError). IsHalfAt offset (Err x)) (sym (same_search e d (same_err is))) returned
 
   -- so the tokens are those that searches find, by whatever such an answer is
   module _ (P : Input → Option HalfMatch → Type 0)
-      (right : (place : ℕ) (o : Option HalfMatch) → IsHalfAt place (Ok o) → P (asked h end place) o) where
+      (right : (offset : ℕ) (o : Option HalfMatch) → IsHalfAt offset (Ok o) → P (asked h end offset) o) where
     none_by :
-        (place : ℕ) → ReportsNone place
-        → P (asked h end place) None
-        ⊎ ((pattern : ℕ) × P (asked h end place) (Some (record { pattern = pattern; offset = place })))
-    none_by place (inl returned) = inl (right place None returned)
-    none_by place (inr (pattern, returned)) = inr (pattern, right place (Some (record { pattern = pattern; offset = place })) returned)
+        (offset : ℕ) → ReportsNone offset
+        → P (asked h end offset) None
+        ⊎ ((pattern : ℕ) × P (asked h end offset) (Some (record { pattern = pattern; offset = offset })))
+    none_by offset (inl returned) = inl (right offset None returned)
+    none_by offset (inr (pattern, returned)) = inr (pattern, right offset (Some (record { pattern = pattern; offset = offset })) returned)
 
     pub found_by :
-        (place : ℕ) (ts : List Match) (error : Option TokenError) → AreGiven m h end place ts error
-        → AreFoundBy P h end place ts error
-    found_by place [] None g = g
-    found_by place [] (Some (NoToken at)) (inl memory) = absurd (no_search at _ memory)
-    found_by place [] (Some (NoToken at)) (inr item) =
-        let n = no_token_is place at item in (n.0, n.1, none_by place n.2)
-    found_by place [] (Some (Search e)) g = tt
-    found_by place (t ∷ ts) error g =
-        let n = token_is place t g.0 in
-        (n.1, n.2, n.3, right place (Some (record { pattern = t.pattern; offset = t.end })) n.0, found_by t.end ts error g.1)
+        (offset : ℕ) (ts : List Match) (error : Option TokenError) → AreGiven m h end offset ts error
+        → AreFoundBy P h end offset ts error
+    found_by offset [] None g = g
+    found_by offset [] (Some (NoToken at)) (inl memory) = absurd (no_search at _ memory)
+    found_by offset [] (Some (NoToken at)) (inr item) =
+        let n = no_token_is offset at item in (n.0, n.1, none_by offset n.2)
+    found_by offset [] (Some (Search e)) g = tt
+    found_by offset (t ∷ ts) error g =
+        let n = token_is offset t g.0 in
+        (n.1, n.2, n.3, right offset (Some (record { pattern = t.pattern; offset = t.end })) n.0, found_by t.end ts error g.1)
 
   -- a part of the haystack is two parts, split anywhere
   parts : (a b c : ℕ) → a ≤ b → b ≤ c → slice_range h a b ++ slice_range h b c ≡ slice_range h a c
@@ -151,37 +151,37 @@ module _ (m : Machine) (h : List ℕ) (end : ℕ) (few : end ≤ length h) where
       ∙ ap (λ n. take n (drop a h)) all
 
   token_then :
-      (place : ℕ) (t : Match) (more : List ℕ) → Reports place t → more ≡ slice_range h t.end end
-      → match_bytes h t ++ more ≡ slice_range h place end
-  token_then place t more n is =
+      (offset : ℕ) (t : Match) (more : List ℕ) → Reports offset t → more ≡ slice_range h t.end end
+      → match_bytes h t ++ more ≡ slice_range h offset end
+  token_then offset t more n is =
       ap (λ (l : List ℕ). match_bytes h t ++ l) is
       ∙ ap (λ k. slice_range h k t.end ++ slice_range h t.end end) n.1
-      ∙ parts place t.end end (omega (arith, n.2)) n.3
+      ∙ parts offset t.end end (omega (arith, n.2)) n.3
 
   -- the bytes of the tokens, joined, begin the span's bytes
   pub begins :
-      (place : ℕ) (ts : List Match) (error : Option TokenError) → AreGiven m h end place ts error
-      → IsBeginningOf (joined h ts) (slice_range h place end)
-  begins place [] error g = (slice_range h place end, refl)
-  begins place (t ∷ ts) error g =
-      let n = token_is place t g.0 in
+      (offset : ℕ) (ts : List Match) (error : Option TokenError) → AreGiven m h end offset ts error
+      → IsBeginningOf (joined h ts) (slice_range h offset end)
+  begins offset [] error g = (slice_range h offset end, refl)
+  begins offset (t ∷ ts) error g =
+      let n = token_is offset t g.0 in
       let rest = begins t.end ts error g.1 in (
         rest.0,
-        sym (append_assoc (match_bytes h t) (joined h ts) rest.0 ∙ token_then place t (joined h ts ++ rest.0) n (sym rest.1)),
+        sym (append_assoc (match_bytes h t) (joined h ts) rest.0 ∙ token_then offset t (joined h ts ++ rest.0) n (sym rest.1)),
       )
 
   -- and without an error are all of them
-  pub tiles : (place : ℕ) (ts : List Match) → AreGiven m h end place ts None → joined h ts ≡ slice_range h place end
-  tiles place [] g =
-      let none : end - place ≡ 0 = omega (arith, g) in
-      sym (ap (λ n. take n (drop place h)) none)
-  tiles place (t ∷ ts) g =
-      let n = token_is place t g.0 in token_then place t (joined h ts) n (tiles t.end ts g.1)
+  pub tiles : (offset : ℕ) (ts : List Match) → AreGiven m h end offset ts None → joined h ts ≡ slice_range h offset end
+  tiles offset [] g =
+      let none : end - offset ≡ 0 = omega (arith, g) in
+      sym (ap (λ n. take n (drop offset h)) none)
+  tiles offset (t ∷ ts) g =
+      let n = token_is offset t g.0 in token_then offset t (joined h ts) n (tiles t.end ts g.1)
 
   -- if nothing prevents an answer at the start, nothing does later
   unhindered_later :
-      (start place : ℕ) → start ≤ place → IsUnhindered m (asked h end start) → IsUnhindered m (asked h end place)
-  unhindered_later start place later free =
+      (start offset : ℕ) → start ≤ offset → IsUnhindered m (asked h end start) → IsUnhindered m (asked h end offset)
+  unhindered_later start offset later free =
       record {
         reach = λ at byte low high is. free.reach at byte (omega (arith, low, later)) high is;
         supported = free.supported;
@@ -189,12 +189,12 @@ module _ (m : Machine) (h : List ℕ) (end : ℕ) (few : end ≤ length h) where
       }
 
   pub free_of :
-      (start place : ℕ) (ts : List Match) (error : Option TokenError) → start ≤ place
-      → IsUnhindered m (asked h end start) → AreGiven m h end place ts error → IfSome error IsNoTokenOrMemory
-  free_of start place [] None later free g = tt
-  free_of start place [] (Some (NoToken at)) later free g = tt
-  free_of start place [] (Some (Search e)) later free (inl memory) = same_search e _ memory
-  free_of start place [] (Some (Search e)) later free (inr item) =
-      (refused_is place e item).free (unhindered_later start place later free)
-  free_of start place (t ∷ ts) error later free g =
-      let n = token_is place t g.0 in free_of start t.end ts error (omega (arith, n.2, later)) free g.1
+      (start offset : ℕ) (ts : List Match) (error : Option TokenError) → start ≤ offset
+      → IsUnhindered m (asked h end start) → AreGiven m h end offset ts error → IfSome error IsNoTokenOrMemory
+  free_of start offset [] None later free g = tt
+  free_of start offset [] (Some (NoToken at)) later free g = tt
+  free_of start offset [] (Some (Search e)) later free (inl memory) = same_search e _ memory
+  free_of start offset [] (Some (Search e)) later free (inr item) =
+      (refused_is offset e item).free (unhindered_later start offset later free)
+  free_of start offset (t ∷ ts) error later free g =
+      let n = token_is offset t g.0 in free_of start t.end ts error (omega (arith, n.2, later)) free g.1

@@ -1,9 +1,8 @@
 -- What the requests of a replay do to its caches, one after another, and how calls over these fail.
-use Rattle.std.specs.Prelude.{ℕ, ◌≡◌, ◌⊎◌, Bool, true, false, List, [], ◌∷◌, Option, Some, None, Result, Ok, Err, IfErr}
-use Rattle.std.specs.Prelude.{OnOk}
+use Rattle.std.specs.Prelude.{ℕ, ◌≡◌, ◌⊎◌, Bool, false, List, [], ◌∷◌, Option, Some, None, Result, Ok, Err, IfErr}
+use Rattle.std.specs.Prelude.{OnOk, slice_get}
 use Rattle.std.specs.Result.{result_err}
 use Rattle.automata_base.specs.Haystacks.Input.{Input}
-use Rattle.automata_base.specs.Lists.{nth}
 use Rattle.automata_base.specs.Haystacks.Matches.{HalfMatch, Match}
 use Rattle.automata_base.specs.Haystacks.PatternSet.{members}
 use Rattle.automata_base.specs.Answers.Spans.{from}
@@ -30,6 +29,8 @@ use Rattle.regex_automata.specs.Replay.Replies.{direction_of}
 use Rattle.regex_automata.specs.Tokens.{IsRefusedAt, IsTokenEffect, match_of}
 use Rattle.regex_automata.specs.declared.hybrid.regex.Regex.{Regex}
 use Rattle.regex_automata.specs.declared.hybrid.regex.caches.Cache.{Cache}
+use Rattle.regex_automata.specs.declared.replay.requests.Way.{Way}
+use Rattle.regex_automata.specs.declared.replay.requests.Way.TheVariants as way
 use Rattle.regex_automata.specs.declared.replay.requests.Reply.{Reply}
 use Rattle.regex_automata.specs.declared.replay.requests.Reply.TheVariants as reply
 use Rattle.regex_automata.specs.declared.replay.requests.Request.{Request}
@@ -100,22 +101,22 @@ IsCalled way m input reported old new result =
     × IfErr call (IsWalkRefusal States way m new.store input walk reported)
 
 -- the cache of the DFA of a direction, and the other one
-abbrev pub own_of : (reverse : Bool) → Cache → CacheView
-own_of false c = c.forward
-own_of true c = c.reverse
+abbrev pub own_of : Way → Cache → CacheView
+own_of way.Forward c = c.forward
+own_of way.Backward c = c.reverse
 
-abbrev pub other_of : (reverse : Bool) → Cache → CacheView
-other_of false c = c.reverse
-other_of true c = c.forward
+abbrev pub other_of : Way → Cache → CacheView
+other_of way.Forward c = c.reverse
+other_of way.Backward c = c.forward
 
 -- the step of a walk, which leaves the other cache unchanged
 abbrev pub IsWalkStepped : Regex → Option Begun → (old new : Cache) → Result (Option HalfMatch) SearchError → Type 0
 IsWalkStepped r None old new result = ⊥
 IsWalkStepped r (Some w) old new result =
-    IsCalled (direction_of w.reverse) (dfa_of w.reverse r) w.input w.reported
-    (own_of w.reverse old) (own_of w.reverse new)
+    IsCalled (direction_of w.way) (dfa_of w.way r) w.input w.reported
+    (own_of w.way old) (own_of w.way new)
     result
-    × (other_of w.reverse new ≡ other_of w.reverse old)
+    × (other_of w.way new ≡ other_of w.way old)
 
 -- the walk of a fresh set, and the list of its patterns; or there is no memory for the set or the list
 abbrev pub ArePatternsSearched :
@@ -138,8 +139,8 @@ IsMadeBy r walks (request.IsMatch input) old new answer = OnTruth (IsTruthSearch
 IsMadeBy r walks (request.Iterate input) old new answer = OnSpans (AreSearched r old new input None) answer
 IsMadeBy r walks (request.Tokenise input) old new answer =
     OnTokens (AreTokensSearched r.forward input.haystack input.end input.start old new) answer
-IsMadeBy r walks (request.BeginWalk reverse input) old new answer = new ≡ old
-IsMadeBy r walks (request.StepWalk k) old new answer = OnHalf (IsWalkStepped r (nth walks k) old new) answer
+IsMadeBy r walks (request.BeginWalk way input) old new answer = new ≡ old
+IsMadeBy r walks (request.StepWalk k) old new answer = OnHalf (IsWalkStepped r (slice_get walks k) old new) answer
 IsMadeBy r walks (request.Which capacity input) old new answer =
     OnPatterns (ArePatternsSearched r.forward input capacity old.forward new.forward) answer
     × (new.reverse ≡ old.reverse)
@@ -157,8 +158,8 @@ AreFreshOf (Some r) c = AreFresh r c
 -- what a request and its reply do to the caches: a bad request and a reset that fails leave them unchanged
 abbrev pub AreMade : List Regex → History → Request → Reply → (old new : Cache) → Type 0
 AreMade regexes h q (reply.Bad why) old new = new ≡ old
-AreMade regexes h (request.Reset k) (reply.Done (Ok done)) old new = AreFreshOf (nth regexes k) new
-AreMade regexes h q answer old new = IsMadeByOf (nth regexes h.current) h.walks q old new answer
+AreMade regexes h (request.Reset k) (reply.Done (Ok done)) old new = AreFreshOf (slice_get regexes k) new
+AreMade regexes h q answer old new = IsMadeByOf (slice_get regexes h.current) h.walks q old new answer
 
 -- the requests are answered over these caches, one after another
 abbrev pub AreAnsweredAfter : List Regex → History → Cache → List Request → List Reply → Type 0

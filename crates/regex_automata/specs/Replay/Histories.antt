@@ -1,15 +1,16 @@
 -- What the requests so far and their replies have made: which regex is current, and which walks there are.
-use Rattle.std.specs.Prelude.{ℕ, zero, suc, ◌+◌, Bool, List, [], ◌∷◌, ◌++◌, Ok}
+use Rattle.std.specs.Prelude.{ℕ, zero, suc, ◌+◌, List, [], ◌∷◌, ◌++◌, Ok}
 use Rattle.automata_base.specs.Haystacks.Input.{Input}
 use Rattle.regex_automata.specs.declared.replay.requests.Request.{Request}
 use Rattle.regex_automata.specs.declared.replay.requests.Request.TheVariants as request
+use Rattle.regex_automata.specs.declared.replay.requests.Way.{Way}
 use Rattle.regex_automata.specs.declared.replay.requests.Reply.{Reply}
 use Rattle.regex_automata.specs.declared.replay.requests.Reply.TheVariants as reply
 
 -- a walk that was begun: the number of its regex, its direction, its input, and how many of its steps answered Ok
 pub record Begun : Type 0 where
   pub regex : ℕ
-  pub reverse : Bool
+  pub way : Way
   pub input : Input
   pub reported : ℕ
 
@@ -33,13 +34,13 @@ step_at zero (w ∷ ws) = stepped w ∷ ws
 step_at (suc k) (w ∷ ws) = w ∷ step_at k ws
 
 -- a walk is begun by an Ok reply, and goes on by an Ok reply; an Ok reply makes another regex current
-abbrev pub after_begin : History → (reverse : Bool) → Input → Reply → History
-after_begin h reverse input (reply.Begun (Ok k)) =
+abbrev pub after_begin : History → Way → Input → Reply → History
+after_begin h way input (reply.Begun (Ok k)) =
     record {
       current = h.current;
-      walks = h.walks ++ record { regex = h.current; reverse = reverse; input = input; reported = 0 } ∷ [];
+      walks = h.walks ++ record { regex = h.current; way = way; input = input; reported = 0 } ∷ [];
     }
-after_begin h reverse input r = h
+after_begin h way input r = h
 
 abbrev pub after_step : History → ℕ → Reply → History
 after_step h k (reply.Half (Ok found)) = record { current = h.current; walks = step_at k h.walks }
@@ -51,7 +52,7 @@ after_reset h k r = h
 
 -- the history after one more request and its reply
 abbrev pub after : History → Request → Reply → History
-after h (request.BeginWalk reverse input) r = after_begin h reverse input r
+after h (request.BeginWalk way input) r = after_begin h way input r
 after h (request.StepWalk k) r = after_step h k r
 after h (request.Reset k) r = after_reset h k r
 after h other r = h

@@ -1,8 +1,7 @@
 -- How what a replay keeps fits the history of its requests and replies.
-use Rattle.std.specs.Prelude.{ℕ, ◌≡◌, ◌+◌, ◌<◌, List, [], ◌∷◌, length, slice_index_or, slice_set, Option, Some, Result}
-use Rattle.std.specs.Prelude.{OnOk, OnErr}
+use Rattle.std.specs.Prelude.{ℕ, ◌≡◌, ◌+◌, ◌<◌, List, [], ◌∷◌, length, slice_set, Option, Some, Result}
+use Rattle.std.specs.Prelude.{OnOk, OnErr, slice_get}
 use Rattle.automata_base.specs.Haystacks.Input.{Input}
-use Rattle.automata_base.specs.Lists.{nth}
 use Rattle.automata_base.specs.Haystacks.Matches.{HalfMatch}
 use Rattle.automata_base.specs.Paths.Selections.{Pair}
 use Rattle.automata_base.specs.Haystacks.Tapes.{Direction}
@@ -43,16 +42,16 @@ MakesCall way m input w old new result =
 
 -- a walk of this regex has answered so many calls
 abbrev pub HasAnsweredBy : Regex → KeptWalk → ℕ → Type 0
-HasAnsweredBy r kept k = HasAnswered (direction_of kept.reverse) (dfa_of kept.reverse r) kept.input kept.state k
+HasAnsweredBy r kept k = HasAnswered (direction_of kept.way) (dfa_of kept.way r) kept.input kept.state k
 
 -- what its next call returns then
 abbrev pub IsStepFrom : Regex → KeptWalk → ℕ → Result (Option HalfMatch) SearchError → Type 0
-IsStepFrom r kept k result = IsStep (direction_of kept.reverse) (dfa_of kept.reverse r) kept.input k result
+IsStepFrom r kept k result = IsStep (direction_of kept.way) (dfa_of kept.way r) kept.input k result
 
 -- one more call of it
 pub record Goes (r : Regex) (old new : KeptWalk) (result : Result (Option HalfMatch) SearchError) : Type 0 where
   pub regex : new.regex ≡ old.regex
-  pub reverse : new.reverse ≡ old.reverse
+  pub way : new.way ≡ old.way
   pub input : new.input ≡ old.input
   pub step : (k : ℕ) → HasAnsweredBy r old k → IsStepFrom r old k result
   pub reported : (k : ℕ) → HasAnsweredBy r old k → OnOk result (HasAnsweredBy r new (k + 1))
@@ -60,7 +59,7 @@ pub record Goes (r : Regex) (old new : KeptWalk) (result : Result (Option HalfMa
 
 -- the walk of this number; and one more call of it, which leaves the others
 abbrev pub IsKept : List KeptWalk → ℕ → KeptWalk → Type 0
-IsKept ks number kept = kept ≡ slice_index_or ks number kept
+IsKept ks number kept = slice_get ks number ≡ Some kept
 
 abbrev pub GoesAt : Regex → ℕ → (olds news : List KeptWalk) → Result (Option HalfMatch) SearchError → Type 0
 GoesAt r number olds news result =
@@ -70,9 +69,9 @@ GoesAt r number olds news result =
 -- what it does to the caches: to that of its direction what its call does, and nothing to the other
 abbrev pub MakesStep : Regex → KeptWalk → (old new : Cache) → Result (Option HalfMatch) SearchError → Type 0
 MakesStep r kept old new result =
-    MakesCall (direction_of kept.reverse) (dfa_of kept.reverse r) kept.input kept.state (own_of kept.reverse old)
-    (own_of kept.reverse new) result
-    × (other_of kept.reverse new ≡ other_of kept.reverse old)
+    MakesCall (direction_of kept.way) (dfa_of kept.way r) kept.input kept.state (own_of kept.way old)
+    (own_of kept.way new) result
+    × (other_of kept.way new ≡ other_of kept.way old)
 
 abbrev pub MakesStepAt :
     Regex → ℕ → List KeptWalk → (old new : Cache) → Result (Option HalfMatch) SearchError → Type 0
@@ -82,9 +81,9 @@ MakesStepAt r number walks old new result =
 -- what is kept of a walk belongs to the walk that was begun, and has answered as many calls
 pub record IsWalk (regexes : List Regex) (w : Begun) (kept : KeptWalk) : Type 0 where
   pub regex : kept.regex ≡ w.regex
-  pub reverse : kept.reverse ≡ w.reverse
+  pub way : kept.way ≡ w.way
   pub input : kept.input ≡ w.input
-  pub reported : (r : Regex) → nth regexes w.regex ≡ Some r → HasAnsweredBy r kept w.reported
+  pub reported : (r : Regex) → slice_get regexes w.regex ≡ Some r → HasAnsweredBy r kept w.reported
 
 -- one for each
 abbrev pub AreWalks : List Regex → List Begun → List KeptWalk → Type 0
@@ -96,7 +95,7 @@ AreWalks regexes (w ∷ ws) (k ∷ ks) = IsWalk regexes w k × AreWalks regexes 
 -- the current regex is the history's, the caches belong to it, and the walks are the history's
 pub record HasPlayed (h : History) (s : Player) : Type 0 where
   pub current : s.current ≡ h.current
-  pub regex : nth s.regexes.now h.current ≡ Some s.regex.now
+  pub regex : slice_get s.regexes.now h.current ≡ Some s.regex.now
   pub of : AreCachesOf s.cache s.regex.now
   pub walks : AreWalks s.regexes.now h.walks s.walks.items
 

@@ -1,10 +1,9 @@
 -- Every reply to a script is its request's own value.
-use Rattle.std.specs.Prelude.{ℕ, suc, ◌≡◌, ◌==◌, ◌∷◌, [], List, length, nat_lt, Bool, true, false, if◌then◌else◌}
-use Rattle.std.specs.Prelude.{Option, Some, None, Result, Ok, Err, IfErr, MatchOption}
+use Rattle.std.specs.Prelude.{ℕ, suc, ◌≡◌, ◌==◌, ◌∷◌, [], List, length, nat_lt, Bool, if◌then◌else◌}
+use Rattle.std.specs.Prelude.{Option, Some, None, Result, Ok, Err, IfErr, MatchOption, slice_get}
 use Rattle.automata_base.specs.Answers.Answers.{IsOverlapping}
 use Rattle.automata_base.specs.Nfas.Engines.{engine_of}
 use Rattle.automata_base.specs.Haystacks.Input.{Input}
-use Rattle.automata_base.specs.Lists.{nth}
 use Rattle.automata_base.specs.Haystacks.Matches.{HalfMatch, Match}
 use Rattle.automata_base.specs.Nfas.Nodes.{nfa_of}
 use Rattle.automata_base.specs.Paths.Paths.{IsLookAcyclic}
@@ -20,6 +19,8 @@ use Rattle.regex_automata.specs.Tokens.{AreTokensUpto}
 use Rattle.regex_automata.specs.declared.hybrid.regex.Regex.{Regex}
 use Rattle.regex_automata.specs.declared.replay.requests.Request.{Request}
 use Rattle.regex_automata.specs.declared.replay.requests.Request.TheVariants as request
+use Rattle.regex_automata.specs.declared.replay.requests.Way.{Way}
+use Rattle.regex_automata.specs.declared.replay.requests.Way.TheVariants as way
 use Rattle.regex_automata.specs.declared.replay.requests.Reply.{Reply}
 use Rattle.regex_automata.specs.declared.replay.requests.Reply.TheVariants as reply
 use Rattle.regex_automata.specs.declared.replay.requests.Fault.{Fault}
@@ -34,7 +35,7 @@ walk_fault current None = Some fault.NoWalk
 walk_fault current (Some w) = if w.regex == current then None else Some fault.OtherRegex
 
 abbrev pub own_fault : List Regex → History → Request → Option Fault
-own_fault regexes h (request.StepWalk k) = walk_fault h.current (nth h.walks k)
+own_fault regexes h (request.StepWalk k) = walk_fault h.current (slice_get h.walks k)
 own_fault regexes h (request.Reset k) = if nat_lt k (length regexes) then None else Some fault.NoRegex
 own_fault regexes h other = None
 
@@ -76,18 +77,18 @@ OnDone P (reply.Done result) = P result
 OnDone P other = ⊥
 
 -- the direction of a walk, and the DFA that makes it
-abbrev pub direction_of : (reverse : Bool) → Direction
-direction_of false = Forward
-direction_of true = Backward
+abbrev pub direction_of : Way → Direction
+direction_of way.Forward = Forward
+direction_of way.Backward = Backward
 
-abbrev pub dfa_of : (reverse : Bool) → Regex → Machine
-dfa_of false r = r.forward
-dfa_of true r = r.reverse
+abbrev pub dfa_of : Way → Regex → Machine
+dfa_of way.Forward r = r.forward
+dfa_of way.Backward r = r.reverse
 
 -- the step of a walk
 abbrev pub IsStepOf : Regex → Option Begun → Result (Option HalfMatch) SearchError → Type 0
 IsStepOf r None result = ⊥
-IsStepOf r (Some w) result = IsStep (direction_of w.reverse) (dfa_of w.reverse r) w.input w.reported result
+IsStepOf r (Some w) result = IsStep (direction_of w.way) (dfa_of w.way r) w.input w.reported result
 
 -- a walk takes the next number
 abbrev pub IsNumber : ℕ → Result ℕ SearchError → Type 0
@@ -103,8 +104,8 @@ IsOwnValue r walks (request.Find input) = OnSpan (IsSpanOf r input)
 IsOwnValue r walks (request.IsMatch input) = OnTruth (IsTruthOf r input)
 IsOwnValue r walks (request.Iterate input) = OnSpans (AreMatchesUpto r input)
 IsOwnValue r walks (request.Tokenise input) = OnTokens (AreTokensUpto r.forward input)
-IsOwnValue r walks (request.BeginWalk reverse input) = OnBegun (IsNumber (length walks))
-IsOwnValue r walks (request.StepWalk k) = OnHalf (IsStepOf r (nth walks k))
+IsOwnValue r walks (request.BeginWalk way input) = OnBegun (IsNumber (length walks))
+IsOwnValue r walks (request.StepWalk k) = OnHalf (IsStepOf r (slice_get walks k))
 IsOwnValue r walks (request.Which capacity input) = OnPatterns (ArePatternsUpto r.forward input capacity)
 IsOwnValue r walks (request.Reset k) = OnDone (λ result. IfErr result IsMemory)
 
@@ -116,7 +117,7 @@ IsOwnValueBy (Some r) walks q answer = IsOwnValue r walks q answer
 abbrev pub IsReply : List Regex → History → Request → Reply → Type 0
 IsReply regexes h q answer =
     MatchOption (fault_of regexes h q)
-    (IsOwnValueBy (nth regexes h.current) h.walks q answer)
+    (IsOwnValueBy (slice_get regexes h.current) h.walks q answer)
     (λ why. answer ≡ reply.Bad why)
 
 -- one reply for each request, each after the history that the ones before it made
@@ -161,5 +162,5 @@ pub record ReportWalk (way : Direction) (m : Machine) (input : Input) (steps : L
 abbrev pub ReportWalks : List Regex → List Request → List Reply → Type 0
 ReportWalks regexes script replies =
     (k : ℕ) (w : Begun) (r : Regex)
-    → nth (history start script replies).walks k ≡ Some w → nth regexes w.regex ≡ Some r
-    → ReportWalk (direction_of w.reverse) (dfa_of w.reverse r) w.input (reported_to k script replies)
+    → slice_get (history start script replies).walks k ≡ Some w → slice_get regexes w.regex ≡ Some r
+    → ReportWalk (direction_of w.way) (dfa_of w.way r) w.input (reported_to k script replies)

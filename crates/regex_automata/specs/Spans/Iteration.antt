@@ -1,11 +1,11 @@
 -- The matches of an input, one after another.
-use Rattle.std.specs.Prelude.{ℕ, suc, ◌≡◌, ◌+◌, ◌-◌, ◌<◌, ◌≤◌, ◌⊎◌, ◌==◌, Bool, true, false, cond, List, []}
-use Rattle.std.specs.Prelude.{◌∷◌, ◌++◌, length}
+use Rattle.std.specs.Prelude.{ℕ, suc, ◌≡◌, ◌+◌, ◌-◌, ◌<◌, ◌≤◌, ◌⊎◌, ◌==◌, Bool, true, false, cond, List}
+use Rattle.std.specs.Prelude.{◌++◌, length}
 use Rattle.std.specs.Prelude.{Option, None, Some, Result, Ok, Err, IfErr, IfOk, IfSome, IsOk, MatchOption}
 use Rattle.automata_base.specs.Haystacks.Input.{Input}
 use Rattle.automata_base.specs.Haystacks.Matches.{Match}
 use Rattle.automata_base.specs.declared.util.search.Anchored.{Anchored}
-use Rattle.automata_base.specs.Answers.Spans.{AreMatches, IsEmptyAt, IsNextItem, from}
+use Rattle.automata_base.specs.Answers.Spans.{AreFirst, AreMatches, IsEmptyAt, IsNextItem, from}
 use Rattle.automata_config.specs.declared.error.SearchError.{SearchError}
 use Rattle.regex_automata.specs.Spans.Costs.{AreCostsOf}
 use Rattle.regex_automata.specs.Spans.Outcomes.{FindsMatch, MatchLiesIn}
@@ -93,12 +93,6 @@ most_items true input last = 0
 most_items false input None = input.end + 2 - input.start
 most_items false input (Some end) =
     cond (end == input.start) (input.end + 1 - input.start) (input.end + 2 - input.start)
-
--- the first matches of an iteration, whatever comes after them
-abbrev pub AreFirst : (Finds : Input → Option Match → Type 0) → Input → ℕ → Option ℕ → List Match → Type 0
-AreFirst Finds input start last [] = Unit {0}
-AreFirst Finds input start last (m ∷ ms) =
-    IsNextItem Finds input start last (Some m) × AreFirst Finds input m.end (Some m.end) ms
 
 -- all matches of an input, or the first ones and the error that ended them
 abbrev pub AreCollected : (Finds : Input → Option Match → Type 0) → Input → List Match → Option SearchError → Type 0

@@ -1,6 +1,5 @@
 //! What a replay keeps between requests.
-ghost use Rattle.std.specs.Prelude.{◌≡◌, IfOk, Some};
-ghost use Rattle.automata_base.specs.Lists.{nth};
+ghost use Rattle.std.specs.Prelude.{◌≡◌, IfOk, Some, slice_get};
 ghost use Rattle.regex_automata.specs.Replay.Histories.{History, start};
 ghost use Rattle.regex_automata.specs.Replay.Players.{HasPlayed, IsReplyTo, MakesCaches, StandsAfter};
 ghost use Rattle.regex_automata.specs.Regexes.Caches.{AreFresh};
@@ -10,7 +9,7 @@ use crate::hybrid::dfa::OverlappingState;
 use crate::hybrid::regex::{Cache, Regex};
 use crate::replay::iteration::matches_upto;
 use crate::replay::patterns::patterns_below;
-use crate::replay::requests::{Fault, Reply, Request};
+use crate::replay::requests::{Fault, Reply, Request, Way};
 use crate::replay::tokens::tokens_upto;
 use crate::replay::walks::{KeptWalk, step_at};
 use automata_base::util::search::Input;
@@ -36,7 +35,7 @@ impl<'r, 'h> Player<'r, 'h> {
         regexes: &'r [Regex],
         regex: &'r Regex,
     ) -> Result<Player<'r, 'h>, AllocError>
-        requires { nth regexes.now 0 ≡ Some regex.now }
+        requires { slice_get regexes.now 0 ≡ Some regex.now }
         ensures at { IfOk result (HasPlayed start) }
         ensures regexes { IfOk result (λ player. player.regexes.now ≡ regexes.now) }
         ensures fresh { IfOk result (λ player. AreFresh regex.now player.cache) }
@@ -60,6 +59,7 @@ impl<'r, 'h> Player<'r, 'h> {
         ensures at { StandsAfter self.old request.now result self.new }
         ensures made { MakesCaches self.old request.now result self.new }
     {
+        let alloc = self.alloc;
         let regex = self.regex;
         match request {
             Request::SearchFwd(input) => Reply::Half(
@@ -75,28 +75,18 @@ impl<'r, 'h> Player<'r, 'h> {
             Request::Find(input) => Reply::Span(regex.find(&mut self.cache, input)),
             Request::IsMatch(input) => Reply::Truth(regex.is_match(&mut self.cache, input)),
             Request::Iterate(input) => {
-                let (found, error) = matches_upto(
-                    self.alloc,
-                    regex,
-                    &mut self.cache,
-                    input.copied(),
-                );
+                let (found, error) = matches_upto(alloc, regex, &mut self.cache, input.copied());
                 Reply::Spans { found, error }
             }
             Request::Tokenise(input) => {
-                let (found, error) = tokens_upto(
-                    self.alloc,
-                    regex,
-                    &mut self.cache,
-                    input.copied(),
-                );
+                let (found, error) = tokens_upto(alloc, regex, &mut self.cache, input.copied());
                 Reply::Tokens { found, error }
             }
-            Request::BeginWalk { reverse, input } => self.begin(*reverse, input),
+            Request::BeginWalk { way, input } => self.begin(*way, input),
             Request::StepWalk(number) => self.step(*number),
             Request::Which { capacity, input } => {
                 let (found, error) = patterns_below(
-                    self.alloc,
+                    alloc,
                     regex.forward(),
                     self.cache.forward_mut(),
                     *capacity,
@@ -109,17 +99,17 @@ impl<'r, 'h> Player<'r, 'h> {
     }
 
     /// Begins a walk of the current regex.
-    fn begin(&mut self, reverse: bool, input: &Input<'h>) -> Reply
+    fn begin(&mut self, way: Way, input: &Input<'h>) -> Reply
         requires { (h : History) × HasPlayed h self.old }
         ensures regexes { self.new.regexes.now ≡ self.old.regexes.now }
-        ensures reply { IsReplyTo self.old (request.BeginWalk reverse input.now) result }
-        ensures at { StandsAfter self.old (request.BeginWalk reverse input.now) result self.new }
-        ensures made { MakesCaches self.old (request.BeginWalk reverse input.now) result self.new }
+        ensures reply { IsReplyTo self.old (request.BeginWalk way input.now) result }
+        ensures at { StandsAfter self.old (request.BeginWalk way input.now) result self.new }
+        ensures made { MakesCaches self.old (request.BeginWalk way input.now) result self.new }
     {
         let number = self.walks.len();
         let walk = KeptWalk {
             regex: self.current,
-            reverse,
+            way,
             input: input.copied(),
             state: OverlappingState::start(),
         };

@@ -12,6 +12,7 @@ ghost use Rattle.regex_automata.specs.declared.replay.walks.KeptWalk.{KeptWalk};
 use crate::hybrid::dfa;
 use crate::hybrid::dfa::{DFA, OverlappingState};
 use crate::hybrid::regex::{Cache, Regex};
+use crate::replay::requests::Way;
 use automata_base::util::search::{HalfMatch, Input};
 use automata_config::error::SearchError;
 
@@ -19,7 +20,7 @@ use automata_config::error::SearchError;
 #[derive(Drop)]
 pub struct KeptWalk<'h> {
     pub(super) regex: usize,
-    pub(super) reverse: bool,
+    pub(super) way: Way,
     pub(super) input: Input<'h>,
     pub(super) state: OverlappingState,
 }
@@ -64,24 +65,24 @@ fn step_rev(
 
 /// The match of a walk of a regex after one more call. An error leaves the walk unchanged.
 fn step(
-    reverse: bool,
+    way: Way,
     regex: &Regex,
     cache: &mut Cache,
     input: &Input<'_>,
     state: &mut OverlappingState,
 ) -> Result<Option<HalfMatch>, SearchError>
     requires of { AreCachesOf cache.old regex.now }
-    requires reported { (k : ℕ) × HasAnswered (direction_of reverse) (dfa_of reverse regex.now) input.now state.old k }
+    requires reported { (k : ℕ) × HasAnswered (direction_of way) (dfa_of way regex.now) input.now state.old k }
     ensures of { AreCachesOf cache.new regex.now }
-    ensures call { IsCall (direction_of reverse) (dfa_of reverse regex.now) input.now state.old state.new result }
-    ensures made { MakesCall (direction_of reverse) (dfa_of reverse regex.now) input.now state.old
-        (own_of reverse cache.old) (own_of reverse cache.new) result }
-    ensures same { other_of reverse cache.new ≡ other_of reverse cache.old }
+    ensures call { IsCall (direction_of way) (dfa_of way regex.now) input.now state.old state.new result }
+    ensures made { MakesCall (direction_of way) (dfa_of way regex.now) input.now state.old
+        (own_of way cache.old) (own_of way cache.new) result }
+    ensures same { other_of way cache.new ≡ other_of way cache.old }
 {
-    if reverse {
-        return step_rev(regex.reverse(), cache.reverse_mut(), input, state);
+    match way {
+        Way::Forward => step_fwd(regex.forward(), cache.forward_mut(), input, state),
+        Way::Backward => step_rev(regex.reverse(), cache.reverse_mut(), input, state),
     }
-    step_fwd(regex.forward(), cache.forward_mut(), input, state)
 }
 
 /// One step of the walk of this number.
@@ -99,5 +100,5 @@ pub fn step_at(
     ensures made { MakesStepAt regex.now number walks.old cache.old cache.new result }
 {
     let walk = &mut walks[number];
-    step(walk.reverse, regex, cache, &walk.input, &mut walk.state)
+    step(walk.way, regex, cache, &walk.input, &mut walk.state)
 }

@@ -13,28 +13,28 @@ use automata_config::error::SearchError;
 use std::fmt;
 
 /// The input of the search at an offset: what is left of the span, anchored and not earliest.
-fn asked<'h>(haystack: &'h [u8], place: usize, end: usize) -> Input<'h>
-    requires { Allows haystack.now place end }
-    ensures { result ≡ asked haystack.now end place }
+fn asked<'h>(haystack: &'h [u8], offset: usize, end: usize) -> Input<'h>
+    requires { Allows haystack.now offset end }
+    ensures { result ≡ asked haystack.now end offset }
 {
     Input::new(haystack)
-        .range(place..end)
+        .range(offset..end)
         .anchored(Anchored::Yes)
 }
 
 /// The token that an answer at an offset makes, as a match, or why there is none.
-fn item(place: usize, answer: Result<Option<HalfMatch>, SearchError>) -> Result<Match, TokenError>
-    ensures { result ≡ item_of place answer }
+fn item(offset: usize, answer: Result<Option<HalfMatch>, SearchError>) -> Result<Match, TokenError>
+    ensures { result ≡ item_of offset answer }
 {
     match answer {
-        Ok(Some(half)) if half.offset() > place => {
+        Ok(Some(half)) if half.offset() > offset => {
             let span = Span {
-                start: place,
+                start: offset,
                 end: half.offset(),
             };
             Ok(Match::new(half.pattern(), span))
         }
-        Ok(_) => Err(TokenError::NoToken(place)),
+        Ok(_) => Err(TokenError::NoToken(offset)),
         Err(error) => Err(TokenError::Search(error)),
     }
 }
@@ -44,22 +44,22 @@ fn token_at<'h>(
     regex: &Regex,
     cache: &mut Cache,
     haystack: &'h [u8],
-    place: usize,
+    offset: usize,
     end: usize,
 ) -> Result<Token<'h>, TokenError>
     requires of { AreCachesOf cache.old regex.now }
-    requires ahead { place < end }
-    requires within { Allows haystack.now place end }
+    requires ahead { offset < end }
+    requires within { Allows haystack.now offset end }
     ensures of { AreCachesOf cache.new regex.now }
-    ensures item { IsGivenAt regex.now.forward cache.new.forward.store haystack.now end place result }
-    ensures effect { IsTokenEffect regex.now.forward haystack.now end place cache.old.forward cache.new.forward
+    ensures item { IsGivenAt regex.now.forward cache.new.forward.store haystack.now end offset result }
+    ensures effect { IsTokenEffect regex.now.forward haystack.now end offset cache.old.forward cache.new.forward
         (Some result) }
     ensures reverse { cache.new.reverse ≡ cache.old.reverse }
 {
-    let input = asked(haystack, place, end);
+    let input = asked(haystack, offset, end);
     let dfa = regex.forward();
     let found = dfa.try_search_fwd(cache.forward_mut(), &input);
-    let token = item(place, found)?;
+    let token = item(offset, found)?;
     Ok(Token::new(haystack, token.pattern(), token.span()))
 }
 
@@ -91,7 +91,7 @@ impl Regex {
         ensures cache { result.cache.now ≡ cache.old }
         ensures regex { result.regex.now ≡ self.now }
         ensures haystack { result.haystack.now ≡ input.entry.haystack }
-        ensures place { result.place ≡ input.entry.start }
+        ensures offset { result.offset ≡ input.entry.start }
         ensures end { result.end ≡ input.entry.end }
         ensures failed { result.failed ≡ false }
     {
@@ -99,7 +99,7 @@ impl Regex {
             regex: self,
             cache,
             haystack: input.haystack(),
-            place: input.start(),
+            offset: input.start(),
             end: input.end(),
             failed: false,
         }
@@ -113,10 +113,10 @@ pub struct Tokens<'r, 'c, 'h> {
     regex: &'r Regex,
     cache: &'c mut Cache,
     haystack: &'h [u8],
-    place: usize,
+    offset: usize,
     end: usize,
     failed: bool,
-    ghost within: { Allows haystack.now place end },
+    ghost within: { Allows haystack.now offset end },
     ghost of: { AreCachesOf cache.now regex.now },
 }
 
@@ -124,7 +124,7 @@ pub struct Tokens<'r, 'c, 'h> {
 impl<'r, 'c, 'h> fmt::Debug for Tokens<'r, 'c, 'h> {
     fn fmt<W: fmt::Write>(&self, f: &mut fmt::Formatter<W>) -> fmt::Result {
         f.debug_struct("Tokens")
-            .field("start", &self.place)
+            .field("start", &self.offset)
             .field("end", &self.end)
             .field("failed", &self.failed)
             .finish_non_exhaustive()
@@ -135,21 +135,21 @@ impl<'r, 'c, 'h> Iterator for Tokens<'r, 'c, 'h> {
     type Item = Result<Token<'h>, TokenError>;
 
     ghost next_gives = { λ s r t. GivesToken s.regex.now.forward t.cache.now.forward.store s.haystack.now s.end r
-        s.place t.place s.failed t.failed
+        s.offset t.offset s.failed t.failed
         × (t.regex.now ≡ s.regex.now) × (t.cache.ghost_name ≡ s.cache.ghost_name)
         × (t.haystack.now ≡ s.haystack.now) × (t.end ≡ s.end)
-        × IsTokenEffect s.regex.now.forward s.haystack.now s.end s.place s.cache.now.forward t.cache.now.forward r
+        × IsTokenEffect s.regex.now.forward s.haystack.now s.end s.offset s.cache.now.forward t.cache.now.forward r
         × (t.cache.now.reverse ≡ s.cache.now.reverse) };
 
-    ghost remaining = { λ s. at_most (most_tokens s.failed s.end s.place) };
+    ghost remaining = { λ s. at_most (most_tokens s.failed s.end s.offset) };
 
     fn next(&mut self) -> Option<Result<Token<'h>, TokenError>> {
-        if self.failed || self.place >= self.end {
+        if self.failed || self.offset >= self.end {
             return None;
         }
-        match token_at(self.regex, self.cache, self.haystack, self.place, self.end) {
+        match token_at(self.regex, self.cache, self.haystack, self.offset, self.end) {
             Ok(token) => {
-                self.place = token.span().end;
+                self.offset = token.span().end;
                 Some(Ok(token))
             }
             Err(error) => {

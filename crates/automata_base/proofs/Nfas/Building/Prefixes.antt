@@ -1,17 +1,14 @@
 -- An NFA that starts at a lazy loop which was added last skips lazily.
-use Rattle.std.proofs.Common.{ℕ, zero, suc, ◌≡◌, ◌<◌, ◌+◌, List, [], ◌∷◌, ◌++◌, length, map, Option, Some, None, inl}
+use Rattle.std.proofs.Common.{ℕ, zero, suc, ◌≡◌, ◌<◌, ◌+◌, List, [], ◌∷◌, ◌++◌, length, map, Some, inl}
 use Rattle.std.proofs.Common.{inr, refl, sym, ap, ◌∙◌, subst, arith}
 use Rattle.std.specs.Prelude.{slice_get}
-use Rattle.std.specs.Option.{option_map}
 use Rattle.std.proofs.lemmas.List.{map-append, length-map}
-use Rattle.std.proofs.lemmas.Option.{slice_get-map}
 use Rattle.automata_base.specs.declared.nfa.thompson.State.{State}
 use Rattle.automata_base.specs.declared.nfa.thompson.State.TheVariants as is
 use Rattle.automata_base.specs.Nfas.Accepted.{IsChecked}
 use Rattle.automata_base.specs.Nfas.Drafts.{Outline, PrefixesSkipLazily, prefix_of}
-use Rattle.automata_base.specs.Nfas.Engines.{HasEdge, Road, Reaches}
+use Rattle.automata_base.specs.Nfas.Engines.{HasEdge, Road, Reaches, any_byte}
 use Rattle.automata_base.specs.Nfas.Getters.{SkipsLazily}
-use Rattle.automata_base.specs.Lists.{nth}
 use Rattle.automata_base.specs.Nfas.Nfa.{Node, Split, Assert, Read, Accept, node, node_or_fail, hop_at, takes_at}
 use Rattle.automata_base.specs.Nfas.Nodes.{Automaton, nfa_of, node_of, nodes_of, ranges_of, dense_from}
 use Rattle.automata_base.specs.Paths.Paths.{all_true}
@@ -20,7 +17,6 @@ use Rattle.automata_base.specs.Nfas.Shapes.{UnionShape, UnionReverseShape, Binar
 use Rattle.automata_base.specs.Nfas.Shapes.{MatchShape, shape_of, built_of}
 use Rattle.automata_base.specs.Powersets.Closure.{children}
 use Rattle.automata_base.proofs.Paths.FirstVisits.{hop_children}
-use Rattle.automata_base.proofs.Nfas.Building.Patches.{same_shape}
 use Rattle.automata_base.proofs.Paths.Sets.{nth_in}
 
 abbrev shape_node : Shape → Node
@@ -51,38 +47,18 @@ nodes_shaped : (xs : List State) → nodes_of xs ≡ map shape_node (map shape_o
 nodes_shaped [] = refl
 nodes_shaped (x ∷ xs) = ap (λ z. z ∷ nodes_of xs) (node_shaped x) ∙ ap (λ z. shape_node (shape_of x) ∷ z) (nodes_shaped xs)
 
-nth_front : (xs ys : List Shape) (q : ℕ) → q < length xs → nth (map shape_node (xs ++ ys)) q ≡ nth (map shape_node xs) q
+nth_front : (xs ys : List Shape) (q : ℕ) → q < length xs → slice_get (map shape_node (xs ++ ys)) q ≡ slice_get (map shape_node xs) q
 nth_front [] ys q l = absurd (omega (arith, l))
 nth_front (x ∷ xs) ys zero l = refl
 nth_front (x ∷ xs) ys (suc q) l = nth_front xs ys q (omega (arith, l))
 
-nth_after : (xs ys : List Shape) (y : Shape) → nth (map shape_node (xs ++ y ∷ ys)) (length xs) ≡ Some (shape_node y)
+nth_after : (xs ys : List Shape) (y : Shape) → slice_get (map shape_node (xs ++ y ∷ ys)) (length xs) ≡ Some (shape_node y)
 nth_after [] ys y = refl
 nth_after (x ∷ xs) ys y = nth_after xs ys y
 
-slice_after : (xs : List Shape) (y z : Shape) → slice_get (xs ++ y ∷ z ∷ []) (suc (length xs)) ≡ Some z
-slice_after [] y z = refl
-slice_after (x ∷ xs) y z = slice_after xs y z
-
-range_inverse : (s : State) (lo hi next : ℕ) → shape_of s ≡ RangeShape lo hi next → s ≡ is.ByteRange lo hi next
-range_inverse (is.ByteRange a b c) lo hi next e = cc
-range_inverse (is.Sparse ts) lo hi next e = cc
-range_inverse (is.Dense targets) lo hi next e = cc
-range_inverse (is.Look look other) lo hi next e = cc
-range_inverse (is.Union alternates) lo hi next e = cc
-range_inverse (is.BinaryUnion alt1 alt2) lo hi next e = cc
-range_inverse (is.Capture other pattern index slot) lo hi next e = cc
-range_inverse is.Fail lo hi next e = cc
-range_inverse (is.Match pattern) lo hi next e = cc
-
-none_shape : (x : Shape) → ◌≡◌ {A = Option Shape} None (Some x) → ⊥
-none_shape x e = cc
-
-range_read :
-    (found : Option State) (lo hi next : ℕ) → option_map shape_of found ≡ Some (RangeShape lo hi next)
-    → found ≡ Some (is.ByteRange lo hi next)
-range_read None lo hi next e = absurd (none_shape (RangeShape lo hi next) e)
-range_read (Some s) lo hi next e = ap (λ z. Some z) (range_inverse s lo hi next (same_shape (shape_of s) (RangeShape lo hi next) e))
+nth_last : (xs : List Shape) (y z : Shape) → slice_get (map shape_node (xs ++ y ∷ z ∷ [])) (suc (length xs)) ≡ Some (shape_node z)
+nth_last [] y z = refl
+nth_last (x ∷ xs) y z = nth_last xs y z
 
 module _
     (shapes : List Shape) (start : ℕ) (before after : Automaton) (checked : IsChecked before)
@@ -103,22 +79,20 @@ module _
 
     union_is : node (nfa_of after) (length shapes) ≡ Split (start ∷ (length shapes + 1) ∷ [])
     union_is =
-        ap (λ z. node_or_fail (nth z (length shapes))) nodes_now
+        ap (λ z. node_or_fail (slice_get z (length shapes))) nodes_now
         ∙ ap node_or_fail (nth_after shapes (RangeShape 0 255 (length shapes) ∷ []) (BinaryUnionShape start (length shapes + 1)))
 
-    skip_is : slice_get after.states (length shapes + 1) ≡ Some (is.ByteRange 0 255 (length shapes))
+    skip_is : node (nfa_of after) (length shapes + 1) ≡ any_byte (length shapes)
     skip_is =
         let behind : length shapes + 1 ≡ suc (length shapes) = omega arith in
-        range_read (slice_get after.states (length shapes + 1)) 0 255 (length shapes)
-        (sym (slice_get-map shape_of after.states (length shapes + 1))
-        ∙ (ap (λ z. slice_get z (length shapes + 1)) now
-        ∙ (ap (slice_get (shapes ++ last)) behind
-        ∙ slice_after shapes (BinaryUnionShape start (length shapes + 1)) (RangeShape 0 255 (length shapes)))))
+        ap (λ z. node_or_fail (slice_get z (length shapes + 1))) nodes_now
+        ∙ (ap (λ k. node_or_fail (slice_get (map shape_node (shapes ++ last)) k)) behind
+        ∙ ap node_or_fail (nth_last shapes (BinaryUnionShape start (length shapes + 1)) (RangeShape 0 255 (length shapes))))
 
     node_same : (q : ℕ) → q < length shapes → node (nfa_of after) q ≡ node (nfa_of before) q
     node_same q l =
-        ap (λ z. node_or_fail (nth z q)) nodes_now
-        ∙ (ap node_or_fail (nth_front shapes last q l) ∙ sym (ap (λ z. node_or_fail (nth z q)) nodes_was))
+        ap (λ z. node_or_fail (slice_get z q)) nodes_now
+        ∙ (ap node_or_fail (nth_front shapes last q l) ∙ sym (ap (λ z. node_or_fail (slice_get z q)) nodes_was))
 
     edge_below : (q r : ℕ) → q < length shapes → HasEdge (nfa_of after) q r → r < length shapes
     edge_below q r l (inl h) =
@@ -141,7 +115,7 @@ module _
       length shapes + 1,
       (
         ap (node (nfa_of after)) unanchored ∙ (union_is ∙ ap (λ z. Split (z ∷ (length shapes + 1) ∷ [])) (sym anchored)),
-        skip_is ∙ ap (λ z. Some (is.ByteRange 0 255 z)) (sym unanchored),
+        skip_is ∙ ap any_byte (sym unanchored),
         λ h. apart (subst (λ z. Reaches (nfa_of after) z (length shapes)) anchored (subst (Reaches (nfa_of after) after.start_anchored) unanchored h)),
       ),
     )

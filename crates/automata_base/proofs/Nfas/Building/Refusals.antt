@@ -1,4 +1,4 @@
--- `NFA::from_states` fails on the states that are built exactly as on all states of the same shapes.
+-- `NFA::from_states` fails on the states that are built as their shapes say.
 use Rattle.std.proofs.Common.{ℕ, ◌≡◌, ◌⊎◌, List, [], ◌++◌, map, Some, None, Result, Ok, Err, inl, inr, refl, sym, ap}
 use Rattle.std.proofs.Common.{◌∙◌, subst}
 use Rattle.std.specs.Prelude.{IsOkUnless}
@@ -9,9 +9,8 @@ use Rattle.automata_base.specs.declared.nfa.thompson.building.Added.{Added}
 use Rattle.automata_base.specs.declared.nfa.thompson.building.BuildError.{BuildError}
 use Rattle.automata_base.specs.declared.nfa.thompson.building.BuildError.TheVariants.{NFA, OutOfMemory}
 use Rattle.automata_base.specs.Nfas.Drafts.{build_error}
-use Rattle.automata_base.specs.Nfas.Errors.{states_refusal}
+use Rattle.automata_base.specs.Nfas.Errors.{refusal_of, states_refusal}
 use Rattle.automata_base.specs.Nfas.Shapes.{Shape, shape_of, shape_added, built_of}
-use Rattle.automata_base.proofs.Nfas.Building.Shapes.{refused_alike}
 
 apart : {A : Type 0} (x : A) (e : NfaError) → ◌≡◌ {A = Result A NfaError} (Ok x) (Err e) → ⊥
 apart x e h = cc
@@ -38,24 +37,23 @@ module _
     (shapes : List Shape) (bs : List State) (a u : ℕ) (starts own : List ℕ) (built : map shape_of bs ≡ map built_of shapes)
     (same : starts ≡ own)
   where
-    alike : (states : List State) → map shape_of states ≡ map built_of shapes → states_refusal bs a u starts ≡ states_refusal states a u own
-    alike states h = refused_alike bs states (map built_of shapes) a u starts built h ∙ ap (states_refusal states a u) same
+    alike : states_refusal bs a u starts ≡ refusal_of (map built_of shapes) a u own
+    alike = ap (λ z. refusal_of z a u starts) built ∙ ap (refusal_of (map built_of shapes) a u) same
 
     pub ok_unrefused :
         {A : Type 0} (r : Result A NfaError) (nfa : A) → r ≡ Ok nfa → ((e : NfaError) → states_refusal bs a u starts ≡ Some e → r ≡ Err e)
-        → (states : List State) (e : NfaError) → map shape_of states ≡ map built_of shapes → states_refusal states a u own ≡ Some e → ⊥
-    ok_unrefused r nfa is refused states e h f = apart nfa e (sym is ∙ refused e (alike states h ∙ f))
+        → (e : NfaError) → refusal_of (map built_of shapes) a u own ≡ Some e → ⊥
+    ok_unrefused r nfa is refused e f = apart nfa e (sym is ∙ refused e (alike ∙ f))
 
     pub err_refused :
         {A : Type 0} (r : Result A NfaError) (x : NfaError) (answer : BuildError) → answer ≡ build_error x → r ≡ Err x
         → ((e : NfaError) → states_refusal bs a u starts ≡ Some e → r ≡ Err e)
-        → (states : List State) (e : NfaError) → map shape_of states ≡ map built_of shapes → states_refusal states a u own ≡ Some e
-        → (answer ≡ NFA e) ⊎ (answer ≡ OutOfMemory)
-    err_refused {A} r x answer t is refused states e h f =
+        → (e : NfaError) → refusal_of (map built_of shapes) a u own ≡ Some e → (answer ≡ NFA e) ⊎ (answer ≡ OutOfMemory)
+    err_refused {A} r x answer t is refused e f =
         go (error_is x)
       where
         one : x ≡ e
-        one = same_error {A = A} x e (sym is ∙ refused e (alike states h ∙ f))
+        one = same_error {A = A} x e (sym is ∙ refused e (alike ∙ f))
 
         go : (build_error x ≡ NFA x) ⊎ (build_error x ≡ OutOfMemory) → (answer ≡ NFA e) ⊎ (answer ≡ OutOfMemory)
         go (inl k) = inl (t ∙ (k ∙ ap NFA one))
@@ -64,9 +62,9 @@ module _
     pub err_memory :
         {A : Type 0} (r : Result A NfaError) (x : NfaError) (answer : BuildError) → answer ≡ build_error x → r ≡ Err x
         → (states_refusal bs a u starts ≡ None → IsOkUnless r nfa_error.OutOfMemory)
-        → (states : List State) → map shape_of states ≡ map built_of shapes → states_refusal states a u own ≡ None → answer ≡ OutOfMemory
-    err_memory r x answer t is memory states h f =
-        t ∙ ap build_error (subst (λ z. IsOkUnless z nfa_error.OutOfMemory) is (memory (alike states h ∙ f)))
+        → refusal_of (map built_of shapes) a u own ≡ None → answer ≡ OutOfMemory
+    err_memory r x answer t is memory f =
+        t ∙ ap build_error (subst (λ z. IsOkUnless z nfa_error.OutOfMemory) is (memory (alike ∙ f)))
 
 pub err_either :
     {A : Type 0} (answer : BuildError) (e : NfaError) → (answer ≡ NFA e) ⊎ (answer ≡ OutOfMemory)

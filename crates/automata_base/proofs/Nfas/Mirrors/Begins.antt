@@ -1,18 +1,13 @@
 -- Whether the starts begin alike, by two tests.
-use Rattle.std.proofs.Common.{ℕ, zero, suc, ◌≡◌, ◌↔◌, Bool, true, false, not, List, [], ◌∷◌, Option, Some, None, inl}
-use Rattle.std.proofs.Common.{inr, refl, sym, ap, ◌∙◌}
+use Rattle.std.proofs.Common.{◌≡◌, ◌↔◌, Bool, true, false, not, [], ◌∷◌}
+use Rattle.std.proofs.Common.{refl, sym, ◌∙◌}
 use mathlib.Core.Bool.{beq}
-use Rattle.std.specs.Prelude.{IsTrue, slice_get}
-use Rattle.automata_base.specs.declared.nfa.thompson.State.{State}
-use Rattle.automata_base.specs.declared.nfa.thompson.State.TheVariants.{ByteRange}
-use Rattle.automata_base.specs.Powersets.Cuts.{MatchKind}
-use Rattle.automata_base.specs.Lists.{nth}
-use Rattle.automata_base.specs.Nfas.Nfa.{node_or_fail}
-use Rattle.automata_base.specs.Nfas.Engines.{MatchesEmpty, BeginsLazily, any_byte, engine_of}
-use Rattle.automata_base.specs.Nfas.Getters.{HasEmpty, SkipsLazily}
+use Rattle.std.specs.Prelude.{IsTrue}
+use Rattle.automata_base.specs.Nfas.Engines.{MatchesEmpty}
+use Rattle.automata_base.specs.Nfas.Getters.{HasEmpty}
 use Rattle.automata_base.specs.Nfas.Mirrors.{BeginsAlike}
-use Rattle.automata_base.specs.Nfas.Nodes.{Automaton, nfa_of, node_of, nodes_of}
-use Rattle.automata_base.specs.Nfas.Reach.{ReachesMatch}
+use Rattle.automata_base.specs.Nfas.Nodes.{Automaton, nfa_of}
+use Rattle.automata_base.specs.Retraced.Reach.{ReachesMatch}
 use Rattle.automata_base.proofs.Nfas.Reach.Led.{empty_is}
 use Rattle.automata_base.proofs.Paths.Truths.{bool_iff}
 
@@ -45,21 +40,3 @@ together true true e = refl
 together true false e = let k : true ≡ false = e in cc
 together false true e = let k : true ≡ false = e in cc
 together false false e = refl
-
-byte_state :
-    (states : List State) (k next : ℕ) → slice_get states k ≡ Some (ByteRange 0 255 next)
-    → node_or_fail (nth (nodes_of states) k) ≡ any_byte next
-byte_state [] k next e = absurd (no e)
-  where
-    no : ◌≡◌ {A = Option State} None (Some (ByteRange 0 255 next)) → ⊥
-    no e = cc
-byte_state (x ∷ xs) zero next e = ap node_of (one e)
-  where
-    one : ◌≡◌ {A = Option State} (Some x) (Some (ByteRange 0 255 next)) → x ≡ ByteRange 0 255 next
-    one e = cc
-byte_state (x ∷ xs) (suc k) next e = byte_state xs k next e
-
--- Unanchored searches begin lazily if the NFA says so.
-pub skips_begins : (a : Automaton) (kind : MatchKind) → SkipsLazily a → BeginsLazily (engine_of a kind)
-skips_begins a kind (inl e) = inl e
-skips_begins a kind (inr h) = inr (h.0, (h.1.0, byte_state a.states h.0 a.start_unanchored h.1.1, h.1.2))

@@ -1,87 +1,24 @@
 -- Copies of turned states, and their numbers.
-use Rattle.std.proofs.Common.{ℕ, zero, suc, ◌≡◌, ◌<◌, ◌≤◌, ◌+◌, ◌⊎◌, ◌↔◌, ◌&&◌, ltb, Bool, true, false, cond, eqb, List}
-use Rattle.std.proofs.Common.{[], ◌∷◌, ◌++◌, length, get_or, take, drop, map, Option, Some, None, inl, inr, refl, sym}
+use Rattle.std.proofs.Common.{ℕ, zero, suc, ◌≡◌, ◌<◌, ◌≤◌, ◌+◌, ◌⊎◌, ◌↔◌, ◌&&◌, ltb, Bool, true, false, cond, List}
+use Rattle.std.proofs.Common.{[], ◌∷◌, ◌++◌, length, get_or, drop, map, Option, Some, None, inl, inr, refl, sym}
 use Rattle.std.proofs.Common.{ap, ◌∙◌, subst, arith, append_assoc, append-nil}
-use Rattle.std.proofs.lemmas.List.{get_or-take, get_or_default, drop_more, drop_all}
-use Rattle.std.proofs.lemmas.Bool.Decides.{eqb_tells}
+use Rattle.std.proofs.lemmas.List.{get_or_default, drop_more, drop_all}
 use Rattle.automata_base.specs.declared.nfa.thompson.State.{State}
 use Rattle.automata_base.specs.declared.nfa.thompson.State.TheVariants as is
-use Rattle.automata_base.specs.declared.util.determinize.sparse_set.SparseSet.TheInside.{Inside}
-use Rattle.automata_base.specs.Lists.{In, nth, all_below}
+use Rattle.automata_base.specs.Lists.{In, all_below}
+use Rattle.std.specs.Prelude.{slice_get}
 use Rattle.automata_base.specs.Nfas.Nfa.{Node, Split, accepts_at}
 use Rattle.automata_base.specs.Nfas.Nodes.{node_of, nodes_of}
-use Rattle.automata_base.specs.Nfas.Reach.{IsReached, targets_of}
+use Rattle.automata_base.specs.Retraced.Reach.{IsReached, targets_of}
 use Rattle.automata_base.specs.declared.nfa.thompson.reach.Edges.{Edges}
 use Rattle.automata_base.specs.declared.nfa.thompson.reach.Edges.TheVariants.{Every}
 use Rattle.automata_base.proofs.Powersets.Walking.{nodes_length}
-use Rattle.automata_base.specs.Retraced.Once.{Distinct}
-use Rattle.automata_base.specs.Retraced.SparseSet.{IsSparse}
-use Rattle.automata_base.proofs.Nfas.Mirrors.Sums.{distinct_places}
 use Rattle.automata_base.proofs.Paths.Orders.{some_inj, none_some}
 use Rattle.std.proofs.lemmas.Bool.{ltb-true, lt-ltb}
-use Rattle.automata_base.specs.Retraced.ReversedEdges.{place_in, copied, copies, copy_of, is_of, matches_in, IsCopied}
+use Rattle.automata_base.specs.Retraced.ReversedEdges.{copied, copies, copy_of, is_of, matches_in, IsCopied}
 use Rattle.automata_base.specs.Retraced.ReversedEdges.{HasCopies, HaveCopies}
 use Rattle.std.proofs.lemmas.Bool.{and_parts}
 use Rattle.automata_base.proofs.Nfas.Reach.Walked.{way_more}
-
--- A member stands at its place.
-pub at_place : (items : List ℕ) (q : ℕ) → In q items → (place_in items q < length items) × (get_or items (place_in items q) 0 ≡ q)
-at_place [] q i = absurd i
-at_place (x ∷ xs) q i = go (eqb_tells x q) i (at_place xs q)
-  where
-    go :
-        ((eqb x q ≡ true) × (x ≡ q)) ⊎ ((eqb x q ≡ false) × (x ≡ q → ⊥)) → In q (x ∷ xs)
-        → (In q xs → (place_in xs q < length xs) × (get_or xs (place_in xs q) 0 ≡ q))
-        → (place_in (x ∷ xs) q < length (x ∷ xs)) × (get_or (x ∷ xs) (place_in (x ∷ xs) q) 0 ≡ q)
-    go (inl e) i ih =
-        subst (λ b. (cond b 0 (suc (place_in xs q)) < length (x ∷ xs)) × (get_or (x ∷ xs) (cond b 0 (suc (place_in xs q))) 0 ≡ q))
-        (sym e.0) (omega arith, e.1)
-    go (inr e) (inl f) ih = absurd (e.1 (sym f))
-    go (inr e) (inr j) ih =
-        let w = ih j in
-        subst (λ b. (cond b 0 (suc (place_in xs q)) < length (x ∷ xs)) × (get_or (x ∷ xs) (cond b 0 (suc (place_in xs q))) 0 ≡ q))
-        (sym e.0) (omega (arith, w.0), w.1)
-
--- What a sparse set holds of a member.
-take_short : (n : ℕ) (xs : List ℕ) → length (take n xs) ≤ n
-take_short zero xs = omega arith
-take_short (suc n) [] = omega arith
-take_short (suc n) (x ∷ xs) = let k = take_short n xs in omega (arith, k)
-
-pub sparse_place :
-    (s : Inside) (q : ℕ) → IsSparse s → In q (take s.len s.dense.items)
-    → (q < length s.sparse.items) × (get_or s.sparse.items q 0 ≡ place_in (take s.len s.dense.items) q)
-sparse_place s q h i = (inside, sym (ap (λ z. get_or s.sparse.items z 0) here) ∙ h.back j within)
-  where
-    j : ℕ
-    j = place_in (take s.len s.dense.items) q
-
-    at : (place_in (take s.len s.dense.items) q < length (take s.len s.dense.items)) × (get_or (take s.len s.dense.items) (place_in (take s.len s.dense.items) q) 0 ≡ q)
-    at = at_place (take s.len s.dense.items) q i
-
-    within : place_in (take s.len s.dense.items) q < s.len
-    within = omega (arith, at.0, take_short s.len s.dense.items)
-
-    here : get_or s.dense.items (place_in (take s.len s.dense.items) q) 0 ≡ q
-    here = sym (get_or-take s.len s.dense.items (place_in (take s.len s.dense.items) q) 0 within) ∙ at.1
-
-    inside : q < length s.sparse.items
-    inside = let b = h.below (place_in (take s.len s.dense.items) q) within in omega (arith, b, here, h.same)
-
--- No member stands at two places.
-pub members_distinct :
-    (dense sparse : List ℕ) (len : ℕ) → ((k : ℕ) → k < len → get_or sparse (get_or dense k 0) 0 ≡ k) → Distinct (take len dense)
-members_distinct dense sparse len back = distinct_places (take len dense) apart
-  where
-    apart :
-        (i j : ℕ) → i < length (take len dense) → j < length (take len dense)
-        → get_or (take len dense) i 0 ≡ get_or (take len dense) j 0 → i ≡ j
-    apart i j a b e =
-        let short = take_short len dense in
-        let l : i < len = omega (arith, a, short) in
-        let m : j < len = omega (arith, b, short) in
-        sym (back i l)
-        ∙ (ap (λ z. get_or sparse z 0) (sym (get_or-take len dense i 0 l) ∙ (e ∙ get_or-take len dense j 0 m)) ∙ back j m)
 
 pub nodes_more : (xs : List State) (x : State) → nodes_of (xs ++ x ∷ []) ≡ nodes_of xs ++ node_of x ∷ []
 nodes_more [] x = refl
@@ -144,7 +81,7 @@ matches_next states p xs out new w i id at s b l e k a g c n h =
     pulled true = refl
     pulled false = refl
 
-pub nth_more : {A : Type 0} (xs ys : List A) (j : ℕ) (a : A) → nth xs j ≡ Some a → nth (xs ++ ys) j ≡ Some a
+pub nth_more : {A : Type 0} (xs ys : List A) (j : ℕ) (a : A) → slice_get xs j ≡ Some a → slice_get (xs ++ ys) j ≡ Some a
 nth_more [] ys j a e = absurd (none_of e)
   where
     none_of : {A : Type 0} {a : A} → ◌≡◌ {A = Option A} None (Some a) → ⊥
@@ -152,23 +89,23 @@ nth_more [] ys j a e = absurd (none_of e)
 nth_more (x ∷ xs) ys zero a e = e
 nth_more (x ∷ xs) ys (suc j) a e = nth_more xs ys j a e
 
-nth_after : {A : Type 0} (xs ys : List A) (j : ℕ) (a : A) → nth ys j ≡ Some a → nth (xs ++ ys) (length xs + j) ≡ Some a
-nth_after [] ys j a e = ap (λ n. nth ys n) (zero_add j) ∙ e
+nth_after : {A : Type 0} (xs ys : List A) (j : ℕ) (a : A) → slice_get ys j ≡ Some a → slice_get (xs ++ ys) (length xs + j) ≡ Some a
+nth_after [] ys j a e = ap (λ n. slice_get ys n) (zero_add j) ∙ e
   where
     zero_add : (j : ℕ) → 0 + j ≡ j
     zero_add j = omega arith
-nth_after (x ∷ xs) ys j a e = ap (λ n. nth (x ∷ (xs ++ ys)) n) (suc_add (length xs) j) ∙ nth_after xs ys j a e
+nth_after (x ∷ xs) ys j a e = ap (λ n. slice_get (x ∷ (xs ++ ys)) n) (suc_add (length xs) j) ∙ nth_after xs ys j a e
   where
     suc_add : (n j : ℕ) → suc n + j ≡ suc (n + j)
     suc_add n j = omega arith
 
-pub nth_last : {A : Type 0} (xs : List A) (a : A) → nth (xs ++ a ∷ []) (length xs) ≡ Some a
+pub nth_last : {A : Type 0} (xs : List A) (a : A) → slice_get (xs ++ a ∷ []) (length xs) ≡ Some a
 nth_last [] a = refl
 nth_last (x ∷ xs) a = nth_last xs a
 
 nth_copies :
-    (f : ℕ → ℕ) (p : ℕ) (turned : List State) (items : List ℕ) (k q : ℕ) → nth items k ≡ Some q
-    → nth (copies f p turned items) k ≡ Some (copied f p (get_or turned q is.Fail))
+    (f : ℕ → ℕ) (p : ℕ) (turned : List State) (items : List ℕ) (k q : ℕ) → slice_get items k ≡ Some q
+    → slice_get (copies f p turned items) k ≡ Some (copied f p (get_or turned q is.Fail))
 nth_copies f p turned [] k q e = absurd (none_some e)
 nth_copies f p turned (x ∷ xs) zero q e = ap (λ v. Some (copied f p (get_or turned v is.Fail))) (some_inj e)
 nth_copies f p turned (x ∷ xs) (suc k) q e = nth_copies f p turned xs k q e
@@ -183,15 +120,15 @@ pub part_made :
 part_made old mid new turned roots items alternates p base entry reached b m e a n = record {
   reached = reached;
   each = λ k q i.
-      ap (λ z. nth z (base + k)) n
+      ap (λ z. slice_get z (base + k)) n
       ∙ nth_more mid (Split alternates ∷ []) (base + k) (copied (copy_of base items) p (get_or turned q is.Fail))
-      (ap (λ z. nth z (base + k)) m
-      ∙ (ap (λ z. nth (old ++ copies (copy_of base items) p turned items) (z + k)) b
+      (ap (λ z. slice_get z (base + k)) m
+      ∙ (ap (λ z. slice_get (old ++ copies (copy_of base items) p turned items) (z + k)) b
       ∙ nth_after old (copies (copy_of base items) p turned items) k (copied (copy_of base items) p (get_or turned q is.Fail))
       (nth_copies (copy_of base items) p turned items k q i)));
   enters =
-      ap (λ z. nth z entry) n
-      ∙ (ap (λ z. nth (mid ++ Split alternates ∷ []) z) e
+      ap (λ z. slice_get z entry) n
+      ∙ (ap (λ z. slice_get (mid ++ Split alternates ∷ []) z) e
       ∙ (nth_last mid (Split alternates) ∙ ap (λ z. Some (Split z)) a));
 }
 
@@ -205,20 +142,20 @@ has_more nodes new more turned roots p entry n h = (
   record {
     reached = h.2.reached;
     each = λ k q i.
-        ap (λ z. nth z (h.0 + k)) n
+        ap (λ z. slice_get z (h.0 + k)) n
         ∙ nth_more nodes more (h.0 + k) (copied (copy_of h.0 h.1) p (get_or turned q is.Fail)) (h.2.each k q i);
-    enters = ap (λ z. nth z entry) n ∙ nth_more nodes more entry (Split (map (copy_of h.0 h.1) roots)) h.2.enters;
+    enters = ap (λ z. slice_get z entry) n ∙ nth_more nodes more entry (Split (map (copy_of h.0 h.1) roots)) h.2.enters;
   },
 )
 
 nth_either :
-    (xs : List ℕ) (a k x : ℕ) → nth (xs ++ a ∷ []) k ≡ Some x → (nth xs k ≡ Some x) ⊎ ((k ≡ length xs) × (x ≡ a))
+    (xs : List ℕ) (a k x : ℕ) → slice_get (xs ++ a ∷ []) k ≡ Some x → (slice_get xs k ≡ Some x) ⊎ ((k ≡ length xs) × (x ≡ a))
 nth_either [] a zero x e = inr (refl, sym (some_inj e))
 nth_either [] a (suc k) x e = absurd (none_some e)
 nth_either (y ∷ ys) a zero x e = inl e
 nth_either (y ∷ ys) a (suc k) x e = go (nth_either ys a k x e)
   where
-    go : (nth ys k ≡ Some x) ⊎ ((k ≡ length ys) × (x ≡ a)) → (nth ys k ≡ Some x) ⊎ ((suc k ≡ suc (length ys)) × (x ≡ a))
+    go : (slice_get ys k ≡ Some x) ⊎ ((k ≡ length ys) × (x ≡ a)) → (slice_get ys k ≡ Some x) ⊎ ((suc k ≡ suc (length ys)) × (x ≡ a))
     go (inl h) = inl h
     go (inr h) = inr (ap suc h.0, h.1)
 
@@ -228,10 +165,10 @@ pub have_more :
     → HasCopies new turned (matches_in states p reached) p entry → HaveCopies nodes states turned reached entries
     → HaveCopies new states turned reached entries'
 have_more nodes new more states turned reached entries entries' p entry n l e made had = λ q x i.
-    go q x (nth_either entries entry q x (sym (ap (λ z. nth z q) e) ∙ i))
+    go q x (nth_either entries entry q x (sym (ap (λ z. slice_get z q) e) ∙ i))
   where
     go :
-        (q x : ℕ) → (nth entries q ≡ Some x) ⊎ ((q ≡ length entries) × (x ≡ entry))
+        (q x : ℕ) → (slice_get entries q ≡ Some x) ⊎ ((q ≡ length entries) × (x ≡ entry))
         → HasCopies new turned (matches_in states q reached) q x
     go q x (inl h) = has_more nodes new more turned (matches_in states q reached) q x n (had q x h)
     go q x (inr h) =

@@ -14,11 +14,10 @@ use Rattle.automata_base.specs.declared.nfa.thompson.Transition.{Transition}
 use Rattle.automata_base.specs.declared.nfa.thompson.reach.Edges.TheVariants.{Every}
 use Rattle.automata_base.specs.Retraced.Copies.{IsAdded, IsPartAdded, IsOneRange, IsPlain, ArePlain, width, AreParts}
 use Rattle.automata_base.specs.Retraced.Copies.{IsFit}
-use Rattle.automata_base.specs.Lists.{In, all_below}
+use Rattle.automata_base.specs.Lists.{In, all_below, Distinct}
 use Rattle.automata_base.specs.Nfas.Nfa.{Node, Range, Split, Assert, Read, Accept}
 use Rattle.automata_base.specs.Nfas.Nodes.{node_of, nodes_of, ranges_of}
-use Rattle.automata_base.specs.Retraced.Once.{Distinct}
-use Rattle.automata_base.specs.Nfas.Reach.{IsReached, targets_at, nexts}
+use Rattle.automata_base.specs.Retraced.Reach.{IsReached, targets_at, nexts}
 use Rattle.automata_base.specs.Nfas.Errors.{alternates_of, states_below, ordered_from, state_ordered, states_ordered}
 use Rattle.automata_base.specs.Nfas.Errors.{match_below, matches_below, is_small, is_narrow, starts_below, states_refusal}
 use Rattle.automata_base.specs.Nfas.Errors.{unless}
@@ -26,7 +25,8 @@ use Rattle.automata_base.specs.Nfas.ReversedSizes.{asking_edges, free_edges}
 use Rattle.automata_base.specs.Retraced.ReversedEdges.{copied, copies, copy_of, HasCopies}
 use Rattle.automata_base.proofs.Nfas.Reach.InRange.{state_is_below, node_is}
 use Rattle.automata_base.proofs.Powersets.Walking.{nodes_length}
-use Rattle.automata_base.proofs.Nfas.Mirrors.Copies.{at_place, part_made, reached_closed, reached_roots}
+use Rattle.automata_base.proofs.Powersets.Sparsely.{at_place}
+use Rattle.automata_base.proofs.Nfas.Mirrors.Copies.{part_made, reached_closed, reached_roots}
 use Rattle.automata_base.proofs.Nfas.Mirrors.Parts.{of_map}
 use Rattle.automata_base.proofs.Nfas.Mirrors.Sizes.{sum_at, ordered_at}
 use Rattle.automata_base.proofs.Nfas.Mirrors.Sums.{sum_some}

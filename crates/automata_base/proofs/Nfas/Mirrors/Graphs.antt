@@ -4,7 +4,7 @@ use Rattle.std.proofs.Common.{inr, refl, sym, ap, ap₂, ◌∙◌, subst, arith
 use Rattle.automata_base.specs.declared.nfa.thompson.State.{State}
 use Rattle.automata_base.specs.declared.nfa.thompson.State.TheVariants as is
 use Rattle.automata_base.specs.declared.nfa.thompson.Transition.{Transition}
-use Rattle.automata_base.specs.Lists.{In, nth}
+use Rattle.automata_base.specs.Lists.{In}
 use Rattle.automata_base.specs.Nfas.Mirrors.{flip, Label, Free, Asks, Reads, HasArcAt}
 use Rattle.automata_base.specs.Haystacks.Looks.{Look}
 use Rattle.automata_base.specs.Nfas.Nfa.{Node, Range, Split, Assert, Read, Accept}
@@ -18,7 +18,7 @@ use Rattle.automata_base.proofs.Nfas.Mirrors.Lists.{push_length}
 use Rattle.automata_base.proofs.Nfas.Mirrors.Runs.{runs_below}
 use Rattle.automata_base.proofs.Paths.Walks.{in_left, in_either}
 use Rattle.std.proofs.lemmas.Bool.{ltb-true}
-use Rattle.std.specs.Prelude.{true, ltb, ◌&&◌, slice_index_or}
+use Rattle.std.specs.Prelude.{true, ltb, ◌&&◌, slice_index_or, slice_get}
 use Rattle.std.proofs.lemmas.Bool.{and_parts}
 use Rattle.automata_base.proofs.Nfas.Mirrors.Copies.{nth_more}
 use Rattle.automata_base.proofs.Nfas.Mirrors.Copies.{nth_last}
@@ -60,7 +60,7 @@ in_push (xs ∷ rest) (suc to) y (suc k) x i = go (in_push rest to y k x i)
 
 -- The number of a helper.
 abbrev pub IsHelper : Turns → ℕ → State → Type 0
-IsHelper t x h = (j : ℕ) × (x ≡ length t.lists + j) × (nth t.helpers j ≡ Some h)
+IsHelper t x h = (j : ℕ) × (x ≡ length t.lists + j) × (slice_get t.helpers j ≡ Some h)
 
 -- What stands for an edge from `s`.
 abbrev pub Stand : Turns → ℕ → Label → ℕ → Type 0

@@ -8,7 +8,8 @@ use Rattle.automata_base.specs.declared.nfa.thompson.Transition.{Transition}
 use Rattle.automata_base.specs.Powersets.Cuts.{MatchKind, All}
 use Rattle.automata_base.specs.Nfas.Accepted.{IsChecked}
 use Rattle.automata_base.specs.Nfas.Engines.{MatchesEmpty, engine_of}
-use Rattle.automata_base.specs.Lists.{In, nth}
+use Rattle.automata_base.specs.Lists.{In}
+use Rattle.std.specs.Prelude.{slice_get}
 use Rattle.automata_base.specs.Haystacks.Looks.{Look, within, holds}
 use Rattle.automata_base.specs.Nfas.Mirrors.{flip, HasRange, IsReversed, PatternsAreReversed, ReversedIsTrue}
 use Rattle.automata_base.specs.Nfas.Nfa.{Nfa, Node, Truth, Split, Assert, Read, Accept, node_or_fail, takes_in, accepts}
@@ -102,7 +103,7 @@ state_apart is.Fail o = tt
 state_apart (is.Match pattern) o = tt
 
 node_apart :
-    (states : List State) (q : ℕ) → states_ordered states ≡ true → IsApartAt (node_or_fail (nth (ranged_nodes states) q))
+    (states : List State) (q : ℕ) → states_ordered states ≡ true → IsApartAt (node_or_fail (slice_get (ranged_nodes states) q))
 node_apart [] q o = tt
 node_apart (x ∷ xs) zero o = state_apart x (and_parts (state_ordered x) (states_ordered xs) o).0
 node_apart (x ∷ xs) (suc q) o = node_apart xs q (and_parts (state_ordered x) (states_ordered xs) o).1
@@ -127,8 +128,8 @@ truth_turns n m look p p' q q' t r a b =
 tapes_turn :
     (n m : Nfa) (h : List ℕ) (i j : ℕ) → m.terminator ≡ n.terminator → m.reverse ≡ not n.reverse → i ≤ j
     → j ≤ length h
-    → IsTurn (truth n (forward_tape h i j)) (truth m (reverse_tape h i j)) (nth (forward_tape h i j).bytes)
-    (nth (reverse_tape h i j).bytes) (j - i)
+    → IsTurn (truth n (forward_tape h i j)) (truth m (reverse_tape h i j)) (slice_get (forward_tape h i j).bytes)
+    (slice_get (reverse_tape h i j).bytes) (j - i)
 tapes_turn n m h i j t r l w = record {
   looks = λ a b look e.
       truth_turns n m look (prev (forward_tape h i j) a) (prev (reverse_tape h i j) b) (next (forward_tape h i j) a)
@@ -160,18 +161,18 @@ module _ (a b : Automaton) (checked : IsChecked a) (reversed : IsReversed a b) (
   here : (p : ℕ) → (q : ℕ) × HasWay (ranged_nfa a) A bytes 0 a.start_anchored J q × (accepts (ranged_nfa a) q ≡ Some p) → ForthOf p
   here p w = (w.0, (w.1.0, ranged_way a A bytes 0 a.start_anchored w.1.0 J w.0 w.1.1), sym (accepts_ranged a w.0) ∙ w.2)
 
-  back_entry_of : (p entry : ℕ) → nth b.start_pattern p ≡ Some entry → ForthOf p → BackOf entry p
+  back_entry_of : (p entry : ℕ) → slice_get b.start_pattern p ≡ Some entry → ForthOf p → BackOf entry p
   back_entry_of p entry e w =
       back_entry (ranged_nfa a) (nfa_of b) a.start_anchored b.start_anchored b.start_pattern reversed.2.0 A B bytes back J
       (checked_apart a checked.ordered) reversed.2.1 turn p entry e (there p w)
 
-  back_root_of : (p entry : ℕ) → nth b.start_pattern p ≡ Some entry → ForthOf p → BackOf b.start_anchored p
+  back_root_of : (p entry : ℕ) → slice_get b.start_pattern p ≡ Some entry → ForthOf p → BackOf b.start_anchored p
   back_root_of p entry e w =
       back_root (ranged_nfa a) (nfa_of b) a.start_anchored b.start_anchored b.start_pattern reversed.2.0 A B bytes back J
       (checked_apart a checked.ordered) reversed.2.1 turn p entry e (there p w)
 
   forth_part_of :
-      (path : List ℕ) (k entry p z : ℕ) → nth b.start_pattern k ≡ Some entry → IsWay (nfa_of b) B back 0 entry path J z
+      (path : List ℕ) (k entry p z : ℕ) → slice_get b.start_pattern k ≡ Some entry → IsWay (nfa_of b) B back 0 entry path J z
       → accepts (nfa_of b) z ≡ Some p → (p ≡ k) × ForthOf p
   forth_part_of path k entry p z e w m =
       let f =
@@ -196,14 +197,14 @@ module _ (a b : Automaton) (checked : IsChecked a) (reversed : IsReversed a b) (
 
 module _ (a b : Automaton) (kind : MatchKind) (checked : IsChecked a) (reversed : IsReversed a b) where
   -- The entry of a pattern.
-  entry : (q p : ℕ) → accepts (nfa_of a) q ≡ Some p → (e : ℕ) × (nth b.start_pattern p ≡ Some e)
+  entry : (q p : ℕ) → accepts (nfa_of a) q ≡ Some p → (e : ℕ) × (slice_get b.start_pattern p ≡ Some e)
   entry q p e = nth_some b.start_pattern p (omega (arith, checked.patterns q p e, reversed.0))
 
   -- A span of a haystack.
   module _ (h : List ℕ) (i j p : ℕ) (l : i ≤ j) (w : j ≤ length h) where
     turn :
-        IsTurn (truth (nfa_of a) (forward_tape h i j)) (truth (nfa_of b) (reverse_tape h i j)) (nth (forward_tape h i j).bytes)
-        (nth (reverse_tape h i j).bytes) (j - i)
+        IsTurn (truth (nfa_of a) (forward_tape h i j)) (truth (nfa_of b) (reverse_tape h i j)) (slice_get (forward_tape h i j).bytes)
+        (slice_get (reverse_tape h i j).bytes) (j - i)
     turn = tapes_turn (nfa_of a) (nfa_of b) h i j reversed.2.1.terminator reversed.2.1.reverse l w
 
     joins_back : Joins Forward (engine_of a kind) h i j p → Joins Backward (engine_of b All) h i j p
@@ -211,12 +212,12 @@ module _ (a b : Automaton) (kind : MatchKind) (checked : IsChecked a) (reversed 
       where
         back :
             (z : ℕ)
-            × HasWay (nfa_of b) (truth (nfa_of b) (reverse_tape h i j)) (nth (reverse_tape h i j).bytes) 0 b.start_anchored (j - i) z
+            × HasWay (nfa_of b) (truth (nfa_of b) (reverse_tape h i j)) (slice_get (reverse_tape h i j).bytes) 0 b.start_anchored (j - i) z
             × (accepts (nfa_of b) z ≡ Some p)
         back =
             back_root_of a b checked reversed
             (truth (nfa_of a) (forward_tape h i j)) (truth (nfa_of b) (reverse_tape h i j))
-            (nth (forward_tape h i j).bytes) (nth (reverse_tape h i j).bytes) (j - i)
+            (slice_get (forward_tape h i j).bytes) (slice_get (reverse_tape h i j).bytes) (j - i)
             turn p (entry s.1.0 p s.1.2).0 (entry s.1.0 p s.1.2).1
             (s.1.0, (s.0, path_way (nfa_of a) (forward_tape h i j) 0 [] a.start_anchored s.0 (j - i) s.1.0 s.1.1), s.1.2)
 
@@ -228,12 +229,12 @@ module _ (a b : Automaton) (kind : MatchKind) (checked : IsChecked a) (reversed 
       where
         forth :
             (q : ℕ)
-            × HasWay (nfa_of a) (truth (nfa_of a) (forward_tape h i j)) (nth (forward_tape h i j).bytes) 0 a.start_anchored (j - i) q
+            × HasWay (nfa_of a) (truth (nfa_of a) (forward_tape h i j)) (slice_get (forward_tape h i j).bytes) 0 a.start_anchored (j - i) q
             × (accepts (nfa_of a) q ≡ Some p)
         forth =
             forth_root_of a b checked reversed
             (truth (nfa_of a) (forward_tape h i j)) (truth (nfa_of b) (reverse_tape h i j))
-            (nth (forward_tape h i j).bytes) (nth (reverse_tape h i j).bytes) (j - i)
+            (slice_get (forward_tape h i j).bytes) (slice_get (reverse_tape h i j).bytes) (j - i)
             turn s.0 p s.1.0
             (path_way (nfa_of b) (reverse_tape h i j) 0 [] b.start_anchored s.0 (j - i) s.1.0 s.1.1) s.1.2
 
@@ -250,7 +251,7 @@ module _ (a b : Automaton) (kind : MatchKind) (checked : IsChecked a) (reversed 
     back.2,
   )
     where
-      k : (k : ℕ) × (nth b.start_pattern e.2 ≡ Some k)
+      k : (k : ℕ) × (slice_get b.start_pattern e.2 ≡ Some k)
       k = entry e.1 e.2 e.5
 
       start : (start : ℕ) → In start (a.start_anchored ∷ []) → start ≡ a.start_anchored
@@ -297,11 +298,11 @@ reversed_true a b kind checked reversed alike lazy = (
 )
 
 -- A pattern's start.
-module _ (a b : Automaton) (checked : IsChecked a) (reversed : IsReversed a b) (k entry : ℕ) (at : nth b.start_pattern k ≡ Some entry)
+module _ (a b : Automaton) (checked : IsChecked a) (reversed : IsReversed a b) (k entry : ℕ) (at : slice_get b.start_pattern k ≡ Some entry)
     (h : List ℕ) (i j pattern : ℕ) (l : i ≤ j) (w : j ≤ length h) where
   pattern_turn :
-      IsTurn (truth (nfa_of a) (forward_tape h i j)) (truth (nfa_of b) (reverse_tape h i j)) (nth (forward_tape h i j).bytes)
-      (nth (reverse_tape h i j).bytes) (j - i)
+      IsTurn (truth (nfa_of a) (forward_tape h i j)) (truth (nfa_of b) (reverse_tape h i j)) (slice_get (forward_tape h i j).bytes)
+      (slice_get (reverse_tape h i j).bytes) (j - i)
   pattern_turn = tapes_turn (nfa_of a) (nfa_of b) h i j reversed.2.1.terminator reversed.2.1.reverse l w
 
   pattern_forth :
@@ -312,12 +313,12 @@ module _ (a b : Automaton) (checked : IsChecked a) (reversed : IsReversed a b) (
       forth :
           (pattern ≡ k)
           × ((q : ℕ)
-          × HasWay (nfa_of a) (truth (nfa_of a) (forward_tape h i j)) (nth (forward_tape h i j).bytes) 0 a.start_anchored (j - i) q
+          × HasWay (nfa_of a) (truth (nfa_of a) (forward_tape h i j)) (slice_get (forward_tape h i j).bytes) 0 a.start_anchored (j - i) q
           × (accepts (nfa_of a) q ≡ Some pattern))
       forth =
           forth_part_of a b checked reversed
           (truth (nfa_of a) (forward_tape h i j)) (truth (nfa_of b) (reverse_tape h i j))
-          (nth (forward_tape h i j).bytes) (nth (reverse_tape h i j).bytes) (j - i)
+          (slice_get (forward_tape h i j).bytes) (slice_get (reverse_tape h i j).bytes) (j - i)
           pattern_turn s.0 k entry pattern s.1.0 at
           (path_way (nfa_of b) (reverse_tape h i j) 0 [] entry s.0 (j - i) s.1.0 s.1.1) s.1.2
 
@@ -331,13 +332,13 @@ module _ (a b : Automaton) (checked : IsChecked a) (reversed : IsReversed a b) (
     where
       back :
           (z : ℕ)
-          × HasWay (nfa_of b) (truth (nfa_of b) (reverse_tape h i j)) (nth (reverse_tape h i j).bytes) 0 entry (j - i) z
+          × HasWay (nfa_of b) (truth (nfa_of b) (reverse_tape h i j)) (slice_get (reverse_tape h i j).bytes) 0 entry (j - i) z
           × (accepts (nfa_of b) z ≡ Some pattern)
       back =
           back_entry_of a b checked reversed
           (truth (nfa_of a) (forward_tape h i j)) (truth (nfa_of b) (reverse_tape h i j))
-          (nth (forward_tape h i j).bytes) (nth (reverse_tape h i j).bytes) (j - i)
-          pattern_turn pattern entry (ap (λ v. nth b.start_pattern v) s.0 ∙ at)
+          (slice_get (forward_tape h i j).bytes) (slice_get (reverse_tape h i j).bytes) (j - i)
+          pattern_turn pattern entry (ap (λ v. slice_get b.start_pattern v) s.0 ∙ at)
           (s.1.1.0, (s.1.0, path_way (nfa_of a) (forward_tape h i j) 0 [] a.start_anchored s.1.0 (j - i) s.1.1.0 s.1.1.1), s.1.1.2)
 
       path : HasPath (nfa_of b) (reverse_tape h i j) 0 entry (j - i) back.0

@@ -8,14 +8,15 @@ use Rattle.automata_base.specs.declared.nfa.thompson.State.{State}
 use Rattle.automata_base.specs.declared.nfa.thompson.State.TheVariants as is
 use Rattle.automata_base.specs.declared.nfa.thompson.reach.Edges.TheVariants.{Every}
 use Rattle.automata_base.specs.Nfas.Accepted.{IsChecked}
-use Rattle.automata_base.specs.Lists.{In, nth}
+use Rattle.automata_base.specs.Lists.{In}
+use Rattle.std.specs.Prelude.{slice_get}
 use Rattle.automata_base.specs.Nfas.Mirrors.{flip, Label, Free, Asks, Reads, HasRange, HasArcAt, HasArc, IsAsking}
 use Rattle.automata_base.specs.Nfas.Mirrors.{IsEdgeTo, IsReversedArc, IsKept, IsReversedAt, IsPart, IsMirror}
 use Rattle.automata_base.specs.Nfas.Mirrors.{IsReversed}
 use Rattle.automata_base.specs.Nfas.Nfa.{Nfa, Node, Range, Split, Assert, Read, Accept, node, node_or_fail, accepts}
 use Rattle.automata_base.specs.Nfas.Nfa.{accepts_at}
 use Rattle.automata_base.specs.Nfas.Nodes.{Automaton, nfa_of, node_of, nodes_of}
-use Rattle.automata_base.specs.Nfas.Reach.{IsReached, targets_at, nexts}
+use Rattle.automata_base.specs.Retraced.Reach.{IsReached, targets_at, nexts}
 use Rattle.automata_base.specs.Nfas.Errors.{state_below, states_below}
 use Rattle.automata_base.specs.Retraced.DenseRuns.{ranged, ranged_nodes, ranged_nfa}
 use Rattle.automata_base.specs.Retraced.ReversedEdges.{Turns, no_lists, place_in, copied, copy_of, is_of, matches_in}
@@ -52,7 +53,7 @@ arc_target (Accept p) (Asks look) r h = absurd h
 arc_target (Accept p) (Reads lo hi) r h = absurd h
 
 -- The same of states whose edges are ranges.
-pub ranged_is : (states : List State) (q : ℕ) → node_or_fail (nth (ranged_nodes states) q) ≡ ranged (get_or states q is.Fail)
+pub ranged_is : (states : List State) (q : ℕ) → node_or_fail (slice_get (ranged_nodes states) q) ≡ ranged (get_or states q is.Fail)
 ranged_is [] q = refl
 ranged_is (x ∷ xs) zero = refl
 ranged_is (x ∷ xs) (suc q) = ranged_is xs q
@@ -73,12 +74,12 @@ target_same is.Fail r i = i
 target_same (is.Match pattern) r i = i
 
 arc_is_target :
-    (states : List State) (s : ℕ) (l : Label) (r : ℕ) → HasArcAt (node_or_fail (nth (ranged_nodes states) s)) l r
-    → In r (targets_at Every (node_or_fail (nth (nodes_of states) s)))
+    (states : List State) (s : ℕ) (l : Label) (r : ℕ) → HasArcAt (node_or_fail (slice_get (ranged_nodes states) s)) l r
+    → In r (targets_at Every (node_or_fail (slice_get (nodes_of states) s)))
 arc_is_target states s l r h =
     subst (λ v. In r (targets_at Every v)) (sym (node_is states s))
     (target_same (get_or states s is.Fail) r
-    (subst (λ v. In r (targets_at Every v)) (ranged_is states s) (arc_target (node_or_fail (nth (ranged_nodes states) s)) l r h)))
+    (subst (λ v. In r (targets_at Every v)) (ranged_is states s) (arc_target (node_or_fail (slice_get (ranged_nodes states) s)) l r h)))
 
 pub accept_same : (s : State) → accepts_at (ranged s) ≡ accepts_at (node_of s)
 accept_same (is.ByteRange lo hi next) = refl
@@ -101,16 +102,16 @@ of_map f [] x i = absurd i
 of_map f (y ∷ ys) x (inl e) = (y, inl refl, e)
 of_map f (y ∷ ys) x (inr i) = let w = of_map f ys x i in (w.0, inr w.1, w.2)
 
-nth_place : (items : List ℕ) (q : ℕ) → In q items → nth items (place_in items q) ≡ Some q
+nth_place : (items : List ℕ) (q : ℕ) → In q items → slice_get items (place_in items q) ≡ Some q
 nth_place [] q i = absurd i
 nth_place (x ∷ xs) q i = go (eqb_tells x q) i (nth_place xs q)
   where
     go :
         ((eqb x q ≡ true) × (x ≡ q)) ⊎ ((eqb x q ≡ false) × (x ≡ q → ⊥)) → In q (x ∷ xs)
-        → (In q xs → nth xs (place_in xs q) ≡ Some q) → nth (x ∷ xs) (place_in (x ∷ xs) q) ≡ Some q
-    go (inl e) i ih = ap (λ b. nth (x ∷ xs) (cond b 0 (suc (place_in xs q)))) e.0 ∙ ap Some e.1
+        → (In q xs → slice_get xs (place_in xs q) ≡ Some q) → slice_get (x ∷ xs) (place_in (x ∷ xs) q) ≡ Some q
+    go (inl e) i ih = ap (λ b. slice_get (x ∷ xs) (cond b 0 (suc (place_in xs q)))) e.0 ∙ ap Some e.1
     go (inr e) (inl f) ih = absurd (e.1 (sym f))
-    go (inr e) (inr j) ih = ap (λ b. nth (x ∷ xs) (cond b 0 (suc (place_in xs q)))) e.0 ∙ ih j
+    go (inr e) (inr j) ih = ap (λ b. slice_get (x ∷ xs) (cond b 0 (suc (place_in xs q)))) e.0 ∙ ih j
 
 -- The match states of a pattern.
 module _ (states : List State) (p : ℕ) where
@@ -197,14 +198,14 @@ heads_length n hs (xs ∷ rest) [] a = absurd a
 heads_length n hs (xs ∷ rest) (s ∷ ss) a = ap suc (heads_length n hs rest ss a.1)
 
 helper_at :
-    (heads hs : List State) (n j : ℕ) (h : State) → length heads ≡ n → nth hs j ≡ Some h
+    (heads hs : List State) (n j : ℕ) (h : State) → length heads ≡ n → slice_get hs j ≡ Some h
     → get_or (heads ++ hs) (n + j) is.Fail ≡ h
 helper_at [] hs n j h l e = ap (λ k. get_or hs k is.Fail) (none n j l) ∙ at hs j e
   where
     none : (n j : ℕ) → 0 ≡ n → n + j ≡ j
     none n j l = omega (arith, l)
 
-    at : (hs : List State) (j : ℕ) → nth hs j ≡ Some h → get_or hs j is.Fail ≡ h
+    at : (hs : List State) (j : ℕ) → slice_get hs j ≡ Some h → get_or hs j is.Fail ≡ h
     at [] j e = absurd (no e)
       where
         no : ◌≡◌ {A = Option State} None (Some h) → ⊥
@@ -221,7 +222,7 @@ helper_at (s ∷ ss) hs (suc n) j h l e =
     suc_add : (n j : ℕ) → suc n + j ≡ suc (n + j)
     suc_add n j = omega arith
 
-same_helper : (hs : List State) (j : ℕ) (g h : State) → nth hs j ≡ Some g → nth hs j ≡ Some h → g ≡ h
+same_helper : (hs : List State) (j : ℕ) (g h : State) → slice_get hs j ≡ Some g → slice_get hs j ≡ Some h → g ≡ h
 same_helper hs j g h e f = one (sym e ∙ f)
   where
     one : ◌≡◌ {A = Option State} (Some g) (Some h) → g ≡ h
@@ -348,7 +349,7 @@ module _ (a : Automaton) (turned : List State) (reached : List ℕ) (m : Nfa)
     -- A state whose only alternate is a helper: it is a copy of the helper.
     alone_at :
         (k : ℕ) → In k items → (j : ℕ) → list_at t.lists k ≡ (length t.lists + j) ∷ []
-        → nth t.helpers j ≡ Some (get_or turned k is.Fail) → At k (copy_of base items k ∷ [])
+        → slice_get t.helpers j ≡ Some (get_or turned k is.Fail) → At k (copy_of base items k ∷ [])
     alone_at k kept j same here = record {
       stands = inr (refl, stands (graph.sound k (length t.lists + j) there));
       sound = λ x i. sound x (one x i) (graph.sound k (length t.lists + j) there);
@@ -373,7 +374,7 @@ module _ (a : Automaton) (turned : List State) (reached : List ℕ) (m : Nfa)
         is_helper : (h : State) → IsHelper t (length t.lists + j) h → get_or turned k is.Fail ≡ h
         is_helper h w =
             same_helper t.helpers j (get_or turned k is.Fail) h here
-            (ap (λ z. nth t.helpers z) (let e = w.1 in omega (arith, e)) ∙ w.2)
+            (ap (λ z. slice_get t.helpers z) (let e = w.1 in omega (arith, e)) ∙ w.2)
 
         edge :
             (s : ℕ) (l : Label) → s < length a.states → Stand t (length t.lists + j) l s
@@ -482,7 +483,7 @@ module _ (a : Automaton) (turned : List State) (reached : List ℕ) (m : Nfa)
     begins = reached_roots Every a.states (a.start_anchored ∷ []) reached reach a.start_anchored (inl refl);
     goes = goes_on;
     roots =
-        ap node_or_fail (ap (λ z. nth z root) n ∙ (ap (λ z. nth (nodes ++ Split entries ∷ []) z) r ∙ nth_last nodes (Split entries)));
+        ap node_or_fail (ap (λ z. slice_get z root) n ∙ (ap (λ z. slice_get (nodes ++ Split entries ∷ []) z) r ∙ nth_last nodes (Split entries)));
     parts = λ p entry e. part p entry (has_more nodes m.nodes (Split entries ∷ []) turned (matches_in a.states p reached) p entry n (copies p entry e));
   }
     where

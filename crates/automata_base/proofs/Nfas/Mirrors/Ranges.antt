@@ -5,7 +5,8 @@ use Rattle.std.proofs.lemmas.Bool.{lt-ltb}
 use Rattle.automata_base.specs.declared.nfa.thompson.State.{State}
 use Rattle.automata_base.specs.declared.nfa.thompson.State.TheVariants as is
 use Rattle.automata_base.specs.declared.nfa.thompson.Transition.{Transition}
-use Rattle.automata_base.specs.Lists.{In, nth, all_below}
+use Rattle.automata_base.specs.Lists.{In, all_below}
+use Rattle.std.specs.Prelude.{slice_get}
 use Rattle.automata_base.specs.Nfas.Mirrors.{flip, Label, Free, Asks, Reads}
 use Rattle.automata_base.specs.Nfas.Nodes.{Automaton}
 use Rattle.automata_base.specs.Nfas.Errors.{state_below, states_below}
@@ -56,7 +57,7 @@ helpers_states n states (q ∷ qs) t f b =
     helpers_states n states qs (turn_state t q (get_or states q is.Fail)) (λ r i. f r (inr i))
     (helpers_state n q (f q (inl refl)) (get_or states q is.Fail) t b)
 
-nth_below : (n : ℕ) (hs : List State) (j : ℕ) (h : State) → states_below n hs ≡ true → nth hs j ≡ Some h → state_below n h ≡ true
+nth_below : (n : ℕ) (hs : List State) (j : ℕ) (h : State) → states_below n hs ≡ true → slice_get hs j ≡ Some h → state_below n h ≡ true
 nth_below n [] j h b e = absurd (no e)
   where
     no : ◌≡◌ {A = Option State} None (Some h) → ⊥
@@ -82,7 +83,7 @@ heads_below n m hs more (xs ∷ rest) (s ∷ ss) a f b c =
         ap (state_below n) e ∙ (ap (all_below n) g ∙ all_below_from n xs (λ r i. f 0 r i))
     one (inr (j, e, g)) = nth_below n hs j s b g
 
-nth_inside : {A : Type 0} (xs : List A) (j : ℕ) (a : A) → nth xs j ≡ Some a → j < length xs
+nth_inside : {A : Type 0} (xs : List A) (j : ℕ) (a : A) → slice_get xs j ≡ Some a → j < length xs
 nth_inside [] j a e = absurd (no e)
   where
     no : {A : Type 0} {a : A} → ◌≡◌ {A = Option A} None (Some a) → ⊥

@@ -1,14 +1,13 @@
 -- How many states and alternates what is turned has.
 use Rattle.std.proofs.Common.{ℕ, zero, suc, ◌≡◌, ◌<◌, ◌≤◌, ◌+◌, ◌^◌, ◌&&◌, true, leb, List, [], ◌∷◌, ◌++◌, drop, length}
 use Rattle.std.proofs.Common.{length-append, get_or, Option, Some, None, inl, inr, refl, sym, ap, ◌∙◌, subst, arith}
-use Rattle.std.specs.Prelude.{sum_by}
+use Rattle.std.specs.Prelude.{sum_by, slice_get}
 use Rattle.std.proofs.lemmas.List.Sums.{sum_by-cons, sum_by-append}
 use Rattle.automata_base.specs.declared.nfa.thompson.State.{State}
 use Rattle.automata_base.specs.declared.nfa.thompson.State.TheVariants as is
 use Rattle.automata_base.specs.declared.nfa.thompson.Transition.{Transition}
-use Rattle.automata_base.specs.Lists.{nth, all_below}
+use Rattle.automata_base.specs.Lists.{all_below, Distinct}
 use Rattle.automata_base.specs.Nfas.Mirrors.{flip}
-use Rattle.automata_base.specs.Retraced.Once.{Distinct}
 use Rattle.automata_base.specs.Nfas.Errors.{alternates_of, ordered_from, state_ordered, states_ordered}
 use Rattle.automata_base.specs.Nfas.ReversedSizes.{asking_edges, free_edges}
 use Rattle.automata_base.specs.Retraced.DenseRuns.{runs_from}
@@ -186,7 +185,7 @@ helpers_none (h ∷ hs) a =
     let d = helpers_none hs a.1 in
     omega (arith, c, d, a.0.0)
 
-nth_helper : (hs : List State) (j : ℕ) (h : State) → AreHelpers hs → nth hs j ≡ Some h → IsHelperOf h
+nth_helper : (hs : List State) (j : ℕ) (h : State) → AreHelpers hs → slice_get hs j ≡ Some h → IsHelperOf h
 nth_helper [] j h a e = absurd (no e)
   where
     no : ◌≡◌ {A = Option State} None (Some h) → ⊥

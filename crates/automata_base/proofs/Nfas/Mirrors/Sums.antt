@@ -1,11 +1,10 @@
 -- Sums over numbers without repeats.
 use Rattle.std.proofs.Common.{ℕ, zero, suc, ◌≡◌, ◌<◌, ◌≤◌, ◌+◌, ◌⊎◌, List, [], ◌∷◌, ◌++◌, length, get_or, take, inl}
-use Rattle.std.proofs.Common.{inr, refl, sym, ap, subst, arith, append_assoc, append-nil}
+use Rattle.std.proofs.Common.{inr, refl, ap, subst, arith, append_assoc, append-nil}
 use Rattle.std.specs.Prelude.{sum_by}
 use Rattle.std.proofs.lemmas.List.{take_all}
 use Rattle.std.proofs.lemmas.List.Sums.{sum_by_more, sum_by-cons}
-use Rattle.automata_base.specs.Lists.{In}
-use Rattle.automata_base.specs.Retraced.Once.{Distinct}
+use Rattle.automata_base.specs.Lists.{In, Distinct}
 use Rattle.automata_base.proofs.Powersets.Distinct.{unvisited, unvisited_push, among}
 use Rattle.automata_base.proofs.Paths.Walks.{in_either}
 
@@ -58,20 +57,3 @@ sum_some f d xs ids e b =
     unvisited_all f d xs (length xs) (omega arith) in
     let whole : sum_by f (take (length xs) xs) ≡ sum_by f xs = ap (sum_by f) (take_all (length xs) xs (omega arith)) in
     omega (arith, part, all, whole)
-
--- A list in which no element stands at two places.
-pub distinct_places :
-    (xs : List ℕ) → ((i j : ℕ) → i < length xs → j < length xs → get_or xs i 0 ≡ get_or xs j 0 → i ≡ j) → Distinct xs
-distinct_places [] f = tt
-distinct_places (x ∷ xs) f = (new, distinct_places xs (λ i j l m e. let k = f (suc i) (suc j) (omega (arith, l)) (omega (arith, m)) e in omega (arith, k)))
-  where
-    at : (xs : List ℕ) → In x xs → (j : ℕ) × (j < length xs) × (get_or xs j 0 ≡ x)
-    at [] i = absurd i
-    at (y ∷ ys) (inl e) = (0, omega arith, sym e)
-    at (y ∷ ys) (inr i) = let w = at ys i in (suc w.0, omega (arith, w.1), w.2)
-
-    new : In x xs → ⊥
-    new i =
-        let w = at xs i in
-        let k = f 0 (suc w.0) (omega arith) (omega (arith, w.1)) (sym w.2) in
-        absurd (omega (arith, k))

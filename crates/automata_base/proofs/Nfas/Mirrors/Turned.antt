@@ -1,7 +1,8 @@
 -- A reversed NFA goes back along the edges of the other.
 use Rattle.std.proofs.Common.{ℕ, zero, suc, ◌≡◌, ◌<◌, ◌≤◌, ◌+◌, Bool, true, false, cond, List, [], ◌∷◌, ◌⊎◌, length}
 use Rattle.std.proofs.Common.{Some, None, inl, inr, refl, sym, ap, ◌∙◌, subst, arith}
-use Rattle.automata_base.specs.Lists.{In, nth}
+use Rattle.automata_base.specs.Lists.{In}
+use Rattle.std.specs.Prelude.{slice_get}
 use Rattle.automata_base.specs.Haystacks.Looks.{Look, within}
 use Rattle.automata_base.specs.Nfas.Nfa.{Nfa, Node, Range, Split, Assert, Read, Accept, Truth, node, node_or_fail, hop}
 use Rattle.automata_base.specs.Nfas.Nfa.{hop_at, takes, takes_at, takes_in, accepts, accepts_at}
@@ -90,7 +91,7 @@ arc_takes n q lo hi r u a h w = go (node n q) refl h
 pub arc_inside : (n : Nfa) (q : ℕ) (l : Label) (r : ℕ) → HasArc n q l r → q < length n.nodes
 arc_inside n q l r h = go n.nodes q h
   where
-    go : (xs : List Node) (q : ℕ) → HasArcAt (node_or_fail (nth xs q)) l r → q < length xs
+    go : (xs : List Node) (q : ℕ) → HasArcAt (node_or_fail (slice_get xs q)) l r → q < length xs
     go [] q h = absurd (none l h)
       where
         none : (l : Label) → HasArcAt (Split []) l r → ⊥
@@ -103,7 +104,7 @@ arc_inside n q l r h = go n.nodes q h
 pub accept_inside : (n : Nfa) (q p : ℕ) → accepts n q ≡ Some p → q < length n.nodes
 accept_inside n q p h = go n.nodes q h
   where
-    go : (xs : List Node) (q : ℕ) → accepts_at (node_or_fail (nth xs q)) ≡ Some p → q < length xs
+    go : (xs : List Node) (q : ℕ) → accepts_at (node_or_fail (slice_get xs q)) ≡ Some p → q < length xs
     go [] q h = absurd (none_some h)
     go (x ∷ xs) zero h = omega arith
     go (x ∷ xs) (suc q) h = let k = go xs q h in omega (arith, k)
@@ -440,11 +441,11 @@ module _ (n m : Nfa) (first root : ℕ) (entries reached : List ℕ)
   abbrev pub Back : ℕ → ℕ → Type 0
   Back x p = (z : ℕ) × HasWay m B c 0 x J z × (accepts m z ≡ Some p)
 
-  pub back_entry : (p entry : ℕ) → nth entries p ≡ Some entry → Forth p → Back entry p
+  pub back_entry : (p entry : ℕ) → slice_get entries p ≡ Some entry → Forth p → Back entry p
   back_entry p entry e w =
       let part = mirror.parts p entry e in entry_back p entry part.0 part.1 part.2 w.0 w.1 w.2
 
-  pub back_root : (p entry : ℕ) → nth entries p ≡ Some entry → Forth p → Back root p
+  pub back_root : (p entry : ℕ) → slice_get entries p ≡ Some entry → Forth p → Back root p
   back_root p entry e w = (k.0, join m B c 0 root 0 entry J k.0 (hop_way m B c 0 root start.0 entry start.1) k.1, k.2)
     where
       k : Back entry p
@@ -454,7 +455,7 @@ module _ (n m : Nfa) (first root : ℕ) (entries reached : List ℕ)
       start = split_hop m (B 0) root entries entry mirror.roots (nth_in entries p entry e)
 
   pub forth_part :
-      (path : List ℕ) (k entry p z : ℕ) → nth entries k ≡ Some entry → IsWay m B c 0 entry path J z → accepts m z ≡ Some p
+      (path : List ℕ) (k entry p z : ℕ) → slice_get entries k ≡ Some entry → IsWay m B c 0 entry path J z → accepts m z ≡ Some p
       → (p ≡ k) × Forth p
   forth_part path k entry p z i w a =
       let part = mirror.parts k entry i in entry_forth k entry part.0 part.1 part.2 path p z w a

@@ -1,7 +1,8 @@
 -- Ways through an NFA: paths that may pass a state twice at one place, over any truths and bytes.
 use Rattle.std.proofs.Common.{ℕ, suc, ◌≡◌, ◌≤◌, List, [], ◌∷◌, ◌++◌, ◌⊎◌, Option, Some, None, inl, inr, refl, sym, ◌∙◌}
 use Rattle.std.proofs.Common.{subst, arith, ⊎_elim}
-use Rattle.automata_base.specs.Lists.{In, nth}
+use Rattle.automata_base.specs.Lists.{In}
+use Rattle.std.specs.Prelude.{slice_get}
 use Rattle.automata_base.specs.Nfas.Nfa.{Nfa, Truth, hop, takes}
 use Rattle.automata_base.specs.Paths.Paths.{Tape, IsPathFrom, truth, all_true, Run}
 use Rattle.automata_base.proofs.Paths.Orders.{none_some}
@@ -54,7 +55,7 @@ way_grows n A b i q (e ∷ p) j z (inr h) = let k = way_grows n A b (suc i) h.0 
 -- A path is a way.
 pub path_way :
     (n : Nfa) (t : Tape) (i : ℕ) (seen : List ℕ) (q : ℕ) (p : List ℕ) (j z : ℕ)
-    → IsPathFrom n t i seen q p j z → IsWay n (truth n t) (nth t.bytes) i q p j z
+    → IsPathFrom n t i seen q p j z → IsWay n (truth n t) (slice_get t.bytes) i q p j z
 path_way n t i seen q [] j z h = h
 path_way n t i seen q (e ∷ p) j z (inl h) = inl (h.0, h.1, path_way n t i (q ∷ seen) h.0 p j z h.3)
 path_way n t i seen q (e ∷ p) j z (inr h) =
@@ -120,7 +121,7 @@ hop_path n t i q e r j z h w = go (meets n t i [] q r w.0 j z w.1)
 -- A way has a path.
 pub way_path :
     (n : Nfa) (t : Tape) (i q : ℕ) (p : List ℕ) (j z : ℕ)
-    → IsWay n (truth n t) (nth t.bytes) i q p j z → HasPath n t i q j z
+    → IsWay n (truth n t) (slice_get t.bytes) i q p j z → HasPath n t i q j z
 way_path n t i q [] j z h = ([], h)
 way_path n t i q (e ∷ p) j z (inl h) = hop_path n t i q e h.0 j z h.1 (way_path n t i h.0 p j z h.2)
 way_path n t i q (e ∷ p) j z (inr h) =

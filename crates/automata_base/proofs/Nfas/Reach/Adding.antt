@@ -2,18 +2,18 @@
 use Rattle.std.proofs.Common.{ℕ, zero, suc, ◌≡◌, ◌<◌, ◌≤◌, ◌+◌, ◌⊎◌, Bool, true, false, cond, List, [], ◌∷◌, ◌++◌}
 use Rattle.std.proofs.Common.{length, get_or, take, drop, inl, inr, refl, sym, ap, ◌∙◌, subst, arith, append_assoc}
 use Rattle.std.proofs.Common.{append-nil}
-use Rattle.std.specs.Prelude.{Contains, IsTrue, IsFalse, ltb}
+use Rattle.std.specs.Prelude.{IsTrue, IsFalse, ltb}
 use Rattle.std.proofs.lemmas.Bool.{ltb-true}
 use Rattle.std.proofs.lemmas.List.{take-append-le}
 use Rattle.automata_base.specs.declared.nfa.thompson.State.{State}
 use Rattle.automata_base.specs.declared.nfa.thompson.Transition.{Transition}
 use Rattle.automata_base.specs.Lists.{all_below, In}
-use Rattle.automata_base.specs.Retraced.ComputedPass.{is_in}
+use Rattle.automata_base.specs.Retraced.Computed.{is_in}
 use Rattle.automata_base.specs.Nfas.Nodes.{dense_from}
 use Rattle.automata_base.specs.Retraced.Once.{once_from}
-use Rattle.automata_base.specs.Nfas.Reach.{nexts}
+use Rattle.automata_base.specs.Retraced.Reach.{nexts}
 use Rattle.automata_base.specs.Nfas.Errors.{transitions_below, state_below, states_below}
-use Rattle.automata_base.proofs.Powersets.Distinct.{Contains-In, In-Contains, In-get_or}
+use Rattle.automata_base.proofs.Powersets.Distinct.{In-get_or}
 use Rattle.automata_base.proofs.Powersets.Keeping.{next_drop}
 use Rattle.automata_base.proofs.Paths.Checked.{below_in}
 use Rattle.automata_base.proofs.Paths.Fuels.{is_in_cases}
@@ -22,24 +22,24 @@ use Rattle.automata_base.proofs.Paths.Walks.{in_left}
 use Rattle.automata_base.proofs.Paths.FirstVisits.{in_right}
 use Rattle.automata_base.proofs.Paths.Walks.{in_either}
 
-new_is : (id : ℕ) (old : List ℕ) → (Contains old id → ⊥) → is_in id old ≡ false
+new_is : (id : ℕ) (old : List ℕ) → (In id old → ⊥) → is_in id old ≡ false
 new_is id old new = go (is_in_cases id old)
   where
     go : ((is_in id old ≡ true) × In id old) ⊎ ((is_in id old ≡ false) × (In id old → ⊥)) → is_in id old ≡ false
-    go (inl h) = absurd (new (Contains-In id old h.1))
+    go (inl h) = absurd (new h.1)
     go (inr h) = h.0
 
-had_is : (id : ℕ) (old : List ℕ) → Contains old id → is_in id old ≡ true
+had_is : (id : ℕ) (old : List ℕ) → In id old → is_in id old ≡ true
 had_is id old had = go (is_in_cases id old)
   where
     go : ((is_in id old ≡ true) × In id old) ⊎ ((is_in id old ≡ false) × (In id old → ⊥)) → is_in id old ≡ true
     go (inl h) = h.0
-    go (inr h) = absurd (h.1 (In-Contains id old had))
+    go (inr h) = absurd (h.1 had)
 
 -- An insertion adds one state.
 pub inserted :
-    (old new : List ℕ) (id : ℕ) (b : Bool) → (IsTrue b → Contains old id → ⊥) → (IsTrue b → new ≡ old ++ id ∷ [])
-    → (IsFalse b → Contains old id) → (IsFalse b → new ≡ old) → new ≡ once_from old (id ∷ [])
+    (old new : List ℕ) (id : ℕ) (b : Bool) → (IsTrue b → In id old → ⊥) → (IsTrue b → new ≡ old ++ id ∷ [])
+    → (IsFalse b → In id old) → (IsFalse b → new ≡ old) → new ≡ once_from old (id ∷ [])
 inserted old new id true fresh added had kept =
     added refl ∙ ap (λ z. old ++ cond z [] (id ∷ [])) (sym (new_is id old (fresh refl)))
 inserted old new id false fresh added had kept =
@@ -47,10 +47,10 @@ inserted old new id false fresh added had kept =
 
 -- The insertion of a state that is no member puts it last.
 pub inserted_new :
-    (old new : List ℕ) (id : ℕ) (b : Bool) → (In id old → ⊥) → (IsTrue b → new ≡ old ++ id ∷ []) → (IsFalse b → Contains old id)
+    (old new : List ℕ) (id : ℕ) (b : Bool) → (In id old → ⊥) → (IsTrue b → new ≡ old ++ id ∷ []) → (IsFalse b → In id old)
     → new ≡ old ++ id ∷ []
 inserted_new old new id true fresh added had = added refl
-inserted_new old new id false fresh added had = absurd (fresh (In-Contains id old (had refl)))
+inserted_new old new id false fresh added had = absurd (fresh (had refl))
 
 pub once_more : (ys xs : List ℕ) → (more : List ℕ) × (once_from ys xs ≡ ys ++ more)
 once_more ys [] = ([], sym (append-nil ys))

@@ -2,21 +2,21 @@
 use Rattle.std.proofs.Common.{ℕ, zero, suc, ◌≡◌, ◌<◌, ◌≤◌, ◌+◌, ◌⊎◌, ◌↔◌, Bool, true, false, List, [], ◌∷◌, ◌++◌}
 use Rattle.std.proofs.Common.{length, get_or, take, Some, None, inl, inr, refl, sym, ap, ◌∙◌, subst, true≢false, arith}
 use Rattle.std.proofs.Common.{append-nil}
-use Rattle.std.specs.Prelude.{Contains, IsTrue, IsFalse, option_to_list}
+use Rattle.std.specs.Prelude.{IsTrue, IsFalse, option_to_list, slice_get}
 use Rattle.std.proofs.lemmas.Bool.{ltb-true}
 use Rattle.std.proofs.lemmas.List.{take_more, take_all}
 use Rattle.automata_base.specs.declared.nfa.thompson.State.{State}
 use Rattle.automata_base.specs.declared.nfa.thompson.reach.Edges.TheVariants.{Epsilon}
 use Rattle.automata_base.proofs.Paths.Checks.{node_below}
 use Rattle.automata_base.specs.Retraced.DepthFirst.{LeadsBy, IsWholeOrder}
-use Rattle.automata_base.specs.Lists.{In, nth}
+use Rattle.automata_base.specs.Lists.{In}
 use Rattle.automata_base.specs.Haystacks.Looks.{Look}
 use Rattle.automata_base.specs.Nfas.Nfa.{Node, Split, Assert, Read, Accept}
 use Rattle.automata_base.specs.Nfas.Nodes.{node_of}
 use Rattle.automata_base.specs.Retraced.Once.{once_from}
 use Rattle.automata_base.specs.Paths.Paths.{all_true}
-use Rattle.automata_base.specs.Nfas.Reach.{node_in, look_target, targets_of, Route, IsReached, LeadsBack}
-use Rattle.automata_base.specs.Nfas.Reach.{AreLooksAcyclic}
+use Rattle.automata_base.specs.Retraced.Reach.{node_in, look_target, targets_of, Route, IsReached, LeadsBack}
+use Rattle.automata_base.specs.Retraced.Reach.{AreLooksAcyclic}
 use Rattle.automata_base.specs.Nfas.Errors.{states_below}
 use Rattle.automata_base.specs.Powersets.Closure.{children_at}
 use Rattle.automata_base.proofs.Powersets.ListTests.{node_fits}
@@ -103,7 +103,7 @@ module _ (states : List State) (q : ℕ) (old : List ℕ) where
 
   pub one_found :
       (next : ℕ) (new : List ℕ) (b : Bool) → look_target (node_in states q) ≡ Some next
-      → (IsTrue b → Contains new q) → (IsFalse b → Contains new q → ⊥)
+      → (IsTrue b → In q new) → (IsFalse b → In q new → ⊥)
       → IsTrue b ↔ ((next : ℕ) × (look_target (node_in states q) ≡ Some next) × In q new)
   one_found next new b some had fresh =
       let found : IsTrue b ↔ In q new = target_found (In q new) new q b had fresh (λ i. i, λ i. i) in
@@ -125,7 +125,7 @@ added_walked G old added next done e once closed p r i j =
     front =
         ap (λ z. take z added) e ∙ (ap (take (length old)) once ∙ (once_take (length old) old (next ∷ []) (omega arith) ∙ take_all (length old) old (omega arith)))
 
-nth_read : (xs : List ℕ) (i q : ℕ) → i < length xs → q ≡ get_or xs i q → nth xs i ≡ Some q
+nth_read : (xs : List ℕ) (i q : ℕ) → i < length xs → q ≡ get_or xs i q → slice_get xs i ≡ Some q
 nth_read [] i q l e = absurd (omega (arith, l))
 nth_read (x ∷ xs) zero q l e = ap (λ z. Some z) (sym e)
 nth_read (x ∷ xs) (suc i) q l e = nth_read xs i q (omega (arith, l)) e

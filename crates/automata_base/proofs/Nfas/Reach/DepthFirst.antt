@@ -1,18 +1,17 @@
 -- The steps of a depth-first search.
 use Rattle.std.proofs.Common.{ℕ, zero, suc, ◌≡◌, ◌<◌, ◌+◌, ◌⊎◌, Bool, true, false, List, [], ◌∷◌, ◌++◌, length, get_or}
 use Rattle.std.proofs.Common.{take, Some, None, inl, inr, refl, sym, ap, ◌∙◌, subst, arith}
-use Rattle.std.specs.Prelude.{Contains, IsTrue, IsFalse, reverse}
+use Rattle.std.specs.Prelude.{IsTrue, IsFalse, reverse, slice_get}
 use Rattle.std.proofs.lemmas.List.{reverse-append}
 use Rattle.automata_base.specs.declared.nfa.thompson.State.{State}
 use Rattle.automata_base.specs.declared.nfa.thompson.finishing.Frame.{Frame}
 use Rattle.automata_base.specs.declared.nfa.thompson.reach.Edges.TheVariants.{Epsilon}
 use Rattle.automata_base.specs.Retraced.DepthFirst.{LeadsBy, states_in, AreFollowed, IsUnderSearch, IsWholeOrder}
-use Rattle.automata_base.specs.Lists.{In, nth}
+use Rattle.automata_base.specs.Lists.{In}
 use Rattle.automata_base.specs.Nfas.Nodes.{node_of}
 use Rattle.automata_base.specs.Paths.Paths.{all_true}
-use Rattle.automata_base.specs.Nfas.Reach.{targets_of, Route}
+use Rattle.automata_base.specs.Retraced.Reach.{targets_of, Route}
 use Rattle.automata_base.specs.Powersets.Closure.{children_at}
-use Rattle.automata_base.proofs.Powersets.Distinct.{Contains-In, In-Contains}
 use Rattle.automata_base.proofs.Powersets.Walking.{node_at}
 use Rattle.automata_base.proofs.Paths.Orders.{some_inj, none_some}
 use Rattle.automata_base.proofs.Paths.Walks.{in_left}
@@ -30,7 +29,7 @@ leads_edge G p r i = (r, [], i, refl)
 pub leads_then : (G : ℕ → List ℕ) (p q z : ℕ) → LeadsBy G p q → LeadsBy G q z → LeadsBy G p z
 leads_then G p q z a b = (a.0, a.1 ++ (b.0 ∷ b.1), a.2, route_then G a.0 a.1 q (b.0 ∷ b.1) z a.3 (b.2, b.3))
 
-take_suc : (xs : List ℕ) (k x r : ℕ) → nth xs k ≡ Some x → In r (take (suc k) xs) → In r (take k xs) ⊎ (r ≡ x)
+take_suc : (xs : List ℕ) (k x r : ℕ) → slice_get xs k ≡ Some x → In r (take (suc k) xs) → In r (take k xs) ⊎ (r ≡ x)
 take_suc [] k x r e i = absurd (none_some e)
 take_suc (y ∷ ys) zero x r e (inl i) = inr (i ∙ some_inj e)
 take_suc (y ∷ ys) zero x r e (inr i) = absurd i
@@ -41,10 +40,10 @@ take_suc (y ∷ ys) (suc k) x r e (inr i) = go (take_suc ys k x r e i)
     go (inl j) = inl (inr j)
     go (inr j) = inr j
 
-pub take_next : (xs : List ℕ) (k x r : ℕ) → nth xs k ≡ Some x → In r (take (k + 1) xs) → In r (take k xs) ⊎ (r ≡ x)
+pub take_next : (xs : List ℕ) (k x r : ℕ) → slice_get xs k ≡ Some x → In r (take (k + 1) xs) → In r (take k xs) ⊎ (r ≡ x)
 take_next xs k x r e i = let m : k + 1 ≡ suc k = omega arith in take_suc xs k x r e (subst (λ z. In r (take z xs)) m i)
 
-pub nth_none : (xs : List ℕ) (k : ℕ) → nth xs k ≡ None → take k xs ≡ xs
+pub nth_none : (xs : List ℕ) (k : ℕ) → slice_get xs k ≡ None → take k xs ≡ xs
 nth_none [] zero e = refl
 nth_none [] (suc k) e = refl
 nth_none (y ∷ ys) zero e = absurd (none_some (sym e))
@@ -69,16 +68,16 @@ stack_two xs ys zs x y e f = stack_top zs ys y f ∙ ap (λ z. y ∷ z) (stack_t
 
 -- The last element, or one before it.
 nth_last :
-    (xs : List ℕ) (p i q : ℕ) → nth (xs ++ p ∷ []) i ≡ Some q
-    → ((nth xs i ≡ Some q) × (take i (xs ++ p ∷ []) ≡ take i xs)) ⊎ ((q ≡ p) × (take i (xs ++ p ∷ []) ≡ xs))
+    (xs : List ℕ) (p i q : ℕ) → slice_get (xs ++ p ∷ []) i ≡ Some q
+    → ((slice_get xs i ≡ Some q) × (take i (xs ++ p ∷ []) ≡ take i xs)) ⊎ ((q ≡ p) × (take i (xs ++ p ∷ []) ≡ xs))
 nth_last [] p zero q e = inr (sym (some_inj e), refl)
 nth_last [] p (suc i) q e = absurd (none_some e)
 nth_last (x ∷ xs) p zero q e = inl (e, refl)
 nth_last (x ∷ xs) p (suc i) q e = go (nth_last xs p i q e)
   where
     go :
-        ((nth xs i ≡ Some q) × (take i (xs ++ p ∷ []) ≡ take i xs)) ⊎ ((q ≡ p) × (take i (xs ++ p ∷ []) ≡ xs))
-        → ((nth xs i ≡ Some q) × (x ∷ take i (xs ++ p ∷ []) ≡ x ∷ take i xs)) ⊎ ((q ≡ p) × (x ∷ take i (xs ++ p ∷ []) ≡ x ∷ xs))
+        ((slice_get xs i ≡ Some q) × (take i (xs ++ p ∷ []) ≡ take i xs)) ⊎ ((q ≡ p) × (take i (xs ++ p ∷ []) ≡ xs))
+        → ((slice_get xs i ≡ Some q) × (x ∷ take i (xs ++ p ∷ []) ≡ x ∷ take i xs)) ⊎ ((q ≡ p) × (x ∷ take i (xs ++ p ∷ []) ≡ x ∷ xs))
     go (inl h) = inl (h.0, ap (λ z. x ∷ z) h.1)
     go (inr h) = inr (h.0, ap (λ z. x ∷ z) h.1)
 
@@ -124,7 +123,7 @@ module _ (n : ℕ) (G : ℕ → List ℕ) (visited finished : List ℕ) where
     -- An edge leads to a state that was not visited: it is put on the stack.
     pub search_enters :
         (again next : Frame) (edge id : ℕ) → again.state ≡ frame.state → again.edge ≡ edge + 1 → next.state ≡ id → next.edge ≡ 0
-        → id < n → nth (G frame.state) edge ≡ Some id → ((r : ℕ) → In r (take edge (G frame.state)) → In r visited)
+        → id < n → slice_get (G frame.state) edge ≡ Some id → ((r : ℕ) → In r (take edge (G frame.state)) → In r visited)
         → IsUnderSearch n G (visited ++ id ∷ []) finished (next ∷ again ∷ below)
     search_enters again next edge id same more to first small at before = record {
       visits = λ q i. visits q (in_either q visited (id ∷ []) i);
@@ -213,7 +212,7 @@ module _ (n : ℕ) (G : ℕ → List ℕ) (visited finished : List ℕ) where
         cyclic p q (inr (inr i)) out h = absurd i
 
         order :
-            (i q p : ℕ) → ((nth finished i ≡ Some q) × (take i done ≡ take i finished)) ⊎ ((q ≡ frame.state) × (take i done ≡ finished))
+            (i q p : ℕ) → ((slice_get finished i ≡ Some q) × (take i done ≡ take i finished)) ⊎ ((q ≡ frame.state) × (take i done ≡ finished))
             → In p (take i done) → (p ≡ q → ⊥) × (LeadsBy G p q → LeadsBy G p p)
         order i q p (inl h) j = w.order i q p h.0 (subst (λ z. In p z) h.1 j)
         order i q p (inr h) j =
@@ -240,11 +239,11 @@ module _ (n : ℕ) (G : ℕ → List ℕ) (visited finished : List ℕ) where
 
     pub search_done :
         (new : List ℕ) (b : Bool) → ((r : ℕ) → In r (G frame.state) → In r visited)
-        → (IsTrue b → Contains finished frame.state → ⊥) → (IsTrue b → new ≡ finished ++ frame.state ∷ [])
-        → (IsFalse b → Contains finished frame.state) → (IsFalse b → new ≡ finished) → IsUnderSearch n G visited new below
+        → (IsTrue b → In frame.state finished → ⊥) → (IsTrue b → new ≡ finished ++ frame.state ∷ [])
+        → (IsFalse b → In frame.state finished) → (IsFalse b → new ≡ finished) → IsUnderSearch n G visited new below
     search_done new true all fresh added had kept =
-        search_leaves new all (λ i. fresh refl (Contains-In frame.state finished i)) (added refl)
-    search_done new false all fresh added had kept = search_drops new (In-Contains frame.state finished (had refl)) (kept refl)
+        search_leaves new all (fresh refl) (added refl)
+    search_done new false all fresh added had kept = search_drops new (had refl) (kept refl)
 
 pub search_whole :
     (n : ℕ) (G : ℕ → List ℕ) (visited finished : List ℕ) → IsUnderSearch n G visited finished []

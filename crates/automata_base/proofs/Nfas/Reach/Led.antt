@@ -8,15 +8,15 @@ use Rattle.automata_base.specs.declared.nfa.thompson.State.TheVariants as is
 use Rattle.automata_base.specs.declared.nfa.thompson.Transition.{Transition}
 use Rattle.automata_base.specs.declared.nfa.thompson.reach.Edges.TheVariants.{Epsilon, Every}
 use Rattle.automata_base.specs.Nfas.Engines.{HasEdge, Road, Reaches}
-use Rattle.automata_base.specs.Nfas.Getters.{HasEmpty, SkipsLazily}
+use Rattle.automata_base.specs.Nfas.Getters.{HasEmpty}
 use Rattle.automata_base.specs.Lists.{In}
 use Rattle.automata_base.specs.Haystacks.Looks.{Look, within}
 use Rattle.automata_base.specs.Nfas.Nfa.{Node, Range, Split, Assert, Read, Accept, node, hop, hop_at, takes_in}
 use Rattle.automata_base.specs.Nfas.Nfa.{takes_at}
 use Rattle.automata_base.specs.Nfas.Nodes.{Automaton, nfa_of, node_of, ranges_of, dense_from}
 use Rattle.automata_base.specs.Paths.Paths.{all_true, Run, HasEpsilonPath, LeadsOn, IsLookAcyclic}
-use Rattle.automata_base.specs.Nfas.Reach.{node_in, nexts, byte_targets, targets_of, look_target, Route, IsReached}
-use Rattle.automata_base.specs.Nfas.Reach.{LeadsBack, AreLooksAcyclic, ReachesMatch, SkipsFrom}
+use Rattle.automata_base.specs.Retraced.Reach.{node_in, nexts, byte_targets, targets_of, look_target, Route, IsReached}
+use Rattle.automata_base.specs.Retraced.Reach.{LeadsBack, AreLooksAcyclic, ReachesMatch}
 use Rattle.automata_base.specs.Nfas.Errors.{ordered_from, state_ordered, states_ordered}
 use Rattle.automata_base.specs.Powersets.Closure.{children}
 use Rattle.automata_base.proofs.Paths.FirstVisits.{hop_children}
@@ -190,24 +190,12 @@ module _ (a : Automaton) (ordered : states_ordered a.states ≡ true) where
   road_to q [] z w = w
   road_to q (r ∷ way) z w = (edge_to q r w.0, road_to r way z w.1)
 
-  reach_from : (q z : ℕ) → IsReached Every a.states (q ∷ []) z → Reaches (nfa_of a) q z
+  pub reach_from : (q z : ℕ) → IsReached Every a.states (q ∷ []) z → Reaches (nfa_of a) q z
   reach_from q z h = go h.2 (road_from h.0 h.1 z h.3)
     where
       go : In h.0 (q ∷ []) → Road (nfa_of a) h.0 h.1 z → Reaches (nfa_of a) q z
       go (inl e) w = (h.1, subst (λ v. Road (nfa_of a) v h.1 z) e w)
       go (inr i) w = absurd i
 
-  reach_to : (q z : ℕ) → Reaches (nfa_of a) q z → IsReached Every a.states (q ∷ []) z
+  pub reach_to : (q z : ℕ) → Reaches (nfa_of a) q z → IsReached Every a.states (q ∷ []) z
   reach_to q z h = (q, h.0, inl refl, road_to q h.0 z h.1)
-
-  -- The tests of the starts decide whether the NFA skips lazily.
-  pub lazily_is : (b : Type 0) → b ↔ SkipsFrom a.states a.start_anchored a.start_unanchored → b ↔ SkipsLazily a
-  lazily_is b found = (λ t. from (found.0 t), λ h. found.1 (to h))
-    where
-      from : SkipsFrom a.states a.start_anchored a.start_unanchored → SkipsLazily a
-      from (inl e) = inl e
-      from (inr h) = inr (h.0, (h.1, h.2, λ r. h.3 (reach_to a.start_anchored a.start_unanchored r)))
-
-      to : SkipsLazily a → SkipsFrom a.states a.start_anchored a.start_unanchored
-      to (inl e) = inl e
-      to (inr h) = inr (h.0, h.1.0, h.1.1, λ r. h.1.2 (reach_from a.start_anchored a.start_unanchored r))

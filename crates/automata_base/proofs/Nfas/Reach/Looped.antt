@@ -1,27 +1,24 @@
 -- A union that first tries the anchored start and then any byte.
-use Rattle.std.proofs.Common.{ℕ, ◌≡◌, ◌<◌, ◌↔◌, ◌&&◌, Bool, true, false, not, cond, eqb, List, [], ◌∷◌, length, get_or}
-use Rattle.std.proofs.Common.{Option, Some, None, inl, inr, refl, sym, ap, ap₂, ◌∙◌, subst, true≢false}
-use Rattle.std.specs.Prelude.{IsTrue, slice_get}
+use Rattle.std.proofs.Common.{ℕ, zero, suc, ◌≡◌, ◌<◌, ◌↔◌, Bool, true, false, not, cond, eqb, List, [], ◌∷◌, length}
+use Rattle.std.proofs.Common.{get_or, Some, None, inl, inr, refl, sym, ap, ap₂, ◌∙◌, subst, true≢false, arith}
+use Rattle.std.specs.Prelude.{IsTrue}
 use Rattle.std.proofs.lemmas.Bool.{eqb-true, eq-eqb}
-use Rattle.std.proofs.lemmas.Option.{slice_get-get_or}
 use Rattle.automata_base.specs.declared.nfa.thompson.State.{State}
-use Rattle.automata_base.specs.declared.nfa.thompson.State.TheVariants.{ByteRange, Sparse, Dense, Look, Union}
-use Rattle.automata_base.specs.declared.nfa.thompson.State.TheVariants.{BinaryUnion, Capture, Fail, Match}
 use Rattle.automata_base.specs.declared.nfa.thompson.reach.Edges.TheVariants.{Every}
 use Rattle.automata_base.proofs.Paths.Checks.{node_below}
-use Rattle.automata_base.specs.Nfas.Nfa.{Node, Split, Assert, Read, Accept}
-use Rattle.automata_base.specs.Nfas.Nodes.{node_of}
-use Rattle.automata_base.specs.Nfas.Reach.{node_in, second_of, second_at, is_any_byte_of, IsReached, SkipsFrom}
-use Rattle.automata_base.specs.Nfas.Errors.{states_below}
+use Rattle.automata_base.specs.Nfas.Engines.{any_byte}
+use Rattle.automata_base.specs.Nfas.Getters.{SkipsLazily}
+use Rattle.automata_base.specs.Nfas.Nfa.{Node, Range, Split, Assert, Read, Accept, node}
+use Rattle.automata_base.specs.Nfas.Nodes.{Automaton, dense_from, nfa_of, node_of, range_of, ranges_of}
+use Rattle.automata_base.specs.declared.nfa.thompson.Transition.{Transition}
+use Rattle.automata_base.specs.Retraced.Reach.{second_of, second_at, IsReached}
+use Rattle.automata_base.specs.Nfas.Errors.{states_below, states_ordered}
 use Rattle.automata_base.proofs.Powersets.ListTests.{node_fits}
 use Rattle.automata_base.proofs.Powersets.Walking.{node_at}
 use Rattle.automata_base.proofs.Paths.Checked.{below_in}
 use Rattle.automata_base.proofs.Paths.Orders.{some_inj, none_some}
 use Rattle.automata_base.proofs.Nfas.Reach.Adding.{state_at_below}
-use Rattle.std.proofs.lemmas.Bool.{and_parts}
-
-some_state : {x y : State} → ◌≡◌ {A = Option State} (Some x) (Some y) → x ≡ y
-some_state e = cc
+use Rattle.automata_base.proofs.Nfas.Reach.Led.{reach_from, reach_to}
 
 second_pair : (a b first skip : ℕ) → cond (eqb a first) (Some b) None ≡ Some skip → (a ≡ first) × (b ≡ skip)
 second_pair a b first skip e = go (eqb a first) refl e
@@ -46,27 +43,6 @@ second_has : (x : Node) (first skip : ℕ) → x ≡ Split (first ∷ skip ∷ [
 second_has x first skip e =
     ap (λ z. second_at z first) e ∙ ap (λ b. cond b (Some skip) None) (eq-eqb first first refl)
 
-any_byte_is : (s : State) (target : ℕ) → is_any_byte_of s target ≡ true → s ≡ ByteRange 0 255 target
-any_byte_is (ByteRange lo hi next) target e =
-    let outer = and_parts (eqb lo 0 && eqb hi 255) (eqb next target) e in
-    let inner = and_parts (eqb lo 0) (eqb hi 255) outer.0 in
-    ap (λ z. ByteRange z hi next) (eqb-true lo 0 inner.0)
-    ∙ (ap (λ z. ByteRange 0 z next) (eqb-true hi 255 inner.1) ∙ ap (λ z. ByteRange 0 255 z) (eqb-true next target outer.1))
-any_byte_is (Sparse ts) target e = absurd (true≢false (sym e))
-any_byte_is (Dense targets) target e = absurd (true≢false (sym e))
-any_byte_is (Look look next) target e = absurd (true≢false (sym e))
-any_byte_is (Union alternates) target e = absurd (true≢false (sym e))
-any_byte_is (BinaryUnion alt1 alt2) target e = absurd (true≢false (sym e))
-any_byte_is (Capture next pattern index slot) target e = absurd (true≢false (sym e))
-any_byte_is Fail target e = absurd (true≢false (sym e))
-any_byte_is (Match pattern) target e = absurd (true≢false (sym e))
-
-any_byte_has : (s : State) (target : ℕ) → s ≡ ByteRange 0 255 target → is_any_byte_of s target ≡ true
-any_byte_has s target e = ap (λ z. is_any_byte_of z target) e ∙ eq-eqb target target refl
-
-read_is : (states : List State) (at : ℕ) (s : State) → at < length states → s ≡ get_or states at s → slice_get states at ≡ Some s
-read_is states at s l e = slice_get-get_or states at s l ∙ ap (λ z. Some z) (sym e)
-
 -- The second alternate of a state in range is in range.
 pub second_below :
     (states : List State) (at : ℕ) (s : State) (first skip : ℕ)
@@ -77,47 +53,78 @@ second_below states at s first skip h l e t =
     (node_fits (length states) s (state_at_below (length states) states at s h l e)))
     (inr (inl refl))
 
--- What the unanchored start and its second alternate are, and what the tests of them mean.
-module _ (states : List State) (anchored unanchored at : ℕ) (s : State) (other : unanchored ≡ anchored → ⊥) (same : at ≡ unanchored) (within : at < length states) (read : s ≡ get_or states at s) where
-  start_is : node_in states unanchored ≡ node_of s
-  start_is = ap (node_in states) (sym same) ∙ node_at states at s s within read
+-- One range of a sparse state, and other numbers of them.
+pub one_range : (ts : List Transition) (t : Transition) → length ts ≡ 1 → t ≡ get_or ts 0 t → ranges_of ts ≡ range_of t ∷ []
+one_range [] t l e = absurd (omega (arith, l))
+one_range (x ∷ []) t l e = ap (λ z. range_of z ∷ []) (sym e)
+one_range (x ∷ y ∷ rest) t l e = absurd (omega (arith, l))
 
-  pub skips_no_union : second_at (node_of s) anchored ≡ None → IsTrue false ↔ SkipsFrom states anchored unanchored
+pub other_ranges : (ts : List Transition) (target : ℕ) → (length ts ≡ 1 → ⊥) → Read (ranges_of ts) ≡ any_byte target → ⊥
+other_ranges [] target l e = cc
+other_ranges (x ∷ []) target l e = l refl
+other_ranges (x ∷ y ∷ rest) target l e = cc
+
+-- Each range of a dense state has one byte.
+dense_single : (u : ℕ) (xs : List ℕ) (r : Range) (rest : List Range) → dense_from u xs ≡ r ∷ rest → r.lo ≡ r.hi
+dense_single u [] r rest e = absurd (no e)
+  where
+    no : {r : Range} {rest : List Range} → [] ≡ r ∷ rest → ⊥
+    no e = cc
+dense_single u (zero ∷ xs) r rest e = dense_single (suc u) xs r rest e
+dense_single u (suc k ∷ xs) r rest e = ap (λ (z : Range). z.lo) (sym (first e)) ∙ ap (λ (z : Range). z.hi) (first e)
+  where
+    first : {r s : Range} {rs ss : List Range} → r ∷ rs ≡ s ∷ ss → r ≡ s
+    first e = cc
+
+pub dense_partial : (xs : List ℕ) (target : ℕ) → Read (dense_from 0 xs) ≡ any_byte target → ⊥
+dense_partial xs target e = let k : ◌≡◌ {A = ℕ} 0 255 = dense_single 0 xs _ _ (ranges e) in omega (arith, k)
+  where
+    ranges : {rs ss : List Range} → Read rs ≡ Read ss → rs ≡ ss
+    ranges e = cc
+
+-- What the unanchored start and its second alternate are, and what the tests of them mean.
+module _ (a : Automaton) (at : ℕ) (s : State) (other : a.start_unanchored ≡ a.start_anchored → ⊥) (same : at ≡ a.start_unanchored)
+    (within : at < length a.states) (read : s ≡ get_or a.states at s) where
+  start_is : node (nfa_of a) a.start_unanchored ≡ node_of s
+  start_is = ap (node (nfa_of a)) (sym same) ∙ node_at a.states at s s within read
+
+  pub skips_no_union : second_at (node_of s) a.start_anchored ≡ None → IsTrue false ↔ SkipsLazily a
   skips_no_union none = (λ t. absurd (true≢false (sym t)), from)
     where
-      from : SkipsFrom states anchored unanchored → IsTrue false
+      from : SkipsLazily a → IsTrue false
       from (inl e) = absurd (other e)
-      from (inr h) = absurd (none_some (sym none ∙ second_has (node_of s) anchored h.0 (sym start_is ∙ h.1)))
+      from (inr h) = absurd (none_some (sym none ∙ second_has (node_of s) a.start_anchored h.0 (sym start_is ∙ h.1.0)))
 
-  module _ (skip spot : ℕ) (r : State) (second : second_at (node_of s) anchored ≡ Some skip) (here : spot ≡ skip) (inside : spot < length states) (next : r ≡ get_or states spot r) where
-    second_one : (skip' : ℕ) → node_in states unanchored ≡ Split (anchored ∷ skip' ∷ []) → skip ≡ skip'
-    second_one skip' e = some_inj (sym second ∙ second_has (node_of s) anchored skip' (sym start_is ∙ e))
+  module _ (skip spot : ℕ) (r : State) (second : second_at (node_of s) a.start_anchored ≡ Some skip) (here : spot ≡ skip) (inside : spot < length a.states) (next : r ≡ get_or a.states spot r) where
+    second_one : (skip' : ℕ) → node (nfa_of a) a.start_unanchored ≡ Split (a.start_anchored ∷ skip' ∷ []) → skip ≡ skip'
+    second_one skip' e = some_inj (sym second ∙ second_has (node_of s) a.start_anchored skip' (sym start_is ∙ e))
 
-    range_is : slice_get states skip ≡ Some r
-    range_is = ap (slice_get states) (sym here) ∙ read_is states spot r inside next
+    skip_is : node (nfa_of a) skip ≡ node_of r
+    skip_is = ap (node (nfa_of a)) (sym here) ∙ node_at a.states spot r r inside next
 
-    pub skips_no_range : is_any_byte_of r unanchored ≡ false → IsTrue false ↔ SkipsFrom states anchored unanchored
+    pub skips_no_range : (node_of r ≡ any_byte a.start_unanchored → ⊥) → IsTrue false ↔ SkipsLazily a
     skips_no_range fails = (λ t. absurd (true≢false (sym t)), from)
       where
-        from : SkipsFrom states anchored unanchored → IsTrue false
+        from : SkipsLazily a → IsTrue false
         from (inl e) = absurd (other e)
-        from (inr h) =
-            absurd (true≢false (sym (any_byte_has r unanchored (some_state (sym range_is ∙ (ap (slice_get states) (second_one h.0 h.1) ∙ h.2)))) ∙ fails))
+        from (inr h) = absurd (fails (sym skip_is ∙ (ap (node (nfa_of a)) (second_one h.0 h.1.0) ∙ h.1.1)))
 
     pub skips_unless :
-        (leads : Bool) → is_any_byte_of r unanchored ≡ true → IsTrue leads ↔ IsReached Every states (anchored ∷ []) unanchored
-        → IsTrue (not leads) ↔ SkipsFrom states anchored unanchored
-    skips_unless true passes found = (λ t. absurd (true≢false (sym t)), from)
+        (leads : Bool) → states_ordered a.states ≡ true → node_of r ≡ any_byte a.start_unanchored
+        → IsTrue leads ↔ IsReached Every a.states (a.start_anchored ∷ []) a.start_unanchored → IsTrue (not leads) ↔ SkipsLazily a
+    skips_unless true ordered passes found = (λ t. absurd (true≢false (sym t)), from)
       where
-        from : SkipsFrom states anchored unanchored → IsTrue false
+        from : SkipsLazily a → IsTrue false
         from (inl e) = absurd (other e)
-        from (inr h) = absurd (h.3 (found.0 refl))
-    skips_unless false passes found = (
+        from (inr h) = absurd (h.1.2 (reach_from a ordered a.start_anchored a.start_unanchored (found.0 refl)))
+    skips_unless false ordered passes found = (
       λ _. inr (
         skip,
-        start_is ∙ second_is (node_of s) anchored skip second,
-        range_is ∙ ap (λ z. Some z) (any_byte_is r unanchored passes),
-        λ h. true≢false (sym (found.1 h)),
+        (
+          start_is ∙ second_is (node_of s) a.start_anchored skip second,
+          skip_is ∙ passes,
+          λ h. true≢false (sym (found.1 (reach_to a ordered a.start_anchored a.start_unanchored h))),
+        ),
       ),
       λ _. refl,
     )

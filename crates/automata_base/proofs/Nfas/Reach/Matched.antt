@@ -1,14 +1,14 @@
 -- What a walk's members mean.
 use Rattle.std.proofs.Common.{ℕ, ◌≡◌, ◌<◌, ◌≤◌, ◌+◌, ◌⊎◌, ◌↔◌, Bool, true, false, List, [], ◌∷◌, ◌++◌, length, get_or}
 use Rattle.std.proofs.Common.{take, inl, inr, refl, sym, ap, ◌∙◌, subst, true≢false}
-use Rattle.std.specs.Prelude.{Contains, IsTrue, IsFalse}
+use Rattle.std.specs.Prelude.{IsTrue, IsFalse}
 use Rattle.std.proofs.lemmas.List.{take_more, take_all}
 use Rattle.automata_base.specs.declared.nfa.thompson.State.{State}
 use Rattle.automata_base.specs.declared.nfa.thompson.reach.Edges.TheVariants.{Epsilon}
 use Rattle.automata_base.specs.Lists.{In}
 use Rattle.automata_base.specs.Nfas.Nodes.{node_of}
-use Rattle.automata_base.specs.Nfas.Reach.{node_in, IsMatchAt, IsReached, ReachesMatch}
-use Rattle.automata_base.proofs.Powersets.Distinct.{In-Contains, Contains-In, In-get_or}
+use Rattle.automata_base.specs.Retraced.Reach.{node_in, IsMatchAt, IsReached, ReachesMatch}
+use Rattle.automata_base.proofs.Powersets.Distinct.{In-get_or}
 use Rattle.automata_base.proofs.Powersets.Walking.{node_at}
 use Rattle.automata_base.proofs.Paths.Walks.{in_either}
 
@@ -53,8 +53,8 @@ match_found states roots slice items b e found reached = (
 )
 
 pub target_found :
-    (P : Type 0) (items : List ℕ) (target : ℕ) (b : Bool) → (IsTrue b → Contains items target) → (IsFalse b → Contains items target → ⊥)
+    (P : Type 0) (items : List ℕ) (target : ℕ) (b : Bool) → (IsTrue b → In target items) → (IsFalse b → In target items → ⊥)
     → In target items ↔ P → IsTrue b ↔ P
-target_found P items target true had new reached = (λ t. reached.0 (In-Contains target items (had refl)), λ _. refl)
+target_found P items target true had new reached = (λ t. reached.0 (had refl), λ _. refl)
 target_found P items target false had new reached =
-    (λ t. absurd (true≢false (sym t)), λ p. absurd (new refl (Contains-In target items (reached.1 p))))
+    (λ t. absurd (true≢false (sym t)), λ p. absurd (new refl (reached.1 p)))

@@ -1,8 +1,9 @@
 -- What the tests of `NFA::from_states` mean.
-use Rattle.std.proofs.Common.{ℕ, ◌≡◌, ◌<◌, ◌≤◌, ◌+◌, ◌-◌, ◌^◌, ◌&&◌, Bool, true, false, leb, ltb, List, [], ◌∷◌, length}
+use Rattle.std.proofs.Common.{ℕ, ◌≡◌, ◌<◌, ◌≤◌, ◌+◌, ◌-◌, ◌^◌, ◌&&◌, Bool, true, false, leb, ltb, List, [], ◌∷◌, length, map}
 use Rattle.std.proofs.Common.{Option, Some, None, Result, Ok, Err, refl, sym, ap, ◌∙◌, arith}
 use Rattle.std.specs.Prelude.{sum_by}
 use Rattle.std.proofs.lemmas.Bool.{leb-true, ltb-true}
+use Rattle.std.proofs.lemmas.List.{length-map}
 use Rattle.std.proofs.lemmas.List.Sums.{sum_by-cons}
 use Rattle.automata_base.specs.declared.nfa.thompson.NfaError.{NfaError}
 use Rattle.automata_base.specs.declared.nfa.thompson.NfaError.TheVariants.{TooLarge, StartRange, StateRange, Ranges}
@@ -10,7 +11,9 @@ use Rattle.automata_base.specs.declared.nfa.thompson.NfaError.TheVariants.{Patte
 use Rattle.automata_base.specs.declared.nfa.thompson.State.{State}
 use Rattle.automata_base.specs.Nfas.Nodes.{extra_of, stack_room}
 use Rattle.automata_base.specs.Nfas.Errors.{alternates_of, is_small, is_narrow, starts_below, states_below}
-use Rattle.automata_base.specs.Nfas.Errors.{states_ordered, matches_below, unless, states_refusal}
+use Rattle.automata_base.specs.Nfas.Errors.{states_ordered, matches_below, unless, states_refusal, refusal_of, every}
+use Rattle.automata_base.specs.Nfas.Errors.{shape_below, shape_matches_below, shape_ordered, shape_alternates}
+use Rattle.automata_base.specs.Nfas.Shapes.{shape_of}
 use Rattle.automata_base.proofs.Powersets.ListTests.{extra_is}
 use Rattle.automata_base.specs.Lists.{all_below}
 use Rattle.std.proofs.lemmas.Bool.{and_parts}
@@ -19,11 +22,44 @@ abbrev pub chain : (small narrow starts targets ranges patterns : Bool) → Opti
 chain small narrow starts targets ranges patterns =
     unless small TooLarge (unless narrow TooLarge (unless starts StartRange (unless targets StateRange (unless ranges Ranges (unless patterns PatternRange None)))))
 
+-- The tests of states are those of their shapes.
+all_below_is : (n : ℕ) (xs : List State) → every (shape_below n) (map shape_of xs) ≡ states_below n xs
+all_below_is n [] = refl
+all_below_is n (x ∷ xs) = ap (λ b. shape_below n (shape_of x) && b) (all_below_is n xs)
+
+all_matches_is : (n : ℕ) (xs : List State) → every (shape_matches_below n) (map shape_of xs) ≡ matches_below n xs
+all_matches_is n [] = refl
+all_matches_is n (x ∷ xs) = ap (λ b. shape_matches_below n (shape_of x) && b) (all_matches_is n xs)
+
+all_ordered_is : (xs : List State) → every shape_ordered (map shape_of xs) ≡ states_ordered xs
+all_ordered_is [] = refl
+all_ordered_is (x ∷ xs) = ap (λ b. shape_ordered (shape_of x) && b) (all_ordered_is xs)
+
+all_alternates_is : (xs : List State) → sum_by shape_alternates (map shape_of xs) ≡ sum_by alternates_of xs
+all_alternates_is [] = refl
+all_alternates_is (x ∷ xs) =
+    sum_by-cons shape_alternates (shape_of x) (map shape_of xs)
+    ∙ (ap (λ k. shape_alternates (shape_of x) + k) (all_alternates_is xs) ∙ sym (sum_by-cons alternates_of x xs))
+
 pub refusal_is :
     (states : List State) (a u : ℕ) (starts : List ℕ)
     → states_refusal states a u starts ≡ chain (is_small states starts) (is_narrow states) (starts_below (length states) a u starts) (states_below (length states) states) (states_ordered states) (matches_below (length starts) states)
-unfolding states_refusal
-refusal_is states a u starts = refl
+unfolding refusal_of
+refusal_is states a u starts =
+    ap (λ n. chain (leb n (2 ^ 27) && leb (length starts) (2 ^ 27)) (leb (sum_by shape_alternates (map shape_of states)) (2 ^ 31))
+    (starts_below n a u starts) (every (shape_below n) (map shape_of states)) (every shape_ordered (map shape_of states))
+    (every (shape_matches_below (length starts)) (map shape_of states))) (length-map states shape_of)
+    ∙ (ap (λ k. chain (is_small states starts) (leb k (2 ^ 31)) (starts_below (length states) a u starts)
+    (every (shape_below (length states)) (map shape_of states)) (every shape_ordered (map shape_of states))
+    (every (shape_matches_below (length starts)) (map shape_of states))) (all_alternates_is states)
+    ∙ (ap (λ b. chain (is_small states starts) (is_narrow states) (starts_below (length states) a u starts) b
+    (every shape_ordered (map shape_of states)) (every (shape_matches_below (length starts)) (map shape_of states)))
+    (all_below_is (length states) states)
+    ∙ (ap (λ b. chain (is_small states starts) (is_narrow states) (starts_below (length states) a u starts)
+    (states_below (length states) states) b (every (shape_matches_below (length starts)) (map shape_of states)))
+    (all_ordered_is states)
+    ∙ ap (λ b. chain (is_small states starts) (is_narrow states) (starts_below (length states) a u starts)
+    (states_below (length states) states) (states_ordered states) b) (all_matches_is (length starts) states))))
 
 pub stops_small : (a b c d e f : Bool) → a ≡ false → chain a b c d e f ≡ Some TooLarge
 stops_small a b c d e f h = ap (λ z. chain z b c d e f) h

@@ -5,8 +5,8 @@ use Rattle.std.proofs.lemmas.Bool.{ltb-true}
 use Rattle.std.proofs.lemmas.List.{at_drop_more}
 use Rattle.automata_base.specs.declared.nfa.thompson.Transition.{Transition}
 use Rattle.automata_base.specs.declared.nfa.thompson.utf8.Class.{Class}
-use Rattle.automata_base.specs.Retraced.ComputedPass.{is_in}
-use Rattle.automata_base.specs.Nfas.Decoders.{pairs_in, range_pairs, ranges_pairs, classes_below}
+use Rattle.automata_base.specs.Retraced.Computed.{is_in}
+use Rattle.automata_base.specs.Retraced.Decoders.{pairs_in, range_pairs, ranges_pairs, classes_below}
 use Rattle.automata_base.specs.Lists.{all_below}
 use Rattle.automata_base.specs.Nfas.Nfa.{Range}
 use Rattle.automata_base.specs.Nfas.Nodes.{range_of, ranges_of, dense_from}

@@ -6,7 +6,8 @@ use Rattle.std.proofs.lemmas.Str.{IsUtf8-nil}
 use mathlib.Core.List.{reverse-cons}
 use Rattle.automata_base.specs.Powersets.Cuts.{MatchKind}
 use Rattle.automata_base.specs.Nfas.Engines.{Anchored, No, Yes, Pattern, first_state, engine_of}
-use Rattle.automata_base.specs.Lists.{In, nth}
+use Rattle.automata_base.specs.Lists.{In}
+use Rattle.std.specs.Prelude.{slice_get}
 use Rattle.automata_base.specs.Haystacks.Looks.{Look}
 use Rattle.automata_base.specs.Nfas.Nfa.{Nfa, Node, Split, Assert, Read, Accept, Truth, node, hop, hop_at}
 use Rattle.automata_base.specs.Nfas.Nodes.{Automaton, nfa_of}
@@ -61,7 +62,7 @@ bytes_order : (way : Direction) (us : List ℕ) → AreBytes us → AreBytes (in
 bytes_order Forward us b = b
 bytes_order Backward us b = bytes_reverse us b
 
-drop_nth : (xs : List ℕ) (i u : ℕ) → nth xs i ≡ Some u → drop i xs ≡ u ∷ drop (suc i) xs
+drop_nth : (xs : List ℕ) (i u : ℕ) → slice_get xs i ≡ Some u → drop i xs ≡ u ∷ drop (suc i) xs
 drop_nth [] i u e = absurd (none_some e)
 drop_nth (x ∷ xs) zero u e = ap (λ z. z ∷ xs) (some_inj e)
 drop_nth (x ∷ xs) (suc i) u e = drop_nth xs i u e
@@ -119,7 +120,7 @@ hop_same_at (Assert look next) A e r f h = absurd (f look next refl)
 hop_same_at (Read ranges) A e r f h = h
 hop_same_at (Accept p) A e r f h = h
 
-drop_next : (xs us : List ℕ) (i u : ℕ) → drop i xs ≡ u ∷ us → (nth xs i ≡ Some u) × (drop (suc i) xs ≡ us)
+drop_next : (xs us : List ℕ) (i u : ℕ) → drop i xs ≡ u ∷ us → (slice_get xs i ≡ Some u) × (drop (suc i) xs ≡ us)
 drop_next [] us zero u e = absurd (nil e)
   where
     nil : [] ≡ u ∷ us → ⊥

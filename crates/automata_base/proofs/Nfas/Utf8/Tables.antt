@@ -4,7 +4,7 @@ use Rattle.automata_base.specs.declared.nfa.thompson.utf8.Class.{Class}
 use Rattle.automata_base.proofs.Nfas.Utf8.Backwards.{mirrors}
 use Rattle.automata_base.proofs.Nfas.Utf8.Decoding.{decodes_utf8}
 use Rattle.automata_base.proofs.Nfas.Utf8.Edges.{chained}
-use Rattle.automata_base.specs.Nfas.Decoders.{classes_below}
+use Rattle.automata_base.specs.Retraced.Decoders.{classes_below}
 
 -- From the first byte to the last.
 abbrev pub forward : List Class

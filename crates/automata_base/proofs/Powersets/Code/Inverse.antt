@@ -1,15 +1,16 @@
 use Rattle.std.proofs.Common.{◌≡◌, ℕ, List, [], ◌∷◌, ◌++◌, Bool, true, false, cond, ◌+◌, ◌*◌, ◌^◌, ◌<◌, ◌≤◌, refl, ap}
-use Rattle.std.proofs.Common.{sym, ◌∙◌, arith, length, length-append, drop, subst, inl, inr, nat_eq}
-use Rattle.std.specs.List.{AllByRecursion, IsDistinct, flat_map, list_any}
+use Rattle.std.proofs.Common.{sym, ◌∙◌, arith, length, length-append, drop, subst, inl, inr}
+use Rattle.std.specs.List.{AllByRecursion, flat_map}
 use Rattle.std.specs.Int.{w32, from_le_bytes}
-use Rattle.std.proofs.lemmas.Bool.{cond-true, cond_both, or_cases, eqb-true, ltb-false}
+use Rattle.std.proofs.lemmas.Bool.{cond-true, cond_both, ltb-false}
 use Rattle.std.proofs.lemmas.Nat.{from_le_bytes-to_le_bytes_4}
-use Rattle.std.proofs.lemmas.Map.Steps.{length-le_from_distinct_below}
 use Rattle.std.proofs.lemmas.List.{drop_at}
+use Rattle.automata_base.specs.Lists.{Distinct, In}
 use Rattle.automata_base.specs.Powersets.Powerset.{Powerset, IsPowerset, IsId, cost}
 use Rattle.automata_base.specs.Powersets.Code.{flag_byte, has_any, is_listed, four_bytes, patterns_code, ids_code, code}
 use Rattle.automata_base.specs.Powersets.Code.{is_set, number_at, numbers_at, numbers, ids_of, patterns_of, ids_bytes}
 use Rattle.automata_base.specs.Powersets.Code.{decoded, IsCode}
+use Rattle.automata_base.proofs.Powersets.Distinct.{distinct_below}
 use Rattle.automata_base.proofs.Powersets.Code.Groups.{ids_of-ids_code, numbers_at-four_bytes, length-four_bytes}
 use Rattle.automata_base.proofs.Powersets.Code.Groups.{length-ids_code}
 
@@ -38,12 +39,13 @@ pub wide : (ps : List ℕ) → AllByRecursion IsId ps → AllByRecursion (λ p. 
 wide [] h = tt
 wide (p ∷ ps) h = (omega (arith, h.0), wide ps h.1)
 
-pub member_is_id : (ps : List ℕ) (q : ℕ) → AllByRecursion IsId ps → list_any (nat_eq q) ps ≡ true → IsId q
-member_is_id [] q h e = cc
-member_is_id (p ∷ ps) q h e = elim (or_cases (nat_eq q p) (list_any (nat_eq q) ps) e) [ inl a ↦ subst IsId (sym (eqb-true q p a)) h.0 | inr b ↦ member_is_id ps q h.1 b ]
+all_in : (ps : List ℕ) (q : ℕ) → AllByRecursion IsId ps → In q ps → IsId q
+all_in [] q h i = absurd i
+all_in (p ∷ ps) q h (inl e) = subst IsId (sym e) h.0
+all_in (p ∷ ps) q h (inr i) = all_in ps q h.1 i
 
-pub count_fits : (ps : List ℕ) → AllByRecursion IsId ps → IsDistinct nat_eq ps → length ps < 2 ^ 32
-count_fits ps h d = omega (arith, length-le_from_distinct_below ps 2147483647 d (λ q e. member_is_id ps q h e))
+pub count_fits : (ps : List ℕ) → AllByRecursion IsId ps → Distinct ps → length ps < 2 ^ 32
+count_fits ps h d = omega (arith, distinct_below 2147483647 ps d (λ q i. all_in ps q h i))
 
 -- where patterns are not listed, they are none or pattern 0 alone
 abbrev pub unlisted : Bool → List ℕ

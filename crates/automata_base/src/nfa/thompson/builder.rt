@@ -32,11 +32,9 @@ impl Model for Builder {
 impl Builder {
     ghost use Rattle.std.specs.Prelude.{◌≡◌, ◌⊎◌, ◌+◌, ◌*◌, ◌<◌, ◌≤◌, ◌∷◌, [], List, ℕ, None, Some, length, set};
     ghost use Rattle.std.specs.Prelude.{IfOk, OnOk, OnErr, IsOk, IsOkUnless, slice_get};
-    ghost use Rattle.automata_base.specs.declared.nfa.thompson.State.{State};
     ghost use Rattle.automata_base.specs.Nfas.Drafts.{blank, default_flags, with_states, with_flags, started, finished};
     ghost use Rattle.automata_base.specs.Nfas.Drafts.{prefix_of};
-    ghost use Rattle.automata_base.specs.Nfas.Drafts.{IsAdding, IsAddingOf, AreBuilt, outline, built};
-    ghost use Rattle.automata_base.specs.Nfas.Errors.{states_refusal};
+    ghost use Rattle.automata_base.specs.Nfas.Drafts.{IsAdding, IsAddingOf, draft_refusal, outline, built};
     ghost use Rattle.automata_base.specs.Nfas.Shapes.{Shape, shape_added, patched, EmptyShape, RangeShape, SparseShape};
     ghost use Rattle.automata_base.specs.Nfas.Shapes.{LookShape, UnionShape, UnionReverseShape, CaptureShape};
     ghost use Rattle.automata_base.specs.Nfas.Shapes.{FailShape};
@@ -313,11 +311,10 @@ impl Builder {
     ) -> Result<NFA, BuildError>
         ensures same { IfOk result (λ nfa. outline nfa ≡ built self.now start_anchored start_unanchored) }
         ensures unfinished { (p : ℕ) → self.now.pattern ≡ Some p → result ≡ Err BuildError.UnfinishedPattern }
-        ensures refused { (states : List State) (error : NfaError) → self.now.pattern ≡ None → AreBuilt self.now states
-            → states_refusal states start_anchored start_unanchored self.now.starts ≡ Some error
+        ensures refused { (error : NfaError) → self.now.pattern ≡ None
+            → draft_refusal self.now start_anchored start_unanchored ≡ Some error
             → (result ≡ Err (BuildError.NFA error)) ⊎ (result ≡ Err BuildError.OutOfMemory) }
-        ensures memory { (states : List State) → self.now.pattern ≡ None → AreBuilt self.now states
-            → states_refusal states start_anchored start_unanchored self.now.starts ≡ None
+        ensures memory { self.now.pattern ≡ None → draft_refusal self.now start_anchored start_unanchored ≡ None
             → IsOkUnless result BuildError.OutOfMemory }
     {
         if self.pattern.is_some() {

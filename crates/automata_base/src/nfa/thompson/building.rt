@@ -2,7 +2,7 @@
 ghost use Rattle.std.specs.Prelude.{◌≡◌, ◌++◌, ◌∷◌, [], None, Some, map, reverse};
 ghost use Rattle.std.specs.Prelude.{IfOk, OnOk, OnErr, IsOkUnless};
 ghost use Rattle.automata_base.specs.Nfas.Drafts.{build_error};
-ghost use Rattle.automata_base.specs.declared.nfa.thompson.building.BuildError.TheVariants.{OutOfMemory as BuildOutOfMemory};
+ghost use Rattle.automata_base.specs.declared.nfa.thompson.building.BuildError.TheVariants as failed;
 ghost use Rattle.automata_base.specs.Nfas.Shapes.{Shape, shape_of, shape_added, built_of, patched, union_of};
 
 use crate::nfa::thompson::{NfaError, State, Transition};
@@ -53,7 +53,7 @@ impl From<NfaError> for BuildError {
 }
 
 impl From<AllocError> for BuildError {
-    ghost from_gives = { λ _ e. e ≡ BuildOutOfMemory };
+    ghost from_gives = { λ _ e. e ≡ failed.OutOfMemory };
 
     fn from(_error: AllocError) -> BuildError {
         BuildError::OutOfMemory
@@ -61,7 +61,7 @@ impl From<AllocError> for BuildError {
 }
 
 impl<T: Drop> From<AllocFailed<T>> for BuildError {
-    ghost from_gives = { λ _ e. e ≡ BuildOutOfMemory };
+    ghost from_gives = { λ _ e. e ≡ failed.OutOfMemory };
 
     fn from(_error: AllocFailed<T>) -> BuildError {
         BuildError::OutOfMemory

@@ -1,7 +1,7 @@
 //! The tests of `NFA::from_states`.
 ghost use Rattle.std.specs.Prelude.{◌≡◌, ◌<◌, ◌-◌, ◌+◌, ltb, leb, ◌&&◌, ℕ, Some};
 ghost use Rattle.automata_base.specs.Lists.{all_below};
-ghost use Rattle.automata_base.specs.Retraced.ComputedPass.{any_node};
+ghost use Rattle.automata_base.specs.Nfas.Nfa.{any_node};
 ghost use Rattle.automata_base.specs.Haystacks.Looks.{look_index};
 ghost use Rattle.automata_base.specs.Nfas.Nodes.{nodes_of, stack_room};
 ghost use Rattle.automata_base.specs.Nfas.Errors.{transitions_below, state_below, states_below, match_below};
@@ -204,12 +204,6 @@ fn count_alternates(state: &State) -> usize
     }
 }
 
-fn less_one(n: usize) -> usize
-    ensures { result ≡ n - 1 }
-{
-    if n == 0 { 0 } else { n - 1 }
-}
-
 /// The room that the stack of a closure needs, if the unions have at most 2^31 alternates in all.
 pub fn room_of(states: &[State]) -> Option<usize>
     ensures some { (room : ℕ) → result ≡ Some room → room ≡ stack_room states.now }
@@ -224,7 +218,7 @@ pub fn room_of(states: &[State]) -> Option<usize>
             return None;
         }
         total = total + more;
-        room = room + less_one(more);
+        room = room + more.saturating_sub(1);
     }
     Some(room)
 }

@@ -1,11 +1,11 @@
 //! The order in which a depth-first search over epsilon edges finishes states.
 ghost use Rattle.std.specs.Prelude.{◌≡◌, ◌+◌, ◌-◌, ◌*◌, ◌<◌, ◌≤◌, ◌^◌, ℕ, [], ◌∷◌, ◌++◌, true, length, reverse, take};
-ghost use Rattle.std.specs.Prelude.{Some, None, IfOk, OnOk};
+ghost use Rattle.std.specs.Prelude.{Some, None, IfOk, OnOk, slice_get};
 ghost use Rattle.automata_base.specs.Retraced.DepthFirst.{IsUnderSearch, IsWholeOrder};
-ghost use Rattle.automata_base.specs.Lists.{In, nth};
+ghost use Rattle.automata_base.specs.Lists.{In};
 ghost use Rattle.automata_base.specs.Nfas.Nodes.{node_of};
 ghost use Rattle.automata_base.specs.Paths.Paths.{all_true};
-ghost use Rattle.automata_base.specs.Nfas.Reach.{targets_of};
+ghost use Rattle.automata_base.specs.Retraced.Reach.{targets_of};
 ghost use Rattle.automata_base.specs.Nfas.Errors.{state_below, states_below};
 ghost use Rattle.automata_base.specs.Powersets.Closure.{children_at};
 
@@ -37,7 +37,7 @@ fn next_edge(visited: &SparseSet, state: &State, from: usize) -> Option<Edge>
     requires range { state_below visited.now.capacity state.now ≡ true }
     requires followed { (r : ℕ) → In r (take from (children_at (node_of state.now) all_true)) → In r visited.now.items }
     ensures some { (edge : Edge) → result ≡ Some edge
-        → (nth (children_at (node_of state.now) all_true) edge.number ≡ Some edge.target)
+        → (slice_get (children_at (node_of state.now) all_true) edge.number ≡ Some edge.target)
         × (In edge.target visited.now.items → ⊥) × (edge.number < 2 ^ 63) × (edge.target < visited.now.capacity) }
     ensures followed { (edge : Edge) (r : ℕ) → result ≡ Some edge
         → In r (take edge.number (children_at (node_of state.now) all_true)) → In r visited.now.items }

@@ -230,9 +230,9 @@ impl Clone for NFA {
 impl NFA {
     ghost use Rattle.std.specs.Prelude.{◌≡◌, ◌<◌, ◌≤◌, ◌^◌, ◌↔◌, ◌∷◌, ℕ, true, None, Some, Err, IfOk, IsOkUnless};
     ghost use Rattle.std.specs.Prelude.{IsTrue, length};
-    ghost use Rattle.std.specs.Prelude.{slice_get, slice_index_or};
+    ghost use Rattle.std.specs.Prelude.{slice_get};
     ghost use Rattle.automata_base.specs.Powersets.Cuts.{MatchKind};
-    ghost use Rattle.automata_base.specs.Nfas.Decoders.{EndsAtBoundaries, classes_below};
+    ghost use Rattle.automata_base.specs.Retraced.Decoders.{EndsAtBoundaries, classes_below};
     ghost use Rattle.automata_base.specs.Nfas.Accepted.{IsChecked, IsLooks};
     ghost use Rattle.automata_base.specs.Nfas.Engines.{engine_of};
     ghost use Rattle.automata_base.specs.Nfas.Getters.{HasEmpty, IsAlwaysStartAnchored, SkipsLazily};
@@ -342,7 +342,7 @@ impl NFA {
     /// The state with this ID, which has to be below the number of `states`.
     pub fn state(&self, id: StateID) -> &State
         requires { id < length self.now.states }
-        ensures same { result.now ≡ slice_index_or self.now.states id result.now }
+        ensures same { slice_get self.now.states id ≡ Some result.now }
         ensures checked { IsChecked self.now }
     {
         &self.data.states[id.as_usize()]

@@ -1,15 +1,20 @@
 //! Which states edges reach, and what an NFA says of itself by that.
 ghost use Rattle.std.specs.Prelude.{◌≡◌, ◌<◌, ◌≤◌, ◌^◌, ◌↔◌, ℕ, [], ◌∷◌, true, length, get_or, IfOk, IsTrue, Some};
-ghost use Rattle.std.specs.Prelude.{None, take};
+ghost use Rattle.std.specs.Prelude.{List, None, take};
 ghost use Rattle.automata_base.specs.Lists.{all_below, In};
 ghost use Rattle.automata_base.specs.Nfas.Nodes.{node_of, ranges_of, dense_from};
 ghost use Rattle.automata_base.specs.Retraced.Once.{once_from};
 ghost use Rattle.automata_base.specs.Paths.Paths.{all_true};
-ghost use Rattle.automata_base.specs.Nfas.Reach.{node_in, nexts, byte_targets, targets_at, targets_of, IsReached};
-ghost use Rattle.automata_base.specs.Nfas.Reach.{IsMatchAt};
-ghost use Rattle.automata_base.specs.Nfas.Reach.{ReachesMatch};
-ghost use Rattle.automata_base.specs.Nfas.Reach.{second_of, second_at, is_any_byte_of, SkipsFrom};
-ghost use Rattle.automata_base.specs.Nfas.Errors.{transitions_below, state_below, states_below};
+ghost use Rattle.automata_base.specs.Retraced.Reach.{node_in, nexts, byte_targets, targets_at, targets_of, IsReached};
+ghost use Rattle.automata_base.specs.Retraced.Reach.{IsMatchAt};
+ghost use Rattle.automata_base.specs.Retraced.Reach.{ReachesMatch};
+ghost use Rattle.automata_base.specs.Retraced.Reach.{second_of, second_at};
+ghost use Rattle.automata_base.specs.Nfas.Automata.{automaton};
+ghost use Rattle.automata_base.specs.Nfas.Engines.{any_byte};
+ghost use Rattle.automata_base.specs.Nfas.Getters.{SkipsLazily};
+ghost use Rattle.automata_base.specs.Nfas.Nfa.{Read};
+ghost use Rattle.automata_base.specs.declared.nfa.thompson.Flags.{Flags};
+ghost use Rattle.automata_base.specs.Nfas.Errors.{transitions_below, state_below, states_below, states_ordered};
 ghost use Rattle.automata_base.specs.Powersets.Closure.{children_at};
 
 use crate::nfa::thompson::reading::pattern_of;
@@ -268,13 +273,31 @@ fn second_alternate(state: &State, first: StateID) -> Option<StateID>
     }
 }
 
+// Whether a range has each byte, and leads to the target.
+fn is_whole(lo: u8, hi: u8, next: StateID, target: StateID) -> bool
+    ensures { IsTrue result ↔ (Read (record { lo = lo; hi = hi; next = next } ∷ []) ≡ any_byte target) }
+{
+    lo == 0 && hi == 255 && next == target
+}
+
+// Whether they are one range, which is such a one.
+fn are_whole(ranges: &[Transition], target: StateID) -> bool
+    ensures { IsTrue result ↔ (Read (ranges_of ranges.now) ≡ any_byte target) }
+{
+    if ranges.len() != 1 {
+        return false;
+    }
+    let range = ranges[0];
+    is_whole(range.lo, range.hi, range.next, target)
+}
+
 // Whether any byte leads to the target, by one range.
 fn is_any_byte(state: &State, target: StateID) -> bool
-    ensures { result ≡ is_any_byte_of state.now target }
+    ensures { IsTrue result ↔ (node_of state.now ≡ any_byte target) }
 {
     match state {
-        State::ByteRange { lo, hi, next } => *lo == 0 && *hi == 255 && *next == target,
-        State::Sparse(_) => false,
+        State::ByteRange { lo, hi, next } => is_whole(*lo, *hi, *next, target),
+        State::Sparse(ranges) => are_whole(ranges, target),
         State::Dense(_) => false,
         State::Look { .. } => false,
         State::Union { .. } => false,
@@ -294,9 +317,11 @@ pub fn skips_lazily(
 ) -> Result<bool, AllocError>
     requires few { length states.now ≤ 2 ^ 27 }
     requires range { states_below (length states.now) states.now ≡ true }
+    requires ordered { states_ordered states.now ≡ true }
     requires anchored { anchored < length states.now }
     requires unanchored { unanchored < length states.now }
-    ensures { IfOk result (λ skips. IsTrue skips ↔ SkipsFrom states.now anchored unanchored) }
+    ensures { IfOk result (λ skips. (starts : List ℕ) (flags : Flags)
+        → IsTrue skips ↔ SkipsLazily (automaton states.now anchored unanchored starts flags)) }
 {
     if unanchored == anchored {
         return Ok(true);

@@ -1,20 +1,18 @@
 //! What one state of an NFA has: its look, its pattern, and where it leads.
-ghost use Rattle.std.specs.Prelude.{◌≡◌, ◌<◌, ◌||◌, eqb, Some};
-ghost use Rattle.std.specs.Prelude.{None, length, slice_index_or};
+ghost use Rattle.std.specs.Prelude.{◌≡◌, ◌<◌, ◌||◌, eqb, Some, slice_get};
+ghost use Rattle.std.specs.Prelude.{None, length, slice_get};
 ghost use Rattle.automata_base.specs.Nfas.Accepted.{IsChecked};
-ghost use Rattle.automata_base.specs.Lists.{nth};
 ghost use Rattle.automata_base.specs.Paths.Paths.{all_true};
 ghost use Rattle.automata_base.specs.Powersets.Closure.{children_at};
 ghost use Rattle.std.specs.Prelude.{◌⊎◌, ◌^◌};
-ghost use Rattle.automata_base.specs.Nfas.Nfa.{stays_at, accepts_at, takes_at};
-ghost use Rattle.automata_base.specs.Retraced.ComputedPass.{looks_at};
+ghost use Rattle.automata_base.specs.Nfas.Nfa.{stays_at, accepts_at, takes_at, looks_at};
 ghost use Rattle.automata_base.specs.Haystacks.Looks.{look_index};
 ghost use Rattle.automata_base.specs.Nfas.Nodes.{node_of, ranges_of, dense_from};
 ghost use Rattle.automata_base.specs.Haystacks.LookSets.{truth_of};
 ghost use Rattle.automata_base.specs.Haystacks.Looks.{Look};
 ghost use Rattle.automata_base.specs.Nfas.Nfa.{takes_in};
 ghost use Rattle.automata_base.specs.Haystacks.Looks.{within};
-ghost use Rattle.automata_base.specs.Nfas.Reach.{look_target};
+ghost use Rattle.automata_base.specs.Retraced.Reach.{look_target};
 
 use crate::nfa::thompson::{NFA, State, Transition};
 use crate::util::look::LookSet;
@@ -26,7 +24,7 @@ use crate::util::search::MatchKind;
 pub fn state_at<'a>(nfa: &NFA, states: &'a [State], id: StateID) -> &'a State
     requires states { states.now ≡ nfa.now.states }
     requires id { id < length states.now }
-    ensures same { result.now ≡ slice_index_or nfa.now.states id result.now }
+    ensures same { slice_get nfa.now.states id ≡ Some result.now }
     ensures checked { IsChecked nfa.now }
 {
     let _states = nfa.states();
@@ -104,7 +102,7 @@ pub fn look_target(state: &State) -> Option<StateID>
 
 /// The target of the epsilon edge of this number, looks taken as true.
 pub fn epsilon_target(state: &State, edge: usize) -> Option<StateID>
-    ensures same { result ≡ nth (children_at (node_of state.now) all_true) edge }
+    ensures same { result ≡ slice_get (children_at (node_of state.now) all_true) edge }
     ensures few { result ≡ None ⊎ edge < 2 ^ 63 }
 {
     match state {

@@ -1,10 +1,9 @@
 //! The states of a reversed NFA.
 ghost use Rattle.std.specs.Prelude.{◌≡◌, ◌<◌, ◌≤◌, ◌+◌, ◌*◌, ◌^◌, ◌++◌, [], ◌∷◌, true, IfOk, Err, length, sum_by};
 ghost use Rattle.automata_base.specs.Retraced.Copies.{IsFit};
-ghost use Rattle.automata_base.specs.Lists.{all_below};
+ghost use Rattle.automata_base.specs.Lists.{all_below, Distinct};
 ghost use Rattle.automata_base.specs.Nfas.Nfa.{Node};
 ghost use Rattle.automata_base.specs.Nfas.Nodes.{nodes_of};
-ghost use Rattle.automata_base.specs.Retraced.Once.{Distinct};
 ghost use Rattle.automata_base.specs.Nfas.Errors.{states_below, states_ordered};
 ghost use Rattle.automata_base.specs.Nfas.ReversedSizes.{asking_edges};
 ghost use Rattle.automata_base.specs.Retraced.ReversedEdges.{AreTurned, AreReversed};

@@ -1,7 +1,7 @@
 //! The edges of an NFA by their targets, as a reversed NFA needs them.
 ghost use Rattle.std.specs.Prelude.{ℕ, Some, ◌≡◌, ◌<◌, ◌≤◌, ◌+◌, ◌^◌, [], ◌∷◌, ◌++◌, true, IfOk, OnOk, Err, length};
-ghost use Rattle.std.specs.Prelude.{drop, None, slice_index_or};
-ghost use Rattle.automata_base.specs.Lists.{all_below, nth};
+ghost use Rattle.std.specs.Prelude.{drop, None, slice_index_or, slice_get};
+ghost use Rattle.automata_base.specs.Lists.{all_below};
 ghost use Rattle.automata_base.specs.Nfas.Mirrors.{flip};
 ghost use Rattle.automata_base.specs.Nfas.Errors.{transitions_below, state_below, states_below};
 ghost use Rattle.automata_base.specs.Retraced.DenseRuns.{starts_with, run_of, runs_from};
@@ -84,7 +84,7 @@ fn same(state: &State) -> Option<State>
 // The helper that is the only alternate.
 fn only_helper(alternates: &[StateID], helpers: &[State], first: usize) -> Option<State>
     ensures { (state : State) → result ≡ Some state
-        → (j : ℕ) × (alternates.now ≡ (first + j) ∷ []) × (nth helpers.now j ≡ Some state) }
+        → (j : ℕ) × (alternates.now ≡ (first + j) ∷ []) × (slice_get helpers.now j ≡ Some state) }
 {
     if alternates.len() != 1 || alternates[0].as_usize() < first {
         return None;

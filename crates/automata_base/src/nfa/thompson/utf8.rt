@@ -1,13 +1,13 @@
 //! Whether an NFA reads only valid UTF-8: a walk over its product with a decoder of UTF-8.
 ghost use Rattle.std.specs.Prelude.{◌≡◌, ◌<◌, ◌≤◌, ◌^◌, ◌/◌, ◌*◌, ◌↔◌, ℕ, [], ◌∷◌, true, length, IfOk, IsTrue};
-ghost use Rattle.automata_base.specs.Nfas.Decoders.{pair, meets, pairs_in, range_pairs, ranges_pairs, byte_pairs};
-ghost use Rattle.automata_base.specs.Nfas.Decoders.{pairs_at, node_pairs, pairs_of, classes_below, EndsAtBoundaries};
-ghost use Rattle.automata_base.specs.Nfas.Decoders.{IsBoundary};
+ghost use Rattle.automata_base.specs.Retraced.Decoders.{pair, meets, pairs_in, range_pairs, ranges_pairs, byte_pairs};
+ghost use Rattle.automata_base.specs.Retraced.Decoders.{pairs_at, node_pairs, pairs_of, classes_below};
+ghost use Rattle.automata_base.specs.Retraced.Decoders.{EndsAtBoundaries, IsBoundary};
 ghost use Rattle.automata_base.specs.Lists.{all_below, In};
 ghost use Rattle.automata_base.specs.Nfas.Nodes.{node_of, range_of, ranges_of, dense_from};
 ghost use Rattle.automata_base.specs.Retraced.Once.{once_from};
 ghost use Rattle.automata_base.specs.Paths.Paths.{all_true};
-ghost use Rattle.automata_base.specs.Nfas.Reach.{IsReachedBy};
+ghost use Rattle.automata_base.specs.Retraced.Reach.{IsReachedBy};
 ghost use Rattle.automata_base.specs.Nfas.Errors.{transitions_below, state_below, states_below};
 ghost use Rattle.automata_base.specs.Powersets.Closure.{children_at};
 

@@ -7,7 +7,7 @@ ghost use Rattle.automata_base.specs.Nfas.Nfa.{Truth};
 ghost use Rattle.automata_base.specs.Paths.Paths.{IsClosure};
 ghost use Rattle.automata_base.specs.Powersets.Closure.{children_at, IsUnderWay};
 ghost use Rattle.automata_base.specs.Nfas.Nodes.{node_of, nfa_of};
-ghost use Rattle.automata_base.specs.Retraced.Rooms.{IsClosureRoom};
+ghost use Rattle.automata_base.specs.Powersets.Rooms.{IsClosureRoom};
 ghost use Rattle.automata_base.specs.Haystacks.LookSets.{truth_of};
 
 use crate::nfa::thompson::reading::state_at;

@@ -1,18 +1,18 @@
 //! The start states and successors of the powerset construction.
 ghost use Rattle.std.specs.Prelude.{◌≡◌, ◌<◌, ◌≤◌, [], ◌∷◌, List, ℕ, length, true, false, IsTrue, IsFalse};
 ghost use Rattle.std.specs.Prelude.{Option, Some, None, ◌&&◌, vec_capacity};
-ghost use Rattle.automata_base.specs.Retraced.ComputedPass.{known_looks, any_node, is_full};
+ghost use Rattle.automata_base.specs.Retraced.Computed.{known_looks, is_full};
+ghost use Rattle.automata_base.specs.Nfas.Nfa.{any_node};
 ghost use Rattle.automata_base.specs.Powersets.Cuts.{cut, cut_for, targets};
 ghost use Rattle.automata_base.specs.Nfas.Accepted.{IsChecked};
-ghost use Rattle.automata_base.specs.Lists.{In, cons_some};
+ghost use Rattle.automata_base.specs.Lists.{In, cons_some, Distinct};
 ghost use Rattle.automata_base.specs.Haystacks.Looks.{Look, is_word, is_byte, first_half};
 ghost use Rattle.automata_base.specs.Powersets.Results.{AreMatched, IsClosureMade, IsStartMade, IsStepMade};
 ghost use Rattle.automata_base.specs.Nfas.Nodes.{nfa_of};
-ghost use Rattle.automata_base.specs.Retraced.Once.{Distinct};
 ghost use Rattle.automata_base.specs.Powersets.Parts.{powerset_of};
 ghost use Rattle.automata_base.specs.Powersets.Passes.{IsMake, is_word_look, is_crlf_look};
 ghost use Rattle.automata_base.specs.Paths.Paths.{IsClosure};
-ghost use Rattle.automata_base.specs.Retraced.Rooms.{IsClosureRoom, IsPartsRoom, IsStepRoom};
+ghost use Rattle.automata_base.specs.Powersets.Rooms.{IsClosureRoom, IsPartsRoom, IsStepRoom};
 ghost use Rattle.automata_base.specs.Paths.Starts.{IsOf};
 ghost use Rattle.automata_base.specs.Haystacks.LookSets.{truth_of};
 ghost use Rattle.automata_base.specs.Powersets.Closure.{IsUnderWay};

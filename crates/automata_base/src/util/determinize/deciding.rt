@@ -3,7 +3,7 @@ ghost use Rattle.std.specs.Prelude.{◌≡◌, ◌<◌, ◌&&◌, ◌||◌, not,
 ghost use Rattle.std.specs.Prelude.{None};
 ghost use Rattle.automata_base.specs.Haystacks.Looks.{is_word_byte, is_word, is_byte, first_half, second_half};
 ghost use Rattle.automata_base.specs.Powersets.Passes.{decided, true_looks, IsNews};
-ghost use Rattle.automata_base.specs.Retraced.ComputedPass.{always, known_looks};
+ghost use Rattle.automata_base.specs.Retraced.Computed.{always, known_looks};
 ghost use Rattle.automata_base.specs.Haystacks.Looks.{look_index};
 ghost use Rattle.automata_base.specs.Haystacks.LookSets.{truth_of};
 ghost use Rattle.automata_base.specs.Nfas.Nodes.{nfa_of};

@@ -1,7 +1,6 @@
 //! Laws of the bytes of powerset states.
 ghost use Rattle.std.specs.Prelude.{◌≡◌, ◌≤◌, ◌↔◌, IfOk, length};
-ghost use Rattle.std.specs.Prelude.{nat_eq};
-ghost use Rattle.std.specs.List.{IsDistinct};
+ghost use Rattle.automata_base.specs.Lists.{Distinct};
 ghost use Rattle.automata_base.specs.Powersets.Code.{code, decoded};
 ghost use Rattle.automata_base.specs.Powersets.Parts.{powerset_of};
 ghost use Rattle.automata_base.specs.Powersets.Powerset.{Powerset, IsPowerset, cost};
@@ -11,7 +10,7 @@ use std::alloc::{AllocError, Global};
 
 /// What is decoded is what was encoded.
 pub fn round_trip(alloc: Global, parts: &Parts) -> Result<Parts, AllocError>
-    requires { IsDistinct nat_eq parts.now.patterns.items }
+    requires { Distinct parts.now.patterns.items }
     ensures { IfOk result (λ decoded. powerset_of decoded ≡ powerset_of parts.now) }
 {
     let state = State::encode(alloc, parts)?;

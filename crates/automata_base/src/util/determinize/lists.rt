@@ -3,14 +3,14 @@ ghost use Rattle.std.specs.Prelude.{◌≡◌, ◌+◌, ◌<◌, ◌≤◌, [], 
 ghost use Rattle.std.specs.Prelude.{None, false};
 ghost use Rattle.automata_base.specs.Lists.{In, pick};
 ghost use Rattle.automata_base.specs.Nfas.Nfa.{keep};
-ghost use Rattle.automata_base.specs.Retraced.ComputedPass.{any_state};
+ghost use Rattle.automata_base.specs.Retraced.Computed.{any_state};
 ghost use Rattle.automata_base.specs.Haystacks.Looks.{look_index};
 ghost use Rattle.automata_base.specs.Powersets.Cuts.{cut};
 ghost use Rattle.automata_base.specs.Powersets.Results.{AreMatched};
 ghost use Rattle.automata_base.specs.Nfas.Nodes.{nfa_of};
 ghost use Rattle.automata_base.specs.Haystacks.LookSets.{truth_of};
 ghost use Rattle.automata_base.specs.Haystacks.Looks.{Look};
-ghost use Rattle.automata_base.specs.Retraced.ComputedPass.{is_in};
+ghost use Rattle.automata_base.specs.Retraced.Computed.{is_in};
 ghost use Rattle.std.specs.Prelude.{vec_capacity, vec_len, cond};
 
 use crate::nfa::thompson::NFA;

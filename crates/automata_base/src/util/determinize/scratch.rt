@@ -1,7 +1,7 @@
 //! The buffers that determinization works in, allocated once for an NFA.
 ghost use Rattle.std.specs.Prelude.{◌≡◌, ◌+◌, IfOk};
 ghost use Rattle.automata_base.specs.Powersets.Results.{IsStartMade, IsStepMade};
-ghost use Rattle.automata_base.specs.Retraced.Once.{Distinct};
+ghost use Rattle.automata_base.specs.Lists.{Distinct};
 ghost use Rattle.automata_base.specs.Powersets.Parts.{powerset_of};
 ghost use Rattle.automata_base.specs.Paths.Starts.{IsOf};
 

@@ -1,8 +1,7 @@
 //! Sets of NFA states that are cleared at once.
-ghost use Rattle.std.specs.Prelude.{◌≡◌, ◌<◌, ◌≤◌, [], ◌∷◌, ◌++◌, IfOk, IsTrue, IsFalse, Contains};
+ghost use Rattle.std.specs.Prelude.{◌≡◌, ◌<◌, ◌≤◌, [], ◌∷◌, ◌++◌, IfOk, IsTrue, IsFalse};
 ghost use Rattle.std.specs.Prelude.{ℕ, length};
-ghost use Rattle.automata_base.specs.Lists.{In};
-ghost use Rattle.automata_base.specs.Retraced.Once.{Distinct};
+ghost use Rattle.automata_base.specs.Lists.{In, Distinct};
 ghost use Rattle.automata_base.specs.Retraced.ReversedEdges.{place_in};
 
 use crate::util::primitives::StateID;
@@ -22,7 +21,7 @@ impl Model for SparseSet {
 
     ghost Value = { Members };
 
-    ghost use Rattle.automata_base.specs.Retraced.SparseSet.{members_of, IsSparse};
+    ghost use Rattle.automata_base.specs.Powersets.SparseSet.{members_of, IsSparse};
 
     ghost view = { members_of };
 
@@ -80,8 +79,8 @@ impl SparseSet {
     /// Whether a number is in it.
     pub fn contains(&self, id: StateID) -> bool
         requires { id < self.now.capacity }
-        ensures had { IsTrue result → Contains self.now.items id }
-        ensures new { IsFalse result → Contains self.now.items id → ⊥ }
+        ensures had { IsTrue result → In id self.now.items }
+        ensures new { IsFalse result → In id self.now.items → ⊥ }
     {
         let i = self.sparse[id.as_usize()] as usize;
         i < self.len && self.dense[i] == id
@@ -99,9 +98,9 @@ impl SparseSet {
     /// Whether the number is new. It then comes last.
     pub fn insert(&mut self, id: StateID) -> bool
         requires { id < self.old.capacity }
-        ensures new { IsTrue result → Contains self.old.items id → ⊥ }
+        ensures new { IsTrue result → In id self.old.items → ⊥ }
         ensures added { IsTrue result → self.new.items ≡ self.old.items ++ id ∷ [] }
-        ensures had { IsFalse result → Contains self.old.items id }
+        ensures had { IsFalse result → In id self.old.items }
         ensures unchanged { IsFalse result → self.new.items ≡ self.old.items }
         ensures capacity { self.new.capacity ≡ self.old.capacity }
     {

@@ -1,7 +1,7 @@
 //! Powerset states as coded bytes, which are shared.
 ghost use Rattle.std.specs.Prelude.{◌≡◌, ◌≤◌, ◌<◌, [], IfOk, OnOk, IsTrue, ◌↔◌, length, slice_index};
-ghost use Rattle.std.specs.Prelude.{nat_eq, vec_capacity};
-ghost use Rattle.std.specs.List.{IsDistinct};
+ghost use Rattle.std.specs.Prelude.{vec_capacity};
+ghost use Rattle.automata_base.specs.Lists.{Distinct};
 ghost use Rattle.automata_base.specs.Powersets.Code.{code, decoded, IsCode};
 ghost use Rattle.automata_base.specs.Powersets.Powerset.{Powerset, IsPowerset, cost};
 ghost use Rattle.automata_base.specs.Powersets.Parts.{powerset_of};
@@ -41,7 +41,7 @@ pub struct Parts {
 impl Parts {
     /// Whether no pattern repeats.
     pub fn is_without_repeats(&self) -> bool
-        ensures { IsTrue result ↔ IsDistinct nat_eq self.now.patterns.items }
+        ensures { IsTrue result ↔ Distinct self.now.patterns.items }
     {
         are_distinct(&self.patterns)
     }
@@ -64,7 +64,7 @@ impl Parts {
 
     /// Sets the bytes to those of the state. It allocates nothing if there is room.
     pub fn write(&self, out: &mut Vec<u8>) -> Result<(), AllocError>
-        requires { IsDistinct nat_eq self.now.patterns.items }
+        requires { Distinct self.now.patterns.items }
         ensures bytes { OnOk result (out.new.items ≡ code (powerset_of self.now)) }
         ensures code { OnOk result (IsCode out.new.items) }
         ensures state { OnOk result (decoded out.new.items ≡ powerset_of self.now) }
@@ -149,7 +149,7 @@ impl State {
     /// The state of these parts, in which no pattern stands twice: `Parts::is_without_repeats` is the test. The only
     /// error is out of memory.
     pub fn encode(alloc: Global, parts: &Parts) -> Result<State, AllocError>
-        requires { IsDistinct nat_eq parts.now.patterns.items }
+        requires { Distinct parts.now.patterns.items }
         ensures { IfOk result (λ s. s ≡ powerset_of parts.now) }
     {
         let mut bytes = Vec::new(alloc);

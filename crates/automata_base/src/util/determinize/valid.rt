@@ -1,6 +1,7 @@
 //! What the parts of a powerset state have to meet.
 ghost use Rattle.std.specs.Prelude.{◌≡◌, IsTrue, ◌↔◌, nat_eq, false};
-ghost use Rattle.std.specs.List.{AllByRecursion, IsDistinct};
+ghost use Rattle.std.specs.List.{AllByRecursion};
+ghost use Rattle.automata_base.specs.Lists.{Distinct};
 
 use crate::util::primitives::PatternID;
 
@@ -13,7 +14,7 @@ fn is_apart(id: PatternID, ids: &[PatternID]) -> bool
 
 /// Whether none repeats.
 pub fn are_distinct(ids: &[PatternID]) -> bool
-    ensures { IsTrue result ↔ IsDistinct nat_eq ids.now }
+    ensures { IsTrue result ↔ Distinct ids.now }
 {
     let mut rest = ids;
     while let [first, others @ ..] = rest {

@@ -9,7 +9,7 @@ ghost use Rattle.automata_config.specs.Options.{Options, unset, overwritten};
 ghost use Rattle.regex_automata.specs.Regexes.Builds.{BuildsPair, PassesAll, pair_refusal, reverse_refusal, IsRefusal};
 ghost use Rattle.regex_automata.specs.Regexes.SoundPairs.{IsSoundPair};
 ghost use Rattle.regex_automata.specs.declared.hybrid.regex.build.RegexBuildError.TheVariants.{Build as RegexBuild};
-ghost use Rattle.regex_automata.specs.declared.hybrid.regex.build.RegexBuildError.TheVariants.{OutOfMemory as RegexOutOfMemory};
+ghost use Rattle.regex_automata.specs.declared.hybrid.regex.build.RegexBuildError.TheVariants as regex_error;
 
 use crate::hybrid::regex::Regex;
 use crate::hybrid::{BuildError, dfa};
@@ -67,7 +67,7 @@ impl From<ReverseError> for RegexBuildError {
 }
 
 impl From<AllocError> for RegexBuildError {
-    ghost from_gives = { λ _ e. e ≡ RegexOutOfMemory };
+    ghost from_gives = { λ _ e. e ≡ regex_error.OutOfMemory };
 
     fn from(_error: AllocError) -> RegexBuildError {
         RegexBuildError::OutOfMemory
@@ -75,7 +75,7 @@ impl From<AllocError> for RegexBuildError {
 }
 
 impl<T: Drop> From<AllocFailed<T>> for RegexBuildError {
-    ghost from_gives = { λ _ e. e ≡ RegexOutOfMemory };
+    ghost from_gives = { λ _ e. e ≡ regex_error.OutOfMemory };
 
     fn from(_error: AllocFailed<T>) -> RegexBuildError {
         RegexBuildError::OutOfMemory

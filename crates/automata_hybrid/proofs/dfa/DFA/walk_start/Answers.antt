@@ -1,7 +1,6 @@
 use Rattle.std.proofs.Common.{ℕ, ◌≡◌, ◌+◌, ◌-◌, arith, sym, subst}
-use Rattle.std.specs.Prelude.{IfErr, IfOk}
+use Rattle.std.specs.Prelude.{IfErr, IfOk, slice_get}
 use Rattle.automata_base.specs.Answers.Answers.{offset_in}
-use Rattle.automata_base.specs.Lists.{nth}
 use Rattle.automata_base.specs.Haystacks.Tapes.{byte_before}
 use Rattle.automata_hybrid.specs.Searches.Passes.{behind_offset, tape_in}
 use Rattle.automata_hybrid.specs.Steps.Starts.{IsStartAnswer, IsStartEffect, IsStartRefusedAt}
@@ -35,7 +34,7 @@ pub returns-in-Backward-clause-refusal : goal.returns-in-Backward-clause-refusal
 returns-in-Backward-clause-refusal c =
     let at : c.args.input.now.end ≡ c.args.input.now.end - 0 = omega arith in
     subst (λ (w : Way). IfErr c.start_state_reverse.result (IsStartRefusedAt c.args.self.now c.args.input.now.anchored (tape_in (way_of w) c.args.input.now).before (behind_offset (way_of w) c.args.input.now) (offset_in (way_of w) c.args.input.now 0) c.args.cache.now c.start_state_reverse.new.cache)) (sym c.in-Backward.is)
-    (subst (λ (n : ℕ). IfErr c.start_state_reverse.result (IsStartRefusedAt c.args.self.now c.args.input.now.anchored (nth c.args.input.now.haystack c.args.input.now.end) c.args.input.now.end n c.args.cache.now c.start_state_reverse.new.cache)) at
+    (subst (λ (n : ℕ). IfErr c.start_state_reverse.result (IsStartRefusedAt c.args.self.now c.args.input.now.anchored (slice_get c.args.input.now.haystack c.args.input.now.end) c.args.input.now.end n c.args.cache.now c.start_state_reverse.new.cache)) at
     c.start_state_reverse.ensures.refusal)
 
 pub returns-in-Backward-clause-effect : goal.returns-in-Backward-clause-effect

@@ -1,4 +1,4 @@
-use Rattle.std.proofs.Common.{◌∙◌, ap, subst}
+use Rattle.std.proofs.Common.{◌∙◌, ap, arith, subst}
 use Rattle.automata_base.specs.Nfas.Nodes.{Automaton}
 use Rattle.automata_base.specs.Answers.Spans.{Found, IsSpan, TryFinds, from}
 use Rattle.automata_base.specs.Answers.OfPasses.{ReportedEndsAreRight, ReportedIsRight}
@@ -9,7 +9,8 @@ use Rattle.regex_automata.proofs.Spans.Lists.{collected_begins, collected_right}
 use Rattle.regex_automata.proofs.Replies.MatchLists.{may_refuse_next, memory_after}
 use Rattle.regex_automata.proofs.Replies.Contracts.{are_stores}
 use Rattle.regex_automata.proofs.Spans.ByPaths.{match_right, outcome_right}
-use Rattle.regex_automata.proofs.Spans.Ends.{collected_first, first_few, first_place, first_rise}
+use Rattle.automata_base.proofs.Answers.Rising.{first_few, first_rise}
+use Rattle.regex_automata.proofs.Spans.Ends.{collected_first, find_lies, first_place}
 use Rattle.regex_automata.proofs.replay.iteration.matches_upto.Goals as goal
 
 pub returns-clause-of : goal.returns-clause-of
@@ -39,8 +40,8 @@ returns-clause-returned c =
           ms error s.found;
       spans = right;
       beginning = λ sound whole spans. collected_begins (IsSpan (forward_engine p)) (c.start_is_right.ensures.one.span (forward_engine p)) input ms whole error (right sound) spans;
-      rise = first_rise p input within ms first;
-      few = first_few p input within ms first;
+      rise = first_rise (FindsMatch p) input (find_lies p) within ms first;
+      few = let k = first_few (FindsMatch p) input (find_lies p) within ms first in omega (arith, k);
       errors = may_refuse_next p cache input ms error of s.refusal;
       unsupported = s.unsupported;
       free = memory_after p input ms error (first_place p input within ms first) (may_refuse_next p cache input ms error of s.refusal);

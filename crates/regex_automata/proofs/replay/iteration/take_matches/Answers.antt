@@ -2,7 +2,8 @@ use Rattle.std.proofs.Common.{◌≡◌, ◌∙◌, [], ◌∷◌, ◌++◌, Non
 use Rattle.automata_base.specs.Haystacks.Input.{Input}
 use Rattle.automata_base.specs.Haystacks.Matches.{Match}
 use Rattle.automata_config.specs.declared.error.SearchError.TheVariants as search
-use Rattle.regex_automata.specs.Spans.Iteration.{AreFirst, IsNextRefusal, input_at}
+use Rattle.regex_automata.specs.Spans.Iteration.{IsNextRefusal, input_at}
+use Rattle.automata_base.specs.Answers.Spans.{AreFirst}
 use Rattle.regex_automata.specs.Spans.Outcomes.{FindsMatch}
 use Rattle.regex_automata.proofs.Spans.Lists.{collected, comes_first, comes_turn, input_turn, item_match, item_none}
 use Rattle.regex_automata.proofs.Spans.Lists.{turn}

@@ -22,10 +22,10 @@ returns-clause-returned c =
     let given = c.take_tokens.ensures.given in
     record {
       given = given;
-      found = found_by m input.haystack input.end few (λ i. WithoutBase (IsFound Forward m i)) (λ place o returned. returned.found)
+      found = found_by m input.haystack input.end few (λ i. WithoutBase (IsFound Forward m i)) (λ offset o returned. returned.found)
           input.start ts error given;
       paths = λ acyclic. found_by m input.haystack input.end few (λ i. WithoutBase (IsAnswer Forward (engine_of m.nfa (match_kind_of m.config)) i))
-          (λ place o returned. returned.answer acyclic) input.start ts error given;
+          (λ offset o returned. returned.answer acyclic) input.start ts error given;
       beginning = begins m input.haystack input.end few input.start ts error given;
       whole = λ none. tiles m input.haystack input.end few input.start ts
           (subst (λ (e : Option TokenError). AreGiven m input.haystack input.end input.start ts e) none given);

@@ -1,4 +1,4 @@
-use Rattle.std.proofs.Common.{ℕ, ◌≡◌, ◌∙◌, refl, sym, ap, subst}
+use Rattle.std.proofs.Common.{◌≡◌, ◌∙◌, refl, sym, ap, subst}
 use Rattle.std.specs.Prelude.{IfErr, Ok}
 use Rattle.automata_base.specs.Haystacks.Input.{Input}
 use Rattle.automata_base.specs.Haystacks.Matches.{Match}
@@ -13,20 +13,15 @@ use Rattle.regex_automata.proofs.Spans.Costs.{cost_anchored}
 use Rattle.regex_automata.proofs.Results.{is_err}
 use Rattle.regex_automata.proofs.TokenLists.Tiling.{error_is_given, token_is_given}
 use Rattle.regex_automata.proofs.TokenLists.Refusals.{error_learns, error_leaves, error_of_input, token_learns, token_leaves}
+use Rattle.automata_base.proofs.Answers.Once.{match_is}
 use Rattle.regex_automata.proofs.tokens.iterate.token_at.Goals as goal
-
--- matches with equal parts are equal
-same_match :
-    (p q s t e f : ℕ) → p ≡ q → s ≡ t → e ≡ f
-    → ◌≡◌ {A = Match} (record { pattern = p; start = s; end = e }) (record { pattern = q; start = t; end = f })
-same_match p q s t e f a b d = cc
 
 pub returns-in_err-token-clause-item : goal.returns-in_err-token-clause-item
 returns-in_err-token-clause-item c =
     let m = c.args.regex.now.forward in
     let store = c.try_search_fwd-found.new.cache.store in
     let h = c.args.haystack.now in
-    let place = c.args.place in
+    let offset = c.args.offset in
     let found = c.try_search_fwd-found.result in
     let returned =
     subst (λ i. IsHalf Forward m i found) c.asked-input.ensures
@@ -35,9 +30,9 @@ returns-in_err-token-clause-item c =
     subst (λ i. IfErr found (IsRefused Forward m store i)) c.asked-input.ensures
     (subst (λ n. IfErr found (IsRefused Forward n store c.asked-input.result)) c.forward-dfa.ensures c.try_search_fwd-found.ensures.refusal) in
     let given =
-    error_is_given m h c.args.end c.requires.within.1 store place found c.in_err-token.field-0.0 c.requires.ahead returned errors
+    error_is_given m h c.args.end c.requires.within.1 store offset found c.in_err-token.field-0.0 c.requires.ahead returned errors
     (sym c.in_err-token.was ∙ c.item.ensures) in
-    subst (IsGivenAt m store h c.args.end place) (sym (is_err c.from_residual.result _ c.from_residual.ensures.1)) given
+    subst (IsGivenAt m store h c.args.end offset) (sym (is_err c.from_residual.result _ c.from_residual.ensures.1)) given
 
 pub returns-clause-item : goal.returns-clause-item
 returns-clause-item c =
@@ -49,35 +44,35 @@ returns-clause-item c =
     (subst (λ n. IsHalf Forward n c.asked-input.result found) c.forward-dfa.ensures c.try_search_fwd-found.ensures.half) in
     let same : match_of c.new.result ≡ token =
     c.new.ensures.found
-    ∙ same_match _ token.pattern _ token.start _ token.end c.pattern.ensures c.span.ensures.start c.span.ensures.end in
-    token_is_given m c.args.haystack.now c.args.end c.requires.within.1 c.args.place c.new.result found c.requires.ahead returned
+    ∙ match_is _ token c.pattern.ensures c.span.ensures.start c.span.ensures.end in
+    token_is_given m c.args.haystack.now c.args.end c.requires.within.1 c.args.offset c.new.result found c.requires.ahead returned
     (ap (λ (t : Match). Ok t) same ∙ sym c.in_ok-token.was ∙ c.item.ensures) c.new.ensures.bytes
 
 pub returns-in_err-token-clause-effect : goal.returns-in_err-token-clause-effect
 returns-in_err-token-clause-effect c =
     let new = c.try_search_fwd-found.new.cache in
     let found = c.try_search_fwd-found.result in
-    let s : IsSearchEffect Forward c.args.regex.now.forward (asked c.args.haystack.now c.args.end c.args.place) c.args.cache.now.forward new found =
-    subst (λ (m : Machine). IsSearchEffect Forward m (asked c.args.haystack.now c.args.end c.args.place) c.args.cache.now.forward new found) c.forward-dfa.ensures
+    let s : IsSearchEffect Forward c.args.regex.now.forward (asked c.args.haystack.now c.args.end c.args.offset) c.args.cache.now.forward new found =
+    subst (λ (m : Machine). IsSearchEffect Forward m (asked c.args.haystack.now c.args.end c.args.offset) c.args.cache.now.forward new found) c.forward-dfa.ensures
     (subst (λ (i : Input). IsSearchEffect Forward c.forward-dfa.result.now i c.args.cache.now.forward new found) c.asked-input.ensures
     (subst (λ (old : CacheView). IsSearchEffect Forward c.forward-dfa.result.now c.asked-input.result old new found) c.forward_mut.ensures.value c.try_search_fwd-found.ensures.effect)) in
     record {
-      cost = cost_anchored Forward c.args.regex.now.forward (asked c.args.haystack.now c.args.end c.args.place) c.args.cache.now.forward new refl s.cost s.grown;
+      cost = cost_anchored Forward c.args.regex.now.forward (asked c.args.haystack.now c.args.end c.args.offset) c.args.cache.now.forward new refl s.cost s.grown;
       grown = s.grown;
       learned = λ nothing.
-          subst (HasLearnedAt c.args.regex.now.forward new.store c.args.haystack.now c.args.end c.args.place)
+          subst (HasLearnedAt c.args.regex.now.forward new.store c.args.haystack.now c.args.end c.args.offset)
           (sym (is_err c.from_residual.result _ c.from_residual.ensures.1))
-          (error_learns c.args.regex.now.forward new.store c.args.haystack.now c.args.end c.args.place found c.in_err-token.field-0.0
+          (error_learns c.args.regex.now.forward new.store c.args.haystack.now c.args.end c.args.offset found c.in_err-token.field-0.0
           (s.learned nothing) (sym c.in_err-token.was ∙ c.item.ensures));
       known = λ knows. (
           let still = s.known knows in (
             still.0,
             if_err c.from_residual.result _ _ c.from_residual.ensures.1
-                (error_of_input c.args.place found c.in_err-token.field-0.0 still.1 (sym c.in_err-token.was ∙ c.item.ensures)),
+                (error_of_input c.args.offset found c.in_err-token.field-0.0 still.1 (sym c.in_err-token.was ∙ c.item.ensures)),
           ));
-      progress = subst (LeavesAt c.args.regex.now.forward c.args.haystack.now c.args.end c.args.place c.args.cache.now.forward.store new.store)
+      progress = subst (LeavesAt c.args.regex.now.forward c.args.haystack.now c.args.end c.args.offset c.args.cache.now.forward.store new.store)
           (sym (is_err c.from_residual.result _ c.from_residual.ensures.1))
-          (error_leaves c.args.regex.now.forward c.args.haystack.now c.args.end c.args.place c.args.cache.now.forward.store new.store found c.in_err-token.field-0.0
+          (error_leaves c.args.regex.now.forward c.args.haystack.now c.args.end c.args.offset c.args.cache.now.forward.store new.store found c.in_err-token.field-0.0
           s.ended s.left (sym c.in_err-token.was ∙ c.item.ensures));
     }
 
@@ -85,17 +80,17 @@ pub returns-clause-effect : goal.returns-clause-effect
 returns-clause-effect c =
     let new = c.try_search_fwd-found.new.cache in
     let found = c.try_search_fwd-found.result in
-    let s : IsSearchEffect Forward c.args.regex.now.forward (asked c.args.haystack.now c.args.end c.args.place) c.args.cache.now.forward new found =
-    subst (λ (m : Machine). IsSearchEffect Forward m (asked c.args.haystack.now c.args.end c.args.place) c.args.cache.now.forward new found) c.forward-dfa.ensures
+    let s : IsSearchEffect Forward c.args.regex.now.forward (asked c.args.haystack.now c.args.end c.args.offset) c.args.cache.now.forward new found =
+    subst (λ (m : Machine). IsSearchEffect Forward m (asked c.args.haystack.now c.args.end c.args.offset) c.args.cache.now.forward new found) c.forward-dfa.ensures
     (subst (λ (i : Input). IsSearchEffect Forward c.forward-dfa.result.now i c.args.cache.now.forward new found) c.asked-input.ensures
     (subst (λ (old : CacheView). IsSearchEffect Forward c.forward-dfa.result.now c.asked-input.result old new found) c.forward_mut.ensures.value c.try_search_fwd-found.ensures.effect)) in
     record {
-      cost = cost_anchored Forward c.args.regex.now.forward (asked c.args.haystack.now c.args.end c.args.place) c.args.cache.now.forward new refl s.cost s.grown;
+      cost = cost_anchored Forward c.args.regex.now.forward (asked c.args.haystack.now c.args.end c.args.offset) c.args.cache.now.forward new refl s.cost s.grown;
       grown = s.grown;
       learned = λ nothing.
-          token_learns c.args.regex.now.forward new.store c.args.haystack.now c.args.end c.args.place found c.new.result c.in_ok-token.token
+          token_learns c.args.regex.now.forward new.store c.args.haystack.now c.args.end c.args.offset found c.new.result c.in_ok-token.token
           (s.learned nothing) (sym c.in_ok-token.was ∙ c.item.ensures);
       known = λ knows. ((s.known knows).0, tt);
-      progress = token_leaves c.args.regex.now.forward c.args.haystack.now c.args.end c.args.place c.args.cache.now.forward.store new.store found c.new.result c.in_ok-token.token
+      progress = token_leaves c.args.regex.now.forward c.args.haystack.now c.args.end c.args.offset c.args.cache.now.forward.store new.store found c.new.result c.in_ok-token.token
           s.ended (sym c.in_ok-token.was ∙ c.item.ensures);
     }

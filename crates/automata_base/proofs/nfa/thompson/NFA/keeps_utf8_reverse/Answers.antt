@@ -1,7 +1,7 @@
 use Rattle.std.proofs.Common.{◌↔◌, ◌∷◌, sym, ◌∙◌}
 use Rattle.std.specs.Prelude.{IsTrue}
 use Rattle.automata_base.specs.Powersets.Cuts.{MatchKind}
-use Rattle.automata_base.specs.Nfas.Decoders.{EndsAtBoundaries}
+use Rattle.automata_base.specs.Retraced.Decoders.{EndsAtBoundaries}
 use Rattle.automata_base.specs.Nfas.Engines.{engine_of}
 use Rattle.automata_base.specs.Haystacks.Tapes.{Backward}
 use Rattle.automata_base.specs.Answers.TruePairs.{KeepsUtf8}

@@ -1,12 +1,13 @@
 use Rattle.std.proofs.Common.{◌≡◌, ◌<◌, ◌≤◌, ◌↔◌, true, eqb, length, sym, ap, ◌∙◌, subst}
 use Rattle.std.specs.Prelude.{IsTrue}
-use Rattle.automata_base.specs.Nfas.Automata.{IsConsistent}
+use Rattle.automata_base.specs.Nfas.Automata.{IsConsistent, automaton}
 use Rattle.automata_base.specs.Lists.{all_below}
-use Rattle.automata_base.specs.Retraced.ComputedPass.{any_node}
+use Rattle.automata_base.specs.Nfas.Nfa.{any_node}
 use Rattle.automata_base.specs.Haystacks.Looks.{look_index}
 use Rattle.automata_base.specs.Nfas.Nodes.{nodes_of}
-use Rattle.automata_base.specs.Nfas.Reach.{AreLooksAcyclic, ReachesMatch, SkipsFrom}
-use Rattle.automata_base.specs.Nfas.Errors.{states_below}
+use Rattle.automata_base.specs.Retraced.Reach.{AreLooksAcyclic, ReachesMatch}
+use Rattle.automata_base.specs.Nfas.Getters.{SkipsLazily}
+use Rattle.automata_base.specs.Nfas.Errors.{states_below, states_ordered}
 use Rattle.automata_base.specs.declared.nfa.thompson.Data.{Data}
 use Rattle.automata_base.proofs.Powersets.Sound.{sound}
 use Rattle.automata_base.proofs.Nfas.Reach.Refused.{passing}
@@ -29,6 +30,7 @@ skips_lazily-requires c =
     record {
       few = subst (λ s. length s ≤ 134217728) (sym c.as_slice-3.ensures.value) tests.small;
       range = subst (λ s. states_below (length s) s ≡ true) (sym c.as_slice-3.ensures.value) tests.range;
+      ordered = subst (λ s. states_ordered s ≡ true) (sym c.as_slice-3.ensures.value) tests.ordered;
       anchored = subst (λ s. c.args.start_anchored < length s) (sym c.as_slice-3.ensures.value) tests.anchored;
       unanchored = subst (λ s. c.args.start_unanchored < length s) (sym c.as_slice-3.ensures.value) tests.unanchored;
     }
@@ -61,7 +63,7 @@ invariant_of-result c =
     c.requires.room
     (subst (λ s. IsTrue c.in_ok-has_empty.has_empty ↔ ReachesMatch s c.args.start_pattern.items) c.as_slice.ensures.value
     (subst (λ t. IsTrue c.in_ok-has_empty.has_empty ↔ ReachesMatch c.as_slice.result.now t) c.as_slice-2.ensures.value c.in_ok-has_empty.ensures))
-    (subst (λ s. IsTrue c.in_ok-skips_lazily.skips_lazily ↔ SkipsFrom s c.args.start_anchored c.args.start_unanchored) c.as_slice-3.ensures.value
-    c.in_ok-skips_lazily.ensures)
+    (subst (λ s. IsTrue c.in_ok-skips_lazily.skips_lazily ↔ SkipsLazily (automaton s c.args.start_anchored c.args.start_unanchored c.args.start_pattern.items c.args.flags)) c.as_slice-3.ensures.value
+    (c.in_ok-skips_lazily.ensures c.args.start_pattern.items c.args.flags))
     (subst (λ s. IsTrue c.in_ok-is_look_acyclic.is_look_acyclic ↔ AreLooksAcyclic s) c.as_slice-4.ensures.value
     c.in_ok-is_look_acyclic.ensures))

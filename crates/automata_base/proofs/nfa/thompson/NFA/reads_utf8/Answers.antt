@@ -1,6 +1,6 @@
 use Rattle.std.proofs.Common.{◌≡◌, ◌<◌, ◌≤◌, ◌↔◌, ◌∷◌, true, length, IfOk, sym, subst}
 use Rattle.std.specs.Prelude.{IsTrue}
-use Rattle.automata_base.specs.Nfas.Decoders.{EndsAtBoundaries}
+use Rattle.automata_base.specs.Retraced.Decoders.{EndsAtBoundaries}
 use Rattle.automata_base.specs.Lists.{all_below}
 use Rattle.automata_base.specs.Nfas.Errors.{states_below}
 use Rattle.automata_base.proofs.Nfas.Reach.InRange.{below_each, checked_below}

@@ -1,10 +1,10 @@
 use Rattle.std.proofs.Common.{List, [], ◌∷◌, ◌≡◌, ◌↔◌, true, length, sym, subst}
 use Rattle.std.specs.Prelude.{IsTrue}
 use Rattle.automata_base.specs.declared.nfa.thompson.State.{State}
-use Rattle.automata_base.specs.Nfas.Reach.{ReachesMatch}
+use Rattle.automata_base.specs.Retraced.Reach.{ReachesMatch}
 use Rattle.automata_base.specs.Nfas.Errors.{states_below, states_ordered}
 use Rattle.automata_base.proofs.Nfas.Reach.InRange.{checked_below}
-use Rattle.automata_base.proofs.Nfas.Mirrors.Begins.{alike_begins, apart, begins_alike, skips_begins, together}
+use Rattle.automata_base.proofs.Nfas.Mirrors.Begins.{alike_begins, apart, begins_alike, together}
 use Rattle.automata_base.proofs.Nfas.Mirrors.Pairs.{patterns_turned, reversed_true}
 use Rattle.automata_base.proofs.Nfas.Mirrors.Made.{whole_made}
 use Rattle.automata_base.proofs.nfa.thompson.NFA.reversed.Goals as goal
@@ -54,7 +54,7 @@ returns-clause-pair c = λ skips kind.
     (subst (λ (z : List State). IsTrue c.in_ok-begins.begins ↔ ReachesMatch z (c.start_anchored-first.result ∷ [])) c.states-states.ensures.same
     c.in_ok-begins.ensures)) c.has_empty.ensures
     (together c.in_ok-begins.begins c.has_empty.result c.if-begins-has_empty.false))
-    (skips_begins c.args.self.now kind skips)
+    skips
 
 pub returns-clause-patterns : goal.returns-clause-patterns
 returns-clause-patterns c =

@@ -1,5 +1,5 @@
 use Rattle.std.proofs.Common.{◌||◌, ◌∙◌, ap, eqb}
-use Rattle.automata_base.specs.Retraced.ComputedPass.{any_node}
+use Rattle.automata_base.specs.Nfas.Nfa.{any_node}
 use Rattle.automata_base.specs.Haystacks.Looks.{look_index}
 use Rattle.automata_base.specs.Nfas.Nodes.{nodes_of}
 use Rattle.automata_base.specs.Haystacks.LookSets.{truth_of}

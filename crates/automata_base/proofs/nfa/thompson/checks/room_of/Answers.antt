@@ -15,7 +15,7 @@ loop-i-preserved c =
     sum_next extra_of c.args.states.now c.loop-i.i c.index-states-i.result c.loop-i-test.true c.index-states-i.is in
     let e : extra_of c.index-states-i.result ≡ alternates_of c.index-states-i.result - 1 = extra_is c.index-states-i.result in
     let n : c.count_alternates-more.result ≡ alternates_of c.index-states-i.result = c.count_alternates-more.ensures.count in
-    let o : c.less_one-room.result ≡ c.count_alternates-more.result - 1 = c.less_one-room.ensures in
+    let o : c.saturating_sub-room.result ≡ c.count_alternates-more.result - 1 = c.saturating_sub-room.ensures in
     let t : c.count_alternates-more.result ≤ 2147483648 - c.loop-i.total = c.if-more-total.false in
     let p : c.loop-i.total ≡ sum_by alternates_of (take c.loop-i.i c.args.states.now) = c.loop-i.invariant.0 in
     let q : c.loop-i.room ≡ 1 + sum_by extra_of (take c.loop-i.i c.args.states.now) = c.loop-i.invariant.1 in

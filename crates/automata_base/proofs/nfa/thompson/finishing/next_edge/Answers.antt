@@ -2,12 +2,12 @@ use Rattle.std.proofs.Common.{ℕ, ◌≡◌, ◌+◌, ◌-◌, ◌<◌, ◌⊎�
 use Rattle.std.proofs.Common.{subst, arith}
 use Rattle.automata_base.specs.declared.nfa.thompson.State.{State}
 use Rattle.automata_base.specs.declared.nfa.thompson.finishing.Edge.{Edge}
-use Rattle.automata_base.specs.Lists.{In, nth}
+use Rattle.automata_base.specs.Lists.{In}
+use Rattle.std.specs.Prelude.{slice_get}
 use Rattle.automata_base.specs.Nfas.Nodes.{node_of}
 use Rattle.automata_base.specs.Paths.Paths.{all_true}
 use Rattle.automata_base.specs.Nfas.Errors.{state_below}
 use Rattle.automata_base.specs.Powersets.Closure.{children_at}
-use Rattle.automata_base.proofs.Powersets.Distinct.{Contains-In, In-Contains}
 use Rattle.automata_base.proofs.Powersets.ListTests.{node_fits}
 use Rattle.automata_base.proofs.Paths.Checked.{children_below}
 use Rattle.automata_base.proofs.Paths.Orders.{none_some}
@@ -23,7 +23,7 @@ is_few : (found : _) (t k : ℕ) → found ≡ Some t → (found ≡ None) ⊎ (
 is_few found t k e (inl none) = absurd (none_some (sym none ∙ e))
 is_few found t k e (inr l) = l
 
-inside : (n : ℕ) (state : State) (k x : ℕ) → state_below n state ≡ true → nth (children_at (node_of state) all_true) k ≡ Some x → x < n
+inside : (n : ℕ) (state : State) (k x : ℕ) → state_below n state ≡ true → slice_get (children_at (node_of state) all_true) k ≡ Some x → x < n
 inside n state k x range e =
     children_below n (node_of state) all_true x (node_fits n state range) (nth_in (children_at (node_of state) all_true) k x e)
 
@@ -34,11 +34,11 @@ contains-requires c =
 
 pub returns-then-not-contains-clause-some : goal.returns-then-not-contains-clause-some
 returns-then-not-contains-clause-some c = λ edge e.
-    subst (λ (z : Edge). (nth (children_at (node_of c.args.state.now) all_true) z.number ≡ Some z.target)
+    subst (λ (z : Edge). (slice_get (children_at (node_of c.args.state.now) all_true) z.number ≡ Some z.target)
     × (In z.target c.args.visited.now.items → ⊥) × (z.number < 9223372036854775808) × (z.target < c.args.visited.now.capacity))
     (same_edge (record { number = c.loop-target.number; target = c.in-Some.target }) edge e) (
       sym c.epsilon_target.ensures.same ∙ c.in-Some.is,
-      λ i. c.if-not-contains.ensures.new refl (Contains-In c.in-Some.target c.args.visited.now.items i),
+      c.if-not-contains.ensures.new refl,
       is_few c.epsilon_target.result c.in-Some.target c.loop-target.number c.in-Some.is c.epsilon_target.ensures.few,
       inside c.args.visited.now.capacity c.args.state.now c.loop-target.number c.in-Some.target c.requires.range
           (sym c.epsilon_target.ensures.same ∙ c.in-Some.is),
@@ -68,7 +68,7 @@ loop-target-preserved c = λ r i.
     go r (inl j) = c.loop-target.invariant r j
     go r (inr e) =
         subst (λ z. In z c.args.visited.now.items) (sym e)
-        (In-Contains c.in-Some.target c.args.visited.now.items (c.if-not-contains.ensures.had refl))
+        (c.if-not-contains.ensures.had refl)
 
 pub returns-clause-none : goal.returns-clause-none
 returns-clause-none c = λ r _ i.

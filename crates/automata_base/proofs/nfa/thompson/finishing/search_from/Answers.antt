@@ -3,18 +3,16 @@ use Rattle.std.proofs.lemmas.List.{nil_from_length}
 use Rattle.automata_base.specs.declared.nfa.thompson.finishing.Frame.{Frame}
 use Rattle.automata_base.specs.declared.nfa.thompson.reach.Edges.TheVariants.{Epsilon}
 use Rattle.automata_base.specs.Retraced.DepthFirst.{IsUnderSearch}
-use Rattle.automata_base.specs.Nfas.Reach.{targets_of}
-use Rattle.automata_base.proofs.Powersets.Distinct.{Contains-In, In-Contains}
+use Rattle.automata_base.specs.Retraced.Reach.{targets_of}
 use Rattle.automata_base.proofs.Nfas.Reach.DepthFirst.{search_starts, stack_top}
 use Rattle.automata_base.proofs.nfa.thompson.finishing.search_from.Goals as goal
 
 pub returns-then-contains-clause-root : goal.returns-then-contains-clause-root
 returns-then-contains-clause-root c =
-    In-Contains c.args.root c.args.visited.now.items (c.contains.ensures.had c.if-contains.true)
+    c.contains.ensures.had c.if-contains.true
 
 pub mark-requires-clause-new : goal.mark-requires-clause-new
-mark-requires-clause-new c = λ i.
-    c.contains.ensures.new c.if-contains.false (Contains-In c.args.root c.args.visited.now.items i)
+mark-requires-clause-new c = c.contains.ensures.new c.if-contains.false
 
 pub loop-frame-init : goal.loop-frame-init
 loop-frame-init c =

@@ -2,8 +2,9 @@ use Rattle.std.proofs.Common.{ℕ, ◌≡◌, ◌+◌, ◌<◌, ◌∷◌, lengt
 use Rattle.automata_base.specs.declared.nfa.thompson.finishing.Frame.{Frame}
 use Rattle.automata_base.specs.declared.nfa.thompson.reach.Edges.TheVariants.{Epsilon}
 use Rattle.automata_base.specs.Retraced.DepthFirst.{IsUnderSearch}
-use Rattle.automata_base.specs.Lists.{In, nth}
-use Rattle.automata_base.specs.Nfas.Reach.{targets_of}
+use Rattle.automata_base.specs.Lists.{In}
+use Rattle.std.specs.Prelude.{slice_get}
+use Rattle.automata_base.specs.Retraced.Reach.{targets_of}
 use Rattle.automata_base.specs.Nfas.Errors.{states_below}
 use Rattle.automata_base.proofs.Nfas.Reach.Adding.{state_at_below}
 use Rattle.automata_base.proofs.Nfas.Reach.DepthFirst.{search_done, search_enters, stack_two, read_at, edges_at}
@@ -52,5 +53,5 @@ returns-in_ok-push-in-Some-2-clause-search c =
     (sym c.mark.ensures.items)
     (search_enters (length c.args.states.now) (targets_of Epsilon c.args.states.now) c.args.visited.now.items c.args.finished.now.items
     c.args.frame (reverse c.args.stack.now.items) c.requires.search again next edge id refl refl refl refl below
-    (ap (λ z. nth z edge) (edges_at c.args.states.now c.as_usize.result c.args.frame.state c.index-states-as_usize.result c.requires.search.follows.0 c.as_usize.ensures.value c.index-states-as_usize.is) ∙ some.0)
+    (ap (λ z. slice_get z edge) (edges_at c.args.states.now c.as_usize.result c.args.frame.state c.index-states-as_usize.result c.requires.search.follows.0 c.as_usize.ensures.value c.index-states-as_usize.is) ∙ some.0)
     (λ r i. c.in-Some.ensures.followed c.in-Some.edge r refl (subst (λ z. In r (take edge z)) (edges_at c.args.states.now c.as_usize.result c.args.frame.state c.index-states-as_usize.result c.requires.search.follows.0 c.as_usize.ensures.value c.index-states-as_usize.is) i))))

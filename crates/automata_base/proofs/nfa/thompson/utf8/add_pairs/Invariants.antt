@@ -1,5 +1,5 @@
 use Rattle.std.proofs.Common.{◌≡◌, drop}
-use Rattle.automata_base.specs.Nfas.Decoders.{pairs_at}
+use Rattle.automata_base.specs.Retraced.Decoders.{pairs_at}
 use Rattle.automata_base.specs.Retraced.Once.{once_from}
 use Rattle.automata_base.proofs.nfa.thompson.utf8.add_pairs.Given as goal
 

@@ -1,5 +1,5 @@
 use Rattle.std.proofs.Common.{[], ◌∙◌}
-use Rattle.automata_base.specs.Nfas.Decoders.{range_pairs}
+use Rattle.automata_base.specs.Retraced.Decoders.{range_pairs}
 use Rattle.automata_base.specs.Nfas.Nodes.{range_of}
 use Rattle.automata_base.specs.Retraced.Once.{once_from}
 use Rattle.automata_base.proofs.Nfas.Utf8.Adding.{class_below, class_next}

@@ -1,5 +1,5 @@
 use Rattle.std.proofs.Common.{ap, ◌∙◌, sym}
-use Rattle.automata_base.specs.Nfas.Decoders.{pairs_at, byte_pairs}
+use Rattle.automata_base.specs.Retraced.Decoders.{pairs_at, byte_pairs}
 use Rattle.automata_base.specs.Nfas.Nodes.{node_of}
 use Rattle.automata_base.specs.Retraced.Once.{once_from}
 use Rattle.automata_base.specs.Paths.Paths.{all_true}

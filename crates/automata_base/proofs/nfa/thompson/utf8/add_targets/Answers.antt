@@ -1,5 +1,5 @@
 use Rattle.std.proofs.Common.{◌/◌, ◌<◌, get_or, length, arith, ap, ◌∙◌}
-use Rattle.automata_base.specs.Nfas.Decoders.{ranges_pairs}
+use Rattle.automata_base.specs.Retraced.Decoders.{ranges_pairs}
 use Rattle.automata_base.specs.Lists.{all_below}
 use Rattle.automata_base.specs.Nfas.Nodes.{dense_from}
 use Rattle.automata_base.specs.Retraced.Once.{once_from}

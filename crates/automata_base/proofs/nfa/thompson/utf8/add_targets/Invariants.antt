@@ -1,5 +1,5 @@
 use Rattle.std.proofs.Common.{◌≡◌, drop}
-use Rattle.automata_base.specs.Nfas.Decoders.{ranges_pairs}
+use Rattle.automata_base.specs.Retraced.Decoders.{ranges_pairs}
 use Rattle.automata_base.specs.Nfas.Nodes.{dense_from}
 use Rattle.automata_base.specs.Retraced.Once.{once_from}
 use Rattle.automata_base.proofs.nfa.thompson.utf8.add_targets.Given as goal

@@ -1,6 +1,6 @@
 use Rattle.std.proofs.Common.{subst, sym, ◌∙◌}
 use Rattle.std.proofs.lemmas.Bool.{false≢true}
-use Rattle.automata_base.specs.Nfas.Decoders.{IsBoundary}
+use Rattle.automata_base.specs.Retraced.Decoders.{IsBoundary}
 use Rattle.automata_base.specs.Lists.{In}
 use Rattle.automata_base.proofs.Powersets.Distinct.{In-get_or}
 use Rattle.automata_base.proofs.Nfas.Utf8.Product.{each_fails, each_next, each_done}

@@ -1,5 +1,5 @@
 use Rattle.std.proofs.Common.{ℕ, take}
-use Rattle.automata_base.specs.Nfas.Decoders.{IsBoundary}
+use Rattle.automata_base.specs.Retraced.Decoders.{IsBoundary}
 use Rattle.automata_base.specs.Lists.{In}
 use Rattle.automata_base.proofs.nfa.thompson.utf8.are_boundaries.Given as goal
 

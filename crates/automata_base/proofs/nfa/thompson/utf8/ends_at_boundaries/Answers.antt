@@ -1,5 +1,5 @@
 use Rattle.std.proofs.Common.{◌≡◌, ◌<◌, ◌*◌, ◌/◌, [], ◌∷◌, length, ap, ◌∙◌, subst, arith}
-use Rattle.automata_base.specs.Nfas.Decoders.{pair, pairs_at, pairs_of, IsBoundary}
+use Rattle.automata_base.specs.Retraced.Decoders.{pair, pairs_at, pairs_of, IsBoundary}
 use Rattle.automata_base.specs.Lists.{In}
 use Rattle.automata_base.specs.Retraced.Once.{once_from}
 use Rattle.automata_base.proofs.Nfas.Utf8.Product.{test_reached}

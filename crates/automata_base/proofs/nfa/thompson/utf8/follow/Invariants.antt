@@ -1,5 +1,5 @@
 use Rattle.std.proofs.Common.{◌≡◌, ◌-◌, ◌*◌, length}
-use Rattle.automata_base.specs.Nfas.Decoders.{pairs_of}
+use Rattle.automata_base.specs.Retraced.Decoders.{pairs_of}
 use Rattle.automata_base.proofs.Nfas.Reach.Walked.{IsWalked}
 use Rattle.automata_base.proofs.nfa.thompson.utf8.follow.Given as goal
 

@@ -1,6 +1,5 @@
 use Rattle.std.proofs.Common.{arith, ◌≡◌, ◌+◌, ◌<◌, ◌≤◌, [], ◌∷◌, ◌++◌, List, ℕ, length, reverse, Vec, vec_len}
 use Rattle.std.proofs.Common.{vec_capacity, get_or, refl, sym, ap, ◌∙◌, subst, inl, rules}
-use Rattle.std.specs.Prelude.{Contains}
 use Rattle.std.proofs.lemmas.List.{nil_from_length}
 use Rattle.std.specs.declared.alloc.Global.{Global}
 use Rattle.automata_base.specs.declared.nfa.thompson.State.{State}
@@ -14,6 +13,8 @@ use Rattle.automata_base.proofs.Powersets.Walking.{old_step, step_room}
 use Rattle.automata_base.proofs.Powersets.Leaves.{expanded_step, children_below}
 use Rattle.automata_base.specs.Nfas.Nodes.{nfa_of}
 use Rattle.automata_base.specs.Retraced.Expanding.{IsExpanded}
+use Rattle.automata_base.proofs.Powersets.Walking.{state_read}
+use Rattle.automata_base.specs.Lists.{In}
 use Rattle.automata_base.proofs.util.determinize.closure.close_from.Goals as goal
 use Rattle.automata_base.proofs.util.determinize.closure.close_from.Goals.{then-insert+in_default, else-insert}
 
@@ -41,7 +42,7 @@ state_at-requires-clause-id c =
 pub expand-requires-clause-below : goal.expand-requires-clause-below
 expand-requires-clause-below c =
     children_below c.args.nfa.now c.args.looks c.args.set.now.items c.args.start c.visit.set.items c.insert.new.self.items (reverse c.visit.stack.items) c.visit.id c.state_at.result.now
-    c.state_at.ensures.checked c.state_at.ensures.same (c.if-insert.ensures.new refl) (c.if-insert.ensures.added refl) c.visit.invariant.0
+    c.state_at.ensures.checked (state_read c.args.nfa.now.states c.visit.id c.state_at.result.now c.state_at.ensures.same) (c.if-insert.ensures.new refl) (c.if-insert.ensures.added refl) c.visit.invariant.0
 
 pub expand-requires-clause-whole : goal.expand-requires-clause-whole
 expand-requires-clause-whole c = c.if-insert.ensures.capacity ∙ c.visit.invariant.1
@@ -50,7 +51,7 @@ pub expand-requires-clause-room : goal.expand-requires-clause-room
 expand-requires-clause-room c =
     let room : length c.visit.stack.items + length (children_at (node_of c.state_at.result.now) (truth_of c.args.looks)) ≤ stack_room c.args.nfa.now.states =
     step_room c.args.nfa.now c.args.looks c.args.set.now.items c.args.start c.visit.set.items c.visit.stack.items c.visit.id c.state_at.result.now
-    c.state_at.ensures.same (c.if-insert.ensures.new refl) c.visit.invariant.0 in
+    (state_read c.args.nfa.now.states c.visit.id c.state_at.result.now c.state_at.ensures.same) (c.if-insert.ensures.new refl) c.visit.invariant.0 in
     let len : vec_len c.visit.stack ≡ length c.visit.stack.items = c.visit.stack.ok.0 in
     let kept : vec_capacity c.args.stack.now ≤ vec_capacity c.visit.stack = c.visit.invariant.2 in
     let enough : stack_room c.args.nfa.now.states ≤ vec_capacity c.args.stack.now = c.requires.room.places in
@@ -62,7 +63,7 @@ followed : (c : goal.In-Some) →
     × (work c.args.nfa.now c.expand.new.set.items (c.in-Some.next ∷ reverse c.expand.new.stack.items) < work c.args.nfa.now c.visit.set.items (c.visit.id ∷ reverse c.visit.stack.items))
 followed c =
     expanded_step c.args.nfa.now c.args.looks c.args.set.now.items c.args.start c.visit.set.items c.insert.new.self.items c.expand.new.set.items (reverse c.visit.stack.items) (c.in-Some.next ∷ reverse c.expand.new.stack.items) c.visit.id c.state_at.result.now
-    c.state_at.ensures.checked c.state_at.ensures.same (c.if-insert.ensures.new refl) (c.if-insert.ensures.added refl) c.in-Some.ensures.expanded c.visit.invariant.0
+    c.state_at.ensures.checked (state_read c.args.nfa.now.states c.visit.id c.state_at.result.now c.state_at.ensures.same) (c.if-insert.ensures.new refl) (c.if-insert.ensures.added refl) c.in-Some.ensures.expanded c.visit.invariant.0
 
 pub visit-smaller-in-Some : goal.visit-smaller-in-Some
 visit-smaller-in-Some c = (followed c).1
@@ -92,7 +93,7 @@ next_way a looks old start before after id capacity was stack rest top e v =
 -- it was new, and its children took what room there was
 new_visit : (a : Automaton) (looks : ℕ) (old : List ℕ) (start : ℕ) (before seen after : List ℕ) (id capacity : ℕ)
     (was stack : Vec ℕ Global) (state : State)
-    → IsChecked a → state ≡ get_or a.states id state → (Contains before id → ⊥) → seen ≡ before ++ id ∷ []
+    → IsChecked a → state ≡ get_or a.states id state → (In id before → ⊥) → seen ≡ before ++ id ∷ []
     → IsExpanded (nfa_of a) (truth_of looks) (children_at (node_of state) (truth_of looks)) seen after (reverse was.items) (reverse stack.items)
     → Walking a looks old start before (id ∷ reverse was.items)
     → capacity ≤ vec_capacity was → vec_capacity was ≤ vec_capacity stack
@@ -103,7 +104,7 @@ new_visit a looks old start before seen after id capacity was stack state checke
 
 -- it was there
 old_visit : (a : Automaton) (looks : ℕ) (old : List ℕ) (start : ℕ) (before after : List ℕ) (id capacity : ℕ) (was : Vec ℕ Global)
-    → Contains before id → after ≡ before → Walking a looks old start before (id ∷ reverse was.items) → capacity ≤ vec_capacity was
+    → In id before → after ≡ before → Walking a looks old start before (id ∷ reverse was.items) → capacity ≤ vec_capacity was
     → Visited a looks old start before after id capacity was was
 old_visit a looks old start before after id capacity was had same walking kept =
     let step = old_step a looks old start before after (reverse was.items) id had same walking in
@@ -116,7 +117,7 @@ visited c = elim c.if-insert.branch [
   | then-insert+in_default w ↦ subst (λ (m : Members). Visited c.args.nfa.now c.args.looks c.args.set.now.items c.args.start c.visit.set.items m.items c.visit.id (vec_capacity c.args.stack.now) c.visit.stack c.if-insert.stack) (sym w.set-is)
       (subst (Visited c.args.nfa.now c.args.looks c.args.set.now.items c.args.start c.visit.set.items w.expand.new.set.items c.visit.id (vec_capacity c.args.stack.now) c.visit.stack) (sym w.stack-is)
       (new_visit c.args.nfa.now c.args.looks c.args.set.now.items c.args.start c.visit.set.items c.insert.new.self.items w.expand.new.set.items c.visit.id (vec_capacity c.args.stack.now) c.visit.stack w.expand.new.stack w.state_at.result.now
-      w.state_at.ensures.checked w.state_at.ensures.same (w.if-insert.ensures.new refl) (w.if-insert.ensures.added refl) w.in_default.ensures.expanded
+      w.state_at.ensures.checked (state_read c.args.nfa.now.states c.visit.id w.state_at.result.now w.state_at.ensures.same) (w.if-insert.ensures.new refl) (w.if-insert.ensures.added refl) w.in_default.ensures.expanded
       c.visit.invariant.0 c.visit.invariant.2 w.in_default.ensures.capacity))
   | else-insert w ↦ subst (λ (m : Members). Visited c.args.nfa.now c.args.looks c.args.set.now.items c.args.start c.visit.set.items m.items c.visit.id (vec_capacity c.args.stack.now) c.visit.stack c.if-insert.stack) (sym w.set-is)
       (subst (Visited c.args.nfa.now c.args.looks c.args.set.now.items c.args.start c.visit.set.items c.insert.new.self.items c.visit.id (vec_capacity c.args.stack.now) c.visit.stack) (sym w.stack-is)
@@ -152,7 +153,7 @@ done c = elim c.if-insert.branch [
   | then-insert+in_default w ↦ subst (λ (m : Members). Visited c.args.nfa.now c.args.looks c.args.set.now.items c.args.start c.visit.set.items m.items c.visit.id (vec_capacity c.args.stack.now) c.visit.stack c.if-insert.stack) (sym w.set-is)
       (subst (Visited c.args.nfa.now c.args.looks c.args.set.now.items c.args.start c.visit.set.items w.expand.new.set.items c.visit.id (vec_capacity c.args.stack.now) c.visit.stack) (sym w.stack-is)
       (new_visit c.args.nfa.now c.args.looks c.args.set.now.items c.args.start c.visit.set.items c.insert.new.self.items w.expand.new.set.items c.visit.id (vec_capacity c.args.stack.now) c.visit.stack w.expand.new.stack w.state_at.result.now
-      w.state_at.ensures.checked w.state_at.ensures.same (w.if-insert.ensures.new refl) (w.if-insert.ensures.added refl) w.in_default.ensures.expanded
+      w.state_at.ensures.checked (state_read c.args.nfa.now.states c.visit.id w.state_at.result.now w.state_at.ensures.same) (w.if-insert.ensures.new refl) (w.if-insert.ensures.added refl) w.in_default.ensures.expanded
       c.visit.invariant.0 c.visit.invariant.2 w.in_default.ensures.capacity))
   | else-insert w ↦ subst (λ (m : Members). Visited c.args.nfa.now c.args.looks c.args.set.now.items c.args.start c.visit.set.items m.items c.visit.id (vec_capacity c.args.stack.now) c.visit.stack c.if-insert.stack) (sym w.set-is)
       (subst (Visited c.args.nfa.now c.args.looks c.args.set.now.items c.args.start c.visit.set.items c.insert.new.self.items c.visit.id (vec_capacity c.args.stack.now) c.visit.stack) (sym w.stack-is)

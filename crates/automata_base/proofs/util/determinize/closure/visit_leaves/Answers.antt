@@ -5,6 +5,7 @@ use Rattle.automata_base.specs.Powersets.Closure.{IsUnderWay}
 use Rattle.automata_base.proofs.Powersets.Keeping.{below_at, next_drop}
 use Rattle.automata_base.proofs.Powersets.Leaves.{leaf_on, extends_on}
 use Rattle.automata_base.proofs.Powersets.Walking.{read_children}
+use Rattle.automata_base.proofs.Powersets.Walking.{state_read}
 use Rattle.automata_base.proofs.util.determinize.closure.visit_leaves.Goals as goal
 
 pub state_at-requires-clause-id : goal.state_at-requires-clause-id
@@ -26,7 +27,7 @@ loop-i-preserved c =
       way = λ truth roots tail u.
           leaf_on (nfa_of c.args.nfa.now) truth roots (drop (c.loop-i.i + 1) c.args.list.now ++ tail) c.loop-i.set.items c.insert-added.new.self.items
           c.index-list-i.result c.insert-added.result
-          (sym (read_children c.args.nfa.now truth c.index-list-i.result c.state_at.result.now below c.state_at.ensures.same) ∙ c.if-not-is_leaf.ensures refl truth)
+          (sym (read_children c.args.nfa.now truth c.index-list-i.result c.state_at.result.now below (state_read c.args.nfa.now.states c.index-list-i.result c.state_at.result.now c.state_at.ensures.same)) ∙ c.if-not-is_leaf.ensures refl truth)
           c.insert-added.ensures.new c.insert-added.ensures.added c.insert-added.ensures.had c.insert-added.ensures.unchanged
           (subst (λ z. IsUnderWay (nfa_of c.args.nfa.now) truth roots (z ++ tail) c.loop-i.set.items) next (c.loop-i.invariant.way truth roots tail u));
       grown = extends_on c.args.set.now.items c.loop-i.set.items c.insert-added.new.self.items c.index-list-i.result c.insert-added.result

@@ -9,6 +9,7 @@ use Rattle.automata_base.specs.Powersets.Closure.{IsUnderWay}
 use Rattle.automata_base.proofs.Paths.Loops.{under_way_done, under_way_start}
 use Rattle.automata_base.proofs.Powersets.Walking.{node_at, nodes_length}
 use Rattle.automata_base.proofs.Powersets.Keeping.{below_at, pick_next}
+use Rattle.automata_base.proofs.Powersets.Walking.{state_read}
 use Rattle.automata_base.proofs.util.determinize.construct.close_targets.Goals as goal
 
 pub state-requires : goal.state-requires
@@ -25,14 +26,14 @@ pub close_maybe-requires-clause-start : goal.close_maybe-requires-clause-start
 close_maybe-requires-clause-start c = λ q s.
     let below = below_at c.args.list.now (length c.args.nfa.now.states) c.loop-i.i c.index-list-i.result c.requires.below c.loop-i-test.true c.index-list-i.is in
     let here : takes (nfa_of c.args.nfa.now) c.index-list-i.result c.args.u ≡ c.target.result =
-    ap (λ m. takes_at m c.args.u) (node_at c.args.nfa.now.states c.index-list-i.result c.state.result.now c.state.result.now below c.state.ensures.same) ∙ sym c.target.ensures in
+    ap (λ m. takes_at m c.args.u) (node_at c.args.nfa.now.states c.index-list-i.result c.state.result.now c.state.result.now below (state_read c.args.nfa.now.states c.index-list-i.result c.state.result.now c.state.ensures.same)) ∙ sym c.target.ensures in
     subst (λ z. q < z) (nodes_length c.args.nfa.now.states) (c.state.ensures.checked.range.1 c.index-list-i.result c.args.u q (here ∙ s))
 
 pub loop-i-preserved : goal.loop-i-preserved
 loop-i-preserved c =
     let below = below_at c.args.list.now (length c.args.nfa.now.states) c.loop-i.i c.index-list-i.result c.requires.below c.loop-i-test.true c.index-list-i.is in
     let here : takes (nfa_of c.args.nfa.now) c.index-list-i.result c.args.u ≡ c.target.result =
-    ap (λ m. takes_at m c.args.u) (node_at c.args.nfa.now.states c.index-list-i.result c.state.result.now c.state.result.now below c.state.ensures.same) ∙ sym c.target.ensures in (
+    ap (λ m. takes_at m c.args.u) (node_at c.args.nfa.now.states c.index-list-i.result c.state.result.now c.state.result.now below (state_read c.args.nfa.now.states c.index-list-i.result c.state.result.now c.state.ensures.same)) ∙ sym c.target.ensures in (
       c.close_maybe.ensures.way (targets (nfa_of c.args.nfa.now) (Some c.args.u) c.args.list.now) (targets (nfa_of c.args.nfa.now) (Some c.args.u) (drop (c.loop-i.i + 1) c.args.list.now))
           (subst (λ z. IsUnderWay (nfa_of c.args.nfa.now) (truth_of c.args.known) (targets (nfa_of c.args.nfa.now) (Some c.args.u) c.args.list.now) z c.loop-i.set.items)
           (pick_next (λ b. takes (nfa_of c.args.nfa.now) b c.args.u) c.args.list.now c.loop-i.i c.index-list-i.result c.loop-i-test.true c.index-list-i.is

@@ -1,6 +1,6 @@
 use Rattle.std.proofs.Common.{drop, Some}
 use Rattle.automata_base.specs.Nfas.Nodes.{nfa_of}
-use Rattle.automata_base.specs.Retraced.Rooms.{IsClosureRoom}
+use Rattle.automata_base.specs.Powersets.Rooms.{IsClosureRoom}
 use Rattle.automata_base.specs.Haystacks.LookSets.{truth_of}
 use Rattle.automata_base.specs.Powersets.Cuts.{targets}
 use Rattle.automata_base.specs.Powersets.Closure.{IsUnderWay}

@@ -1,8 +1,8 @@
 use Rattle.std.proofs.Common.{◌≡◌, ◌&&◌, ◌<◌, subst, true, ap, ◌∙◌}
 use Rattle.automata_base.specs.Lists.{pick, In}
 use Rattle.automata_base.specs.Haystacks.Looks.{is_byte, is_word, first_half}
-use Rattle.automata_base.specs.Nfas.Nfa.{keep}
-use Rattle.automata_base.specs.Retraced.ComputedPass.{any_state, any_node, is_full}
+use Rattle.automata_base.specs.Nfas.Nfa.{keep, any_node}
+use Rattle.automata_base.specs.Retraced.Computed.{any_state, is_full}
 use Rattle.automata_base.specs.Powersets.Passes.{is_word_look, is_crlf_look}
 use Rattle.automata_base.specs.Nfas.Nodes.{nfa_of}
 use Rattle.automata_base.specs.Haystacks.LookSets.{truth_of}

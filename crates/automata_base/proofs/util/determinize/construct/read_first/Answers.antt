@@ -12,6 +12,7 @@ use Rattle.automata_base.proofs.Powersets.Walking.{node_at, nodes_length}
 use Rattle.automata_base.proofs.Powersets.Keeping.{below_at, cut_picks_next, cut_picks_here, cut_picks_done}
 use Rattle.automata_base.proofs.Powersets.Keeping.{cut_targets_next, cut_targets_here, cut_targets_done}
 use Rattle.automata_base.proofs.Powersets.Keeping.{matched_one, matched_none}
+use Rattle.automata_base.proofs.Powersets.Walking.{state_read}
 use Rattle.automata_base.proofs.util.determinize.construct.read_first.Goals as goal
 
 pub state_at-state-requires-clause-id : goal.state_at-state-requires-clause-id
@@ -37,7 +38,7 @@ pub push_reserved-requires : goal.push_reserved-requires
 push_reserved-requires c =
     let low = below_at c.args.list.now (length c.args.nfa.now.states) c.loop-i.i c.index-list-i.result c.requires.below c.loop-i-test.true c.index-list-i.is in
     let here : accepts (nfa_of c.args.nfa.now) c.index-list-i.result ≡ Some c.in-Some.pattern =
-    ap accepts_at (node_at c.args.nfa.now.states c.index-list-i.result c.state_at-state.result.now c.state_at-state.result.now low c.state_at-state.ensures.same) ∙ (sym c.pattern_of.ensures ∙ c.in-Some.is) in
+    ap accepts_at (node_at c.args.nfa.now.states c.index-list-i.result c.state_at-state.result.now c.state_at-state.result.now low (state_read c.args.nfa.now.states c.index-list-i.result c.state_at-state.result.now c.state_at-state.ensures.same)) ∙ (sym c.pattern_of.ensures ∙ c.in-Some.is) in
     let below : c.in-Some.pattern < length c.args.nfa.now.start_pattern = c.state_at-state.ensures.checked.patterns c.index-list-i.result c.in-Some.pattern here in
     let none : length c.loop-i.patterns.items ≡ 0 = ap length c.loop-i.invariant.none in
     let len : vec_len c.loop-i.patterns ≡ length c.loop-i.patterns.items = c.loop-i.patterns.ok.0 in
@@ -49,7 +50,7 @@ pub returns-in-Some-clause-matched : goal.returns-in-Some-clause-matched
 returns-in-Some-clause-matched c =
     let low = below_at c.args.list.now (length c.args.nfa.now.states) c.loop-i.i c.index-list-i.result c.requires.below c.loop-i-test.true c.index-list-i.is in
     let here : accepts (nfa_of c.args.nfa.now) c.index-list-i.result ≡ Some c.in-Some.pattern =
-    ap accepts_at (node_at c.args.nfa.now.states c.index-list-i.result c.state_at-state.result.now c.state_at-state.result.now low c.state_at-state.ensures.same) ∙ (sym c.pattern_of.ensures ∙ c.in-Some.is) in
+    ap accepts_at (node_at c.args.nfa.now.states c.index-list-i.result c.state_at-state.result.now c.state_at-state.result.now low (state_read c.args.nfa.now.states c.index-list-i.result c.state_at-state.result.now c.state_at-state.ensures.same)) ∙ (sym c.pattern_of.ensures ∙ c.in-Some.is) in
     let below : c.in-Some.pattern < length c.args.nfa.now.start_pattern = c.state_at-state.ensures.checked.patterns c.index-list-i.result c.in-Some.pattern here in
     let one : c.push_reserved.new.self.items ≡ c.in-Some.pattern ∷ [] = c.push_reserved.ensures.items ∙ ap (λ z. z ++ c.in-Some.pattern ∷ []) c.loop-i.invariant.none in
     subst (AreMatched c.args.nfa.now (cut (nfa_of c.args.nfa.now) c.args.list.now)) (sym one)
@@ -60,7 +61,7 @@ pub returns-in-Some-clause-closure : goal.returns-in-Some-clause-closure
 returns-in-Some-clause-closure c =
     let low = below_at c.args.list.now (length c.args.nfa.now.states) c.loop-i.i c.index-list-i.result c.requires.below c.loop-i-test.true c.index-list-i.is in
     let here : accepts (nfa_of c.args.nfa.now) c.index-list-i.result ≡ Some c.in-Some.pattern =
-    ap accepts_at (node_at c.args.nfa.now.states c.index-list-i.result c.state_at-state.result.now c.state_at-state.result.now low c.state_at-state.ensures.same) ∙ (sym c.pattern_of.ensures ∙ c.in-Some.is) in
+    ap accepts_at (node_at c.args.nfa.now.states c.index-list-i.result c.state_at-state.result.now c.state_at-state.result.now low (state_read c.args.nfa.now.states c.index-list-i.result c.state_at-state.result.now c.state_at-state.ensures.same)) ∙ (sym c.pattern_of.ensures ∙ c.in-Some.is) in
     let roots = targets (nfa_of c.args.nfa.now) (Some c.args.u) (cut (nfa_of c.args.nfa.now) c.args.list.now) in
     under_way_done (nfa_of c.args.nfa.now) (truth_of c.args.known) roots c.loop-i.set.items
     (subst (λ z. IsUnderWay (nfa_of c.args.nfa.now) (truth_of c.args.known) roots z c.loop-i.set.items)
@@ -69,7 +70,7 @@ returns-in-Some-clause-closure c =
 pub close_maybe-requires-clause-start : goal.close_maybe-requires-clause-start
 close_maybe-requires-clause-start c = λ q s.
     let low = below_at c.args.list.now (length c.args.nfa.now.states) c.loop-i.i c.index-list-i.result c.requires.below c.loop-i-test.true c.index-list-i.is in
-    let at = node_at c.args.nfa.now.states c.index-list-i.result c.state_at-state.result.now c.state_at-state.result.now low c.state_at-state.ensures.same in
+    let at = node_at c.args.nfa.now.states c.index-list-i.result c.state_at-state.result.now c.state_at-state.result.now low (state_read c.args.nfa.now.states c.index-list-i.result c.state_at-state.result.now c.state_at-state.ensures.same) in
     let none : accepts (nfa_of c.args.nfa.now) c.index-list-i.result ≡ None = ap accepts_at at ∙ (sym c.pattern_of.ensures ∙ c.in-None.is) in
     let here : takes (nfa_of c.args.nfa.now) c.index-list-i.result c.args.u ≡ c.target.result = ap (λ m. takes_at m c.args.u) at ∙ sym c.target.ensures in
     subst (λ z. q < z) (nodes_length c.args.nfa.now.states) (c.state_at-state.ensures.checked.range.1 c.index-list-i.result c.args.u q (here ∙ s))
@@ -77,7 +78,7 @@ close_maybe-requires-clause-start c = λ q s.
 pub loop-i-preserved : goal.loop-i-preserved
 loop-i-preserved c =
     let low = below_at c.args.list.now (length c.args.nfa.now.states) c.loop-i.i c.index-list-i.result c.requires.below c.loop-i-test.true c.index-list-i.is in
-    let at = node_at c.args.nfa.now.states c.index-list-i.result c.state_at-state.result.now c.state_at-state.result.now low c.state_at-state.ensures.same in
+    let at = node_at c.args.nfa.now.states c.index-list-i.result c.state_at-state.result.now c.state_at-state.result.now low (state_read c.args.nfa.now.states c.index-list-i.result c.state_at-state.result.now c.state_at-state.ensures.same) in
     let none : accepts (nfa_of c.args.nfa.now) c.index-list-i.result ≡ None = ap accepts_at at ∙ (sym c.pattern_of.ensures ∙ c.in-None.is) in
     let here : takes (nfa_of c.args.nfa.now) c.index-list-i.result c.args.u ≡ c.target.result = ap (λ m. takes_at m c.args.u) at ∙ sym c.target.ensures in
     let roots = targets (nfa_of c.args.nfa.now) (Some c.args.u) (cut (nfa_of c.args.nfa.now) c.args.list.now) in

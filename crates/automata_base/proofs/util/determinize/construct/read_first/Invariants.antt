@@ -3,7 +3,7 @@ use Rattle.automata_base.specs.Powersets.Cuts.{cut, targets}
 use Rattle.automata_base.specs.Lists.{pick}
 use Rattle.automata_base.specs.Nfas.Nfa.{accepts}
 use Rattle.automata_base.specs.Nfas.Nodes.{nfa_of}
-use Rattle.automata_base.specs.Retraced.Rooms.{IsClosureRoom}
+use Rattle.automata_base.specs.Powersets.Rooms.{IsClosureRoom}
 use Rattle.automata_base.specs.Haystacks.LookSets.{truth_of}
 use Rattle.automata_base.specs.Powersets.Closure.{IsUnderWay}
 use Rattle.automata_base.proofs.util.determinize.construct.read_first.Given as goal

@@ -1,5 +1,5 @@
 use Rattle.std.proofs.Common.{false}
-use Rattle.automata_base.specs.Retraced.ComputedPass.{known_looks}
+use Rattle.automata_base.specs.Retraced.Computed.{known_looks}
 use Rattle.automata_base.specs.Nfas.Nodes.{nfa_of}
 use Rattle.automata_base.proofs.Powersets.LookBits.{sofar_next}
 use Rattle.automata_base.proofs.util.determinize.deciding.known_behind.Goals as goal

@@ -1,5 +1,5 @@
 use Rattle.std.proofs.Common.{sym, ◌∙◌}
-use Rattle.automata_base.specs.Retraced.ComputedPass.{is_in}
+use Rattle.automata_base.specs.Retraced.Computed.{is_in}
 use Rattle.automata_base.proofs.Powersets.Keeping.{in_next, in_here}
 use Rattle.automata_base.proofs.util.determinize.lists.has_pattern.Goals as goal
 

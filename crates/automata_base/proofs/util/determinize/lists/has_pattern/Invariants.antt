@@ -1,5 +1,5 @@
 use Rattle.std.proofs.Common.{◌≡◌, drop}
-use Rattle.automata_base.specs.Retraced.ComputedPass.{is_in}
+use Rattle.automata_base.specs.Retraced.Computed.{is_in}
 use Rattle.automata_base.proofs.util.determinize.lists.has_pattern.Given as goal
 
 abbrev pub invariant-loop-i : goal.invariant-loop-i

@@ -2,14 +2,15 @@ use Rattle.std.proofs.Common.{◌≡◌, ◌++◌, ◌≤◌, ◌||◌, eqb, sym
 use Rattle.automata_base.specs.Lists.{pick}
 use Rattle.automata_base.specs.Nfas.Nodes.{nfa_of, node_of}
 use Rattle.automata_base.specs.Haystacks.LookSets.{truth_of}
-use Rattle.automata_base.specs.Nfas.Nfa.{stays_at, node, keep}
-use Rattle.automata_base.specs.Retraced.ComputedPass.{looks_at, any_state}
+use Rattle.automata_base.specs.Nfas.Nfa.{stays_at, node, keep, looks_at}
+use Rattle.automata_base.specs.Retraced.Computed.{any_state}
 use Rattle.automata_base.specs.Haystacks.Looks.{look_index}
 use Rattle.automata_base.proofs.Powersets.Walking.{node_at}
 use Rattle.automata_base.proofs.Powersets.Keeping.{below_at, keep_next, room_next, looks_next}
 use Rattle.automata_base.proofs.Powersets.Keeping.{looks_done, kept_done}
 use Rattle.automata_base.proofs.util.determinize.lists.keep_states.Goals as goal
 use Rattle.automata_base.proofs.Paths.LookSets.{truth_of_none}
+use Rattle.automata_base.proofs.Powersets.Walking.{state_read}
 
 pub state_at-state-requires-clause-id : goal.state_at-state-requires-clause-id
 state_at-state-requires-clause-id c =
@@ -37,7 +38,7 @@ pub loop-i-preserved : goal.loop-i-preserved
 loop-i-preserved c =
     let below = below_at c.args.states.now (length c.args.nfa.now.states) c.loop-i.i c.index-states-i.result c.requires.below c.loop-i-test.true c.index-states-i.is in
     let here : node (nfa_of c.args.nfa.now) c.index-states-i.result ≡ node_of c.state_at-state.result.now =
-    node_at c.args.nfa.now.states c.index-states-i.result c.state_at-state.result.now c.state_at-state.result.now below c.state_at-state.ensures.same in (
+    node_at c.args.nfa.now.states c.index-states-i.result c.state_at-state.result.now c.state_at-state.result.now below (state_read c.args.nfa.now.states c.index-states-i.result c.state_at-state.result.now c.state_at-state.ensures.same) in (
       keep_next (nfa_of c.args.nfa.now) c.args.states.now c.loop-i.kept.items c.push_if.new.kept.items c.loop-i.i c.index-states-i.result c.stays.result
           c.loop-i-test.true c.index-states-i.is (c.stays.ensures ∙ ap stays_at (sym here)) c.push_if.ensures.items c.loop-i.invariant.0,
       room_next c.loop-i.kept.items c.push_if.new.kept.items c.loop-i.i c.index-states-i.result c.stays.result c.push_if.ensures.items c.loop-i.invariant.1,

@@ -1,7 +1,7 @@
 use Rattle.std.proofs.Common.{◌≡◌, ◌≤◌, ◌++◌, ◌||◌, eqb, drop, length, vec_capacity}
 use Rattle.automata_base.specs.Lists.{pick}
 use Rattle.automata_base.specs.Nfas.Nfa.{keep}
-use Rattle.automata_base.specs.Retraced.ComputedPass.{any_state}
+use Rattle.automata_base.specs.Retraced.Computed.{any_state}
 use Rattle.automata_base.specs.Haystacks.Looks.{look_index}
 use Rattle.automata_base.specs.Nfas.Nodes.{nfa_of}
 use Rattle.automata_base.specs.Haystacks.LookSets.{truth_of}

@@ -4,6 +4,7 @@ use Rattle.automata_base.specs.Nfas.Nfa.{accepts, accepts_at}
 use Rattle.automata_base.proofs.Powersets.Walking.{node_at}
 use Rattle.automata_base.proofs.Powersets.Distinct.{distinct_below}
 use Rattle.automata_base.proofs.Powersets.Keeping.{below_at, pattern_next, pattern_room, once_done}
+use Rattle.automata_base.proofs.Powersets.Walking.{state_read}
 use Rattle.automata_base.proofs.util.determinize.lists.read_patterns.Goals as goal
 
 pub state-requires : goal.state-requires
@@ -13,7 +14,7 @@ pub add_maybe-requires : goal.add_maybe-requires
 add_maybe-requires c = λ p s new.
     let below = below_at c.args.list.now (length c.args.nfa.now.states) c.loop-i.i c.index-list-i.result c.requires.below c.loop-i-test.true c.index-list-i.is in
     let here : accepts (nfa_of c.args.nfa.now) c.index-list-i.result ≡ c.pattern_of.result =
-    ap accepts_at (node_at c.args.nfa.now.states c.index-list-i.result c.state.result.now c.state.result.now below c.state.ensures.same) ∙ sym c.pattern_of.ensures in
+    ap accepts_at (node_at c.args.nfa.now.states c.index-list-i.result c.state.result.now c.state.result.now below (state_read c.args.nfa.now.states c.index-list-i.result c.state.result.now c.state.ensures.same)) ∙ sym c.pattern_of.ensures in
     let room : length c.loop-i.patterns.items < length c.args.nfa.now.start_pattern =
     pattern_room c.loop-i.patterns.items p (length c.args.nfa.now.start_pattern) c.loop-i.invariant.0.1 c.loop-i.invariant.0.2
     (c.state.ensures.checked.patterns c.index-list-i.result p (here ∙ s)) new in
@@ -25,7 +26,7 @@ pub loop-i-preserved : goal.loop-i-preserved
 loop-i-preserved c =
     let below = below_at c.args.list.now (length c.args.nfa.now.states) c.loop-i.i c.index-list-i.result c.requires.below c.loop-i-test.true c.index-list-i.is in
     let here : accepts (nfa_of c.args.nfa.now) c.index-list-i.result ≡ c.pattern_of.result =
-    ap accepts_at (node_at c.args.nfa.now.states c.index-list-i.result c.state.result.now c.state.result.now below c.state.ensures.same) ∙ sym c.pattern_of.ensures in
+    ap accepts_at (node_at c.args.nfa.now.states c.index-list-i.result c.state.result.now c.state.result.now below (state_read c.args.nfa.now.states c.index-list-i.result c.state.result.now c.state.ensures.same)) ∙ sym c.pattern_of.ensures in
     let kept : vec_capacity c.args.patterns.now ≤ vec_capacity c.loop-i.patterns = c.loop-i.invariant.1 in
     let more : vec_capacity c.loop-i.patterns ≤ vec_capacity c.add_maybe.new.patterns = c.add_maybe.ensures.room in (
       pattern_next (accepts (nfa_of c.args.nfa.now)) c.args.list.now c.loop-i.i c.index-list-i.result (length c.args.nfa.now.start_pattern) c.pattern_of.result

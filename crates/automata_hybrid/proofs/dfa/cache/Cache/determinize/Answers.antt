@@ -1,9 +1,9 @@
 use Rattle.std.proofs.Common.{◌≡◌, ◌∙◌, ap, subst, suc, sym}
 use Rattle.std.proofs.Math.Logic.{∥∥₁_map}
 use Rattle.automata_base.specs.Nfas.Nodes.{Automaton}
-use Rattle.automata_base.specs.Paths.Starts.{IsOf}
+use Rattle.automata_base.specs.Paths.Starts.{IsOf, NeedsOwnLooks}
 use Rattle.automata_base.specs.Answers.Within.{ReportsOwn}
-use Rattle.automata_base.specs.Retraced.Steps.{NeedsOwnLooks, successor}
+use Rattle.automata_base.specs.Retraced.Steps.{successor}
 use Rattle.automata_hybrid.specs.Machines.OwnStates.{IsOwn}
 use Rattle.automata_hybrid.specs.Machines.Machine.{IsStateOf, Machine, next_of}
 use Rattle.automata_hybrid.specs.Cache.Table.{Names}

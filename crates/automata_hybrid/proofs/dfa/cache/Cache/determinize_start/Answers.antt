@@ -1,8 +1,8 @@
 use Rattle.std.proofs.Common.{◌≡◌, ◌∙◌, ap, subst}
 use Rattle.automata_base.specs.Nfas.Nodes.{Automaton}
-use Rattle.automata_base.specs.Paths.Starts.{IsOf}
+use Rattle.automata_base.specs.Paths.Starts.{IsOf, NeedsOwnLooks}
 use Rattle.automata_base.specs.Answers.Within.{ReportsOwn}
-use Rattle.automata_base.specs.Retraced.Steps.{NeedsOwnLooks, start_state_of}
+use Rattle.automata_base.specs.Retraced.Steps.{start_state_of}
 use Rattle.automata_hybrid.specs.Machines.Machine.{start_of}
 use Rattle.automata_hybrid.specs.Machines.OwnStates.{IsOwn}
 use Rattle.automata_hybrid.proofs.Steps.Starts.{slot_state}

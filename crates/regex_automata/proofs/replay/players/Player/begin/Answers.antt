@@ -15,6 +15,6 @@ returns-clause-at c = λ h a. record {
   current = a.current;
   regex = a.regex;
   of = a.of;
-  walks = subst (λ (ks : List KeptWalk). AreWalks c.args.self.now.regexes.now (h.walks ++ record { regex = h.current; reverse = c.args.reverse; input = c.args.input.now; reported = 0 } ∷ []) ks) (sym c.in-Ok.ensures.items)
-      (walks_push c.args.self.now.regexes.now h.walks c.args.self.now.walks.items _ _ a.walks (record { regex = a.current; reverse = refl; input = c.copied.ensures; reported = λ r at. fresh_answered (direction_of c.args.reverse) (dfa_of c.args.reverse r) c.copied.result c.start.result c.start.ensures }));
+  walks = subst (λ (ks : List KeptWalk). AreWalks c.args.self.now.regexes.now (h.walks ++ record { regex = h.current; way = c.args.way; input = c.args.input.now; reported = 0 } ∷ []) ks) (sym c.in-Ok.ensures.items)
+      (walks_push c.args.self.now.regexes.now h.walks c.args.self.now.walks.items _ _ a.walks (record { regex = a.current; way = refl; input = c.copied.ensures; reported = λ r at. fresh_answered (direction_of c.args.way) (dfa_of c.args.way r) c.copied.result c.start.result c.start.ensures }));
 }

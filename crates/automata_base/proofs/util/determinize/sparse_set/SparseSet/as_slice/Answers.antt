@@ -1,9 +1,7 @@
 use Rattle.std.proofs.Common.{subst, ℕ, ◌<◌}
-use Rattle.automata_base.specs.Lists.{In}
+use Rattle.automata_base.specs.Lists.{In, Distinct}
 use Rattle.automata_base.specs.Powersets.Members.{Members}
-use Rattle.automata_base.specs.Retraced.Once.{Distinct}
-use Rattle.automata_base.proofs.Powersets.Holding.{members_below}
-use Rattle.automata_base.proofs.Nfas.Mirrors.Copies.{members_distinct}
+use Rattle.automata_base.proofs.Powersets.Holding.{members_below, members_distinct}
 use Rattle.automata_base.proofs.util.determinize.sparse_set.SparseSet.as_slice.Goals as goal
 
 pub returns-clause-below : goal.returns-clause-below
@@ -14,4 +12,4 @@ returns-clause-below c =
 pub returns-clause-distinct : goal.returns-clause-distinct
 returns-clause-distinct c =
     subst (λ (m : Members). Distinct m.items) c.self.view_is
-    (members_distinct c.self.inside.dense.items c.self.inside.sparse.items c.self.inside.len c.self.invariant.back)
+    (members_distinct c.self.inside.dense.items c.self.inside.sparse.items c.self.inside.len c.self.invariant.within c.self.invariant.below c.self.invariant.back)

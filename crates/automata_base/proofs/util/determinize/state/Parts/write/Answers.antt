@@ -1,6 +1,7 @@
-use Rattle.std.proofs.Common.{arith, ap, ◌∙◌, rules, nat_eq, subst, sym}
-use Rattle.std.specs.List.{All, IsDistinct}
+use Rattle.std.proofs.Common.{arith, ap, ◌∙◌, rules, subst, sym}
+use Rattle.std.specs.List.{All}
 use Rattle.std.proofs.lemmas.List.Elements.{recursion_from_All}
+use Rattle.automata_base.specs.Lists.{Distinct}
 use Rattle.automata_base.specs.Powersets.Code.{decoded}
 use Rattle.automata_base.specs.Powersets.Powerset.{IsPowerset, IsId}
 use Rattle.automata_base.specs.Powersets.Parts.{powerset_of}
@@ -8,7 +9,7 @@ use Rattle.automata_base.proofs.Powersets.Code.Inverse.{count_fits, IsCode-code,
 use Rattle.automata_base.proofs.util.determinize.state.Parts.write.Goals as goal
 
 pub push_state-requires : goal.push_state-requires
-push_state-requires c = omega (arith, c.deref-3.ensures.len, c.deref.ensures.len, count_fits _ (recursion_from_All IsId _ c.see_patterns.ensures) (subst (IsDistinct nat_eq) (sym c.deref.ensures.value) c.requires))
+push_state-requires c = omega (arith, c.deref-3.ensures.len, c.deref.ensures.len, count_fits _ (recursion_from_All IsId _ c.see_patterns.ensures) (subst Distinct (sym c.deref.ensures.value) c.requires))
 
 pub returns-clause-bytes : goal.returns-clause-bytes
 returns-clause-bytes c = rw (c.clear.ensures.items, c.deref-2.ensures.value, c.deref-3.ensures.value) at c.in_ok-push_state.ensures.ok

@@ -1,6 +1,6 @@
--- The pass over an NFA as a computation: what the relations of Powersets define, by functions.
-use Rattle.std.specs.Prelude.{ℕ, zero, suc, ◌≡◌, ◌<◌, Bool, true, false, not, ◌&&◌, ◌||◌, eqb, List, [], ◌∷◌, ◌++◌}
-use Rattle.std.specs.Prelude.{length, Option, Some, None}
+-- Closures, powerset states and steps as a computation: what the relations of Powersets define, by functions.
+use Rattle.std.specs.Prelude.{ℕ, zero, suc, Bool, true, false, not, ◌&&◌, ◌||◌, eqb, List, [], ◌∷◌, ◌++◌}
+use Rattle.std.specs.Prelude.{length, Option}
 use Rattle.automata_base.specs.Haystacks.Looks.{Look, Start, End, StartLF, EndLF, StartCRLF, EndCRLF, WordAscii}
 use Rattle.automata_base.specs.Haystacks.Looks.{WordAsciiNegate}
 use Rattle.automata_base.specs.Haystacks.Looks.{WordUnicode, WordUnicodeNegate, WordStartAscii, WordEndAscii}
@@ -10,13 +10,11 @@ use Rattle.automata_base.specs.Haystacks.Looks.{WordStartHalfUnicode}
 use Rattle.automata_base.specs.Haystacks.Looks.{WordEndHalfUnicode, is_absent, is_byte, is_word, first_half}
 use Rattle.automata_base.specs.Haystacks.Looks.{second_half}
 use Rattle.automata_base.specs.Haystacks.Looks.{look_index}
-use Rattle.automata_base.specs.Lists.{In, pick}
-use Rattle.automata_base.specs.Nfas.Nfa.{Nfa, Node, Split, Assert, Read, Accept, Truth, node, takes, accepts, keep}
-use Rattle.automata_base.specs.Paths.Paths.{Tape, next}
+use Rattle.automata_base.specs.Lists.{pick}
+use Rattle.automata_base.specs.Nfas.Nfa.{Nfa, Truth, node, accepts, keep, any_node, looks_at}
 use Rattle.automata_base.specs.Powersets.Cuts.{MatchKind, cut_for, targets}
 use Rattle.automata_base.specs.Powersets.Passes.{is_word_look, is_crlf_look, true_looks}
 use Rattle.automata_base.specs.Powersets.Powerset.{Powerset}
-use Rattle.automata_base.specs.Paths.Selections.{Pair, at_place}
 use Rattle.automata_base.specs.Powersets.Closure.{children}
 use Rattle.automata_base.specs.Haystacks.LookSets.{truth_of, set_of, all_looks}
 
@@ -41,17 +39,7 @@ abbrev pub once_past : List ℕ → List ℕ → List ℕ
 once_past seen [] = []
 once_past seen (x ∷ xs) = elim (is_in x seen) [ true ↦ once_past seen xs | false ↦ x ∷ once_past (x ∷ seen) xs ]
 
--- Whether a state is a look that passes the test.
-abbrev pub looks_at : (Look → Bool) → Node → Bool
-looks_at f (Split alternates) = false
-looks_at f (Assert look next) = f look
-looks_at f (Read ranges) = false
-looks_at f (Accept p) = false
-
-abbrev pub any_node : (Look → Bool) → List Node → Bool
-any_node f [] = false
-any_node f (x ∷ xs) = looks_at f x || any_node f xs
-
+-- Whether a state of the list is a look that passes the test.
 abbrev pub any_state : (Look → Bool) → Nfa → List ℕ → Bool
 any_state f n [] = false
 any_state f n (q ∷ qs) = looks_at f (node n q) || any_state f n qs
@@ -119,42 +107,3 @@ abbrev pub successor_of : Nfa → MatchKind → Powerset → Option ℕ → Powe
 successor_of n kind Q u =
     let L : List ℕ = cut_for kind n (decide n Q u) in
     arrive n (once_past [] (pick (accepts n) L)) (targets n u L) u
-
-abbrev pub pass_of : Nfa → MatchKind → ℕ → Tape → ℕ → Powerset
-pass_of n kind start t zero = start_behind n start t.before
-pass_of n kind start t (suc k) = successor_of n kind (pass_of n kind start t k) (next t k)
-
-abbrev pub reported_of : Nfa → MatchKind → ℕ → Tape → ℕ → List ℕ
-reported_of n kind start t i = (pass_of n kind start t (suc i)).patterns
-
-abbrev pub pair_at : List ℕ → ℕ → Option Pair → Option Pair
-pair_at [] i other = other
-pair_at (p ∷ rest) i other = Some (record { pattern = p; place = i })
-
--- The first pattern of the last state with patterns among those that `k` units lead to.
-abbrev pub last_of : Nfa → MatchKind → ℕ → Tape → ℕ → Option Pair
-last_of n kind start t zero = None
-last_of n kind start t (suc i) = pair_at (reported_of n kind start t i) i (last_of n kind start t i)
-
-abbrev pub earlier_or : Option Pair → Option Pair → Option Pair
-earlier_or None other = other
-earlier_or (Some pair) other = Some pair
-
-abbrev pub first_of : Nfa → MatchKind → ℕ → Tape → ℕ → Option Pair
-first_of n kind start t zero = None
-first_of n kind start t (suc i) = earlier_or (first_of n kind start t i) (pair_at (reported_of n kind start t i) i None)
-
-abbrev pub search_of : MatchKind → Bool → Nfa → Tape → ℕ → Option Pair
-search_of kind true n t start = first_of n kind start t (suc (length t.bytes))
-search_of kind false n t start = last_of n kind start t (suc (length t.bytes))
-
--- Each edge leads to a state of the NFA.
-abbrev pub IsInRange : Nfa → Type 0
-IsInRange n =
-    ((q c : ℕ) (A : Truth) → In c (children n A q) → c < length n.nodes)
-    × ((q u r : ℕ) → takes n q u ≡ Some r → r < length n.nodes)
-
--- The pairs that a walk reports at the first `k` places.
-abbrev pub pairs_upto : Nfa → MatchKind → ℕ → Tape → ℕ → List Pair
-pairs_upto n kind start t zero = []
-pairs_upto n kind start t (suc k) = pairs_upto n kind start t k ++ at_place k (reported_of n kind start t k)

@@ -1,18 +1,17 @@
 -- Which states of an NFA edges reach from some of them.
-use Rattle.std.specs.Prelude.{ℕ, ◌≡◌, ◌⊎◌, ◌&&◌, Bool, false, cond, eqb, List, [], ◌∷◌, ◌++◌, map, Option, Some, None}
+use Rattle.std.specs.Prelude.{ℕ, ◌≡◌, cond, eqb, List, [], ◌∷◌, ◌++◌, map, Option, Some, None}
 use Rattle.std.specs.Prelude.{slice_get}
 use Rattle.automata_base.specs.declared.nfa.thompson.State.{State}
-use Rattle.automata_base.specs.declared.nfa.thompson.State.TheVariants as is
 use Rattle.automata_base.specs.declared.nfa.thompson.reach.Edges.{Edges}
 use Rattle.automata_base.specs.declared.nfa.thompson.reach.Edges.TheVariants.{Epsilon, Every}
-use Rattle.automata_base.specs.Lists.{In, nth}
+use Rattle.automata_base.specs.Lists.{In}
 use Rattle.automata_base.specs.Nfas.Nfa.{Node, Range, Split, Assert, Read, Accept, node_or_fail, accepts_at}
 use Rattle.automata_base.specs.Nfas.Nodes.{nodes_of}
 use Rattle.automata_base.specs.Paths.Paths.{all_true}
 use Rattle.automata_base.specs.Powersets.Closure.{children_at}
 
 abbrev pub node_in : List State → ℕ → Node
-node_in states q = node_or_fail (nth (nodes_of states) q)
+node_in states q = node_or_fail (slice_get (nodes_of states) q)
 
 abbrev pub nexts : List Range → List ℕ
 nexts ranges = map (λ range. range.next) ranges
@@ -79,23 +78,3 @@ second_at (Split alternates) first = second_of alternates first
 second_at (Assert look next) first = None
 second_at (Read ranges) first = None
 second_at (Accept p) first = None
-
--- Whether any byte leads to `target`, by one range.
-abbrev pub is_any_byte_of : State → ℕ → Bool
-is_any_byte_of (is.ByteRange lo hi next) target = eqb lo 0 && eqb hi 255 && eqb next target
-is_any_byte_of (is.Sparse ts) target = false
-is_any_byte_of (is.Dense targets) target = false
-is_any_byte_of (is.Look look next) target = false
-is_any_byte_of (is.Union alternates) target = false
-is_any_byte_of (is.BinaryUnion alt1 alt2) target = false
-is_any_byte_of (is.Capture next pattern index slot) target = false
-is_any_byte_of is.Fail target = false
-is_any_byte_of (is.Match pattern) target = false
-
--- The starts are one state, or the unanchored one is a lazy loop over any bytes before the anchored one.
-abbrev pub SkipsFrom : List State → (anchored unanchored : ℕ) → Type 0
-SkipsFrom states anchored unanchored =
-    (unanchored ≡ anchored)
-    ⊎ ((skip : ℕ) × (node_in states unanchored ≡ Split (anchored ∷ skip ∷ []))
-    × (slice_get states skip ≡ Some (is.ByteRange 0 255 unanchored))
-    × (IsReached Every states (anchored ∷ []) unanchored → ⊥))
