@@ -18,7 +18,7 @@ use Rattle.automata_hybrid.specs.Cache.Table.{Rows, has_patterns, find_id, Names
 use Rattle.automata_hybrid.specs.Cache.Table.{with_cell, cell_at, AreRows, IsStepped, HasState}
 use Rattle.automata_hybrid.specs.Cache.Table.{row_cost}
 use Rattle.automata_hybrid.proofs.Cache.Rows.{inside}
-use Rattle.automata_hybrid.proofs.Cases.{same_some}
+use Rattle.automata_base.proofs.Paths.Orders.{some_inj}
 
 -- the row that a look-up met
 pub record Found (s at : ℕ) (q : Powerset) (rs : List Row) (id : ℕ) : Type 0 where
@@ -132,7 +132,7 @@ AreRows-with_cell t id class next q i h l free leads =
                 let both = one_cell (k + 3) (p.place + 3) c class (table_stride t.of) lc l (e ∙ ap (λ n. n + class) p.offset) in
                 let place : k ≡ p.place = omega (arith, both.0) in
                 let row : Some r ≡ Some p.row = sym has ∙ ap (slice_get t.rows) place ∙ p.has in
-                let state : r.state ≡ q = ap (λ (x : Row). x.state) (same_some row) ∙ p.state in
+                let state : r.state ≡ q = ap (λ (x : Row). x.state) (some_inj row) ∙ p.state in
                 let read : next ≡ get_or (set t.cells (cell_at id class) next) ((k + 3) * table_stride t.of + c) 0 = sym (get_or-set_same t.cells (cell_at id class) next 0 (Placed-cell t id class q i p l)) ∙ ap (λ n. get_or (set t.cells (cell_at id class) next) n 0) (sym e) in
                 subst (IsCell t r.state c) read (subst (λ d. IsCell t r.state d next) (sym both.1) (subst (λ w. IsCell t w class next) (sym state) (inr (free, inr leads))))
 
