@@ -7,7 +7,6 @@ pub mod Shapes
 pub mod Errors
 pub mod Accepted
 pub mod Drafts
-pub mod Reach
 pub mod Utf8
 pub mod Mirrors
 pub mod ReversedSizes

@@ -9,3 +9,4 @@ pub mod ReversedEdges
 pub mod Copies
 pub mod DenseRuns
 pub mod Decoders
+pub mod Reach

@@ -1,5 +1,5 @@
--- Results and options, by cases.
-use Rattle.std.proofs.Common.{◌≡◌, Option, None, Some, ap}
+-- Results, by cases.
+use Rattle.std.proofs.Common.{◌≡◌, ap}
 use Rattle.std.specs.Prelude.{Result, Ok, Err, IfOk, OnOk}
 use Rattle.std.specs.Result.{IsErrAnd}
 
@@ -27,13 +27,3 @@ module _ {A E : Type 0} where
 
   pub same_ok : {a b : A} → ◌≡◌ {A = Result A E} (Ok a) (Ok b) → a ≡ b
   same_ok h = cc
-
-module _ {A : Type 0} where
-  pub some_none : {a : A} → ◌≡◌ {A = Option A} (Some a) None → ⊥
-  some_none h = cc
-
-  pub none_some : {a : A} → ◌≡◌ {A = Option A} None (Some a) → ⊥
-  none_some h = cc
-
-  pub same_some : {a b : A} → ◌≡◌ {A = Option A} (Some a) (Some b) → a ≡ b
-  same_some h = cc

@@ -7,14 +7,11 @@ use Rattle.automata_base.specs.Haystacks.Input.{Input}
 use Rattle.automata_base.specs.Paths.Selections.{Pair}
 use Rattle.automata_base.specs.Haystacks.Tapes.{Direction, Forward, Backward, is_split}
 use Rattle.automata_base.specs.declared.util.search.Anchored.TheVariants.{No}
-use Rattle.automata_base.proofs.Answers.Starts.{no_pair}
+use Rattle.automata_base.proofs.Paths.Orders.{some_none, some_inj}
 
 pub haystack_later : (way : Direction) (k : ℕ) (input : Input) → (later way k input).haystack ≡ input.haystack
 haystack_later Forward k input = refl
 haystack_later Backward k input = refl
-
-pub same_pair : {x y : Pair} → ◌≡◌ {A = Option Pair} (Some x) (Some y) → x ≡ y
-same_pair e = cc
 
 half_is : (a b : Half) → a.pattern ≡ b.pattern → a.offset ≡ b.offset → a.base ≡ b.base → ◌≡◌ {A = Option Half} (Some a) (Some b)
 half_is a b x y z = ap₂ (λ v w. v w) (ap₂ half_by x y) z
@@ -51,23 +48,23 @@ module _ (T : Input → Option Pair → Type 0) (S : Type 0) (way : Direction) (
     where
       go : (o : Option Half) → Ends o k → (input.start + k ≤ input.end) × IsSplit T way (later way k input) → S × (input.anchored ≡ No) → ⊥
       go None (inl m) s z = omega (arith, m, s.0)
-      go None (inr (inl m)) s z = no_pair (once (later way k input) (Some s.1.0) None s.1.1 m)
+      go None (inr (inl m)) s z = some_none (once (later way k input) (Some s.1.0) None s.1.1 m)
       go None (inr (inr m)) s z = m.1 z.1
       go (Some half) m s z =
-          split_keeps k s.1.0 m.0 (same_pair (once (later way k input) (Some s.1.0) (Some m.0) s.1.1 m.2)) s.1.2 (m.3 z.0)
+          split_keeps k s.1.0 m.0 (some_inj (once (later way k input) (Some s.1.0) (Some m.0) s.1.1 m.2)) s.1.2 (m.3 z.0)
 
   none_some : (a : Half) (k : ℕ) → Ends None k → Ends (Some a) k → ⊥
   none_some a k (inl m) s = omega (arith, m, s.1)
-  none_some a k (inr (inl m)) s = no_pair (once (later way k input) (Some s.0) None s.2 m)
+  none_some a k (inr (inl m)) s = some_none (once (later way k input) (Some s.0) None s.2 m)
   none_some a k (inr (inr m)) s =
-      split_keeps k m.2.0 s.0 (same_pair (once (later way k input) (Some m.2.0) (Some s.0) m.2.1 s.2)) m.2.2 (s.3 m.0)
+      split_keeps k m.2.0 s.0 (some_inj (once (later way k input) (Some m.2.0) (Some s.0) m.2.1 s.2)) m.2.2 (s.3 m.0)
 
   same_ends : (o o' : Option Half) (k : ℕ) → Ends o k → Ends o' k → o ≡ o'
   same_ends None None k e e' = refl
   same_ends (Some a) None k e e' = absurd (none_some a k e' e)
   same_ends None (Some a) k e e' = absurd (none_some a k e e')
   same_ends (Some a) (Some b) k e e' =
-      let p : e.0 ≡ e'.0 = same_pair (once (later way k input) (Some e.0) (Some e'.0) e.2 e'.2) in
+      let p : e.0 ≡ e'.0 = some_inj (once (later way k input) (Some e.0) (Some e'.0) e.2 e'.2) in
       half_is a b (e.4 ∙ (ap (λ (v : Pair). v.pattern) p ∙ sym e'.4))
       (e.5 ∙ (ap (λ (v : Pair). offset_in way (later way k input) v.place) p ∙ sym e'.5)) (e.6 ∙ sym e'.6)
 

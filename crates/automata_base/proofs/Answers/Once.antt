@@ -6,7 +6,7 @@ use Rattle.automata_base.specs.Nfas.Nfa.{Nfa, accepts}
 use Rattle.automata_base.specs.Paths.Paths.{Tape, IsPath}
 use Rattle.automata_base.specs.Powersets.Cuts.{MatchKind, All, LeftmostFirst}
 use Rattle.automata_base.specs.Paths.Selections.{Accepts, Pair, IsChosen, Selects}
-use Rattle.automata_base.proofs.Paths.Orders.{some_inj, cons_head, cons_tail}
+use Rattle.automata_base.proofs.Paths.Orders.{some_inj, cons_head, cons_tail, none_some, some_none}
 use Rattle.automata_base.specs.Answers.Spans.{IsPathStart, Chooses, IsSpan, in_full, IsMatch, from, IsEmptyAt}
 use Rattle.automata_base.specs.Answers.Spans.{IsNextItem, AreMatches, AreSpans}
 use Rattle.automata_base.specs.Haystacks.Matches.{Match}
@@ -16,7 +16,6 @@ use Rattle.automata_base.specs.Nfas.Engines.{Engine, Anchored, No, Yes, Pattern,
 use Rattle.automata_base.specs.Answers.Answers.{Half, SelectsFrom, SelectsOver, later, IsAnswer}
 use Rattle.automata_base.specs.Haystacks.Input.{Input}
 use Rattle.automata_base.proofs.Answers.Answered.{answers_once}
-use Rattle.automata_base.proofs.Answers.Starts.{no_pair}
 use Rattle.automata_base.proofs.Answers.Tried.{ComesTo, IsSplitAnswer}
 use Rattle.automata_base.proofs.Paths.Unique.{upto_both}
 
@@ -105,17 +104,8 @@ start_once d No t path k k' s s' = go (prefixes s.0 s'.0 s.1 s'.1 (sym s.2 ∙ s
 start_once d Yes t path k k' s s' = s ∙ sym s'
 start_once d (Pattern p) t path k k' s s' = s ∙ sym s'
 
-pub no_half : {x : Half} → ◌≡◌ {A = Option Half} None (Some x) → ⊥
-no_half e = cc
-
-same_half : {x y : Half} → ◌≡◌ {A = Option Half} (Some x) (Some y) → x ≡ y
-same_half e = cc
-
-no_match : {x : Match} → ◌≡◌ {A = Option Match} None (Some x) → ⊥
-no_match e = cc
-
-same_match : {x y : Match} → ◌≡◌ {A = Option Match} (Some x) (Some y) → x ≡ y
-same_match e = cc
+pub match_is : (a b : Match) → a.pattern ≡ b.pattern → a.start ≡ b.start → a.end ≡ b.end → a ≡ b
+match_is a b pattern start end = λ i. record { pattern = pattern i; start = start i; end = end i }
 
 -- A span for a forward answer.
 abbrev pub SpanOf : Engine → Input → Match → Half → Type 0
@@ -147,21 +137,15 @@ span_of_once d input half m m' s s' =
     start : s.2 ≡ s'.2
     start = start_once d input.anchored t s.3 s.2 s'.2 s.7 (subst (λ v. IsPathStart d input.anchored t v s'.2) (sym path_same) s'.7)
 
-    match_is : (a b : Match) → a.pattern ≡ b.pattern → a.start ≡ b.start → a.end ≡ b.end → a ≡ b
-    match_is a b x y z = ap₂ (λ v w. v w) (ap₂ match_of x y) z
-      where
-        match_of : ℕ → ℕ → ℕ → Match
-        match_of p s e = record { pattern = p; start = s; end = e }
-
 -- An input has one span.
 pub span_once : (d : Engine) (input : Input) (a b : Option Match) → IsSpan d input a → IsSpan d input b → a ≡ b
 span_once d input None None s s' = refl
-span_once d input None (Some b) s s' = absurd (no_half (answer_once Forward d input None (Some s'.0) s s'.5))
-span_once d input (Some a) None s s' = absurd (no_half (answer_once Forward d input None (Some s.0) s' s.5))
+span_once d input None (Some b) s s' = absurd (none_some (answer_once Forward d input None (Some s'.0) s s'.5))
+span_once d input (Some a) None s s' = absurd (none_some (answer_once Forward d input None (Some s.0) s' s.5))
 span_once d input (Some a) (Some b) s s' =
     ap (λ v. Some v)
     (span_of_once d input s.0 a b (s.1, s.2, s.3, s.4, s.6, s.7, s.8, s.9, s.10, s.11, s.12)
-    (subst (λ v. SpanOf d input b v) (sym (same_half (answer_once Forward d input (Some s.0) (Some s'.0) s.5 s'.5)))
+    (subst (λ v. SpanOf d input b v) (sym (some_inj (answer_once Forward d input (Some s.0) (Some s'.0) s.5 s'.5)))
     (s'.1, s'.2, s'.3, s'.4, s'.6, s'.7, s'.8, s'.9, s'.10, s'.11, s'.12)))
 
 -- What finds one answer finds one list.
@@ -171,26 +155,26 @@ FindsOnce Finds = (input : Input) (a b : Option Match) → Finds input a → Fin
 pub next_none :
     (Finds : Input → Option Match → Type 0) (input : Input) (start : ℕ) (last : Option ℕ) (m : Match)
     → FindsOnce Finds → IsNextItem Finds input start last None → IsNextItem Finds input start last (Some m) → ⊥
-next_none Finds input start last m once (inl s) (inl s') = no_match (once (from start input) None (Some m) s s'.0)
-next_none Finds input start last m once (inl s) (inr s') = no_match (once (from start input) None (Some s'.0) s s'.1)
+next_none Finds input start last m once (inl s) (inl s') = none_some (once (from start input) None (Some m) s s'.0)
+next_none Finds input start last m once (inl s) (inr s') = none_some (once (from start input) None (Some s'.0) s s'.1)
 next_none Finds input start last m once (inr s) (inl s') =
-    s'.1 (subst (λ v. IsEmptyAt last v) (same_match (once (from start input) (Some s.0) (Some m) s.1 s'.0)) s.2)
+    s'.1 (subst (λ v. IsEmptyAt last v) (some_inj (once (from start input) (Some s.0) (Some m) s.1 s'.0)) s.2)
 next_none Finds input start last m once (inr s) (inr s') =
-    no_match (once (from (suc start) input) None (Some m) s.3 s'.3)
+    none_some (once (from (suc start) input) None (Some m) s.3 s'.3)
 
 pub next_some :
     (Finds : Input → Option Match → Type 0) (input : Input) (start : ℕ) (last : Option ℕ) (m m' : Match)
     → FindsOnce Finds → IsNextItem Finds input start last (Some m) → IsNextItem Finds input start last (Some m') → m ≡ m'
 next_some Finds input start last m m' once (inl s) (inl s') =
-    same_match (once (from start input) (Some m) (Some m') s.0 s'.0)
+    some_inj (once (from start input) (Some m) (Some m') s.0 s'.0)
 next_some Finds input start last m m' once (inl s) (inr s') =
     absurd
-    (s.1 (subst (λ v. IsEmptyAt last v) (same_match (once (from start input) (Some s'.0) (Some m) s'.1 s.0)) s'.2))
+    (s.1 (subst (λ v. IsEmptyAt last v) (some_inj (once (from start input) (Some s'.0) (Some m) s'.1 s.0)) s'.2))
 next_some Finds input start last m m' once (inr s) (inl s') =
     absurd
-    (s'.1 (subst (λ v. IsEmptyAt last v) (same_match (once (from start input) (Some s.0) (Some m') s.1 s'.0)) s.2))
+    (s'.1 (subst (λ v. IsEmptyAt last v) (some_inj (once (from start input) (Some s.0) (Some m') s.1 s'.0)) s.2))
 next_some Finds input start last m m' once (inr s) (inr s') =
-    same_match (once (from (suc start) input) (Some m) (Some m') s.3 s'.3)
+    some_inj (once (from (suc start) input) (Some m) (Some m') s.3 s'.3)
 
 pub matches_once :
     (Finds : Input → Option Match → Type 0) (input : Input) (start : ℕ) (last : Option ℕ) (ms ms' : List Match)
@@ -217,7 +201,7 @@ plain way d input k f c = ⊎_elim (λ (z : k ≡ 0). z) (λ (z : IsSkipping d �
 
 clash_from :
     (d : Engine) (v w : Bool) (t : Tape) (o : Option ℕ) (pair : Pair) → SelectsFrom d v t o None → SelectsFrom d w t o (Some pair) → ⊥
-clash_from d v w t None pair s s' = no_pair s'
+clash_from d v w t None pair s s' = some_none s'
 clash_from d v w t (Some q) pair s s' = s pair.place pair.pattern s'.0 s'.1
 
 abbrev pub with_earliest : Bool → Input → Input
@@ -262,8 +246,8 @@ match_iff_find d input truth answer premise m s = m.2 ∙ go answer s m.0 m.1 pr
     go None s None a p = refl
     go (Some m) s (Some half) a p = refl
     go None s (Some half) a (inl e) =
-        absurd (no_half (answer_once Forward d (in_full input) None (Some half) (same None e s) a))
+        absurd (none_some (answer_once Forward d (in_full input) None (Some half) (same None e s) a))
     go None s (Some half) a (inr f) = absurd (clash d input.earliest false input half f s a)
     go (Some m) s None a (inl e) =
-        absurd (no_half (answer_once Forward d (in_full input) None (Some s.0) a (same (Some s.0) e s.5)))
+        absurd (none_some (answer_once Forward d (in_full input) None (Some s.0) a (same (Some s.0) e s.5)))
     go (Some m) s None a (inr f) = absurd (clash d false input.earliest input s.0 f a s.5)

@@ -20,7 +20,7 @@ use Rattle.automata_base.proofs.Answers.Backs.{end_inside, forward_bytes}
 use Rattle.automata_base.proofs.Answers.Starts.{mode_cases, Answered, answered, unanchored, back_answer, goes_to_start}
 use Rattle.automata_base.proofs.Answers.Starts.{start_unsplit, anchored_back}
 use Rattle.automata_base.proofs.Answers.Turning.{turn_answers, turn_outcome}
-use Rattle.automata_base.proofs.Answers.Once.{no_half}
+use Rattle.automata_base.proofs.Paths.Orders.{none_some}
 
 -- An anchored path starts at its first place.
 pub anchored_start : (d : Engine) (m : Anchored) (t : Tape) (path : List ℕ) → (m ≡ No → ⊥) → IsPathStart d m t path 0
@@ -142,7 +142,7 @@ far_right f r input NotAPair pair keeps bytes w s =
     absurd (none_found (b.3 None s.2.1))
   where
     none_found : {P : Half → Type 0} → (found : Half) × (◌≡◌ {A = Option Half} None (Some found)) × P found → ⊥
-    none_found h = no_half h.1
+    none_found h = none_some h.1
 far_right f r input (Found (Some m)) pair keeps bytes w s = (Some m, refl, go s.2)
   where
     half : Half

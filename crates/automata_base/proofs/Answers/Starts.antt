@@ -4,7 +4,7 @@ use Rattle.std.proofs.Common.{inr, refl, sym, ap, ap₂, ◌∙◌, subst, arith
 use Rattle.automata_base.specs.Nfas.Nfa.{Nfa, accepts}
 use Rattle.automata_base.specs.Paths.Paths.{Tape, IsPathFrom}
 use Rattle.automata_base.specs.Paths.Selections.{Accepts, Pair, IsFarthest}
-use Rattle.automata_base.proofs.Paths.Orders.{some_inj}
+use Rattle.automata_base.proofs.Paths.Orders.{some_inj, some_none}
 use Rattle.automata_base.proofs.Paths.Places.{path_grows}
 use Rattle.automata_base.specs.Haystacks.Tapes.{IsHaystack, Forward, Backward, forward_tape, reverse_tape, is_split}
 use Rattle.automata_base.specs.Nfas.Engines.{Engine, Anchored, No, Yes, Pattern, first_state, LoopsLazily, IsSkipping}
@@ -16,9 +16,6 @@ use Rattle.automata_base.specs.Answers.OfPasses.{EndsOver, IsFarthestAnswer}
 use Rattle.automata_base.proofs.Answers.Chosen.{StartsAt, least_start}
 use Rattle.automata_base.proofs.Answers.Text.{unsplit}
 use Rattle.automata_base.proofs.Answers.Backs.{end_inside, forward_bytes, narrow, goes_back, comes_forth}
-
-pub no_pair : {x : Pair} → ◌≡◌ {A = Option Pair} (Some x) None → ⊥
-no_pair e = cc
 
 pub yes_no : ◌≡◌ {A = Anchored} Yes No → ⊥
 yes_no e = cc
@@ -48,7 +45,7 @@ answered d input half a = go (first_state d input.anchored) refl a.4
         (o : Option ℕ) → first_state d input.anchored ≡ o
         → SelectsFrom d input.earliest (forward_tape input.haystack (input.start + a.0) input.end) o (Some a.1)
         → (q i : ℕ) × (path : List ℕ) × Answered d input half q i path
-    go None e s = absurd (no_pair s)
+    go None e s = absurd (some_none s)
     go (Some q) e s = (
       q,
       a.1.place,
@@ -132,7 +129,7 @@ back_answer r h b e m answer l g u = go answer
     same_place f = ap (λ v. place_of v) f
 
     none : (k : ℕ) → e - k ≡ e → IsFarthest r.nfa (reverse_tape h b (e - k)) r.anchored None → ⊥
-    none k same s = let p = greatest k None same s in no_pair (sym p.1)
+    none k same s = let p = greatest k None same s in some_none (sym p.1)
 
     split : (k : ℕ) → e - k ≡ e → IsSkipping r → IsSplit Far Backward (later Backward k (anchored_back h b e)) → ⊥
     split k same skipping s =

@@ -1,9 +1,10 @@
 -- Patterns that are reported are the automaton's, and answers lie in their span.
 use Rattle.std.proofs.Common.{ℕ, zero, suc, ◌≡◌, ◌∙◌, ◌<◌, ◌≤◌, ◌⊎◌, inl, inr, Bool, true, false, List, [], ◌∷◌, length}
 use Rattle.std.proofs.Common.{Option, Some, None, refl, sym, ap, subst, arith}
+use Rattle.std.proofs.Common.{eq-or-lt_of_le}
 use Rattle.automata_base.specs.Answers.Answers.{Half, later, offset_in, with_offsets}
 use Rattle.automata_base.specs.Retraced.Computed.{is_in, once_past}
-use Rattle.automata_base.specs.Retraced.Passes.{earlier_or, pair_at}
+use Rattle.automata_base.specs.Retraced.Passes.{earlier_or, pair_at, first_among}
 use Rattle.automata_base.specs.Powersets.Cuts.{MatchKind}
 use Rattle.automata_base.specs.Nfas.Accepted.{IsChecked}
 use Rattle.automata_base.specs.Nfas.Engines.{Anchored}
@@ -24,7 +25,7 @@ use Rattle.automata_base.specs.Answers.Within.{IsInSpan, IsPatternOf, StatesRepo
 use Rattle.automata_base.specs.Answers.Within.{WalkLiesWithin}
 use Rattle.automata_base.proofs.Powersets.ReportedPairs.{in_offsets, in_reported, in_unsplit}
 use Rattle.automata_base.proofs.Answers.Bytes.{forward_length, tape_length}
-use Rattle.automata_base.proofs.Answers.Answered.{same_pair}
+use Rattle.automata_base.proofs.Paths.Orders.{none_some, some_inj}
 
 -- what is picked is picked of something
 picked : (g : ℕ → Option ℕ) (xs : List ℕ) (y : ℕ) → In y (pick g xs) → (x : ℕ) × (g x ≡ Some y)
@@ -70,9 +71,6 @@ reported_own :
 unfolding state_after
 reported_own a d kind mode t i p h = step_own a d kind (state_after a kind mode t i) (next t i) p h
 
-no_pair : {pair : Pair} → ◌≡◌ {A = Option Pair} None (Some pair) → ⊥
-no_pair e = cc
-
 -- what the patterns of a state report at a place
 record IsReportedAt (patterns : List ℕ) (i : ℕ) (pair : Pair) : Type 0 where
   place : pair.place ≡ i
@@ -82,7 +80,7 @@ pair_reported : (patterns : List ℕ) (i : ℕ) (o : Option Pair) (pair : Pair) 
 pair_reported [] i o pair e = inl e
 pair_reported (p ∷ ps) i o pair e =
     let at : Pair = record { pattern = p; place = i } in
-    let same : pair ≡ at = sym (same_pair e) in
+    let same : pair ≡ at = sym (some_inj e) in
     inr (record { place = ap (λ (v : Pair). v.place) same; pattern = inl (ap (λ (v : Pair). v.pattern) same) })
 
 earlier_reported : (o other : Option Pair) (pair : Pair) → earlier_or o other ≡ Some pair → (o ≡ Some pair) ⊎ ((o ≡ None) × (other ≡ Some pair))
@@ -102,7 +100,7 @@ module _ (kind : MatchKind) (a : Automaton) (mode : Anchored) (t : Tape) (pair :
 
   last_below : (k : ℕ) → last_reported a kind mode t k ≡ Some pair → ReportedBelow k
   unfolding last_reported
-  last_below zero e = absurd (no_pair e)
+  last_below zero e = absurd (none_some e)
   last_below (suc k) e = go (λ before. last_below k before) (pair_reported (reported_at a kind mode t k) k (last_reported a kind mode t k) pair e) where
     go : (last_reported a kind mode t k ≡ Some pair → ReportedBelow k) → (last_reported a kind mode t k ≡ Some pair) ⊎ IsReportedAt (reported_at a kind mode t k) k pair → ReportedBelow (suc k)
     go sooner (inl before) = below_more k (sooner before)
@@ -110,10 +108,10 @@ module _ (kind : MatchKind) (a : Automaton) (mode : Anchored) (t : Tape) (pair :
 
   pub first_below : (k : ℕ) → first_reported a kind mode t k ≡ Some pair → ReportedBelow k
   unfolding first_reported
-  first_below zero e = absurd (no_pair e)
+  first_below zero e = absurd (none_some e)
   first_below (suc k) e = go (λ before. first_below k before) (earlier_reported (first_reported a kind mode t k) (pair_at (reported_at a kind mode t k) k None) pair e) where
     next : (◌≡◌ {A = Option Pair} None (Some pair)) ⊎ IsReportedAt (reported_at a kind mode t k) k pair → ReportedBelow (suc k)
-    next (inl n) = absurd (no_pair n)
+    next (inl n) = absurd (none_some n)
     next (inr s) = here k s
 
     go : (first_reported a kind mode t k ≡ Some pair → ReportedBelow k)
@@ -125,6 +123,15 @@ module _ (kind : MatchKind) (a : Automaton) (mode : Anchored) (t : Tape) (pair :
   pub reported_below : (earliest : Bool) (k : ℕ) → reported_upto kind earliest a mode t k ≡ Some pair → ReportedBelow k
   reported_below true k e = first_below k e
   reported_below false k e = last_below k e
+
+-- the first of what is reported stays the first
+pub first_stays :
+    (reported : ℕ → List ℕ) (pair : Pair) (k n : ℕ) → k ≤ n → first_among reported k ≡ Some pair → first_among reported n ≡ Some pair
+first_stays reported pair k zero l e = let z : k ≡ 0 = omega (arith, l) in subst (λ i. first_among reported i ≡ Some pair) z e
+first_stays reported pair k (suc n) l e = go (λ more. first_stays reported pair k n more e) (eq-or-lt_of_le l) where
+  go : (k ≤ n → first_among reported n ≡ Some pair) → (k ≡ suc n) ⊎ (k < suc n) → first_among reported (suc n) ≡ Some pair
+  go before (inl same) = subst (λ i. first_among reported i ≡ Some pair) same e
+  go before (inr less) = ap (λ o. earlier_or o (pair_at (reported n) n None)) (before (omega (arith, less)))
 
 -- a place of the tape of a span is an offset in the span
 place_in :

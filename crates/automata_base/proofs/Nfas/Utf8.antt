@@ -1,3 +1,4 @@
+pub mod Decoder
 pub mod Adding
 pub mod Answering
 pub mod Backwards

@@ -55,11 +55,14 @@ cons_tail e = cc
 pub nil_cons : {x : ℕ} {xs : List ℕ} → ◌≡◌ {A = List ℕ} [] (x ∷ xs) → ⊥
 nil_cons e = cc
 
-pub some_inj : {x y : ℕ} → ◌≡◌ {A = Option ℕ} (Some x) (Some y) → x ≡ y
+pub some_inj : {A : Type 0} {x y : A} → ◌≡◌ {A = Option A} (Some x) (Some y) → x ≡ y
 some_inj e = cc
 
-pub none_some : {x : ℕ} → ◌≡◌ {A = Option ℕ} None (Some x) → ⊥
+pub none_some : {A : Type 0} {x : A} → ◌≡◌ {A = Option A} None (Some x) → ⊥
 none_some e = cc
+
+pub some_none : {A : Type 0} {x : A} → ◌≡◌ {A = Option A} (Some x) None → ⊥
+some_none e = cc
 
 -- Two keys, one of which is no beginning of the other, compared with what follows.
 pub before_then : (p q a b : List ℕ) → Before p q → (Begins p q → ⊥) → Before (p ++ a) (q ++ b)

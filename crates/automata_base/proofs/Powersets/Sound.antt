@@ -5,7 +5,7 @@ use Rattle.automata_base.specs.declared.nfa.thompson.Data.{Data}
 use Rattle.automata_base.specs.Nfas.Nodes.{stack_room}
 use Rattle.automata_base.specs.Nfas.Accepted.{IsLooks}
 use Rattle.automata_base.specs.Nfas.Automata.{automaton_of, IsConsistent}
-use Rattle.automata_base.specs.Nfas.Reach.{AreLooksAcyclic, ReachesMatch}
+use Rattle.automata_base.specs.Retraced.Reach.{AreLooksAcyclic, ReachesMatch}
 use Rattle.automata_base.specs.Nfas.Getters.{SkipsLazily}
 use Rattle.automata_base.specs.Nfas.Errors.{states_refusal}
 use Rattle.automata_base.proofs.Powersets.ListTests.{checked_range, checked_starts, patterns_fit}

@@ -5,7 +5,7 @@ use Rattle.automata_base.specs.declared.nfa.thompson.reach.Edges.TheVariants.{Ev
 use Rattle.automata_base.specs.Lists.{In, Distinct}
 use Rattle.automata_base.specs.Nfas.Nfa.{Node, Range, Split, Assert, Read, Accept}
 use Rattle.automata_base.specs.Nfas.Nodes.{nodes_of}
-use Rattle.automata_base.specs.Nfas.Reach.{IsReached}
+use Rattle.automata_base.specs.Retraced.Reach.{IsReached}
 use Rattle.automata_base.specs.Nfas.Errors.{alternates_of, states_below, states_ordered}
 use Rattle.automata_base.specs.Nfas.ReversedSizes.{asking_edges, free_edges}
 use Rattle.automata_base.specs.Retraced.ReversedEdges.{copies, copy_of}

@@ -1,4 +1,4 @@
--- A decoder of UTF-8, as an automaton over classes of bytes, and its product with an NFA.
+-- The product of an NFA with a decoder of UTF-8, an automaton over classes of bytes.
 use Rattle.std.specs.Prelude.{ℕ, ◌≡◌, ◌+◌, ◌*◌, ◌/◌, ◌%◌, ◌&&◌, Bool, true, cond, leb, List, [], ◌∷◌, ◌++◌, map}
 use Rattle.std.specs.Prelude.{slice_index}
 use Rattle.automata_base.specs.declared.nfa.thompson.utf8.Class.{Class}
@@ -6,18 +6,8 @@ use Rattle.automata_base.specs.declared.nfa.thompson.State.{State}
 use Rattle.automata_base.specs.Lists.{all_below}
 use Rattle.automata_base.specs.Nfas.Nfa.{Node, Range, Split, Assert, Read, Accept}
 use Rattle.automata_base.specs.Paths.Paths.{all_true}
-use Rattle.automata_base.specs.Nfas.Reach.{node_in, IsReachedBy, IsMatchAt}
+use Rattle.automata_base.specs.Retraced.Reach.{node_in, IsReachedBy, IsMatchAt}
 use Rattle.automata_base.specs.Powersets.Closure.{children_at}
-
--- Where the decoder's state `s` leads on a byte: by the first class that ends at it or later. State 1 has failed.
-abbrev pub step : List Class → ℕ → ℕ → ℕ
-step [] s u = 1
-step (c ∷ cs) s u = cond (leb u c.last) (slice_index c.to s) (step cs s u)
-
--- Where it leads on these bytes.
-abbrev pub decode : List Class → ℕ → List ℕ → ℕ
-decode classes s [] = s
-decode classes s (u ∷ us) = decode classes (step classes s u) us
 
 -- Each class leads to states of a decoder.
 abbrev pub classes_below : List Class → Bool

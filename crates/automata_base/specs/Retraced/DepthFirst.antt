@@ -2,7 +2,7 @@
 use Rattle.std.specs.Prelude.{ℕ, ◌≡◌, ◌<◌, ◌⊎◌, List, [], ◌∷◌, take, Some, slice_get}
 use Rattle.automata_base.specs.declared.nfa.thompson.finishing.Frame.{Frame}
 use Rattle.automata_base.specs.Lists.{In}
-use Rattle.automata_base.specs.Nfas.Reach.{Route}
+use Rattle.automata_base.specs.Retraced.Reach.{Route}
 
 -- `p` leads to `z` by at least one edge.
 abbrev pub LeadsBy : (ℕ → List ℕ) → ℕ → ℕ → Type 0

@@ -2,10 +2,11 @@ ghost use Rattle.std.specs.Prelude.{◌≡◌, ◌<◌, ℕ, length, replicate, 
 ghost use Rattle.std.specs.Int.{bit_at};
 ghost use Rattle.automata_base.specs.ByteClasses.Classes.{is_quit};
 
+use std::fmt;
 use std::marker::Model;
 
 /// A set of bytes, in 256 bits. Contracts see for each byte whether it is in the set.
-#[derive(Clone, Copy, Debug)]
+#[derive(Clone, Copy)]
 pub struct ByteSet {
     words: [u64; 4],
 }
@@ -72,6 +73,19 @@ impl ByteSet {
         let mut words = self.words;
         words[index] = with_bit(words[index], byte % 64, yes);
         ByteSet { words }
+    }
+}
+
+/// Its bytes, as a set.
+impl fmt::Debug for ByteSet {
+    fn fmt<W: fmt::Write>(&self, f: &mut fmt::Formatter<W>) -> fmt::Result {
+        let mut set = f.debug_set();
+        for byte in 0..256usize {
+            if self.contains(byte as u8) {
+                set.entry(&byte);
+            }
+        }
+        set.finish()
     }
 }
 

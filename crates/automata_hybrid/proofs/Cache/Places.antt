@@ -18,7 +18,7 @@ use Rattle.automata_hybrid.specs.Cache.Table.{Rows, has_patterns, find_id, Names
 use Rattle.automata_hybrid.specs.Cache.Table.{with_cell, cell_at, AreRows, IsStepped, HasState}
 use Rattle.automata_hybrid.specs.Cache.Table.{row_cost}
 use Rattle.automata_hybrid.proofs.Cache.Rows.{inside}
-use Rattle.automata_hybrid.proofs.Cases.{same_some}
+use Rattle.automata_base.proofs.Paths.Orders.{some_inj}
 
 -- the row that a look-up met
 pub record Found (s at : ℕ) (q : Powerset) (rs : List Row) (id : ℕ) : Type 0 where
@@ -117,7 +117,7 @@ AreRows-with_cell t id class next q i h l free leads =
       fixed = take-set-le (3 * table_stride t.of) t.cells (cell_at id class) next far ∙ i.fixed;
       stepped = stepped p;
       ids = i.ids;
-      alive = i.alive;
+      states = i.states;
     } where
       le3 : (k : ℕ) → 3 ≤ k + 3
       le3 k = omega arith
@@ -132,7 +132,7 @@ AreRows-with_cell t id class next q i h l free leads =
                 let both = one_cell (k + 3) (p.place + 3) c class (table_stride t.of) lc l (e ∙ ap (λ n. n + class) p.offset) in
                 let place : k ≡ p.place = omega (arith, both.0) in
                 let row : Some r ≡ Some p.row = sym has ∙ ap (slice_get t.rows) place ∙ p.has in
-                let state : r.state ≡ q = ap (λ (x : Row). x.state) (same_some row) ∙ p.state in
+                let state : r.state ≡ q = ap (λ (x : Row). x.state) (some_inj row) ∙ p.state in
                 let read : next ≡ get_or (set t.cells (cell_at id class) next) ((k + 3) * table_stride t.of + c) 0 = sym (get_or-set_same t.cells (cell_at id class) next 0 (Placed-cell t id class q i p l)) ∙ ap (λ n. get_or (set t.cells (cell_at id class) next) n 0) (sym e) in
                 subst (IsCell t r.state c) read (subst (λ d. IsCell t r.state d next) (sym both.1) (subst (λ w. IsCell t w class next) (sym state) (inr (free, inr leads))))
 
@@ -146,7 +146,7 @@ costs_le (r ∷ rs) m all =
     omega (arith, one, more, e, f)
 
 pub AreRows-costs : (t : Rows) → AreRows t → sum_by row_cost t.rows ≤ length t.rows * greatest t.of
-AreRows-costs t i = costs_le t.rows (greatest t.of) (λ k r h. (i.alive k r h).1)
+AreRows-costs t i = costs_le t.rows (greatest t.of) (λ k r h. (i.states k r h).cheap)
 
 -- an ID at a row's offset, with that row's tags, is the row's
 pub placed_valid :
@@ -234,10 +234,10 @@ Names-silent t id q h l =
 -- no row has the dead state
 pub Names-alive : (t : Rows) (id : ℕ) (q : Powerset) → AreRows t → Names t id q → q ≡ dead → ⊥
 Names-alive t id q i h d =
-    let p = Names-Placed t id q i h in (i.alive p.place p.row p.has).0 (p.state ∙ d)
+    let p = Names-Placed t id q i h in (i.states p.place p.row p.has).alive (p.state ∙ d)
 
 -- the states of rows are the DFA's
 pub Names-own : (t : Rows) (id : ℕ) (q : Powerset) → AreRows t → Names t id q → IsStateOf t.of q
 Names-own t id q i h =
     let p = Names-Placed t id q i h in
-    subst (IsStateOf t.of) p.state (i.alive p.place p.row p.has).2
+    subst (IsStateOf t.of) p.state (i.states p.place p.row p.has).own

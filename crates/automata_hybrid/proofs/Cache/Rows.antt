@@ -15,7 +15,7 @@ use Rattle.automata_base.specs.Powersets.Powerset.{dead}
 use Rattle.automata_hybrid.specs.Cache.Ids.{quit_id}
 use Rattle.automata_hybrid.specs.Machines.Machine.{IsStateOf, next_of, greatest, template_of, IsTemplate, table_stride}
 use Rattle.automata_hybrid.specs.Cache.Table.{Rows, find_id, id_of, Names, Leads, IsCell, row_id, row_cost, with_row}
-use Rattle.automata_hybrid.specs.Cache.Table.{AreRows, IsHeld, IsStepped, StateMap}
+use Rattle.automata_hybrid.specs.Cache.Table.{AreRows, IsHeld, IsRowState, IsStepped, StateMap}
 
 -- a state that rows have keeps its ID when more come
 find_id-more : (s at : ℕ) (q : Powerset) (rs ys : List Row) (id : ℕ) → find_id s at q rs ≡ Some id → find_id s at q (rs ++ ys) ≡ Some id
@@ -102,7 +102,7 @@ AreRows-with_row t r i template none live cheap of fits =
       fixed = rw (take-append-le (3 * table_stride t.of) t.cells (template_of t.of) few) i.fixed;
       stepped = stepped-with_row t r template i.whole i.stepped;
       ids = λ k x h. ids k x (at_push t.rows r k x h);
-      alive = λ k x h. alive k x (at_push t.rows r k x h);
+      states = λ k x h. states k x (at_push t.rows r k x h);
     } where
       ids : (k : ℕ) (x : Row) → (slice_get t.rows k ≡ Some x) ⊎ ((k ≡ length t.rows) × (r ≡ x)) → Names (with_row t r) (row_id ((k + 3) * table_stride t.of) x) x.state × ((k + 3) * table_stride t.of < 2 ^ 27)
       ids k x (inl e) = let old = i.ids k x e in (Names-more t r _ x.state old.0, old.1)
@@ -112,9 +112,9 @@ AreRows-with_row t r i template none live cheap of fits =
             subst (λ n. n < 2 ^ 27) at fits,
           )
 
-      alive : (k : ℕ) (x : Row) → (slice_get t.rows k ≡ Some x) ⊎ ((k ≡ length t.rows) × (r ≡ x)) → (x.state ≡ dead → ⊥) × (cost x.state ≤ greatest t.of) × IsStateOf t.of x.state
-      alive k x (inl e) = i.alive k x e
-      alive k x (inr (e, f)) = subst (λ (y : Row). (y.state ≡ dead → ⊥) × (cost y.state ≤ greatest t.of) × IsStateOf t.of y.state) f (live, cheap, of)
+      states : (k : ℕ) (x : Row) → (slice_get t.rows k ≡ Some x) ⊎ ((k ≡ length t.rows) × (r ≡ x)) → IsRowState t.of x.state
+      states k x (inl e) = i.states k x e
+      states k x (inr (e, f)) = subst (λ (y : Row). IsRowState t.of y.state) f (record { own = of; cheap = cheap; alive = live })
 
 -- and the map that has cached it
 pub IsHeld-with_row :

@@ -13,7 +13,7 @@ use Rattle.automata_hybrid.specs.Searches.Passes.{IsFound, WithoutBase, with_bas
 use Rattle.automata_hybrid.specs.Searches.Bounds.{LiesIn, LiesPast}
 use Rattle.automata_hybrid.proofs.Searches.Skips.{found_reported}
 use Rattle.automata_config.specs.Options.{match_kind_of}
-use Rattle.automata_hybrid.proofs.Cases.{same_some, some_none}
+use Rattle.automata_base.proofs.Paths.Orders.{some_inj, some_none}
 
 -- what is found lies in the span, not before the start of the span that gave it
 pub found_within :
@@ -45,7 +45,7 @@ module _ (m : Machine) (input : Input) (law : ReportedLiesWithin m.nfa) (few : i
       (way : Direction) (half : HalfMatch) (answer : Option Half)
       → IsFound way m input answer → Some half ≡ option_map without_base answer → LiesIn m input half
   half_lies way half None f e = absurd (some_none e)
-  half_lies way half (Some reported) f e = subst (LiesIn m input) (sym (same_some e)) (found_lies way reported f).0
+  half_lies way half (Some reported) f e = subst (LiesIn m input) (sym (some_inj e)) (found_lies way reported f).0
 
   -- and without it
   pub lies_in :

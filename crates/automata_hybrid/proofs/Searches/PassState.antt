@@ -28,7 +28,7 @@ use Rattle.automata_hybrid.specs.Cache.Table.{Rows, Leads, Names}
 use Rattle.automata_base.specs.ByteClasses.Classes.{is_quit}
 use Rattle.automata_config.specs.Options.{match_kind_of}
 use Rattle.std.proofs.lemmas.Bool.{cases_lt}
-use Rattle.automata_hybrid.proofs.Cases.{some_none}
+use Rattle.automata_base.proofs.Paths.Orders.{some_none}
 
 -- one unit more
 pub state_more :

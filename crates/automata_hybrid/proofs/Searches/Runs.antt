@@ -21,7 +21,7 @@ use Rattle.automata_hybrid.specs.Searches.Passes.{HasReadNoQuit, state_in, tape_
 use Rattle.automata_hybrid.specs.Cache.Table.{Leads, Names}
 use Rattle.automata_hybrid.specs.Walks.Answers.{IsSilent}
 use Rattle.automata_hybrid.proofs.Cache.Places.{Names-silent}
-use Rattle.automata_hybrid.proofs.Cases.{same_some}
+use Rattle.automata_base.proofs.Paths.Orders.{some_inj}
 use Rattle.automata_hybrid.proofs.Searches.PassState.{false_true, found_more, reported_quiet, state_more}
 use Rattle.automata_hybrid.proofs.Steps.Ids.{Leads-Names}
 use Rattle.automata_hybrid.proofs.Walks.Reports.{silent_none, silent_same, silent_trans}
@@ -67,7 +67,7 @@ followed_one way m c input tag k id to byte kind only unit known below quit name
       let leads : Names c.table to (state_in way m input (suc k)) =
       Leads-Names c.table to (state_in way m input (suc k)) (subst (Leads c.table to) (sym after) (named e (omega (arith, plain)) (state_in way m input k) at)) plain in
       let here : IsTaken way m c input tag k = record {
-        clean = λ other same. subst (λ v. is_quit m.quits v ≡ false) (same_some (sym unit ∙ same)) e;
+        clean = λ other same. subst (λ v. is_quit m.quits v ≡ false) (some_inj (sym unit ∙ same)) e;
         known = (
           (id, at, subst (λ v. IsKnownTransition c id (unit_class m v)) (sym unit) known),
           subst (λ v. unit_class m v < table_stride c.table.of) (sym unit) below,

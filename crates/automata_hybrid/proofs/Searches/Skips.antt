@@ -18,7 +18,7 @@ use Rattle.automata_hybrid.specs.Searches.Passes.{with_base}
 use Rattle.automata_hybrid.proofs.Searches.PassState.{false_true, half_none}
 use Rattle.automata_config.specs.Options.{match_kind_of}
 use Rattle.automata_base.proofs.Answers.Answered.{haystack_later}
-use Rattle.automata_hybrid.proofs.Cases.{same_some, some_none}
+use Rattle.automata_base.proofs.Paths.Orders.{some_inj, some_none}
 
 -- offsets inside a character are skipped, or they are not
 pub skips_or_not : {A : Type 0} (b : Bool) → (b ≡ true → A) → (b ≡ false → A → ⊥) → A ⊎ (A → ⊥)
@@ -123,7 +123,7 @@ module _ (way : Direction) (m : Machine) (input now : Input) (k : ℕ) (same : n
     go (inr skips) =
         let split : IsSplit (Finds way m) way (later way k input) = (tried.1 k less).1 in
         let s : Stands way (later way k input) (reported_over way m.nfa (match_kind_of m.config) (later way k input)) half = stands half e in
-        let same : split.0 ≡ s.pair = same_some (split.1.0 ∙ s.reported) in
+        let same : split.0 ≡ s.pair = some_inj (split.1.0 ∙ s.reported) in
         let place : is_split (later way k input).haystack (offset_in way (later way k input) s.pair.place) ≡ true =
         subst (λ (p : Pair). is_split (later way k input).haystack (offset_in way (later way k input) p.place) ≡ true) same split.2 in
         false_true

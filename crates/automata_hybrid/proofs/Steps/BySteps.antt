@@ -31,7 +31,7 @@ use Rattle.automata_hybrid.proofs.Searches.Skips.{finds_none, finds_some, found_
 use Rattle.automata_hybrid.proofs.Searches.Directions.{units_in}
 use Rattle.automata_hybrid.proofs.Steps.Ids.{Leads-untagged, low_bit}
 use Rattle.automata_hybrid.proofs.Searches.Units.{backward_unit, forward_unit, nth_past, nth_read}
-use Rattle.automata_hybrid.proofs.Cases.{some_none}
+use Rattle.automata_base.proofs.Paths.Orders.{some_none}
 use Rattle.automata_hybrid.proofs.Steps.Steps.{no_quit_unit}
 use Rattle.automata_hybrid.proofs.Searches.Runs.{first_half}
 

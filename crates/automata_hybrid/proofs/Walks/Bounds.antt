@@ -13,7 +13,7 @@ use Rattle.automata_hybrid.specs.Walks.Answers.{IsWalkOf, ReportsNext, half_nth}
 use Rattle.automata_hybrid.specs.Walks.State.{Walk, without_match}
 use Rattle.automata_hybrid.specs.Searches.Bounds.{LiesIn}
 use Rattle.automata_config.specs.Options.{match_kind_of}
-use Rattle.automata_hybrid.proofs.Cases.{none_some, same_some}
+use Rattle.automata_base.proofs.Paths.Orders.{none_some, some_inj}
 
 -- the pair of a half match
 abbrev pair_of : HalfMatch → Pair
@@ -21,7 +21,7 @@ pair_of half = record { pattern = half.pattern; place = half.offset }
 
 nth_in : (pairs : List Pair) (k : ℕ) (half : HalfMatch) → half_nth pairs k ≡ Some half → InPairs (pair_of half) pairs
 nth_in [] k half e = absurd (none_some e)
-nth_in (pair ∷ pairs) zero half e = inl (ap pair_of (sym (same_some e)))
+nth_in (pair ∷ pairs) zero half e = inl (ap pair_of (sym (some_inj e)))
 nth_in (pair ∷ pairs) (suc k) half e = inr (nth_in pairs k half e)
 
 module _ (way : Direction) (m : Machine) (input : Input) (reported : WalksAreReported m.nfa) (law : WalkLiesWithin m.nfa)

@@ -15,9 +15,9 @@ use Rattle.automata_hybrid.specs.Cache.Growth.{HasRoom, IsGrown}
 use Rattle.automata_hybrid.specs.Machines.Machine.{Machine}
 use Rattle.automata_hybrid.specs.Searches.Passes.{HasReadNoQuit, Skips, state_in, tape_in}
 use Rattle.automata_hybrid.specs.Steps.Starts.{MayStart}
-use Rattle.automata_hybrid.specs.Cache.Table.{Rows}
+use Rattle.automata_hybrid.specs.Cache.Table.{IsRowState, Rows}
 use Rattle.automata_hybrid.specs.Walks.Answers.{AreWalked, Arrives, Finishes, HasItsState, HasReported, HasReportedAll}
-use Rattle.automata_hybrid.specs.Walks.Answers.{HasReportedAt, HasReportedBy, IsRowState, StandsAtState, ReportsNext, WalkMeetsNoQuit}
+use Rattle.automata_hybrid.specs.Walks.Answers.{HasReportedAt, HasReportedBy, StandsAtState, ReportsNext, WalkMeetsNoQuit}
 use Rattle.automata_hybrid.specs.Walks.Answers.{half_nth, start_count}
 use Rattle.automata_hybrid.specs.Walks.State.{At, Ended, Fresh, Stage, Walk, ended_walk, with_match, without_match}
 use Rattle.automata_hybrid.proofs.Cache.Growth.{clears_none, clears_none_back}

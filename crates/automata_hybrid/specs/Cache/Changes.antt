@@ -10,7 +10,7 @@ use Rattle.automata_hybrid.specs.Machines.Machine.{IsReachable, next_of, slot_co
 use Rattle.automata_hybrid.specs.Cache.Usage.{Fits, cleared, refuses_to_clear}
 use Rattle.automata_config.specs.Options.{specialize_start_states_of}
 
--- with the row that was found put back
+-- with the row that was found, if one was
 abbrev pub put_found : Rows → Option Row → Rows
 put_found t None = t
 put_found t (Some r) = put t r

@@ -111,11 +111,11 @@ HasRowIds t =
     (k : ℕ) (r : Row) → slice_get t.rows k ≡ Some r
     → Names t (row_id ((k + 3) * table_stride t.of) r) r.state × ((k + 3) * table_stride t.of < offset_limit)
 
--- no row has the dead state; each costs no more than a state may, and is a state of the DFA
-abbrev pub IsAlive : Rows → Type 0
-IsAlive t =
-    (k : ℕ) (r : Row) → slice_get t.rows k ≡ Some r
-    → (r.state ≡ dead → ⊥) × (cost r.state ≤ greatest t.of) × IsStateOf t.of r.state
+-- a state that a row may have: one of the DFA, which costs no more than a state may, and is not dead
+pub record IsRowState (m : Machine) (q : Powerset) : Type 0 where
+  pub own : IsStateOf m q
+  pub cheap : cost q ≤ greatest m
+  pub alive : q ≡ dead → ⊥
 
 -- rows and cells fit each other: the fixed rows come first, no state has two rows, and each cached cell leads where its
 -- row's state goes
@@ -125,7 +125,7 @@ pub record AreRows (t : Rows) : Type 0 where
   pub fixed : take (3 * table_stride t.of) t.cells ≡ fixed_rows (table_stride t.of)
   pub stepped : IsStepped t
   pub ids : HasRowIds t
-  pub alive : IsAlive t
+  pub states : (k : ℕ) (r : Row) → slice_get t.rows k ≡ Some r → IsRowState t.of r.state
 
 -- some row has exactly this ID
 abbrev pub IsRowId : Rows → ℕ → Type 0

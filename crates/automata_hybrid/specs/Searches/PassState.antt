@@ -73,7 +73,7 @@ pub record IsTagAt (way : Direction) (m : Machine) (t : Rows) (input : Input) (t
   pub only : HasOnly tag id
   pub named : Names t id (state_in way m input k)
 
--- they led it so from an ID that has this tag and no other
+-- they led it so, and this ID too has that tag and no other
 pub record IsRun (way : Direction) (m : Machine) (c : Stored) (input : Input) (tag from to id : ℕ) : Type 0 where
   pub followed : IsFollowed way m c input tag from to id
   pub only : HasOnly tag id

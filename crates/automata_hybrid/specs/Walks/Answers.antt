@@ -5,7 +5,7 @@ use Rattle.automata_base.specs.ByteClasses.Classes.{is_quit}
 use Rattle.automata_base.specs.Haystacks.Input.{Input}
 use Rattle.automata_base.specs.Haystacks.Matches.{HalfMatch}
 use Rattle.automata_base.specs.Paths.Paths.{next}
-use Rattle.automata_base.specs.Powersets.Powerset.{Powerset, cost, dead}
+use Rattle.automata_base.specs.Powersets.Powerset.{Powerset, dead}
 use Rattle.automata_base.specs.Paths.Selections.{Pair}
 use Rattle.automata_base.specs.Haystacks.Tapes.{Direction, is_split}
 use Rattle.automata_base.specs.Retraced.Passes.{pairs_reported}
@@ -15,13 +15,13 @@ use Rattle.automata_config.specs.declared.error.SearchError.{SearchError}
 use Rattle.automata_config.specs.declared.error.SearchError.TheVariants as search
 use Rattle.automata_hybrid.specs.Cache.Stores.{Stored}
 use Rattle.automata_hybrid.specs.Cache.Usage.{GivesUp}
-use Rattle.automata_hybrid.specs.Machines.Machine.{IsStateOf, Machine, greatest}
+use Rattle.automata_hybrid.specs.Machines.Machine.{Machine}
 use Rattle.automata_hybrid.specs.Searches.Passes.{HasReadNoQuit, IsUnitRefusal, Skips, behind_offset}
 use Rattle.automata_hybrid.specs.Searches.Passes.{given_up_offset}
 use Rattle.automata_hybrid.specs.Searches.Passes.{state_in, tape_in}
 use Rattle.automata_hybrid.specs.Steps.Starts.{IsStartRefusalAt, MayStart}
 use Rattle.automata_hybrid.specs.Steps.Steps.{quits_on}
-use Rattle.automata_hybrid.specs.Cache.Table.{Rows, IsKnownState, Names}
+use Rattle.automata_hybrid.specs.Cache.Table.{IsKnownState, IsRowState, Names, Rows}
 use Rattle.automata_hybrid.specs.Walks.State.{At, Ended, Fresh, Ids, Keeping, Stage, States, Walk}
 use Rattle.automata_config.specs.Options.{match_kind_of}
 
@@ -53,12 +53,6 @@ WalkReads way m input k = (k ≤ length (tape_in way input).bytes) × (state_in 
 abbrev pub WalkMeetsNoQuit : Direction → Machine → Input → Type 0
 WalkMeetsNoQuit way m input =
     (k byte : ℕ) → WalkReads way m input k → next (tape_in way input) k ≡ Some byte → is_quit m.quits byte ≡ false
-
--- a state that a row may have
-pub record IsRowState (m : Machine) (q : Powerset) : Type 0 where
-  pub own : IsStateOf m q
-  pub cheap : cost q ≤ greatest m
-  pub alive : q ≡ dead → ⊥
 
 -- a walk stands at the state after the unit at a place that is not skipped, none of its units a quit byte; it has
 -- reported `reported` patterns of this state, at least one, and `k` pairs in all

@@ -11,7 +11,7 @@ ghost use Rattle.automata_hybrid.specs.Machines.Machine.{table_stride, template_
 ghost use Rattle.automata_hybrid.specs.Cache.Ids.{dead_id, unknown_id, offset_limit};
 ghost use Rattle.automata_hybrid.specs.Cache.Table.{id_of, Names, IsRowId, Leads, MayLead, IsCell};
 ghost use Rattle.automata_hybrid.specs.Cache.Table.{HasItsMatchTag};
-ghost use Rattle.automata_hybrid.specs.Cache.Table.{IsNewState};
+ghost use Rattle.automata_hybrid.specs.Cache.Table.{IsNewState, IsRowState};
 ghost use Rattle.automata_hybrid.specs.Cache.Stores.{IsSoundStore, cell_of, with_next, with_start};
 ghost use Rattle.automata_hybrid.specs.Cache.Stores.{with_searched};
 ghost use Rattle.automata_hybrid.specs.Cache.Usage.{cleared, usage, Fits};
@@ -20,7 +20,6 @@ ghost use Rattle.automata_hybrid.specs.Cache.Caches.{HoldsRow, IsCacheOf, fresh_
 ghost use Rattle.automata_hybrid.specs.Cache.Growth.{IsAddRefused, IsAgainEffect};
 ghost use Rattle.automata_hybrid.specs.Searches.Contracts.{IsStoreOf};
 ghost use Rattle.automata_hybrid.specs.Steps.Starts.{IsStartSlot};
-ghost use Rattle.automata_hybrid.specs.Walks.Answers.{IsRowState};
 ghost use Rattle.automata_hybrid.specs.Walks.State.{IsHandle};
 ghost use Rattle.automata_hybrid.specs.Cache.Progress.{progress_finished, progress_started, progress_updated};
 ghost use Rattle.automata_hybrid.specs.Cache.Progress.{saturated, total_len};

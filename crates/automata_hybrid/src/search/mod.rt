@@ -67,7 +67,7 @@ fn splits(input: &Input<'_>, offset: usize) -> bool
 
 impl DFA {
     /// Whether matches at offsets inside a character are skipped.
-    fn skips(&self) -> bool
+    pub fn skips(&self) -> bool
         ensures yes { result ≡ true → Skips self.now }
         ensures no { result ≡ false → Skips self.now → ⊥ }
     {

@@ -10,9 +10,9 @@ ghost use Rattle.automata_hybrid.specs.Walks.Parts.{HoldsOn, IsCallAnswer, IsCal
 ghost use Rattle.automata_hybrid.specs.Walks.Parts.{IsKeptWalk, IsResumeAnswer, IsResumeEffect, ReadsOn};
 ghost use Rattle.automata_hybrid.specs.Searches.Passes.{tape_in};
 ghost use Rattle.automata_hybrid.specs.Steps.Starts.{MayStart};
-ghost use Rattle.automata_hybrid.specs.Cache.Table.{Names};
+ghost use Rattle.automata_hybrid.specs.Cache.Table.{IsRowState, Names};
 ghost use Rattle.automata_hybrid.specs.Walks.Answers.{Arrives, HasReported, HasReportedBy};
-ghost use Rattle.automata_hybrid.specs.Walks.Answers.{IsResumeRefusal, IsRowState, IsWalkOf, IsWalkRefusal};
+ghost use Rattle.automata_hybrid.specs.Walks.Answers.{IsResumeRefusal, IsWalkOf, IsWalkRefusal};
 ghost use Rattle.automata_hybrid.specs.Walks.Answers.{ReportsNext};
 ghost use Rattle.automata_hybrid.specs.Walks.State.{At, Ended, IsHeldAt, States, keeping_of, way_of, without_match};
 

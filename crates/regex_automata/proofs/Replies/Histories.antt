@@ -14,12 +14,10 @@ use Rattle.regex_automata.specs.declared.replay.requests.Fault.{Fault}
 use Rattle.regex_automata.specs.declared.replay.requests.Fault.TheVariants as fault
 use Rattle.regex_automata.specs.declared.replay.requests.Request.TheVariants as request
 use Rattle.automata_config.specs.declared.error.SearchError.TheVariants as search
+use Rattle.automata_base.proofs.Paths.Orders.{none_some}
 
 abbrev none_of : Option Fault
 none_of = None
-
-none_some : {r : Regex} → None ≡ Some r → ⊥
-none_some e = cc
 
 -- a request with no fault of its own
 pub is_own : (rs : List Regex) (h : History) (q : Request) (answer : Reply) (r : Regex)

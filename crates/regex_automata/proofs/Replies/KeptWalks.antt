@@ -7,10 +7,10 @@ use Rattle.regex_automata.specs.Replay.Histories.{Begun, stepped, step_at}
 use Rattle.regex_automata.specs.Replay.Players.{IsWalk, AreWalks}
 use Rattle.regex_automata.specs.declared.hybrid.regex.Regex.{Regex}
 use Rattle.regex_automata.specs.declared.replay.walks.KeptWalk.{KeptWalk}
-use Rattle.regex_automata.proofs.Results.{none_some, same_some}
+use Rattle.automata_base.proofs.Paths.Orders.{none_some, some_inj}
 
 pub same_at : (ks : List KeptWalk) (n : ℕ) (j k : KeptWalk) → slice_get ks n ≡ Some j → slice_get ks n ≡ Some k → j ≡ k
-same_at ks n j k at_j at_k = same_some (sym at_j ∙ at_k)
+same_at ks n j k at_j at_k = some_inj (sym at_j ∙ at_k)
 
 module _ (rs : List Regex) where
   -- one more
@@ -42,7 +42,7 @@ module _ (rs : List Regex) where
   walk_at [] [] n k all is = absurd (none_some is)
   walk_at [] (j ∷ ks) n k all is = absurd all
   walk_at (v ∷ ws) [] n k all is = absurd all
-  walk_at (v ∷ ws) (j ∷ ks) zero k all is = (v, refl, subst (λ x. IsWalk rs v x) (same_some is) all.0)
+  walk_at (v ∷ ws) (j ∷ ks) zero k all is = (v, refl, subst (λ x. IsWalk rs v x) (some_inj is) all.0)
   walk_at (v ∷ ws) (j ∷ ks) (suc n) k all is = walk_at ws ks n k all.1 is
 
   -- a walk that reported one more pair
@@ -53,7 +53,7 @@ module _ (rs : List Regex) where
   walks_step [] (j ∷ ks) n w k all at one = absurd all
   walks_step (v ∷ ws) [] n w k all at one = absurd all
   walks_step (v ∷ ws) (j ∷ ks) zero w k all at one =
-      (subst (λ x. IsWalk rs (stepped x) k) (sym (same_some at)) one, all.1)
+      (subst (λ x. IsWalk rs (stepped x) k) (sym (some_inj at)) one, all.1)
   walks_step (v ∷ ws) (j ∷ ks) (suc n) w k all at one = (all.0, walks_step ws ks n w k all.1 at one)
 
   -- or none
@@ -63,5 +63,5 @@ module _ (rs : List Regex) where
   walks_same [] [] n w k all at one = tt
   walks_same [] (j ∷ ks) n w k all at one = absurd all
   walks_same (v ∷ ws) [] n w k all at one = absurd all
-  walks_same (v ∷ ws) (j ∷ ks) zero w k all at one = (subst (λ x. IsWalk rs x k) (sym (same_some at)) one, all.1)
+  walks_same (v ∷ ws) (j ∷ ks) zero w k all at one = (subst (λ x. IsWalk rs x k) (sym (some_inj at)) one, all.1)
   walks_same (v ∷ ws) (j ∷ ks) (suc n) w k all at one = (all.0, walks_same ws ks n w k all.1 at one)

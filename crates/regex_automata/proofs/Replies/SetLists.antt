@@ -19,7 +19,7 @@ use Rattle.automata_hybrid.specs.Cache.Stores.{Stored}
 use Rattle.automata_hybrid.specs.Walks.Answers.{HasReported}
 use Rattle.automata_hybrid.specs.Walks.State.{Walk}
 use Rattle.automata_hybrid.proofs.Searches.PassState.{false_true}
-use Rattle.regex_automata.proofs.Results.{some_none}
+use Rattle.automata_base.proofs.Paths.Orders.{some_none}
 use Rattle.regex_automata.specs.Spans.Contracts.{AreRising, ArePatternsUpto, HasReportedSet, MayRefusePatterns, empty_set}
 use Rattle.std.proofs.lemmas.Bool.{cases_lt}
 

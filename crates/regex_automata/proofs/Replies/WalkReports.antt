@@ -20,7 +20,7 @@ use Rattle.regex_automata.specs.declared.replay.requests.Reply.TheVariants as re
 use Rattle.regex_automata.specs.declared.replay.requests.Way.{Way}
 use Rattle.regex_automata.specs.declared.replay.requests.Fault.{Fault}
 use Rattle.regex_automata.specs.declared.replay.requests.Fault.TheVariants as fault
-use Rattle.regex_automata.proofs.Results.{none_some, same_some, some_none}
+use Rattle.automata_base.proofs.Paths.Orders.{none_some, some_inj, some_none}
 
 half_bad : {result : Result (Option HalfMatch) SearchError} {why : Fault} → reply.Half result ≡ reply.Bad why → ⊥
 half_bad e = cc
@@ -41,7 +41,7 @@ Becomes (Some v) w = Same v w
 becomes_itself : (now : Option Begun) (w : Begun) → now ≡ Some w → Becomes now w
 becomes_itself None w e = tt
 becomes_itself (Some v) w e =
-    let i = same_some e in
+    let i = some_inj e in
     (ap (λ (x : Begun). x.regex) i, ap (λ (x : Begun). x.way) i, ap (λ (x : Begun). x.input) i)
 
 -- a walk that is begun has reported nothing, and the others stay
@@ -120,7 +120,7 @@ module _
       (v : Begun) (x : Regex) (found : Option HalfMatch) → Same v w → slice_get rs v.regex ≡ Some x → IsStepOf x (Some v) (Ok found)
       → found ≡ half_nth pairs v.reported
   same_step v x found (regex, way, input) at step =
-      let same : x ≡ r = same_some (sym at ∙ ap (slice_get rs) regex ∙ of) in
+      let same : x ≡ r = some_inj (sym at ∙ ap (slice_get rs) regex ∙ of) in
       names v.reported found
       (subst (λ (y : Regex). IsStep (direction_of w.way) (dfa_of w.way y) w.input v.reported (Ok found)) same
       (subst (λ (i : Input). IsStep (direction_of w.way) (dfa_of w.way x) i v.reported (Ok found)) input

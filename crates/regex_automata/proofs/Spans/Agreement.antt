@@ -21,11 +21,9 @@ use Rattle.regex_automata.specs.Spans.Outcomes.{FindsMatch, IsStartFound}
 use Rattle.regex_automata.specs.Regexes.SoundPairs.{forward_engine}
 use Rattle.regex_automata.specs.declared.hybrid.regex.Regex.{Regex}
 use Rattle.regex_automata.proofs.Spans.Truths.{match_reported}
-use Rattle.regex_automata.proofs.Results.{none_some, same_some, some_none}
+use Rattle.automata_base.proofs.Paths.Orders.{none_some, some_inj, some_none}
 use Rattle.automata_config.specs.Options.{match_kind_of}
-
-match_is : (a b : Match) → a.pattern ≡ b.pattern → a.start ≡ b.start → a.end ≡ b.end → a ≡ b
-match_is a b pattern start end = λ i. record { pattern = pattern i; start = start i; end = end i }
+use Rattle.automata_base.proofs.Answers.Once.{match_is}
 
 module _ (agree : AnswersAgree) (p other : Regex) (alike : AreAlike p other) (input : Input) where
   same_front : (a b : Option Half) → IsFound Forward p.forward input a → IsFound Forward other.forward input b → a ≡ b
@@ -47,14 +45,14 @@ module _ (agree : AnswersAgree) (p other : Regex) (alike : AreAlike p other) (in
       go (inr s) (inr t) =
           let found : ◌≡◌ {A = Option Half} (Some s.1.0) (Some t.1.0) =
           agree Backward p.reverse other.reverse (back input half) (Some s.1.0) (Some t.1.0) alike.reverse alike.reverse_kind s.1.1 t.1.1 in
-          s.1.2 ∙ ap (λ (h : Half). h.offset) (same_some found) ∙ sym t.1.2
+          s.1.2 ∙ ap (λ (h : Half). h.offset) (some_inj found) ∙ sym t.1.2
 
   same_match : (a b : Option Match) → FindsMatch p input a → FindsMatch other input b → a ≡ b
   same_match None None f g = refl
   same_match None (Some n) f g = absurd (none_some (same_front None (Some g.0) f g.1))
   same_match (Some m) None f g = absurd (some_none (same_front (Some f.0) None f.1 g))
   same_match (Some m) (Some n) f g =
-      let half : f.0 ≡ g.0 = same_some (same_front (Some f.0) (Some g.0) f.1 g.1) in
+      let half : f.0 ≡ g.0 = some_inj (same_front (Some f.0) (Some g.0) f.1 g.1) in
       let start : m.start ≡ n.start =
       same_start f.0 m.start n.start f.2 (subst (λ (h : Half). IsStartFound other input h (Some n.start)) (sym half) g.2) in
       ap (λ (v : Match). Some v)

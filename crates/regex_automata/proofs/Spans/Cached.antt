@@ -21,7 +21,7 @@ use Rattle.regex_automata.specs.Regexes.Caches.{AreCachesOf, AreGrown, AreStill,
 use Rattle.regex_automata.specs.Spans.Errors.{IsOfGiven}
 use Rattle.regex_automata.specs.declared.hybrid.regex.Regex.{Regex}
 use Rattle.regex_automata.specs.declared.hybrid.regex.caches.Cache.{Cache}
-use Rattle.regex_automata.proofs.Results.{none_some, same_some}
+use Rattle.automata_base.proofs.Paths.Orders.{none_some, some_inj}
 
 -- the progress of searches does not matter
 still_back : (p : Regex) (a b : CacheView) (input : Input) (half : Half) → IsStill a b → KnowsBack p a.store input half → KnowsBack p b.store input half
@@ -79,7 +79,7 @@ module _ (agree : MatchesAgree) (p : Regex) (input : Input) (last : Option ℕ) 
   stands_none found = stands None found (λ m e empty. none_some e)
 
   pub stands_some : (m : Match) → FindsMatch p input (Some m) → (IsEmptyAt last m → ⊥) → FindsEmptyAt p input last → ⊥
-  stands_some m found full = stands (Some m) found (λ n e empty. full (subst (λ (v : Match). IsEmptyAt last v) (sym (same_some e)) empty))
+  stands_some m found full = stands (Some m) found (λ n e empty. full (subst (λ (v : Match). IsEmptyAt last v) (sym (some_inj e)) empty))
 
 -- what it left cached
 pub alone :

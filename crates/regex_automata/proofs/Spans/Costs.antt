@@ -25,7 +25,7 @@ use Rattle.regex_automata.specs.Regexes.Caches.{KnowsBack, KnowsBoth}
 use Rattle.regex_automata.specs.Regexes.SoundPairs.{forward_engine}
 use Rattle.regex_automata.specs.declared.hybrid.regex.Regex.{Regex}
 use Rattle.regex_automata.specs.declared.hybrid.regex.caches.Cache.{Cache}
-use Rattle.regex_automata.proofs.Results.{none_some, same_some, some_none}
+use Rattle.automata_base.proofs.Paths.Orders.{none_some, some_inj, some_none}
 use Rattle.automata_base.proofs.Answers.Starts.{yes_no}
 
 -- an anchored search is one pass
@@ -61,7 +61,7 @@ pub back_some :
     (m : Machine) (rest : Input) (o : Option HalfMatch) (found : HalfMatch) → WithoutBase (IsFound Backward m rest) o → o ≡ Some found
     → (half : Half) × IsFound Backward m rest (Some half) × (found.offset ≡ half.offset)
 back_some m rest o found (None, f, e) is = absurd (some_none (sym is ∙ e))
-back_some m rest o found (Some half, f, e) is = (half, f, ap (λ (h : HalfMatch). h.offset) (same_some (sym is ∙ e)))
+back_some m rest o found (Some half, f, e) is = (half, f, ap (λ (h : HalfMatch). h.offset) (some_inj (sym is ∙ e)))
 
 pub back_none :
     (m : Machine) (rest : Input) (o : Option HalfMatch) → WithoutBase (IsFound Backward m rest) o → o ≡ None → IsFound Backward m rest None
@@ -78,7 +78,7 @@ back_within m input half found within few f =
 -- A forward search has one answer.
 module _ (agree : AnswersAgree) (p : Regex) (input : Input) where
   pub same_half : (a b : Half) → IsFound Forward p.forward input (Some a) → IsFound Forward p.forward input (Some b) → a ≡ b
-  same_half a b f g = same_some (agree Forward p.forward p.forward input (Some a) (Some b) refl refl f g)
+  same_half a b f g = some_inj (agree Forward p.forward p.forward input (Some a) (Some b) refl refl f g)
 
   -- all that both searches use is cached
   pub knows_both :
@@ -113,7 +113,7 @@ cache_of forward reverse = record { forward = forward; reverse = reverse }
 pub start_within :
     (base end : ℕ) (o : Option ℕ) (start : ℕ) → IfSome o (λ s. (base ≤ s) × (s ≤ end)) → o ≡ Some start → (base ≤ start) × (start ≤ end)
 start_within base end None start w is = absurd (none_some is)
-start_within base end (Some s) start w is = subst (λ n. (base ≤ n) × (n ≤ end)) (same_some is) w
+start_within base end (Some s) start w is = subst (λ n. (base ≤ n) × (n ≤ end)) (some_inj is) w
 
 -- the match of what both searches found
 abbrev match_at : (pattern start end : ℕ) → Match

@@ -13,7 +13,8 @@ use Rattle.regex_automata.specs.Regexes.Caches.{AreGrown}
 use Rattle.regex_automata.specs.Spans.Errors.{IsRegexRefusal}
 use Rattle.regex_automata.specs.declared.hybrid.regex.Regex.{Regex}
 use Rattle.regex_automata.specs.declared.hybrid.regex.caches.Cache.{Cache}
-use Rattle.regex_automata.proofs.Results.{err_ok, none_some, same_some}
+use Rattle.regex_automata.proofs.Results.{err_ok}
+use Rattle.automata_base.proofs.Paths.Orders.{none_some, some_inj}
 use Rattle.std.proofs.lemmas.Bool.{cases_lt}
 
 pub on_err : {A E : Type 0} (r : Result A E) (P : Type 0) → P → OnErr r P
@@ -30,7 +31,7 @@ ahead_of r e a start end done is = go (cases_lt end start) where
 
 pub some_of : {A : Type 0} (o : Option A) (a : A) (P : A → Type 0) → IfSome o P → o ≡ Some a → P a
 some_of None a P h is = absurd (none_some is)
-some_of (Some b) a P h is = subst P (same_some is) h
+some_of (Some b) a P h is = subst P (some_inj is) h
 
 -- the match found first stands
 pub past_last :

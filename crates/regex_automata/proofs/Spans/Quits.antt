@@ -16,7 +16,7 @@ use Rattle.automata_hybrid.specs.Cache.Stores.{Stored}
 use Rattle.automata_hybrid.specs.Machines.Machine.{Machine}
 use Rattle.automata_hybrid.specs.Searches.Passes.{IsFound, IsPassRefusal, IsRefused, Skips, tape_in}
 use Rattle.automata_hybrid.specs.Steps.Starts.{quit_behind}
-use Rattle.regex_automata.proofs.Results.{none_some, same_some, some_none}
+use Rattle.automata_base.proofs.Paths.Orders.{none_some, some_inj, some_none}
 use Rattle.regex_automata.proofs.Spans.Reports.{reported_reads}
 use Rattle.automata_hybrid.proofs.Searches.Reach.{is_behind}
 use Rattle.automata_hybrid.proofs.Searches.Directions.{units_in}
@@ -26,7 +26,7 @@ use Rattle.automata_base.proofs.Answers.Starts.{yes_no}
 -- a look-behind byte that is no quit byte, and one that is
 free_behind : (m : Machine) (o : Option ℕ) (byte : ℕ) → quit_behind m o ≡ None → o ≡ Some byte → is_quit m.quits byte ≡ false
 free_behind m None byte n e = absurd (none_some e)
-free_behind m (Some b) byte n e = subst (λ v. is_quit m.quits v ≡ false) (same_some e) (go (is_quit m.quits b) refl n) where
+free_behind m (Some b) byte n e = subst (λ v. is_quit m.quits v ≡ false) (some_inj e) (go (is_quit m.quits b) refl n) where
   go : (v : Bool) → is_quit m.quits b ≡ v → ◌≡◌ {A = Option ℕ} (cond v (Some b) None) None → is_quit m.quits b ≡ false
   go true q h = absurd (some_none h)
   go false q h = q

@@ -1,6 +1,6 @@
 -- What a pass has read when it reports.
-use Rattle.std.proofs.Common.{ℕ, zero, suc, ◌≡◌, ◌∙◌, ◌<◌, ◌≤◌, ◌⊎◌, inl, inr, Bool, true, false, length, Option}
-use Rattle.std.proofs.Common.{Some, None, refl, sym, ap, subst, arith, eq-or-lt_of_le}
+use Rattle.std.proofs.Common.{ℕ, suc, ◌≡◌, ◌∙◌, ◌≤◌, Bool, true, false, length, Option}
+use Rattle.std.proofs.Common.{Some, None, refl, sym, ap, subst, arith}
 use Rattle.automata_base.specs.declared.util.search.Anchored.{Anchored}
 use Rattle.automata_base.specs.Haystacks.Input.{Input}
 use Rattle.automata_base.specs.Lists.{In}
@@ -9,25 +9,21 @@ use Rattle.automata_base.specs.Paths.Paths.{Tape}
 use Rattle.automata_base.specs.Powersets.Powerset.{Powerset, dead}
 use Rattle.automata_base.specs.Paths.Selections.{Pair}
 use Rattle.automata_base.specs.Haystacks.Tapes.{Direction}
-use Rattle.automata_base.specs.Retraced.Passes.{first_reported, reported_at, reported_upto, earlier_or, pair_at}
+use Rattle.automata_base.specs.Retraced.Passes.{first_reported, reported_at, reported_upto}
 use Rattle.automata_base.specs.Answers.OfPasses.{reported_over}
 use Rattle.automata_base.specs.declared.util.search.MatchKind.{MatchKind}
-use Rattle.automata_base.proofs.Answers.Within.{ReportedBelow, first_below, over_below}
+use Rattle.automata_base.proofs.Answers.Within.{ReportedBelow, first_below, first_stays, over_below}
 use Rattle.automata_hybrid.specs.Machines.Machine.{Machine}
 use Rattle.automata_hybrid.specs.Searches.Passes.{Reads, state_in, tape_in}
 use Rattle.automata_hybrid.proofs.Searches.PassState.{dead_more, false_true}
 use Rattle.automata_config.specs.Options.{match_kind_of}
-use Rattle.automata_base.proofs.Answers.Answered.{same_pair}
+use Rattle.automata_base.proofs.Paths.Orders.{some_inj}
 
-module _ (kind : MatchKind) (a : Automaton) (mode : Anchored) (t : Tape) (pair : Pair) where
-  -- the first match stays the first one
-  first_stays : (k n : ℕ) → k ≤ n → first_reported a kind mode t k ≡ Some pair → first_reported a kind mode t n ≡ Some pair
-  unfolding first_reported
-  first_stays k zero l e = let z : k ≡ 0 = omega (arith, l) in subst (λ i. first_reported a kind mode t i ≡ Some pair) z e
-  first_stays k (suc n) l e = go (λ more. first_stays k n more e) (eq-or-lt_of_le l) where
-    go : (k ≤ n → first_reported a kind mode t n ≡ Some pair) → (k ≡ suc n) ⊎ (k < suc n) → first_reported a kind mode t (suc n) ≡ Some pair
-    go before (inl same) = subst (λ i. first_reported a kind mode t i ≡ Some pair) same e
-    go before (inr less) = ap (λ o. earlier_or o (pair_at (reported_at a kind mode t n) n None)) (before (omega (arith, less)))
+first_holds :
+    (kind : MatchKind) (a : Automaton) (mode : Anchored) (t : Tape) (pair : Pair) (k n : ℕ)
+    → k ≤ n → first_reported a kind mode t k ≡ Some pair → first_reported a kind mode t n ≡ Some pair
+unfolding first_reported
+first_holds kind a mode t pair k n l e = first_stays (reported_at a kind mode t) pair k n l e
 
 module _ (way : Direction) (m : Machine) (input : Input) (pair : Pair) (reported : reported_over way m.nfa (match_kind_of m.config) input ≡ Some pair) where
   abbrev Last : ℕ
@@ -52,8 +48,8 @@ module _ (way : Direction) (m : Machine) (input : Input) (pair : Pair) (reported
     go (Some sooner) f =
         let w = reported_within in
         let stays : first_reported m.nfa (match_kind_of m.config) input.anchored (tape_in way input) (suc Last) ≡ Some sooner =
-        first_stays (match_kind_of m.config) m.nfa input.anchored (tape_in way input) sooner j (suc Last) (omega (arith, l, w)) f in
-        let same : pair ≡ sooner = same_pair (sym t ∙ stays) in
+        first_holds (match_kind_of m.config) m.nfa input.anchored (tape_in way input) sooner j (suc Last) (omega (arith, l, w)) f in
+        let same : pair ≡ sooner = some_inj (sym t ∙ stays) in
         let b = first_below (match_kind_of m.config) m.nfa input.anchored (tape_in way input) sooner j f in
         let p : pair.place ≡ sooner.place = ap (λ (v : Pair). v.place) same in
         absurd (omega (arith, b.0, p, l))

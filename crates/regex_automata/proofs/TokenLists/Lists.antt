@@ -1,6 +1,6 @@
 -- The tokens that a loop over them collects.
 use Rattle.std.proofs.Common.{ℕ, ◌≡◌, ◌∙◌, ◌≤◌, ◌⊎◌, inl, inr, Bool, true, false, List, [], ◌∷◌, ◌++◌, append_assoc}
-use Rattle.std.proofs.Common.{append-nil, Option, sym, ap, subst, arith}
+use Rattle.std.proofs.Common.{append-nil, Option, sym, subst, arith}
 use Rattle.std.specs.Prelude.{Result, Ok}
 use Rattle.automata_base.specs.Haystacks.Matches.{Match}
 use Rattle.automata_hybrid.specs.Machines.Machine.{Machine}
@@ -8,6 +8,7 @@ use Rattle.regex_automata.specs.Tokens.{AreGiven, IsItemAt}
 use Rattle.regex_automata.specs.declared.hybrid.regex.Regex.{Regex}
 use Rattle.regex_automata.specs.declared.tokens.error.TokenError.{TokenError}
 use Rattle.automata_hybrid.proofs.Searches.PassState.{false_true}
+use Rattle.automata_base.proofs.Answers.Once.{match_is as same_parts}
 
 -- what comes after the tokens so far completes them
 abbrev pub Completes : Machine → List ℕ → (end start : ℕ) → List Match → (offset : ℕ) → Type 0
@@ -45,10 +46,7 @@ item_turn p q h h' end end' offset item regex haystack last is =
 pub match_is :
     (m n : Match) (pattern start end : ℕ) → m ≡ record { pattern = pattern; start = start; end = end }
     → pattern ≡ n.pattern → start ≡ n.start → end ≡ n.end → m ≡ n
-match_is m n pattern start end is p s e =
-    is ∙ ap (λ (k : ℕ). record { pattern = k; start = start; end = end }) p
-    ∙ ap (λ (k : ℕ). record { pattern = n.pattern; start = k; end = end }) s
-    ∙ ap (λ (k : ℕ). record { pattern = n.pattern; start = n.start; end = k }) e
+match_is m n pattern start end is p s e = is ∙ same_parts (record { pattern = pattern; start = start; end = end }) n p s e
 
 -- there is no item at the span's end
 pub at_end : (failed : Bool) (end end' offset : ℕ) → (failed ≡ true) ⊎ (end ≤ offset) → failed ≡ false → end ≡ end' → end' ≤ offset

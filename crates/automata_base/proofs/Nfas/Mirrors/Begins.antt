@@ -7,7 +7,7 @@ use Rattle.automata_base.specs.Nfas.Engines.{MatchesEmpty}
 use Rattle.automata_base.specs.Nfas.Getters.{HasEmpty}
 use Rattle.automata_base.specs.Nfas.Mirrors.{BeginsAlike}
 use Rattle.automata_base.specs.Nfas.Nodes.{Automaton, nfa_of}
-use Rattle.automata_base.specs.Nfas.Reach.{ReachesMatch}
+use Rattle.automata_base.specs.Retraced.Reach.{ReachesMatch}
 use Rattle.automata_base.proofs.Nfas.Reach.Led.{empty_is}
 use Rattle.automata_base.proofs.Paths.Truths.{bool_iff}
 

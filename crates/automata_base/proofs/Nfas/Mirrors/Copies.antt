@@ -9,7 +9,7 @@ use Rattle.automata_base.specs.Lists.{In, all_below}
 use Rattle.std.specs.Prelude.{slice_get}
 use Rattle.automata_base.specs.Nfas.Nfa.{Node, Split, accepts_at}
 use Rattle.automata_base.specs.Nfas.Nodes.{node_of, nodes_of}
-use Rattle.automata_base.specs.Nfas.Reach.{IsReached, targets_of}
+use Rattle.automata_base.specs.Retraced.Reach.{IsReached, targets_of}
 use Rattle.automata_base.specs.declared.nfa.thompson.reach.Edges.{Edges}
 use Rattle.automata_base.specs.declared.nfa.thompson.reach.Edges.TheVariants.{Every}
 use Rattle.automata_base.proofs.Powersets.Walking.{nodes_length}

@@ -17,7 +17,7 @@ use Rattle.automata_base.specs.Retraced.Copies.{IsFit}
 use Rattle.automata_base.specs.Lists.{In, all_below, Distinct}
 use Rattle.automata_base.specs.Nfas.Nfa.{Node, Range, Split, Assert, Read, Accept}
 use Rattle.automata_base.specs.Nfas.Nodes.{node_of, nodes_of, ranges_of}
-use Rattle.automata_base.specs.Nfas.Reach.{IsReached, targets_at, nexts}
+use Rattle.automata_base.specs.Retraced.Reach.{IsReached, targets_at, nexts}
 use Rattle.automata_base.specs.Nfas.Errors.{alternates_of, states_below, ordered_from, state_ordered, states_ordered}
 use Rattle.automata_base.specs.Nfas.Errors.{match_below, matches_below, is_small, is_narrow, starts_below, states_refusal}
 use Rattle.automata_base.specs.Nfas.Errors.{unless}

@@ -16,7 +16,7 @@ use Rattle.automata_base.specs.Nfas.Mirrors.{IsReversed}
 use Rattle.automata_base.specs.Nfas.Nfa.{Nfa, Node, Range, Split, Assert, Read, Accept, node, node_or_fail, accepts}
 use Rattle.automata_base.specs.Nfas.Nfa.{accepts_at}
 use Rattle.automata_base.specs.Nfas.Nodes.{Automaton, nfa_of, node_of, nodes_of}
-use Rattle.automata_base.specs.Nfas.Reach.{IsReached, targets_at, nexts}
+use Rattle.automata_base.specs.Retraced.Reach.{IsReached, targets_at, nexts}
 use Rattle.automata_base.specs.Nfas.Errors.{state_below, states_below}
 use Rattle.automata_base.specs.Retraced.DenseRuns.{ranged, ranged_nodes, ranged_nfa}
 use Rattle.automata_base.specs.Retraced.ReversedEdges.{Turns, no_lists, place_in, copied, copy_of, is_of, matches_in}

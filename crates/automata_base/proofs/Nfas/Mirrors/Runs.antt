@@ -8,7 +8,7 @@ use Rattle.automata_base.specs.Lists.{In, all_below}
 use Rattle.automata_base.specs.Haystacks.Looks.{within}
 use Rattle.automata_base.specs.Nfas.Nfa.{takes_in}
 use Rattle.automata_base.specs.Nfas.Nodes.{ranges_of, dense_from}
-use Rattle.automata_base.specs.Nfas.Reach.{nexts}
+use Rattle.automata_base.specs.Retraced.Reach.{nexts}
 use Rattle.automata_base.specs.Nfas.Errors.{ordered_from, transitions_below}
 use Rattle.automata_base.specs.Retraced.DenseRuns.{starts_with, run_of, runs_from}
 use Rattle.std.proofs.lemmas.Bool.{and_parts}

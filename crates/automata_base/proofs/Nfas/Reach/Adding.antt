@@ -11,7 +11,7 @@ use Rattle.automata_base.specs.Lists.{all_below, In}
 use Rattle.automata_base.specs.Retraced.Computed.{is_in}
 use Rattle.automata_base.specs.Nfas.Nodes.{dense_from}
 use Rattle.automata_base.specs.Retraced.Once.{once_from}
-use Rattle.automata_base.specs.Nfas.Reach.{nexts}
+use Rattle.automata_base.specs.Retraced.Reach.{nexts}
 use Rattle.automata_base.specs.Nfas.Errors.{transitions_below, state_below, states_below}
 use Rattle.automata_base.proofs.Powersets.Distinct.{In-get_or}
 use Rattle.automata_base.proofs.Powersets.Keeping.{next_drop}

@@ -15,8 +15,8 @@ use Rattle.automata_base.specs.Nfas.Nfa.{Node, Split, Assert, Read, Accept}
 use Rattle.automata_base.specs.Nfas.Nodes.{node_of}
 use Rattle.automata_base.specs.Retraced.Once.{once_from}
 use Rattle.automata_base.specs.Paths.Paths.{all_true}
-use Rattle.automata_base.specs.Nfas.Reach.{node_in, look_target, targets_of, Route, IsReached, LeadsBack}
-use Rattle.automata_base.specs.Nfas.Reach.{AreLooksAcyclic}
+use Rattle.automata_base.specs.Retraced.Reach.{node_in, look_target, targets_of, Route, IsReached, LeadsBack}
+use Rattle.automata_base.specs.Retraced.Reach.{AreLooksAcyclic}
 use Rattle.automata_base.specs.Nfas.Errors.{states_below}
 use Rattle.automata_base.specs.Powersets.Closure.{children_at}
 use Rattle.automata_base.proofs.Powersets.ListTests.{node_fits}

@@ -10,7 +10,7 @@ use Rattle.automata_base.specs.Retraced.DepthFirst.{LeadsBy, states_in, AreFollo
 use Rattle.automata_base.specs.Lists.{In}
 use Rattle.automata_base.specs.Nfas.Nodes.{node_of}
 use Rattle.automata_base.specs.Paths.Paths.{all_true}
-use Rattle.automata_base.specs.Nfas.Reach.{targets_of, Route}
+use Rattle.automata_base.specs.Retraced.Reach.{targets_of, Route}
 use Rattle.automata_base.specs.Powersets.Closure.{children_at}
 use Rattle.automata_base.proofs.Powersets.Walking.{node_at}
 use Rattle.automata_base.proofs.Paths.Orders.{some_inj, none_some}

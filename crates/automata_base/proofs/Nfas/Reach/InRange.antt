@@ -10,7 +10,7 @@ use Rattle.automata_base.specs.Nfas.Accepted.{IsChecked}
 use Rattle.automata_base.specs.Lists.{In, all_below}
 use Rattle.automata_base.specs.Nfas.Nodes.{Automaton, node_of, nodes_of, ranges_of, dense_from}
 use Rattle.automata_base.specs.Paths.Paths.{all_true}
-use Rattle.automata_base.specs.Nfas.Reach.{node_in, targets_at, byte_targets, nexts}
+use Rattle.automata_base.specs.Retraced.Reach.{node_in, targets_at, byte_targets, nexts}
 use Rattle.automata_base.specs.Nfas.Errors.{state_below, states_below, transitions_below}
 use Rattle.automata_base.specs.Powersets.Closure.{children_at}
 use Rattle.automata_base.proofs.Powersets.Walking.{nodes_length}

@@ -15,8 +15,8 @@ use Rattle.automata_base.specs.Nfas.Nfa.{Node, Range, Split, Assert, Read, Accep
 use Rattle.automata_base.specs.Nfas.Nfa.{takes_at}
 use Rattle.automata_base.specs.Nfas.Nodes.{Automaton, nfa_of, node_of, ranges_of, dense_from}
 use Rattle.automata_base.specs.Paths.Paths.{all_true, Run, HasEpsilonPath, LeadsOn, IsLookAcyclic}
-use Rattle.automata_base.specs.Nfas.Reach.{node_in, nexts, byte_targets, targets_of, look_target, Route, IsReached}
-use Rattle.automata_base.specs.Nfas.Reach.{LeadsBack, AreLooksAcyclic, ReachesMatch}
+use Rattle.automata_base.specs.Retraced.Reach.{node_in, nexts, byte_targets, targets_of, look_target, Route, IsReached}
+use Rattle.automata_base.specs.Retraced.Reach.{LeadsBack, AreLooksAcyclic, ReachesMatch}
 use Rattle.automata_base.specs.Nfas.Errors.{ordered_from, state_ordered, states_ordered}
 use Rattle.automata_base.specs.Powersets.Closure.{children}
 use Rattle.automata_base.proofs.Paths.FirstVisits.{hop_children}

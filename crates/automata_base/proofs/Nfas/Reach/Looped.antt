@@ -11,7 +11,7 @@ use Rattle.automata_base.specs.Nfas.Getters.{SkipsLazily}
 use Rattle.automata_base.specs.Nfas.Nfa.{Node, Range, Split, Assert, Read, Accept, node}
 use Rattle.automata_base.specs.Nfas.Nodes.{Automaton, dense_from, nfa_of, node_of, range_of, ranges_of}
 use Rattle.automata_base.specs.declared.nfa.thompson.Transition.{Transition}
-use Rattle.automata_base.specs.Nfas.Reach.{second_of, second_at, IsReached}
+use Rattle.automata_base.specs.Retraced.Reach.{second_of, second_at, IsReached}
 use Rattle.automata_base.specs.Nfas.Errors.{states_below, states_ordered}
 use Rattle.automata_base.proofs.Powersets.ListTests.{node_fits}
 use Rattle.automata_base.proofs.Powersets.Walking.{node_at}

@@ -7,7 +7,7 @@ use Rattle.automata_base.specs.declared.nfa.thompson.State.{State}
 use Rattle.automata_base.specs.declared.nfa.thompson.reach.Edges.TheVariants.{Epsilon}
 use Rattle.automata_base.specs.Lists.{In}
 use Rattle.automata_base.specs.Nfas.Nodes.{node_of}
-use Rattle.automata_base.specs.Nfas.Reach.{node_in, IsMatchAt, IsReached, ReachesMatch}
+use Rattle.automata_base.specs.Retraced.Reach.{node_in, IsMatchAt, IsReached, ReachesMatch}
 use Rattle.automata_base.proofs.Powersets.Distinct.{In-get_or}
 use Rattle.automata_base.proofs.Powersets.Walking.{node_at}
 use Rattle.automata_base.proofs.Paths.Walks.{in_either}

@@ -4,7 +4,7 @@ use Rattle.std.proofs.Common.{refl, sym, ap, ◌∙◌, subst, arith}
 use Rattle.std.proofs.lemmas.List.{take_more, take_all}
 use Rattle.automata_base.specs.Lists.{In}
 use Rattle.automata_base.specs.Retraced.Once.{once_from}
-use Rattle.automata_base.specs.Nfas.Reach.{Route, IsReachedBy}
+use Rattle.automata_base.specs.Retraced.Reach.{Route, IsReachedBy}
 use Rattle.automata_base.proofs.Powersets.Distinct.{In-get_or}
 use Rattle.automata_base.proofs.Nfas.Reach.Adding.{once_keeps, once_has, once_only, once_take}
 use Rattle.automata_base.proofs.Paths.Walks.{in_either}

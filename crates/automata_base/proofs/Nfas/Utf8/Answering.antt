@@ -5,7 +5,8 @@ use Rattle.std.specs.Prelude.{IsTrue}
 use Rattle.std.proofs.lemmas.List.{reverse-reverse}
 use Rattle.automata_base.specs.declared.nfa.thompson.utf8.Class.{Class}
 use Rattle.automata_base.specs.Powersets.Cuts.{MatchKind}
-use Rattle.automata_base.specs.Retraced.Decoders.{decode, classes_below, EndsAtBoundaries}
+use Rattle.automata_base.specs.Retraced.Decoders.{classes_below, EndsAtBoundaries}
+use Rattle.automata_base.proofs.Nfas.Utf8.Decoder.{decode}
 use Rattle.automata_base.specs.Nfas.Accepted.{IsChecked}
 use Rattle.automata_base.specs.Nfas.Engines.{engine_of}
 use Rattle.automata_base.specs.Nfas.Nodes.{Automaton}

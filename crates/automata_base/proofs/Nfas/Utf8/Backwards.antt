@@ -5,7 +5,8 @@ use Rattle.std.proofs.lemmas.Bool.{and_parts, eqb-true, eq-eqb, ne_eqb, true≢f
 use mathlib.Core.Bool.{beq}
 use mathlib.Core.List.{reverse-cons}
 use Rattle.automata_base.specs.declared.nfa.thompson.utf8.Class.{Class}
-use Rattle.automata_base.specs.Retraced.Decoders.{step, decode, classes_below}
+use Rattle.automata_base.specs.Retraced.Decoders.{classes_below}
+use Rattle.automata_base.proofs.Nfas.Utf8.Decoder.{step, decode}
 use Rattle.automata_base.proofs.Nfas.Utf8.Decoding.{step_below, decode_below}
 
 -- Whether bytes that lead the backward decoder to `b` are what may follow at state `f` of the forward one.

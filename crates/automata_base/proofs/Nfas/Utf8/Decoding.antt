@@ -4,7 +4,8 @@ use Rattle.std.proofs.Common.{eqb, List, [], ◌∷◌, get_or, IsUtf8, inl, inr
 use Rattle.std.proofs.lemmas.Bool.{and_parts, or_cases, leb-true, leb-false, ltb-true, eqb-true, true≢false}
 use Rattle.std.proofs.lemmas.Str.{IsUtf8-nil}
 use Rattle.automata_base.specs.declared.nfa.thompson.utf8.Class.{Class}
-use Rattle.automata_base.specs.Retraced.Decoders.{step, decode, classes_below}
+use Rattle.automata_base.specs.Retraced.Decoders.{classes_below}
+use Rattle.automata_base.proofs.Nfas.Utf8.Decoder.{step, decode}
 use Rattle.automata_base.specs.Lists.{all_below}
 use Rattle.automata_base.proofs.Nfas.Utf8.Adding.{entry_below}
 use Rattle.automata_base.proofs.Nfas.Utf8.Chars.{IsNext, Lead, of1, of2, of3, of4, lead, cons_one, cons_two, cons_three}

@@ -6,14 +6,15 @@ use Rattle.automata_base.specs.declared.nfa.thompson.State.{State}
 use Rattle.automata_base.specs.declared.nfa.thompson.State.TheVariants as is
 use Rattle.automata_base.specs.declared.nfa.thompson.Transition.{Transition}
 use Rattle.automata_base.specs.declared.nfa.thompson.utf8.Class.{Class}
-use Rattle.automata_base.specs.Retraced.Decoders.{step, pair, meets, pairs_in, range_pairs, ranges_pairs, byte_pairs}
+use Rattle.automata_base.specs.Retraced.Decoders.{pair, meets, pairs_in, range_pairs, ranges_pairs, byte_pairs}
+use Rattle.automata_base.proofs.Nfas.Utf8.Decoder.{step}
 use Rattle.automata_base.specs.Retraced.Decoders.{pairs_at, node_pairs, pairs_of}
 use Rattle.automata_base.specs.Lists.{In}
 use Rattle.automata_base.specs.Haystacks.Looks.{within}
 use Rattle.automata_base.specs.Nfas.Nfa.{Node, Split, Assert, Read, Accept, Range, hop, takes, takes_in, takes_at}
 use Rattle.automata_base.specs.Nfas.Nodes.{Automaton, nfa_of, node_of, range_of, ranges_of, dense_from}
 use Rattle.automata_base.specs.Paths.Paths.{all_true}
-use Rattle.automata_base.specs.Nfas.Reach.{node_in}
+use Rattle.automata_base.specs.Retraced.Reach.{node_in}
 use Rattle.automata_base.specs.Nfas.Errors.{ordered_from, state_ordered, states_ordered}
 use Rattle.automata_base.specs.Powersets.Closure.{children}
 use Rattle.automata_base.proofs.Paths.FirstVisits.{hop_children}

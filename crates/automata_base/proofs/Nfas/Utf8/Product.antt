@@ -6,7 +6,7 @@ use Rattle.std.proofs.lemmas.Bool.{false≢true}
 use Rattle.std.proofs.lemmas.List.{take_more, take_all}
 use Rattle.automata_base.specs.Lists.{In}
 use Rattle.automata_base.specs.Retraced.Once.{once_from}
-use Rattle.automata_base.specs.Nfas.Reach.{IsReachedBy}
+use Rattle.automata_base.specs.Retraced.Reach.{IsReachedBy}
 use Rattle.automata_base.proofs.Powersets.Distinct.{In-get_or}
 use Rattle.automata_base.proofs.Nfas.Reach.Adding.{once_has, once_only}
 use Rattle.automata_base.proofs.Nfas.Reach.Walked.{IsWalked}

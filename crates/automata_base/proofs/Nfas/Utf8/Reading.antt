@@ -2,11 +2,12 @@
 use Rattle.std.proofs.Common.{ℕ, ◌≡◌, ◌+◌, ◌*◌, ◌/◌, ◌%◌, ◌<◌, ◌↔◌, true, List, [], ◌∷◌, Some, inl, inr, refl, sym, ap}
 use Rattle.std.proofs.Common.{◌∙◌, subst, arith}
 use Rattle.automata_base.specs.declared.nfa.thompson.utf8.Class.{Class}
-use Rattle.automata_base.specs.Retraced.Decoders.{step, decode, pair, pairs_of, classes_below, EndsAtBoundaries}
+use Rattle.automata_base.specs.Retraced.Decoders.{pair, pairs_of, classes_below, EndsAtBoundaries}
+use Rattle.automata_base.proofs.Nfas.Utf8.Decoder.{step, decode}
 use Rattle.automata_base.specs.Lists.{In}
 use Rattle.automata_base.specs.Nfas.Nfa.{accepts}
 use Rattle.automata_base.specs.Nfas.Nodes.{Automaton, nfa_of}
-use Rattle.automata_base.specs.Nfas.Reach.{node_in, IsMatchAt, Route}
+use Rattle.automata_base.specs.Retraced.Reach.{node_in, IsMatchAt, Route}
 use Rattle.automata_base.specs.Nfas.Errors.{states_ordered}
 use Rattle.automata_base.specs.Nfas.Utf8.{Reads, ends, goes, reads}
 use Rattle.automata_base.proofs.Nfas.Utf8.Decoding.{AreBytes, step_below, decode_below}

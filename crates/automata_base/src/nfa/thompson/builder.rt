@@ -246,33 +246,21 @@ impl Builder {
 
     /// Whether the NFA omits empty matches that split a UTF-8 encoded character.
     pub fn set_utf8(&mut self, yes: bool)
-        ensures { self.new ≡ with_flags self.old (record {
-          utf8 = yes;
-          reverse = self.old.flags.reverse;
-          line_terminator = self.old.flags.line_terminator;
-        }) }
+        ensures { self.new ≡ with_flags self.old (record self.old.flags { utf8 = yes }) }
     {
         self.flags.utf8 = yes;
     }
 
     /// Whether the NFA matches the reversed texts.
     pub fn set_reverse(&mut self, yes: bool)
-        ensures { self.new ≡ with_flags self.old (record {
-          utf8 = self.old.flags.utf8;
-          reverse = yes;
-          line_terminator = self.old.flags.line_terminator;
-        }) }
+        ensures { self.new ≡ with_flags self.old (record self.old.flags { reverse = yes }) }
     {
         self.flags.reverse = yes;
     }
 
     /// The byte that ends a line, for the looks at lines.
     pub fn set_line_terminator(&mut self, byte: u8)
-        ensures { self.new ≡ with_flags self.old (record {
-          utf8 = self.old.flags.utf8;
-          reverse = self.old.flags.reverse;
-          line_terminator = byte;
-        }) }
+        ensures { self.new ≡ with_flags self.old (record self.old.flags { line_terminator = byte }) }
     {
         self.flags.line_terminator = byte;
     }

@@ -4,7 +4,7 @@ ghost use Rattle.std.specs.Prelude.{IfOk, OnOk, Err, None, Some};
 ghost use Rattle.automata_base.specs.Retraced.Copies.{AreCopyable, AreParts, IsPartAdded};
 ghost use Rattle.automata_base.specs.Lists.{In, all_below, Distinct};
 ghost use Rattle.automata_base.specs.Nfas.Nodes.{node_of, nodes_of};
-ghost use Rattle.automata_base.specs.Nfas.Reach.{targets_at, targets_of};
+ghost use Rattle.automata_base.specs.Retraced.Reach.{targets_at, targets_of};
 ghost use Rattle.automata_base.specs.Nfas.Errors.{states_below};
 ghost use Rattle.automata_base.specs.Retraced.ReversedEdges.{copied, copies, copy_of, is_of, matches_in, HaveCopies};
 

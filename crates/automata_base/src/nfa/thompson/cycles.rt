@@ -3,7 +3,7 @@ ghost use Rattle.std.specs.Prelude.{◌≡◌, ◌<◌, ◌≤◌, ◌^◌, ◌�
 ghost use Rattle.std.specs.Prelude.{option_to_list, IfOk, IsTrue};
 ghost use Rattle.automata_base.specs.Retraced.DepthFirst.{IsWholeOrder};
 ghost use Rattle.automata_base.specs.Lists.{In};
-ghost use Rattle.automata_base.specs.Nfas.Reach.{AreLooksAcyclic, IsReached, look_target, node_in, targets_of};
+ghost use Rattle.automata_base.specs.Retraced.Reach.{AreLooksAcyclic, IsReached, look_target, node_in, targets_of};
 ghost use Rattle.automata_base.specs.Nfas.Errors.{states_below};
 
 use crate::nfa::thompson::State;

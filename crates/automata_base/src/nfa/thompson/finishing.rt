@@ -5,7 +5,7 @@ ghost use Rattle.automata_base.specs.Retraced.DepthFirst.{IsUnderSearch, IsWhole
 ghost use Rattle.automata_base.specs.Lists.{In};
 ghost use Rattle.automata_base.specs.Nfas.Nodes.{node_of};
 ghost use Rattle.automata_base.specs.Paths.Paths.{all_true};
-ghost use Rattle.automata_base.specs.Nfas.Reach.{targets_of};
+ghost use Rattle.automata_base.specs.Retraced.Reach.{targets_of};
 ghost use Rattle.automata_base.specs.Nfas.Errors.{state_below, states_below};
 ghost use Rattle.automata_base.specs.Powersets.Closure.{children_at};
 

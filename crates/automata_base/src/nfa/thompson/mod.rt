@@ -586,9 +586,8 @@ impl NFA {
         };
         let given = self.flags();
         let flags = Flags {
-            utf8: given.utf8,
             reverse: !given.reverse,
-            line_terminator: given.line_terminator,
+            ..given
         };
         match NFA::make(self.alloc, states, root, root, entries, flags, room) {
             Ok(nfa) => Ok(nfa),

@@ -12,7 +12,7 @@ ghost use Rattle.automata_base.specs.Haystacks.LookSets.{truth_of};
 ghost use Rattle.automata_base.specs.Haystacks.Looks.{Look};
 ghost use Rattle.automata_base.specs.Nfas.Nfa.{takes_in};
 ghost use Rattle.automata_base.specs.Haystacks.Looks.{within};
-ghost use Rattle.automata_base.specs.Nfas.Reach.{look_target};
+ghost use Rattle.automata_base.specs.Retraced.Reach.{look_target};
 
 use crate::nfa::thompson::{NFA, State, Transition};
 use crate::util::look::LookSet;

@@ -7,7 +7,7 @@ ghost use Rattle.automata_base.specs.Lists.{all_below, In};
 ghost use Rattle.automata_base.specs.Nfas.Nodes.{node_of, range_of, ranges_of, dense_from};
 ghost use Rattle.automata_base.specs.Retraced.Once.{once_from};
 ghost use Rattle.automata_base.specs.Paths.Paths.{all_true};
-ghost use Rattle.automata_base.specs.Nfas.Reach.{IsReachedBy};
+ghost use Rattle.automata_base.specs.Retraced.Reach.{IsReachedBy};
 ghost use Rattle.automata_base.specs.Nfas.Errors.{transitions_below, state_below, states_below};
 ghost use Rattle.automata_base.specs.Powersets.Closure.{children_at};
 

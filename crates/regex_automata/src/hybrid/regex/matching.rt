@@ -1,5 +1,4 @@
 ghost use Rattle.std.specs.Prelude.{◌≡◌, ◌-◌, ◌<◌, IfErr, false, true};
-ghost use Rattle.automata_hybrid.specs.Searches.Passes.{Skips};
 ghost use Rattle.regex_automata.specs.Spans.IsMatch.{IsAsked, IsMatchRefused};
 ghost use Rattle.regex_automata.specs.Spans.Contracts.{IsTruthOf};
 ghost use Rattle.regex_automata.specs.Spans.Effects.{IsTruthEffect};
@@ -11,23 +10,11 @@ use automata_base::util::search::Input;
 use automata_config::error::SearchError;
 
 impl Regex {
-    /// Whether the forward DFA skips offsets inside characters.
-    fn skips(&self) -> bool
-        ensures yes { result ≡ true → Skips self.now.forward }
-        ensures no { result ≡ false → Skips self.now.forward → ⊥ }
-    {
-        let nfa = self.forward.get_nfa();
-        if !nfa.is_utf8() {
-            return false;
-        }
-        nfa.has_empty()
-    }
-
     /// The input of a search for whether there is a match. It is earliest, unless the first match may be skipped.
     fn asked<'h>(&self, input: &Input<'h>) -> Input<'h>
         ensures { IsAsked self.now.forward input.now result }
     {
-        let skips = self.skips();
+        let skips = self.forward.skips();
         input.copied().earliest(!skips)
     }
 

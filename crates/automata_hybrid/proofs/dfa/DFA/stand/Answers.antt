@@ -4,7 +4,8 @@ use Rattle.automata_base.specs.Powersets.Powerset.{Powerset}
 use Rattle.automata_base.specs.Haystacks.Tapes.{Direction}
 use Rattle.automata_hybrid.specs.Machines.Machine.{Machine}
 use Rattle.automata_hybrid.specs.Searches.Passes.{state_in}
-use Rattle.automata_hybrid.specs.Walks.Answers.{IsRowState, ReportsNext}
+use Rattle.automata_hybrid.specs.Cache.Table.{IsRowState}
+use Rattle.automata_hybrid.specs.Walks.Answers.{ReportsNext}
 use Rattle.automata_hybrid.specs.Walks.State.{Walk, way_of, with_match}
 use Rattle.automata_hybrid.proofs.Walks.Calls.{next_arrives}
 use Rattle.automata_hybrid.proofs.dfa.DFA.stand.Goals as goal

@@ -1,4 +1,4 @@
-use Rattle.std.proofs.Common.{ℕ, ◌≡◌, ◌∙◌, refl, sym, ap, subst}
+use Rattle.std.proofs.Common.{◌≡◌, ◌∙◌, refl, sym, ap, subst}
 use Rattle.std.specs.Prelude.{IfErr, Ok}
 use Rattle.automata_base.specs.Haystacks.Input.{Input}
 use Rattle.automata_base.specs.Haystacks.Matches.{Match}
@@ -13,13 +13,8 @@ use Rattle.regex_automata.proofs.Spans.Costs.{cost_anchored}
 use Rattle.regex_automata.proofs.Results.{is_err}
 use Rattle.regex_automata.proofs.TokenLists.Tiling.{error_is_given, token_is_given}
 use Rattle.regex_automata.proofs.TokenLists.Refusals.{error_learns, error_leaves, error_of_input, token_learns, token_leaves}
+use Rattle.automata_base.proofs.Answers.Once.{match_is}
 use Rattle.regex_automata.proofs.tokens.iterate.token_at.Goals as goal
-
--- matches with equal parts are equal
-same_match :
-    (p q s t e f : ℕ) → p ≡ q → s ≡ t → e ≡ f
-    → ◌≡◌ {A = Match} (record { pattern = p; start = s; end = e }) (record { pattern = q; start = t; end = f })
-same_match p q s t e f a b d = cc
 
 pub returns-in_err-token-clause-item : goal.returns-in_err-token-clause-item
 returns-in_err-token-clause-item c =
@@ -49,7 +44,7 @@ returns-clause-item c =
     (subst (λ n. IsHalf Forward n c.asked-input.result found) c.forward-dfa.ensures c.try_search_fwd-found.ensures.half) in
     let same : match_of c.new.result ≡ token =
     c.new.ensures.found
-    ∙ same_match _ token.pattern _ token.start _ token.end c.pattern.ensures c.span.ensures.start c.span.ensures.end in
+    ∙ match_is _ token c.pattern.ensures c.span.ensures.start c.span.ensures.end in
     token_is_given m c.args.haystack.now c.args.end c.requires.within.1 c.args.offset c.new.result found c.requires.ahead returned
     (ap (λ (t : Match). Ok t) same ∙ sym c.in_ok-token.was ∙ c.item.ensures) c.new.ensures.bytes
 

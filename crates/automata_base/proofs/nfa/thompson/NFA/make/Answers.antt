@@ -5,7 +5,7 @@ use Rattle.automata_base.specs.Lists.{all_below}
 use Rattle.automata_base.specs.Nfas.Nfa.{any_node}
 use Rattle.automata_base.specs.Haystacks.Looks.{look_index}
 use Rattle.automata_base.specs.Nfas.Nodes.{nodes_of}
-use Rattle.automata_base.specs.Nfas.Reach.{AreLooksAcyclic, ReachesMatch}
+use Rattle.automata_base.specs.Retraced.Reach.{AreLooksAcyclic, ReachesMatch}
 use Rattle.automata_base.specs.Nfas.Getters.{SkipsLazily}
 use Rattle.automata_base.specs.Nfas.Errors.{states_below, states_ordered}
 use Rattle.automata_base.specs.declared.nfa.thompson.Data.{Data}

@@ -1,7 +1,7 @@
 use Rattle.std.proofs.Common.{List, [], ◌∷◌, ◌≡◌, ◌↔◌, true, length, sym, subst}
 use Rattle.std.specs.Prelude.{IsTrue}
 use Rattle.automata_base.specs.declared.nfa.thompson.State.{State}
-use Rattle.automata_base.specs.Nfas.Reach.{ReachesMatch}
+use Rattle.automata_base.specs.Retraced.Reach.{ReachesMatch}
 use Rattle.automata_base.specs.Nfas.Errors.{states_below, states_ordered}
 use Rattle.automata_base.proofs.Nfas.Reach.InRange.{checked_below}
 use Rattle.automata_base.proofs.Nfas.Mirrors.Begins.{alike_begins, apart, begins_alike, together}

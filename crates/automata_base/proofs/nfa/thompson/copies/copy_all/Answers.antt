@@ -2,7 +2,7 @@ use Rattle.std.proofs.Common.{◌≡◌, ◌<◌, ◌++◌, length, get_or, ap, 
 use Rattle.automata_base.specs.declared.nfa.thompson.reach.Edges.TheVariants.{Every}
 use Rattle.automata_base.specs.Lists.{In}
 use Rattle.automata_base.specs.Nfas.Nodes.{node_of, nodes_of}
-use Rattle.automata_base.specs.Nfas.Reach.{node_in, targets_at}
+use Rattle.automata_base.specs.Retraced.Reach.{node_in, targets_at}
 use Rattle.automata_base.specs.Retraced.ReversedEdges.{copy_of, copies}
 use Rattle.automata_base.proofs.Powersets.Walking.{node_at}
 use Rattle.automata_base.proofs.Nfas.Mirrors.Copies.{in_slice, copies_next, copies_done}

@@ -3,7 +3,7 @@ use Rattle.automata_base.specs.declared.nfa.thompson.State.{State}
 use Rattle.automata_base.specs.declared.nfa.thompson.reach.Edges.TheVariants.{Every}
 use Rattle.automata_base.specs.Lists.{In}
 use Rattle.automata_base.specs.Nfas.Nodes.{node_of}
-use Rattle.automata_base.specs.Nfas.Reach.{targets_at}
+use Rattle.automata_base.specs.Retraced.Reach.{targets_at}
 use Rattle.automata_base.proofs.Paths.Walks.{in_left}
 use Rattle.automata_base.proofs.nfa.thompson.copies.copy_state.Goals as goal
 

@@ -1,6 +1,6 @@
 use Rattle.std.proofs.Common.{◌<◌, length, sym, ap, ◌∙◌, subst}
 use Rattle.automata_base.specs.declared.nfa.thompson.reach.Edges.TheVariants.{Epsilon}
-use Rattle.automata_base.specs.Nfas.Reach.{targets_of}
+use Rattle.automata_base.specs.Retraced.Reach.{targets_of}
 use Rattle.automata_base.proofs.Nfas.Reach.Cycles.{look_here, target_below, none_reached, more_reached, none_found}
 use Rattle.automata_base.proofs.Nfas.Reach.Cycles.{one_found, added_walked}
 use Rattle.automata_base.proofs.Nfas.Reach.DepthFirst.{read_at}

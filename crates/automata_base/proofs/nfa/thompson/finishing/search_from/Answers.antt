@@ -3,7 +3,7 @@ use Rattle.std.proofs.lemmas.List.{nil_from_length}
 use Rattle.automata_base.specs.declared.nfa.thompson.finishing.Frame.{Frame}
 use Rattle.automata_base.specs.declared.nfa.thompson.reach.Edges.TheVariants.{Epsilon}
 use Rattle.automata_base.specs.Retraced.DepthFirst.{IsUnderSearch}
-use Rattle.automata_base.specs.Nfas.Reach.{targets_of}
+use Rattle.automata_base.specs.Retraced.Reach.{targets_of}
 use Rattle.automata_base.proofs.Nfas.Reach.DepthFirst.{search_starts, stack_top}
 use Rattle.automata_base.proofs.nfa.thompson.finishing.search_from.Goals as goal
 

@@ -2,7 +2,7 @@ use Rattle.std.proofs.Common.{ℕ, ◌≡◌, ◌+◌, ◌-◌, ◌*◌, length,
 use Rattle.automata_base.specs.declared.nfa.thompson.reach.Edges.TheVariants.{Epsilon}
 use Rattle.automata_base.specs.Retraced.DepthFirst.{IsUnderSearch}
 use Rattle.automata_base.specs.Lists.{In}
-use Rattle.automata_base.specs.Nfas.Reach.{targets_of}
+use Rattle.automata_base.specs.Retraced.Reach.{targets_of}
 use Rattle.automata_base.proofs.nfa.thompson.finishing.search_from.Given as goal
 
 abbrev pub invariant-loop-frame : goal.invariant-loop-frame

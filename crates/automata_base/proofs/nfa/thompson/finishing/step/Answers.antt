@@ -4,7 +4,7 @@ use Rattle.automata_base.specs.declared.nfa.thompson.reach.Edges.TheVariants.{Ep
 use Rattle.automata_base.specs.Retraced.DepthFirst.{IsUnderSearch}
 use Rattle.automata_base.specs.Lists.{In}
 use Rattle.std.specs.Prelude.{slice_get}
-use Rattle.automata_base.specs.Nfas.Reach.{targets_of}
+use Rattle.automata_base.specs.Retraced.Reach.{targets_of}
 use Rattle.automata_base.specs.Nfas.Errors.{states_below}
 use Rattle.automata_base.proofs.Nfas.Reach.Adding.{state_at_below}
 use Rattle.automata_base.proofs.Nfas.Reach.DepthFirst.{search_done, search_enters, stack_two, read_at, edges_at}

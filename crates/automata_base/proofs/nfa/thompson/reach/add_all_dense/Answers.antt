@@ -1,7 +1,7 @@
 use Rattle.std.proofs.Common.{ap, ◌∙◌}
 use Rattle.automata_base.specs.Nfas.Nodes.{dense_from}
 use Rattle.automata_base.specs.Retraced.Once.{once_from}
-use Rattle.automata_base.specs.Nfas.Reach.{nexts}
+use Rattle.automata_base.specs.Retraced.Reach.{nexts}
 use Rattle.automata_base.specs.Lists.{all_below}
 use Rattle.automata_base.proofs.Nfas.Reach.Adding.{id_below, dense_next}
 use Rattle.automata_base.proofs.nfa.thompson.reach.add_all_dense.Goals as goal

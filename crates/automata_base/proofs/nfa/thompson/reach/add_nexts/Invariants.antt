@@ -1,7 +1,7 @@
 use Rattle.std.proofs.Common.{◌≡◌, drop}
 use Rattle.automata_base.specs.Nfas.Nodes.{ranges_of}
 use Rattle.automata_base.specs.Retraced.Once.{once_from}
-use Rattle.automata_base.specs.Nfas.Reach.{nexts}
+use Rattle.automata_base.specs.Retraced.Reach.{nexts}
 use Rattle.automata_base.proofs.nfa.thompson.reach.add_nexts.Given as goal
 
 abbrev pub invariant-loop-transition : goal.invariant-loop-transition

@@ -1,6 +1,6 @@
 use Rattle.std.proofs.Common.{ℕ, take}
 use Rattle.automata_base.specs.Lists.{In}
-use Rattle.automata_base.specs.Nfas.Reach.{node_in, IsMatchAt}
+use Rattle.automata_base.specs.Retraced.Reach.{node_in, IsMatchAt}
 use Rattle.automata_base.proofs.nfa.thompson.reach.is_some_match.Given as goal
 
 abbrev pub invariant-loop-id : goal.invariant-loop-id

@@ -1,6 +1,6 @@
 use Rattle.std.proofs.Common.{[], ◌∷◌}
 use Rattle.automata_base.specs.declared.nfa.thompson.reach.Edges.TheVariants.{Every}
-use Rattle.automata_base.specs.Nfas.Reach.{IsReached}
+use Rattle.automata_base.specs.Retraced.Reach.{IsReached}
 use Rattle.automata_base.proofs.Nfas.Reach.Matched.{target_found}
 use Rattle.automata_base.proofs.nfa.thompson.reach.leads_back.Goals as goal
 

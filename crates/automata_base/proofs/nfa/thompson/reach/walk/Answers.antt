@@ -1,4 +1,4 @@
-use Rattle.automata_base.specs.Nfas.Reach.{targets_of}
+use Rattle.automata_base.specs.Retraced.Reach.{targets_of}
 use Rattle.automata_base.proofs.Nfas.Reach.Walked.{roots_once}
 use Rattle.automata_base.proofs.nfa.thompson.reach.walk.Goals as goal
 

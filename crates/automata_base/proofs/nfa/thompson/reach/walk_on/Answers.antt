@@ -1,7 +1,7 @@
 use Rattle.std.proofs.Common.{◌≡◌, ◌<◌, ◌≤◌, ◌+◌, ◌-◌, length, refl, get_or, sym, ap, ◌∙◌, arith}
 use Rattle.automata_base.specs.Nfas.Nodes.{node_of}
 use Rattle.automata_base.specs.Retraced.Once.{once_from}
-use Rattle.automata_base.specs.Nfas.Reach.{node_in, targets_at, targets_of}
+use Rattle.automata_base.specs.Retraced.Reach.{node_in, targets_at, targets_of}
 use Rattle.automata_base.specs.Nfas.Errors.{states_below}
 use Rattle.automata_base.proofs.Powersets.Walking.{node_at}
 use Rattle.automata_base.proofs.Nfas.Reach.Adding.{state_at_below}

@@ -1,5 +1,5 @@
 use Rattle.std.proofs.Common.{◌≡◌, ◌-◌, length}
-use Rattle.automata_base.specs.Nfas.Reach.{targets_of}
+use Rattle.automata_base.specs.Retraced.Reach.{targets_of}
 use Rattle.automata_base.proofs.Nfas.Reach.Walked.{IsWalked}
 use Rattle.automata_base.proofs.nfa.thompson.reach.walk_on.Given as goal
 

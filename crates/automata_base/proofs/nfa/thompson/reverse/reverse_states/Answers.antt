@@ -6,7 +6,7 @@ use Rattle.automata_base.specs.Lists.{In, all_below, Distinct}
 use Rattle.automata_base.specs.Nfas.Nfa.{Split}
 use Rattle.automata_base.specs.Nfas.Nodes.{nodes_of}
 use Rattle.automata_base.specs.Retraced.Copies.{AreCopyable}
-use Rattle.automata_base.specs.Nfas.Reach.{IsReached}
+use Rattle.automata_base.specs.Retraced.Reach.{IsReached}
 use Rattle.automata_base.specs.Nfas.Errors.{alternates_of}
 use Rattle.automata_base.specs.Retraced.ReversedEdges.{HaveCopies}
 use Rattle.automata_base.proofs.Powersets.Walking.{nodes_length}

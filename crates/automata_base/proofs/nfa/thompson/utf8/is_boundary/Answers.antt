@@ -1,7 +1,7 @@
 use Rattle.std.proofs.Common.{◌≡◌, ◌/◌, ◌%◌, get_or, ap, sym, subst, ◌∙◌, ◌↔◌}
 use Rattle.std.specs.Prelude.{IsTrue}
 use Rattle.automata_base.specs.Nfas.Nodes.{node_of}
-use Rattle.automata_base.specs.Nfas.Reach.{node_in, IsMatchAt}
+use Rattle.automata_base.specs.Retraced.Reach.{node_in, IsMatchAt}
 use Rattle.automata_base.proofs.Powersets.Walking.{node_at}
 use Rattle.automata_base.proofs.Nfas.Utf8.Product.{test_not}
 use Rattle.automata_base.proofs.nfa.thompson.utf8.is_boundary.Goals as goal

@@ -1,6 +1,6 @@
 use Rattle.std.proofs.Common.{◌≡◌, ◌∙◌, sym, ap, ◌+◌, ◌*◌, ◌≤◌, length, None, Some, slice_get, get_or, subst, refl}
 use Rattle.std.proofs.lemmas.Option.{slice_get_read}
-use Rattle.automata_base.specs.Powersets.Powerset.{Powerset, cost}
+use Rattle.automata_base.specs.Powersets.Powerset.{Powerset, cost, dead}
 use Rattle.automata_hybrid.specs.Machines.Machine.{IsStateOf, greatest, table_stride}
 use Rattle.automata_hybrid.specs.Cache.Table.{AreRows, Rows, id_of, row_id}
 use Rattle.automata_hybrid.specs.declared.dfa.row.Row.{Row}
@@ -23,14 +23,20 @@ returns-clause-had c = λ n.
     let clash : None ≡ Some (row_id ((c.args.row + 3) * table_stride t.of) r) = sym m ∙ d in
     cc
 
+pub returns-clause-alive : goal.returns-clause-alive
+returns-clause-alive c =
+    let t : Rows = c.args.self.now in
+    let i : AreRows t = subst AreRows c.self.view_is c.self.invariant.rows in
+    subst (λ (q : Powerset). q ≡ dead → ⊥) (sym (ap (λ (v : Row). v.state) c.in_ok-copy.ensures.cases)) (i.states c.args.row c.index-row.result.now (at c)).alive
+
 pub returns-clause-cost : goal.returns-clause-cost
 returns-clause-cost c =
     let t : Rows = c.args.self.now in
     let i : AreRows t = subst AreRows c.self.view_is c.self.invariant.rows in
-    subst (λ q. cost q ≤ greatest t.of) (sym (ap (λ (v : Row). v.state) c.in_ok-copy.ensures.cases)) (i.alive c.args.row c.index-row.result.now (at c)).1
+    subst (λ q. cost q ≤ greatest t.of) (sym (ap (λ (v : Row). v.state) c.in_ok-copy.ensures.cases)) (i.states c.args.row c.index-row.result.now (at c)).cheap
 
 pub returns-clause-of : goal.returns-clause-of
 returns-clause-of c =
     let t : Rows = c.args.self.now in
     let i : AreRows t = subst AreRows c.self.view_is c.self.invariant.rows in
-    subst (λ (q : Powerset). IsStateOf t.of q) (sym (ap (λ (v : Row). v.state) c.in_ok-copy.ensures.cases)) (i.alive c.args.row c.index-row.result.now (at c)).2
+    subst (λ (q : Powerset). IsStateOf t.of q) (sym (ap (λ (v : Row). v.state) c.in_ok-copy.ensures.cases)) (i.states c.args.row c.index-row.result.now (at c)).own

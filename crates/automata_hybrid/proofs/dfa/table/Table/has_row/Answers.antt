@@ -4,7 +4,7 @@ use Rattle.std.proofs.lemmas.Bool.{eqb-true, eq-eqb}
 use Rattle.std.proofs.lemmas.Option.{slice_get_read}
 use Rattle.automata_hybrid.specs.declared.dfa.row.Row.{Row}
 use Rattle.automata_hybrid.proofs.Cache.Places.{placed_valid, valid_at}
-use Rattle.automata_hybrid.proofs.Cases.{same_some}
+use Rattle.automata_base.proofs.Paths.Orders.{some_inj}
 use Rattle.automata_hybrid.specs.Cache.Table.{AreRows, Rows, IsRowId, row_id}
 use Rattle.automata_hybrid.proofs.dfa.table.Table.has_row.Goals as goal
 use Rattle.automata_hybrid.proofs.dfa.table.Table.has_row.Goals.{then-index-lt3-via-then-index-lt3}
@@ -65,6 +65,6 @@ returns c =
           (eqb-true c.args.id c.id.result (sym c.eq.ensures ∙ yes) ∙ made)),
       (λ v. let a = valid_at t c.args.id i positive v in
           let one : a.row ≡ row =
-          same_some (sym a.has ∙ ap (λ n. slice_get t.rows (n - 3)) (sym e) ∙ has) in
+          some_inj (sym a.has ∙ ap (λ n. slice_get t.rows (n - 3)) (sym e) ∙ has) in
           c.eq.ensures ∙ eq-eqb c.args.id c.id.result (a.same ∙ ap (λ r. row_id (c.args.id % 2 ^ 27) r) one ∙ sym made)),
     )

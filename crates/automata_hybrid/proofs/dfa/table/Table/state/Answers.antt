@@ -12,7 +12,7 @@ returns-clause-of c =
     let i : AreRows t = subst AreRows c.self.view_is c.self.invariant.rows in
     let e : r ≡ get_or t.rows k r = c.index-row.ensures ∙ ap (λ (v : Rows). get_or v.rows k r) c.self.view_is in
     let has : slice_get t.rows k ≡ Some r = slice_get_read t.rows (length t.rows) k r refl c.row_index-index.ensures.within e in
-    (i.alive k r has).2
+    (i.states k r has).own
 
 pub returns-clause-cost : goal.returns-clause-cost
 returns-clause-cost c =
@@ -22,4 +22,4 @@ returns-clause-cost c =
     let i : AreRows t = subst AreRows c.self.view_is c.self.invariant.rows in
     let e : r ≡ get_or t.rows k r = c.index-row.ensures ∙ ap (λ (v : Rows). get_or v.rows k r) c.self.view_is in
     let has : slice_get t.rows k ≡ Some r = slice_get_read t.rows (length t.rows) k r refl c.row_index-index.ensures.within e in
-    (i.alive k r has).1
+    (i.states k r has).cheap

@@ -9,7 +9,8 @@ use Rattle.regex_automata.specs.Spans.Outcomes.{IsStartFound}
 use Rattle.regex_automata.proofs.Spans.Costs.{cache_of, front_none, front_some, knows_both, knows_front, match_of}
 use Rattle.regex_automata.proofs.Spans.Costs.{match_within, start_within}
 use Rattle.regex_automata.proofs.Spans.NextMatches.{some_of}
-use Rattle.regex_automata.proofs.Results.{err_ok, if_ok, is_err, ok_err, on_ok, same_err, same_ok, some_none}
+use Rattle.regex_automata.proofs.Results.{err_ok, if_ok, is_err, ok_err, on_ok, same_err, same_ok}
+use Rattle.automata_base.proofs.Paths.Orders.{some_none}
 use Rattle.regex_automata.proofs.hybrid.regex.Regex.search.Goals as goal
 
 pub try_search_fwd_base-requires : goal.try_search_fwd_base-requires
