@@ -30,7 +30,7 @@ impl Model for Builder {
 }
 
 impl Builder {
-    ghost use Rattle.std.specs.Prelude.{◌≡◌, ◌⊎◌, ◌+◌, ◌*◌, ◌<◌, ◌≤◌, ◌∷◌, [], List, ℕ, None, Some, length, set};
+    ghost use Rattle.std.specs.Prelude.{◌≡◌, ◌⊎◌, ◌+◌, ◌*◌, ◌<◌, ◌≤◌, ◌∷◌, [], ℕ, None, Some, length, set};
     ghost use Rattle.std.specs.Prelude.{IfOk, OnOk, OnErr, IsOk, IsOkUnless, slice_get};
     ghost use Rattle.automata_base.specs.Nfas.Drafts.{blank, default_flags, with_states, with_flags, started, finished};
     ghost use Rattle.automata_base.specs.Nfas.Drafts.{prefix_of};

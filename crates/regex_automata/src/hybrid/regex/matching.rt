@@ -1,4 +1,4 @@
-ghost use Rattle.std.specs.Prelude.{◌≡◌, ◌-◌, ◌<◌, IfErr, false, true};
+ghost use Rattle.std.specs.Prelude.{IfErr};
 ghost use Rattle.regex_automata.specs.Spans.IsMatch.{IsAsked, IsMatchRefused};
 ghost use Rattle.regex_automata.specs.Spans.Contracts.{IsTruthOf};
 ghost use Rattle.regex_automata.specs.Spans.Effects.{IsTruthEffect};
