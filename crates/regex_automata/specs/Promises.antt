@@ -61,8 +61,6 @@ pub use Rattle.automata_hybrid.specs.Cache.Caches.{HoldsRow}
 -- A search by steps that stops at its first match stands before the byte at an offset, in the state of this ID; the
 -- unit at an offset; what a step over it means; the first pattern of a match state; the first match, or none.
 pub use Rattle.automata_hybrid.specs.Steps.BySteps.{StandsAt, IsUnitAt, IsStepAt, IsFirstPattern, HasPatterns}
--- The same of a search in either direction.
-pub use Rattle.automata_hybrid.specs.Steps.BySteps.{Stands, IsUnitIn, IsStepIn}
 pub use Rattle.automata_hybrid.specs.Steps.BySteps.{IsFirstMatch, FirstMatchIsFound}
 -- Nothing but a lack of memory prevents an answer. All that a search uses is cached. What a search does to its cache:
 -- among others, until the next clear nothing is lost, and if all that it uses is cached, nothing changes but the

@@ -7,13 +7,13 @@ ghost use Rattle.automata_base.specs.Powersets.Powerset.{dead};
 ghost use Rattle.automata_base.specs.ByteClasses.Classes.{is_quit};
 ghost use Rattle.automata_base.specs.Retraced.Steps.{start_state_of};
 ghost use Rattle.automata_hybrid.specs.Machines.Machine.{slot_count};
-ghost use Rattle.automata_base.specs.Haystacks.Tapes.{Backward, byte_before};
+ghost use Rattle.automata_base.specs.Haystacks.Tapes.{byte_before};
 ghost use Rattle.std.specs.Prelude.{slice_get};
 ghost use Rattle.automata_hybrid.specs.Steps.Starts.{quit_behind, start_refusal, search_refusal, KnowsStart};
 ghost use Rattle.automata_hybrid.specs.Steps.Starts.{IsStartSlot};
 ghost use Rattle.automata_hybrid.specs.Steps.Starts.{IsStartAnswer, IsStartRefused, IsStartRefusedAt, IsStartEffect};
 ghost use Rattle.automata_hybrid.specs.Machines.StartSlots.{supports, slot_of};
-ghost use Rattle.automata_hybrid.specs.Steps.BySteps.{StartsAt, StartsIn};
+ghost use Rattle.automata_hybrid.specs.Steps.BySteps.{StartsAt};
 ghost use Rattle.automata_hybrid.specs.Cache.Caches.{IsCacheOf};
 ghost use Rattle.automata_hybrid.specs.Cache.Ids.{unknown_id};
 
@@ -101,6 +101,9 @@ enum Start {
     CustomLineTerminator,
 }
 
+/// How many start slots a group has.
+const GROUP: usize = Start::CustomLineTerminator as usize + 1;
+
 const N: u8 = Start::NonWordByte as u8;
 
 const W: u8 = Start::WordByte as u8;
@@ -159,7 +162,7 @@ impl DFA {
         ensures value { result ≡ group * 6 + kind }
         ensures within { result < slot_count self.now }
     {
-        group * 6 + kind
+        group * GROUP + kind
     }
 
     /// The start slot of an anchored mode. A pattern past the last one has none.
@@ -341,15 +344,10 @@ impl DFA {
             input.now.end input.now.end cache.old cache.new) }
         ensures effect { IsStartEffect self.now input.now.anchored (slice_get input.now.haystack input.now.end)
             cache.old cache.new }
-        ensures stands { IfOk result (StartsIn Backward self.now cache.new input.now) }
     {
-        let _haystack = input.haystack();
         let config = start::Config::from_input_reverse(input);
         match self.start_state(cache, &config) {
-            Ok(id) => {
-                cache.see_bounds();
-                Ok(id)
-            }
+            Ok(id) => Ok(id),
             Err(error) => Err(search_refusal(error, input.end(), input.end())),
         }
     }

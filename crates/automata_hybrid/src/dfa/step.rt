@@ -2,7 +2,6 @@
 //! the patterns that match at a state.
 ghost use Rattle.std.specs.Prelude.{◌≡◌, ◌%◌, ◌<◌, None, Some, IfOk, IfErr, length};
 ghost use Rattle.std.specs.Prelude.{slice_index, true, false};
-ghost use Rattle.automata_base.specs.Haystacks.Tapes.{Backward};
 ghost use Rattle.automata_base.specs.Powersets.Powerset.{Powerset};
 ghost use Rattle.automata_base.specs.Retraced.Steps.{successor};
 ghost use Rattle.automata_hybrid.specs.Machines.Machine.{table_stride};
@@ -11,7 +10,7 @@ ghost use Rattle.automata_hybrid.specs.Cache.Stores.{cell_of};
 ghost use Rattle.automata_hybrid.specs.Cache.Caches.{HoldsRow, IsCacheOf};
 ghost use Rattle.automata_hybrid.specs.Cache.Ids.{quit_id, unknown_id, offset_limit, HasMatchTag};
 ghost use Rattle.automata_base.specs.ByteClasses.Classes.{class_in, is_quit};
-ghost use Rattle.automata_hybrid.specs.Steps.BySteps.{StepsIn, StepsOn};
+ghost use Rattle.automata_hybrid.specs.Steps.BySteps.{StepsOn};
 ghost use Rattle.automata_hybrid.specs.Steps.Steps.{IsStepAnswer, IsStepRefused, IsStepEffect, KnowsStep, quits_on};
 ghost use Rattle.automata_config.specs.Options.{match_kind_of};
 
@@ -38,7 +37,6 @@ impl Cache {
         ensures refusal { IfErr result (IsStepRefused dfa.now id unit self.old self.new) }
         ensures effect { IsStepEffect dfa.now id unit self.old self.new }
         ensures stands { IfOk result (StepsOn dfa.now self.old self.new id unit) }
-        ensures back { IfOk result (StepsIn Backward dfa.now self.old self.new id unit) }
     {
         self.see_bounds();
         if id.is_fixed() {
@@ -115,7 +113,6 @@ impl DFA {
         ensures refusal { IfErr result (IsStepRefused self.now id (Some byte) cache.old cache.new) }
         ensures effect { IsStepEffect self.now id (Some byte) cache.old cache.new }
         ensures stands { IfOk result (StepsOn self.now cache.old cache.new id (Some byte)) }
-        ensures back { IfOk result (StepsIn Backward self.now cache.old cache.new id (Some byte)) }
     {
         cache.next(self, id, Some(byte))
     }
@@ -136,7 +133,6 @@ impl DFA {
         ensures refusal { IfErr result (IsStepRefused self.now id None cache.old cache.new) }
         ensures effect { IsStepEffect self.now id None cache.old cache.new }
         ensures stands { IfOk result (StepsOn self.now cache.old cache.new id None) }
-        ensures back { IfOk result (StepsIn Backward self.now cache.old cache.new id None) }
     {
         cache.next(self, id, None)
     }

@@ -1,6 +1,6 @@
 //! Following cached transitions, eight a turn: into states that report nothing or into match states, and along
 //! self-loops.
-ghost use Rattle.std.specs.Prelude.{◌≡◌, ◌+◌, ◌-◌, ◌<◌, ◌≤◌};
+ghost use Rattle.std.specs.Prelude.{◌≡◌, ◌+◌, ◌-◌, ◌^◌, ◌<◌, ◌≤◌};
 ghost use Rattle.automata_hybrid.specs.Cache.Caches.{IsCacheOf};
 ghost use Rattle.automata_hybrid.specs.Cache.Ids.{fixed_from, HasOnly};
 ghost use Rattle.automata_hybrid.specs.Searches.PassState.{IsFollowed, IsMatchRun, IsMet, IsRun, IsTagAt, MeetsMatch};
@@ -146,12 +146,12 @@ impl DFA {
     ) -> Stop
         requires of { IsCacheOf cache.now self.now }
         requires within { start + 8 ≤ input.now.end - input.now.start }
+        requires room { start + 8 < 2 ^ 64 }
         requires at { IsTagAt (way_of way) self.now cache.now.store.table input.now tag start from }
         ensures upto { result.at ≤ start + 8 }
         ensures run { IsRun (way_of way) self.now cache.now.store input.now tag start result.at result.id }
         ensures met { IsMet (way_of way) self.now cache.now.store input.now result.at result.id result.next }
     {
-        let _haystack = input.haystack();
         let mut row = from.offset_by(tag);
         for k in 0..8usize {
             let id = LazyStateID::at_offset(row, tag);

@@ -1,8 +1,6 @@
 use Rattle.std.proofs.Common.{ℕ, ◌∙◌, ap, subst}
 use Rattle.automata_base.specs.Haystacks.StartConfig.{StartConfig}
-use Rattle.automata_base.specs.Haystacks.Tapes.{Backward}
 use Rattle.automata_hybrid.specs.Steps.Starts.{IsStartAnswer, IsStartEffect, IsStartRefused, search_refusal}
-use Rattle.automata_hybrid.proofs.Steps.BySteps.{stands_first}
 use Rattle.automata_hybrid.proofs.dfa.DFA.start_state_reverse.Goals as goal
 
 pub returns-in-Ok-clause-answer : goal.returns-in-Ok-clause-answer
@@ -32,11 +30,3 @@ returns-in-Err-clause-refusal c =
           c.search_refusal.ensures
           ∙ (ap (λ (n : ℕ). search_refusal e n c.end-in-Err.result) c.end.ensures.end ∙ ap (search_refusal e c.args.input.now.end) c.end-in-Err.ensures.end);
     }
-
-pub returns-in-Ok-clause-stands : goal.returns-in-Ok-clause-stands
-returns-in-Ok-clause-stands c = λ early undone.
-    stands_first Backward c.args.self.now c.args.input.now c.args.cache.now c.start_state.new.cache c.in-Ok.id
-    (record { of = c.in-Ok.ensures.of; low = c.see_bounds.ensures.sound.low; small = c.see_bounds.ensures.sound.small })
-    early undone c.haystack-haystack.ensures.within.1
-    (subst (λ (s : StartConfig). IsStartAnswer c.args.self.now s.anchored s.look_behind c.args.cache.now c.start_state.new.cache c.in-Ok.id)
-    c.from_input_reverse-config.ensures c.in-Ok.ensures.answer)

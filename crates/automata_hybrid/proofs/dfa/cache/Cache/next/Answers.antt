@@ -1,7 +1,6 @@
 use Rattle.std.proofs.Common.{◌^◌, ◌<◌, ◌≤◌, arith, subst}
 use Rattle.std.proofs.lemmas.Grind.{common_steps}
 use Rattle.automata_base.specs.Powersets.Powerset.{Powerset}
-use Rattle.automata_base.specs.Haystacks.Tapes.{Backward, Forward}
 use Rattle.automata_hybrid.specs.Machines.Machine.{Machine}
 use Rattle.automata_hybrid.specs.Machines.OwnStates.{IsOwn}
 use Rattle.automata_hybrid.specs.Cache.Table.{IsRowId, Names}
@@ -62,42 +61,21 @@ compute_next-requires-clause-unknown c =
 
 pub returns-then-is_fixed-clause-stands : goal.returns-then-is_fixed-clause-stands
 returns-then-is_fixed-clause-stands c = λ input at stands unit.
-    stands_step Forward c.args.dfa.now input c.args.self.now c.args.self.now at c.args.id c.args.id c.args.unit
+    stands_step c.args.dfa.now input c.args.self.now c.args.self.now at c.args.id c.args.id c.args.unit
     (record { of = c.requires.of; low = c.see_bounds.ensures.sound.low; small = c.see_bounds.ensures.sound.small })
     (record { of = c.requires.of; low = c.see_bounds.ensures.sound.low; small = c.see_bounds.ensures.sound.small })
     stands unit (returns-then-is_fixed-clause-answer c)
 
 pub returns-then-not-is_unknown-clause-stands : goal.returns-then-not-is_unknown-clause-stands
 returns-then-not-is_unknown-clause-stands c = λ input at stands unit.
-    stands_step Forward c.args.dfa.now input c.args.self.now c.args.self.now at c.args.id c.cell-cell.result c.args.unit
+    stands_step c.args.dfa.now input c.args.self.now c.args.self.now at c.args.id c.cell-cell.result c.args.unit
     (record { of = c.requires.of; low = c.see_bounds.ensures.sound.low; small = c.see_bounds.ensures.sound.small })
     (record { of = c.requires.of; low = c.see_bounds.ensures.sound.low; small = c.see_bounds.ensures.sound.small })
     stands unit (returns-then-not-is_unknown-clause-answer c)
 
 pub returns-clause-stands : goal.returns-clause-stands
 returns-clause-stands c = λ input at stands unit.
-    stands_step Forward c.args.dfa.now input c.args.self.now c.compute_next.new.self at c.args.id c.in_ok-next.next c.args.unit
-    (record { of = c.requires.of; low = c.see_bounds.ensures.sound.low; small = c.see_bounds.ensures.sound.small })
-    (record { of = c.in_ok-next.ensures.of; low = c.see_bounds-2.ensures.sound.low; small = c.see_bounds-2.ensures.sound.small })
-    stands unit c.in_ok-next.ensures.answer
-
-pub returns-then-is_fixed-clause-back : goal.returns-then-is_fixed-clause-back
-returns-then-is_fixed-clause-back c = λ input at stands unit.
-    stands_step Backward c.args.dfa.now input c.args.self.now c.args.self.now at c.args.id c.args.id c.args.unit
-    (record { of = c.requires.of; low = c.see_bounds.ensures.sound.low; small = c.see_bounds.ensures.sound.small })
-    (record { of = c.requires.of; low = c.see_bounds.ensures.sound.low; small = c.see_bounds.ensures.sound.small })
-    stands unit (returns-then-is_fixed-clause-answer c)
-
-pub returns-then-not-is_unknown-clause-back : goal.returns-then-not-is_unknown-clause-back
-returns-then-not-is_unknown-clause-back c = λ input at stands unit.
-    stands_step Backward c.args.dfa.now input c.args.self.now c.args.self.now at c.args.id c.cell-cell.result c.args.unit
-    (record { of = c.requires.of; low = c.see_bounds.ensures.sound.low; small = c.see_bounds.ensures.sound.small })
-    (record { of = c.requires.of; low = c.see_bounds.ensures.sound.low; small = c.see_bounds.ensures.sound.small })
-    stands unit (returns-then-not-is_unknown-clause-answer c)
-
-pub returns-clause-back : goal.returns-clause-back
-returns-clause-back c = λ input at stands unit.
-    stands_step Backward c.args.dfa.now input c.args.self.now c.compute_next.new.self at c.args.id c.in_ok-next.next c.args.unit
+    stands_step c.args.dfa.now input c.args.self.now c.compute_next.new.self at c.args.id c.in_ok-next.next c.args.unit
     (record { of = c.requires.of; low = c.see_bounds.ensures.sound.low; small = c.see_bounds.ensures.sound.small })
     (record { of = c.in_ok-next.ensures.of; low = c.see_bounds-2.ensures.sound.low; small = c.see_bounds-2.ensures.sound.small })
     stands unit c.in_ok-next.ensures.answer
