@@ -1,5 +1,5 @@
 -- Searches by steps stand where their steps led.
-use Rattle.std.proofs.Common.{ℕ, suc, ◌≡◌, ◌∙◌, ◌+◌, ◌*◌, ◌-◌, ◌<◌, ◌≤◌, ◌⊎◌, inl, inr, Bool, true, false, []}
+use Rattle.std.proofs.Common.{ℕ, suc, ◌≡◌, ◌∙◌, ◌+◌, ◌*◌, ◌-◌, ◌<◌, ◌≤◌, ◌⊎◌, inl, inr, Bool, true, false}
 use Rattle.std.proofs.Common.{length, Option, Some, None, refl, sym, ap, subst, arith, get_or, add-zero}
 use Rattle.std.specs.Prelude.{IsBitSet}
 use Rattle.automata_base.specs.Answers.Answers.{later}
