@@ -9,10 +9,13 @@ use Rattle.automata_base.specs.Paths.Paths.{all_true}
 use Rattle.automata_base.specs.Haystacks.Tapes.{Direction, Forward, Backward}
 
 -- Edges lead from a state over these bytes to another, looks taken as true.
-pub data Reads (n : Nfa) : ℕ → List ℕ → ℕ → Type 0 where
-  ends : {q : ℕ} → Reads n q [] q
-  goes : {q r z : ℕ} {bytes : List ℕ} (e : ℕ) → hop n all_true q e ≡ Some r → Reads n r bytes z → Reads n q bytes z
-  reads : {q u r z : ℕ} {bytes : List ℕ} → u < 256 → takes n q u ≡ Some r → Reads n r bytes z → Reads n q (u ∷ bytes) z
+pub data ReadsTo (n : Nfa) : ℕ → List ℕ → ℕ → Type 0 where
+  ends : {q : ℕ} → ReadsTo n q [] q
+  goes :
+      {q r z : ℕ} {bytes : List ℕ} (e : ℕ) → hop n all_true q e ≡ Some r → ReadsTo n r bytes z → ReadsTo n q bytes z
+  reads :
+      {q u r z : ℕ} {bytes : List ℕ} → u < 256 → takes n q u ≡ Some r → ReadsTo n r bytes z
+      → ReadsTo n q (u ∷ bytes) z
 
 -- Bytes read in this direction, in the order of the haystack.
 abbrev pub in_order : Direction → List ℕ → List ℕ
@@ -23,7 +26,7 @@ in_order Backward bytes = reverse bytes
 abbrev pub ReadsUtf8 : Direction → Automaton → Type 0
 ReadsUtf8 way a =
     (start q p : ℕ) (bytes : List ℕ) → In start (a.start_anchored ∷ a.start_pattern)
-    → Reads (nfa_of a) start bytes q → accepts (nfa_of a) q ≡ Some p → IsUtf8 (in_order way bytes)
+    → ReadsTo (nfa_of a) start bytes q → accepts (nfa_of a) q ≡ Some p → IsUtf8 (in_order way bytes)
 
 -- No state is a look.
 abbrev pub HasNoLook : Automaton → Type 0

@@ -1,14 +1,14 @@
 //! Start states. There is a start slot for each anchored mode, and each pattern if the settings ask for that, after
 //! each kind of look-behind byte (`Start`). A slot has the ID of its start state once that was determinized, and is
 //! unknown before.
-ghost use Rattle.std.specs.Prelude.{◌≡◌, ◌+◌, ◌-◌, ◌*◌, ◌^◌, ◌<◌, ◌≤◌, IfOk, IfErr, IfSome, IfNone, ◌↔◌, Err, Some, false};
+ghost use Rattle.std.specs.Prelude.{◌≡◌, ◌+◌, ◌-◌, ◌*◌, ◌^◌, ◌<◌, ◌≤◌, ◌↔◌, IfOk, IfErr, IfSome, IfNone, Err, Some};
 ghost use Rattle.automata_base.specs.ByteClasses.LookBehind.{behind_of};
 ghost use Rattle.automata_base.specs.Powersets.Powerset.{dead};
 ghost use Rattle.automata_base.specs.ByteClasses.Classes.{is_quit};
 ghost use Rattle.automata_base.specs.Retraced.Steps.{start_state_of};
 ghost use Rattle.automata_hybrid.specs.Machines.Machine.{slot_count};
 ghost use Rattle.automata_base.specs.Haystacks.Tapes.{byte_before};
-ghost use Rattle.std.specs.Prelude.{slice_get};
+ghost use Rattle.std.specs.Prelude.{slice_get, false};
 ghost use Rattle.automata_hybrid.specs.Steps.Starts.{quit_behind, start_refusal, search_refusal, KnowsStart};
 ghost use Rattle.automata_hybrid.specs.Steps.Starts.{IsStartSlot};
 ghost use Rattle.automata_hybrid.specs.Steps.Starts.{IsStartAnswer, IsStartRefused, IsStartRefusedAt, IsStartEffect};
@@ -338,7 +338,8 @@ impl DFA {
         requires { IsCacheOf cache.old self.now }
         ensures of { IsCacheOf cache.new self.now }
         ensures answer { IfOk result
-            (IsStartAnswer self.now input.now.anchored (slice_get input.now.haystack input.now.end) cache.old cache.new) }
+            (IsStartAnswer self.now input.now.anchored (slice_get input.now.haystack input.now.end)
+            cache.old cache.new) }
         ensures refusal { IfErr result
             (IsStartRefusedAt self.now input.now.anchored (slice_get input.now.haystack input.now.end)
             input.now.end input.now.end cache.old cache.new) }

@@ -66,7 +66,8 @@ fn splits(input: &Input<'_>, offset: usize) -> bool
 }
 
 impl DFA {
-    /// Whether matches at offsets inside a character are skipped: the NFA is in UTF-8 mode and matches the empty string.
+    /// Whether matches at offsets inside a character are skipped: the NFA is in UTF-8 mode and matches the empty
+    /// string.
     pub fn skips(&self) -> bool
         ensures yes { result ≡ true → Skips self.now }
         ensures no { result ≡ false → Skips self.now → ⊥ }

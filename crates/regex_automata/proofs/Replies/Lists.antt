@@ -3,7 +3,7 @@ use Rattle.std.proofs.Common.{◌≡◌, ◌∙◌, ℕ, zero, suc, ◌+◌, ◌
 use Rattle.std.proofs.Common.{append_assoc, append-nil, add-one, ap, arith, drop-cons, refl, subst, sym}
 use Rattle.std.proofs.Math.ListN.{drop_of_length-le}
 use Rattle.regex_automata.specs.Replay.Histories.{History, start, after}
-use Rattle.regex_automata.specs.Replay.Caches.{AreAnsweredAfter, AreMade}
+use Rattle.regex_automata.specs.Replay.Caches.{AreAnsweredAfter, IsRequestEffect}
 use Rattle.regex_automata.specs.Replay.Replies.{IsReply, AreReplies, AreRepliesAfter}
 use Rattle.regex_automata.specs.declared.hybrid.regex.caches.Cache.{Cache}
 use Rattle.regex_automata.specs.declared.hybrid.regex.Regex.{Regex}
@@ -53,7 +53,7 @@ module _ (regexes : List Regex) (script : List Request) (first : Cache) where
 
   pub continues_turn :
       (done new : List Reply) (h : History) (at next : Cache) (i : ℕ) (q : Request) (r : Reply)
-      → i < length script → q ≡ get_or script i q → Continues done h at (drop i script) → AreMade regexes h q r at next
+      → i < length script → q ≡ get_or script i q → Continues done h at (drop i script) → IsRequestEffect regexes h q r at next
       → new ≡ done ++ r ∷ [] → Continues new (after h q r) next (drop (i + 1) script)
   continues_turn done new h at next i q r lt is all made e = λ rest more.
       let cut : drop i script ≡ q ∷ drop (i + 1) script =

@@ -14,7 +14,7 @@ use Rattle.regex_automata.specs.Replay.Histories.{Begun, History, stepped, after
 use Rattle.regex_automata.specs.Replay.Replies.{IsReply, IsStepOf, walk_fault}
 use Rattle.regex_automata.specs.Spans.Contracts.{IsStep}
 use Rattle.regex_automata.specs.Replay.Players.{IsWalk, AreWalks, HasPlayed, HasAnsweredBy, IsStepFrom, Goes, MakesStep}
-use Rattle.regex_automata.specs.Replay.Caches.{AreMade, IsCalled, IsMadeByOf, IsWalkStepped, other_of, own_of}
+use Rattle.regex_automata.specs.Replay.Caches.{IsRequestEffect, IsCalled, IsMadeByOf, IsWalkStepped, other_of, own_of}
 use Rattle.regex_automata.specs.declared.hybrid.regex.caches.Cache.{Cache}
 use Rattle.regex_automata.specs.declared.replay.requests.Request.TheVariants as request
 use Rattle.regex_automata.specs.declared.replay.requests.Reply.TheVariants as reply
@@ -100,7 +100,7 @@ begun_made rs r w k old new result walk reported made =
 pub step_made :
     (h : History) (s : Player) (n : ℕ) (k : KeptWalk) (old new : Cache) (result : Result (Option HalfMatch) SearchError)
     → HasPlayed h s → slice_get s.walks.items n ≡ Some k → k.regex ≡ s.current
-    → MakesStep s.regex.now k old new result → AreMade s.regexes.now h (request.StepWalk n) (reply.Half result) old new
+    → MakesStep s.regex.now k old new result → IsRequestEffect s.regexes.now h (request.StepWalk n) (reply.Half result) old new
 step_made h s n k old new result a is e made =
     let (w, at, walk) = walk_at s.regexes.now h.walks s.walks.items n k a.walks is in
     subst (λ (o : Option Regex). IsMadeByOf o h.walks (request.StepWalk n) old new (reply.Half result)) (sym a.regex)

@@ -156,17 +156,17 @@ AreFreshOf None c = ⊥
 AreFreshOf (Some r) c = AreFresh r c
 
 -- what a request and its reply do to the caches: a bad request and a reset that fails leave them unchanged
-abbrev pub AreMade : List Regex → History → Request → Reply → (old new : Cache) → Type 0
-AreMade regexes h q (reply.Bad why) old new = new ≡ old
-AreMade regexes h (request.Reset k) (reply.Done (Ok done)) old new = AreFreshOf (slice_get regexes k) new
-AreMade regexes h q answer old new = IsMadeByOf (slice_get regexes h.current) h.walks q old new answer
+abbrev pub IsRequestEffect : List Regex → History → Request → Reply → (old new : Cache) → Type 0
+IsRequestEffect regexes h q (reply.Bad why) old new = new ≡ old
+IsRequestEffect regexes h (request.Reset k) (reply.Done (Ok done)) old new = AreFreshOf (slice_get regexes k) new
+IsRequestEffect regexes h q answer old new = IsMadeByOf (slice_get regexes h.current) h.walks q old new answer
 
 -- the requests are answered over these caches, one after another
 abbrev pub AreAnsweredAfter : List Regex → History → Cache → List Request → List Reply → Type 0
 AreAnsweredAfter regexes h c [] replies = Unit {0}
 AreAnsweredAfter regexes h c (q ∷ qs) [] = Unit {0}
 AreAnsweredAfter regexes h c (q ∷ qs) (r ∷ rs) =
-    (next : Cache) × AreMade regexes h q r c next × AreAnsweredAfter regexes (after h q r) next qs rs
+    (next : Cache) × IsRequestEffect regexes h q r c next × AreAnsweredAfter regexes (after h q r) next qs rs
 
 -- starting with fresh ones of regex 0, if there is one
 abbrev pub AreAnswered : List Regex → List Request → List Reply → Type 0

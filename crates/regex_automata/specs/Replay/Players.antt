@@ -13,7 +13,7 @@ use Rattle.automata_hybrid.specs.Walks.State.{Walk, Ended}
 use Rattle.regex_automata.specs.Replay.Histories.{Begun, History, after}
 use Rattle.regex_automata.specs.Spans.Contracts.{IsStep}
 use Rattle.regex_automata.specs.Regexes.Caches.{AreCachesOf}
-use Rattle.regex_automata.specs.Replay.Caches.{AreMade, IsCalled, other_of, own_of}
+use Rattle.regex_automata.specs.Replay.Caches.{IsRequestEffect, IsCalled, other_of, own_of}
 use Rattle.regex_automata.specs.Replay.Replies.{IsReply, dfa_of, direction_of}
 use Rattle.regex_automata.specs.declared.hybrid.regex.Regex.{Regex}
 use Rattle.regex_automata.specs.declared.hybrid.regex.caches.Cache.{Cache}
@@ -58,12 +58,12 @@ pub record Goes (r : Regex) (old new : KeptWalk) (result : Result (Option HalfMa
   pub kept : (k : ℕ) → HasAnsweredBy r old k → OnErr result (HasAnsweredBy r new k)
 
 -- the walk of this number; and one more call of it, which leaves the others
-abbrev pub IsKept : List KeptWalk → ℕ → KeptWalk → Type 0
-IsKept ks number kept = slice_get ks number ≡ Some kept
+abbrev pub IsWalkAt : List KeptWalk → ℕ → KeptWalk → Type 0
+IsWalkAt ks number kept = slice_get ks number ≡ Some kept
 
 abbrev pub GoesAt : Regex → ℕ → (olds news : List KeptWalk) → Result (Option HalfMatch) SearchError → Type 0
 GoesAt r number olds news result =
-    (old : KeptWalk) → IsKept olds number old
+    (old : KeptWalk) → IsWalkAt olds number old
     → (new : KeptWalk) × Goes r old new result × (news ≡ slice_set olds number new)
 
 -- what it does to the caches: to that of its direction what its call does, and nothing to the other
@@ -76,7 +76,7 @@ MakesStep r kept old new result =
 abbrev pub MakesStepAt :
     Regex → ℕ → List KeptWalk → (old new : Cache) → Result (Option HalfMatch) SearchError → Type 0
 MakesStepAt r number walks old new result =
-    (kept : KeptWalk) → IsKept walks number kept → MakesStep r kept old new result
+    (kept : KeptWalk) → IsWalkAt walks number kept → MakesStep r kept old new result
 
 -- what is kept of a walk belongs to the walk that was begun, and has answered as many calls
 pub record IsWalk (regexes : List Regex) (w : Begun) (kept : KeptWalk) : Type 0 where
@@ -109,4 +109,4 @@ StandsAfter old q answer new = (h : History) → HasPlayed h old → HasPlayed (
 -- what the request does to the caches, after any history
 abbrev pub MakesCaches : (old : Player) → Request → Reply → (new : Player) → Type 0
 MakesCaches old q answer new =
-    (h : History) → HasPlayed h old → AreMade old.regexes.now h q answer old.cache new.cache
+    (h : History) → HasPlayed h old → IsRequestEffect old.regexes.now h q answer old.cache new.cache

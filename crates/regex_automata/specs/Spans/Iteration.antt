@@ -83,8 +83,8 @@ GivesItem p c (Some (Err e)) input input' last last' false ended' =
     IsNextRefusal p c input last e × (input' ≡ input) × (last' ≡ last) × (ended' ≡ true)
 
 -- an input made of its parts
-abbrev pub input_at : List ℕ → (start end : ℕ) → Anchored → (earliest : Bool) → Input
-input_at haystack start end anchored earliest =
+abbrev pub input_over : List ℕ → (start end : ℕ) → Anchored → (earliest : Bool) → Input
+input_over haystack start end anchored earliest =
     record { haystack = haystack; start = start; end = end; anchored = anchored; earliest = earliest }
 
 -- how many items may come

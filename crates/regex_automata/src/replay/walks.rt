@@ -4,7 +4,7 @@ ghost use Rattle.automata_base.specs.Haystacks.Tapes.{Forward, Backward};
 ghost use Rattle.automata_hybrid.specs.Cache.Caches.{IsCacheOf};
 ghost use Rattle.regex_automata.specs.Regexes.Caches.{AreCachesOf};
 ghost use Rattle.regex_automata.specs.Replay.Replies.{dfa_of, direction_of};
-ghost use Rattle.regex_automata.specs.Replay.Players.{GoesAt, HasAnswered, HasAnsweredBy, IsCall, IsKept};
+ghost use Rattle.regex_automata.specs.Replay.Players.{GoesAt, HasAnswered, HasAnsweredBy, IsCall, IsWalkAt};
 ghost use Rattle.regex_automata.specs.Replay.Players.{MakesCall, MakesStepAt};
 ghost use Rattle.regex_automata.specs.Replay.Caches.{other_of, own_of};
 ghost use Rattle.regex_automata.specs.declared.replay.walks.KeptWalk.{KeptWalk};
@@ -94,7 +94,7 @@ pub fn step_at(
 ) -> Result<Option<HalfMatch>, SearchError>
     requires number { number < length walks.old }
     requires of { AreCachesOf cache.old regex.now }
-    requires reported { (old : KeptWalk) → IsKept walks.old number old → (k : ℕ) × HasAnsweredBy regex.now old k }
+    requires reported { (old : KeptWalk) → IsWalkAt walks.old number old → (k : ℕ) × HasAnsweredBy regex.now old k }
     ensures of { AreCachesOf cache.new regex.now }
     ensures goes { GoesAt regex.now number walks.old walks.new result }
     ensures made { MakesStepAt regex.now number walks.old cache.old cache.new result }

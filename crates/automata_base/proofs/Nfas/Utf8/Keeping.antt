@@ -14,7 +14,7 @@ use Rattle.automata_base.specs.Nfas.Nodes.{Automaton, nfa_of}
 use Rattle.automata_base.specs.Paths.Paths.{Tape, IsPathFrom, truth, all_true}
 use Rattle.automata_base.specs.Haystacks.Tapes.{IsHaystack, between, Direction, Forward, Backward, tape_of}
 use Rattle.automata_base.specs.Answers.TruePairs.{KeepsUtf8}
-use Rattle.automata_base.specs.Nfas.Utf8.{Reads, ends, goes, reads, in_order, ReadsUtf8, HasNoLook}
+use Rattle.automata_base.specs.Nfas.Utf8.{ReadsTo, ends, goes, reads, in_order, ReadsUtf8, HasNoLook}
 use Rattle.automata_base.proofs.Paths.Orders.{some_inj, none_some}
 use Rattle.automata_base.proofs.Paths.Places.{path_grows, walk_path, path_extend}
 use Rattle.automata_base.proofs.Paths.Sets.{HasWalk, walk_cons, walk_then, nth_in, in_nth}
@@ -71,18 +71,18 @@ drop_nth (x ∷ xs) (suc i) u e = drop_nth xs i u e
 module _ (n : Nfa) (t : Tape) (bytes : AreBytes t.bytes) where
   path_reads :
       (i : ℕ) (seen : List ℕ) (q : ℕ) (path : List ℕ) (j z : ℕ) → IsPathFrom n t i seen q path j z
-      → Reads n q (take (j - i) (drop i t.bytes)) z
+      → ReadsTo n q (take (j - i) (drop i t.bytes)) z
   path_reads i seen q [] j z w =
       let e : 0 ≡ j - i = omega (arith, w.0) in
-      subst (λ m. Reads n q (take m (drop i t.bytes)) z) e (subst (λ v. Reads n q [] v) w.1 ends)
+      subst (λ m. ReadsTo n q (take m (drop i t.bytes)) z) e (subst (λ v. ReadsTo n q [] v) w.1 ends)
   path_reads i seen q (e ∷ path) j z (inl w) =
       goes e (hop_more n (truth n t i) all_true q e w.0 (λ look f. refl) w.1) (path_reads i (q ∷ seen) w.0 path j z w.3)
   path_reads i seen q (e ∷ path) j z (inr w) =
       let k = path_grows n t (suc i) [] w.0 path j z w.3 in
       let m : suc (j - suc i) ≡ j - i = omega (arith, k) in
       let u : ℕ = w.2.0 in
-      subst (λ v. Reads n q (take v (drop i t.bytes)) z) m
-      (subst (λ v. Reads n q (take (suc (j - suc i)) v) z) (sym (drop_nth t.bytes i u w.2.1))
+      subst (λ v. ReadsTo n q (take v (drop i t.bytes)) z) m
+      (subst (λ v. ReadsTo n q (take (suc (j - suc i)) v) z) (sym (drop_nth t.bytes i u w.2.1))
       (reads (haystack_of t.bytes bytes i u w.2.1) w.2.2 (path_reads (suc i) [] w.0 path j z w.3)))
 
 tape_whole :
@@ -106,7 +106,7 @@ pub keeps_from : (way : Direction) (a : Automaton) → (a.flags.utf8 ≡ true �
 keeps_from way a f kind h i j pattern mode start path utf8 hay l w anchored first acc =
     subst IsUtf8 (order_tape way h i j)
     (f utf8 start acc.0 pattern (tape_of way h i j).bytes (starts_in a kind mode start anchored first)
-    (subst (λ v. Reads (nfa_of a) start v acc.0) whole
+    (subst (λ v. ReadsTo (nfa_of a) start v acc.0) whole
     (path_reads (nfa_of a) (tape_of way h i j) (bytes_tape way h i j hay) 0 [] start path (j - i) acc.0 acc.1)) acc.2)
   where
     whole : take (j - i - 0) (drop 0 (tape_of way h i j).bytes) ≡ (tape_of way h i j).bytes
@@ -143,7 +143,7 @@ module _ (a : Automaton) (t : Tape) (lookless : HasNoLook a) where
   hop_same i q e r h = hop_same_at (node (nfa_of a) q) (truth (nfa_of a) t i) e r (λ look next f. lookless look (q, next, f)) h
 
   reads_path :
-      (i q : ℕ) (us : List ℕ) (z : ℕ) → Reads (nfa_of a) q us z → (first : ℕ) → drop i t.bytes ≡ us
+      (i q : ℕ) (us : List ℕ) (z : ℕ) → ReadsTo (nfa_of a) q us z → (first : ℕ) → drop i t.bytes ≡ us
       → HasWalk (nfa_of a) (truth (nfa_of a) t i) first q → (path : List ℕ) × IsPathFrom (nfa_of a) t i [] first path (i + length us) z
   reads_path i q us z ends first d w =
       let e : i ≡ i + 0 = omega arith in

@@ -9,18 +9,18 @@ use Rattle.automata_base.specs.Nfas.Nfa.{accepts}
 use Rattle.automata_base.specs.Nfas.Nodes.{Automaton, nfa_of}
 use Rattle.automata_base.specs.Retraced.Reach.{node_in, IsMatchAt, Route}
 use Rattle.automata_base.specs.Nfas.Errors.{states_ordered}
-use Rattle.automata_base.specs.Nfas.Utf8.{Reads, ends, goes, reads}
+use Rattle.automata_base.specs.Nfas.Utf8.{ReadsTo, ends, goes, reads}
 use Rattle.automata_base.proofs.Nfas.Utf8.Decoding.{AreBytes, step_below, decode_below}
 use Rattle.automata_base.proofs.Nfas.Utf8.Edges.{chained, Edge, edge_from, edge_free, edge_byte, of_pairs, in_pairs}
 
-pub reads_bytes : (a : Automaton) (q : ℕ) (us : List ℕ) (z : ℕ) → Reads (nfa_of a) q us z → AreBytes us
+pub reads_bytes : (a : Automaton) (q : ℕ) (us : List ℕ) (z : ℕ) → ReadsTo (nfa_of a) q us z → AreBytes us
 reads_bytes a q us z ends = tt
 reads_bytes a q us z (goes {r = r} e h w) = reads_bytes a r us z w
 reads_bytes a q us z (reads {r = r} {bytes = vs} b t w) = (b, reads_bytes a r vs z w)
 
 module _ (a : Automaton) (cs : List Class) (chain : chained 0 cs ≡ true) (below : classes_below cs ≡ true) where
   reads_route :
-      (q : ℕ) (us : List ℕ) (z : ℕ) → Reads (nfa_of a) q us z → (s : ℕ) → s < 11
+      (q : ℕ) (us : List ℕ) (z : ℕ) → ReadsTo (nfa_of a) q us z → (s : ℕ) → s < 11
       → (way : List ℕ) × Route (pairs_of cs a.states) (pair q s) way (pair z (decode cs s us))
   reads_route q us z ends s l = ([], refl)
   reads_route q us z (goes {r = r} e h w) s l =
@@ -32,11 +32,11 @@ module _ (a : Automaton) (cs : List Class) (chain : chained 0 cs ≡ true) (belo
 
   -- What a route reads.
   abbrev Read : (x z : ℕ) → Type 0
-  Read x z = (us : List ℕ) × Reads (nfa_of a) (x / 11) us (z / 11) × (z % 11 ≡ decode cs (x % 11) us)
+  Read x z = (us : List ℕ) × ReadsTo (nfa_of a) (x / 11) us (z / 11) × (z % 11 ≡ decode cs (x % 11) us)
 
   route_reads : states_ordered a.states ≡ true → (x : ℕ) (way : List ℕ) (z : ℕ) → Route (pairs_of cs a.states) x way z → Read x z
   route_reads ordered x [] z w =
-      ([], subst (λ v. Reads (nfa_of a) (x / 11) [] (v / 11)) w ends, ap (λ v. v % 11) (sym w))
+      ([], subst (λ v. ReadsTo (nfa_of a) (x / 11) [] (v / 11)) w ends, ap (λ v. v % 11) (sym w))
   route_reads ordered x (y ∷ way) z w = go (edge_from a cs chain x y ordered w.0) (route_reads ordered y way z w.1)
     where
       go : Edge a cs (x / 11) (x % 11) y → Read y z → Read x z
@@ -44,23 +44,23 @@ module _ (a : Automaton) (cs : List Class) (chain : chained 0 cs ≡ true) (belo
           let f' : y ≡ r * 11 + x % 11 = f in
           let q : y / 11 ≡ r = omega arith in
           let s : y % 11 ≡ x % 11 = omega arith in
-          (us, goes e h (subst (λ v. Reads (nfa_of a) v us (z / 11)) q k), d ∙ ap (λ v. decode cs v us) s)
+          (us, goes e h (subst (λ v. ReadsTo (nfa_of a) v us (z / 11)) q k), d ∙ ap (λ v. decode cs v us) s)
       go (inr (u, r, b, t, f)) (us, k, d) =
           let n : ℕ = step cs (x % 11) u in
           let l : n < 11 = step_below cs (x % 11) u below in
           let f' : y ≡ r * 11 + n = f in
           let q : y / 11 ≡ r = omega arith in
           let s : y % 11 ≡ n = omega arith in
-          (u ∷ us, reads b t (subst (λ v. Reads (nfa_of a) v us (z / 11)) q k), d ∙ ap (λ v. decode cs v us) s)
+          (u ∷ us, reads b t (subst (λ v. ReadsTo (nfa_of a) v us (z / 11)) q k), d ∙ ap (λ v. decode cs v us) s)
 
   -- The walk's test is one of what is read.
   pub ends_reads :
       (P : List ℕ → Type 0) (starts : List ℕ) → states_ordered a.states ≡ true → ((us : List ℕ) → AreBytes us → decode cs 0 us ≡ 0 ↔ P us)
       → EndsAtBoundaries cs a.states starts
-      ↔ ((start q p : ℕ) (us : List ℕ) → In start starts → Reads (nfa_of a) start us q → accepts (nfa_of a) q ≡ Some p → P us)
+      ↔ ((start q p : ℕ) (us : List ℕ) → In start starts → ReadsTo (nfa_of a) start us q → accepts (nfa_of a) q ≡ Some p → P us)
   ends_reads P starts ordered right = (there, back)
     where
-      there : EndsAtBoundaries cs a.states starts → (start q p : ℕ) (us : List ℕ) → In start starts → Reads (nfa_of a) start us q
+      there : EndsAtBoundaries cs a.states starts → (start q p : ℕ) (us : List ℕ) → In start starts → ReadsTo (nfa_of a) start us q
           → accepts (nfa_of a) q ≡ Some p → P us
       there h start q p us i w m =
           let k = reads_route start us q w 0 (omega arith) in
@@ -71,7 +71,7 @@ module _ (a : Automaton) (cs : List Class) (chain : chained 0 cs ≡ true) (belo
           (right us (reads_bytes a start us q w)).0
           (sym n ∙ h (pair q s) (pair start 0, k.0, in_pairs 0 start starts i, k.1) (subst (λ v. IsMatchAt (node_in a.states v)) (sym d) (p, m)))
 
-      back : ((start q p : ℕ) (us : List ℕ) → In start starts → Reads (nfa_of a) start us q → accepts (nfa_of a) q ≡ Some p → P us)
+      back : ((start q p : ℕ) (us : List ℕ) → In start starts → ReadsTo (nfa_of a) start us q → accepts (nfa_of a) q ≡ Some p → P us)
           → EndsAtBoundaries cs a.states starts
       back h x (root, way, i, w) m = go (of_pairs 0 root starts i) (route_reads ordered root way x w)
         where
@@ -80,5 +80,5 @@ module _ (a : Automaton) (cs : List Class) (chain : chained 0 cs ≡ true) (belo
               let f : root ≡ start * 11 + 0 = e in
               let q : root / 11 ≡ start = omega arith in
               let s : root % 11 ≡ 0 = omega arith in
-              let v : Reads (nfa_of a) start us (x / 11) = subst (λ v. Reads (nfa_of a) v us (x / 11)) q k in
+              let v : ReadsTo (nfa_of a) start us (x / 11) = subst (λ v. ReadsTo (nfa_of a) v us (x / 11)) q k in
               d ∙ (ap (λ v. decode cs v us) s ∙ (right us (reads_bytes a start us (x / 11) v)).1 (h start (x / 11) m.0 us j v m.1))

@@ -18,11 +18,11 @@ struct Stored {
 
 impl Model for Stored {
     ghost use Rattle.std.specs.Prelude.{List, ℕ};
-    ghost use Rattle.automata_base.specs.Powersets.Shared.{bytes_of};
+    ghost use Rattle.automata_base.specs.Powersets.Shared.{stored_bytes};
 
     ghost Value = { List ℕ };
 
-    ghost view = { bytes_of };
+    ghost view = { stored_bytes };
 }
 
 impl Stored {

@@ -1,7 +1,7 @@
 use Rattle.std.proofs.Common.{List, subst, ◌∙◌}
 use Rattle.regex_automata.specs.declared.hybrid.regex.Regex.{Regex}
 use Rattle.regex_automata.specs.Replay.Histories.{after}
-use Rattle.regex_automata.specs.Replay.Caches.{AreMade}
+use Rattle.regex_automata.specs.Replay.Caches.{IsRequestEffect}
 use Rattle.regex_automata.specs.Replay.Replies.{IsReply}
 use Rattle.regex_automata.proofs.Replies.Lists.{completes_turn, completes_end, continues_turn, continues_end}
 use Rattle.regex_automata.proofs.replay.answer_all.Goals as goal
@@ -23,7 +23,7 @@ loop-request-preserved c =
             (subst (λ (rs : List Regex). IsReply rs h q r) inv.regexes (c.answer-reply.ensures.reply h a)) c.in_ok-push.ensures.items,
         continues_turn regexes c.args.script.now c.args.player.cache c.loop-request.replies.items c.push.new.self.items h c.loop-request.player.cache c.answer-reply.new.self.cache c.loop-request.request-index q r
             c.loop-request-test.true c.request-item.is made
-            (subst (λ (rs : List Regex). AreMade rs h q r c.loop-request.player.cache c.answer-reply.new.self.cache) inv.regexes (c.answer-reply.ensures.made h a)) c.in_ok-push.ensures.items,
+            (subst (λ (rs : List Regex). IsRequestEffect rs h q r c.loop-request.player.cache c.answer-reply.new.self.cache) inv.regexes (c.answer-reply.ensures.made h a)) c.in_ok-push.ensures.items,
       );
     }
 

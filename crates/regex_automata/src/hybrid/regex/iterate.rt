@@ -5,7 +5,7 @@ ghost use Rattle.automata_base.specs.Answers.Spans.{IsEmptyAt, from};
 ghost use Rattle.automata_base.specs.Haystacks.Tapes.{Forward};
 ghost use Rattle.automata_hybrid.specs.Searches.Contracts.{IsUnsupported, unsupported_error};
 ghost use Rattle.regex_automata.specs.Spans.Iteration.{GivesItem, GoesPast, IsNextMatch, IsNextRefusal};
-ghost use Rattle.regex_automata.specs.Spans.Iteration.{LiesInHaystack, input_at, most_items};
+ghost use Rattle.regex_automata.specs.Spans.Iteration.{LiesInHaystack, input_over, most_items};
 ghost use Rattle.regex_automata.specs.Spans.Contracts.{ReportsUnsupported};
 ghost use Rattle.regex_automata.specs.Spans.Effects.{IsItemEffect, IsNextEffect};
 ghost use Rattle.regex_automata.specs.Regexes.Caches.{AreCachesOf};
@@ -85,7 +85,7 @@ impl Regex {
         ensures same_cache { result.cache.ghost_name ≡ cache.entry.ghost_name }
         ensures cache { result.cache.now ≡ cache.old }
         ensures regex { result.regex.now ≡ self.now }
-        ensures input { input_at result.haystack.now result.start result.end result.anchored result.earliest
+        ensures input { input_over result.haystack.now result.start result.end result.anchored result.earliest
             ≡ input.entry }
         ensures last { result.last ≡ None }
         ensures ended { result.ended ≡ false }
@@ -136,7 +136,7 @@ impl<'r, 'c, 'h> fmt::Debug for FindMatches<'r, 'c, 'h> {
 impl<'r, 'c, 'h> FindMatches<'r, 'c, 'h> {
     /// The input that is left to be searched.
     fn input(&self) -> Input<'h>
-        ensures { result ≡ input_at self.now.haystack.now self.now.start self.now.end self.now.anchored
+        ensures { result ≡ input_over self.now.haystack.now self.now.start self.now.end self.now.anchored
             self.now.earliest }
     {
         Input::new(self.haystack)
@@ -150,17 +150,17 @@ impl<'r, 'c, 'h> Iterator for FindMatches<'r, 'c, 'h> {
     type Item = Result<Match, SearchError>;
 
     ghost next_gives = { λ s r t. GivesItem s.regex.now t.cache.now r
-        (input_at s.haystack.now s.start s.end s.anchored s.earliest)
-        (input_at t.haystack.now t.start t.end t.anchored t.earliest)
+        (input_over s.haystack.now s.start s.end s.anchored s.earliest)
+        (input_over t.haystack.now t.start t.end t.anchored t.earliest)
         s.last t.last s.ended t.ended
         × (t.regex.now ≡ s.regex.now) × (t.cache.ghost_name ≡ s.cache.ghost_name)
-        × IsItemEffect s.regex.now (input_at s.haystack.now s.start s.end s.anchored s.earliest) s.last s.ended
+        × IsItemEffect s.regex.now (input_over s.haystack.now s.start s.end s.anchored s.earliest) s.last s.ended
         s.cache.now t.cache.now r
-        × ReportsUnsupported s.regex.now (input_at s.haystack.now s.start s.end s.anchored s.earliest) s.ended r
+        × ReportsUnsupported s.regex.now (input_over s.haystack.now s.start s.end s.anchored s.earliest) s.ended r
         × (t.haystack.now ≡ s.haystack.now) × LiesInHaystack s.haystack.now r };
 
     ghost remaining = { λ s.
-        at_most (most_items s.ended (input_at s.haystack.now s.start s.end s.anchored s.earliest) s.last) };
+        at_most (most_items s.ended (input_over s.haystack.now s.start s.end s.anchored s.earliest) s.last) };
 
     fn next(&mut self) -> Option<Result<Match, SearchError>> {
         if self.ended {

@@ -2,7 +2,7 @@ use Rattle.std.proofs.Common.{◌≡◌, ◌∙◌, [], ◌∷◌, ◌++◌, Non
 use Rattle.automata_base.specs.Haystacks.Input.{Input}
 use Rattle.automata_base.specs.Haystacks.Matches.{Match}
 use Rattle.automata_config.specs.declared.error.SearchError.TheVariants as search
-use Rattle.regex_automata.specs.Spans.Iteration.{IsNextRefusal, input_at}
+use Rattle.regex_automata.specs.Spans.Iteration.{IsNextRefusal, input_over}
 use Rattle.automata_base.specs.Answers.Spans.{AreFirst}
 use Rattle.regex_automata.specs.Spans.Outcomes.{FindsMatch}
 use Rattle.regex_automata.proofs.Spans.Lists.{collected, comes_first, comes_turn, input_turn, item_match, item_none}
@@ -18,8 +18,8 @@ loop-item-preserved c =
     let i = c.loop-item.invariant in
     let s = c.loop-item.item-iterator in
     let t = c.next.new.self in
-    let now = input_at s.haystack.now s.start s.end s.anchored s.earliest in
-    let rest = input_at t.haystack.now t.start t.end t.anchored t.earliest in
+    let now = input_over s.haystack.now s.start s.end s.anchored s.earliest in
+    let rest = input_over t.haystack.now t.start t.end t.anchored t.earliest in
     let steps = rw c.in-Ok.is at c.in-Some.ensures.steps in
     let step = item_match s.regex.now t.cache.now now rest s.last t.last s.ended t.ended c.in-Ok.next steps.0 in
     let items : c.push.new.self.items ≡ c.loop-item.found.items ++ c.in-Ok.next ∷ [] = c.in-Ok-push.ensures.items in
@@ -57,8 +57,8 @@ returns-in-Err-clause-refusal c =
     let i = c.loop-item.invariant in
     let s = c.loop-item.item-iterator in
     let t = c.next.new.self in
-    let now = input_at s.haystack.now s.start s.end s.anchored s.earliest in
-    let rest = input_at t.haystack.now t.start t.end t.anchored t.earliest in
+    let now = input_over s.haystack.now s.start s.end s.anchored s.earliest in
+    let rest = input_over t.haystack.now t.start t.end t.anchored t.earliest in
     let steps = rw c.in-Err.is at c.in-Some.ensures.steps in
     inr (refused_after s.regex.now c.args.regex.now t.cache.now _ c.args.input now c.loop-item.found.items s.last c.in-Err.error
     i.regex (search rules) i.input i.comes
@@ -69,8 +69,8 @@ returns-clause-found c =
     let i = c.loop-item.invariant in
     let s = c.loop-item.item-iterator in
     let t = c.next.new.self in
-    let now = input_at s.haystack.now s.start s.end s.anchored s.earliest in
-    let rest = input_at t.haystack.now t.start t.end t.anchored t.earliest in
+    let now = input_over s.haystack.now s.start s.end s.anchored s.earliest in
+    let rest = input_over t.haystack.now t.start t.end t.anchored t.earliest in
     collected (FindsMatch c.args.regex.now) c.args.input c.loop-item.found.items None s.start s.last i.comes
     (λ none. turn s.regex.now c.args.regex.now c.args.input now s.last None i.regex i.input
     (item_none s.regex.now t.cache.now now rest s.last t.last s.ended t.ended c.in-None.ensures.steps.0 i.going))
@@ -79,7 +79,7 @@ pub returns-in_default-clause-unsupported : goal.returns-in_default-clause-unsup
 returns-in_default-clause-unsupported c =
     let i = c.loop-item.invariant in
     let s = c.loop-item.item-iterator in
-    let now = input_at s.haystack.now s.start s.end s.anchored s.earliest in
+    let now = input_over s.haystack.now s.start s.end s.anchored s.earliest in
     let steps = rw c.in-Ok.is at c.in-Some.ensures.steps in
     λ u. absurd (match_error (unreported_turn s.regex.now c.args.regex.now c.args.input now s.ended (Some (Ok c.in-Ok.next)) c.loop-item.found.items i.regex i.input i.going steps.4 i.unreported u).1)
 
@@ -87,7 +87,7 @@ pub returns-in-Err-clause-unsupported : goal.returns-in-Err-clause-unsupported
 returns-in-Err-clause-unsupported c =
     let i = c.loop-item.invariant in
     let s = c.loop-item.item-iterator in
-    let now = input_at s.haystack.now s.start s.end s.anchored s.earliest in
+    let now = input_over s.haystack.now s.start s.end s.anchored s.earliest in
     let steps = rw c.in-Err.is at c.in-Some.ensures.steps in
     λ u. (let reported = unreported_turn s.regex.now c.args.regex.now c.args.input now s.ended (Some (Err c.in-Err.error)) c.loop-item.found.items i.regex i.input i.going steps.4 i.unreported u in (reported.0, same_error reported.1))
 
@@ -95,7 +95,7 @@ pub returns-clause-unsupported : goal.returns-clause-unsupported
 returns-clause-unsupported c =
     let i = c.loop-item.invariant in
     let s = c.loop-item.item-iterator in
-    let now = input_at s.haystack.now s.start s.end s.anchored s.earliest in
+    let now = input_over s.haystack.now s.start s.end s.anchored s.earliest in
     λ u. absurd (none_error (unreported_turn s.regex.now c.args.regex.now c.args.input now s.ended (None) c.loop-item.found.items i.regex i.input i.going c.in-None.ensures.steps.4 i.unreported u).1)
 
 pub returns-in_default-clause-made : goal.returns-in_default-clause-made
@@ -103,7 +103,7 @@ returns-in_default-clause-made c =
     let i = c.loop-item.invariant in
     let s = c.loop-item.item-iterator in
     let t = c.next.new.self in
-    let now = input_at s.haystack.now s.start s.end s.anchored s.earliest in
+    let now = input_over s.haystack.now s.start s.end s.anchored s.earliest in
     let steps = rw c.in-Ok.is at c.in-Some.ensures.steps in
     let effect = effect_turn s.regex.now c.args.regex.now now s.last s.ended s.cache.now t.cache.now (Some (Ok c.in-Ok.next)) i.regex i.going steps.3 in
     searches_end c.args.regex.now c.args.cache.now s.cache.now t.cache.now _ c.args.input now s.last c.loop-item.found.items _ (Some search.OutOfMemory) i.made
@@ -114,8 +114,8 @@ returns-in-Err-clause-made c =
     let i = c.loop-item.invariant in
     let s = c.loop-item.item-iterator in
     let t = c.next.new.self in
-    let now = input_at s.haystack.now s.start s.end s.anchored s.earliest in
-    let rest = input_at t.haystack.now t.start t.end t.anchored t.earliest in
+    let now = input_over s.haystack.now s.start s.end s.anchored s.earliest in
+    let rest = input_over t.haystack.now t.start t.end t.anchored t.earliest in
     let steps = rw c.in-Err.is at c.in-Some.ensures.steps in
     let e = c.in-Err.error in
     searches_end c.args.regex.now c.args.cache.now s.cache.now t.cache.now _ c.args.input now s.last c.loop-item.found.items c.loop-item.found.items (Some e) i.made
@@ -130,6 +130,6 @@ returns-clause-made c =
     let i = c.loop-item.invariant in
     let s = c.loop-item.item-iterator in
     let t = c.next.new.self in
-    let now = input_at s.haystack.now s.start s.end s.anchored s.earliest in
+    let now = input_over s.haystack.now s.start s.end s.anchored s.earliest in
     searches_end c.args.regex.now c.args.cache.now s.cache.now t.cache.now _ c.args.input now s.last c.loop-item.found.items c.loop-item.found.items None i.made
     (effect_turn s.regex.now c.args.regex.now now s.last s.ended s.cache.now t.cache.now None i.regex i.going c.in-None.ensures.steps.3) refl (search rules)

@@ -2,7 +2,7 @@ use Rattle.std.proofs.Common.{◌≤◌, Some, None, refl, subst}
 use Rattle.std.specs.Prelude.{Ok, Err}
 use Rattle.automata_base.specs.Haystacks.Input.{Input}
 use Rattle.automata_base.specs.Answers.Spans.{from}
-use Rattle.regex_automata.specs.Spans.Iteration.{AreCostsTwice, GoesPast, IsNextMatch, IsNextRefusal, input_at}
+use Rattle.regex_automata.specs.Spans.Iteration.{AreCostsTwice, GoesPast, IsNextMatch, IsNextRefusal, input_over}
 use Rattle.regex_automata.proofs.Spans.Items.{fewer_left, gives_error, gives_match, gives_none, learns_next, lies_in_haystack, some_left}
 use Rattle.regex_automata.proofs.Spans.Items.{reports_error, reports_found}
 use Rattle.regex_automata.proofs.Spans.Progress.{item_error, item_match, item_none}
@@ -13,7 +13,7 @@ use Rattle.automata_hybrid.proofs.Searches.PassState.{false_true}
 pub returns-in-Ok-Some-clause-steps : goal.returns-in-Ok-Some-clause-steps
 returns-in-Ok-Some-clause-steps c =
     let s = c.args.self.now in
-    let now = input_at s.haystack.now s.start s.end s.anchored s.earliest in
+    let now = input_over s.haystack.now s.start s.end s.anchored s.earliest in
     let goes = subst (λ (i : Input). GoesPast s.regex.now i s.last c.in-Ok-Some.found) c.input-input.ensures (some_of c.in-Ok-Some.field-0 c.in-Ok-Some.found (GoesPast s.regex.now c.input-input.result s.last) c.in-Ok-Some.ensures.goes_on c.in-Ok-Some.field-0-is) in (
       gives_match s.regex.now c.next_match.new.cache now (from c.end-self.result now) s.last s.ended c.in-Ok-Some.found c.end-self.result c.end.result c.if-self.false
           (subst (λ (i : Input). IsNextMatch s.regex.now i s.last (Some c.in-Ok-Some.found)) c.input-input.ensures
@@ -36,7 +36,7 @@ returns-in-Ok-Some-clause-steps c =
 pub returns-in-Ok-Some-clause-goes : goal.returns-in-Ok-Some-clause-goes
 returns-in-Ok-Some-clause-goes c =
     let s = c.args.self.now in
-    let now = input_at s.haystack.now s.start s.end s.anchored s.earliest in
+    let now = input_over s.haystack.now s.start s.end s.anchored s.earliest in
     let goes = subst (λ (i : Input). GoesPast s.regex.now i s.last c.in-Ok-Some.found) c.input-input.ensures (some_of c.in-Ok-Some.field-0 c.in-Ok-Some.found (GoesPast s.regex.now c.input-input.result s.last) c.in-Ok-Some.ensures.goes_on c.in-Ok-Some.field-0-is) in
     record {
       on = λ _. (tt, tt, fewer_left s.regex.now now (from c.end-self.result now) s.last s.ended c.in-Ok-Some.found c.end-self.result c.end.result c.if-self.false refl c.end-self.ensures.end c.end.ensures.end goes);
@@ -47,7 +47,7 @@ returns-in-Ok-Some-clause-goes c =
 pub returns-in-Err-clause-steps : goal.returns-in-Err-clause-steps
 returns-in-Err-clause-steps c =
     let s = c.args.self.now in
-    let now = input_at s.haystack.now s.start s.end s.anchored s.earliest in (
+    let now = input_over s.haystack.now s.start s.end s.anchored s.earliest in (
       gives_error s.regex.now c.next_match.new.cache now s.last s.ended c.in-Err.error c.if-self.false
           (subst (λ (i : Input). IsNextRefusal s.regex.now c.next_match.new.cache i s.last c.in-Err.error) c.input-input.ensures c.in-Err.ensures.refusal),
       refl,
@@ -67,14 +67,14 @@ returns-in-Err-clause-steps c =
 pub returns-in-Err-clause-goes : goal.returns-in-Err-clause-goes
 returns-in-Err-clause-goes c =
     let s = c.args.self.now in
-    let now = input_at s.haystack.now s.start s.end s.anchored s.earliest in
+    let now = input_over s.haystack.now s.start s.end s.anchored s.earliest in
     let ahead : s.start ≤ s.end = subst (λ (i : Input). i.start ≤ i.end) c.input-input.ensures c.in-Err.ensures.ahead in
     record { on = λ _. (tt, tt, some_left now s.last s.ended c.if-self.false ahead); keeps = tt; rests = λ _. tt }
 
 pub returns-in-Ok-None-clause-steps : goal.returns-in-Ok-None-clause-steps
 returns-in-Ok-None-clause-steps c =
     let s = c.args.self.now in
-    let now = input_at s.haystack.now s.start s.end s.anchored s.earliest in (
+    let now = input_over s.haystack.now s.start s.end s.anchored s.earliest in (
       gives_none s.regex.now c.next_match.new.cache now s.last s.ended c.if-self.false
           (subst (λ (i : Input). IsNextMatch s.regex.now i s.last None) c.input-input.ensures
           (subst (IsNextMatch s.regex.now c.input-input.result s.last) c.in-Ok-None.field-0-is c.in-Ok-None.ensures.next)),
