@@ -34,7 +34,7 @@ const MIDDLE: usize = 20;
 /// Requests of every kind. Up to the first reset regex 0 is current, so no reply of regex 1 stands there. They end over
 /// caches of regex 0 that have cached the transitions of `20`.
 #[rattlefmt::skip]
-const BEFORE: [Row; MIDDLE] = [
+const BEFORE: &[Row] = &[
     ("walk fwd 30303030303030303030303030303030303030303030", [&["half 0 22"], &[]]),
     ("walk fwd 303030303030303030303030", [&[], &[]]), ("walk rev 303030303030303030303030", [&[], &[]]),
     ("fwd 303030303030303030303030", [&["none"], &[]]), ("rev 303030303030303030303030", [&["none"], &[]]),
@@ -60,7 +60,7 @@ const NEEDS: &[Row] = &[
 
 /// Requests that need no more than those in front.
 #[rattlefmt::skip]
-const BEHIND: [Row; 11] = [
+const BEHIND: &[Row] = &[
     ("fwd 303030303030303030303030", [&["none"], &["half 1 12"]]), ("find 3230", [&["none"], &["match 1 0..2"]]),
     ("iter 3230", [&["iter"], &["iter 1 0..2"]]), ("which 2 3230", [&["patterns"], &["patterns 1"]]),
     ("step 2", [&[], &[]]), ("reset 1", [&[], &[]]), ("iter 6131", [&["iter"], &["iter 1 1..2"]]),
@@ -153,9 +153,18 @@ impl History {
 /// The rows of the script that has this one in its middle.
 fn rows_around(middle: Row) -> [Row; 32] {
     let mut rows = [middle; 32];
-    rows[..MIDDLE].copy_from_slice(&BEFORE);
-    rows[MIDDLE + 1..].copy_from_slice(&BEHIND);
+    put_rows(&mut rows, 0, BEFORE);
+    put_rows(&mut rows, MIDDLE + 1, BEHIND);
     rows
+}
+
+/// Puts rows at a place and behind it, as far as there is room.
+fn put_rows(rows: &mut [Row], first: usize, put: &[Row]) {
+    for (number, row) in put.iter().enumerate() {
+        if let Some(place) = rows.get_mut(first.saturating_add(number)) {
+            *place = *row;
+        }
+    }
 }
 
 fn script_of(rt: &impl Host, rows: &[Row]) -> Script {
