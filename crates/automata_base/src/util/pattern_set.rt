@@ -23,10 +23,20 @@ impl Model for PatternSetInsertError {
 }
 
 /// A set of the patterns below a fixed capacity.
-#[derive(Debug, Drop)]
+#[derive(Debug)]
 pub struct PatternSet {
     len: usize,
     which: Vec<bool>,
+}
+
+// One call for an owner, whose proof then has no step for each part.
+impl Drop for PatternSet {
+    fn drop(self) {
+        let Self {
+            len: _len,
+            which: _which,
+        } = self;
+    }
 }
 
 impl Model for PatternSet {

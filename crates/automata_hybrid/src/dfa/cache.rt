@@ -52,11 +52,21 @@ pub(crate) enum Found {
 /// The states that a lazy DFA has determinized, their transitions, and the buffers to determinize more. Its accounted
 /// bytes, `memory_usage`, never exceed the capacity of the DFA's settings, or the minimum capacity if that was raised
 /// to.
-#[derive(Drop)]
 pub struct Cache {
     store: Store,
     scratch: Scratch,
     self_loop: Cell<KnownLoop>,
+}
+
+// One call for an owner, whose proof then has no step for each part.
+impl Drop for Cache {
+    fn drop(self) {
+        let Self {
+            store: _store,
+            scratch: _scratch,
+            self_loop: _self_loop,
+        } = self;
+    }
 }
 
 impl Model for Cache {

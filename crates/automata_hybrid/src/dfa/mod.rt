@@ -46,13 +46,26 @@ use std::marker::Model;
 
 /// A lazy DFA: an NFA with its settings, byte classes and quit bytes, and the capacity of its caches. States,
 /// transitions and start slots are in a `Cache`.
-#[derive(Debug, Drop)]
+#[derive(Debug)]
 pub struct DFA {
     nfa: NFA,
     config: Config,
     classes: ByteClasses,
     quits: ByteSet,
     capacity: usize,
+}
+
+// One call for an owner, whose proof then has no step for each part.
+impl Drop for DFA {
+    fn drop(self) {
+        let Self {
+            nfa: _nfa,
+            config: _config,
+            classes: _classes,
+            quits: _quits,
+            capacity: _capacity,
+        } = self;
+    }
 }
 
 impl Model for DFA {

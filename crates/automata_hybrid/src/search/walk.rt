@@ -236,10 +236,19 @@ impl Cursor {
 ///     .try_search_overlapping_fwd(&mut self.cache, &input, &mut state)?;
 /// Ok(state.get_match())
 /// ```
-#[derive(Drop)]
 pub struct OverlappingState {
     pub(crate) cursor: Cursor,
     pub(crate) held: Held,
+}
+
+// One call for an owner, whose proof then has no step for each part.
+impl Drop for OverlappingState {
+    fn drop(self) {
+        let Self {
+            cursor: _cursor,
+            held: _held,
+        } = self;
+    }
 }
 
 impl Model for OverlappingState {

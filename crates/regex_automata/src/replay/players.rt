@@ -17,7 +17,6 @@ use automata_config::error::SearchError;
 use std::alloc::{AllocError, Global};
 
 /// The current regex, its caches, and the walks so far.
-#[derive(Drop)]
 pub struct Player<'r, 'h> {
     alloc: Global,
     regexes: &'r [Regex],
@@ -25,6 +24,20 @@ pub struct Player<'r, 'h> {
     current: usize,
     cache: Cache,
     walks: Vec<KeptWalk<'h>>,
+}
+
+// One call for an owner, whose proof then has no step for each part.
+impl<'r, 'h> Drop for Player<'r, 'h> {
+    fn drop(self) {
+        let Self {
+            alloc: _alloc,
+            regexes: _regexes,
+            regex: _regex,
+            current: _current,
+            cache: _cache,
+            walks: _walks,
+        } = self;
+    }
 }
 
 impl<'r, 'h> Player<'r, 'h> {

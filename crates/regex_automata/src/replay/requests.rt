@@ -51,7 +51,7 @@ pub enum Fault {
 }
 
 /// The reply to a request: its answer, or its error. Out of memory is an error too.
-#[derive(Debug, PartialEq, Eq, Drop)]
+#[derive(Debug, PartialEq, Eq)]
 pub enum Reply {
     /// What a search of one DFA found, or the match of a walk after one step.
     Half(Result<Option<HalfMatch>, SearchError>),
@@ -80,4 +80,30 @@ pub enum Reply {
     Done(Result<(), SearchError>),
     /// The request is bad, and changed nothing.
     Bad(Fault),
+}
+
+// One call for an owner, whose proof then has no step for each part.
+impl Drop for Reply {
+    fn drop(self) {
+        match self {
+            Self::Half(_it) => {}
+            Self::Span(_it) => {}
+            Self::Truth(_it) => {}
+            Self::Spans {
+                found: _found,
+                error: _error,
+            } => {}
+            Self::Tokens {
+                found: _found,
+                error: _error,
+            } => {}
+            Self::Begun(_it) => {}
+            Self::Patterns {
+                found: _found,
+                error: _error,
+            } => {}
+            Self::Done(_it) => {}
+            Self::Bad(_it) => {}
+        }
+    }
 }

@@ -17,12 +17,23 @@ use automata_base::util::search::{HalfMatch, Input};
 use automata_config::error::SearchError;
 
 /// A walk: the number of its regex, its direction, its input, and how far it is.
-#[derive(Drop)]
 pub struct KeptWalk<'h> {
     pub(super) regex: usize,
     pub(super) way: Way,
     pub(super) input: Input<'h>,
     pub(super) state: OverlappingState,
+}
+
+// One call for an owner, whose proof then has no step for each part.
+impl<'h> Drop for KeptWalk<'h> {
+    fn drop(self) {
+        let Self {
+            regex: _regex,
+            way: _way,
+            input: _input,
+            state: _state,
+        } = self;
+    }
 }
 
 /// The match of a forward walk after one more call.

@@ -9,13 +9,26 @@ use std::marker::Model;
 /// A builder of an NFA. Add states one by one; each call returns the ID of its state, which the NFA keeps. A target may
 /// be a state that does not exist yet, and can be patched later. Matches and groups belong to the pattern that was
 /// started last. A call that returns an error changes nothing.
-#[derive(Debug, Drop)]
+#[derive(Debug)]
 pub struct Builder {
     alloc: Global,
     states: Vec<Added>,
     pattern: Option<PatternID>,
     starts: Vec<StateID>,
     flags: Flags,
+}
+
+// One call for an owner, whose proof then has no step for each part.
+impl Drop for Builder {
+    fn drop(self) {
+        let Self {
+            alloc: _alloc,
+            states: _states,
+            pattern: _pattern,
+            starts: _starts,
+            flags: _flags,
+        } = self;
+    }
 }
 
 impl Model for Builder {

@@ -69,7 +69,7 @@ impl<T: Drop> From<AllocFailed<T>> for BuildError {
 }
 
 /// A state as it was added and patched.
-#[derive(Debug, Drop)]
+#[derive(Debug)]
 pub enum Added {
     Empty {
         next: StateID,
@@ -97,6 +97,35 @@ pub enum Added {
     Match {
         pattern: PatternID,
     },
+}
+
+// One call for an owner, whose proof then has no step for each part.
+impl Drop for Added {
+    fn drop(self) {
+        match self {
+            Self::Empty { next: _next } => {}
+            Self::Range(_it) => {}
+            Self::Sparse(_it) => {}
+            Self::Look {
+                look: _look,
+                next: _next,
+            } => {}
+            Self::Union {
+                alternates: _alternates,
+            } => {}
+            Self::UnionReverse {
+                alternates: _alternates,
+            } => {}
+            Self::Capture {
+                next: _next,
+                pattern_id: _pattern_id,
+                group_index: _group_index,
+                slot: _slot,
+            } => {}
+            Self::Fail => {}
+            Self::Match { pattern: _pattern } => {}
+        }
+    }
 }
 
 fn push_alternate(alternates: &mut Vec<StateID>, to: StateID) -> Result<(), BuildError>

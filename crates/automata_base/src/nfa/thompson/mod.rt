@@ -39,7 +39,7 @@ pub struct Transition {
 }
 
 /// A state of an NFA.
-#[derive(Debug, Drop)]
+#[derive(Debug)]
 pub enum State {
     /// Reads one byte, from `lo` to `hi`.
     ByteRange {
@@ -91,6 +91,40 @@ pub enum State {
         /// The pattern that matches.
         pattern: PatternID,
     },
+}
+
+// One call for an owner, whose proof then has no step for each part.
+impl Drop for State {
+    fn drop(self) {
+        match self {
+            Self::ByteRange {
+                lo: _lo,
+                hi: _hi,
+                next: _next,
+            } => {}
+            Self::Sparse(_it) => {}
+            Self::Dense(_it) => {}
+            Self::Look {
+                look: _look,
+                next: _next,
+            } => {}
+            Self::Union {
+                alternates: _alternates,
+            } => {}
+            Self::BinaryUnion {
+                alt1: _alt1,
+                alt2: _alt2,
+            } => {}
+            Self::Capture {
+                next: _next,
+                pattern_id: _pattern_id,
+                group_index: _group_index,
+                slot: _slot,
+            } => {}
+            Self::Fail => {}
+            Self::Match { pattern: _pattern } => {}
+        }
+    }
 }
 
 /// The flags of an NFA. By default it is neither in UTF-8 mode nor reversed, and its lines end in `\n`.
@@ -179,7 +213,7 @@ impl From<AllocError> for ReverseError {
 }
 
 // What the clones of an NFA share.
-#[derive(Debug, Drop)]
+#[derive(Debug)]
 struct Data {
     states: Vec<State>,
     start_anchored: StateID,
@@ -193,11 +227,39 @@ struct Data {
     is_look_acyclic: bool,
 }
 
+// One call for an owner, whose proof then has no step for each part.
+impl Drop for Data {
+    fn drop(self) {
+        let Self {
+            states: _states,
+            start_anchored: _start_anchored,
+            start_unanchored: _start_unanchored,
+            start_pattern: _start_pattern,
+            flags: _flags,
+            looks: _looks,
+            room: _room,
+            has_empty: _has_empty,
+            skips_lazily: _skips_lazily,
+            is_look_acyclic: _is_look_acyclic,
+        } = self;
+    }
+}
+
 /// A Thompson NFA: its states, its starts and its flags. Clones share them and allocate nothing.
-#[derive(Debug, Drop)]
+#[derive(Debug)]
 pub struct NFA {
     data: Rc<Data>,
     alloc: Global,
+}
+
+// One call for an owner, whose proof then has no step for each part.
+impl Drop for NFA {
+    fn drop(self) {
+        let Self {
+            data: _data,
+            alloc: _alloc,
+        } = self;
+    }
 }
 
 impl Model for NFA {

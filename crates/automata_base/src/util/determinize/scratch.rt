@@ -21,7 +21,6 @@ use std::mem;
 
 /// The buffers of determinization, allocated once for an NFA. It also has a count that only contracts see: how often it
 /// was used.
-#[derive(Drop)]
 pub struct Scratch {
     of: Subject<NFA>,
     alloc: Global,
@@ -32,6 +31,23 @@ pub struct Scratch {
     parts: Parts,
     bytes: Vec<u8>,
     count: Count,
+}
+
+// One call for an owner, whose proof then has no step for each part.
+impl Drop for Scratch {
+    fn drop(self) {
+        let Self {
+            of: _of,
+            alloc: _alloc,
+            one: _one,
+            two: _two,
+            stack: _stack,
+            list: _list,
+            parts: _parts,
+            bytes: _bytes,
+            count: _count,
+        } = self;
+    }
 }
 
 impl Model for Scratch {

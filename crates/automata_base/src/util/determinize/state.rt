@@ -22,7 +22,7 @@ use std::hash::{Hash, Hasher};
 use std::marker::Model;
 
 /// The six parts of a powerset state.
-#[derive(Debug, Drop)]
+#[derive(Debug)]
 pub struct Parts {
     /// The NFA states, in order of preference.
     pub nfa: Vec<StateID>,
@@ -36,6 +36,20 @@ pub struct Parts {
     pub word: bool,
     /// Whether it is half way through a CRLF.
     pub half: bool,
+}
+
+// One call for an owner, whose proof then has no step for each part.
+impl Drop for Parts {
+    fn drop(self) {
+        let Self {
+            nfa: _nfa,
+            patterns: _patterns,
+            known: _known,
+            needed: _needed,
+            word: _word,
+            half: _half,
+        } = self;
+    }
 }
 
 impl Parts {
@@ -85,9 +99,15 @@ impl Parts {
 }
 
 /// A powerset state as coded bytes, shared. Contracts see the state and not its bytes.
-#[derive(Drop)]
 pub struct State {
     bytes: SharedBytes,
+}
+
+// One call for an owner, whose proof then has no step for each part.
+impl Drop for State {
+    fn drop(self) {
+        let Self { bytes: _bytes } = self;
+    }
 }
 
 impl Model for State {

@@ -10,10 +10,20 @@ use crate::hybrid::regex::Regex;
 use std::alloc::AllocError;
 
 /// The caches of the two lazy DFAs of a regex.
-#[derive(Debug, Drop)]
+#[derive(Debug)]
 pub struct Cache {
     pub(super) forward: dfa::Cache,
     pub(super) reverse: dfa::Cache,
+}
+
+// One call for an owner, whose proof then has no step for each part.
+impl Drop for Cache {
+    fn drop(self) {
+        let Self {
+            forward: _forward,
+            reverse: _reverse,
+        } = self;
+    }
 }
 
 /// A clone has rows of its own, and nothing that is done to one shows in the other. The only error is out of memory.

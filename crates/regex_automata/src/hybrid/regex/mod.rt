@@ -29,10 +29,20 @@ use std::alloc::AllocError;
 ///     println!(rt; "{}..{}", found.start(), found.end())?;
 /// }
 /// ```
-#[derive(Debug, Drop)]
+#[derive(Debug)]
 pub struct Regex {
     forward: DFA,
     reverse: DFA,
+}
+
+// One call for an owner, whose proof then has no step for each part.
+impl Drop for Regex {
+    fn drop(self) {
+        let Self {
+            forward: _forward,
+            reverse: _reverse,
+        } = self;
+    }
 }
 
 impl Regex {
