@@ -25,7 +25,7 @@ abbrev pub input_at : List ℕ → Span → Anchored → (earliest : Bool) → I
 input_at haystack span anchored earliest =
     record { haystack = haystack; start = span.start; end = span.end; anchored = anchored; earliest = earliest }
 
--- a search over an input that is made again of its parts may begin with a cache
+-- a search over an input that is rebuilt from haystack, span, mode and flag may begin with a cache
 pub record MayBegin (m : Machine) (c : CacheView) (input : Input) : Type 0 where
   -- The cache belongs to the DFA.
   pub of : IsCacheOf c m
@@ -91,7 +91,7 @@ pub record IsKnownUpto (way : Direction) (m : Machine) (c : Stored) (input : Inp
   pub learned : HasLearned way m c input k
   pub known : (j : ℕ) → j < k → KnowsUnit way m c input j
 
--- so has one over the span of an input that is made again of its parts
+-- the same for an input that is rebuilt from haystack, span, mode and flag
 pub record IsTakenUp (way : Direction) (m : Machine) (c : Stored) (input : Input) (k id : ℕ)
     (found : Option HalfMatch) : Type 0 where
   -- The span lies in the haystack.

@@ -54,7 +54,7 @@ impl Searched {
         });
     }
 
-    /// The open search is at an offset.
+    /// Records that the open search has reached `at`.
     pub fn update(&mut self, at: usize)
         ensures { self.new ≡ progress_updated self.old at }
     {

@@ -111,7 +111,7 @@ impl DFA {
         }
     }
 
-    /// The same, where the ID of that state was met, unless it is unknown.
+    /// Takes one step over `byte`. `met` is the next ID if the caller has seen it, and else unknown.
     // It has no `inline(always)`: each one makes `search` grow, until the compiler drops the mark of that.
     fn step_met(
         &self,
@@ -137,8 +137,8 @@ impl DFA {
         Ok(met)
     }
 
-    /// The state after a byte, to which the search moves, where the ID of that state was met, unless it is unknown. A
-    /// quit byte ends it, and is an error at its own offset.
+    /// Takes one step over `byte` and moves the search there. `met` is the next ID if the caller has seen it, and else
+    /// unknown. A quit byte ends the search, and is an error at its own offset.
     #[inline(always)]
     fn read_met(
         &self,

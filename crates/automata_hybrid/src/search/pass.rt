@@ -36,7 +36,7 @@ pub(super) struct Place {
     pub(super) next: LazyStateID,
 }
 
-/// The same once more: what is lent to a call stands in memory, and the first one need not.
+/// Copies `found`, so that the original can stay in registers: what is lent to a call stands in memory.
 fn again(found: Option<HalfMatch>) -> Option<HalfMatch>
     ensures { result ≡ found }
 {
@@ -123,7 +123,7 @@ impl DFA {
         }
     }
 
-    /// The same, of which the start state may not be cached.
+    /// A pass whose start state may have to be computed.
     #[inline(never)]
     fn begin_of(
         &self,
@@ -151,7 +151,7 @@ impl DFA {
         self.begin(cache, &own, way)
     }
 
-    /// The same, of an input that is lent.
+    /// A pass over a lent input, whose start state may have to be computed.
     #[inline(always)]
     fn begin(
         &self,

@@ -17,7 +17,7 @@ use crate::search::loop_range::LoopRange;
 /// How many bytes of a self-loop are followed eight at once before its ranges are looked for.
 const MANY: usize = 256;
 
-/// And before they are looked for again, if they are of many classes, or too many bytes were outside them.
+/// How many bytes to read before ranges are looked for again, after they had many classes or missed too often.
 const AGAIN: usize = 2048;
 
 /// Ranges of more classes than these are not kept from one run to the next, since each class is tested then.
