@@ -131,12 +131,13 @@ pub record IsMirror (n m : Nfa) (first : ℕ) (entries : List ℕ) (root : ℕ) 
 abbrev pub reversed_flags : Flags → Flags
 reversed_flags f = record { utf8 = f.utf8; reverse = not f.reverse; line_terminator = f.line_terminator }
 
--- The NFA `b` is `a` reversed.
-abbrev pub IsReversed : Automaton → Automaton → Type 0
-IsReversed a b =
-    (length b.start_pattern ≡ length a.start_pattern) × (b.flags.utf8 ≡ a.flags.utf8)
-    × ((reached : List ℕ)
-    × IsMirror (ranged_nfa a) (nfa_of b) a.start_anchored b.start_pattern b.start_anchored reached)
+-- The NFA `b` is `a` reversed. Anchored and unanchored searches of it begin at one state.
+pub record IsReversed (a b : Automaton) : Type 0 where
+  pub patterns : length b.start_pattern ≡ length a.start_pattern
+  pub utf8 : b.flags.utf8 ≡ a.flags.utf8
+  pub one_start : b.start_unanchored ≡ b.start_anchored
+  pub reached : List ℕ
+  pub mirror : IsMirror (ranged_nfa a) (nfa_of b) a.start_anchored b.start_pattern b.start_anchored reached
 
 -- The empty match is reached from some pattern's start exactly if it is reached from the anchored start.
 abbrev pub BeginsAlike : Automaton → Type 0

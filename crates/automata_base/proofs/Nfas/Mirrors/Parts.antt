@@ -519,15 +519,15 @@ pub made_reversed :
     → HaveCopies nodes a.states turned reached b.start_pattern
     → length b.start_pattern ≡ length a.start_pattern
     → b.flags.utf8 ≡ a.flags.utf8 → b.flags.reverse ≡ not a.flags.reverse
-    → b.flags.line_terminator ≡ a.flags.line_terminator
+    → b.flags.line_terminator ≡ a.flags.line_terminator → b.start_unanchored ≡ b.start_anchored
     → IsReversed a b
-made_reversed a b turned reached nodes checked below reach are n r copies few utf8 reverse terminator = (
-  few,
-  utf8,
-  (
-    reached,
-    mirror_is a turned reached (nfa_of b) checked reach are.0 are.1.0 are.1.1 are.1.2
-        (turned_graph a reached are.0 below checked.anchored are.2)
-        b.start_pattern b.start_anchored nodes terminator reverse n r copies,
-  ),
-)
+made_reversed a b turned reached nodes checked below reach are n r copies few utf8 reverse terminator one = record {
+  patterns = few;
+  utf8 = utf8;
+  one_start = one;
+  reached = reached;
+  mirror =
+      mirror_is a turned reached (nfa_of b) checked reach are.0 are.1.0 are.1.1 are.1.2
+      (turned_graph a reached are.0 below checked.anchored are.2)
+      b.start_pattern b.start_anchored nodes terminator reverse n r copies;
+}
