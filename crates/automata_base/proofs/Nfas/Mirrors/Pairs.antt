@@ -163,12 +163,12 @@ module _ (a b : Automaton) (checked : IsChecked a) (reversed : IsReversed a b) (
 
   back_entry_of : (p entry : ℕ) → slice_get b.start_pattern p ≡ Some entry → ForthOf p → BackOf entry p
   back_entry_of p entry e w =
-      back_entry (ranged_nfa a) (nfa_of b) a.start_anchored b.start_anchored b.start_pattern reversed.reached A B bytes back J
+      back_entry (ranged_nfa a) (nfa_of b) a.start_anchored b.start_anchored b.start_pattern A B bytes back J
       (checked_apart a checked.ordered) reversed.mirror turn p entry e (there p w)
 
   back_root_of : (p entry : ℕ) → slice_get b.start_pattern p ≡ Some entry → ForthOf p → BackOf b.start_anchored p
   back_root_of p entry e w =
-      back_root (ranged_nfa a) (nfa_of b) a.start_anchored b.start_anchored b.start_pattern reversed.reached A B bytes back J
+      back_root (ranged_nfa a) (nfa_of b) a.start_anchored b.start_anchored b.start_pattern A B bytes back J
       (checked_apart a checked.ordered) reversed.mirror turn p entry e (there p w)
 
   forth_part_of :
@@ -176,7 +176,7 @@ module _ (a b : Automaton) (checked : IsChecked a) (reversed : IsReversed a b) (
       → accepts (nfa_of b) z ≡ Some p → (p ≡ k) × ForthOf p
   forth_part_of path k entry p z e w m =
       let f =
-      forth_part (ranged_nfa a) (nfa_of b) a.start_anchored b.start_anchored b.start_pattern reversed.reached A B bytes back J
+      forth_part (ranged_nfa a) (nfa_of b) a.start_anchored b.start_anchored b.start_pattern A B bytes back J
       (checked_apart a checked.ordered) reversed.mirror turn path k entry p z e w m in
       (f.0, here p f.1)
 
@@ -185,14 +185,14 @@ module _ (a b : Automaton) (checked : IsChecked a) (reversed : IsReversed a b) (
       → accepts (nfa_of b) z ≡ Some p → ForthOf p
   forth_entry_of path entry p z i w m =
       here p
-      (forth_entry (ranged_nfa a) (nfa_of b) a.start_anchored b.start_anchored b.start_pattern reversed.reached A B bytes back J
+      (forth_entry (ranged_nfa a) (nfa_of b) a.start_anchored b.start_anchored b.start_pattern A B bytes back J
       (checked_apart a checked.ordered) reversed.mirror turn path entry p z i w m)
 
   forth_root_of :
       (path : List ℕ) (p z : ℕ) → IsWay (nfa_of b) B back 0 b.start_anchored path J z → accepts (nfa_of b) z ≡ Some p → ForthOf p
   forth_root_of path p z w m =
       here p
-      (forth_root (ranged_nfa a) (nfa_of b) a.start_anchored b.start_anchored b.start_pattern reversed.reached A B bytes back J
+      (forth_root (ranged_nfa a) (nfa_of b) a.start_anchored b.start_anchored b.start_pattern A B bytes back J
       (checked_apart a checked.ordered) reversed.mirror turn path p z w m)
 
 module _ (a b : Automaton) (kind : MatchKind) (checked : IsChecked a) (reversed : IsReversed a b) where
