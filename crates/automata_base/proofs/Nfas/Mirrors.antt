@@ -4,13 +4,17 @@ pub mod Copies
 pub mod Fits
 pub mod Flips
 pub mod Graphs
+pub mod Helpers
+pub mod Leads
 pub mod Lists
 pub mod Made
+pub mod Members
 pub mod Pairs
 pub mod Parts
 pub mod Ranged
 pub mod Ranges
 pub mod Runs
+pub mod Singles
 pub mod Sizes
 pub mod Sums
 pub mod Turned

@@ -1,7 +1,7 @@
 -- A reversed NFA: which edges it has, so that it accepts backward what the other one accepts.
 use Rattle.std.specs.Prelude.{ℕ, ◌≡◌, ◌<◌, ◌≤◌, ◌-◌, ◌↔◌, ◌⊎◌, not, List, [], ◌∷◌, length, Some, slice_get}
 use Rattle.automata_base.specs.declared.nfa.thompson.Flags.{Flags}
-use Rattle.automata_base.specs.Lists.{In}
+use Rattle.automata_base.specs.Lists.{In, Distinct}
 use Rattle.automata_base.specs.Haystacks.Looks.{Look, Start, End, StartLF, EndLF, StartCRLF, EndCRLF}
 use Rattle.automata_base.specs.Haystacks.Looks.{WordAscii, WordAsciiNegate, WordUnicode, WordUnicodeNegate}
 use Rattle.automata_base.specs.Haystacks.Looks.{WordStartAscii, WordEndAscii, WordStartUnicode, WordEndUnicode}
@@ -74,69 +74,94 @@ IsReversedArc m x Free next = x ≡ next
 IsReversedArc m x (Asks look) next = node m x ≡ Assert (flip look) next
 IsReversedArc m x (Reads lo hi) next = node m x ≡ Read (record { lo = lo; hi = hi; next = next } ∷ [])
 
--- A state of `n` that is kept.
-abbrev pub IsKept : Nfa → List ℕ → ℕ → Type 0
-IsKept n kept q = In q kept × (q < length n.nodes)
+-- Edges lead from `q` over the states of the way to `z`.
+abbrev pub IsLed : Nfa → (q : ℕ) → (way : List ℕ) → (z : ℕ) → Type 0
+IsLed n q [] z = q ≡ z
+IsLed n q (r ∷ way) z = ((l : Label) × HasArc n q l r) × IsLed n r way z
+
+abbrev pub LeadsTo : Nfa → (q z : ℕ) → Type 0
+LeadsTo n q z = (way : List ℕ) × IsLed n q way z
+
+-- The part for the pattern `p` keeps the state: edges lead from `first` to it, and from it to a match of the pattern.
+abbrev pub IsKept : Nfa → (first p q : ℕ) → Type 0
+IsKept n first p q = LeadsTo n first q × ((z : ℕ) × LeadsTo n q z × (accepts n z ≡ Some p))
 
 abbrev pub IsAsking : Label → Type 0
 IsAsking Free = ⊥
 IsAsking (Asks look) = Unit {0}
 IsAsking (Reads lo hi) = Unit {0}
 
+abbrev pub IsUnion : Node → Type 0
+IsUnion (Split alternates) = Unit {0}
+IsUnion (Assert look next) = ⊥
+IsUnion (Read ranges) = ⊥
+IsUnion (Accept p) = ⊥
+
 -- The state stands for an edge to `t` that reads a byte or asks a look, or for the match where paths begin.
-abbrev pub IsEdgeTo :
-    (n m : Nfa) → (first p : ℕ) → (place : ℕ → ℕ) → (kept : List ℕ) → (t x : ℕ) → Type 0
-IsEdgeTo n m first p place kept t x =
-    ((s : ℕ) × (l : Label) × IsKept n kept s × HasArc n s l t × IsAsking l × IsReversedArc m x l (place s))
+abbrev pub IsEdgeTo : (n m : Nfa) → (first p : ℕ) → (place : ℕ → ℕ) → (t x : ℕ) → Type 0
+IsEdgeTo n m first p place t x =
+    ((s : ℕ) × (l : Label) × IsKept n first p s × HasArc n s l t × IsAsking l × IsReversedArc m x l (place s))
     ⊎ ((t ≡ first) × (node m x ≡ Accept p))
 
 -- Among the states for the pattern `p`, where `place q` stands for `q`: the state that stands for `t` is the union of
--- the reversed edges to `t`, and of a match where paths begin at `t`; or it is the only one of these itself.
-pub record IsReversedAt
-    (n m : Nfa) (first : ℕ) (reached : List ℕ) (p : ℕ) (place : ℕ → ℕ) (kept : List ℕ) (t : ℕ) (xs : List ℕ) :
-    Type 0 where
-  pub stands :
-      (node m (place t) ≡ Split xs) ⊎ ((xs ≡ place t ∷ []) × IsEdgeTo n m first p place kept t (place t))
+-- the reversed edges to `t`, and of a match where paths begin at `t`; or it is the only one of these itself. None of
+-- them repeats, and no two of them read, test or match the same and go on to the same state.
+pub record IsReversedAt (n m : Nfa) (first p : ℕ) (place : ℕ → ℕ) (t : ℕ) (xs : List ℕ) : Type 0 where
+  pub stands : (node m (place t) ≡ Split xs) ⊎ ((xs ≡ place t ∷ []) × IsEdgeTo n m first p place t (place t))
   pub sound :
       (x : ℕ) → In x xs
-      → ((s : ℕ) × (l : Label) × IsKept n kept s × HasArc n s l t × IsReversedArc m x l (place s))
+      → ((s : ℕ) × (l : Label) × IsKept n first p s × HasArc n s l t × IsReversedArc m x l (place s))
       ⊎ ((t ≡ first) × (node m x ≡ Accept p))
   pub arcs :
-      (s : ℕ) (l : Label) → In s reached → HasArc n s l t
-      → In s kept × ((x : ℕ) × In x xs × IsReversedArc m x l (place s))
+      (s : ℕ) (l : Label) → IsKept n first p s → HasArc n s l t
+      → (x : ℕ) × In x xs × IsReversedArc m x l (place s)
   pub reported : t ≡ first → (x : ℕ) × In x xs × (node m x ≡ Accept p)
+  pub distinct : Distinct xs
+  pub once : (x y : ℕ) → In x xs → In y xs → node m x ≡ node m y → IsUnion (node m x) ⊎ (x ≡ y)
 
--- The part for the pattern `p` has a state for each kept state of `n`: its matches that are reached, and what leads to
--- them. Its backward paths begin at `entry`, which goes on to the matches.
-pub record IsPart
-    (n m : Nfa) (first : ℕ) (reached : List ℕ) (p entry : ℕ) (place : ℕ → ℕ) (kept : List ℕ) : Type 0 where
-  pub enters :
-      (xs : List ℕ) × (node m entry ≡ Split xs)
-      × ((x : ℕ) → In x xs → (q : ℕ) × IsKept n kept q × (accepts n q ≡ Some p) × (x ≡ place q))
-      × ((q : ℕ) → In q reached → accepts n q ≡ Some p → In q kept × In (place q) xs)
-  pub turned : (t : ℕ) → IsKept n kept t → (xs : List ℕ) × IsReversedAt n m first reached p place kept t xs
+-- The entry goes on to the states that stand for the matches of the pattern.
+pub record IsEntry (n m : Nfa) (first p entry : ℕ) (place : ℕ → ℕ) (xs : List ℕ) : Type 0 where
+  pub union : node m entry ≡ Split xs
+  pub sound : (x : ℕ) → In x xs → (q : ℕ) × IsKept n first p q × (accepts n q ≡ Some p) × (x ≡ place q)
+  pub matches : (q : ℕ) → LeadsTo n first q → accepts n q ≡ Some p → In (place q) xs
+  pub distinct : Distinct xs
+
+-- The part for the pattern `p` has a state for each state of `n` that it keeps. Its backward paths begin at `entry`.
+pub record IsPart (n m : Nfa) (first p entry : ℕ) (place : ℕ → ℕ) : Type 0 where
+  pub enters : (xs : List ℕ) × IsEntry n m first p entry place xs
+  pub turned : (t : ℕ) → IsKept n first p t → (xs : List ℕ) × IsReversedAt n m first p place t xs
+
+-- The state is the entry, or stands for a state that is kept, or is an alternate of one that does.
+abbrev pub IsOfPart : (n m : Nfa) → (first p entry : ℕ) → (place : ℕ → ℕ) → (x : ℕ) → Type 0
+IsOfPart n m first p entry place x =
+    (x ≡ entry)
+    ⊎ ((t : ℕ) × IsKept n first p t
+    × ((x ≡ place t) ⊎ ((xs : List ℕ) × (node m (place t) ≡ Split xs) × In x xs)))
 
 -- `m` is `n` reversed: it has a part for each pattern, whose paths begin at its entry, and at the root those of all.
-pub record IsMirror (n m : Nfa) (first : ℕ) (entries : List ℕ) (root : ℕ) (reached : List ℕ) : Type 0 where
+-- `place p q` is the state for `q` in the part for the pattern `p`. There are no other states.
+pub record IsMirror (n m : Nfa) (first : ℕ) (entries : List ℕ) (root : ℕ) : Type 0 where
   pub terminator : m.terminator ≡ n.terminator
   pub reverse : m.reverse ≡ not n.reverse
-  pub begins : In first reached
-  pub goes : (s t : ℕ) (l : Label) → In s reached → HasArc n s l t → In t reached
   pub roots : node m root ≡ Split entries
-  pub parts :
-      (p entry : ℕ) → slice_get entries p ≡ Some entry
-      → (place : ℕ → ℕ) × (kept : List ℕ) × IsPart n m first reached p entry place kept
+  pub distinct : Distinct entries
+  pub place : (p q : ℕ) → ℕ
+  pub parts : (p entry : ℕ) → slice_get entries p ≡ Some entry → IsPart n m first p entry (place p)
+  pub only :
+      (x : ℕ) → x < length m.nodes
+      → (x ≡ root)
+      ⊎ ((p entry : ℕ) × (slice_get entries p ≡ Some entry) × IsOfPart n m first p entry (place p) x)
 
 -- The flags of the reversed NFA.
 abbrev pub reversed_flags : Flags → Flags
 reversed_flags f = record { utf8 = f.utf8; reverse = not f.reverse; line_terminator = f.line_terminator }
 
--- The NFA `b` is `a` reversed.
-abbrev pub IsReversed : Automaton → Automaton → Type 0
-IsReversed a b =
-    (length b.start_pattern ≡ length a.start_pattern) × (b.flags.utf8 ≡ a.flags.utf8)
-    × ((reached : List ℕ)
-    × IsMirror (ranged_nfa a) (nfa_of b) a.start_anchored b.start_pattern b.start_anchored reached)
+-- The NFA `b` is `a` reversed. Anchored and unanchored searches of it begin at one state.
+pub record IsReversed (a b : Automaton) : Type 0 where
+  pub patterns : length b.start_pattern ≡ length a.start_pattern
+  pub utf8 : b.flags.utf8 ≡ a.flags.utf8
+  pub one_start : b.start_unanchored ≡ b.start_anchored
+  pub mirror : IsMirror (ranged_nfa a) (nfa_of b) a.start_anchored b.start_pattern b.start_anchored
 
 -- The empty match is reached from some pattern's start exactly if it is reached from the anchored start.
 abbrev pub BeginsAlike : Automaton → Type 0

@@ -1,6 +1,6 @@
 -- How the code reverses edges: for each state what leads to it, and the states that stand for edges.
 use Rattle.std.specs.Prelude.{ℕ, zero, suc, ◌+◌, ◌≡◌, List, [], ◌∷◌, ◌++◌, length, slice_index_or, cond, eqb, Some}
-use Rattle.std.specs.Prelude.{Option, None, map, ◌↔◌, ◌⊎◌, Bool, false, slice_get}
+use Rattle.std.specs.Prelude.{Option, None, map, ◌↔◌, ◌⊎◌, Bool, false, slice_get, ◌-◌, ◌<◌, ◌≤◌}
 use Rattle.automata_base.specs.declared.nfa.thompson.State.{State}
 use Rattle.automata_base.specs.declared.nfa.thompson.State.TheVariants as is
 use Rattle.automata_base.specs.declared.nfa.thompson.Transition.{Transition}
@@ -8,7 +8,7 @@ use Rattle.automata_base.specs.declared.nfa.thompson.turn.EdgesByTarget.{EdgesBy
 use Rattle.automata_base.specs.Nfas.Mirrors.{flip}
 use Rattle.automata_base.specs.Nfas.Nfa.{Node, Split, Assert, Read, Accept, accepts_at}
 use Rattle.automata_base.specs.Nfas.Nodes.{node_of, nodes_of}
-use Rattle.automata_base.specs.Lists.{In}
+use Rattle.automata_base.specs.Lists.{In, Distinct}
 use Rattle.automata_base.specs.Retraced.Reach.{IsReached}
 use Rattle.automata_base.specs.Retraced.DenseRuns.{runs_from}
 use Rattle.automata_base.specs.declared.nfa.thompson.reach.Edges.TheVariants.{Every}
@@ -34,9 +34,32 @@ push_at [] k x = []
 push_at (xs ∷ rest) zero x = (xs ++ x ∷ []) ∷ rest
 push_at (xs ∷ rest) (suc k) x = xs ∷ push_at rest k x
 
--- The state `to` goes on to `x`.
+-- The alternates of a state.
+abbrev pub list_at : List (List ℕ) → ℕ → List ℕ
+list_at [] k = []
+list_at (xs ∷ rest) zero = xs
+list_at (xs ∷ rest) (suc k) = list_at rest k
+
+-- Whether `x` is there, and whether it is the last one.
+abbrev pub is_of : Option ℕ → (x : ℕ) → Bool
+is_of None x = false
+is_of (Some y) x = eqb y x
+
+abbrev pub ends_in : List ℕ → (x : ℕ) → Bool
+ends_in xs x = is_of (slice_get xs (length xs - 1)) x
+
+-- Adds `x` after the alternates of the state `k`, unless it is the last of them.
+abbrev pub put : List ℕ → (x : ℕ) → List ℕ
+put xs x = cond (ends_in xs x) xs (xs ++ x ∷ [])
+
+abbrev pub put_at : List (List ℕ) → ℕ → (x : ℕ) → List (List ℕ)
+put_at [] k x = []
+put_at (xs ∷ rest) zero x = put xs x ∷ rest
+put_at (xs ∷ rest) (suc k) x = xs ∷ put_at rest k x
+
+-- The state `to` goes on to `x`. The edges from `x` are turned one after another, so that none repeats.
 abbrev pub turn_free : Turns → (x to : ℕ) → Turns
-turn_free t x to = record t { lists = push_at t.lists to x }
+turn_free t x to = record t { lists = put_at t.lists to x }
 
 -- The state `to` goes on to a helper.
 abbrev pub turn_by : Turns → State → (to : ℕ) → Turns
@@ -124,10 +147,6 @@ abbrev pub copy_of : (base : ℕ) → List ℕ → ℕ → ℕ
 copy_of base items q = base + place_in items q
 
 -- The match states of the pattern among these.
-abbrev pub is_of : Option ℕ → (p : ℕ) → Bool
-is_of None p = false
-is_of (Some o) p = eqb o p
-
 abbrev pub matches_in : List State → (p : ℕ) → List ℕ → List ℕ
 matches_in states p [] = []
 matches_in states p (q ∷ qs) =
@@ -142,31 +161,53 @@ AreTurned states reached first turned =
     ≡ turn_by (turn_states (record { lists = no_lists (length states); helpers = [] }) states reached) (is.Match 0)
     first)
 
--- Among these nodes are the copies, for the pattern `p`, of the turned states that are reached from the roots; and the
--- entry goes on to the copies of the roots.
+-- Of these nodes, those from `base` up to the entry are copies, for the pattern `p`, of the turned states that are reached
+-- from the roots; and the entry goes on to the copies of the roots.
 pub record IsCopied (nodes : List Node) (turned : List State) (roots : List ℕ) (p entry base : ℕ) (items : List ℕ) :
     Type 0 where
   pub reached : (q : ℕ) → In q items ↔ IsReached Every turned roots q
+  pub distinct : Distinct items
   pub each :
       (k q : ℕ) → slice_get items k ≡ Some q
       → slice_get nodes (base + k) ≡ Some (copied (copy_of base items) p (slice_index_or turned q is.Fail))
   pub enters : slice_get nodes entry ≡ Some (Split (map (copy_of base items) roots))
+  pub ends : entry ≡ base + length items
 
--- They are there for some base.
-abbrev pub HasCopies : List Node → List State → List ℕ → (p entry : ℕ) → Type 0
-HasCopies nodes turned roots p entry = (base : ℕ) × (items : List ℕ) × IsCopied nodes turned roots p entry base items
+-- Where copies begin, and of which states they are.
+pub record Copied : Type 0 where
+  pub base : ℕ
+  pub items : List ℕ
 
--- There are copies for each pattern, each entry in order.
-abbrev pub HaveCopies : List Node → List State → (turned : List State) → (reached entries : List ℕ) → Type 0
-HaveCopies nodes states turned reached entries =
-    (p entry : ℕ) → slice_get entries p ≡ Some entry → HasCopies nodes turned (matches_in states p reached) p entry
+abbrev pub part_at : List Copied → (p : ℕ) → Copied
+part_at [] p = record { base = 0; items = [] }
+part_at (x ∷ xs) zero = x
+part_at (x ∷ xs) (suc p) = part_at xs p
+
+-- The nodes are copies for each pattern, and each entry after them.
+pub record HaveCopies (nodes : List Node) (states turned : List State) (reached entries : List ℕ) : Type 0 where
+  pub parts : List Copied
+  pub few : length parts ≡ length entries
+  pub each :
+      (p entry : ℕ) → slice_get entries p ≡ Some entry
+      → IsCopied nodes turned (matches_in states p reached) p entry (part_at parts p).base (part_at parts p).items
+  pub only :
+      (x : ℕ) → x < length nodes
+      → (p entry : ℕ) × (slice_get entries p ≡ Some entry) × ((part_at parts p).base ≤ x) × (x ≤ entry)
+  pub inside : (e : ℕ) → In e entries → e < length nodes
+  pub distinct : Distinct entries
 
 -- These states are what a reversed NFA is made of: the copies for each pattern, and after them the root, which goes on
 -- to each pattern's entry.
-abbrev pub AreReversed : List State → (first patterns : ℕ) → List State → List ℕ → (root : ℕ) → Type 0
-AreReversed states first patterns made entries root =
-    (turned : List State) × (reached : List ℕ) × (nodes : List Node)
-    × ((q : ℕ) → In q reached ↔ IsReached Every states (first ∷ []) q)
-    × AreTurned states reached first turned
-    × (nodes_of made ≡ nodes ++ Split entries ∷ []) × (root ≡ length nodes)
-    × HaveCopies nodes states turned reached entries × (length entries ≡ patterns)
+pub record AreReversed (states : List State) (first patterns : ℕ) (made : List State) (entries : List ℕ) (root : ℕ) :
+    Type 0 where
+  pub turned : List State
+  pub reached : List ℕ
+  pub nodes : List Node
+  pub reach : (q : ℕ) → In q reached ↔ IsReached Every states (first ∷ []) q
+  pub distinct : Distinct reached
+  pub below : (q : ℕ) → In q reached → q < length states
+  pub turns : AreTurned states reached first turned
+  pub whole : nodes_of made ≡ nodes ++ Split entries ∷ []
+  pub starts : root ≡ length nodes
+  pub copies : HaveCopies nodes states turned reached entries
+  pub few : length entries ≡ patterns

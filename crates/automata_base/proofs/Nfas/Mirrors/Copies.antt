@@ -1,11 +1,11 @@
 -- Copies of turned states, and their numbers.
 use Rattle.std.proofs.Common.{ℕ, zero, suc, ◌≡◌, ◌<◌, ◌≤◌, ◌+◌, ◌⊎◌, ◌↔◌, ◌&&◌, ltb, Bool, true, false, cond, List}
-use Rattle.std.proofs.Common.{[], ◌∷◌, ◌++◌, length, get_or, drop, map, Option, Some, None, inl, inr, refl, sym}
+use Rattle.std.proofs.Common.{[], ◌∷◌, ◌++◌, length, length-append, get_or, drop, map, Option, Some, None, inl, inr, refl, sym}
 use Rattle.std.proofs.Common.{ap, ◌∙◌, subst, arith, append_assoc, append-nil}
 use Rattle.std.proofs.lemmas.List.{get_or_default, drop_more, drop_all}
 use Rattle.automata_base.specs.declared.nfa.thompson.State.{State}
 use Rattle.automata_base.specs.declared.nfa.thompson.State.TheVariants as is
-use Rattle.automata_base.specs.Lists.{In, all_below}
+use Rattle.automata_base.specs.Lists.{In, Distinct, all_below}
 use Rattle.std.specs.Prelude.{slice_get}
 use Rattle.automata_base.specs.Nfas.Nfa.{Node, Split, accepts_at}
 use Rattle.automata_base.specs.Nfas.Nodes.{node_of, nodes_of}
@@ -14,9 +14,10 @@ use Rattle.automata_base.specs.declared.nfa.thompson.reach.Edges.{Edges}
 use Rattle.automata_base.specs.declared.nfa.thompson.reach.Edges.TheVariants.{Every}
 use Rattle.automata_base.proofs.Powersets.Walking.{nodes_length}
 use Rattle.automata_base.proofs.Paths.Orders.{some_inj, none_some}
-use Rattle.std.proofs.lemmas.Bool.{ltb-true, lt-ltb}
+use Rattle.std.proofs.lemmas.Bool.{ltb-true, ltb-false, lt-ltb}
+use Rattle.automata_base.proofs.Paths.Walks.{in_either}
 use Rattle.automata_base.specs.Retraced.ReversedEdges.{copied, copies, copy_of, is_of, matches_in, IsCopied}
-use Rattle.automata_base.specs.Retraced.ReversedEdges.{HasCopies, HaveCopies}
+use Rattle.automata_base.specs.Retraced.ReversedEdges.{Copied, HaveCopies, part_at}
 use Rattle.std.proofs.lemmas.Bool.{and_parts}
 use Rattle.automata_base.proofs.Nfas.Reach.Walked.{way_more}
 
@@ -113,12 +114,13 @@ nth_copies f p turned (x ∷ xs) (suc k) q e = nth_copies f p turned xs k q e
 -- A part that is made.
 pub part_made :
     (old mid new : List Node) (turned : List State) (roots items alternates : List ℕ) (p base entry : ℕ)
-    → ((q : ℕ) → In q items ↔ IsReached Every turned roots q)
+    → ((q : ℕ) → In q items ↔ IsReached Every turned roots q) → Distinct items
     → base ≡ length old → mid ≡ old ++ copies (copy_of base items) p turned items
     → entry ≡ length mid → alternates ≡ map (copy_of base items) roots → new ≡ mid ++ Split alternates ∷ []
-    → IsCopied new turned roots p entry base items
-part_made old mid new turned roots items alternates p base entry reached b m e a n = record {
+    → entry ≡ base + length items → IsCopied new turned roots p entry base items
+part_made old mid new turned roots items alternates p base entry reached distinct b m e a n ends = record {
   reached = reached;
+  distinct = distinct;
   each = λ k q i.
       ap (λ z. slice_get z (base + k)) n
       ∙ nth_more mid (Split alternates ∷ []) (base + k) (copied (copy_of base items) p (get_or turned q is.Fail))
@@ -130,23 +132,22 @@ part_made old mid new turned roots items alternates p base entry reached b m e a
       ap (λ z. slice_get z entry) n
       ∙ (ap (λ z. slice_get (mid ++ Split alternates ∷ []) z) e
       ∙ (nth_last mid (Split alternates) ∙ ap (λ z. Some (Split z)) a));
+  ends = ends;
 }
 
 -- What was made stays.
-pub has_more :
-    (nodes new more : List Node) (turned : List State) (roots : List ℕ) (p entry : ℕ) → new ≡ nodes ++ more
-    → HasCopies nodes turned roots p entry → HasCopies new turned roots p entry
-has_more nodes new more turned roots p entry n h = (
-  h.0,
-  h.1,
-  record {
-    reached = h.2.reached;
-    each = λ k q i.
-        ap (λ z. slice_get z (h.0 + k)) n
-        ∙ nth_more nodes more (h.0 + k) (copied (copy_of h.0 h.1) p (get_or turned q is.Fail)) (h.2.each k q i);
-    enters = ap (λ z. slice_get z entry) n ∙ nth_more nodes more entry (Split (map (copy_of h.0 h.1) roots)) h.2.enters;
-  },
-)
+pub copied_more :
+    (nodes new more : List Node) (turned : List State) (roots : List ℕ) (p entry base : ℕ) (items : List ℕ)
+    → new ≡ nodes ++ more → IsCopied nodes turned roots p entry base items → IsCopied new turned roots p entry base items
+copied_more nodes new more turned roots p entry base items n h = record {
+  reached = h.reached;
+  distinct = h.distinct;
+  each = λ k q i.
+      ap (λ z. slice_get z (base + k)) n
+      ∙ nth_more nodes more (base + k) (copied (copy_of base items) p (get_or turned q is.Fail)) (h.each k q i);
+  enters = ap (λ z. slice_get z entry) n ∙ nth_more nodes more entry (Split (map (copy_of base items) roots)) h.enters;
+  ends = h.ends;
+}
 
 nth_either :
     (xs : List ℕ) (a k x : ℕ) → slice_get (xs ++ a ∷ []) k ≡ Some x → (slice_get xs k ≡ Some x) ⊎ ((k ≡ length xs) × (x ≡ a))
@@ -159,21 +160,111 @@ nth_either (y ∷ ys) a (suc k) x e = go (nth_either ys a k x e)
     go (inl h) = inl h
     go (inr h) = inr (ap suc h.0, h.1)
 
-pub have_more :
-    (nodes new more : List Node) (states turned : List State) (reached entries entries' : List ℕ) (p entry : ℕ)
-    → new ≡ nodes ++ more → p ≡ length entries → entries' ≡ entries ++ entry ∷ []
-    → HasCopies new turned (matches_in states p reached) p entry → HaveCopies nodes states turned reached entries
-    → HaveCopies new states turned reached entries'
-have_more nodes new more states turned reached entries entries' p entry n l e made had = λ q x i.
-    go q x (nth_either entries entry q x (sym (ap (λ z. slice_get z q) e) ∙ i))
+-- One element more, which is not among the others.
+pub distinct_last : (xs : List ℕ) (y : ℕ) → Distinct xs → (In y xs → ⊥) → Distinct (xs ++ y ∷ [])
+distinct_last [] y d f = ((λ i. i), tt)
+distinct_last (x ∷ xs) y d f = ((λ i. go (in_either x xs (y ∷ []) i)), distinct_last xs y d.1 (λ i. f (inr i)))
   where
-    go :
+    go : In x xs ⊎ In x (y ∷ []) → ⊥
+    go (inl i) = d.0 i
+    go (inr (inl e)) = f (inl (sym e))
+    go (inr (inr b)) = b
+
+part_left : (parts : List Copied) (c : Copied) (p : ℕ) → p < length parts → part_at (parts ++ c ∷ []) p ≡ part_at parts p
+part_left [] c p l = absurd (omega (arith, l))
+part_left (x ∷ xs) c zero l = refl
+part_left (x ∷ xs) c (suc p) l = part_left xs c p (omega (arith, l))
+
+part_last : (parts : List Copied) (c : Copied) → part_at (parts ++ c ∷ []) (length parts) ≡ c
+part_last [] c = refl
+part_last (x ∷ xs) c = part_last xs c
+
+nth_inside : (xs : List ℕ) (k x : ℕ) → slice_get xs k ≡ Some x → k < length xs
+nth_inside [] k x e = absurd (none_some e)
+nth_inside (y ∷ ys) zero x e = omega arith
+nth_inside (y ∷ ys) (suc k) x e = let l = nth_inside ys k x e in omega (arith, l)
+
+pub have_none : (states turned : List State) (reached : List ℕ) → HaveCopies [] states turned reached []
+have_none states turned reached = record {
+  parts = [];
+  few = refl;
+  each = λ p entry e. absurd (none_some e);
+  only = λ x l. absurd (omega (arith, l));
+  inside = λ e i. absurd i;
+  distinct = tt;
+}
+
+-- A part has the node, or it is its entry.
+abbrev IsIn : List ℕ → List Copied → ℕ → Type 0
+IsIn entries parts x =
+    (q y : ℕ) × (slice_get entries q ≡ Some y) × ((part_at parts q).base ≤ x) × (x ≤ y)
+
+-- The copies for one pattern more.
+pub have_more :
+    (nodes new more : List Node) (states turned : List State) (reached entries entries' : List ℕ) (p entry base : ℕ) (items : List ℕ)
+    → new ≡ nodes ++ more → p ≡ length entries → entries' ≡ entries ++ entry ∷ [] → base ≡ length nodes → length new ≡ suc entry
+    → IsCopied new turned (matches_in states p reached) p entry base items → HaveCopies nodes states turned reached entries
+    → HaveCopies new states turned reached entries'
+have_more nodes new more states turned reached entries entries' p entry base items n l e begins long made had =
+    subst (λ z. HaveCopies new states turned reached z) (sym e) (record {
+      parts = had.parts ++ c ∷ [];
+      few =
+          length-append had.parts (c ∷ [])
+          ∙ (ap (λ z. z + 1) had.few ∙ sym (length-append entries (entry ∷ [])));
+      each = λ q x i. each q x (nth_either entries entry q x i);
+      only = λ x k. only x (ltb x (length nodes)) refl k;
+      inside = λ x i. inside x (in_either x entries (entry ∷ []) i);
+      distinct = distinct_last entries entry had.distinct (λ i. let k = had.inside entry i in omega (arith, k, begins, made.ends));
+    })
+  where
+    c : Copied
+    c = record { base = base; items = items }
+
+    count : length had.parts ≡ length entries
+    count = had.few
+
+    each :
         (q x : ℕ) → (slice_get entries q ≡ Some x) ⊎ ((q ≡ length entries) × (x ≡ entry))
-        → HasCopies new turned (matches_in states q reached) q x
-    go q x (inl h) = has_more nodes new more turned (matches_in states q reached) q x n (had q x h)
-    go q x (inr h) =
-        subst (λ v. HasCopies new turned (matches_in states v reached) v x) (l ∙ sym h.0)
-        (subst (λ v. HasCopies new turned (matches_in states p reached) p v) (sym h.1) made)
+        → IsCopied new turned (matches_in states q reached) q x (part_at (had.parts ++ c ∷ []) q).base
+        (part_at (had.parts ++ c ∷ []) q).items
+    each q x (inl h) =
+        subst (λ (d : Copied). IsCopied new turned (matches_in states q reached) q x d.base d.items)
+        (sym (part_left had.parts c q (let k = nth_inside entries q x h in omega (arith, k, count))))
+        (copied_more nodes new more turned (matches_in states q reached) q x (part_at had.parts q).base (part_at had.parts q).items n
+        (had.each q x h))
+    each q x (inr h) =
+        subst (λ v. IsCopied new turned (matches_in states v reached) v x (part_at (had.parts ++ c ∷ []) v).base (part_at (had.parts ++ c ∷ []) v).items)
+        (count ∙ sym h.0)
+        (subst (λ (d : Copied). IsCopied new turned (matches_in states (length had.parts) reached) (length had.parts) x d.base d.items)
+        (sym (part_last had.parts c))
+        (subst (λ v. IsCopied new turned (matches_in states v reached) v x base items) (l ∙ sym count)
+        (subst (λ v. IsCopied new turned (matches_in states p reached) p v base items) (sym h.1) made)))
+
+    before : (x : ℕ) → IsIn entries had.parts x → IsIn (entries ++ entry ∷ []) (had.parts ++ c ∷ []) x
+    before x (q, y, i, b, f) = (
+      q,
+      y,
+      nth_more entries (entry ∷ []) q y i,
+      subst (λ (d : Copied). d.base ≤ x) (sym (part_left had.parts c q (let k = nth_inside entries q y i in omega (arith, k, count)))) b,
+      f,
+    )
+
+    only : (x : ℕ) (b : Bool) → ltb x (length nodes) ≡ b → x < length new → IsIn (entries ++ entry ∷ []) (had.parts ++ c ∷ []) x
+    only x true t k = before x (had.only x (ltb-true x (length nodes) t))
+    only x false t k = (
+      length entries,
+      entry,
+      nth_last entries entry,
+      subst (λ v. (part_at (had.parts ++ c ∷ []) v).base ≤ x) count
+          (subst (λ (d : Copied). d.base ≤ x) (sym (part_last had.parts c))
+          (let f = ltb-false x (length nodes) t in omega (arith, f, begins))),
+      omega (arith, k, long),
+    )
+
+    inside : (x : ℕ) → In x entries ⊎ In x (entry ∷ []) → x < length new
+    inside x (inl i) = let k = had.inside x i in omega (arith, k, long, begins, made.ends)
+    inside x (inr (inl f)) = omega (arith, f, long)
+    inside x (inr (inr b)) = absurd b
 
 pub matches_few : (states : List State) (p : ℕ) (ids : List ℕ) → length (matches_in states p ids) ≤ length ids
 matches_few states p [] = omega arith

@@ -22,12 +22,12 @@ use Rattle.automata_base.specs.Nfas.Errors.{alternates_of, states_below, ordered
 use Rattle.automata_base.specs.Nfas.Errors.{match_below, matches_below, is_small, is_narrow, starts_below, states_refusal}
 use Rattle.automata_base.specs.Nfas.Errors.{unless}
 use Rattle.automata_base.specs.Nfas.ReversedSizes.{asking_edges, free_edges}
-use Rattle.automata_base.specs.Retraced.ReversedEdges.{copied, copies, copy_of, HasCopies}
+use Rattle.automata_base.specs.Retraced.ReversedEdges.{copied, copies, copy_of, IsCopied}
 use Rattle.automata_base.proofs.Nfas.Reach.InRange.{state_is_below, node_is}
 use Rattle.automata_base.proofs.Powersets.Walking.{nodes_length}
 use Rattle.automata_base.proofs.Powersets.Sparsely.{at_place}
 use Rattle.automata_base.proofs.Nfas.Mirrors.Copies.{part_made, reached_closed, reached_roots}
-use Rattle.automata_base.proofs.Nfas.Mirrors.Parts.{of_map}
+use Rattle.automata_base.proofs.Nfas.Mirrors.Members.{of_map}
 use Rattle.automata_base.proofs.Nfas.Mirrors.Sizes.{sum_at, ordered_at}
 use Rattle.automata_base.proofs.Nfas.Mirrors.Sums.{sum_some}
 use Rattle.automata_base.proofs.Nfas.Reach.Refused.{refusal_is, goes_on}
@@ -73,18 +73,27 @@ part_added old mid new turned roots items alternates p base entry reached distin
     from = m ∙ ap (λ z. old ++ copies (copy_of z items) p turned items) b
 
 pub added_copies :
-    (old new : List Node) (turned : List State) (roots : List ℕ) (p entry : ℕ)
-    → IsPartAdded old new turned roots p entry → HasCopies new turned roots p entry
-added_copies old new turned roots p entry w = (
-  length old,
-  w.0,
-  part_made old (old ++ copies (copy_of (length old) w.0) p turned w.0) new turned roots w.0 (map (copy_of (length old) w.0) roots) p
-      (length old) entry w.1.reached refl refl
-      (w.1.enters
-      ∙ sym (length-append old (copies (copy_of (length old) w.0) p turned w.0)
-      ∙ ap (λ z. length old + z) (copies_length (copy_of (length old) w.0) p turned w.0)))
-      refl w.1.nodes,
-)
+    (old new : List Node) (turned : List State) (roots : List ℕ) (p entry : ℕ) (items : List ℕ)
+    → IsAdded old new turned roots p entry items → IsCopied new turned roots p entry (length old) items
+added_copies old new turned roots p entry items w =
+    part_made old (old ++ copies (copy_of (length old) items) p turned items) new turned roots items (map (copy_of (length old) items) roots) p
+    (length old) entry w.reached w.distinct refl refl
+    (w.enters
+    ∙ sym (length-append old (copies (copy_of (length old) items) p turned items)
+    ∙ ap (λ z. length old + z) (copies_length (copy_of (length old) items) p turned items)))
+    refl w.nodes w.enters
+
+pub added_length :
+    (old new : List Node) (turned : List State) (roots : List ℕ) (p entry : ℕ) (items : List ℕ)
+    → IsAdded old new turned roots p entry items → length new ≡ suc entry
+added_length old new turned roots p entry items w =
+    let a : length new ≡ length (old ++ copies (copy_of (length old) items) p turned items) + 1 =
+    ap (λ z. length z) w.nodes
+    ∙ length-append (old ++ copies (copy_of (length old) items) p turned items) (Split (map (copy_of (length old) items) roots) ∷ []) in
+    let b = length-append old (copies (copy_of (length old) items) p turned items) in
+    let c = copies_length (copy_of (length old) items) p turned items in
+    let d = w.enters in
+    omega (arith, a, b, c, d)
 
 -- The nodes that are added.
 abbrev pub added_nodes : (old : List Node) → (turned : List State) → (roots : List ℕ) → (p : ℕ) → (items : List ℕ) → List Node

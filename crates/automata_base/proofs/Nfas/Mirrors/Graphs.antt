@@ -12,13 +12,14 @@ use Rattle.automata_base.specs.Nfas.Nodes.{ranges_of}
 use Rattle.automata_base.specs.Nfas.Errors.{state_below, transitions_below}
 use Rattle.automata_base.specs.Lists.{all_below}
 use Rattle.automata_base.specs.Retraced.DenseRuns.{runs_from, ranged}
-use Rattle.automata_base.specs.Retraced.ReversedEdges.{Turns, no_lists, push_at, turn_free, turn_by, turn_all}
+use Rattle.automata_base.specs.Retraced.ReversedEdges.{Turns, no_lists, list_at, ends_in, push_at, put_at, turn_free}
+use Rattle.automata_base.specs.Retraced.ReversedEdges.{turn_by, turn_all}
 use Rattle.automata_base.specs.Retraced.ReversedEdges.{turn_ranges, turn_state, turn_states}
-use Rattle.automata_base.proofs.Nfas.Mirrors.Lists.{push_length}
+use Rattle.automata_base.proofs.Nfas.Mirrors.Lists.{push_length, put_length, ends_member}
 use Rattle.automata_base.proofs.Nfas.Mirrors.Runs.{runs_below}
 use Rattle.automata_base.proofs.Paths.Walks.{in_left, in_either}
 use Rattle.std.proofs.lemmas.Bool.{ltb-true}
-use Rattle.std.specs.Prelude.{true, ltb, ◌&&◌, slice_index_or, slice_get}
+use Rattle.std.specs.Prelude.{Bool, true, false, cond, ltb, ◌&&◌, slice_index_or, slice_get}
 use Rattle.std.proofs.lemmas.Bool.{and_parts}
 use Rattle.automata_base.proofs.Nfas.Mirrors.Copies.{nth_more}
 use Rattle.automata_base.proofs.Nfas.Mirrors.Copies.{nth_last}
@@ -45,7 +46,7 @@ push_new [] to y l = absurd (omega (arith, l))
 push_new (xs ∷ rest) zero y l = in_last y xs
 push_new (xs ∷ rest) (suc to) y l = push_new rest to y (omega (arith, l))
 
-in_push :
+pub in_push :
     (lists : List (List ℕ)) (to y k x : ℕ) → InAt (push_at lists to y) k x → InAt lists k x ⊎ ((k ≡ to) × (x ≡ y))
 in_push [] to y k x i = absurd i
 in_push (xs ∷ rest) zero y zero x i = ⊎_elim (λ (j : In x xs). inl j)
@@ -57,6 +58,54 @@ in_push (xs ∷ rest) (suc to) y (suc k) x i = go (in_push rest to y k x i)
     go : InAt rest k x ⊎ ((k ≡ to) × (x ≡ y)) → InAt rest k x ⊎ ((suc k ≡ suc to) × (x ≡ y))
     go (inl j) = inl j
     go (inr e) = inr (ap suc e.0, e.1)
+
+-- The same of what is added unless it is the last.
+put_old : (lists : List (List ℕ)) (to y k x : ℕ) → InAt lists k x → InAt (put_at lists to y) k x
+put_old [] to y k x i = i
+put_old (xs ∷ rest) zero y zero x i = go (ends_in xs y)
+  where
+    go : (b : Bool) → In x (cond b xs (xs ++ y ∷ []))
+    go true = i
+    go false = in_left x xs (y ∷ []) i
+put_old (xs ∷ rest) zero y (suc k) x i = i
+put_old (xs ∷ rest) (suc to) y zero x i = i
+put_old (xs ∷ rest) (suc to) y (suc k) x i = put_old rest to y k x i
+
+put_new : (lists : List (List ℕ)) (to y : ℕ) → to < length lists → InAt (put_at lists to y) to y
+put_new [] to y l = absurd (omega (arith, l))
+put_new (xs ∷ rest) zero y l = go (ends_in xs y) refl
+  where
+    go : (b : Bool) → ends_in xs y ≡ b → In y (cond b xs (xs ++ y ∷ []))
+    go true e = ends_member xs y e
+    go false e = in_last y xs
+put_new (xs ∷ rest) (suc to) y l = put_new rest to y (omega (arith, l))
+
+pub in_put :
+    (lists : List (List ℕ)) (to y k x : ℕ) → InAt (put_at lists to y) k x → InAt lists k x ⊎ ((k ≡ to) × (x ≡ y))
+in_put [] to y k x i = absurd i
+in_put (xs ∷ rest) zero y zero x i = go (ends_in xs y) i
+  where
+    go : (b : Bool) → In x (cond b xs (xs ++ y ∷ [])) → In x xs ⊎ (◌≡◌ {A = ℕ} 0 0 × (x ≡ y))
+    go true i = inl i
+    go false i = in_push (xs ∷ rest) 0 y 0 x i
+in_put (xs ∷ rest) zero y (suc k) x i = inl i
+in_put (xs ∷ rest) (suc to) y zero x i = inl i
+in_put (xs ∷ rest) (suc to) y (suc k) x i = go (in_put rest to y k x i)
+  where
+    go : InAt rest k x ⊎ ((k ≡ to) × (x ≡ y)) → InAt rest k x ⊎ ((suc k ≡ suc to) × (x ≡ y))
+    go (inl j) = inl j
+    go (inr e) = inr (ap suc e.0, e.1)
+
+-- The list of a number.
+pub at_list : (lists : List (List ℕ)) (k x : ℕ) → InAt lists k x → In x (list_at lists k)
+at_list [] k x i = i
+at_list (xs ∷ rest) zero x i = i
+at_list (xs ∷ rest) (suc k) x i = at_list rest k x i
+
+pub list_in : (lists : List (List ℕ)) (k x : ℕ) → In x (list_at lists k) → InAt lists k x
+list_in [] k x i = i
+list_in (xs ∷ rest) zero x i = i
+list_in (xs ∷ rest) (suc k) x i = list_in rest k x i
 
 -- The number of a helper.
 abbrev pub IsHelper : Turns → ℕ → State → Type 0
@@ -97,8 +146,8 @@ graph_same P Q M size t f g i = record {
 
 stand_free : (t : Turns) (y to x s : ℕ) (l : Label) → Stand t x l s → Stand (turn_free t y to) x l s
 stand_free t y to x s Free h = h
-stand_free t y to x s (Asks look) h = (h.0, h.1 ∙ ap (λ n. n + h.0) (sym (push_length t.lists to y)), h.2)
-stand_free t y to x s (Reads lo hi) h = (h.0, h.1 ∙ ap (λ n. n + h.0) (sym (push_length t.lists to y)), h.2)
+stand_free t y to x s (Asks look) h = (h.0, h.1 ∙ ap (λ n. n + h.0) (sym (put_length t.lists to y)), h.2)
+stand_free t y to x s (Reads lo hi) h = (h.0, h.1 ∙ ap (λ n. n + h.0) (sym (put_length t.lists to y)), h.2)
 
 helper_by : (t : Turns) (g : State) (to x : ℕ) (h : State) → IsHelper t x h → IsHelper (turn_by t g to) x h
 helper_by t g to x h k = (
@@ -131,12 +180,12 @@ step_free :
     (P : ℕ → Label → ℕ → Type 0) (M : ℕ → Type 0) (size : ℕ) (t : Turns) (from to : ℕ) → to < size
     → IsGraph P M size t → IsGraph (And P from Free to) M size (turn_free t from to)
 step_free P M size t from to small i = record {
-  whole = push_length t.lists to from ∙ i.whole;
-  sound = λ k x m. go k x (in_push t.lists to from k x m);
+  whole = put_length t.lists to from ∙ i.whole;
+  sound = λ k x m. go k x (in_put t.lists to from k x m);
   arcs = on;
   reported = λ k m.
       let w = i.reported k m in
-      (w.0, push_old t.lists to from k w.0 w.1, (w.2.0, w.2.1 ∙ ap (λ n. n + w.2.0) (sym (push_length t.lists to from)), w.2.2));
+      (w.0, put_old t.lists to from k w.0 w.1, (w.2.0, w.2.1 ∙ ap (λ n. n + w.2.0) (sym (put_length t.lists to from)), w.2.2));
 }
   where
     old :
@@ -144,7 +193,7 @@ step_free P M size t from to small i = record {
         → ((s : ℕ) × (l : Label) × And P from Free to s l k × Stand (turn_free t from to) x l s)
         ⊎ (M k × IsHelper (turn_free t from to) x (is.Match 0))
     old k x (inl h) = inl (h.0, h.1, inl h.2, stand_free t from to x h.0 h.1 h.3)
-    old k x (inr h) = inr (h.0, (h.1.0, h.1.1 ∙ ap (λ n. n + h.1.0) (sym (push_length t.lists to from)), h.1.2))
+    old k x (inr h) = inr (h.0, (h.1.0, h.1.1 ∙ ap (λ n. n + h.1.0) (sym (put_length t.lists to from)), h.1.2))
 
     go :
         (k x : ℕ) → InAt t.lists k x ⊎ ((k ≡ to) × (x ≡ from))
@@ -155,12 +204,12 @@ step_free P M size t from to small i = record {
 
     on :
         (s k : ℕ) (l : Label) → And P from Free to s l k
-        → (x : ℕ) × InAt (push_at t.lists to from) k x × Stand (turn_free t from to) x l s
+        → (x : ℕ) × InAt (put_at t.lists to from) k x × Stand (turn_free t from to) x l s
     on s k l (inl p) =
-        let w = i.arcs s k l p in (w.0, push_old t.lists to from k w.0 w.1, stand_free t from to w.0 s l w.2)
+        let w = i.arcs s k l p in (w.0, put_old t.lists to from k w.0 w.1, stand_free t from to w.0 s l w.2)
     on s k l (inr e) = (
       from,
-      subst (λ v. InAt (push_at t.lists to from) v from) (sym e.2) (push_new t.lists to from (subst (λ v. to < v) (sym i.whole) small)),
+      subst (λ v. InAt (put_at t.lists to from) v from) (sym e.2) (put_new t.lists to from (subst (λ v. to < v) (sym i.whole) small)),
       subst (λ v. Stand (turn_free t from to) from v s) (sym e.1) (sym e.0),
     )
 

@@ -1,14 +1,20 @@
 -- Lists of lists, and what is added after one of them.
-use Rattle.std.proofs.Common.{ℕ, zero, suc, ◌≡◌, ◌<◌, ◌+◌, Bool, true, false, cond, leb, Option, Some, None, Result, Ok}
+use Rattle.std.proofs.Common.{ℕ, zero, suc, ◌≡◌, ◌<◌, ◌+◌, ◌-◌, Bool, true, false, cond, eqb, leb, Option, Some, None}
+use Rattle.std.proofs.Common.{Result, Ok, length-append}
+use Rattle.std.specs.Prelude.{slice_get}
 use Rattle.std.proofs.Common.{Err, List, [], ◌∷◌, ◌++◌, length, get_or, drop, Vec, refl, sym, ap, ◌∙◌, subst, arith}
 use Rattle.std.proofs.Math.ListN.{set}
 use Rattle.std.specs.Result.{IsErrAnd}
-use Rattle.std.proofs.lemmas.Bool.{leb-false}
+use Rattle.std.proofs.lemmas.Bool.{eqb-true, leb-false}
+use Rattle.std.proofs.lemmas.Bool.Decides.{nat_tests}
+use Rattle.automata_base.proofs.Paths.Sets.{nth_in}
 use Rattle.std.proofs.lemmas.List.{drop_more, get_or_default}
 use Rattle.std.specs.declared.alloc.Global.{Global}
 use Rattle.automata_base.specs.declared.nfa.thompson.State.{State}
 use Rattle.automata_base.specs.declared.nfa.thompson.State.TheVariants.{Fail}
-use Rattle.automata_base.specs.Retraced.ReversedEdges.{Turns, lists_of, push_at, no_lists, turn_state, turn_states}
+use Rattle.automata_base.specs.Lists.{In}
+use Rattle.automata_base.specs.Retraced.ReversedEdges.{Turns, lists_of, push_at, put, put_at, ends_in, is_of, no_lists}
+use Rattle.automata_base.specs.Retraced.ReversedEdges.{turn_state, turn_states}
 use Rattle.automata_base.specs.Retraced.ReversedEdges.{IsHead, AreHeads, AreMade}
 use Rattle.automata_base.proofs.Paths.Orders.{some_inj, none_some}
 
@@ -41,6 +47,41 @@ pub push_length : (xs : List (List ℕ)) (k x : ℕ) → length (push_at xs k x)
 push_length [] k x = refl
 push_length (y ∷ ys) zero x = refl
 push_length (y ∷ ys) (suc k) x = ap suc (push_length ys k x)
+
+-- The same of what is added unless it is the last.
+pub lists_put :
+    (vs : List (Vec ℕ Global)) (k : ℕ) (old new d : Vec ℕ Global) (x : ℕ) → k < length vs → old ≡ get_or vs k d
+    → new.items ≡ put old.items x → lists_of (set vs k new) ≡ put_at (lists_of vs) k x
+lists_put [] k old new d x l e f = absurd (omega (arith, l))
+lists_put (v ∷ vs) zero old new d x l e f = ap (λ z. z ∷ lists_of vs) (f ∙ ap (λ (v : Vec ℕ Global). put v.items x) e)
+lists_put (v ∷ vs) (suc k) old new d x l e f = ap (λ z. v.items ∷ z) (lists_put vs k old new d x (omega (arith, l)) e f)
+
+pub put_length : (xs : List (List ℕ)) (k x : ℕ) → length (put_at xs k x) ≡ length xs
+put_length [] k x = refl
+put_length (y ∷ ys) zero x = refl
+put_length (y ∷ ys) (suc k) x = ap suc (put_length ys k x)
+
+pub ends_last : (xs : List ℕ) (x : ℕ) → ends_in (xs ++ x ∷ []) x ≡ true
+ends_last xs x =
+    ap (λ k. is_of (slice_get (xs ++ x ∷ []) k) x) (short (length-append xs (x ∷ [])))
+    ∙ (ap (λ o. is_of o x) (at xs) ∙ same x)
+  where
+    short : length (xs ++ x ∷ []) ≡ length xs + 1 → length (xs ++ x ∷ []) - 1 ≡ length xs
+    short e = omega (arith, e)
+
+    at : (xs : List ℕ) → slice_get (xs ++ x ∷ []) (length xs) ≡ Some x
+    at [] = refl
+    at (y ∷ ys) = at ys
+
+    same : (x : ℕ) → eqb x x ≡ true
+    same x = grind (arith, nat_tests)
+
+pub ends_member : (xs : List ℕ) (x : ℕ) → ends_in xs x ≡ true → In x xs
+ends_member xs x e = go (slice_get xs (length xs - 1)) refl e
+  where
+    go : (o : Option ℕ) → slice_get xs (length xs - 1) ≡ o → is_of o x ≡ true → In x xs
+    go None f e = let k : false ≡ true = e in absurd cc
+    go (Some y) f e = nth_in xs (length xs - 1) x (f ∙ ap Some (eqb-true y x e))
 
 pub some_id : (b : Bool) (n id : ℕ) → cond b (Some n) None ≡ Some id → id ≡ n
 some_id true n id e = sym (some_inj e)

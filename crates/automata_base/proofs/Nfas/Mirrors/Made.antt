@@ -15,8 +15,7 @@ pub whole_made :
     → AreReversed states first patterns made entries root → b ≡ automaton made root root entries (reversed_flags a.flags) → IsReversed a b
 whole_made a b states first patterns root made entries checked s f p m e =
     subst (λ (z : Automaton). IsReversed a z) (sym e)
-    (made_reversed a (automaton made root root entries (reversed_flags a.flags)) w.0 w.1 w.2 checked (checked_below a checked) w.3 w.4 w.5 w.6 w.7 w.8
-    refl refl refl)
+    (made_reversed a (automaton made root root entries (reversed_flags a.flags)) checked (checked_below a checked) w refl refl refl refl)
   where
     w : AreReversed a.states a.start_anchored (length a.start_pattern) made entries root
     w =

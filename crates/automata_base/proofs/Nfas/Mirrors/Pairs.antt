@@ -163,21 +163,21 @@ module _ (a b : Automaton) (checked : IsChecked a) (reversed : IsReversed a b) (
 
   back_entry_of : (p entry : ℕ) → slice_get b.start_pattern p ≡ Some entry → ForthOf p → BackOf entry p
   back_entry_of p entry e w =
-      back_entry (ranged_nfa a) (nfa_of b) a.start_anchored b.start_anchored b.start_pattern reversed.2.0 A B bytes back J
-      (checked_apart a checked.ordered) reversed.2.1 turn p entry e (there p w)
+      back_entry (ranged_nfa a) (nfa_of b) a.start_anchored b.start_anchored b.start_pattern A B bytes back J
+      (checked_apart a checked.ordered) reversed.mirror turn p entry e (there p w)
 
   back_root_of : (p entry : ℕ) → slice_get b.start_pattern p ≡ Some entry → ForthOf p → BackOf b.start_anchored p
   back_root_of p entry e w =
-      back_root (ranged_nfa a) (nfa_of b) a.start_anchored b.start_anchored b.start_pattern reversed.2.0 A B bytes back J
-      (checked_apart a checked.ordered) reversed.2.1 turn p entry e (there p w)
+      back_root (ranged_nfa a) (nfa_of b) a.start_anchored b.start_anchored b.start_pattern A B bytes back J
+      (checked_apart a checked.ordered) reversed.mirror turn p entry e (there p w)
 
   forth_part_of :
       (path : List ℕ) (k entry p z : ℕ) → slice_get b.start_pattern k ≡ Some entry → IsWay (nfa_of b) B back 0 entry path J z
       → accepts (nfa_of b) z ≡ Some p → (p ≡ k) × ForthOf p
   forth_part_of path k entry p z e w m =
       let f =
-      forth_part (ranged_nfa a) (nfa_of b) a.start_anchored b.start_anchored b.start_pattern reversed.2.0 A B bytes back J
-      (checked_apart a checked.ordered) reversed.2.1 turn path k entry p z e w m in
+      forth_part (ranged_nfa a) (nfa_of b) a.start_anchored b.start_anchored b.start_pattern A B bytes back J
+      (checked_apart a checked.ordered) reversed.mirror turn path k entry p z e w m in
       (f.0, here p f.1)
 
   forth_entry_of :
@@ -185,27 +185,27 @@ module _ (a b : Automaton) (checked : IsChecked a) (reversed : IsReversed a b) (
       → accepts (nfa_of b) z ≡ Some p → ForthOf p
   forth_entry_of path entry p z i w m =
       here p
-      (forth_entry (ranged_nfa a) (nfa_of b) a.start_anchored b.start_anchored b.start_pattern reversed.2.0 A B bytes back J
-      (checked_apart a checked.ordered) reversed.2.1 turn path entry p z i w m)
+      (forth_entry (ranged_nfa a) (nfa_of b) a.start_anchored b.start_anchored b.start_pattern A B bytes back J
+      (checked_apart a checked.ordered) reversed.mirror turn path entry p z i w m)
 
   forth_root_of :
       (path : List ℕ) (p z : ℕ) → IsWay (nfa_of b) B back 0 b.start_anchored path J z → accepts (nfa_of b) z ≡ Some p → ForthOf p
   forth_root_of path p z w m =
       here p
-      (forth_root (ranged_nfa a) (nfa_of b) a.start_anchored b.start_anchored b.start_pattern reversed.2.0 A B bytes back J
-      (checked_apart a checked.ordered) reversed.2.1 turn path p z w m)
+      (forth_root (ranged_nfa a) (nfa_of b) a.start_anchored b.start_anchored b.start_pattern A B bytes back J
+      (checked_apart a checked.ordered) reversed.mirror turn path p z w m)
 
 module _ (a b : Automaton) (kind : MatchKind) (checked : IsChecked a) (reversed : IsReversed a b) where
   -- The entry of a pattern.
   entry : (q p : ℕ) → accepts (nfa_of a) q ≡ Some p → (e : ℕ) × (slice_get b.start_pattern p ≡ Some e)
-  entry q p e = nth_some b.start_pattern p (omega (arith, checked.patterns q p e, reversed.0))
+  entry q p e = nth_some b.start_pattern p (omega (arith, checked.patterns q p e, reversed.patterns))
 
   -- A span of a haystack.
   module _ (h : List ℕ) (i j p : ℕ) (l : i ≤ j) (w : j ≤ length h) where
     turn :
         IsTurn (truth (nfa_of a) (forward_tape h i j)) (truth (nfa_of b) (reverse_tape h i j)) (slice_get (forward_tape h i j).bytes)
         (slice_get (reverse_tape h i j).bytes) (j - i)
-    turn = tapes_turn (nfa_of a) (nfa_of b) h i j reversed.2.1.terminator reversed.2.1.reverse l w
+    turn = tapes_turn (nfa_of a) (nfa_of b) h i j reversed.mirror.terminator reversed.mirror.reverse l w
 
     joins_back : Joins Forward (engine_of a kind) h i j p → Joins Backward (engine_of b All) h i j p
     joins_back s = (path.0, (back.0, path.1, back.2))
@@ -291,7 +291,7 @@ module _ (a b : Automaton) (kind : MatchKind) (checked : IsChecked a) (reversed 
 pub reversed_true : ReversedIsTrue
 reversed_true a b kind checked reversed alike lazy = (
   refl,
-  sym reversed.1,
+  sym reversed.utf8,
   ((λ e. empty_back a b kind checked reversed (alike.0 e)), λ e. alike.1 (empty_forth a b kind checked reversed e)),
   λ h i j p bytes l w. (joins_back a b kind checked reversed h i j p l w, joins_forth a b kind checked reversed h i j p l w),
   lazy,
@@ -303,7 +303,7 @@ module _ (a b : Automaton) (checked : IsChecked a) (reversed : IsReversed a b) (
   pattern_turn :
       IsTurn (truth (nfa_of a) (forward_tape h i j)) (truth (nfa_of b) (reverse_tape h i j)) (slice_get (forward_tape h i j).bytes)
       (slice_get (reverse_tape h i j).bytes) (j - i)
-  pattern_turn = tapes_turn (nfa_of a) (nfa_of b) h i j reversed.2.1.terminator reversed.2.1.reverse l w
+  pattern_turn = tapes_turn (nfa_of a) (nfa_of b) h i j reversed.mirror.terminator reversed.mirror.reverse l w
 
   pattern_forth :
       ((path : List ℕ) × Accepts (nfa_of b) (reverse_tape h i j) entry (j - i) pattern path)

@@ -1,240 +1,56 @@
 -- What is made of an NFA is the reversed NFA.
-use Rattle.std.proofs.Common.{ℕ, zero, suc, ◌≡◌, ◌<◌, ◌+◌, ◌↔◌, ◌⊎◌, Bool, true, false, not, cond, eqb, List, [], ◌∷◌}
-use Rattle.std.proofs.Common.{◌++◌, length, get_or, map, Vec, Option, Some, None, inl, inr, refl, sym, ap, ◌∙◌, subst}
-use Rattle.std.proofs.Common.{arith}
-use Rattle.std.proofs.lemmas.Bool.Decides.{eqb_tells}
+use Rattle.std.proofs.Common.{ℕ, ◌≡◌, ◌<◌, ◌≤◌, ◌+◌, ◌-◌, ◌↔◌, ◌⊎◌, Bool, true, false, not, ltb, List, [], ◌∷◌, ◌++◌}
+use Rattle.std.proofs.Common.{zero, suc, length, length-append, get_or, map, Vec, Option, Some, None, inl, inr, refl, sym}
+use Rattle.std.proofs.Common.{ap, ap₂, ◌∙◌, subst, arith}
+use Rattle.std.proofs.lemmas.Bool.{and_parts, ltb-true, ltb-false}
 use Rattle.std.specs.declared.alloc.Global.{Global}
 use Rattle.automata_base.specs.declared.nfa.thompson.State.{State}
 use Rattle.automata_base.specs.declared.nfa.thompson.State.TheVariants as is
 use Rattle.automata_base.specs.declared.nfa.thompson.reach.Edges.TheVariants.{Every}
 use Rattle.automata_base.specs.Nfas.Accepted.{IsChecked}
-use Rattle.automata_base.specs.Lists.{In}
+use Rattle.automata_base.specs.Lists.{In, Distinct}
 use Rattle.std.specs.Prelude.{slice_get}
-use Rattle.automata_base.specs.Nfas.Mirrors.{flip, Label, Free, Asks, Reads, HasRange, HasArcAt, HasArc, IsAsking}
-use Rattle.automata_base.specs.Nfas.Mirrors.{IsEdgeTo, IsReversedArc, IsKept, IsReversedAt, IsPart, IsMirror}
-use Rattle.automata_base.specs.Nfas.Mirrors.{IsReversed}
-use Rattle.automata_base.specs.Nfas.Nfa.{Nfa, Node, Range, Split, Assert, Read, Accept, node, node_or_fail, accepts}
-use Rattle.automata_base.specs.Nfas.Nfa.{accepts_at}
-use Rattle.automata_base.specs.Nfas.Nodes.{Automaton, nfa_of, node_of, nodes_of}
-use Rattle.automata_base.specs.Retraced.Reach.{IsReached, targets_at, nexts}
+use Rattle.automata_base.specs.Nfas.Mirrors.{flip, Label, Free, Asks, Reads, HasArcAt, HasArc, IsAsking, IsUnion}
+use Rattle.automata_base.specs.Nfas.Mirrors.{IsEdgeTo, IsReversedArc, IsLed, LeadsTo, IsKept, IsReversedAt, IsEntry}
+use Rattle.automata_base.specs.Nfas.Mirrors.{IsPart, IsOfPart, IsMirror, IsReversed}
+use Rattle.automata_base.specs.Nfas.Nfa.{Nfa, Node, Split, Accept, node, node_or_fail, accepts, accepts_at}
+use Rattle.automata_base.specs.Nfas.Nodes.{Automaton, nfa_of, node_of}
+use Rattle.automata_base.specs.Retraced.Reach.{IsReached, Route, targets_at, targets_of}
 use Rattle.automata_base.specs.Nfas.Errors.{state_below, states_below}
 use Rattle.automata_base.specs.Retraced.DenseRuns.{ranged, ranged_nodes, ranged_nfa}
-use Rattle.automata_base.specs.Retraced.ReversedEdges.{Turns, no_lists, place_in, copied, copy_of, is_of, matches_in}
+use Rattle.automata_base.specs.Retraced.ReversedEdges.{Turns, no_lists, place_in, copied, copy_of, list_at, matches_in}
 use Rattle.automata_base.specs.Retraced.ReversedEdges.{turn_by, turn_states, IsHead, AreHeads, AreTurned, IsCopied}
-use Rattle.automata_base.specs.Retraced.ReversedEdges.{HasCopies, HaveCopies}
+use Rattle.automata_base.specs.Retraced.ReversedEdges.{HaveCopies, part_at, AreReversed}
+use Rattle.automata_base.proofs.Answers.Loops.{nth_some}
 use Rattle.automata_base.proofs.Nfas.Reach.InRange.{node_is}
-use Rattle.automata_base.proofs.Nfas.Mirrors.Copies.{has_more, nth_last, reached_closed, reached_roots}
-use Rattle.automata_base.proofs.Nfas.Mirrors.Graphs.{InAt, Stand, IsGraph, IsHelper, Of, graph_none, graph_states}
-use Rattle.automata_base.proofs.Nfas.Mirrors.Graphs.{graph_report}
-use Rattle.automata_base.proofs.Nfas.Mirrors.Runs.{runs_next}
+use Rattle.automata_base.proofs.Nfas.Mirrors.Copies.{copied_more, nth_last, reached_closed, reached_roots}
+use Rattle.automata_base.proofs.Nfas.Mirrors.Graphs.{InAt, Stand, IsGraph, IsHelper, Of, at_list, list_in, graph_none}
+use Rattle.automata_base.proofs.Nfas.Mirrors.Graphs.{graph_states, graph_report}
+use Rattle.automata_base.proofs.Nfas.Mirrors.Helpers.{IsHelperState, copied_same}
+use Rattle.automata_base.proofs.Nfas.Mirrors.Leads.{kept_back, kept_match, leads_here, leads_on}
+use Rattle.automata_base.proofs.Nfas.Mirrors.Members.{ranged_is, ranged_length, arc_is_target, accept_same, in_map, of_map}
+use Rattle.automata_base.proofs.Nfas.Mirrors.Members.{nth_place, place_same, place_nth, map_distinct, target_has_arc}
+use Rattle.automata_base.proofs.Nfas.Mirrors.Members.{matches_are, are_matches, matches_distinct, head_at, heads_length}
+use Rattle.automata_base.proofs.Nfas.Mirrors.Members.{helper_at, same_helper}
+use Rattle.automata_base.proofs.Nfas.Mirrors.Sizes.{ordered_at}
+use Rattle.automata_base.proofs.Nfas.Mirrors.Singles.{IsOnce, turned_once}
 use Rattle.automata_base.proofs.Nfas.Mirrors.Turned.{arc_inside, accept_inside}
-use Rattle.automata_base.proofs.Paths.Orders.{some_inj, none_some}
-use Rattle.automata_base.proofs.Paths.Walks.{in_left}
-use Rattle.std.proofs.lemmas.Bool.{and_parts}
+use Rattle.automata_base.proofs.Paths.Sets.{nth_in}
+use Rattle.automata_base.proofs.Paths.Walks.{in_left, in_either}
 
-range_next : (ranges : List Range) (lo hi r : ℕ) → HasRange ranges lo hi r → In r (nexts ranges)
-range_next [] lo hi r h = h
-range_next (x ∷ xs) lo hi r (inl e) = inl (sym e.2)
-range_next (x ∷ xs) lo hi r (inr h) = inr (range_next xs lo hi r h)
-
--- What an edge leads to is a target.
-arc_target : (x : Node) (l : Label) (r : ℕ) → HasArcAt x l r → In r (targets_at Every x)
-arc_target (Split alternates) Free r h = in_left r alternates [] h
-arc_target (Split alternates) (Asks look) r h = absurd h
-arc_target (Split alternates) (Reads lo hi) r h = absurd h
-arc_target (Assert asked to) Free r h = absurd h
-arc_target (Assert asked to) (Asks look) r h = inl (sym h.1)
-arc_target (Assert asked to) (Reads lo hi) r h = absurd h
-arc_target (Read ranges) Free r h = absurd h
-arc_target (Read ranges) (Asks look) r h = absurd h
-arc_target (Read ranges) (Reads lo hi) r h = range_next ranges lo hi r h
-arc_target (Accept p) Free r h = absurd h
-arc_target (Accept p) (Asks look) r h = absurd h
-arc_target (Accept p) (Reads lo hi) r h = absurd h
-
--- The same of states whose edges are ranges.
-pub ranged_is : (states : List State) (q : ℕ) → node_or_fail (slice_get (ranged_nodes states) q) ≡ ranged (get_or states q is.Fail)
-ranged_is [] q = refl
-ranged_is (x ∷ xs) zero = refl
-ranged_is (x ∷ xs) (suc q) = ranged_is xs q
-
-pub ranged_length : (states : List State) → length (ranged_nodes states) ≡ length states
-ranged_length [] = refl
-ranged_length (x ∷ xs) = ap suc (ranged_length xs)
-
-target_same : (s : State) (r : ℕ) → In r (targets_at Every (ranged s)) → In r (targets_at Every (node_of s))
-target_same (is.ByteRange lo hi next) r i = i
-target_same (is.Sparse ts) r i = i
-target_same (is.Dense targets) r i = runs_next targets.value 0 0 r i
-target_same (is.Look look next) r i = i
-target_same (is.Union alternates) r i = i
-target_same (is.BinaryUnion alt1 alt2) r i = i
-target_same (is.Capture next pattern index slot) r i = i
-target_same is.Fail r i = i
-target_same (is.Match pattern) r i = i
-
-arc_is_target :
-    (states : List State) (s : ℕ) (l : Label) (r : ℕ) → HasArcAt (node_or_fail (slice_get (ranged_nodes states) s)) l r
-    → In r (targets_at Every (node_or_fail (slice_get (nodes_of states) s)))
-arc_is_target states s l r h =
-    subst (λ v. In r (targets_at Every v)) (sym (node_is states s))
-    (target_same (get_or states s is.Fail) r
-    (subst (λ v. In r (targets_at Every v)) (ranged_is states s) (arc_target (node_or_fail (slice_get (ranged_nodes states) s)) l r h)))
-
-pub accept_same : (s : State) → accepts_at (ranged s) ≡ accepts_at (node_of s)
-accept_same (is.ByteRange lo hi next) = refl
-accept_same (is.Sparse ts) = refl
-accept_same (is.Dense targets) = refl
-accept_same (is.Look look next) = refl
-accept_same (is.Union alternates) = refl
-accept_same (is.BinaryUnion alt1 alt2) = refl
-accept_same (is.Capture next pattern index slot) = refl
-accept_same is.Fail = refl
-accept_same (is.Match pattern) = refl
-
-in_map : (f : ℕ → ℕ) (xs : List ℕ) (y : ℕ) → In y xs → In (f y) (map f xs)
-in_map f [] y i = absurd i
-in_map f (x ∷ xs) y (inl e) = inl (ap f e)
-in_map f (x ∷ xs) y (inr i) = inr (in_map f xs y i)
-
-pub of_map : (f : ℕ → ℕ) (xs : List ℕ) (x : ℕ) → In x (map f xs) → (y : ℕ) × In y xs × (x ≡ f y)
-of_map f [] x i = absurd i
-of_map f (y ∷ ys) x (inl e) = (y, inl refl, e)
-of_map f (y ∷ ys) x (inr i) = let w = of_map f ys x i in (w.0, inr w.1, w.2)
-
-nth_place : (items : List ℕ) (q : ℕ) → In q items → slice_get items (place_in items q) ≡ Some q
-nth_place [] q i = absurd i
-nth_place (x ∷ xs) q i = go (eqb_tells x q) i (nth_place xs q)
-  where
-    go :
-        ((eqb x q ≡ true) × (x ≡ q)) ⊎ ((eqb x q ≡ false) × (x ≡ q → ⊥)) → In q (x ∷ xs)
-        → (In q xs → slice_get xs (place_in xs q) ≡ Some q) → slice_get (x ∷ xs) (place_in (x ∷ xs) q) ≡ Some q
-    go (inl e) i ih = ap (λ b. slice_get (x ∷ xs) (cond b 0 (suc (place_in xs q)))) e.0 ∙ ap Some e.1
-    go (inr e) (inl f) ih = absurd (e.1 (sym f))
-    go (inr e) (inr j) ih = ap (λ b. slice_get (x ∷ xs) (cond b 0 (suc (place_in xs q)))) e.0 ∙ ih j
-
--- The match states of a pattern.
-module _ (states : List State) (p : ℕ) where
-  one_is : (o : Option ℕ) → is_of o p ≡ true → o ≡ Some p
-  one_is None e = absurd (no e)
-    where
-      no : false ≡ true → ⊥
-      no e = cc
-  one_is (Some x) e = go (eqb_tells x p)
-    where
-      go : ((eqb x p ≡ true) × (x ≡ p)) ⊎ ((eqb x p ≡ false) × (x ≡ p → ⊥)) → Some x ≡ Some p
-      go (inl h) = ap Some h.1
-      go (inr h) = let k : false ≡ true = sym h.0 ∙ e in cc
-
-  is_one : (o : Option ℕ) → o ≡ Some p → is_of o p ≡ true
-  is_one None e = absurd (none_some e)
-  is_one (Some x) e = go (eqb_tells x p)
-    where
-      go : ((eqb x p ≡ true) × (x ≡ p)) ⊎ ((eqb x p ≡ false) × (x ≡ p → ⊥)) → eqb x p ≡ true
-      go (inl h) = h.0
-      go (inr h) = absurd (h.1 (some_inj e))
-
-  abbrev reported_by : ℕ → Bool
-  reported_by q = is_of (accepts_at (node_of (get_or states q is.Fail))) p
-
-  matches_are :
-      (ids : List ℕ) (q : ℕ) → In q (matches_in states p ids)
-      → In q ids × (accepts_at (node_of (get_or states q is.Fail)) ≡ Some p)
-  matches_are [] q i = absurd i
-  matches_are (x ∷ xs) q i = go (reported_by x) refl i (matches_are xs q)
-    where
-      go :
-          (b : Bool) → reported_by x ≡ b → In q (cond b (x ∷ matches_in states p xs) (matches_in states p xs))
-          → (In q (matches_in states p xs) → In q xs × (accepts_at (node_of (get_or states q is.Fail)) ≡ Some p))
-          → In q (x ∷ xs) × (accepts_at (node_of (get_or states q is.Fail)) ≡ Some p)
-      go true t (inl e) ih =
-          (inl e, ap (λ v. accepts_at (node_of (get_or states v is.Fail))) e ∙ one_is (accepts_at (node_of (get_or states x is.Fail))) t)
-      go true t (inr j) ih = let w = ih j in (inr w.0, w.1)
-      go false t j ih = let w = ih j in (inr w.0, w.1)
-
-  are_matches :
-      (ids : List ℕ) (q : ℕ) → In q ids → accepts_at (node_of (get_or states q is.Fail)) ≡ Some p → In q (matches_in states p ids)
-  are_matches [] q i a = i
-  are_matches (x ∷ xs) q (inl e) a =
-      subst (λ b. In q (cond b (x ∷ matches_in states p xs) (matches_in states p xs)))
-      (sym (is_one (accepts_at (node_of (get_or states x is.Fail))) (ap (λ v. accepts_at (node_of (get_or states v is.Fail))) (sym e) ∙ a)))
-      (inl e)
-  are_matches (x ∷ xs) q (inr i) a = go (reported_by x) (are_matches xs q i a)
-    where
-      go : (b : Bool) → In q (matches_in states p xs) → In q (cond b (x ∷ matches_in states p xs) (matches_in states p xs))
-      go true h = inr h
-      go false h = h
-
--- The turned states, by their numbers.
-abbrev pub list_at : List (List ℕ) → ℕ → List ℕ
-list_at [] k = []
-list_at (xs ∷ rest) zero = xs
-list_at (xs ∷ rest) (suc k) = list_at rest k
-
-at_list : (lists : List (List ℕ)) (k x : ℕ) → InAt lists k x → In x (list_at lists k)
-at_list [] k x i = i
-at_list (xs ∷ rest) zero x i = i
-at_list (xs ∷ rest) (suc k) x i = at_list rest k x i
-
-list_in : (lists : List (List ℕ)) (k x : ℕ) → In x (list_at lists k) → InAt lists k x
-list_in [] k x i = i
-list_in (xs ∷ rest) zero x i = i
-list_in (xs ∷ rest) (suc k) x i = list_in rest k x i
-
-head_at :
-    (n : ℕ) (hs : List State) (lists : List (List ℕ)) (heads more : List State) (k : ℕ) → AreHeads n hs lists heads
-    → k < length lists → IsHead n hs (list_at lists k) (get_or (heads ++ more) k is.Fail)
-head_at n hs [] heads more k a l = absurd (omega (arith, l))
-head_at n hs (xs ∷ rest) [] more k a l = absurd a
-head_at n hs (xs ∷ rest) (s ∷ ss) more zero a l = a.0
-head_at n hs (xs ∷ rest) (s ∷ ss) more (suc k) a l = head_at n hs rest ss more k a.1 (omega (arith, l))
-
-pub heads_length :
-    (n : ℕ) (hs : List State) (lists : List (List ℕ)) (heads : List State) → AreHeads n hs lists heads
-    → length heads ≡ length lists
-heads_length n hs [] [] a = refl
-heads_length n hs [] (s ∷ ss) a = absurd a
-heads_length n hs (xs ∷ rest) [] a = absurd a
-heads_length n hs (xs ∷ rest) (s ∷ ss) a = ap suc (heads_length n hs rest ss a.1)
-
-helper_at :
-    (heads hs : List State) (n j : ℕ) (h : State) → length heads ≡ n → slice_get hs j ≡ Some h
-    → get_or (heads ++ hs) (n + j) is.Fail ≡ h
-helper_at [] hs n j h l e = ap (λ k. get_or hs k is.Fail) (none n j l) ∙ at hs j e
-  where
-    none : (n j : ℕ) → 0 ≡ n → n + j ≡ j
-    none n j l = omega (arith, l)
-
-    at : (hs : List State) (j : ℕ) → slice_get hs j ≡ Some h → get_or hs j is.Fail ≡ h
-    at [] j e = absurd (no e)
-      where
-        no : ◌≡◌ {A = Option State} None (Some h) → ⊥
-        no e = cc
-    at (x ∷ xs) zero e = one e
-      where
-        one : ◌≡◌ {A = Option State} (Some x) (Some h) → x ≡ h
-        one e = cc
-    at (x ∷ xs) (suc j) e = at xs j e
-helper_at (s ∷ ss) hs zero j h l e = absurd (omega (arith, l))
-helper_at (s ∷ ss) hs (suc n) j h l e =
-    ap (λ k. get_or (s ∷ (ss ++ hs)) k is.Fail) (suc_add n j) ∙ helper_at ss hs n j h (omega (arith, l)) e
-  where
-    suc_add : (n j : ℕ) → suc n + j ≡ suc (n + j)
-    suc_add n j = omega arith
-
-same_helper : (hs : List State) (j : ℕ) (g h : State) → slice_get hs j ≡ Some g → slice_get hs j ≡ Some h → g ≡ h
-same_helper hs j g h e f = one (sym e ∙ f)
-  where
-    one : ◌≡◌ {A = Option State} (Some g) (Some h) → g ≡ h
-    one e = cc
+in_at_inside : (lists : List (List ℕ)) (k x : ℕ) → InAt lists k x → k < length lists
+in_at_inside [] k x i = absurd i
+in_at_inside (xs ∷ rest) zero x i = omega arith
+in_at_inside (xs ∷ rest) (suc k) x i = let l = in_at_inside rest k x i in omega (arith, l)
 
 -- An NFA, the states that are reached from its first, and what is turned of these.
 module _ (a : Automaton) (turned : List State) (reached : List ℕ) (m : Nfa)
     (checked : IsChecked a)
-    (reach : (q : ℕ) → In q reached ↔ IsReached Every a.states (a.start_anchored ∷ []) q)
+    (reach : (q : ℕ) → In q reached ↔ IsReached Every a.states (a.start_anchored ∷ []) q) (distinct : Distinct reached)
     (t : Turns) (heads : List State) (is_turned : turned ≡ heads ++ t.helpers)
     (are : AreHeads (length t.lists) t.helpers t.lists heads)
-    (graph : IsGraph (Of (λ s l k. ⊥) a.states reached) (λ k. k ≡ a.start_anchored) (length a.states) t) where
+    (graph : IsGraph (Of (λ s l k. ⊥) a.states reached) (λ k. k ≡ a.start_anchored) (length a.states) t)
+    (once : IsOnce (length a.states) t) where
   arc_is : (s : ℕ) (l : Label) (k : ℕ) → HasArc (ranged_nfa a) s l k → HasArcAt (ranged (get_or a.states s is.Fail)) l k
   arc_is s l k h = subst (λ v. HasArcAt v l k) (ranged_is a.states s) h
 
@@ -255,6 +71,37 @@ module _ (a : Automaton) (turned : List State) (reached : List ℕ) (m : Nfa)
   size_is : length (ranged_nodes a.states) ≡ length a.states
   size_is = ranged_length a.states
 
+  whole : length t.lists ≡ length a.states
+  whole = graph.whole
+
+  -- A state is reached if edges lead to it from the first one, and the other way round.
+  led_reached : (q : ℕ) (way : List ℕ) (z : ℕ) → In q reached → IsLed (ranged_nfa a) q way z → In z reached
+  led_reached q [] z i w = subst (λ v. In v reached) w i
+  led_reached q (r ∷ way) z i w = led_reached r way z (goes_on q r w.0.0 i w.0.1) w.1
+
+  is_reached : (q : ℕ) → LeadsTo (ranged_nfa a) a.start_anchored q → In q reached
+  is_reached q w =
+      led_reached a.start_anchored w.0 q
+      (reached_roots Every a.states (a.start_anchored ∷ []) reached reach a.start_anchored (inl refl)) w.1
+
+  route_leads :
+      (q : ℕ) (way : List ℕ) (z : ℕ) → LeadsTo (ranged_nfa a) a.start_anchored q → Route (targets_of Every a.states) q way z
+      → LeadsTo (ranged_nfa a) a.start_anchored z
+  route_leads q [] z k w = subst (λ v. LeadsTo (ranged_nfa a) a.start_anchored v) w k
+  route_leads q (r ∷ way) z k w =
+      let h = target_has_arc a.states q r w.0 in
+      route_leads r way z (leads_on (ranged_nfa a) a.start_anchored q r h.0 k h.1) w.1
+
+  leads : (q : ℕ) → In q reached → LeadsTo (ranged_nfa a) a.start_anchored q
+  leads q i =
+      let h = (reach q).0 i in
+      route_leads h.0 h.1 q
+      (subst (λ v. LeadsTo (ranged_nfa a) a.start_anchored v) (sym (root h.0 h.2)) (leads_here (ranged_nfa a) a.start_anchored)) h.3
+    where
+      root : (r : ℕ) → In r (a.start_anchored ∷ []) → r ≡ a.start_anchored
+      root r (inl e) = e
+      root r (inr b) = absurd b
+
   -- The part of one pattern.
   module _ (p entry base : ℕ) (items : List ℕ)
       (made : IsCopied m.nodes turned (matches_in a.states p reached) p entry base items) where
@@ -273,6 +120,12 @@ module _ (a : Automaton) (turned : List State) (reached : List ℕ) (m : Nfa)
         ∙ (ap (λ z. get_or (heads ++ t.helpers) z is.Fail) k.1
         ∙ helper_at heads t.helpers (length t.lists) k.0 h (heads_length (length t.lists) t.helpers t.lists heads are) k.2)
 
+    copy_same : (q r : ℕ) → In q items → In r items → copy_of base items q ≡ copy_of base items r → q ≡ r
+    copy_same q r i j e = place_same items q r i j (cancel (place_in items q) (place_in items r) e)
+      where
+        cancel : (x y : ℕ) → base + x ≡ base + y → x ≡ y
+        cancel x y e = omega (arith, e)
+
     -- What stands for an edge is copied as the turned edge, and its source is kept.
     edge_is :
         (y s : ℕ) (l : Label) → In y items → Stand t y l s
@@ -285,25 +138,274 @@ module _ (a : Automaton) (turned : List State) (reached : List ℕ) (m : Nfa)
         let e = helper_is y (is.ByteRange lo hi s) h in
         (closed y s (is.ByteRange lo hi s) i e (inl refl), copy_is y (is.ByteRange lo hi s) i e)
 
+    abbrev Kept : ℕ → Type 0
+    Kept q = IsKept (ranged_nfa a) a.start_anchored p q
+
+    inside : (s : ℕ) (l : Label) (k : ℕ) → HasArc (ranged_nfa a) s l k → s < length a.states
+    inside s l k h = let w = arc_inside (ranged_nfa a) s l k h in omega (arith, w, size_is)
+
+    kept_inside : (q : ℕ) → Kept q → q < length a.states
+    kept_inside q k = go k.1.1.0 k.1.1.1
+      where
+        go : (way : List ℕ) → IsLed (ranged_nfa a) q way k.1.0 → q < length a.states
+        go [] w =
+            let i = accept_inside (ranged_nfa a) q p (ap (accepts (ranged_nfa a)) w ∙ k.1.2) in
+            omega (arith, i, size_is)
+        go (r ∷ way) w = inside q w.0.0 r w.0.1
+
+    -- The source of a turned edge to a kept state is kept.
+    source_kept : (s : ℕ) (l : Label) (k : ℕ) → Of (λ s l k. ⊥) a.states reached s l k → Kept k → Kept s
+    source_kept s l k (inl b) kk = absurd b
+    source_kept s l k (inr b) kk =
+        kept_back (ranged_nfa a) a.start_anchored p s k l (leads s b.0) (is_arc s l k b.1) kk
+
+    source_inside : (s : ℕ) (l : Label) (k : ℕ) → Of (λ s l k. ⊥) a.states reached s l k → s < length a.states
+    source_inside s l k (inl b) = absurd b
+    source_inside s l k (inr b) = inside s l k (is_arc s l k b.1)
+
+    -- What a helper among the alternates of a state is.
+    helper_same :
+        (x j : ℕ) (g h : State) → x ≡ length t.lists + j → slice_get t.helpers j ≡ Some g → IsHelper t x h → g ≡ h
+    helper_same x j g h e i w =
+        same_helper t.helpers j g h i (ap (λ z. slice_get t.helpers z) (let f = w.1 in omega (arith, e, f)) ∙ w.2)
+
+    abbrev Turned : ℕ → ℕ → Type 0
+    Turned k x =
+        ((s : ℕ) × (l : Label) × Of (λ s l k. ⊥) a.states reached s l k × Stand t x l s)
+        ⊎ ((k ≡ a.start_anchored) × IsHelper t x (is.Match 0))
+
+    helper_plain :
+        (k x j : ℕ) (g : State) → Turned k x → x ≡ length t.lists + j → slice_get t.helpers j ≡ Some g → IsHelperState g
+    helper_plain k x j g (inl (s, Free, b, h)) e i =
+        let l = source_inside s Free k b in absurd (omega (arith, l, h, e, whole))
+    helper_plain k x j g (inl (s, Asks look, b, h)) e i =
+        subst IsHelperState (sym (helper_same x j g (is.Look (flip look) s) e i h)) tt
+    helper_plain k x j g (inl (s, Reads lo hi, b, h)) e i =
+        subst IsHelperState (sym (helper_same x j g (is.ByteRange lo hi s) e i h)) tt
+    helper_plain k x j g (inr h) e i = subst IsHelperState (sym (helper_same x j g (is.Match 0) e i h.1)) refl
+
+    -- A helper of a kept state leads to a kept state.
+    helper_goes :
+        (k x j : ℕ) (g : State) → Kept k → Turned k x → x ≡ length t.lists + j → slice_get t.helpers j ≡ Some g
+        → (r : ℕ) → In r (targets_at Every (node_of g)) → Kept r
+    helper_goes k x j g kk (inl (s, Free, b, h)) e i r m =
+        let l = source_inside s Free k b in absurd (omega (arith, l, h, e, whole))
+    helper_goes k x j g kk (inl (s, Asks look, b, h)) e i r m =
+        one (subst (λ v. In r (targets_at Every (node_of v))) (helper_same x j g (is.Look (flip look) s) e i h) m)
+      where
+        one : In r (s ∷ []) → Kept r
+        one (inl f) = subst Kept (sym f) (source_kept s (Asks look) k b kk)
+        one (inr z) = absurd z
+    helper_goes k x j g kk (inl (s, Reads lo hi, b, h)) e i r m =
+        one (subst (λ v. In r (targets_at Every (node_of v))) (helper_same x j g (is.ByteRange lo hi s) e i h) m)
+      where
+        one : In r (s ∷ []) → Kept r
+        one (inl f) = subst Kept (sym f) (source_kept s (Reads lo hi) k b kk)
+        one (inr z) = absurd z
+    helper_goes k x j g kk (inr h) e i r m =
+        absurd (subst (λ v. In r (targets_at Every (node_of v))) (helper_same x j g (is.Match 0) e i h.1) m)
+
+    -- What a kept state's turned state is made of.
+    head_of : (k : ℕ) → k < length a.states → IsHead (length t.lists) t.helpers (list_at t.lists k) (get_or turned k is.Fail)
+    head_of k l =
+        subst (IsHead (length t.lists) t.helpers (list_at t.lists k)) (sym (ap (λ z. get_or z k is.Fail) is_turned))
+        (head_at (length t.lists) t.helpers t.lists heads t.helpers k are (omega (arith, l, whole)))
+
+    sole : (k j : ℕ) → list_at t.lists k ≡ (length t.lists + j) ∷ [] → InAt t.lists k (length t.lists + j)
+    sole k j same = list_in t.lists k (length t.lists + j) (subst (λ z. In (length t.lists + j) z) (sym same) (inl refl))
+
+    -- A member is a kept state, or a helper that is an alternate of one.
+    abbrev Helps : ℕ → Type 0
+    Helps x =
+        (k : ℕ) × Kept k × In k items × InAt t.lists k x
+        × ((v : Vec ℕ Global) × (get_or turned k is.Fail ≡ is.Union v) × In x v.items)
+        × ((h : State) × IsHelper t x h)
+
+    abbrev Good : ℕ → Type 0
+    Good x = Kept x ⊎ Helps x
+
+    good_step : (x r : ℕ) → In x items → Good x → In r (targets_at Every (node_of (get_or turned x is.Fail))) → Good r
+    good_step x r i (inl kx) m = go (head_of x (kept_inside x kx))
+      where
+        plain : (xs : List ℕ) → In r (xs ++ []) → In r xs
+        plain xs j = from (in_either r xs [] j)
+          where
+            from : In r xs ⊎ In r [] → In r xs
+            from (inl j) = j
+            from (inr b) = absurd b
+
+        by : (v : Vec ℕ Global) → get_or turned x is.Fail ≡ is.Union v → In r v.items → InAt t.lists x r → Turned x r → Good r
+        by v e j w (inl (s, Free, b, h)) = inl (subst Kept (sym h) (source_kept s Free x b kx))
+        by v e j w (inl (s, Asks look, b, h)) = inr (x, kx, i, w, (v, e, j), (is.Look (flip look) s, h))
+        by v e j w (inl (s, Reads lo hi, b, h)) = inr (x, kx, i, w, (v, e, j), (is.ByteRange lo hi s, h))
+        by v e j w (inr h) = inr (x, kx, i, w, (v, e, j), (is.Match 0, h.1))
+
+        go : IsHead (length t.lists) t.helpers (list_at t.lists x) (get_or turned x is.Fail) → Good r
+        go (inl (v, e, f)) =
+            let j = plain v.items (subst (λ z. In r (targets_at Every (node_of z))) e m) in
+            let w = list_in t.lists x r (subst (λ z. In r z) f j) in
+            by v e j w (graph.sound x r w)
+        go (inr (j, e, f)) =
+            inl (helper_goes x (length t.lists + j) j (get_or turned x is.Fail) kx (graph.sound x (length t.lists + j) (sole x j e)) refl f r m)
+    good_step x r i (inr (k, kk, ik, w, v, (h, is_h))) m =
+        inl (helper_goes k x is_h.0 h kk (graph.sound k x w) is_h.1 is_h.2 r
+        (subst (λ z. In r (targets_at Every (node_of z))) (helper_is x h is_h) m))
+
+    all_good : (q : ℕ) (way : List ℕ) (z : ℕ) → In q items → Good q → Route (targets_of Every turned) q way z → Good z
+    all_good q [] z i g w = subst Good w g
+    all_good q (r ∷ way) z i g w =
+        let m = subst (λ v. In r (targets_at Every v)) (node_is turned q) w.0 in
+        all_good r way z (closed q r (get_or turned q is.Fail) i refl m) (good_step q r i g m) w.1
+
+    good : (x : ℕ) → In x items → Good x
+    good x i =
+        let h = (made.reached x).0 i in
+        let r = matches_are a.states p reached h.0 h.2 in
+        all_good h.0 h.1 x (reached_roots Every turned (matches_in a.states p reached) items made.reached h.0 h.2)
+        (inl (kept_match (ranged_nfa a) a.start_anchored p h.0 (leads h.0 r.0) (is_accept h.0 p r.1))) h.3
+
+    -- The source of an edge to a member is a member.
+    source_in : (s : ℕ) (l : Label) (k : ℕ) → In s reached → HasArc (ranged_nfa a) s l k → In k items → In s items
+    source_in s l k i h ik = go (head_of k (omega (arith, in_at_inside t.lists k x.0 x.1, whole)))
+      where
+        x : (x : ℕ) × InAt t.lists k x × Stand t x l s
+        x = graph.arcs s k l (inr (i, arc_is s l k h))
+
+        only : (j y : ℕ) → list_at t.lists k ≡ (length t.lists + j) ∷ [] → InAt t.lists k y → y ≡ length t.lists + j
+        only j y same m = first (subst (λ z. In y z) same (at_list t.lists k y m))
+          where
+            first : In y ((length t.lists + j) ∷ []) → y ≡ length t.lists + j
+            first (inl e) = e
+            first (inr b) = absurd b
+
+        by : (l : Label) (j : ℕ) → s < length a.states → x.0 ≡ length t.lists + j → slice_get t.helpers j ≡ Some (get_or turned k is.Fail)
+            → Stand t x.0 l s → In s items
+        by Free j small e f w = absurd (omega (arith, small, e, w, whole))
+        by (Asks look) j small e f w =
+            closed k s (is.Look (flip look) s) ik (helper_same x.0 j (get_or turned k is.Fail) (is.Look (flip look) s) e f w) (inl refl)
+        by (Reads lo hi) j small e f w =
+            closed k s (is.ByteRange lo hi s) ik (helper_same x.0 j (get_or turned k is.Fail) (is.ByteRange lo hi s) e f w) (inl refl)
+
+        go : IsHead (length t.lists) t.helpers (list_at t.lists k) (get_or turned k is.Fail) → In s items
+        go (inl (v, e, f)) =
+            let m = subst (λ z. In x.0 z) (sym f) (at_list t.lists k x.0 x.1) in
+            (edge_is x.0 s l (closed k x.0 (is.Union v) ik e (in_left x.0 v.items [] m)) x.2).0
+        go (inr (j, e, f)) = by l j (inside s l k h) (only j x.0 e x.1) f x.2
+
+    kept_in : (q : ℕ) → Kept q → In q items
+    kept_in q k = go q k.1.1.0 k.1.0 k.0 k.1.1.1 k.1.2
+      where
+        go : (q : ℕ) (way : List ℕ) (z : ℕ) → LeadsTo (ranged_nfa a) a.start_anchored q → IsLed (ranged_nfa a) q way z
+            → accepts (ranged_nfa a) z ≡ Some p → In q items
+        go q [] z l w e =
+            reached_roots Every turned (matches_in a.states p reached) items made.reached q
+            (are_matches a.states p reached q (is_reached q l) (accept_is q p (ap (accepts (ranged_nfa a)) w ∙ e)))
+        go q (r ∷ way) z l w e =
+            source_in q w.0.0 r (is_reached q l) w.0.1
+            (go r way z (leads_on (ranged_nfa a) a.start_anchored q r w.0.0 l w.0.1) w.1 e)
+
     abbrev At : ℕ → List ℕ → Type 0
-    At k xs = IsReversedAt (ranged_nfa a) m a.start_anchored reached p (copy_of base items) items k xs
+    At k xs = IsReversedAt (ranged_nfa a) m a.start_anchored p (copy_of base items) k xs
 
     abbrev Edge : ℕ → ℕ → Type 0
     Edge k x =
-        ((s : ℕ) × (l : Label) × IsKept (ranged_nfa a) items s × HasArc (ranged_nfa a) s l k
-        × IsReversedArc m x l (copy_of base items s))
+        ((s : ℕ) × (l : Label) × Kept s × HasArc (ranged_nfa a) s l k × IsReversedArc m x l (copy_of base items s))
         ⊎ ((k ≡ a.start_anchored) × (node m x ≡ Accept p))
 
+    -- A member among the alternates of a state is turned to a union, or is a helper, or the copy of one as its only
+    -- alternate.
+    abbrev Sole : ℕ → ℕ → Type 0
+    Sole y j = (y ≡ length t.lists + j) ⊎ ((y < length a.states) × (list_at t.lists y ≡ (length t.lists + j) ∷ []))
+
+    abbrev Form : ℕ → Type 0
+    Form y =
+        ((v : Vec ℕ Global) × (get_or turned y is.Fail ≡ is.Union v))
+        ⊎ ((j : ℕ) × (h : State) × (slice_get t.helpers j ≡ Some h) × (get_or turned y is.Fail ≡ h) × IsHelperState h × Sole y j)
+
+    form : (k y : ℕ) → InAt t.lists k y → Form y
+    form k y w = go (graph.sound k y w)
+      where
+        by : y < length a.states → IsHead (length t.lists) t.helpers (list_at t.lists y) (get_or turned y is.Fail) → Form y
+        by l (inl (v, e, f)) = inl (v, e)
+        by l (inr (j, e, f)) =
+            inr (
+              j,
+              get_or turned y is.Fail,
+              f,
+              refl,
+              helper_plain y (length t.lists + j) j (get_or turned y is.Fail) (graph.sound y (length t.lists + j) (sole y j e)) refl f,
+              inr (l, e),
+            )
+
+        helper : (h : State) → IsHelper t y h → Form y
+        helper h i =
+            inr (i.0, h, i.2, helper_is y h i, helper_plain k y i.0 h (graph.sound k y w) i.1 i.2, inl i.1)
+
+        go : Turned k y → Form y
+        go (inl (s, Free, b, h)) =
+            let l : y < length a.states = subst (λ v. v < length a.states) (sym h) (source_inside s Free k b) in
+            by l (head_of y l)
+        go (inl (s, Asks look, b, h)) = helper (is.Look (flip look) s) h
+        go (inl (s, Reads lo hi, b, h)) = helper (is.ByteRange lo hi s) h
+        go (inr h) = helper (is.Match 0) h.1
+
+    -- A helper has one place among the alternates of a state.
+    helper_place :
+        (k x y j : ℕ) → InAt t.lists k x → InAt t.lists k y → x ≡ length t.lists + j → y < length a.states
+        → list_at t.lists y ≡ (length t.lists + j) ∷ [] → ⊥
+    helper_place k x y j ix iy e small f =
+        one (subst (λ z. In y z) f (at_list t.lists y y (subst (λ v. InAt t.lists v y) same iy)))
+      where
+        same : k ≡ y
+        same = once.owned k y (length t.lists + j) (omega (arith, whole)) (subst (λ v. InAt t.lists k v) e ix) (sole y j f)
+
+        one : In y ((length t.lists + j) ∷ []) → ⊥
+        one (inl g) = omega (arith, g, small, whole)
+        one (inr b) = b
+
+    one_place : (k x y j : ℕ) → InAt t.lists k x → InAt t.lists k y → Sole x j → Sole y j → x ≡ y
+    one_place k x y j ix iy (inl e) (inl f) = e ∙ sym f
+    one_place k x y j ix iy (inl e) (inr f) = absurd (helper_place k x y j ix iy e f.0 f.1)
+    one_place k x y j ix iy (inr e) (inl f) = absurd (helper_place k y x j iy ix f e.0 e.1)
+    one_place k x y j ix iy (inr e) (inr f) =
+        once.owned x y (length t.lists + j) (omega (arith, whole)) (sole x j e.1) (sole y j f.1)
+
+    -- Alternates that do the same are one.
+    one_alternate :
+        (k x y : ℕ) → InAt t.lists k x → InAt t.lists k y → In x items → In y items
+        → node m (copy_of base items x) ≡ node m (copy_of base items y) → IsUnion (node m (copy_of base items x)) ⊎ (x ≡ y)
+    one_alternate k x y ix iy mx my same = go (form k x ix) (form k y iy)
+      where
+        union : (z : ℕ) → In z items → (v : Vec ℕ Global) → get_or turned z is.Fail ≡ is.Union v → IsUnion (node m (copy_of base items z))
+        union z i v e = subst IsUnion (sym (copy_is z (is.Union v) i e)) tt
+
+        go : Form x → Form y → IsUnion (node m (copy_of base items x)) ⊎ (x ≡ y)
+        go (inl (v, e)) f = inl (union x mx v e)
+        go (inr e) (inl (v, f)) = inl (subst IsUnion (sym same) (union y my v f))
+        go (inr (i, g, gi, gx, gp, gs)) (inr (j, h, hj, hy, hp, hs)) =
+            let alike =
+            copied_same (copy_of base items) p items g h gp hp copy_same (λ r n. closed x r g mx gx n) (λ r n. closed y r h my hy n)
+            (sym (copy_is x g mx gx) ∙ (same ∙ copy_is y h my hy)) in
+            let k' : i ≡ j = once.helpers i j h (gi ∙ ap Some alike) hj in
+            inr (one_place k x y j ix iy (subst (λ v. Sole x v) k' gs) hs)
+
     -- A state whose alternates are a union.
-    union_at : (k : ℕ) → In k items → (v : Vec ℕ Global) → get_or turned k is.Fail ≡ is.Union v → v.items ≡ list_at t.lists k
+    union_at : (k : ℕ) → Kept k → (v : Vec ℕ Global) → get_or turned k is.Fail ≡ is.Union v → v.items ≡ list_at t.lists k
         → At k (map (copy_of base items) v.items)
-    union_at k kept v union same = record {
+    union_at k kk v union same = record {
       stands = inl (copy_is k (is.Union v) kept union);
       sound = λ x i. sound x (of_map (copy_of base items) v.items x i);
-      arcs = λ s l i h. arcs s l (graph.arcs s k l (inr (i, arc_is s l k h)));
+      arcs = λ s l ks h. arcs s l (graph.arcs s k l (inr (is_reached s ks.0, arc_is s l k h)));
       reported = λ e. reported (graph.reported k e);
+      distinct =
+          map_distinct (copy_of base items) v.items (λ x y i j. copy_same x y (member x i) (member y j))
+          (subst (λ z. Distinct z) (sym same) (once.lists k));
+      once = λ x y i j e. alike x y (of_map (copy_of base items) v.items x i) (of_map (copy_of base items) v.items y j) e;
     }
       where
+        kept : In k items
+        kept = kept_in k kk
+
         back : (y : ℕ) → InAt t.lists k y → In y v.items
         back y i = subst (λ z. In y z) (sym same) (at_list t.lists k y i)
 
@@ -313,15 +415,16 @@ module _ (a : Automaton) (turned : List State) (reached : List ℕ) (m : Nfa)
         member : (y : ℕ) → In y v.items → In y items
         member y i = closed k y (is.Union v) kept union (in_left y v.items [] i)
 
-        go :
-            (x y : ℕ) → In y v.items → x ≡ copy_of base items y
-            → ((s : ℕ) × (l : Label) × Of (λ s l k. ⊥) a.states reached s l k × Stand t y l s)
-            ⊎ ((k ≡ a.start_anchored) × IsHelper t y (is.Match 0)) → Edge k x
+        go : (x y : ℕ) → In y v.items → x ≡ copy_of base items y → Turned k y → Edge k x
         go x y i e (inl (s, l, inl b, h)) = absurd b
         go x y i e (inl (s, l, inr b, h)) =
-            let w = edge_is y s l (member y i) h in
-            let arc = is_arc s l k b.1 in
-            inl (s, l, (w.0, arc_inside (ranged_nfa a) s l k arc), arc, subst (λ v. IsReversedArc m v l (copy_of base items s)) (sym e) w.1)
+            inl (
+              s,
+              l,
+              source_kept s l k (inr b) kk,
+              is_arc s l k b.1,
+              subst (λ v. IsReversedArc m v l (copy_of base items s)) (sym e) (edge_is y s l (member y i) h).1,
+            )
         go x y i e (inr h) =
             inr (h.0, ap (λ v. node m v) e ∙ copy_is y (is.Match 0) (member y i) (helper_is y (is.Match 0) h.1))
 
@@ -330,11 +433,10 @@ module _ (a : Automaton) (turned : List State) (reached : List ℕ) (m : Nfa)
 
         arcs :
             (s : ℕ) (l : Label) → (x : ℕ) × InAt t.lists k x × Stand t x l s
-            → In s items × ((x : ℕ) × In x (map (copy_of base items) v.items) × IsReversedArc m x l (copy_of base items s))
+            → (x : ℕ) × In x (map (copy_of base items) v.items) × IsReversedArc m x l (copy_of base items s)
         arcs s l w =
             let i = back w.0 w.1 in
-            let e = edge_is w.0 s l (member w.0 i) w.2 in
-            (e.0, (copy_of base items w.0, in_map (copy_of base items) v.items w.0 i, e.1))
+            (copy_of base items w.0, in_map (copy_of base items) v.items w.0 i, (edge_is w.0 s l (member w.0 i) w.2).1)
 
         reported :
             (x : ℕ) × InAt t.lists k x × IsHelper t x (is.Match 0)
@@ -346,19 +448,36 @@ module _ (a : Automaton) (turned : List State) (reached : List ℕ) (m : Nfa)
               copy_is w.0 (is.Match 0) (member w.0 i) (helper_is w.0 (is.Match 0) w.2),
             )
 
+        alike :
+            (x y : ℕ) → (z : ℕ) × In z v.items × (x ≡ copy_of base items z) → (z : ℕ) × In z v.items × (y ≡ copy_of base items z)
+            → node m x ≡ node m y → IsUnion (node m x) ⊎ (x ≡ y)
+        alike x y w u e =
+            from
+            (one_alternate k w.0 u.0 (forth w.0 w.1) (forth u.0 u.1) (member w.0 w.1) (member u.0 u.1)
+            (ap (λ v. node m v) (sym w.2) ∙ (e ∙ ap (λ v. node m v) u.2)))
+          where
+            from : IsUnion (node m (copy_of base items w.0)) ⊎ (w.0 ≡ u.0) → IsUnion (node m x) ⊎ (x ≡ y)
+            from (inl h) = inl (subst (λ v. IsUnion (node m v)) (sym w.2) h)
+            from (inr h) = inr (w.2 ∙ (ap (copy_of base items) h ∙ sym u.2))
+
     -- A state whose only alternate is a helper: it is a copy of the helper.
     alone_at :
-        (k : ℕ) → In k items → (j : ℕ) → list_at t.lists k ≡ (length t.lists + j) ∷ []
+        (k : ℕ) → Kept k → (j : ℕ) → list_at t.lists k ≡ (length t.lists + j) ∷ []
         → slice_get t.helpers j ≡ Some (get_or turned k is.Fail) → At k (copy_of base items k ∷ [])
-    alone_at k kept j same here = record {
+    alone_at k kk j same here = record {
       stands = inr (refl, stands (graph.sound k (length t.lists + j) there));
       sound = λ x i. sound x (one x i) (graph.sound k (length t.lists + j) there);
-      arcs = λ s l i h. arcs s l h (graph.arcs s k l (inr (i, arc_is s l k h)));
+      arcs = λ s l ks h. arcs s l h (graph.arcs s k l (inr (is_reached s ks.0, arc_is s l k h)));
       reported = λ e. reported (graph.reported k e);
+      distinct = ((λ b. b), tt);
+      once = λ x y i j e. inr (one x i ∙ sym (one y j));
     }
       where
+        kept : In k items
+        kept = kept_in k kk
+
         there : InAt t.lists k (length t.lists + j)
-        there = list_in t.lists k (length t.lists + j) (subst (λ z. In (length t.lists + j) z) (sym same) (inl refl))
+        there = sole k j same
 
         only : (y : ℕ) → InAt t.lists k y → y ≡ length t.lists + j
         only y i = first (subst (λ z. In y z) same (at_list t.lists k y i))
@@ -372,52 +491,44 @@ module _ (a : Automaton) (turned : List State) (reached : List ℕ) (m : Nfa)
         one x (inr b) = absurd b
 
         is_helper : (h : State) → IsHelper t (length t.lists + j) h → get_or turned k is.Fail ≡ h
-        is_helper h w =
-            same_helper t.helpers j (get_or turned k is.Fail) h here
-            (ap (λ z. slice_get t.helpers z) (let e = w.1 in omega (arith, e)) ∙ w.2)
+        is_helper h w = helper_same (length t.lists + j) j (get_or turned k is.Fail) h refl here w
 
         edge :
             (s : ℕ) (l : Label) → s < length a.states → Stand t (length t.lists + j) l s
-            → IsAsking l × In s items × IsReversedArc m (copy_of base items k) l (copy_of base items s)
-        edge s Free inside h = absurd (let w = graph.whole in omega (arith, inside, h, w))
-        edge s (Asks look) inside h =
-            let e = is_helper (is.Look (flip look) s) h in
-            (tt, closed k s (is.Look (flip look) s) kept e (inl refl), copy_is k (is.Look (flip look) s) kept e)
-        edge s (Reads lo hi) inside h =
-            let e = is_helper (is.ByteRange lo hi s) h in
-            (tt, closed k s (is.ByteRange lo hi s) kept e (inl refl), copy_is k (is.ByteRange lo hi s) kept e)
-
-        inside : (s : ℕ) (l : Label) → HasArc (ranged_nfa a) s l k → s < length a.states
-        inside s l h = let w = arc_inside (ranged_nfa a) s l k h in omega (arith, w, size_is)
+            → IsAsking l × IsReversedArc m (copy_of base items k) l (copy_of base items s)
+        edge s Free small h = absurd (omega (arith, small, h, whole))
+        edge s (Asks look) small h =
+            (tt, copy_is k (is.Look (flip look) s) kept (is_helper (is.Look (flip look) s) h))
+        edge s (Reads lo hi) small h =
+            (tt, copy_is k (is.ByteRange lo hi s) kept (is_helper (is.ByteRange lo hi s) h))
 
         stands :
-            ((s : ℕ) × (l : Label) × Of (λ s l k. ⊥) a.states reached s l k × Stand t (length t.lists + j) l s)
-            ⊎ ((k ≡ a.start_anchored) × IsHelper t (length t.lists + j) (is.Match 0))
-            → IsEdgeTo (ranged_nfa a) m a.start_anchored p (copy_of base items) items k (copy_of base items k)
+            Turned k (length t.lists + j)
+            → IsEdgeTo (ranged_nfa a) m a.start_anchored p (copy_of base items) k (copy_of base items k)
         stands (inl (s, l, inl b, h)) = absurd b
         stands (inl (s, l, inr b, h)) =
-            let arc = is_arc s l k b.1 in
-            let w = edge s l (inside s l arc) h in
-            inl (s, l, (w.1, arc_inside (ranged_nfa a) s l k arc), arc, w.0, w.2)
+            let w = edge s l (source_inside s l k (inr b)) h in
+            inl (s, l, source_kept s l k (inr b) kk, is_arc s l k b.1, w.0, w.1)
         stands (inr h) = inr (h.0, copy_is k (is.Match 0) kept (is_helper (is.Match 0) h.1))
 
-        sound :
-            (x : ℕ) → x ≡ copy_of base items k
-            → ((s : ℕ) × (l : Label) × Of (λ s l k. ⊥) a.states reached s l k × Stand t (length t.lists + j) l s)
-            ⊎ ((k ≡ a.start_anchored) × IsHelper t (length t.lists + j) (is.Match 0)) → Edge k x
+        sound : (x : ℕ) → x ≡ copy_of base items k → Turned k (length t.lists + j) → Edge k x
         sound x e (inl (s, l, inl b, h)) = absurd b
         sound x e (inl (s, l, inr b, h)) =
-            let arc = is_arc s l k b.1 in
-            let w = edge s l (inside s l arc) h in
-            inl (s, l, (w.1, arc_inside (ranged_nfa a) s l k arc), arc, subst (λ v. IsReversedArc m v l (copy_of base items s)) (sym e) w.2)
+            inl (
+              s,
+              l,
+              source_kept s l k (inr b) kk,
+              is_arc s l k b.1,
+              subst (λ v. IsReversedArc m v l (copy_of base items s)) (sym e) (edge s l (source_inside s l k (inr b)) h).1,
+            )
         sound x e (inr h) = inr (h.0, ap (λ v. node m v) e ∙ copy_is k (is.Match 0) kept (is_helper (is.Match 0) h.1))
 
         arcs :
             (s : ℕ) (l : Label) → HasArc (ranged_nfa a) s l k → (x : ℕ) × InAt t.lists k x × Stand t x l s
-            → In s items × ((x : ℕ) × In x (copy_of base items k ∷ []) × IsReversedArc m x l (copy_of base items s))
+            → (x : ℕ) × In x (copy_of base items k ∷ []) × IsReversedArc m x l (copy_of base items s)
         arcs s l h w =
-            let e = edge s l (inside s l h) (subst (λ v. Stand t v l s) (only w.0 w.1) w.2) in
-            (e.1, (copy_of base items k, inl refl, e.2))
+            let e = edge s l (inside s l k h) (subst (λ v. Stand t v l s) (only w.0 w.1) w.2) in
+            (copy_of base items k, inl refl, e.1)
 
         reported :
             (x : ℕ) × InAt t.lists k x × IsHelper t x (is.Match 0)
@@ -428,69 +539,113 @@ module _ (a : Automaton) (turned : List State) (reached : List ℕ) (m : Nfa)
           copy_is k (is.Match 0) kept (is_helper (is.Match 0) (subst (λ v. IsHelper t v (is.Match 0)) (only w.0 w.1) w.2)),
         )
 
-    turned_at : (k : ℕ) → IsKept (ranged_nfa a) items k → (xs : List ℕ) × At k xs
-    turned_at k kept = go (head_at (length t.lists) t.helpers t.lists heads t.helpers k are within)
+    turned_at : (k : ℕ) → Kept k → (xs : List ℕ) × At k xs
+    turned_at k kk = go (head_of k (kept_inside k kk))
       where
-        within : k < length t.lists
-        within =
-            let w = graph.whole in
-            omega (arith, kept.1, size_is, w)
+        go : IsHead (length t.lists) t.helpers (list_at t.lists k) (get_or turned k is.Fail) → (xs : List ℕ) × At k xs
+        go (inl (v, e, f)) = (map (copy_of base items) v.items, union_at k kk v e f)
+        go (inr (j, e, f)) = (copy_of base items k ∷ [], alone_at k kk j e f)
 
-        here : get_or turned k is.Fail ≡ get_or (heads ++ t.helpers) k is.Fail
-        here = ap (λ z. get_or z k is.Fail) is_turned
+    root_in : (q : ℕ) → In q (matches_in a.states p reached) → In q items
+    root_in = reached_roots Every turned (matches_in a.states p reached) items made.reached
 
-        go :
-            IsHead (length t.lists) t.helpers (list_at t.lists k) (get_or (heads ++ t.helpers) k is.Fail)
-            → (xs : List ℕ) × At k xs
-        go (inl (v, e, f)) = (map (copy_of base items) v.items, union_at k kept.0 v (here ∙ e) f)
-        go (inr (j, e, f)) = (copy_of base items k ∷ [], alone_at k kept.0 j e (f ∙ ap Some (sym here)))
-
-    part_is : IsPart (ranged_nfa a) m a.start_anchored reached p entry (copy_of base items) items
-    part_is = record {
-      enters = (
-        map (copy_of base items) (matches_in a.states p reached),
-        ap node_or_fail made.enters,
-        (λ x i. enter x (of_map (copy_of base items) (matches_in a.states p reached) x i)),
-        λ q i h.
-            let k = are_matches a.states p reached q i (accept_is q p h) in (
-              reached_roots Every turned (matches_in a.states p reached) items made.reached q k,
-              in_map (copy_of base items) (matches_in a.states p reached) q k,
-            ),
-      );
-      turned = turned_at;
+    entry_is :
+        IsEntry (ranged_nfa a) m a.start_anchored p entry (copy_of base items)
+        (map (copy_of base items) (matches_in a.states p reached))
+    entry_is = record {
+      union = ap node_or_fail made.enters;
+      sound = λ x i. enter x (of_map (copy_of base items) (matches_in a.states p reached) x i);
+      matches = λ q w h.
+          in_map (copy_of base items) (matches_in a.states p reached) q
+          (are_matches a.states p reached q (is_reached q w) (accept_is q p h));
+      distinct =
+          map_distinct (copy_of base items) (matches_in a.states p reached)
+          (λ x y i j. copy_same x y (root_in x i) (root_in y j)) (matches_distinct a.states p reached distinct);
     }
       where
         enter :
             (x : ℕ) → (y : ℕ) × In y (matches_in a.states p reached) × (x ≡ copy_of base items y)
-            → (q : ℕ) × IsKept (ranged_nfa a) items q × (accepts (ranged_nfa a) q ≡ Some p) × (x ≡ copy_of base items q)
+            → (q : ℕ) × Kept q × (accepts (ranged_nfa a) q ≡ Some p) × (x ≡ copy_of base items q)
         enter x w =
             let k = matches_are a.states p reached w.0 w.1 in
-            let h = is_accept w.0 p k.1 in (
-              w.0,
-              (reached_roots Every turned (matches_in a.states p reached) items made.reached w.0 w.1, accept_inside (ranged_nfa a) w.0 p h),
-              h,
-              w.2,
-            )
+            let h = is_accept w.0 p k.1 in
+            (w.0, kept_match (ranged_nfa a) a.start_anchored p w.0 (leads w.0 k.0) h, h, w.2)
+
+    part_is : IsPart (ranged_nfa a) m a.start_anchored p entry (copy_of base items)
+    part_is = record {
+      enters = (map (copy_of base items) (matches_in a.states p reached), entry_is);
+      turned = turned_at;
+    }
+
+    -- There are no other states from the first copy up to the entry.
+    part_only :
+        (x : ℕ) → base ≤ x → x ≤ entry → IsOfPart (ranged_nfa a) m a.start_anchored p entry (copy_of base items) x
+    part_only x b l = go (ltb x entry) refl
+      where
+        state :
+            (q : ℕ) → x ≡ copy_of base items q → Good q
+            → (t : ℕ) × Kept t
+            × ((x ≡ copy_of base items t) ⊎ ((xs : List ℕ) × (node m (copy_of base items t) ≡ Split xs) × In x xs))
+        state q e (inl k) = (q, k, inl e)
+        state q e (inr (k, kk, ik, w, (v, u, i), h)) = (
+          k,
+          kk,
+          inr (
+            map (copy_of base items) v.items,
+            copy_is k (is.Union v) ik u,
+            subst (λ z. In z (map (copy_of base items) v.items)) (sym e) (in_map (copy_of base items) v.items q i),
+          ),
+        )
+
+        go : (c : Bool) → ltb x entry ≡ c → IsOfPart (ranged_nfa a) m a.start_anchored p entry (copy_of base items) x
+        go true f =
+            let less = ltb-true x entry f in
+            let q = nth_some items (x - base) (let e = made.ends in omega (arith, less, e, b)) in
+            let at = place_nth items (x - base) q.0 made.distinct q.1 in
+            inr (state q.0 (omega (arith, at, b)) (good q.0 (nth_in items (x - base) q.0 q.1)))
+        go false f = let more = ltb-false x entry f in inl (omega (arith, more, l))
 
   -- All parts.
   mirror_is :
       (entries : List ℕ) (root : ℕ) (nodes : List Node) → m.terminator ≡ a.flags.line_terminator
       → m.reverse ≡ not a.flags.reverse → m.nodes ≡ nodes ++ Split entries ∷ [] → root ≡ length nodes
-      → HaveCopies nodes a.states turned reached entries → IsMirror (ranged_nfa a) m a.start_anchored entries root reached
+      → HaveCopies nodes a.states turned reached entries → IsMirror (ranged_nfa a) m a.start_anchored entries root
   mirror_is entries root nodes terminator reverse n r copies = record {
     terminator = terminator;
     reverse = reverse;
-    begins = reached_roots Every a.states (a.start_anchored ∷ []) reached reach a.start_anchored (inl refl);
-    goes = goes_on;
     roots =
         ap node_or_fail (ap (λ z. slice_get z root) n ∙ (ap (λ z. slice_get (nodes ++ Split entries ∷ []) z) r ∙ nth_last nodes (Split entries)));
-    parts = λ p entry e. part p entry (has_more nodes m.nodes (Split entries ∷ []) turned (matches_in a.states p reached) p entry n (copies p entry e));
+    distinct = copies.distinct;
+    place = λ p q. copy_of (part_at copies.parts p).base (part_at copies.parts p).items q;
+    parts = λ p entry e. part_is p entry (part_at copies.parts p).base (part_at copies.parts p).items (copied_at p entry e);
+    only = λ x l. only x (ltb x (length nodes)) refl l;
   }
     where
-      part :
-          (p entry : ℕ) → HasCopies m.nodes turned (matches_in a.states p reached) p entry
-          → (place : ℕ → ℕ) × (kept : List ℕ) × IsPart (ranged_nfa a) m a.start_anchored reached p entry place kept
-      part p entry h = (copy_of h.0 h.1, h.1, part_is p entry h.0 h.1 h.2)
+      copied_at :
+          (p entry : ℕ) → slice_get entries p ≡ Some entry
+          → IsCopied m.nodes turned (matches_in a.states p reached) p entry (part_at copies.parts p).base (part_at copies.parts p).items
+      copied_at p entry e =
+          copied_more nodes m.nodes (Split entries ∷ []) turned (matches_in a.states p reached) p entry (part_at copies.parts p).base
+          (part_at copies.parts p).items n (copies.each p entry e)
+
+      long : length m.nodes ≡ length nodes + 1
+      long = ap (λ z. length z) n ∙ length-append nodes (Split entries ∷ [])
+
+      only :
+          (x : ℕ) (b : Bool) → ltb x (length nodes) ≡ b → x < length m.nodes
+          → (x ≡ root)
+          ⊎ ((p entry : ℕ) × (slice_get entries p ≡ Some entry)
+          × IsOfPart (ranged_nfa a) m a.start_anchored p entry
+          (λ q. copy_of (part_at copies.parts p).base (part_at copies.parts p).items q) x)
+      only x true f l =
+          let w = copies.only x (ltb-true x (length nodes) f) in
+          inr (
+            w.0,
+            w.1,
+            w.2,
+            part_only w.0 w.1 (part_at copies.parts w.0).base (part_at copies.parts w.0).items (copied_at w.0 w.1 w.2) x w.3 w.4,
+          )
+      only x false f l = let more = ltb-false x (length nodes) f in inl (omega (arith, more, l, long, r))
 
 -- The states that `NFA::from_states` accepts are in range, whatever the number.
 all_in_range : (n : ℕ) (states : List State) (q : ℕ) → states_below n states ≡ true → state_below n (get_or states q is.Fail) ≡ true
@@ -511,23 +666,19 @@ turned_graph a reached t below first e =
     (λ q. all_in_range (length a.states) a.states q below) (graph_none (length a.states))))
 
 pub made_reversed :
-    (a b : Automaton) (turned : List State) (reached : List ℕ) (nodes : List Node)
-    → IsChecked a → states_below (length a.states) a.states ≡ true
-    → ((q : ℕ) → In q reached ↔ IsReached Every a.states (a.start_anchored ∷ []) q)
-    → AreTurned a.states reached a.start_anchored turned
-    → nodes_of b.states ≡ nodes ++ Split b.start_pattern ∷ [] → b.start_anchored ≡ length nodes
-    → HaveCopies nodes a.states turned reached b.start_pattern
-    → length b.start_pattern ≡ length a.start_pattern
+    (a b : Automaton) → IsChecked a → states_below (length a.states) a.states ≡ true
+    → AreReversed a.states a.start_anchored (length a.start_pattern) b.states b.start_pattern b.start_anchored
     → b.flags.utf8 ≡ a.flags.utf8 → b.flags.reverse ≡ not a.flags.reverse
-    → b.flags.line_terminator ≡ a.flags.line_terminator
+    → b.flags.line_terminator ≡ a.flags.line_terminator → b.start_unanchored ≡ b.start_anchored
     → IsReversed a b
-made_reversed a b turned reached nodes checked below reach are n r copies few utf8 reverse terminator = (
-  few,
-  utf8,
-  (
-    reached,
-    mirror_is a turned reached (nfa_of b) checked reach are.0 are.1.0 are.1.1 are.1.2
-        (turned_graph a reached are.0 below checked.anchored are.2)
-        b.start_pattern b.start_anchored nodes terminator reverse n r copies,
-  ),
-)
+made_reversed a b checked below made utf8 reverse terminator one = record {
+  patterns = made.few;
+  utf8 = utf8;
+  one_start = one;
+  mirror =
+      mirror_is a made.turned made.reached (nfa_of b) checked made.reach made.distinct made.turns.0 made.turns.1.0 made.turns.1.1 made.turns.1.2
+      (turned_graph a made.reached made.turns.0 below checked.anchored made.turns.2)
+      (turned_once a.states made.reached a.start_anchored made.turns.0 (λ q. ordered_at a.states q checked.ordered) made.distinct
+      made.below made.turns.2)
+      b.start_pattern b.start_anchored made.nodes terminator reverse made.whole made.starts made.copies;
+}

@@ -6,7 +6,7 @@ use Rattle.automata_base.specs.Nfas.Nfa.{Truth, hop, hop_at, takes, takes_at, ac
 use Rattle.automata_base.specs.Nfas.Nodes.{Automaton, nfa_of, node_of}
 use Rattle.automata_base.specs.Retraced.DenseRuns.{ranged, ranged_nfa}
 use Rattle.automata_base.proofs.Nfas.Reach.InRange.{node_is}
-use Rattle.automata_base.proofs.Nfas.Mirrors.Parts.{ranged_is, accept_same}
+use Rattle.automata_base.proofs.Nfas.Mirrors.Members.{ranged_is, accept_same}
 use Rattle.automata_base.proofs.Nfas.Mirrors.Runs.{dense_takes}
 use Rattle.automata_base.proofs.Nfas.Mirrors.Ways.{Bytes, IsWay}
 

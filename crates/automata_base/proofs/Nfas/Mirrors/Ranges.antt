@@ -14,7 +14,8 @@ use Rattle.automata_base.specs.Retraced.DenseRuns.{runs_from}
 use Rattle.automata_base.specs.Retraced.ReversedEdges.{Turns, no_lists, turn_by, turn_all, turn_ranges, turn_state}
 use Rattle.automata_base.specs.Retraced.ReversedEdges.{turn_states, IsHead, AreHeads, AreTurned}
 use Rattle.automata_base.proofs.Nfas.Mirrors.Graphs.{InAt, Stand, IsHelper, IsGraph, Of}
-use Rattle.automata_base.proofs.Nfas.Mirrors.Parts.{heads_length, turned_graph}
+use Rattle.automata_base.proofs.Nfas.Mirrors.Members.{heads_length}
+use Rattle.automata_base.proofs.Nfas.Mirrors.Parts.{turned_graph}
 use Rattle.automata_base.proofs.Paths.Checked.{below_in}
 use Rattle.std.proofs.lemmas.Bool.{and_parts}
 use Rattle.automata_base.proofs.Powersets.Belows.{all_below_from}

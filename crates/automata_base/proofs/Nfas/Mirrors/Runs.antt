@@ -1,6 +1,6 @@
 -- A dense state with its edges as ranges does what it does byte by byte.
 use Rattle.std.proofs.Common.{ℕ, zero, suc, ◌≡◌, ◌<◌, ◌≤◌, ◌+◌, ◌&&◌, ltb, leb, Bool, true, false, cond, List, [], ◌∷◌}
-use Rattle.std.proofs.Common.{◌++◌, Option, Some, None, inl, inr, refl, sym, ap, ◌∙◌, arith}
+use Rattle.std.proofs.Common.{◌++◌, Option, Some, None, inl, inr, refl, sym, ap, ◌∙◌, subst, arith}
 use Rattle.std.proofs.lemmas.Bool.{le-leb, ltb-true, eqb-true}
 use Rattle.std.proofs.lemmas.Grind.{common_steps}
 use Rattle.automata_base.specs.declared.nfa.thompson.Transition.{Transition}
@@ -177,3 +177,32 @@ runs_next (x ∷ xs) lo byte r i =
         → In r (nexts (dense_from byte (x ∷ xs)))
     go true f g i = later x (f i)
     go false f g i = one x g i
+
+-- The other way round.
+pub next_runs :
+    (xs : List ℕ) (lo byte r : ℕ) → In r (nexts (dense_from byte xs)) → In r (nexts (ranges_of (runs_from lo byte xs)))
+next_runs [] lo byte r i = i
+next_runs (x ∷ xs) lo byte r i =
+    go (starts_with x xs) refl (next_runs xs lo (suc byte) r) (next_runs xs (suc byte) (suc byte) r)
+  where
+    later : (x : ℕ) → starts_with x xs ≡ true → In r (nexts (dense_from byte (x ∷ xs))) → In r (nexts (dense_from (suc byte) xs))
+    later zero s j = j
+    later (suc k) s (inl e) =
+        let h = head_is (suc k) xs s in
+        subst (λ (z : List ℕ). In r (nexts (dense_from (suc byte) z))) (sym h.1) (inl e)
+    later (suc k) s (inr j) = j
+
+    one :
+        (x : ℕ) → (In r (nexts (dense_from (suc byte) xs)) → In r (nexts (ranges_of (runs_from (suc byte) (suc byte) xs))))
+        → In r (nexts (dense_from byte (x ∷ xs))) → In r (nexts (ranges_of (run_of lo byte x ++ runs_from (suc byte) (suc byte) xs)))
+    one zero ih j = ih j
+    one (suc k) ih (inl e) = inl e
+    one (suc k) ih (inr j) = inr (ih j)
+
+    go :
+        (s : Bool) → starts_with x xs ≡ s
+        → (In r (nexts (dense_from (suc byte) xs)) → In r (nexts (ranges_of (runs_from lo (suc byte) xs))))
+        → (In r (nexts (dense_from (suc byte) xs)) → In r (nexts (ranges_of (runs_from (suc byte) (suc byte) xs))))
+        → In r (nexts (ranges_of (cond s (runs_from lo (suc byte) xs) (run_of lo byte x ++ runs_from (suc byte) (suc byte) xs))))
+    go true e f g = f (later x e i)
+    go false e f g = one x g i

@@ -1,5 +1,5 @@
 -- How many states and alternates what is turned has.
-use Rattle.std.proofs.Common.{ℕ, zero, suc, ◌≡◌, ◌<◌, ◌≤◌, ◌+◌, ◌^◌, ◌&&◌, true, leb, List, [], ◌∷◌, ◌++◌, drop, length}
+use Rattle.std.proofs.Common.{ℕ, zero, suc, ◌≡◌, ◌<◌, ◌≤◌, ◌+◌, ◌^◌, ◌&&◌, Bool, true, false, cond, leb, List, [], ◌∷◌, ◌++◌, drop, length}
 use Rattle.std.proofs.Common.{length-append, get_or, Option, Some, None, inl, inr, refl, sym, ap, ◌∙◌, subst, arith}
 use Rattle.std.specs.Prelude.{sum_by, slice_get}
 use Rattle.std.proofs.lemmas.List.Sums.{sum_by-cons, sum_by-append}
@@ -11,11 +11,12 @@ use Rattle.automata_base.specs.Nfas.Mirrors.{flip}
 use Rattle.automata_base.specs.Nfas.Errors.{alternates_of, ordered_from, state_ordered, states_ordered}
 use Rattle.automata_base.specs.Nfas.ReversedSizes.{asking_edges, free_edges}
 use Rattle.automata_base.specs.Retraced.DenseRuns.{runs_from}
-use Rattle.automata_base.specs.Retraced.ReversedEdges.{Turns, no_lists, push_at, turn_free, turn_by, turn_all}
+use Rattle.automata_base.specs.Retraced.ReversedEdges.{Turns, no_lists, ends_in, push_at, put_at, turn_free, turn_by}
+use Rattle.automata_base.specs.Retraced.ReversedEdges.{turn_all}
 use Rattle.automata_base.specs.Retraced.ReversedEdges.{turn_ranges, turn_state, turn_states, size, IsHead, AreHeads}
 use Rattle.automata_base.specs.Retraced.ReversedEdges.{AreTurned}
-use Rattle.automata_base.proofs.Nfas.Mirrors.Lists.{push_length, states_next}
-use Rattle.automata_base.proofs.Nfas.Mirrors.Parts.{heads_length}
+use Rattle.automata_base.proofs.Nfas.Mirrors.Lists.{push_length, put_length, states_next}
+use Rattle.automata_base.proofs.Nfas.Mirrors.Members.{heads_length}
 use Rattle.automata_base.proofs.Nfas.Mirrors.Runs.{runs_ordered}
 use Rattle.automata_base.proofs.Nfas.Mirrors.Sums.{sum_some}
 use Rattle.automata_base.proofs.Paths.Checked.{below_in}
@@ -32,8 +33,17 @@ total_push (xs ∷ rest) zero x =
     let e : length (xs ++ x ∷ []) ≡ length xs + 1 = length-append xs (x ∷ []) in omega (arith, e)
 total_push (xs ∷ rest) (suc to) x = let k = total_push rest to x in omega (arith, k)
 
+total_put : (lists : List (List ℕ)) (to x : ℕ) → total (put_at lists to x) ≤ suc (total lists)
+total_put [] to x = omega arith
+total_put (xs ∷ rest) zero x = go (ends_in xs x)
+  where
+    go : (b : Bool) → length (cond b xs (xs ++ x ∷ [])) + total rest ≤ suc (length xs + total rest)
+    go true = omega arith
+    go false = total_push (xs ∷ rest) 0 x
+total_put (xs ∷ rest) (suc to) x = let k = total_put rest to x in omega (arith, k)
+
 pub size_free : (t : Turns) (x to : ℕ) → size (turn_free t x to) ≡ size t
-size_free t x to = ap (λ n. n + length t.helpers) (push_length t.lists to x)
+size_free t x to = ap (λ n. n + length t.helpers) (put_length t.lists to x)
 
 pub size_by : (t : Turns) (h : State) (to : ℕ) → size (turn_by t h to) ≡ suc (size t)
 size_by t h to =
@@ -82,7 +92,7 @@ total_all : (t : Turns) (from : ℕ) (xs : List ℕ) → total (turn_all t from 
 total_all t from [] = omega arith
 total_all t from (x ∷ xs) =
     let a = total_all (turn_free t from x) from xs in
-    let b = total_push t.lists x from in
+    let b = total_put t.lists x from in
     omega (arith, a, b)
 
 total_by : (t : Turns) (h : State) (to : ℕ) → total (turn_by t h to).lists ≤ suc (total t.lists)

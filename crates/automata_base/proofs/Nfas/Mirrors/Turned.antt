@@ -7,9 +7,10 @@ use Rattle.automata_base.specs.Haystacks.Looks.{Look, within}
 use Rattle.automata_base.specs.Nfas.Nfa.{Nfa, Node, Range, Split, Assert, Read, Accept, Truth, node, node_or_fail, hop}
 use Rattle.automata_base.specs.Nfas.Nfa.{hop_at, takes, takes_at, takes_in, accepts, accepts_at}
 use Rattle.automata_base.specs.Nfas.Mirrors.{flip, Label, Free, Asks, Reads, HasRange, HasArcAt, HasArc, IsAsking}
-use Rattle.automata_base.specs.Nfas.Mirrors.{IsEdgeTo, IsReversedArc, IsKept, IsReversedAt, IsPart, IsMirror}
+use Rattle.automata_base.specs.Nfas.Mirrors.{IsEdgeTo, IsReversedArc, IsKept, IsReversedAt, IsPart, IsMirror, LeadsTo}
 use Rattle.automata_base.proofs.Paths.Orders.{none_some, some_inj}
 use Rattle.automata_base.proofs.Paths.Sets.{nth_in, in_nth}
+use Rattle.automata_base.proofs.Nfas.Mirrors.Leads.{kept_back, kept_match, leads_here, leads_on}
 use Rattle.automata_base.proofs.Nfas.Mirrors.Ways.{Bytes, IsWay, HasWay, join, hop_way, move_way, way_grows}
 
 -- The same span seen from its other end, `J` places long.
@@ -117,10 +118,10 @@ hop_split : (m : Nfa) (A : Truth) (q : ℕ) (xs : List ℕ) (e x : ℕ) → node
 hop_split m A q xs e x s h = nth_in xs e x (sym (ap (λ v. hop_at v A e) s) ∙ h)
 
 -- Two NFAs of which `m` is `n` reversed, and a span seen from both ends.
-module _ (n m : Nfa) (first root : ℕ) (entries reached : List ℕ)
+module _ (n m : Nfa) (first root : ℕ) (entries : List ℕ)
     (A B : ℕ → Truth) (b c : Bytes) (J : ℕ)
     (apart : IsApart n)
-    (mirror : IsMirror n m first entries root reached) (turn : IsTurn A B b c J) where
+    (mirror : IsMirror n m first entries root) (turn : IsTurn A B b c J) where
   not_split : (z : ℕ) (xs : List ℕ) (p : ℕ) → node m z ≡ Split xs → accepts m z ≡ Some p → ⊥
   not_split z xs p s a = none_some (sym (ap accepts_at s) ∙ a)
 
@@ -131,10 +132,10 @@ module _ (n m : Nfa) (first root : ℕ) (entries reached : List ℕ)
   assert_hop x next (suc e) r look C is h = absurd (none_some (sym (ap (λ v. hop_at v C (suc e)) is) ∙ h))
 
   -- The part of one pattern.
-  module _ (p entry : ℕ) (place : ℕ → ℕ) (kept : List ℕ) (part : IsPart n m first reached p entry place kept) where
+  module _ (p entry : ℕ) (place : ℕ → ℕ) (part : IsPart n m first p entry place) where
     -- To what the state that stands for `t` goes on to.
     enters :
-        (t k x : ℕ) (xs : List ℕ) → IsReversedAt n m first reached p place kept t xs → In x xs → HasWay m B c k (place t) k x
+        (t k x : ℕ) (xs : List ℕ) → IsReversedAt n m first p place t xs → In x xs → HasWay m B c k (place t) k x
     enters t k x xs at i = go at.stands
       where
         one : (y : ℕ) → In x (y ∷ []) → x ≡ y
@@ -142,18 +143,18 @@ module _ (n m : Nfa) (first root : ℕ) (entries reached : List ℕ)
         one y (inr j) = absurd j
 
         go :
-            (node m (place t) ≡ Split xs) ⊎ ((xs ≡ place t ∷ []) × IsEdgeTo n m first p place kept t (place t))
+            (node m (place t) ≡ Split xs) ⊎ ((xs ≡ place t ∷ []) × IsEdgeTo n m first p place t (place t))
             → HasWay m B c k (place t) k x
         go (inl s) = let h = split_hop m (B k) (place t) xs x s i in hop_way m B c k (place t) h.0 x h.1
         go (inr e) = ([], (refl, sym (one (place t) (subst (λ v. In x v) e.0 i))))
 
     -- From an edge's target back to its source.
     back_hop :
-        (s t : ℕ) (l : Label) (k k' : ℕ) → In s reached → IsKept n kept t → k + k' ≡ J → HasArc n s l t
+        (s t : ℕ) (l : Label) (k k' : ℕ) → IsKept n first p s → IsKept n first p t → k + k' ≡ J → HasArc n s l t
         → Holds (A k) l → HasWay m B c k' (place t) k' (place s)
-    back_hop s t l k k' rs kt e arc holds = go l arc holds (at.1.arcs s l rs arc).1
+    back_hop s t l k k' ks kt e arc holds = go l arc holds (at.1.arcs s l ks arc)
       where
-        at : (xs : List ℕ) × IsReversedAt n m first reached p place kept t xs
+        at : (xs : List ℕ) × IsReversedAt n m first p place t xs
         at = part.turned t kt
 
         go :
@@ -167,43 +168,43 @@ module _ (n m : Nfa) (first root : ℕ) (entries reached : List ℕ)
         go (Reads lo hi) arc holds w = absurd holds
 
     back_move :
-        (s t u lo hi k k' : ℕ) → In s reached → IsKept n kept t → suc (k + k') ≡ J → b k ≡ Some u
+        (s t u lo hi k k' : ℕ) → IsKept n first p s → IsKept n first p t → suc (k + k') ≡ J → b k ≡ Some u
         → HasArc n s (Reads lo hi) t → within lo hi u ≡ true → HasWay m B c k' (place t) (suc k') (place s)
-    back_move s t u lo hi k k' rs kt e byte arc has =
+    back_move s t u lo hi k k' ks kt e byte arc has =
         join m B c k' (place t) k' w.0 (suc k') (place s) (enters t k' w.0 at.0 at.1 w.1)
         (move_way m B c k' w.0 u (place s) (turn.bytes k k' e ∙ byte)
         (ap (λ v. takes_at v u) w.2 ∙ ap (λ v. cond v (Some (place s)) None) has))
       where
-        at : (xs : List ℕ) × IsReversedAt n m first reached p place kept t xs
+        at : (xs : List ℕ) × IsReversedAt n m first p place t xs
         at = part.turned t kt
 
         w : (x : ℕ) × In x at.0 × IsReversedArc m x (Reads lo hi) (place s)
-        w = (at.1.arcs s (Reads lo hi) rs arc).1
+        w = at.1.arcs s (Reads lo hi) ks arc
 
     -- A way forth to a kept state gives a way back.
     abbrev pub GoesBack : ℕ → ℕ → ℕ → ℕ → Type 0
-    GoesBack j' z i' q = IsKept n kept q × HasWay m B c j' (place z) i' (place q)
+    GoesBack j' z i' q = IsKept n first p q × HasWay m B c j' (place z) i' (place q)
 
     pub turned_back :
-        (i q : ℕ) (path : List ℕ) (j z i' j' : ℕ) → In q reached → IsKept n kept z → i + i' ≡ J → j + j' ≡ J
+        (i q : ℕ) (path : List ℕ) (j z i' j' : ℕ) → LeadsTo n first q → IsKept n first p z → i + i' ≡ J → j + j' ≡ J
         → IsWay n A b i q path j z → GoesBack j' z i' q
     turned_back i q [] j z i' j' rq kz e f h = (
-      subst (λ v. IsKept n kept v) (sym h.1) kz,
+      subst (λ v. IsKept n first p v) (sym h.1) kz,
       ([], (omega (arith, e, f, h.0), ap place (sym h.1))),
     )
     turned_back i q (e ∷ path) j z i' j' rq kz d f (inl h) =
-        on (turned_back i h.0 path j z i' j' (mirror.goes q h.0 l.0 rq l.1) kz d f h.2)
+        on (turned_back i h.0 path j z i' j' (leads_on n first q h.0 l.0 rq l.1) kz d f h.2)
       where
         l : (l : Label) × HasArc n q l h.0 × Holds (A i) l
         l = hop_arc_at (node n q) (A i) e h.0 h.1
 
         on : GoesBack j' z i' h.0 → GoesBack j' z i' q
-        on g = (kq, join m B c j' (place z) i' (place h.0) i' (place q) g.1 (back_hop q h.0 l.0 i i' rq g.0 d l.1 l.2))
+        on g = (kq, join m B c j' (place z) i' (place h.0) i' (place q) g.1 (back_hop q h.0 l.0 i i' kq g.0 d l.1 l.2))
           where
-            kq : IsKept n kept q
-            kq = (((part.turned h.0 g.0).1.arcs q l.0 rq l.1).0, arc_inside n q l.0 h.0 l.1)
+            kq : IsKept n first p q
+            kq = kept_back n first p q h.0 l.0 rq l.1 g.0
     turned_back i q (e ∷ path) j z i' j' rq kz d f (inr h) =
-        go i' d (λ k g. turned_back (suc i) h.0 path j z k j' (mirror.goes q h.0 (Reads arc.0 arc.1) rq arc.2) kz g f h.4)
+        go i' d (λ k g. turned_back (suc i) h.0 path j z k j' (leads_on n first q h.0 (Reads arc.0 arc.1) rq arc.2) kz g f h.4)
       where
         arc : (lo hi : ℕ) × HasArc n q (Reads lo hi) h.0 × (within lo hi h.1 ≡ true)
         arc = takes_arc_at (node n q) h.1 h.0 h.3
@@ -216,23 +217,20 @@ module _ (n m : Nfa) (first root : ℕ) (entries reached : List ℕ)
         go (suc k) d ih = (
           kq,
           join m B c j' (place z) k (place h.0) (suc k) (place q) g.1
-              (back_move q h.0 h.1 arc.0 arc.1 i k rq g.0 (omega (arith, d)) h.2 arc.2 arc.3),
+              (back_move q h.0 h.1 arc.0 arc.1 i k kq g.0 (omega (arith, d)) h.2 arc.2 arc.3),
         )
           where
             g : GoesBack j' z k h.0
             g = ih k (omega (arith, d))
 
-            kq : IsKept n kept q
-            kq = (
-              ((part.turned h.0 g.0).1.arcs q (Reads arc.0 arc.1) rq arc.2).0,
-              arc_inside n q (Reads arc.0 arc.1) h.0 arc.2,
-            )
+            kq : IsKept n first p q
+            kq = kept_back n first p q h.0 (Reads arc.0 arc.1) rq arc.2 g.0
 
     -- What a state of the part stands for: the state `t`, an edge that leads to `t`, or the match where paths begin.
     abbrev pub Stands : ℕ → ℕ → Type 0
     Stands x t =
         (x ≡ place t)
-        ⊎ (((s : ℕ) × (l : Label) × IsKept n kept s × HasArc n s l t × IsReversedArc m x l (place s))
+        ⊎ (((s : ℕ) × (l : Label) × IsKept n first p s × HasArc n s l t × IsReversedArc m x l (place s))
         ⊎ ((t ≡ first) × (node m x ≡ Accept p)))
 
     abbrev pub Comes : ℕ → ℕ → ℕ → ℕ → Type 0
@@ -248,13 +246,13 @@ module _ (n m : Nfa) (first root : ℕ) (entries reached : List ℕ)
 
     abbrev pub Goes : List ℕ → Type 0
     Goes path =
-        (i x j z i' j' t p' : ℕ) → IsKept n kept t → i + i' ≡ J → j + j' ≡ J → Stands x t
+        (i x j z i' j' t p' : ℕ) → IsKept n first p t → i + i' ≡ J → j + j' ≡ J → Stands x t
         → IsWay m B c i x path j z → accepts m z ≡ Some p' → Comes p' j' i' t
 
     -- From a state that stands for an edge that reads or asks.
     from_asking :
         (path : List ℕ) (e : ℕ) → Goes path → (l : Label)
-        → (i x j z i' j' s t p' : ℕ) → IsKept n kept s → i + i' ≡ J → j + j' ≡ J → HasArc n s l t → IsAsking l
+        → (i x j z i' j' s t p' : ℕ) → IsKept n first p s → i + i' ≡ J → j + j' ≡ J → HasArc n s l t → IsAsking l
         → IsReversedArc m x l (place s) → IsWay m B c i x (e ∷ path) j z → accepts m z ≡ Some p' → Comes p' j' i' t
     from_asking path e ih Free i x j z i' j' s t p' ks d f arc asks turned w a = absurd asks
     from_asking path e ih (Asks look) i x j z i' j' s t p' ks d f arc asks turned (inl h) a =
@@ -293,11 +291,11 @@ module _ (n m : Nfa) (first root : ℕ) (entries reached : List ℕ)
     -- From a state that stands for `t`, once the first edge is known.
     from_place :
         (path : List ℕ) (e : ℕ) → Goes path
-        → (i x j z i' j' t p' : ℕ) → IsKept n kept t → i + i' ≡ J → j + j' ≡ J → x ≡ place t
+        → (i x j z i' j' t p' : ℕ) → IsKept n first p t → i + i' ≡ J → j + j' ≡ J → x ≡ place t
         → IsWay m B c i x (e ∷ path) j z → accepts m z ≡ Some p' → Comes p' j' i' t
     from_place path e ih i x j z i' j' t p' kt d f same w a = go at.1.stands
       where
-        at : (xs : List ℕ) × IsReversedAt n m first reached p place kept t xs
+        at : (xs : List ℕ) × IsReversedAt n m first p place t xs
         at = part.turned t kt
 
         by_union : node m x ≡ Split at.0 → IsWay m B c i x (e ∷ path) j z → Comes p' j' i' t
@@ -306,21 +304,21 @@ module _ (n m : Nfa) (first root : ℕ) (entries reached : List ℕ)
             (inr (at.1.sound h.0 (hop_split m (B i) x at.0 e h.0 is h.1))) h.2 a
         by_union is (inr h) = absurd (none_some (sym (ap (λ v. takes_at v h.1) is) ∙ h.3))
 
-        by_edge : IsEdgeTo n m first p place kept t (place t) → Comes p' j' i' t
+        by_edge : IsEdgeTo n m first p place t (place t) → Comes p' j' i' t
         by_edge (inl g) =
             from_asking path e ih g.1 i x j z i' j' g.0 t p' g.2 d f g.3 g.4
             (subst (λ v. IsReversedArc m v g.1 (place g.0)) (sym same) g.5) w a
         by_edge (inr g) = from_match path e i x j z (Comes p' j' i' t) (ap (λ v. node m v) same ∙ g.1) w
 
         go :
-            (node m (place t) ≡ Split at.0) ⊎ ((at.0 ≡ place t ∷ []) × IsEdgeTo n m first p place kept t (place t))
+            (node m (place t) ≡ Split at.0) ⊎ ((at.0 ≡ place t ∷ []) × IsEdgeTo n m first p place t (place t))
             → Comes p' j' i' t
         go (inl is) = by_union (ap (λ v. node m v) same ∙ is) w
         go (inr g) = by_edge g.1
 
     from_edge :
         (path : List ℕ) (e : ℕ) → Goes path → (l : Label)
-        → (i x j z i' j' s t p' : ℕ) → IsKept n kept s → i + i' ≡ J → j + j' ≡ J → HasArc n s l t
+        → (i x j z i' j' s t p' : ℕ) → IsKept n first p s → i + i' ≡ J → j + j' ≡ J → HasArc n s l t
         → IsReversedArc m x l (place s) → IsWay m B c i x (e ∷ path) j z → accepts m z ≡ Some p' → Comes p' j' i' t
     from_edge path e ih Free i x j z i' j' s t p' ks d f arc turned w a =
         comes_hop p' j' i i' s t Free d arc tt (from_place path e ih i x j z i' j' s p' ks d f turned w a)
@@ -345,20 +343,20 @@ module _ (n m : Nfa) (first root : ℕ) (entries reached : List ℕ)
         absurd (none_some (sym (ap accepts_at (ap (λ v. node m v) (sym same) ∙ turned)) ∙ a))
 
     stop_place :
-        (i j z i' j' t p' : ℕ) → IsKept n kept t → i + i' ≡ J → j + j' ≡ J → i ≡ j → place t ≡ z → accepts m z ≡ Some p'
+        (i j z i' j' t p' : ℕ) → IsKept n first p t → i + i' ≡ J → j + j' ≡ J → i ≡ j → place t ≡ z → accepts m z ≡ Some p'
         → Comes p' j' i' t
     stop_place i j z i' j' t p' kt d f same here a = go at.1.stands
       where
-        at : (xs : List ℕ) × IsReversedAt n m first reached p place kept t xs
+        at : (xs : List ℕ) × IsReversedAt n m first p place t xs
         at = part.turned t kt
 
-        by_edge : IsEdgeTo n m first p place kept t (place t) → Comes p' j' i' t
+        by_edge : IsEdgeTo n m first p place t (place t) → Comes p' j' i' t
         by_edge (inl g) = stop_asking g.1 (place t) z (place g.0) p' (Comes p' j' i' t) g.4 g.5 here a
         by_edge (inr g) =
             stop_reported i j z i' j' t p' d f same g.0 (ap (λ v. node m v) (sym here) ∙ g.1) a
 
         go :
-            (node m (place t) ≡ Split at.0) ⊎ ((at.0 ≡ place t ∷ []) × IsEdgeTo n m first p place kept t (place t))
+            (node m (place t) ≡ Split at.0) ⊎ ((at.0 ≡ place t ∷ []) × IsEdgeTo n m first p place t (place t))
             → Comes p' j' i' t
         go (inl is) = absurd (not_split z at.0 p' (ap (λ v. node m v) (sym here) ∙ is) a)
         go (inr g) = by_edge g.1
@@ -390,26 +388,29 @@ module _ (n m : Nfa) (first root : ℕ) (entries reached : List ℕ)
         → (z : ℕ) × HasWay m B c 0 entry J z × (accepts m z ≡ Some p)
     entry_back q w a = (reported.0, way, ap accepts_at reported.2)
       where
-        along : (i r : ℕ) (path : List ℕ) (j z : ℕ) → In r reached → IsWay n A b i r path j z → In z reached
-        along i r [] j z k h = subst (λ v. In v reached) h.1 k
+        along : (i r : ℕ) (path : List ℕ) (j z : ℕ) → LeadsTo n first r → IsWay n A b i r path j z → LeadsTo n first z
+        along i r [] j z k h = subst (λ v. LeadsTo n first v) h.1 k
         along i r (e ∷ path) j z k (inl h) =
-            let l = hop_arc_at (node n r) (A i) e h.0 h.1 in along i h.0 path j z (mirror.goes r h.0 l.0 k l.1) h.2
+            let l = hop_arc_at (node n r) (A i) e h.0 h.1 in along i h.0 path j z (leads_on n first r h.0 l.0 k l.1) h.2
         along i r (e ∷ path) j z k (inr h) =
             let l = takes_arc_at (node n r) h.1 h.0 h.3 in
-            along (suc i) h.0 path j z (mirror.goes r h.0 (Reads l.0 l.1) k l.2) h.4
+            along (suc i) h.0 path j z (leads_on n first r h.0 (Reads l.0 l.1) k l.2) h.4
 
-        kq : IsKept n kept q
-        kq = (((part.enters.3 q (along 0 first w.0 J q mirror.begins w.1) a)).0, accept_inside n q p a)
+        lq : LeadsTo n first q
+        lq = along 0 first w.0 J q (leads_here n first) w.1
+
+        kq : IsKept n first p q
+        kq = kept_match n first p q lq a
 
         goes : GoesBack 0 q J first
-        goes = turned_back 0 first w.0 J q J 0 mirror.begins kq (omega arith) (omega arith) w.1
+        goes = turned_back 0 first w.0 J q J 0 (leads_here n first) kq (omega arith) (omega arith) w.1
 
         start : (e : ℕ) × (hop m (B 0) entry e ≡ Some (place q))
         start =
-            split_hop m (B 0) entry part.enters.0 (place q) part.enters.1
-            (part.enters.3 q (along 0 first w.0 J q mirror.begins w.1) a).1
+            split_hop m (B 0) entry part.enters.0 (place q) part.enters.1.union
+            (part.enters.1.matches q lq a)
 
-        at : (xs : List ℕ) × IsReversedAt n m first reached p place kept first xs
+        at : (xs : List ℕ) × IsReversedAt n m first p place first xs
         at = part.turned first goes.0
 
         reported : (x : ℕ) × In x at.0 × (node m x ≡ Accept p)
@@ -423,16 +424,16 @@ module _ (n m : Nfa) (first root : ℕ) (entries reached : List ℕ)
     entry_forth :
         (path : List ℕ) (p' z : ℕ) → IsWay m B c 0 entry path J z → accepts m z ≡ Some p'
         → (p' ≡ p) × ((q : ℕ) × HasWay n A b 0 first J q × (accepts n q ≡ Some p'))
-    entry_forth [] p' z w a = absurd (not_split z part.enters.0 p' (ap (λ v. node m v) (sym w.1) ∙ part.enters.1) a)
+    entry_forth [] p' z w a = absurd (not_split z part.enters.0 p' (ap (λ v. node m v) (sym w.1) ∙ part.enters.1.union) a)
     entry_forth (e ∷ path) p' z (inl h) a = (g.0, (q.0, g.1, q.2 ∙ ap Some (sym g.0)))
       where
-        q : (q : ℕ) × IsKept n kept q × (accepts n q ≡ Some p) × (h.0 ≡ place q)
-        q = part.enters.2 h.0 (hop_split m (B 0) entry part.enters.0 e h.0 part.enters.1 h.1)
+        q : (q : ℕ) × IsKept n first p q × (accepts n q ≡ Some p) × (h.0 ≡ place q)
+        q = part.enters.1.sound h.0 (hop_split m (B 0) entry part.enters.0 e h.0 part.enters.1.union h.1)
 
         g : Comes p' 0 J q.0
         g = turned_forth path 0 h.0 J z J 0 q.0 p' q.1 (omega arith) (omega arith) (inl q.3) h.2 a
     entry_forth (e ∷ path) p' z (inr h) a =
-        absurd (none_some (sym (ap (λ v. takes_at v h.1) part.enters.1) ∙ h.3))
+        absurd (none_some (sym (ap (λ v. takes_at v h.1) part.enters.1.union) ∙ h.3))
 
   -- An accepting way of the pattern, forth from the first state, and back from a state.
   abbrev pub Forth : ℕ → Type 0
@@ -443,7 +444,7 @@ module _ (n m : Nfa) (first root : ℕ) (entries reached : List ℕ)
 
   pub back_entry : (p entry : ℕ) → slice_get entries p ≡ Some entry → Forth p → Back entry p
   back_entry p entry e w =
-      let part = mirror.parts p entry e in entry_back p entry part.0 part.1 part.2 w.0 w.1 w.2
+      entry_back p entry (mirror.place p) (mirror.parts p entry e) w.0 w.1 w.2
 
   pub back_root : (p entry : ℕ) → slice_get entries p ≡ Some entry → Forth p → Back root p
   back_root p entry e w = (k.0, join m B c 0 root 0 entry J k.0 (hop_way m B c 0 root start.0 entry start.1) k.1, k.2)
@@ -458,7 +459,7 @@ module _ (n m : Nfa) (first root : ℕ) (entries reached : List ℕ)
       (path : List ℕ) (k entry p z : ℕ) → slice_get entries k ≡ Some entry → IsWay m B c 0 entry path J z → accepts m z ≡ Some p
       → (p ≡ k) × Forth p
   forth_part path k entry p z i w a =
-      let part = mirror.parts k entry i in entry_forth k entry part.0 part.1 part.2 path p z w a
+      entry_forth k entry (mirror.place k) (mirror.parts k entry i) path p z w a
 
   pub forth_entry :
       (path : List ℕ) (entry p z : ℕ) → In entry entries → IsWay m B c 0 entry path J z → accepts m z ≡ Some p → Forth p

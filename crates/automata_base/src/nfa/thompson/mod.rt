@@ -612,14 +612,38 @@ impl NFA {
         ensures alike { IfOk result (λ reversed. BeginsAlike self.now) }
         ensures starts { result ≡ Err ReverseError.Starts → BeginsAlike self.now → ⊥ }
         ensures size { IfOk result (λ reversed. length reversed.states ≤ most_states self.now) }
+        ensures tested { result ≡ Err ReverseError.TooLarge → BeginsAlike self.now }
         ensures large { result ≡ Err ReverseError.TooLarge → MayBeTooLarge self.now }
     {
-        let states = self.states();
-        let first = self.start_anchored();
-        let begins = reaches_match(self.alloc, states, &[first])?;
-        if begins != self.has_empty() {
+        let alike = self.begins_alike()?;
+        let reversed = self.reversed_if(alike)?;
+        Ok(reversed)
+    }
+
+    // Whether the empty match is reached from the start of some pattern exactly if it is from the anchored start.
+    fn begins_alike(&self) -> Result<bool, AllocError>
+        ensures { IfOk result (λ alike. IsTrue alike ↔ BeginsAlike self.now) }
+    {
+        let begins = reaches_match(self.alloc, self.states(), &[self.start_anchored()])?;
+        Ok(begins == self.has_empty())
+    }
+
+    // The reversed NFA, if the starts begin alike. If they do not, no memory is asked for.
+    fn reversed_if(&self, alike: bool) -> Result<NFA, ReverseError>
+        requires { IsTrue alike ↔ BeginsAlike self.now }
+        ensures turned { IfOk result (λ reversed. IsReversed self.now reversed) }
+        ensures alike { IfOk result (λ reversed. BeginsAlike self.now) }
+        ensures tested { result ≡ Err ReverseError.TooLarge → BeginsAlike self.now }
+        ensures starts { (result ≡ Err ReverseError.Starts) ↔ (BeginsAlike self.now → ⊥) }
+        ensures size { IfOk result (λ reversed. length reversed.states ≤ most_states self.now) }
+        ensures large { result ≡ Err ReverseError.TooLarge → MayBeTooLarge self.now }
+        ensures checked { IfOk result (λ reversed. IsChecked self.now) }
+    {
+        if !alike {
             return Err(ReverseError::Starts);
         }
+        let states = self.states();
+        let first = self.start_anchored();
         let mirror = match reverse_states(self.alloc, states, first, self.pattern_len()) {
             Ok(mirror) => mirror,
             Err(error) => return Err(reverse_error(error)),

@@ -6,7 +6,7 @@ ghost use Rattle.automata_base.specs.Nfas.Mirrors.{flip};
 ghost use Rattle.automata_base.specs.Nfas.Errors.{transitions_below, state_below, states_below};
 ghost use Rattle.automata_base.specs.Retraced.DenseRuns.{starts_with, run_of, runs_from};
 ghost use Rattle.automata_base.specs.Retraced.ReversedEdges.{lists_of, turns_of, push_at, no_lists, turn_free, turn_by};
-ghost use Rattle.automata_base.specs.Retraced.ReversedEdges.{turn_all};
+ghost use Rattle.automata_base.specs.Retraced.ReversedEdges.{ends_in, put, put_at, turn_all};
 ghost use Rattle.automata_base.specs.Retraced.ReversedEdges.{turn_ranges, turn_state, turn_states, size, IsHead};
 ghost use Rattle.automata_base.specs.Retraced.ReversedEdges.{AreMade};
 
@@ -54,6 +54,36 @@ fn push_at(lists: &mut Vec<Vec<StateID>>, at: usize, id: StateID) -> Result<(), 
     ensures few { OnOk result (length lists.new.items ≡ length lists.old.items) }
 {
     lists[at].push(id)?;
+    Ok(())
+}
+
+// Whether it is the last one.
+fn ends_in(ids: &[StateID], id: StateID) -> bool
+    ensures { result ≡ ends_in ids.now id }
+{
+    match ids.last() {
+        Some(last) => *last == id,
+        None => false,
+    }
+}
+
+// Adds it after the others, unless it is the last of them.
+fn put(ids: &mut Vec<StateID>, id: StateID) -> Result<(), AllocError>
+    ensures { OnOk result (ids.new.items ≡ put ids.old.items id) }
+{
+    if ends_in(ids.as_slice(), id) {
+        return Ok(());
+    }
+    ids.push(id)?;
+    Ok(())
+}
+
+fn put_at(lists: &mut Vec<Vec<StateID>>, at: usize, id: StateID) -> Result<(), AllocError>
+    requires { at < length lists.old.items }
+    ensures put { OnOk result (lists_of lists.new.items ≡ put_at (lists_of lists.old.items) at id) }
+    ensures few { OnOk result (length lists.new.items ≡ length lists.old.items) }
+{
+    put(&mut lists[at], id)?;
     Ok(())
 }
 
@@ -166,13 +196,13 @@ impl EdgesByTarget {
         StateID::new(self.lists.len() + self.helpers.len())
     }
 
-    // The state `x` leads to `to` freely.
+    // The state `x` leads to `to` freely. Its edges are turned one after another, so that it is no alternate twice.
     fn turn_free(&mut self, x: StateID, to: StateID) -> Result<(), AllocError>
         requires { to < length self.old.lists.items }
         ensures turned { OnOk result (turns_of self.new ≡ turn_free (turns_of self.old) x to) }
         ensures few { OnOk result (length self.new.lists.items ≡ length self.old.lists.items) }
     {
-        push_at(&mut self.lists, to.as_usize(), x)?;
+        put_at(&mut self.lists, to.as_usize(), x)?;
         Ok(())
     }
 

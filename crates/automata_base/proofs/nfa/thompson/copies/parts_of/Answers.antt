@@ -1,11 +1,12 @@
-use Rattle.std.proofs.Common.{List, ℕ, ◌≤◌, [], ◌∷◌, ◌+◌, length, length-append, sym, ap, ◌∙◌, subst}
-use Rattle.automata_base.specs.Retraced.Copies.{IsPartAdded}
+use Rattle.std.proofs.Common.{List, ℕ, ◌≤◌, [], ◌∷◌, ◌+◌, length, length-append, refl, sym, ap, ◌∙◌, subst, arith}
+use Rattle.automata_base.specs.declared.nfa.thompson.State.{State}
+use Rattle.automata_base.specs.Retraced.Copies.{AreParts, IsPartAdded}
 use Rattle.automata_base.specs.Lists.{all_below}
 use Rattle.automata_base.specs.Nfas.Nodes.{nodes_of}
-use Rattle.automata_base.specs.Retraced.ReversedEdges.{HasCopies}
+use Rattle.automata_base.specs.Retraced.ReversedEdges.{HaveCopies, IsCopied}
 use Rattle.automata_base.proofs.Powersets.Walking.{nodes_length}
-use Rattle.automata_base.proofs.Nfas.Mirrors.Copies.{have_more, matches_below, matches_few}
-use Rattle.automata_base.proofs.Nfas.Mirrors.Fits.{added_copies, added_more, added_nodes, part_fits, part_large}
+use Rattle.automata_base.proofs.Nfas.Mirrors.Copies.{have_more, have_none, matches_below, matches_few}
+use Rattle.automata_base.proofs.Nfas.Mirrors.Fits.{added_copies, added_length, added_more, added_nodes, part_fits, part_large}
 use Rattle.automata_base.proofs.Nfas.Mirrors.Lists.{err_is}
 use Rattle.automata_base.proofs.nfa.thompson.copies.parts_of.Goals as goal
 
@@ -17,6 +18,22 @@ add_part-requires-clause-roots c =
 
 pub add_part-requires-clause-range : goal.add_part-requires-clause-range
 add_part-requires-clause-range c = c.requires.turned.range
+
+pub loop-p-init : goal.loop-p-init
+loop-p-init c = record {
+  copies =
+      subst (λ (z : List State). HaveCopies (nodes_of z) c.args.states.now c.args.turned.now c.args.reached.now c.new-3.result.items)
+      (sym c.new-2.ensures.items)
+      (subst (λ (z : List ℕ). HaveCopies [] c.args.states.now c.args.turned.now c.args.reached.now z) (sym c.new-3.ensures.items)
+      (have_none c.args.states.now c.args.turned.now c.args.reached.now));
+  count = ap (λ z. length z) c.new-3.ensures.items;
+  capacity = c.in_ok-set.ensures.capacity;
+  fit =
+      subst (λ (z : List State). AreParts c.args.turned.now (length c.args.reached.now) c.args.patterns 0 (nodes_of z) c.new-3.result.items)
+      (sym c.new-2.ensures.items)
+      (subst (λ (z : List ℕ). AreParts c.args.turned.now (length c.args.reached.now) c.args.patterns 0 [] z) (sym c.new-3.ensures.items)
+      (record { plain = tt; few = omega arith; narrow = omega arith; entered = λ e i. absurd i }));
+}
 
 pub loop-p-preserved : goal.loop-p-preserved
 loop-p-preserved c =
@@ -31,11 +48,13 @@ loop-p-preserved c =
           have_more old new (added_nodes old c.args.turned.now c.deref.result.now c.new_unchecked-pattern.result part.2.0) c.args.states.now
           c.args.turned.now c.args.reached.now c.loop-p.parts.entries.items c.add_part.new.parts.entries.items
           c.new_unchecked-pattern.result part.0
+          (length old) part.2.0
           (added_more old new c.args.turned.now c.deref.result.now c.new_unchecked-pattern.result part.0 part.2.0 part.2.1)
-          (c.new_unchecked-pattern.ensures ∙ sym c.loop-p.invariant.count) part.1
-          (subst (λ z. HasCopies new c.args.turned.now z c.new_unchecked-pattern.result part.0)
+          (c.new_unchecked-pattern.ensures ∙ sym c.loop-p.invariant.count) part.1 refl
+          (added_length old new c.args.turned.now c.deref.result.now c.new_unchecked-pattern.result part.0 part.2.0 part.2.1)
+          (subst (λ z. IsCopied new c.args.turned.now z c.new_unchecked-pattern.result part.0 (length old) part.2.0)
           (c.deref.ensures.value ∙ c.in_ok-roots.ensures)
-          (added_copies old new c.args.turned.now c.deref.result.now c.new_unchecked-pattern.result part.0 part.2))
+          (added_copies old new c.args.turned.now c.deref.result.now c.new_unchecked-pattern.result part.0 part.2.0 part.2.1))
           c.loop-p.invariant.copies;
       count =
           ap (λ xs. length xs) part.1

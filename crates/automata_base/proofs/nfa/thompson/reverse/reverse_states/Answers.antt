@@ -112,18 +112,26 @@ returns-clause-fit c =
     (omega (arith, few, c.as_slice-ids.ensures.few, c.in_ok-reached.ensures.capacity)) (omega (arith, same, long)) (omega (arith, alike, wide))
 
 pub returns-clause-mirrored : goal.returns-clause-mirrored
-returns-clause-mirrored c = (
-  c.in_ok-turned.turned.items,
-  c.as_slice-ids.result.now,
-  nodes_of c.in_ok-parts.parts.states.items,
-  subst (λ z. (q : ℕ) → In q z ↔ IsReached Every c.args.states.now (c.args.first ∷ []) q) (sym c.as_slice-ids.ensures.items)
-      c.in_ok-reached.ensures.reached,
-  c.in_ok-turned.ensures.turned,
-  c.in_ok-mirror.ensures.nodes ∙ ap (λ z. nodes_of c.in_ok-parts.parts.states.items ++ Split z ∷ []) (sym c.in_ok-mirror.ensures.entries),
-  c.in_ok-mirror.ensures.root ∙ sym (nodes_length c.in_ok-parts.parts.states.items),
-  subst (λ (z : List ℕ). HaveCopies (nodes_of c.in_ok-parts.parts.states.items) c.args.states.now c.in_ok-turned.turned.items c.as_slice-ids.result.now z)
+returns-clause-mirrored c = record {
+  turned = c.in_ok-turned.turned.items;
+  reached = c.as_slice-ids.result.now;
+  nodes = nodes_of c.in_ok-parts.parts.states.items;
+  reach =
+      subst (λ z. (q : ℕ) → In q z ↔ IsReached Every c.args.states.now (c.args.first ∷ []) q) (sym c.as_slice-ids.ensures.items)
+      c.in_ok-reached.ensures.reached;
+  distinct = subst (λ (z : List ℕ). Distinct z) (sym c.as_slice-ids.ensures.items) c.as_slice-ids.ensures.distinct;
+  below = λ q i.
+      subst (λ z. q < z) c.in_ok-reached.ensures.capacity
+      (c.as_slice-ids.ensures.below q (subst (λ z. In q z) c.as_slice-ids.ensures.items i));
+  turns = c.in_ok-turned.ensures.turned;
+  whole =
+      c.in_ok-mirror.ensures.nodes
+      ∙ ap (λ z. nodes_of c.in_ok-parts.parts.states.items ++ Split z ∷ []) (sym c.in_ok-mirror.ensures.entries);
+  starts = c.in_ok-mirror.ensures.root ∙ sym (nodes_length c.in_ok-parts.parts.states.items);
+  copies =
+      subst (λ (z : List ℕ). HaveCopies (nodes_of c.in_ok-parts.parts.states.items) c.args.states.now c.in_ok-turned.turned.items c.as_slice-ids.result.now z)
       (sym c.in_ok-mirror.ensures.entries)
       (subst (λ (z : List State). HaveCopies (nodes_of c.in_ok-parts.parts.states.items) c.args.states.now z c.as_slice-ids.result.now c.in_ok-parts.parts.entries.items)
-      c.deref.ensures.value c.in_ok-parts.ensures.copies),
-  ap (λ z. length z) c.in_ok-mirror.ensures.entries ∙ c.in_ok-parts.ensures.count,
-)
+      c.deref.ensures.value c.in_ok-parts.ensures.copies);
+  few = ap (λ z. length z) c.in_ok-mirror.ensures.entries ∙ c.in_ok-parts.ensures.count;
+}
