@@ -1,6 +1,6 @@
 -- What a call of a walk and a set answer by their DFA and their input alone, whatever the cache, and what they make of
 -- their cache.
-use Rattle.std.specs.Prelude.{ℕ, ◌≡◌, ◌<◌, ◌≤◌, ◌+◌, ◌-◌, ◌⊎◌, Bool, List, false, length, Result, Err}
+use Rattle.std.specs.Prelude.{ℕ, ◌≡◌, ◌<◌, ◌≤◌, ◌+◌, ◌-◌, ◌⊎◌, Bool, List, false, length, None, Result, Err}
 use Rattle.std.specs.Prelude.{IfErr, IfSome, IsOk, OnOk, OnErr}
 use Rattle.automata_base.specs.Answers.Answers.{ArePatterns, ArePatternsFound, IsOverlapping}
 use Rattle.automata_base.specs.Nfas.Engines.{engine_of}
@@ -27,7 +27,7 @@ use Rattle.automata_hybrid.specs.Walks.Answers.{AreWalked, HasItsState, HasRepor
 use Rattle.automata_hybrid.specs.Walks.Answers.{ReportsNext}
 use Rattle.automata_hybrid.specs.Walks.Answers.{half_nth}
 use Rattle.automata_hybrid.specs.Walks.Answers.{start_count}
-use Rattle.automata_hybrid.specs.Walks.State.{At, Fresh, Ids, Keeping, States, Walk, without_match}
+use Rattle.automata_hybrid.specs.Walks.State.{At, Ended, Fresh, Ids, Keeping, States, Walk, without_match}
 use Rattle.automata_hybrid.specs.Walks.Sets.{IsWhichRefusal}
 use Rattle.automata_hybrid.specs.Cache.Table.{IsKnownState}
 use Rattle.automata_hybrid.specs.Searches.Bounds.{LiesIn}
@@ -49,6 +49,8 @@ pub record IsWalkCall (way : Direction) (m : Machine) (input : Input) (old new :
       → OnOk result (new.found ≡ half_nth pairs k)
   -- it lies in the input's span, and its pattern is one of the NFA's
   pub within : IfSome new.found (LiesIn m input)
+  -- a walk that has ended has no match: it ends by the call after the last one
+  pub ended : new.stage ≡ Ended → new.found ≡ None
   -- a walk whose call fails is unchanged, except that it has no match
   pub refused : OnErr result (new ≡ without_match old)
   -- an error is one that some cache may give

@@ -1,5 +1,5 @@
 -- Calls of a walk, by how many have answered before.
-use Rattle.std.proofs.Common.{◌≡◌, ◌∙◌, ◌+◌, ℕ, false, List, Option, Ok, Err, IfSome, add-one, ap, arith, inl, inr}
+use Rattle.std.proofs.Common.{◌≡◌, ◌∙◌, ◌+◌, ◌<◌, ◌≤◌, ℕ, suc, false, List, length, Option, None, Ok, Err, IfSome, add-one, ap, arith, inl, inr}
 use Rattle.std.proofs.Common.{refl, subst, sym}
 use Rattle.automata_base.specs.Answers.Answers.{IsOverlapping}
 use Rattle.automata_base.specs.Nfas.Engines.{engine_of}
@@ -16,11 +16,12 @@ use Rattle.automata_hybrid.specs.Searches.Contracts.{IsMemory, IsUnhindered, IsU
 use Rattle.automata_hybrid.specs.Walks.Contracts.{MayRefuseCall}
 use Rattle.automata_hybrid.specs.Machines.StartSlots.{supports}
 use Rattle.automata_hybrid.specs.Steps.Starts.{MayStart}
-use Rattle.automata_hybrid.specs.Walks.Answers.{HasReported, HasReportedAt, ReportsNext, half_nth}
+use Rattle.automata_hybrid.specs.Walks.Answers.{AreWalked, HasReported, HasReportedAt, ReportsNext, half_nth}
 use Rattle.automata_hybrid.specs.Walks.State.{At, Ended, Fresh, Stage, Walk, fresh_walk, without_match}
 use Rattle.automata_hybrid.specs.Searches.Bounds.{LiesIn}
+use Rattle.automata_hybrid.proofs.Walks.CachedSets.{half_none}
 use Rattle.regex_automata.specs.Spans.Contracts.{IsStep}
-use Rattle.regex_automata.specs.Replay.Players.{HasAnswered}
+use Rattle.regex_automata.specs.Replay.Caches.{HasAnswered}
 use Rattle.automata_config.specs.Options.{match_kind_of}
 
 not_supported : (m : Machine) (mode : Anchored) (behind : Option ℕ) → MayStart m mode behind → supports m mode ≡ false → ⊥
@@ -55,12 +56,19 @@ module _ (way : Direction) (m : Machine) (input : Input) (old : Walk) (k : ℕ) 
   }
 
   -- and what it leaves
-  pub answered : (new : Walk) → ReportsNext way m input old new → HasAnswered way m input new (k + 1)
-  answered new reports =
+  pub answered :
+      (new : Walk) → ReportsNext way m input old new → (new.stage ≡ Ended → new.found ≡ None)
+      → HasAnswered way m input new (k + 1)
+  answered new reports unmatched =
       subst (λ n. HasAnswered way m input new n) (sym (add-one k)) (record {
         reported = (reports k h.reported).0;
-        ended = λ pairs all lt. ((reports k h.reported).1 pairs all).1 (omega arith);
+        ended = λ pairs all. (past pairs all, λ lt. ((reports k h.reported).1 pairs all).1 (omega arith));
       })
+    where
+      past : (pairs : List Pair) → AreWalked way m input pairs → new.stage ≡ Ended → length pairs < suc k
+      past pairs all over =
+          let none : half_nth pairs k ≡ None = sym ((reports k h.reported).1 pairs all).0 ∙ unmatched over in
+          let few : length pairs ≤ k = half_none pairs k none in omega arith
 
   -- one that fails
   pub step_refused :
@@ -76,7 +84,7 @@ module _ (way : Direction) (m : Machine) (input : Input) (old : Walk) (k : ℕ) 
     clean = tt;
     within = tt;
     errors = (old, h.reported, errors k h.reported);
-    ended = λ pairs all lt. goes_on (h.ended pairs all lt);
+    ended = λ pairs all lt. goes_on ((h.ended pairs all).1 lt);
     unsupported = λ u. ap Err (unsupported (still_fresh way m input old.stage old.units old.reported k h.reported u) u);
     free = free;
   }
@@ -89,4 +97,4 @@ module _ (way : Direction) (m : Machine) (input : Input) (old : Walk) (k : ℕ) 
 -- a walk that has not begun has answered no call
 pub fresh_answered : (way : Direction) (m : Machine) (input : Input) (w : Walk) → w ≡ fresh_walk → HasAnswered way m input w 0
 fresh_answered way m input w is =
-    subst (λ (v : Walk). HasAnswered way m input v 0) (sym is) (record { reported = (refl, refl); ended = λ pairs all lt. absurd (omega arith) })
+    subst (λ (v : Walk). HasAnswered way m input v 0) (sym is) (record { reported = (refl, refl); ended = λ pairs all. (λ over. absurd (cc), λ lt. absurd (omega arith)) })

@@ -1,11 +1,12 @@
 -- What the requests of a replay do to its caches, one after another, and how calls over these fail.
-use Rattle.std.specs.Prelude.{ℕ, ◌≡◌, ◌⊎◌, Bool, false, List, [], ◌∷◌, Option, Some, None, Result, Ok, Err, IfErr}
-use Rattle.std.specs.Prelude.{OnOk, slice_get}
+use Rattle.std.specs.Prelude.{ℕ, ◌≡◌, ◌⊎◌, ◌↔◌, ◌<◌, Bool, false, List, [], ◌∷◌, length, Option, Some, None}
+use Rattle.std.specs.Prelude.{Result, Ok, Err, IfErr, OnOk, slice_get}
 use Rattle.std.specs.Result.{result_err}
 use Rattle.automata_base.specs.Haystacks.Input.{Input}
 use Rattle.automata_base.specs.Haystacks.Matches.{HalfMatch, Match}
 use Rattle.automata_base.specs.Haystacks.PatternSet.{members}
 use Rattle.automata_base.specs.Answers.Spans.{from}
+use Rattle.automata_base.specs.Paths.Selections.{Pair}
 use Rattle.automata_base.specs.Haystacks.Tapes.{Backward, Direction, Forward}
 use Rattle.automata_config.specs.declared.error.SearchError.{SearchError}
 use Rattle.automata_config.specs.declared.error.SearchError.TheVariants as search
@@ -14,8 +15,8 @@ use Rattle.automata_hybrid.specs.Machines.Machine.{Machine}
 use Rattle.automata_hybrid.specs.Searches.Contracts.{IsSearchEffect}
 use Rattle.automata_hybrid.specs.Walks.Contracts.{IsCallEffect, IsWhichEffect}
 use Rattle.automata_hybrid.specs.Searches.Passes.{IsRefused}
-use Rattle.automata_hybrid.specs.Walks.Answers.{HasReported, IsWalkRefusal, ReportsNext}
-use Rattle.automata_hybrid.specs.Walks.State.{States, Walk}
+use Rattle.automata_hybrid.specs.Walks.Answers.{AreWalked, HasReported, IsWalkRefusal, ReportsNext}
+use Rattle.automata_hybrid.specs.Walks.State.{Ended, States, Walk}
 use Rattle.automata_hybrid.specs.Walks.Sets.{IsWhichRefusal}
 use Rattle.regex_automata.specs.Replay.Histories.{Begun, History, after, start}
 use Rattle.regex_automata.specs.Spans.Iteration.{IsNextRefusal}
@@ -90,15 +91,20 @@ AreTokensSearched m h end place old new (t ∷ ts) error =
     (token : Token) × (next : Cache) × (match_of token ≡ t) × IsTokenMade m h end place old next (Some (Ok token))
     × AreTokensSearched m h end t.end next new ts error
 
--- a call of a walk that has reported so many pairs: if it returns Ok, the walk goes on to the next one
+-- a walk has answered so many calls: it has ended exactly if they are more than its pairs
+pub record HasAnswered (way : Direction) (m : Machine) (input : Input) (w : Walk) (k : ℕ) : Type 0 where
+  pub reported : HasReported way m input w k
+  pub ended : (pairs : List Pair) → AreWalked way m input pairs → (w.stage ≡ Ended ↔ length pairs < k)
+
+-- a call of a walk that has answered so many: if it returns Ok, the walk goes on to the next pair
 abbrev pub IsCalled :
-    Direction → Machine → Input → (reported : ℕ) → (old new : CacheView)
+    Direction → Machine → Input → (answered : ℕ) → (old new : CacheView)
     → Result (Option HalfMatch) SearchError → Type 0
-IsCalled way m input reported old new result =
-    (walk : Walk) × (next : Walk) × (call : Result (Unit {0}) SearchError) × HasReported way m input walk reported
+IsCalled way m input answered old new result =
+    (walk : Walk) × (next : Walk) × (call : Result (Unit {0}) SearchError) × HasAnswered way m input walk answered
     × OnOk call (ReportsNext way m input walk next)
     × IsCallEffect States way m input walk next old new call × (result_err result ≡ result_err call)
-    × IfErr call (IsWalkRefusal States way m new.store input walk reported)
+    × IfErr call (IsWalkRefusal States way m new.store input walk answered)
 
 -- the cache of the DFA of a direction, and the other one
 abbrev pub own_of : Way → Cache → CacheView

@@ -3,17 +3,15 @@ use Rattle.std.specs.Prelude.{ℕ, ◌≡◌, ◌+◌, ◌<◌, List, [], ◌∷
 use Rattle.std.specs.Prelude.{OnOk, OnErr, slice_get}
 use Rattle.automata_base.specs.Haystacks.Input.{Input}
 use Rattle.automata_base.specs.Haystacks.Matches.{HalfMatch}
-use Rattle.automata_base.specs.Paths.Selections.{Pair}
 use Rattle.automata_base.specs.Haystacks.Tapes.{Direction}
 use Rattle.automata_config.specs.declared.error.SearchError.{SearchError}
 use Rattle.automata_hybrid.specs.Cache.Caches.{CacheView}
 use Rattle.automata_hybrid.specs.Machines.Machine.{Machine}
-use Rattle.automata_hybrid.specs.Walks.Answers.{AreWalked, HasReported}
-use Rattle.automata_hybrid.specs.Walks.State.{Walk, Ended}
+use Rattle.automata_hybrid.specs.Walks.State.{Walk}
 use Rattle.regex_automata.specs.Replay.Histories.{Begun, History, after}
 use Rattle.regex_automata.specs.Spans.Contracts.{IsStep}
 use Rattle.regex_automata.specs.Regexes.Caches.{AreCachesOf}
-use Rattle.regex_automata.specs.Replay.Caches.{IsRequestEffect, IsCalled, other_of, own_of}
+use Rattle.regex_automata.specs.Replay.Caches.{HasAnswered, IsRequestEffect, IsCalled, other_of, own_of}
 use Rattle.regex_automata.specs.Replay.Replies.{IsReply, dfa_of, direction_of}
 use Rattle.regex_automata.specs.declared.hybrid.regex.Regex.{Regex}
 use Rattle.regex_automata.specs.declared.hybrid.regex.caches.Cache.{Cache}
@@ -22,12 +20,7 @@ use Rattle.regex_automata.specs.declared.replay.requests.Request.{Request}
 use Rattle.regex_automata.specs.declared.replay.players.Player.{Player}
 use Rattle.regex_automata.specs.declared.replay.walks.KeptWalk.{KeptWalk}
 
--- a walk has answered so many calls; after its last pair it has ended
-pub record HasAnswered (way : Direction) (m : Machine) (input : Input) (w : Walk) (k : ℕ) : Type 0 where
-  pub reported : HasReported way m input w k
-  pub ended : (pairs : List Pair) → AreWalked way m input pairs → length pairs < k → w.stage ≡ Ended
-
--- one more call of it: what it returns, and what it leaves
+-- one more call of a walk: what it returns, and what it leaves
 pub record IsCall (way : Direction) (m : Machine) (input : Input) (old new : Walk)
     (result : Result (Option HalfMatch) SearchError) : Type 0 where
   pub step : (k : ℕ) → HasAnswered way m input old k → IsStep way m input k result

@@ -4,9 +4,9 @@ ghost use Rattle.automata_base.specs.Haystacks.Tapes.{Forward, Backward};
 ghost use Rattle.automata_hybrid.specs.Cache.Caches.{IsCacheOf};
 ghost use Rattle.regex_automata.specs.Regexes.Caches.{AreCachesOf};
 ghost use Rattle.regex_automata.specs.Replay.Replies.{dfa_of, direction_of};
-ghost use Rattle.regex_automata.specs.Replay.Players.{GoesAt, HasAnswered, HasAnsweredBy, IsCall, IsWalkAt};
+ghost use Rattle.regex_automata.specs.Replay.Players.{GoesAt, HasAnsweredBy, IsCall, IsWalkAt};
 ghost use Rattle.regex_automata.specs.Replay.Players.{MakesCall, MakesStepAt};
-ghost use Rattle.regex_automata.specs.Replay.Caches.{other_of, own_of};
+ghost use Rattle.regex_automata.specs.Replay.Caches.{HasAnswered, other_of, own_of};
 ghost use Rattle.regex_automata.specs.declared.replay.walks.KeptWalk.{KeptWalk};
 
 use crate::hybrid::dfa;

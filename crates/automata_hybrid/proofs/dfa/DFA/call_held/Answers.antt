@@ -1,4 +1,4 @@
-use Rattle.std.proofs.Common.{suc, ◌∙◌, ap, subst, sym}
+use Rattle.std.proofs.Common.{suc, ◌∙◌, ap, inl, inr, subst, sym}
 use Rattle.std.specs.Prelude.{Err, Ok, Result}
 use Rattle.automata_base.specs.Haystacks.Tapes.{Direction}
 use Rattle.automata_base.specs.Laws.Walks.{OverlappingIsReported, WalksAreReported}
@@ -47,6 +47,7 @@ returns-in-Ok-clause-call c =
           reported_lies d m input (subst WalksAreReported c.get_nfa.ensures c.walk_is_right.ensures.reported)
           (subst WalkLiesWithin c.get_nfa.ensures c.walk_is_right.ensures.within) haystack.within.1
           c.args.walk.now c.go_on.new.walk answered c.requires.walk.reported reports tt;
+      ended = λ over. elim c.in-Ok.ensures.answer.goes_on [ inl none ↦ none | inr on ↦ absurd (on.0 over) ];
       refused = tt;
       errors = λ k reported. tt;
       unsupported = λ fresh u. absurd (supported_call d m input c.args.walk.now c.go_on.new.walk c.requires.walk.reported reports u);
@@ -98,6 +99,7 @@ returns-in-Err-clause-call c =
           reported_lies d m input (subst WalksAreReported c.get_nfa.ensures c.walk_is_right.ensures.reported)
           (subst WalkLiesWithin c.get_nfa.ensures c.walk_is_right.ensures.within) haystack.within.1
           c.args.walk.now c.go_on.new.walk refused c.requires.walk.reported tt c.in-Err.ensures.err.0;
+      ended = λ over. ap (λ (w : Walk). w.found) c.in-Err.ensures.err.0;
       refused = c.in-Err.ensures.err.0;
       errors = λ k reported. (cache, is_store cache m c.in-Err.ensures.of c.see_bounds.ensures.bounds, r.why k reported);
       unsupported = λ fresh u. ap Err (r.unsupported fresh u);

@@ -4,8 +4,8 @@ use Rattle.automata_hybrid.specs.Cache.Caches.{CacheView}
 use Rattle.automata_hybrid.specs.Machines.Machine.{Machine}
 use Rattle.regex_automata.specs.Replay.Replies.{dfa_of, direction_of}
 use Rattle.regex_automata.specs.declared.replay.requests.Way.TheVariants as way
-use Rattle.regex_automata.specs.Replay.Players.{HasAnswered, IsCall, MakesCall}
-use Rattle.regex_automata.specs.Replay.Caches.{own_of}
+use Rattle.regex_automata.specs.Replay.Players.{IsCall, MakesCall}
+use Rattle.regex_automata.specs.Replay.Caches.{HasAnswered, own_of}
 use Rattle.regex_automata.specs.declared.hybrid.regex.caches.Cache.{Cache}
 use Rattle.regex_automata.proofs.replay.walks.step.Goals as goal
 

@@ -14,7 +14,7 @@ returns-in-Ok-clause-call c =
     record {
       step = λ k h. step_answers Backward m input old k h new c.get_match.result c.get_match.ensures s.reports s.paths s.within
           (λ fresh u. ok_err (s.unsupported fresh u));
-      reported = λ k h. answered Backward m input old k h new s.reports;
+      reported = λ k h. answered Backward m input old k h new s.reports s.ended;
       kept = λ k h. tt;
     }
 
@@ -34,14 +34,14 @@ returns-in-Err-clause-call c =
 
 pub returns-in-Ok-clause-made : goal.returns-in-Ok-clause-made
 returns-in-Ok-clause-made c = λ k h.
-    (c.args.state.now, c.try_search_overlapping_rev.new.state, Ok tt, h.reported, c.in-Ok.ensures.call.reports, c.in-Ok.ensures.effect, refl, tt)
+    (c.args.state.now, c.try_search_overlapping_rev.new.state, Ok tt, h, c.in-Ok.ensures.call.reports, c.in-Ok.ensures.effect, refl, tt)
 
 pub returns-in-Err-clause-made : goal.returns-in-Err-clause-made
 returns-in-Err-clause-made c = λ k h. (
   c.args.state.now,
   c.try_search_overlapping_rev.new.state,
   Err c.in-Err.error,
-  h.reported,
+  h,
   tt,
   c.in-Err.ensures.effect,
   refl,
