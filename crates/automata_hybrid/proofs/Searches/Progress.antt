@@ -27,9 +27,9 @@ pub computed_progress :
     (old new : Stored) (id class next : ℕ) (q target : Powerset)
     → IsComputed old id class q target new next → KeepsProgress old new
 computed_progress old new id class next q target (inl (leads, e)) = inl (ap (λ (s : Stored). s.clears) e, ap (λ (s : Stored). s.searched) e)
-computed_progress old new id class next q target (inr (lacks, from, between, inl (fits, g), n, e)) =
+computed_progress old new id class next q target (inr (lacks, from, between, inl (fits, g), n, to, e)) =
     inl (ap (λ (s : Stored). s.clears) e ∙ ap (λ (s : Stored). s.clears) g, ap (λ (s : Stored). s.searched) e ∙ ap (λ (s : Stored). s.searched) g)
-computed_progress old new id class next q target (inr (lacks, from, between, inr (full, may, g), n, e)) =
+computed_progress old new id class next q target (inr (lacks, from, between, inr (full, may, g), n, to, e)) =
     clears_progress old new (ap (λ (s : Stored). s.clears) e ∙ ap (λ (s : Stored). s.clears) g)
     (ap (λ (s : Stored). s.searched) e ∙ ap (λ (s : Stored). s.searched) g)
 
@@ -37,9 +37,9 @@ pub started_progress :
     (old new : Stored) (slot id : ℕ) (r : Row)
     → IsStarted old slot r new id → KeepsProgress old new
 started_progress old new slot id r (inl (leads, e)) = inl (ap (λ (s : Stored). s.clears) e, ap (λ (s : Stored). s.searched) e)
-started_progress old new slot id r (inr (lacks, between, inl (fits, g), e)) =
+started_progress old new slot id r (inr (lacks, between, inl (fits, g), to, e)) =
     inl (ap (λ (s : Stored). s.clears) e ∙ ap (λ (s : Stored). s.clears) g, ap (λ (s : Stored). s.searched) e ∙ ap (λ (s : Stored). s.searched) g)
-started_progress old new slot id r (inr (lacks, between, inr (full, may, g), e)) =
+started_progress old new slot id r (inr (lacks, between, inr (full, may, g), to, e)) =
     clears_progress old new (ap (λ (s : Stored). s.clears) e ∙ ap (λ (s : Stored). s.clears) g)
     (ap (λ (s : Stored). s.searched) e ∙ ap (λ (s : Stored). s.searched) g)
 

@@ -277,7 +277,7 @@ module _ (c : Stored) (s t : Searched) (e : total_len s ≡ total_len t) (id cla
       progress = inl (ap (λ (v : Stored). v.searched) is, refl);
     },
   )
-  computed_alike (inr (lacks, from, between, inl (fits, g), names, is)) =
+  computed_alike (inr (lacks, from, between, inl (fits, g), names, leads, is)) =
       let r : Row = record { state = target; started = false } in
       let all : new ≡ with_next (grown (with_searched c s) r) from class to = is ∙ ap (λ (b : Stored). with_next b from class to) g in (
         with_next (grown (with_searched c t) r) from class to,
@@ -287,6 +287,7 @@ module _ (c : Stored) (s t : Searched) (e : total_len s ≡ total_len t) (id cla
           grown (with_searched c t) r,
           inl (fits, refl),
           subst (λ (b : Stored). Names b.table from q) g names,
+          subst (λ (b : Stored). Names b.table to target) g leads,
           refl,
         ),
         record {
@@ -294,7 +295,7 @@ module _ (c : Stored) (s t : Searched) (e : total_len s ≡ total_len t) (id cla
           progress = inl (ap (λ (v : Stored). v.searched) all, refl);
         },
       )
-  computed_alike (inr (lacks, from, between, inr (full, may, g), names, is)) =
+  computed_alike (inr (lacks, from, between, inr (full, may, g), names, leads, is)) =
       let r : Row = record { state = target; started = false } in
       let all : new ≡ with_next (grown (cleared_saving (with_searched c s) id) r) from class to = is ∙ ap (λ (b : Stored). with_next b from class to) g in (
         with_next (grown (cleared_saving (with_searched c t) id) r) from class to,
@@ -304,6 +305,7 @@ module _ (c : Stored) (s t : Searched) (e : total_len s ≡ total_len t) (id cla
           grown (cleared_saving (with_searched c t) id) r,
           inr (full, sym (refuses_alike c s t e) ∙ may, refl),
           subst (λ (b : Stored). Names b.table from q) g names,
+          subst (λ (b : Stored). Names b.table to target) g leads,
           refl,
         ),
         record {

@@ -63,7 +63,7 @@ module _ (old new : Stored) (id class next : ℕ) (q target : Powerset) (has : H
   Keeps-computed nothing = go done where
     go : IsComputed old id class q target new next → Keeps old new
     go (inl (leads, e)) = subst (λ (s : Stored). Keeps old s) (sym e) (Keeps-next old id class next free)
-    go (inr (lacks, from, between, inl (fits, g), n, e)) =
+    go (inr (lacks, from, between, inl (fits, g), n, to, e)) =
         let r : Row = record { state = target; started = false } in
         let at : from ≡ id = one_id (grown old r).table from id q (subst (λ (s : Stored). Names s.table from q) g n) (Names-more old.table r id q named) in
         let read : cell_of (grown old r) id class ≡ cell_of old id class = get_or_append_left old.table.cells (template_of old.table.of) 0 (cell_at id class) (has id class (q, named) below) in
@@ -71,7 +71,7 @@ module _ (old new : Stored) (id class next : ℕ) (q target : Powerset) (has : H
         let k : Keeps old (with_next (grown old r) id class next) = Keeps-trans old (grown old r) (with_next (grown old r) id class next) refl (Keeps-grown old r has) (Keeps-next (grown old r) id class next still) in
         let same : new ≡ with_next (grown old r) id class next = e ∙ (λ i. with_next (g i) (at i) class next) in
         subst (λ (s : Stored). Keeps old s) (sym same) k
-    go (inr (lacks, from, between, inr (full, may, g), n, e)) =
+    go (inr (lacks, from, between, inr (full, may, g), n, to, e)) =
         let count : new.clears ≡ saturated (old.clears + 1) = ap (λ (s : Stored). s.clears) e ∙ ap (λ (s : Stored). s.clears) g in
         absurd (counts_up old.clears new.clears count nothing.0 nothing.1)
 
@@ -79,13 +79,13 @@ module _ (old new : Stored) (id class next : ℕ) (q target : Powerset) (has : H
   written-computed nothing = go done where
     go : IsComputed old id class q target new next → cell_of new id class ≡ next
     go (inl (leads, e)) = ap (λ (s : Stored). cell_of s id class) e ∙ get_or-set_same old.table.cells (cell_at id class) next 0 (has id class (q, named) below)
-    go (inr (lacks, from, between, inl (fits, g), n, e)) =
+    go (inr (lacks, from, between, inl (fits, g), n, to, e)) =
         let r : Row = record { state = target; started = false } in
         let at : from ≡ id = one_id (grown old r).table from id q (subst (λ (s : Stored). Names s.table from q) g n) (Names-more old.table r id q named) in
         let within : cell_at id class < length (old.table.cells ++ template_of old.table.of) = omega (arith, length-append old.table.cells (template_of old.table.of), has id class (q, named) below) in
         let same : new ≡ with_next (grown old r) id class next = e ∙ (λ i. with_next (g i) (at i) class next) in
         ap (λ (s : Stored). cell_of s id class) same ∙ get_or-set_same (old.table.cells ++ template_of old.table.of) (cell_at id class) next 0 within
-    go (inr (lacks, from, between, inr (full, may, g), n, e)) =
+    go (inr (lacks, from, between, inr (full, may, g), n, to, e)) =
         let count : new.clears ≡ saturated (old.clears + 1) = ap (λ (s : Stored). s.clears) e ∙ ap (λ (s : Stored). s.clears) g in
         absurd (counts_up old.clears new.clears count nothing.0 nothing.1)
 
@@ -136,21 +136,21 @@ pub roomy-computed :
     → IsComputed old id class q target new next → HasRoom old (states + 1) → HasRoom new states × (new.clears ≡ old.clears)
 roomy-computed old new id class next q target states wide little (inl (leads, e)) room =
     (subst (λ (s : Stored). HasRoom s states) (sym e) (HasRoom-next old id class next states (HasRoom-less old states room)), ap (λ (s : Stored). s.clears) e)
-roomy-computed old new id class next q target states wide little (inr (lacks, from, between, inl (fits, g), n, e)) room =
+roomy-computed old new id class next q target states wide little (inr (lacks, from, between, inl (fits, g), n, to, e)) room =
     let r : Row = record { state = target; started = false } in
     let same : new ≡ with_next (grown old r) from class next = e ∙ ap (λ (s : Stored). with_next s from class next) g in
     (subst (λ (s : Stored). HasRoom s states) (sym same) (HasRoom-next (grown old r) from class next states (HasRoom-grown old r states wide little room)), ap (λ (s : Stored). s.clears) same)
-roomy-computed old new id class next q target states wide little (inr (lacks, from, between, inr (full, may, g), n, e)) room = absurd (full (HasRoom-Fits old states (cost target) little room))
+roomy-computed old new id class next q target states wide little (inr (lacks, from, between, inr (full, may, g), n, to, e)) room = absurd (full (HasRoom-Fits old states (cost target) little room))
 
 module _ (old new : Stored) (slot id : ℕ) (r : Row) (done : IsStarted old slot r new id) where
   pub Keeps-started : HasCells old.table → (IsKnownStart old slot → ⊥) → ClearedNothing old new → Keeps old new
   Keeps-started has free nothing = go done where
     go : IsStarted old slot r new id → Keeps old new
     go (inl (leads, e)) = subst (λ (s : Stored). Keeps old s) (sym e) (Keeps-start old slot id free)
-    go (inr (lacks, between, inl (fits, g), e)) =
+    go (inr (lacks, between, inl (fits, g), to, e)) =
         let k : Keeps old (with_start (grown old r) slot id) = Keeps-trans old (grown old r) (with_start (grown old r) slot id) refl (Keeps-grown old r has) (Keeps-start (grown old r) slot id free) in
         subst (λ (s : Stored). Keeps old s) (sym (e ∙ ap (λ (s : Stored). with_start s slot id) g)) k
-    go (inr (lacks, between, inr (full, may, g), e)) =
+    go (inr (lacks, between, inr (full, may, g), to, e)) =
         let count : new.clears ≡ saturated (old.clears + 1) = ap (λ (s : Stored). s.clears) e ∙ ap (λ (s : Stored). s.clears) g in
         absurd (counts_up old.clears new.clears count nothing.0 nothing.1)
 
@@ -161,10 +161,10 @@ module _ (old new : Stored) (slot id : ℕ) (r : Row) (done : IsStarted old slot
     go : IsStarted old slot r new id → HasRoom new states × (new.clears ≡ old.clears)
     go (inl (leads, e)) =
         (subst (λ (s : Stored). HasRoom s states) (sym e) (HasRoom-start old slot id states (HasRoom-less old states room)), ap (λ (s : Stored). s.clears) e)
-    go (inr (lacks, between, inl (fits, g), e)) =
+    go (inr (lacks, between, inl (fits, g), to, e)) =
         let same : new ≡ with_start (grown old r) slot id = e ∙ ap (λ (s : Stored). with_start s slot id) g in
         (subst (λ (s : Stored). HasRoom s states) (sym same) (HasRoom-start (grown old r) slot id states (HasRoom-grown old r states wide little room)), ap (λ (s : Stored). s.clears) same)
-    go (inr (lacks, between, inr (full, may, g), e)) = absurd (full (HasRoom-Fits old states (cost r.state) little room))
+    go (inr (lacks, between, inr (full, may, g), to, e)) = absurd (full (HasRoom-Fits old states (cost r.state) little room))
 
 -- the rows of a table that another has, and one more
 pub only-grown :

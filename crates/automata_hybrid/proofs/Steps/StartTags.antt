@@ -135,14 +135,14 @@ from_added old emptied new r none all (inr (full, may, e)) = subst (λ (s : Stor
 
 from_computed : (old new : Stored) (id class next : ℕ) (q target : Powerset) → IsComputed old id class q target new next → AllFromOr old.table new.table false
 from_computed old new id class next q target (inl (leads, e)) = subst (λ (s : Stored). AllFromOr old.table s.table false) (sym e) (λ k x h. inl (k, h))
-from_computed old new id class next q target (inr (lacks, from, between, added, n, e)) =
+from_computed old new id class next q target (inr (lacks, from, between, added, n, to, e)) =
     let r : Row = record { state = target; started = false } in
     let all : AllFromOr old.table between.table false = from_added old (cleared_saving old id) between r lacks.0 (from_saving old id) added in
     subst (λ (s : Stored). AllFromOr old.table s.table false) (sym e) (λ k x h. all k x h)
 
 from_started : (old new : Stored) (slot id : ℕ) (r : Row) → IsStarted old slot r new id → AllFromOr old.table new.table r.started
 from_started old new slot id r (inl (leads, e)) = subst (λ (s : Stored). AllFromOr old.table s.table r.started) (sym e) (λ k x h. inl (k, h))
-from_started old new slot id r (inr (lacks, between, added, e)) =
+from_started old new slot id r (inr (lacks, between, added, to, e)) =
     let all : AllFromOr old.table between.table r.started = from_added old (cleared old) between r lacks.0 (from_cleared old) added in
     subst (λ (s : Stored). AllFromOr old.table s.table r.started) (sym e) (λ k x h. all k x h)
 

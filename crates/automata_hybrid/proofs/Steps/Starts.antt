@@ -190,7 +190,7 @@ pub computes_new :
     → slice_index new.store.starts slot ≡ id → slice_index new.store.starts slot < unknown_id
     → ComputesStart m mode behind old new slot id
 computes_new m mode behind old mid between new slot id state key started was adds count e is lacks same tags written found = record {
-  done = inr (none, between.store, added.effect, stored);
+  done = inr (none, between.store, added.effect, added.named, stored);
   leads = inr (subst (λ (s : Stored). Names s.table id (start_state_of m.nfa mode behind)) (sym stored) added.named);
   only = λ q has. added.only q (let h = subst (λ (s : Stored). IsKnownState s.table q) stored has in record { id = h.id; named = h.named });
   slots = ap (λ (s : Stored). length s.starts) stored ∙ (length-set between.store.starts slot id ∙ added.slots);
@@ -225,9 +225,9 @@ started_clears :
     (old new : Stored) (slot id : ℕ) (r : Row) → old.clears < 2 ^ 64 → IsStarted old slot r new id → old.clears ≤ new.clears
 started_clears old new slot id r small (inl (leads, e)) =
     let c : new.clears ≡ old.clears = ap (λ (s : Stored). s.clears) e in omega (arith, c)
-started_clears old new slot id r small (inr (lacks, between, inl (fits, g), e)) =
+started_clears old new slot id r small (inr (lacks, between, inl (fits, g), to, e)) =
     let c : new.clears ≡ old.clears = ap (λ (s : Stored). s.clears) e ∙ ap (λ (s : Stored). s.clears) g in omega (arith, c)
-started_clears old new slot id r small (inr (lacks, between, inr (full, may, g), e)) =
+started_clears old new slot id r small (inr (lacks, between, inr (full, may, g), to, e)) =
     let c : new.clears ≡ saturated (old.clears + 1) = ap (λ (s : Stored). s.clears) e ∙ ap (λ (s : Stored). s.clears) g in
     omega (arith, c, small)
 
@@ -236,8 +236,8 @@ started_room :
     (old new : Stored) (slot id : ℕ) (r : Row) → IsStarted old slot r new id → GivesUp old r.state → ⊥
 started_room old new slot id r (inl (inl (e, d), s)) g = g.0.1 d
 started_room old new slot id r (inl (inr n, s)) g = none_some (sym g.0.0 ∙ n)
-started_room old new slot id r (inr (lacks, between, inl (fits, s), e)) g = g.1 fits
-started_room old new slot id r (inr (lacks, between, inr (full, may, s), e)) g = false_true (sym may ∙ g.2)
+started_room old new slot id r (inr (lacks, between, inl (fits, s), to, e)) g = g.1 fits
+started_room old new slot id r (inr (lacks, between, inr (full, may, s), to, e)) g = false_true (sym may ∙ g.2)
 
 -- what a computed start answers, and what it makes of the cache
 module _ (m : Machine) (mode : Anchored) (behind : Option ℕ) (old new : CacheView) (slot id : ℕ) (made : ComputesStart m mode behind old new slot id)

@@ -209,7 +209,7 @@ computes_new m id unit old mid between new class from next state key was adds co
           subst (λ (s : Stored). Lacks s.table (successor m.nfa (match_kind_of m.config) q unit)) before (subst (λ (p : Powerset). Lacks mid.store.table p) to lacks) in
           let grew : IsStateAdded old.store (cleared_saving old.store id) (record { state = successor m.nfa (match_kind_of m.config) q unit; started = false }) between.store =
           subst (λ (p : Powerset). IsStateAdded old.store (cleared_saving old.store id) (record { state = p; started = false }) between.store) (is ∙ to) added.row.effect in
-          inr (none, from, between.store, grew, added.saved q n, refl));
+          inr (none, from, between.store, grew, added.saved q n, subst (λ (p : Powerset). Names between.store.table next p) (is ∙ to) added.row.named, refl));
       leads = λ q n. inr (subst (λ (p : Powerset). Names between.store.table next p) (is ∙ same q n) added.row.named);
       only = λ q n p has. subst (λ (x : Powerset). IsKnownState old.store.table p ⊎ (p ≡ x)) (is ∙ same q n) (added.row.only p (record { id = has.id; named = has.named }));
       starts = added.row.starts;
@@ -228,9 +228,9 @@ computed_clears :
     → old.clears < 2 ^ 64 → IsComputed old id class q target new next → old.clears ≤ new.clears
 computed_clears old new id class next q target small (inl (leads, e)) =
     let c : new.clears ≡ old.clears = ap (λ (s : Stored). s.clears) e in omega (arith, c)
-computed_clears old new id class next q target small (inr (lacks, from, between, inl (fits, g), n, e)) =
+computed_clears old new id class next q target small (inr (lacks, from, between, inl (fits, g), n, to, e)) =
     let c : new.clears ≡ old.clears = ap (λ (s : Stored). s.clears) e ∙ ap (λ (s : Stored). s.clears) g in omega (arith, c)
-computed_clears old new id class next q target small (inr (lacks, from, between, inr (full, may, g), n, e)) =
+computed_clears old new id class next q target small (inr (lacks, from, between, inr (full, may, g), n, to, e)) =
     let c : new.clears ≡ saturated (old.clears + 1) = ap (λ (s : Stored). s.clears) e ∙ ap (λ (s : Stored). s.clears) g in
     omega (arith, c, small)
 
@@ -239,8 +239,8 @@ computed_room :
     (old new : Stored) (id class next : ℕ) (q target : Powerset) → IsComputed old id class q target new next → GivesUp old target → ⊥
 computed_room old new id class next q target (inl (inl (e, d), s)) g = g.0.1 d
 computed_room old new id class next q target (inl (inr n, s)) g = none_some (sym g.0.0 ∙ n)
-computed_room old new id class next q target (inr (lacks, from, between, inl (fits, s), n, e)) g = g.1 fits
-computed_room old new id class next q target (inr (lacks, from, between, inr (full, may, s), n, e)) g = false_true (sym may ∙ g.2)
+computed_room old new id class next q target (inr (lacks, from, between, inl (fits, s), n, to, e)) g = g.1 fits
+computed_room old new id class next q target (inr (lacks, from, between, inr (full, may, s), n, to, e)) g = false_true (sym may ∙ g.2)
 
 -- what a computed step answers, and what it makes of the cache
 module _ (m : Machine) (id : ℕ) (unit : Option ℕ) (old new : CacheView) (class next : ℕ) (step : ComputesStep m id unit old new class next)

@@ -52,22 +52,22 @@ pub record AddsNext (old new : Stored) (from : ℕ) (q : Powerset) (now next : �
   -- That row is there, and has this ID now.
   pub saved : (p : Powerset) → Names old.table from p → Names new.table now p
 
--- the whole effect of computing a transition from a state to a target: it is written, at the row as it is after the
--- target was added, if no row had it
+-- the whole effect of computing a transition from a state to a target: the ID of the target is written, at the row as it
+-- is after the target was added, if no row had it
 abbrev pub IsComputed : Stored → (id class : ℕ) → (q target : Powerset) → Stored → ℕ → Type 0
 IsComputed old id class q target new next =
     (Leads old.table next target × (new ≡ with_next old id class next))
     ⊎ (Lacks old.table target × (from : ℕ) × (between : Stored)
     × IsStateAdded old (cleared_saving old id) (record { state = target; started = false }) between
-    × Names between.table from q
+    × Names between.table from q × Names between.table next target
     × (new ≡ with_next between from class next))
 
--- the whole effect of computing a start: it is written, after its row was added, if no row had the state
+-- the whole effect of computing a start: its ID is written, after its row was added, if no row had the state
 abbrev pub IsStarted : Stored → (slot : ℕ) → Row → Stored → ℕ → Type 0
 IsStarted old slot r new id =
     (Leads old.table id r.state × (new ≡ with_start old slot id))
     ⊎ (Lacks old.table r.state × (between : Stored) × IsStateAdded old (cleared old) r between
-    × (new ≡ with_start between slot id))
+    × Names between.table id r.state × (new ≡ with_start between slot id))
 
 -- a transition that was not cached is computed
 pub record IsStepChange (old new : Stored) : Type 0 where
