@@ -1,5 +1,6 @@
 //! Thompson NFAs.
 
+mod apart;
 mod builder;
 mod building;
 mod checks;

@@ -17,6 +17,7 @@ ghost use Rattle.automata_base.specs.declared.nfa.thompson.Flags.{Flags};
 ghost use Rattle.automata_base.specs.Nfas.Errors.{transitions_below, state_below, states_below, states_ordered};
 ghost use Rattle.automata_base.specs.Powersets.Closure.{children_at};
 
+use crate::nfa::thompson::apart::{are_apart, is_either};
 use crate::nfa::thompson::reading::pattern_of;
 use crate::nfa::thompson::{State, Transition};
 use crate::util::determinize::sparse_set::SparseSet;
@@ -253,7 +254,15 @@ pub fn reaches_match(alloc: Global, states: &[State], roots: &[StateID]) -> Resu
     Ok(reaches_match_in(&mut set, states, roots))
 }
 
-fn leads_back(set: &mut SparseSet, states: &[State], root: StateID, target: StateID) -> bool
+// Whether edges lead from the root to the target. In most NFAs only a loop of the target and one state leads to these
+// two, and then no walk is needed.
+fn leads_back(
+    set: &mut SparseSet,
+    states: &[State],
+    root: StateID,
+    target: StateID,
+    through: StateID,
+) -> bool
     requires few { length states.now ≤ 2 ^ 27 }
     requires range { states_below (length states.now) states.now ≡ true }
     requires root { root < length states.now }
@@ -261,6 +270,9 @@ fn leads_back(set: &mut SparseSet, states: &[State], root: StateID, target: Stat
     requires capacity { set.old.capacity ≡ length states.now }
     ensures { IsTrue result ↔ IsReached Edges.Every states.now (root ∷ []) target }
 {
+    if !is_either(root, target, through) && are_apart(states, target, through) {
+        return false;
+    }
     walk(set, states, &[root], Edges::Every);
     set.contains(target)
 }
@@ -352,7 +364,7 @@ pub fn skips_lazily(
             if !is_any_byte(&states[skip.as_usize()], unanchored) {
                 return false;
             }
-            !leads_back(set, states, anchored, unanchored)
+            !leads_back(set, states, anchored, unanchored, skip)
         }
     }
 }
