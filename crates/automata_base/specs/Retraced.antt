@@ -10,3 +10,4 @@ pub mod Copies
 pub mod DenseRuns
 pub mod Decoders
 pub mod Reach
+pub mod Apart

@@ -1,4 +1,5 @@
 pub mod Adding
+pub mod Apart
 pub mod Cycles
 pub mod DepthFirst
 pub mod InRange

@@ -2,8 +2,8 @@
 use Rattle.std.proofs.Common.{ℕ, zero, suc, ◌≡◌, ◌<◌, ◌≤◌, ◌+◌, ◌⊎◌, ◌↔◌, Bool, true, false, List, [], ◌∷◌, ◌++◌}
 use Rattle.std.proofs.Common.{length, get_or, take, Some, None, inl, inr, refl, sym, ap, ◌∙◌, subst, true≢false, arith}
 use Rattle.std.proofs.Common.{append-nil}
-use Rattle.std.specs.Prelude.{IsTrue, IsFalse, option_to_list, slice_get}
-use Rattle.std.proofs.lemmas.Bool.{ltb-true}
+use Rattle.std.specs.Prelude.{IsTrue, IsFalse, eqb, option_to_list, slice_get}
+use Rattle.std.proofs.lemmas.Bool.{ltb-true, eqb-true, eq-eqb}
 use Rattle.std.proofs.lemmas.List.{take_more, take_all}
 use Rattle.automata_base.specs.declared.nfa.thompson.State.{State}
 use Rattle.automata_base.specs.declared.nfa.thompson.reach.Edges.TheVariants.{Epsilon}
@@ -11,8 +11,12 @@ use Rattle.automata_base.proofs.Paths.Checks.{node_below}
 use Rattle.automata_base.specs.Retraced.DepthFirst.{LeadsBy, IsWholeOrder}
 use Rattle.automata_base.specs.Lists.{In}
 use Rattle.automata_base.specs.Haystacks.Looks.{Look}
-use Rattle.automata_base.specs.Nfas.Nfa.{Node, Split, Assert, Read, Accept}
-use Rattle.automata_base.specs.Nfas.Nodes.{node_of}
+use Rattle.automata_base.specs.Haystacks.Looks.{look_index}
+use Rattle.automata_base.specs.Haystacks.LookSets.{truth_of}
+use Rattle.automata_base.specs.Nfas.Nfa.{Node, Split, Assert, Read, Accept, any_node}
+use Rattle.automata_base.specs.Nfas.Nodes.{node_of, nodes_of}
+use Rattle.automata_base.proofs.Paths.LookSets.{truth_of_none}
+use Rattle.automata_base.proofs.Paths.Machines.{any_node_from}
 use Rattle.automata_base.specs.Retraced.Once.{once_from}
 use Rattle.automata_base.specs.Paths.Paths.{all_true}
 use Rattle.automata_base.specs.Retraced.Reach.{node_in, look_target, targets_of, Route, IsReached, LeadsBack}
@@ -255,3 +259,17 @@ all_tried states order i items l whole tried = (λ _ q back. go q back (cases_lt
     go : (q : ℕ) → LeadsBack states q → (q < length states) ⊎ (length states ≤ q) → ⊥
     go q back (inl m) = tried.none q (subst (λ z. In q z) (sym (take_all i order l)) (whole.whole q m)) back
     go q back (inr m) = none_some (sym (past_all states q m) ∙ back.1)
+
+-- Where no look occurs, none leads back to itself.
+pub no_look_acyclic :
+    (states : List State) (looks : ℕ)
+    → ((other : Look)
+    → truth_of looks other ≡ any_node (λ look. eqb (look_index look) (look_index other)) (nodes_of states))
+    → eqb looks 0 ≡ true → AreLooksAcyclic states
+no_look_acyclic states looks are none q back =
+    let w = look_is (node_in states q) back.0 back.1 in
+    let occurs =
+    any_node_from (λ look. eqb (look_index look) (look_index w.0)) (nodes_of states) q w.0 back.0 w.1
+    (eq-eqb (look_index w.0) (look_index w.0) refl) in
+    true≢false
+    (sym (are w.0 ∙ occurs) ∙ ap (λ bits. truth_of bits w.0) (eqb-true looks 0 none) ∙ truth_of_none w.0)

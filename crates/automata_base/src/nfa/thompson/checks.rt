@@ -10,7 +10,7 @@ ghost use Rattle.automata_base.specs.Nfas.Errors.{ordered_from, state_ordered, s
 ghost use Rattle.automata_base.specs.Nfas.Errors.{is_small, is_narrow, starts_below, states_refusal};
 ghost use Rattle.automata_base.specs.Haystacks.LookSets.{truth_of};
 ghost use Rattle.automata_base.specs.Haystacks.Looks.{Look};
-ghost use Rattle.std.specs.Prelude.{eqb, false, true, None, Option};
+ghost use Rattle.std.specs.Prelude.{eqb, false, true, None, Option, IsTrue};
 
 use crate::nfa::thompson::reading::add_look;
 use crate::nfa::thompson::{NfaError, State, Transition};
@@ -111,6 +111,26 @@ fn are_matches_below(states: &[State], n: usize) -> bool
 {
     for i in 0..states.len() {
         if !is_match_below(&states[i], n) {
+            return false;
+        }
+    }
+    true
+}
+
+// Whether all states pass the tests of targets, ranges and patterns. It reads each state once.
+fn are_sound(states: &[State], n: usize, patterns: usize) -> bool
+    ensures below { IsTrue result → states_below n states.now ≡ true }
+    ensures ordered { IsTrue result → states_ordered states.now ≡ true }
+    ensures matches { IsTrue result → matches_below patterns states.now ≡ true }
+{
+    for i in 0..states.len() {
+        if !is_state_below(&states[i], n) {
+            return false;
+        }
+        if !is_state_ordered(&states[i]) {
+            return false;
+        }
+        if !is_match_below(&states[i], patterns) {
             return false;
         }
     }
@@ -255,6 +275,10 @@ pub fn test(
     };
     if !are_starts(states.len(), anchored, unanchored, starts) {
         return Err(NfaError::StartRange);
+    }
+    // Most lists pass. Only one that does not is read test by test, for the first that fails.
+    if are_sound(states, states.len(), starts.len()) {
+        return Ok(room);
     }
     if !are_below(states, states.len()) {
         return Err(NfaError::StateRange);

@@ -1,6 +1,10 @@
 //! Whether epsilon edges lead from a look back to itself.
 ghost use Rattle.std.specs.Prelude.{◌≡◌, ◌<◌, ◌≤◌, ◌^◌, ◌↔◌, ◌++◌, ℕ, [], Some, true, length};
-ghost use Rattle.std.specs.Prelude.{option_to_list, IfOk, IsTrue};
+ghost use Rattle.std.specs.Prelude.{option_to_list, eqb, IfOk, IsTrue};
+ghost use Rattle.automata_base.specs.Haystacks.Looks.{Look, look_index};
+ghost use Rattle.automata_base.specs.Haystacks.LookSets.{truth_of};
+ghost use Rattle.automata_base.specs.Nfas.Nfa.{any_node};
+ghost use Rattle.automata_base.specs.Nfas.Nodes.{nodes_of};
 ghost use Rattle.automata_base.specs.Retraced.DepthFirst.{IsWholeOrder};
 ghost use Rattle.automata_base.specs.Lists.{In};
 ghost use Rattle.automata_base.specs.Retraced.Reach.{AreLooksAcyclic, IsReached, look_target, node_in, targets_of};
@@ -11,6 +15,7 @@ use crate::nfa::thompson::finishing::finishing_order;
 use crate::nfa::thompson::reach::{Edges, add, walk_on};
 use crate::nfa::thompson::reading::look_target;
 use crate::util::determinize::sparse_set::SparseSet;
+use crate::util::look::LookSet;
 use crate::util::primitives::StateID;
 use std::alloc::{AllocError, Global};
 
@@ -56,13 +61,23 @@ fn are_acyclic_in(set: &mut SparseSet, states: &[State], order: &[StateID]) -> b
     true
 }
 
-/// Whether no epsilon edges lead from a look back to it: by a depth-first search over these edges and a second walk
-/// over them, in time linear in states and epsilon edges.
-pub fn are_looks_acyclic(alloc: Global, states: &[State]) -> Result<bool, AllocError>
+/// Whether no epsilon edges lead from a look back to it. The looks are those that occur: if there are none, nothing is
+/// searched. Otherwise it takes a depth-first search over these edges and a second walk over them, in time linear in
+/// states and epsilon edges.
+pub fn are_looks_acyclic(
+    alloc: Global,
+    states: &[State],
+    looks: LookSet,
+) -> Result<bool, AllocError>
     requires few { length states.now ≤ 2 ^ 27 }
     requires range { states_below (length states.now) states.now ≡ true }
+    requires looks { (other : Look) → truth_of looks other
+        ≡ any_node (λ look. eqb (look_index look) (look_index other)) (nodes_of states.now) }
     ensures { IfOk result (λ acyclic. IsTrue acyclic ↔ AreLooksAcyclic states.now) }
 {
+    if looks.is_empty() {
+        return Ok(true);
+    }
     let order = finishing_order(alloc, states)?;
     let mut set = SparseSet::new(alloc, states.len() as u32)?;
     Ok(are_acyclic_in(&mut set, states, order.as_slice()))

@@ -1,5 +1,6 @@
 //! Thompson NFAs.
 
+mod apart;
 mod builder;
 mod building;
 mod checks;
@@ -16,7 +17,7 @@ pub use crate::nfa::thompson::builder::Builder;
 pub use crate::nfa::thompson::building::BuildError;
 use crate::nfa::thompson::checks::{looks_of, room_of, test};
 use crate::nfa::thompson::cycles::are_looks_acyclic;
-use crate::nfa::thompson::reach::{reaches_match, skips_lazily};
+use crate::nfa::thompson::reach::{reaches_match, reaches_match_in, set_for, skips_lazily};
 use crate::nfa::thompson::reverse::{Mirror, reverse_error, reverse_states};
 use crate::nfa::thompson::utf8::{BACKWARD, Class, FORWARD, ends_at_boundaries};
 use crate::util::look::{Look, LookSet};
@@ -366,15 +367,16 @@ impl NFA {
             states.items start_anchored start_unanchored start_pattern.items flags) }
         ensures memory { IsOkUnless result NfaError.OutOfMemory }
     {
-        let has_empty = reaches_match(alloc, states.as_slice(), start_pattern.as_slice())?;
+        let mut set = set_for(alloc, states.as_slice())?;
+        let has_empty = reaches_match_in(&mut set, states.as_slice(), start_pattern.as_slice());
         let skips_lazily = skips_lazily(
-            alloc,
+            &mut set,
             states.as_slice(),
             start_anchored,
             start_unanchored,
-        )?;
-        let is_look_acyclic = are_looks_acyclic(alloc, states.as_slice())?;
+        );
         let looks = looks_of(states.as_slice());
+        let is_look_acyclic = are_looks_acyclic(alloc, states.as_slice(), looks)?;
         let data = Data {
             states,
             start_anchored,

@@ -17,6 +17,7 @@ ghost use Rattle.automata_base.specs.declared.nfa.thompson.Flags.{Flags};
 ghost use Rattle.automata_base.specs.Nfas.Errors.{transitions_below, state_below, states_below, states_ordered};
 ghost use Rattle.automata_base.specs.Powersets.Closure.{children_at};
 
+use crate::nfa::thompson::apart::{are_apart, is_either};
 use crate::nfa::thompson::reading::pattern_of;
 use crate::nfa::thompson::{State, Transition};
 use crate::util::determinize::sparse_set::SparseSet;
@@ -220,6 +221,28 @@ fn is_some_match(states: &[State], ids: &[StateID]) -> bool
     false
 }
 
+/// An empty set with room for all states.
+pub fn set_for(alloc: Global, states: &[State]) -> Result<SparseSet, AllocError>
+    requires few { length states.now ≤ 2 ^ 27 }
+    ensures { IfOk result (λ set. set.capacity ≡ length states.now) }
+{
+    let set = SparseSet::new(alloc, states.len() as u32)?;
+    Ok(set)
+}
+
+/// Whether epsilon edges lead from some root to a match. The walk takes the set for those that it reaches.
+pub fn reaches_match_in(set: &mut SparseSet, states: &[State], roots: &[StateID]) -> bool
+    requires few { length states.now ≤ 2 ^ 27 }
+    requires range { states_below (length states.now) states.now ≡ true }
+    requires roots { all_below (length states.now) roots.now ≡ true }
+    requires capacity { set.old.capacity ≡ length states.now }
+    ensures found { IsTrue result ↔ ReachesMatch states.now roots.now }
+    ensures capacity { set.new.capacity ≡ length states.now }
+{
+    walk(set, states, roots, Edges::Epsilon);
+    is_some_match(states, set.as_slice())
+}
+
 /// Whether epsilon edges lead from some root to a match.
 pub fn reaches_match(alloc: Global, states: &[State], roots: &[StateID]) -> Result<bool, AllocError>
     requires few { length states.now ≤ 2 ^ 27 }
@@ -227,24 +250,31 @@ pub fn reaches_match(alloc: Global, states: &[State], roots: &[StateID]) -> Resu
     requires roots { all_below (length states.now) roots.now ≡ true }
     ensures { IfOk result (λ found. IsTrue found ↔ ReachesMatch states.now roots.now) }
 {
-    let reached = reach(alloc, states, roots, Edges::Epsilon)?;
-    Ok(is_some_match(states, reached.as_slice()))
+    let mut set = SparseSet::new(alloc, states.len() as u32)?;
+    Ok(reaches_match_in(&mut set, states, roots))
 }
 
+// Whether edges lead from the root to the target. In most NFAs only a loop of the target and one state leads to these
+// two, and then no walk is needed.
 fn leads_back(
-    alloc: Global,
+    set: &mut SparseSet,
     states: &[State],
     root: StateID,
     target: StateID,
-) -> Result<bool, AllocError>
+    through: StateID,
+) -> bool
     requires few { length states.now ≤ 2 ^ 27 }
     requires range { states_below (length states.now) states.now ≡ true }
     requires root { root < length states.now }
     requires target { target < length states.now }
-    ensures { IfOk result (λ found. IsTrue found ↔ IsReached Edges.Every states.now (root ∷ []) target) }
+    requires capacity { set.old.capacity ≡ length states.now }
+    ensures { IsTrue result ↔ IsReached Edges.Every states.now (root ∷ []) target }
 {
-    let reached = reach(alloc, states, &[root], Edges::Every)?;
-    Ok(reached.contains(target))
+    if !is_either(root, target, through) && are_apart(states, target, through) {
+        return false;
+    }
+    walk(set, states, &[root], Edges::Every);
+    set.contains(target)
 }
 
 fn second(alternates: &[StateID], first: StateID) -> Option<StateID>
@@ -309,31 +339,32 @@ fn is_any_byte(state: &State, target: StateID) -> bool
 }
 
 /// Whether the two starts are one state, or the unanchored one is a lazy loop over any bytes before the anchored one.
+/// A walk takes the set for those that it reaches.
 pub fn skips_lazily(
-    alloc: Global,
+    set: &mut SparseSet,
     states: &[State],
     anchored: StateID,
     unanchored: StateID,
-) -> Result<bool, AllocError>
+) -> bool
     requires few { length states.now ≤ 2 ^ 27 }
     requires range { states_below (length states.now) states.now ≡ true }
     requires ordered { states_ordered states.now ≡ true }
     requires anchored { anchored < length states.now }
     requires unanchored { unanchored < length states.now }
-    ensures { IfOk result (λ skips. (starts : List ℕ) (flags : Flags)
-        → IsTrue skips ↔ SkipsLazily (automaton states.now anchored unanchored starts flags)) }
+    requires capacity { set.old.capacity ≡ length states.now }
+    ensures { (starts : List ℕ) (flags : Flags)
+        → IsTrue result ↔ SkipsLazily (automaton states.now anchored unanchored starts flags) }
 {
     if unanchored == anchored {
-        return Ok(true);
+        return true;
     }
     match second_alternate(&states[unanchored.as_usize()], anchored) {
-        None => Ok(false),
+        None => false,
         Some(skip) => {
             if !is_any_byte(&states[skip.as_usize()], unanchored) {
-                return Ok(false);
+                return false;
             }
-            let leads = leads_back(alloc, states, anchored, unanchored)?;
-            Ok(!leads)
+            !leads_back(set, states, anchored, unanchored, skip)
         }
     }
 }

@@ -13,34 +13,42 @@ use Rattle.automata_base.proofs.Powersets.Sound.{sound}
 use Rattle.automata_base.proofs.Nfas.Reach.Refused.{passing}
 use Rattle.automata_base.proofs.nfa.thompson.NFA.make.Goals as goal
 
-pub reaches_match-requires : goal.reaches_match-requires
-reaches_match-requires c =
+pub set_for-requires : goal.set_for-requires
+set_for-requires c =
+    let tests = passing c.args.states.items c.args.start_anchored c.args.start_unanchored c.args.start_pattern.items c.requires.passed in
+    record { few = subst (λ s. length s ≤ 134217728) (sym c.as_slice.ensures.value) tests.small }
+
+pub reaches_match_in-has_empty-requires : goal.reaches_match_in-has_empty-requires
+reaches_match_in-has_empty-requires c =
     let tests = passing c.args.states.items c.args.start_anchored c.args.start_unanchored c.args.start_pattern.items c.requires.passed in
     record {
-      few = subst (λ s. length s ≤ 134217728) (sym c.as_slice.ensures.value) tests.small;
-      range = subst (λ s. states_below (length s) s ≡ true) (sym c.as_slice.ensures.value) tests.range;
+      few = subst (λ s. length s ≤ 134217728) (sym c.as_slice-2.ensures.value) tests.small;
+      range = subst (λ s. states_below (length s) s ≡ true) (sym c.as_slice-2.ensures.value) tests.range;
+      capacity = c.in_ok-set.ensures ∙ ap length (c.as_slice.ensures.value ∙ sym c.as_slice-2.ensures.value);
       roots =
-          subst (λ s. all_below (length s) c.as_slice-2.result.now ≡ true) (sym c.as_slice.ensures.value)
-          (subst (λ t. all_below (length c.args.states.items) t ≡ true) (sym c.as_slice-2.ensures.value) tests.starts);
+          subst (λ s. all_below (length s) c.as_slice-3.result.now ≡ true) (sym c.as_slice-2.ensures.value)
+          (subst (λ t. all_below (length c.args.states.items) t ≡ true) (sym c.as_slice-3.ensures.value) tests.starts);
     }
 
-pub skips_lazily-requires : goal.skips_lazily-requires
-skips_lazily-requires c =
+pub skips_lazily-skips_lazily-requires : goal.skips_lazily-skips_lazily-requires
+skips_lazily-skips_lazily-requires c =
     let tests = passing c.args.states.items c.args.start_anchored c.args.start_unanchored c.args.start_pattern.items c.requires.passed in
     record {
-      few = subst (λ s. length s ≤ 134217728) (sym c.as_slice-3.ensures.value) tests.small;
-      range = subst (λ s. states_below (length s) s ≡ true) (sym c.as_slice-3.ensures.value) tests.range;
-      ordered = subst (λ s. states_ordered s ≡ true) (sym c.as_slice-3.ensures.value) tests.ordered;
-      anchored = subst (λ s. c.args.start_anchored < length s) (sym c.as_slice-3.ensures.value) tests.anchored;
-      unanchored = subst (λ s. c.args.start_unanchored < length s) (sym c.as_slice-3.ensures.value) tests.unanchored;
+      few = subst (λ s. length s ≤ 134217728) (sym c.as_slice-4.ensures.value) tests.small;
+      range = subst (λ s. states_below (length s) s ≡ true) (sym c.as_slice-4.ensures.value) tests.range;
+      ordered = subst (λ s. states_ordered s ≡ true) (sym c.as_slice-4.ensures.value) tests.ordered;
+      anchored = subst (λ s. c.args.start_anchored < length s) (sym c.as_slice-4.ensures.value) tests.anchored;
+      capacity = c.reaches_match_in-has_empty.ensures.capacity ∙ ap length (c.as_slice-2.ensures.value ∙ sym c.as_slice-4.ensures.value);
+      unanchored = subst (λ s. c.args.start_unanchored < length s) (sym c.as_slice-4.ensures.value) tests.unanchored;
     }
 
 pub are_looks_acyclic-requires : goal.are_looks_acyclic-requires
 are_looks_acyclic-requires c =
     let tests = passing c.args.states.items c.args.start_anchored c.args.start_unanchored c.args.start_pattern.items c.requires.passed in
     record {
-      few = subst (λ s. length s ≤ 134217728) (sym c.as_slice-4.ensures.value) tests.small;
-      range = subst (λ s. states_below (length s) s ≡ true) (sym c.as_slice-4.ensures.value) tests.range;
+      few = subst (λ s. length s ≤ 134217728) (sym c.as_slice-6.ensures.value) tests.small;
+      range = subst (λ s. states_below (length s) s ≡ true) (sym c.as_slice-6.ensures.value) tests.range;
+      looks = λ look. c.looks_of-looks.ensures look ∙ ap (λ z. any_node (λ other. eqb (look_index other) (look_index look)) (nodes_of z)) (c.as_slice-5.ensures.value ∙ sym c.as_slice-6.ensures.value);
     }
 
 pub invariant_of-result : goal.invariant_of-result
@@ -53,17 +61,17 @@ invariant_of-result c =
       flags = c.args.flags;
       looks = c.looks_of-looks.result;
       room = c.args.room;
-      has_empty = c.in_ok-has_empty.has_empty;
-      skips_lazily = c.in_ok-skips_lazily.skips_lazily;
+      has_empty = c.reaches_match_in-has_empty.result;
+      skips_lazily = c.skips_lazily-skips_lazily.result;
       is_look_acyclic = c.in_ok-is_look_acyclic.is_look_acyclic;
     } in
     subst IsConsistent (sym c.in-Ok.ensures.ok)
     (sound d c.requires.passed
     (λ look. c.looks_of-looks.ensures look ∙ ap (λ z. any_node (λ other. eqb (look_index other) (look_index look)) (nodes_of z)) c.as_slice-5.ensures.value)
     c.requires.room
-    (subst (λ s. IsTrue c.in_ok-has_empty.has_empty ↔ ReachesMatch s c.args.start_pattern.items) c.as_slice.ensures.value
-    (subst (λ t. IsTrue c.in_ok-has_empty.has_empty ↔ ReachesMatch c.as_slice.result.now t) c.as_slice-2.ensures.value c.in_ok-has_empty.ensures))
-    (subst (λ s. IsTrue c.in_ok-skips_lazily.skips_lazily ↔ SkipsLazily (automaton s c.args.start_anchored c.args.start_unanchored c.args.start_pattern.items c.args.flags)) c.as_slice-3.ensures.value
-    (c.in_ok-skips_lazily.ensures c.args.start_pattern.items c.args.flags))
-    (subst (λ s. IsTrue c.in_ok-is_look_acyclic.is_look_acyclic ↔ AreLooksAcyclic s) c.as_slice-4.ensures.value
+    (subst (λ s. IsTrue c.reaches_match_in-has_empty.result ↔ ReachesMatch s c.args.start_pattern.items) c.as_slice-2.ensures.value
+    (subst (λ t. IsTrue c.reaches_match_in-has_empty.result ↔ ReachesMatch c.as_slice-2.result.now t) c.as_slice-3.ensures.value c.reaches_match_in-has_empty.ensures.found))
+    (subst (λ s. IsTrue c.skips_lazily-skips_lazily.result ↔ SkipsLazily (automaton s c.args.start_anchored c.args.start_unanchored c.args.start_pattern.items c.args.flags)) c.as_slice-4.ensures.value
+    (c.skips_lazily-skips_lazily.ensures c.args.start_pattern.items c.args.flags))
+    (subst (λ s. IsTrue c.in_ok-is_look_acyclic.is_look_acyclic ↔ AreLooksAcyclic s) c.as_slice-6.ensures.value
     c.in_ok-is_look_acyclic.ensures))

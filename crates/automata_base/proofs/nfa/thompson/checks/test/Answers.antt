@@ -21,6 +21,15 @@ returns-then-not-are_starts c =
     (c.in-Some.ensures.few c.in-Some.room refl) (sym c.are_starts.ensures ∙ c.if-not-are_starts.true) in
     record { refused = t.0; passed = t.1 }
 
+pub returns-then-are_sound : goal.returns-then-are_sound
+returns-then-are_sound c =
+    let t =
+    refused_none c.args.states.now c.args.anchored c.args.unanchored c.args.starts.now c.in-Some.room (sym c.has_few.ensures ∙ c.if-not-has_few.false)
+    (c.in-Some.ensures.few c.in-Some.room refl) (sym c.are_starts.ensures ∙ c.if-not-are_starts.false) (c.are_sound.ensures.below c.if-are_sound.true)
+    (c.are_sound.ensures.ordered c.if-are_sound.true) (c.are_sound.ensures.matches c.if-are_sound.true)
+    (c.in-Some.ensures.some c.in-Some.room refl) in
+    record { refused = t.0; passed = t.1 }
+
 pub returns-then-not-are_below : goal.returns-then-not-are_below
 returns-then-not-are_below c =
     let t =

@@ -36,8 +36,8 @@ returns-then-not-is_any_byte c = λ starts flags.
     c.in-Some.skip c.as_usize-in-Some.result c.index-states-as_usize-in-Some.result second here (omega arith) c.index-states-as_usize-in-Some.is
     (λ e. absurd (true≢false (sym (c.is_any_byte.ensures.1 e) ∙ c.if-not-is_any_byte.true)))
 
-pub returns-in_ok-leads-in-Some : goal.returns-in_ok-leads-in-Some
-returns-in_ok-leads-in-Some c = λ starts flags.
+pub returns-else-not-is_any_byte : goal.returns-else-not-is_any_byte
+returns-else-not-is_any_byte c = λ starts flags.
     let at : c.as_usize.result ≡ c.args.unanchored = c.as_usize.ensures.value in
     let here : c.as_usize-in-Some.result ≡ c.in-Some.skip = c.as_usize-in-Some.ensures.value in
     let inside : c.args.unanchored < length c.args.states.now = c.requires.unanchored in
@@ -48,4 +48,4 @@ returns-in_ok-leads-in-Some c = λ starts flags.
     skips_unless (automaton c.args.states.now c.args.anchored c.args.unanchored starts flags) c.as_usize.result c.index-states-as_usize.result
     (eqb-false c.args.unanchored c.args.anchored (sym c.if-eq.ensures)) at (omega arith) c.index-states-as_usize.is
     c.in-Some.skip c.as_usize-in-Some.result c.index-states-as_usize-in-Some.result second here (omega arith) c.index-states-as_usize-in-Some.is
-    c.in_ok-leads-in-Some.leads c.requires.ordered (c.is_any_byte.ensures.0 c.if-not-is_any_byte.false) c.in_ok-leads-in-Some.ensures
+    c.leads_back.result c.requires.ordered (c.is_any_byte.ensures.0 c.if-not-is_any_byte.false) c.leads_back.ensures

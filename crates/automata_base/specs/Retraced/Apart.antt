@@ -1,0 +1,31 @@
+-- Which states lead to neither of two.
+use Rattle.std.specs.Prelude.{ℕ, ◌||◌, ◌&&◌, Bool, true, false, not, eqb, List, [], ◌∷◌}
+use Rattle.automata_base.specs.declared.nfa.thompson.State.{State}
+use Rattle.automata_base.specs.declared.nfa.thompson.State.TheVariants as is
+use Rattle.automata_base.specs.declared.nfa.thompson.Transition.{Transition}
+
+-- It is one of the two.
+abbrev pub is_either : (one two q : ℕ) → Bool
+is_either one two q = eqb q one || eqb q two
+
+-- None of them is.
+abbrev pub are_others : (one two : ℕ) → List ℕ → Bool
+are_others one two [] = true
+are_others one two (q ∷ qs) = not (is_either one two q) && are_others one two qs
+
+-- None of these edges leads to one of the two.
+abbrev pub lead_elsewhere : (one two : ℕ) → List Transition → Bool
+lead_elsewhere one two [] = true
+lead_elsewhere one two (t ∷ ts) = not (is_either one two t.next) && lead_elsewhere one two ts
+
+-- No edge of the state leads to one of the two. The edges of a dense state are not read.
+abbrev pub leads_elsewhere : (one two : ℕ) → State → Bool
+leads_elsewhere one two (is.ByteRange lo hi next) = not (is_either one two next)
+leads_elsewhere one two (is.Sparse ts) = lead_elsewhere one two ts.items
+leads_elsewhere one two (is.Dense targets) = false
+leads_elsewhere one two (is.Look look next) = not (is_either one two next)
+leads_elsewhere one two (is.Union alternates) = are_others one two alternates.items
+leads_elsewhere one two (is.BinaryUnion alt1 alt2) = not (is_either one two alt1) && not (is_either one two alt2)
+leads_elsewhere one two (is.Capture next pattern index slot) = not (is_either one two next)
+leads_elsewhere one two is.Fail = true
+leads_elsewhere one two (is.Match pattern) = true
