@@ -45,21 +45,27 @@ reverse_refusal reverse.Starts = is.Starts
 reverse_refusal reverse.TooLarge = is.TooLarge
 reverse_refusal reverse.OutOfMemory = is.OutOfMemory
 
--- the tests that an NFA passes: the first two, and all three
+-- the tests that an NFA passes: the first two; also the third, that in UTF-8 mode it reads valid UTF-8; and all, with that
+-- of its starts
 abbrev pub PassesTwo : Automaton → Type 0
 PassesTwo forward = SkipsLazily forward × IsLookAcyclic (nfa_of forward)
 
+abbrev pub IsUtf8 : Automaton → Type 0
+IsUtf8 forward = forward.flags.utf8 ≡ true → ReadsUtf8 Forward forward
+
+abbrev pub PassesThree : Automaton → Type 0
+PassesThree forward = PassesTwo forward × IsUtf8 forward
+
 abbrev pub PassesAll : Automaton → Type 0
-PassesAll forward = PassesTwo forward × (forward.flags.utf8 ≡ true → ReadsUtf8 Forward forward)
+PassesAll forward = PassesThree forward × BeginsAlike forward
 
 -- why no regex is built of one NFA: it fails the next test after those that it passes; or it passes all, and cannot be
 -- reversed, or no pair can be built of it and of its reverse. Memory is used only after the first two tests
 abbrev pub IsRefusal : Options → Automaton → RegexBuildError → Type 0
 IsRefusal o forward is.NotLazy = SkipsLazily forward → ⊥
 IsRefusal o forward is.LookCycle = SkipsLazily forward × (IsLookAcyclic (nfa_of forward) → ⊥)
-IsRefusal o forward is.NotUtf8 =
-    PassesTwo forward × ((forward.flags.utf8 ≡ true → ReadsUtf8 Forward forward) → ⊥)
-IsRefusal o forward is.Starts = PassesAll forward × (BeginsAlike forward → ⊥)
+IsRefusal o forward is.NotUtf8 = PassesTwo forward × (IsUtf8 forward → ⊥)
+IsRefusal o forward is.Starts = PassesThree forward × (BeginsAlike forward → ⊥)
 IsRefusal o forward is.TooLarge = PassesAll forward × MayBeTooLarge forward
 IsRefusal o forward is.OutOfMemory = PassesTwo forward
 IsRefusal o forward (is.Build error) =

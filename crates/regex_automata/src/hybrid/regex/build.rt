@@ -1,4 +1,4 @@
-ghost use Rattle.std.specs.Prelude.{◌≡◌, IfOk, IfErr, length, Some, false};
+ghost use Rattle.std.specs.Prelude.{◌≡◌, ◌↔◌, IfOk, IfErr, IsTrue, length, Err, Some, false};
 ghost use Rattle.automata_base.specs.Nfas.Engines.{engine_of};
 ghost use Rattle.automata_base.specs.Nfas.Mirrors.{IsReversed};
 ghost use Rattle.automata_base.specs.Nfas.Nodes.{Automaton, nfa_of};
@@ -6,7 +6,8 @@ ghost use Rattle.automata_base.specs.Paths.Paths.{IsLookAcyclic};
 ghost use Rattle.automata_base.specs.Haystacks.Tapes.{Forward};
 ghost use Rattle.automata_base.specs.Answers.TruePairs.{IsTruePair, KeepsUtf8};
 ghost use Rattle.automata_config.specs.Options.{Options, unset, overwritten};
-ghost use Rattle.regex_automata.specs.Regexes.Builds.{BuildsPair, PassesAll, pair_refusal, reverse_refusal, IsRefusal};
+ghost use Rattle.regex_automata.specs.Regexes.Builds.{BuildsPair, IsUtf8, PassesTwo, PassesAll, pair_refusal, reverse_refusal};
+ghost use Rattle.regex_automata.specs.Regexes.Builds.{IsRefusal};
 ghost use Rattle.regex_automata.specs.Regexes.SoundPairs.{IsSoundPair};
 ghost use Rattle.regex_automata.specs.declared.hybrid.regex.build.RegexBuildError.TheVariants.{Build as RegexBuild};
 ghost use Rattle.regex_automata.specs.declared.hybrid.regex.build.RegexBuildError.TheVariants as regex_error;
@@ -100,11 +101,28 @@ fn tested_reverse(forward: &NFA) -> Result<NFA, RegexBuildError>
     }
     match forward.keeps_utf8() {
         Err(_) => Err(RegexBuildError::OutOfMemory),
-        Ok(false) => Err(RegexBuildError::NotUtf8),
-        Ok(true) => match forward.reversed() {
-            Ok(reverse) => Ok(reverse),
-            Err(error) => Err(RegexBuildError::from(error)),
-        },
+        Ok(keeps) => reverse_if(forward, keeps),
+    }
+}
+
+// Reverses an NFA, by the answer of the test for UTF-8. If it fails, no memory is asked for.
+fn reverse_if(forward: &NFA, keeps: bool) -> Result<NFA, RegexBuildError>
+    requires two { PassesTwo forward.now }
+    requires keeps { IsTrue keeps ↔ IsUtf8 forward.now }
+    ensures passes { IfOk result (λ reverse. PassesAll forward.now) }
+    ensures reversed { IfOk result (λ reverse. IsReversed forward.now reverse) }
+    ensures pair { IfOk result (λ reverse. (kind : MatchKind)
+        → IsTruePair (engine_of forward.now kind) (engine_of reverse MatchKind.All)) }
+    ensures kept { IfOk result (λ reverse. IsTrue keeps) }
+    ensures utf8 { (result ≡ Err RegexBuildError.NotUtf8) ↔ (IsUtf8 forward.now → ⊥) }
+    ensures refused { IfErr result (λ error. (o : Options) → IsRefusal o forward.now error) }
+{
+    if !keeps {
+        return Err(RegexBuildError::NotUtf8);
+    }
+    match forward.reversed() {
+        Ok(reverse) => Ok(reverse),
+        Err(error) => Err(RegexBuildError::from(error)),
     }
 }
 
