@@ -13,13 +13,16 @@ use Rattle.automata_base.specs.declared.util.search.MatchErrorKind.TheVariants.{
 use Rattle.automata_base.proofs.Paths.Orders.{none_some}
 use Rattle.automata_config.specs.declared.error.StartError.{StartError}
 use Rattle.automata_config.specs.declared.error.StartError.TheVariants as start
+use Rattle.automata_config.specs.declared.error.StepError.{StepError}
+use Rattle.automata_config.specs.declared.error.StepError.TheVariants as step
 use Rattle.automata_config.specs.declared.error.SearchError.{SearchError}
 use Rattle.automata_config.specs.declared.error.SearchError.TheVariants as search
 use Rattle.automata_hybrid.specs.Cache.Stores.{IsKnownTransition, Stored, with_searched}
 use Rattle.automata_hybrid.specs.declared.dfa.progress.Searched.{Searched}
 use Rattle.automata_hybrid.specs.Cache.Caches.{CacheView, with_store}
 use Rattle.automata_hybrid.specs.Walks.Cached.{IsToRead, KnowsItsState}
-use Rattle.automata_hybrid.specs.Cache.Growth.{IsGrown}
+use Rattle.automata_hybrid.specs.Cache.Growth.{IsAddRefused, IsGrown}
+use Rattle.automata_hybrid.specs.Cache.Usage.{GivesUp}
 use Rattle.automata_hybrid.specs.Searches.Cached.{IsOfInput}
 use Rattle.automata_hybrid.specs.Machines.Machine.{Machine, slot_count, table_stride}
 use Rattle.automata_hybrid.specs.Searches.Contracts.{IsUnsupported, unsupported_error}
@@ -29,14 +32,16 @@ use Rattle.automata_hybrid.specs.Walks.Parts.{IsCallAnswer, IsCallRefused, IsRes
 use Rattle.automata_hybrid.specs.Walks.Parts.{IsPutBackEffect}
 use Rattle.automata_hybrid.specs.Searches.Progress.{IsLeftAt, IsUnitRead, with_search_moved}
 use Rattle.automata_hybrid.specs.Walks.Progress.{IsResumed, LeavesCall, ReadsNoUnit}
-use Rattle.automata_hybrid.specs.Searches.Passes.{behind_offset, state_in, tape_in}
+use Rattle.automata_hybrid.specs.Searches.Passes.{behind_offset, given_up_offset, state_in, tape_in}
+use Rattle.automata_hybrid.specs.Searches.PassState.{step_refusal}
 use Rattle.automata_hybrid.specs.Machines.StartSlots.{supports}
 use Rattle.automata_hybrid.specs.Steps.Starts.{IsStartAnswer, IsStartEffect, IsStartRefusal, IsStartRefusalAt}
 use Rattle.automata_hybrid.specs.Steps.Starts.{IsStartRefusedAt, quit_behind, search_refusal}
 use Rattle.automata_hybrid.specs.Steps.Steps.{unit_class}
 use Rattle.automata_base.specs.Powersets.Powerset.{Powerset}
 use Rattle.automata_hybrid.specs.Cache.Table.{IsKnownState, Leads, Names, Rows, id_of}
-use Rattle.automata_hybrid.specs.Walks.Answers.{HasReported, HasReportedAt, IsResumeRefusal, IsWalkOf, IsWalkRefusal, ReportsNext}
+use Rattle.automata_hybrid.specs.Walks.Answers.{HasReported, HasReportedAt, IsPutBackRefusal, IsResumeRefusal, IsWalkOf}
+use Rattle.automata_hybrid.specs.Walks.Answers.{IsWalkRefusal, ReportsNext}
 use Rattle.automata_hybrid.specs.Walks.State.{At, Ended, Fresh, HoldsNone, Ids, IsHeldAt, IsHeldItself, Keeping, Stage}
 use Rattle.automata_hybrid.specs.Walks.State.{States, Walk, keeping_of, without_match, Holds}
 use Rattle.automata_hybrid.specs.declared.search.walk.Held.{Held}
@@ -332,6 +337,40 @@ back_effect {T} {E} way m input t w h handle old new id (k, reported) fresh on a
         resumed = resumed q back;
         err = tt;
       }
+
+-- why that fails is why the walk cannot go on
+pub back_refusal :
+    {T : Type 0} (way : Direction) (m : Machine) (input : Input) (t : Rows) (w : Walk) (h : Held) (handle : Handle)
+    (old new : CacheView) (e : StepError) (r : SearchError)
+    → (w.stage ≡ Fresh → ⊥) → (w.stage ≡ Ended → ⊥) → IsHeldAt t w.stage h → h ≡ held.State (Some handle)
+    → IsAddRefused old new handle.state e → IsPutBackEffect {T = T} handle.state old new (Err e)
+    → r ≡ step_refusal e (given_up_offset way input w.units)
+    → IsResumeRefusal way m new.store input w.stage w.units r
+back_refusal {T} way m input t w h handle old new e r fresh on at is refused effect reported = go w.stage fresh on at where
+  go : (s : Stage) → (s ≡ Fresh → ⊥) → (s ≡ Ended → ⊥) → IsHeldAt t s h → IsResumeRefusal way m new.store input s w.units r
+  go Fresh fresh on at = absurd (fresh refl)
+  go Ended fresh on at = absurd (on refl)
+  go (At q) fresh on at = why e refused effect reported where
+    same : handle.state ≡ q
+    same = (subst (λ (x : Held). Holds t x q) is at).0
+
+    why :
+        (e : StepError) → IsAddRefused old new handle.state e → IsPutBackEffect {T = T} handle.state old new (Err e)
+        → r ≡ step_refusal e (given_up_offset way input w.units)
+        → IsPutBackRefusal new.store q (given_up_offset way input w.units) r
+    why (step.Cache err) refused effect reported =
+        inr (
+          subst (GivesUp new.store) same (subst (λ (v : CacheView). GivesUp v.store handle.state) (sym refused.kept) (refused.gives_up.0 tt)),
+          reported,
+        )
+    why step.OutOfMemory refused effect reported =
+        inl (
+          λ has. (effect.there (subst (λ (v : CacheView). IsKnownState v.store.table handle.state) refused.kept
+              (subst (IsKnownState new.store.table) (sym same) has))).1,
+          λ gives. refused.gives_up.1
+              (subst (λ (v : CacheView). GivesUp v.store handle.state) refused.kept (subst (GivesUp new.store) (sym same) gives)),
+          reported,
+        )
 
 -- one of a set goes on from the ID of its row
 pub row_effect :

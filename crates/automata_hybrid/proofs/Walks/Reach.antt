@@ -3,7 +3,6 @@ use Rattle.std.proofs.Common.{ℕ, ◌≡◌, ◌≤◌, inl, inr, false, true, 
 use Rattle.automata_base.specs.ByteClasses.Classes.{is_quit}
 use Rattle.automata_base.specs.Haystacks.Input.{Input}
 use Rattle.automata_base.specs.Haystacks.Tapes.{Direction}
-use Rattle.automata_config.specs.declared.error.StartError.TheVariants as start
 use Rattle.automata_config.specs.declared.error.SearchError.{SearchError}
 use Rattle.automata_config.specs.declared.error.SearchError.TheVariants as search
 use Rattle.automata_hybrid.specs.Cache.Stores.{Stored}
@@ -24,7 +23,7 @@ module _ (way : Direction) (m : Machine) (c : Stored) (input : Input)
   resume_memory :
       (s : Stage) (units : ℕ) (e : SearchError) → input.start ≤ input.end → IsResumeRefusal way m c input s units e → e ≡ search.OutOfMemory
   resume_memory Fresh units e l r = start_memory way m c input l few same clean mode free _ _ e r
-  resume_memory (At q) units e l (inl r) = r.1
+  resume_memory (At q) units e l (inl r) = r.2
   resume_memory (At q) units e l (inr r) = absurd (no_limit m c q same free r.0)
   resume_memory Ended units e l r = absurd r
 

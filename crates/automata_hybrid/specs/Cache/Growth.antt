@@ -1,5 +1,5 @@
 -- What steps and searches do to a cache. A reset does more.
-use Rattle.std.specs.Prelude.{◌≡◌, ℕ, ◌+◌, ◌-◌, ◌*◌, ◌^◌, ◌<◌, ◌≤◌, ◌⊎◌, length, slice_index, true}
+use Rattle.std.specs.Prelude.{◌≡◌, ℕ, ◌+◌, ◌-◌, ◌*◌, ◌^◌, ◌<◌, ◌≤◌, ◌⊎◌, ◌↔◌, length, slice_index, true}
 use Rattle.automata_base.specs.Powersets.Powerset.{Powerset}
 use Rattle.automata_config.specs.declared.error.StepError.{StepError}
 use Rattle.automata_hybrid.specs.Cache.Stores.{Stored, IsKnownStart, IsKnownTransition, KeepsStarts, cell_of}
@@ -80,7 +80,8 @@ pub record IsAgainEffect (old new : CacheView) : Type 0 where
   pub grown : IsGrown old (counted new)
   pub progress : KeepsProgress old.store new.store
 
--- a state could not be added: nothing changed, and the clear rule gave up, or there was no memory
+-- a state could not be added: nothing changed. The call gave up exactly if it had to: out of memory comes only where
+-- the state fits, or the cache may be cleared for it
 pub record IsAddRefused (old new : CacheView) (q : Powerset) (e : StepError) : Type 0 where
   pub kept : new ≡ old
-  pub gives_up : IsCacheError e → GivesUp old.store q
+  pub gives_up : IsCacheError e ↔ GivesUp old.store q

@@ -104,11 +104,12 @@ ReportsNext way m input old new =
     × ((pairs : List Pair) → AreWalked way m input pairs
     → (new.found ≡ half_nth pairs k) × (length pairs ≤ k → new.stage ≡ Ended))
 
--- why its state is not put back, which the cache does not have: memory runs out, or there is no room for it and the
--- cache may not be cleared
+-- why its state is not put back, which the cache does not have: there is no room for it and the cache may not be
+-- cleared; or that is not so, and memory runs out
 abbrev pub IsPutBackRefusal : Stored → Powerset → (given_up_at : ℕ) → SearchError → Type 0
 IsPutBackRefusal c q at e =
-    ((IsKnownState c.table q → ⊥) × (e ≡ search.OutOfMemory)) ⊎ (GivesUp c q × (e ≡ search.Match (GaveUp at)))
+    ((IsKnownState c.table q → ⊥) × (GivesUp c q → ⊥) × (e ≡ search.OutOfMemory))
+    ⊎ (GivesUp c q × (e ≡ search.Match (GaveUp at)))
 
 -- why a walk cannot go on: it has not begun and its start state fails, or it has and its state is not put back
 abbrev pub IsResumeRefusal : Direction → Machine → Stored → Input → Stage → (units : ℕ) → SearchError → Type 0

@@ -33,7 +33,7 @@ use crate::search::walk::Handle;
 use automata_base::util::determinize::{Key, Scratch, State, next_key, start_key};
 use automata_base::util::primitives::PatternID;
 use automata_base::util::search::Anchored;
-use automata_config::error::StepError;
+use automata_config::error::{CacheError, StepError};
 use std::alloc::AllocError;
 use std::cell::Cell;
 use std::fmt;
@@ -200,17 +200,22 @@ impl Cache {
         Snapshot::of(self.store.table.state(id))
     }
 
-    /// Adds the state of a walk, which a clear has dropped or which another cache had. An error changes nothing.
-    pub(crate) fn add_again(&mut self, dfa: &DFA, state: State) -> Result<LazyStateID, StepError>
+    /// Adds the state of a walk, which a clear has dropped or which another cache had. It gives up before it shares
+    /// the state. An error changes nothing.
+    pub(crate) fn add_again(&mut self, dfa: &DFA, state: &State) -> Result<LazyStateID, StepError>
         requires dfa { IsCacheOf self.old dfa.now }
-        requires new { IsNewState self.old.store.table state }
-        ensures named { IfOk result (λ id. Names self.new.store.table id state) }
+        requires new { IsNewState self.old.store.table state.now }
+        ensures named { IfOk result (λ id. Names self.new.store.table id state.now) }
         ensures added { OnOk result (IsStateAdded self.old.store (cleared self.old.store)
-            (record { state = state; started = false }) self.new.store) }
+            (record { state = state.now; started = false }) self.new.store) }
         ensures effect { IsAgainEffect self.old self.new }
-        ensures refused { IfErr result (IsAddRefused self.old self.new state) }
+        ensures refused { IfErr result (IsAddRefused self.old self.new state.now) }
     {
         self.see_bounds();
+        if self.store.gives_up(state) {
+            return Err(StepError::Cache(CacheError));
+        }
+        let state = state.clone()?;
         let id = self.add_start(dfa, state, false)?;
         self.see_bounds();
         Ok(id)

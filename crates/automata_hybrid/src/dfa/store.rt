@@ -149,12 +149,20 @@ impl Store {
         self.searched.total_len() < bytes.saturating_mul(self.table.len() + 3)
     }
 
+    /// Whether a search gives up at a state that no row has: it does not fit, and no clear is allowed for it.
+    pub fn gives_up(&self, state: &State) -> bool
+        requires { cost state.now ≤ greatest self.now.table.of }
+        ensures { IsTrue result ↔ ((Fits self.now (cost state.now) → ⊥) × (refuses_to_clear self.now ≡ true)) }
+    {
+        !self.fits(self.cost_of(state)) && self.refuses()
+    }
+
     /// What a clear leaves of the cache, unless the search gives up. It changes nothing here.
     pub fn cleared(&self, dfa: &DFA) -> Result<Store, StepError>
         requires { dfa.now ≡ self.now.table.of }
         ensures cleared { IfOk result (IsCleared self.now) }
         ensures room { IfOk result FitsAny }
-        ensures gives_up { IfErr result (λ e. IsCacheError e → refuses_to_clear self.now ≡ true) }
+        ensures gives_up { IfErr result (λ e. IsCacheError e ↔ (refuses_to_clear self.now ≡ true)) }
     {
         if self.refuses() {
             return Err(StepError::Cache(CacheError));

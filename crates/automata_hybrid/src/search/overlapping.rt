@@ -100,8 +100,7 @@ impl DFA {
         if let Some(id) = cache.find(&handle.key) {
             return Ok(id);
         }
-        let state = handle.state.clone()?;
-        let id = cache.add_again(self, state)?;
+        let id = cache.add_again(self, &handle.state)?;
         Ok(id)
     }
 

@@ -1,7 +1,9 @@
 use Rattle.std.proofs.Common.{ℕ, ◌≡◌, ◌∙◌, Option, Some, ap}
 use Rattle.automata_hybrid.specs.Machines.Machine.{Machine, slot_count}
 use Rattle.automata_hybrid.specs.Walks.State.{way_of}
-use Rattle.automata_hybrid.proofs.Walks.Parts.{back_effect, row_effect, start_answer, start_effect, start_refusal}
+use Rattle.automata_hybrid.proofs.Walks.Parts.{back_effect, back_refusal, row_effect, start_answer, start_effect, start_refusal}
+use Rattle.automata_hybrid.specs.Searches.Passes.{given_up_offset}
+use Rattle.automata_hybrid.specs.Searches.PassState.{step_refusal}
 use Rattle.automata_hybrid.specs.declared.search.walk.Handle.{Handle}
 use Rattle.automata_hybrid.specs.declared.search.walk.Held.TheVariants as held
 use Rattle.automata_hybrid.proofs.dfa.DFA.resume.Goals as goal
@@ -34,3 +36,10 @@ returns-in-Row-Some-clause-effect c =
     c.in-Row-Some.is ∙ ap (λ (h : Option ℕ). held.Row h) (rw c.in-Row-Some.is at c.in-Row-Some.field-0-is) in
     row_effect (way_of c.args.way) c.args.self.now c.args.input.now c.args.cache.now c.args.walk.now c.args.held.now c.in-Row-Some.id
     (c.is_fresh.ensures.no c.if-is_fresh.false) c.requires.walk.reads.on c.requires.walk.holds row
+
+pub returns-in-Err-clause-refusal : goal.returns-in-Err-clause-refusal
+returns-in-Err-clause-refusal c =
+    back_refusal {T = ℕ} (way_of c.args.way) c.args.self.now c.args.input.now c.args.cache.now.store.table c.args.walk.now c.args.held.now c.in-State-Some.handle
+    c.args.cache.now c.put_back.new.cache c.in-Err.error c.refusal.result
+    (c.is_fresh.ensures.no c.if-is_fresh.false) c.requires.walk.reads.on c.requires.walk.holds (c.in-State-Some.is ∙ ap (λ (h : Option Handle). held.State h) (rw c.in-State-Some.is at c.in-State-Some.field-0-is))
+    c.in-Err.ensures.refused c.in-Err.ensures.effect (c.refusal.ensures ∙ ap (step_refusal c.in-Err.error) (c.span_offset.ensures.value ∙ ap (given_up_offset (way_of c.args.way) c.args.input.now) c.units.ensures))

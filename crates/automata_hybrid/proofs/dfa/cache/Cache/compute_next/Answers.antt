@@ -61,7 +61,7 @@ returns-in_err-from-in-New-clause-refusal c =
     let found : IsLookedUp c.resolve.new.self.store.table c.in_ok-key.key (New c.in-New.state) = looked_up c.determinize.new.self c.resolve.new.self c.in_ok-key.key _ (New c.in-New.state) c.resolve.ensures.same c.in-New.is c.in_ok-to.ensures.found in
     if_err c.from_residual-in_err-from-in-New.result _ _ c.from_residual-in_err-from-in-New.ensures.1 (record {
       gives_up = λ cache q named. subst (GivesUp c.args.self.now.store) (found.0 ∙ c.in_ok-key.ensures.successor q named)
-          (subst (λ (v : CacheView). GivesUp v.store c.in-New.state) same (c.in_err-from-in-New.ensures.refused.gives_up cache));
+          (subst (λ (v : CacheView). GivesUp v.store c.in-New.state) same (c.in_err-from-in-New.ensures.refused.gives_up.0 cache));
       low = c.see_bounds.ensures.sound.low c.args.id c.requires.valid.0 c.requires.valid.1;
       clean = c.requires.clean;
       unknown = c.requires.unknown;
