@@ -20,7 +20,8 @@ counted() { # WORK PROGRAM FUNCTION..
         set -- "$@" --toggle-collect="$function"
         shift
     done
-    valgrind --tool=callgrind --callgrind-out-file="$copy/$work.$(basename "$program")" "$@" "$program" "$work" 2>&1 |
+    valgrind --tool=callgrind --callgrind-out-file="$copy/$work.$(basename "$program")" "$@" "$program" "$work" \
+        2>&1 < "$copy/LICENSE-APACHE" |
         awk -v work="$work" 'FNR == NR { if ($1 == work) units = $2; next } /Collected/ { total = $NF }
             END { each = total / units; print total ? sprintf(each < 100 ? "%.2f" : "%.0f", each) : "-" }' "$units" -
 }

@@ -9,8 +9,9 @@
 # A round runs each work by the three programs in turn, so that ratios are of neighbours in time. For each work it prints
 # the middle of the rounds in nanoseconds of the processor a unit, and in brackets the first and the third quarter; and
 # the times of the twin and of RE2 by ours, likewise. A machine that others use moves times by half and more: what it
-# prints is worth as much as these brackets are narrow. The works stand in measure/measure.in, and their units in
-# measure/works. With all works it draws the plot docs/speed.svg. MEASURE_COPY names a copy to use again.
+# prints is worth as much as these brackets are narrow. The works stand in measure/measure.in and measure/mixed.in, and
+# their units in measure/works. The lines of the licence make the running text of `prose` and `prosetail`. With all works
+# it draws the plot docs/speed.svg. MEASURE_COPY names a copy to use again.
 set -eu
 rounds=${1:-7}
 [ "$#" -eq 0 ] || shift
@@ -24,6 +25,7 @@ for crate in automata_base automata_config automata_hybrid regex_automata; do
 done
 mkdir -p "$copy/crates/measure/src"
 cp "$top/tools/measure/measure.in" "$copy/crates/measure/src/main.rt"
+cp "$top/tools/measure/mixed.in" "$copy/crates/measure/src/mixed.rt"
 echo 'measure: regex_automata' >> "$copy/crates.txt"
 (cd "$copy/crates/measure" && rt run --jobs 2 -- first) > "$copy/proved" 2>&1 || { cat "$copy/proved"; exit 1; }
 here=$copy/crates/measure/out/measure
@@ -40,7 +42,7 @@ all=$(cut -d ' ' -f 1 "$top/tools/measure/works")
 works=${*:-$all}
 : > "$copy/told"
 tell() { # ROUND WHO PROGRAM WORK
-    [ ! -x "$3" ] || "$3" "$4" | sed "s/^/$1 $2 /" >> "$copy/told"
+    [ ! -x "$3" ] || "$3" "$4" < "$top/LICENSE-APACHE" | sed "s/^/$1 $2 /" >> "$copy/told"
 }
 round=1
 while [ "$round" -le "$rounds" ]; do

@@ -34,8 +34,9 @@ static std::string text_of(const char* piece, size_t size) {
 // Letters that look random, the same ones in each program.
 struct Noise {
   uint32_t state;
+  void step() { state = state * 1664525 + 1013904223; }
   char letter() {
-    state = state * 1664525 + 1013904223;
+    step();
     return 'a' + (state >> 28);
   }
 };
@@ -52,6 +53,65 @@ static std::string random_text(size_t size) {
   std::string text;
   Noise noise{2};
   for (size_t i = 0; i < size; i++) text += noise.letter();
+  return text;
+}
+
+// A number below a count.
+static size_t below(Noise& noise, size_t count) {
+  noise.step();
+  return (noise.state >> 16) * count >> 16;
+}
+
+// Adds so many bytes, each one of these.
+static void add(std::string& text, Noise& noise, const char* bytes, size_t count) {
+  size_t length = strlen(bytes);
+  for (; count > 0; count--) text += bytes[below(noise, length)];
+}
+
+// Lines of a log: a time, a level, a name, and words and numbers.
+static std::string log_text() {
+  static const char* const levels[] = {" DEBUG ", " INFO ", " WARN ", " ERROR "};
+  static const char digits[] = "0123456789", letters[] = "abcdefghijklmnopqrstuvwxyz";
+  std::string text;
+  Noise noise{3};
+  while (text.size() < kSize) {
+    for (char separator : {':', ':', '.'}) {
+      add(text, noise, digits, 2);
+      text += separator;
+    }
+    add(text, noise, digits, 3);
+    text += levels[below(noise, 4)];
+    size_t length = below(noise, 6) + 3;
+    add(text, noise, letters, length);
+    length = below(noise, 3);
+    add(text, noise, digits, length);
+    text += ':';
+    for (size_t fields = below(noise, 4) + 3; fields > 0; fields--) {
+      text += ' ';
+      const char* of = below(noise, 2) == 0 ? letters : digits;
+      length = below(noise, 6) + 1;
+      add(text, noise, of, length);
+    }
+    text += '\n';
+  }
+  text.resize(kSize);
+  return text;
+}
+
+// The lines of standard input, in one order after another.
+static std::string running_text() {
+  std::string given, text;
+  for (int byte; (byte = getchar()) != EOF;) given += byte;
+  std::vector<std::string> lines(1);
+  for (char byte : given)
+    if (byte == '\n') lines.emplace_back();
+    else lines.back() += byte;
+  Noise noise{4};
+  while (text.size() < kSize) {
+    for (size_t at = 0; at < lines.size(); at++) std::swap(lines[at], lines[at + below(noise, lines.size() - at)]);
+    for (const std::string& line : lines) text += line + '\n';
+  }
+  text.resize(kSize);
   return text;
 }
 
@@ -76,9 +136,8 @@ static void tell(const char* work, long count, long start) {
 
 
 // RE2 has no search for an end alone: it is asked for spans here too.
-static void matches(const char* work, const char* pattern, const char* piece, size_t size = kSize) {
+static void matches_in(const char* work, const char* pattern, const std::string& text, size_t size = kSize) {
   RE2 re(pattern, latin());
-  std::string text = text_of(piece, size);
   long start = now(), count = 0;
   for (size_t turn = turns(size); turn > 0; turn--) {
     size_t at = 0;
@@ -89,6 +148,10 @@ static void matches(const char* work, const char* pattern, const char* piece, si
     }
   }
   tell(work, count, start);
+}
+
+static void matches(const char* work, const char* pattern, const char* piece, size_t size = kSize) {
+  matches_in(work, pattern, text_of(piece, size), size);
 }
 
 static void ends(const char* work, const char* piece, size_t size = kSize) { matches(work, "[0-9]{4}", piece, size); }
@@ -232,6 +295,9 @@ int main(int n, char** words) {
     else if (w == "first20") first(name, twenty(), kShort, 20000);
     else if (w == "whole") whole(name, "[0-9]{4}");
     else if (w == "whole20") whole(name, twenty());
+    else if (w == "date") matches_in(name, "[0-9]{4}-[0-9]{2}-[0-9]{2}", log_text());
+    else if (w == "numbers") matches_in(name, "\\b[0-9]+\\b", log_text());
+    else if (w == "prose") matches_in(name, "[a-z]+", running_text());
     else if (!grow(name)) printf("%s -\n", name);
   }
 }

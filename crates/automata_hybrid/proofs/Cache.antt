@@ -1,4 +1,5 @@
 pub mod Rows
+pub mod Strides
 pub mod Additions
 pub mod Places
 pub mod Clears

@@ -1,11 +1,12 @@
 //! The works of measure.in by a lean lazy DFA of the library's design in unchecked Rust: it keeps no progress, and has no
 //! quit bytes, no modes but the anchored one, and no limits.
 
-// What it does for looks and sparse states, which no work has, is here so that it is asked for them, as the library is.
+// Some looks are in no work. They are here so that it is asked for them, as the library is.
 #![allow(dead_code)]
 
 mod cache;
 mod dfa;
+mod mixed;
 mod nfa;
 mod search;
 
@@ -186,12 +187,17 @@ fn memory(size: usize) -> Told {
     timed(|| (0..turns(size)).fold(0, |sum, _| sum_of(&text, sum)))
 }
 
+/// How many matches are found, where each search begins at the end of the match before.
+fn count_ends(searcher: &mut Searcher, text: &[u8]) -> usize {
+    let mut next = |&end: &usize| searcher.end_from(text, end);
+    iter::successors(next(&0), &mut next).count()
+}
+
 /// The ends of all matches in a text of a size.
 fn forward(piece: &[u8], size: usize) -> Told {
     let mut searcher = Searcher::new(digits().build(), Config::default());
     let text = text_of(piece, size);
-    let mut next = |&end: &usize| searcher.end_from(&text, end);
-    timed(|| (0..turns(size)).map(|_| iter::successors(next(&0), &mut next).count()).sum())
+    timed(|| (0..turns(size)).map(|_| count_ends(&mut searcher, &text)).sum())
 }
 
 /// Reads back over text without a match.
@@ -316,7 +322,7 @@ fn measure(work: &str) -> Option<Told> {
         "first20" => first(words, SHORT, 20_000, false),
         "whole" => first(digits, SHORT, 20_000, true),
         "whole20" => first(words, SHORT, 20_000, true),
-        _ => return grow(work),
+        _ => return mixed::measure(work).or_else(|| grow(work)),
     })
 }
 

@@ -40,6 +40,17 @@ impl Draft {
         self.nodes.push(Node::Range(lo, hi, self.len() + 1));
     }
 
+    /// Reads one byte of some range, and goes on at the next node.
+    pub(crate) fn read_one_of(&mut self, ranges: &[(u8, u8)]) {
+        let next = self.len() + 1;
+        self.nodes.push(Node::Sparse(ranges.iter().map(|(lo, hi)| (*lo, *hi, next)).collect()));
+    }
+
+    /// Goes on at the next node if the look holds.
+    pub(crate) fn look(&mut self, look: u32) {
+        self.nodes.push(Node::Look(look, self.len() + 1));
+    }
+
     /// Goes on at a node, or else at the next one.
     pub(crate) fn again(&mut self, from: u32) {
         self.nodes.push(Node::Union(vec![from, self.len() + 1]));

@@ -17,7 +17,7 @@ use automata_base::util::search::Input;
 
 /// How many bytes are followed before a self-loop is looked for again, if one was looked for in vain. That look reads
 /// up to eight cells, which is little beside so many bytes.
-const PATIENCE: usize = 256;
+const PATIENCE: usize = 128;
 
 /// Where cached transitions were followed to.
 #[derive(Clone, Copy)]
@@ -121,7 +121,7 @@ impl DFA {
             let same = eight.id == id;
             at = eight.at;
             id = eight.id;
-            if !same || at < again {
+            if at < again || !same {
                 continue;
             }
             let stop = self.follow_loop(cache, input, way, at, id);

@@ -9,8 +9,8 @@ eights-init c = record { within = omega (arith, c.requires.within, c.last_place-
 pub follow_eight-eight-requires-clause-at : goal.follow_eight-eight-requires-clause-at
 follow_eight-eight-requires-clause-at c = run_at c.requires.at.kind c.eights.invariant.run
 
-pub eights-preserved-then-not-same : goal.eights-preserved-then-not-same
-eights-preserved-then-not-same c =
+pub eights-preserved-then-at-again : goal.eights-preserved-then-at-again
+eights-preserved-then-at-again c =
     record {
       within = omega (arith, c.eights-test.true, c.follow_eight-eight.ensures.upto);
       run = run_on c.eights.invariant.run c.follow_eight-eight.ensures.run;
