@@ -137,6 +137,11 @@ copied f p (is.Capture next pattern index slot) = Split []
 copied f p is.Fail = Split []
 copied f p (is.Match pattern) = Accept p
 
+-- The lists with a match state more, after those of its pattern.
+abbrev pub list_match : List (List ℕ) → Option ℕ → (x : ℕ) → List (List ℕ)
+list_match lists None x = lists
+list_match lists (Some p) x = push_at lists p x
+
 -- The copies of the states of a list.
 abbrev pub copies : (ℕ → ℕ) → (p : ℕ) → List State → List ℕ → List Node
 copies f p states [] = []
@@ -161,8 +166,8 @@ AreTurned states reached first turned =
     ≡ turn_by (turn_states (record { lists = no_lists (length states); helpers = [] }) states reached) (is.Match 0)
     first)
 
--- Of these nodes, those from `base` up to the entry are copies, for the pattern `p`, of the turned states that are reached
--- from the roots; and the entry goes on to the copies of the roots.
+-- Of these nodes, those from `base` up to the entry are copies, for the pattern `p`, of the turned states that are
+-- reached from the roots; and the entry goes on to the copies of the roots.
 pub record IsCopied (nodes : List Node) (turned : List State) (roots : List ℕ) (p entry base : ℕ) (items : List ℕ) :
     Type 0 where
   pub reached : (q : ℕ) → In q items ↔ IsReached Every turned roots q

@@ -1,6 +1,6 @@
 -- Copies of turned states, and their numbers.
 use Rattle.std.proofs.Common.{ℕ, zero, suc, ◌≡◌, ◌<◌, ◌≤◌, ◌+◌, ◌⊎◌, ◌↔◌, ◌&&◌, ltb, Bool, true, false, cond, List}
-use Rattle.std.proofs.Common.{[], ◌∷◌, ◌++◌, length, length-append, get_or, drop, map, Option, Some, None, inl, inr, refl, sym}
+use Rattle.std.proofs.Common.{[], ◌∷◌, ◌++◌, length, length-append, get_or, drop, map, Vec, Option, Some, None, inl, inr, refl, sym}
 use Rattle.std.proofs.Common.{ap, ◌∙◌, subst, arith, append_assoc, append-nil}
 use Rattle.std.proofs.lemmas.List.{get_or_default, drop_more, drop_all}
 use Rattle.automata_base.specs.declared.nfa.thompson.State.{State}
@@ -17,7 +17,9 @@ use Rattle.automata_base.proofs.Paths.Orders.{some_inj, none_some}
 use Rattle.std.proofs.lemmas.Bool.{ltb-true, ltb-false, lt-ltb}
 use Rattle.automata_base.proofs.Paths.Walks.{in_either}
 use Rattle.automata_base.specs.Retraced.ReversedEdges.{copied, copies, copy_of, is_of, matches_in, IsCopied}
-use Rattle.automata_base.specs.Retraced.ReversedEdges.{Copied, HaveCopies, part_at}
+use Rattle.automata_base.specs.Retraced.ReversedEdges.{Copied, HaveCopies, part_at, list_at, lists_of}
+use Rattle.std.specs.declared.alloc.Global.{Global}
+use Rattle.automata_base.proofs.Nfas.Mirrors.Lists.{list_item}
 use Rattle.std.proofs.lemmas.Bool.{and_parts}
 use Rattle.automata_base.proofs.Nfas.Reach.Walked.{way_more}
 
@@ -81,6 +83,21 @@ matches_next states p xs out new w i id at s b l e k a g c n h =
         ≡ cond b (id ∷ matches_in states p (drop (i + 1) xs)) (matches_in states p (drop (i + 1) xs))
     pulled true = refl
     pulled false = refl
+
+pub matches_done :
+    (states : List State) (p : ℕ) (xs out w : List ℕ) (i : ℕ) → length xs ≤ i → out ++ matches_in states p (drop i xs) ≡ w → out ≡ w
+matches_done states p xs out w i l h =
+    sym (append-nil out) ∙ (sym (ap (λ z. out ++ matches_in states p z) (drop_all i xs l)) ∙ h)
+
+-- The roots of a pattern, as they were listed.
+pub roots_are :
+    (vs : List (Vec ℕ Global)) (states : List State) (reached roots : List ℕ) (v : Vec ℕ Global) (patterns p q : ℕ)
+    → roots ≡ v.items → p < patterns → length vs ≡ patterns → v ≡ get_or vs p v
+    → ((p : ℕ) → p < patterns → list_at (lists_of vs) p ≡ matches_in states p reached) → q ≡ p → roots ≡ matches_in states q reached
+roots_are vs states reached roots v patterns p q r l few e m same =
+    r
+    ∙ (sym (list_item vs p v (omega (arith, l, few)) e)
+    ∙ (m p l ∙ ap (λ z. matches_in states z reached) (sym same)))
 
 pub nth_more : {A : Type 0} (xs ys : List A) (j : ℕ) (a : A) → slice_get xs j ≡ Some a → slice_get (xs ++ ys) j ≡ Some a
 nth_more [] ys j a e = absurd (none_of e)

@@ -1,19 +1,20 @@
 -- Lists of lists, and what is added after one of them.
 use Rattle.std.proofs.Common.{ℕ, zero, suc, ◌≡◌, ◌<◌, ◌+◌, ◌-◌, Bool, true, false, cond, eqb, leb, Option, Some, None}
-use Rattle.std.proofs.Common.{Result, Ok, length-append}
+use Rattle.std.proofs.Common.{Result, Ok, length-append, append-nil, ◌≤◌, ◌⊎◌, inl, inr}
 use Rattle.std.specs.Prelude.{slice_get}
 use Rattle.std.proofs.Common.{Err, List, [], ◌∷◌, ◌++◌, length, get_or, drop, Vec, refl, sym, ap, ◌∙◌, subst, arith}
 use Rattle.std.proofs.Math.ListN.{set}
 use Rattle.std.specs.Result.{IsErrAnd}
 use Rattle.std.proofs.lemmas.Bool.{eqb-true, leb-false}
-use Rattle.std.proofs.lemmas.Bool.Decides.{nat_tests}
+use Rattle.std.proofs.lemmas.Bool.Decides.{eqb_tells, nat_tests}
 use Rattle.automata_base.proofs.Paths.Sets.{nth_in}
 use Rattle.std.proofs.lemmas.List.{drop_more, get_or_default}
 use Rattle.std.specs.declared.alloc.Global.{Global}
 use Rattle.automata_base.specs.declared.nfa.thompson.State.{State}
 use Rattle.automata_base.specs.declared.nfa.thompson.State.TheVariants.{Fail}
 use Rattle.automata_base.specs.Lists.{In}
-use Rattle.automata_base.specs.Retraced.ReversedEdges.{Turns, lists_of, push_at, put, put_at, ends_in, is_of, no_lists}
+use Rattle.automata_base.specs.Retraced.ReversedEdges.{Turns, lists_of, list_at, list_match, push_at, put, put_at}
+use Rattle.automata_base.specs.Retraced.ReversedEdges.{ends_in, is_of, no_lists}
 use Rattle.automata_base.specs.Retraced.ReversedEdges.{turn_state, turn_states}
 use Rattle.automata_base.specs.Retraced.ReversedEdges.{IsHead, AreHeads, AreMade}
 use Rattle.automata_base.proofs.Paths.Orders.{some_inj, none_some}
@@ -82,6 +83,53 @@ ends_member xs x e = go (slice_get xs (length xs - 1)) refl e
     go : (o : Option ℕ) → slice_get xs (length xs - 1) ≡ o → is_of o x ≡ true → In x xs
     go None f e = let k : false ≡ true = e in absurd cc
     go (Some y) f e = nth_in xs (length xs - 1) x (f ∙ ap Some (eqb-true y x e))
+
+-- The list of a number.
+pub list_item :
+    (vs : List (Vec ℕ Global)) (k : ℕ) (v : Vec ℕ Global) → k < length vs → v ≡ get_or vs k v → list_at (lists_of vs) k ≡ v.items
+list_item [] k v l e = absurd (omega (arith, l))
+list_item (w ∷ ws) zero v l e = ap (λ (z : Vec ℕ Global). z.items) (sym e)
+list_item (w ∷ ws) (suc k) v l e = list_item ws k v (omega (arith, l)) e
+
+pub none_at : (n k : ℕ) → list_at (no_lists n) k ≡ []
+none_at zero k = refl
+none_at (suc n) zero = refl
+none_at (suc n) (suc k) = none_at n k
+
+-- What is added past the last list changes nothing.
+pub push_past : (xs : List (List ℕ)) (k x : ℕ) → length xs ≤ k → push_at xs k x ≡ xs
+push_past [] k x l = refl
+push_past (y ∷ ys) zero x l = absurd (omega (arith, l))
+push_past (y ∷ ys) (suc k) x l = ap (λ z. y ∷ z) (push_past ys k x (omega (arith, l)))
+
+push_same : (xs : List (List ℕ)) (k x : ℕ) → k < length xs → list_at (push_at xs k x) k ≡ list_at xs k ++ x ∷ []
+push_same [] k x l = absurd (omega (arith, l))
+push_same (y ∷ ys) zero x l = refl
+push_same (y ∷ ys) (suc k) x l = push_same ys k x (omega (arith, l))
+
+push_other : (xs : List (List ℕ)) (j k x : ℕ) → (j ≡ k → ⊥) → list_at (push_at xs j x) k ≡ list_at xs k
+push_other [] j k x f = refl
+push_other (y ∷ ys) zero zero x f = absurd (f refl)
+push_other (y ∷ ys) zero (suc k) x f = refl
+push_other (y ∷ ys) (suc j) zero x f = refl
+push_other (y ∷ ys) (suc j) (suc k) x f = push_other ys j k x (λ e. f (ap suc e))
+
+-- The list of a pattern with a state more.
+pub listed_at :
+    (xs : List (List ℕ)) (found : Option ℕ) (x p : ℕ) → p < length xs
+    → list_at (list_match xs found x) p ≡ list_at xs p ++ cond (is_of found p) (x ∷ []) []
+listed_at xs None x p l = sym (append-nil (list_at xs p))
+listed_at xs (Some q) x p l = go (eqb_tells q p)
+  where
+    go :
+        ((eqb q p ≡ true) × (q ≡ p)) ⊎ ((eqb q p ≡ false) × (q ≡ p → ⊥))
+        → list_at (push_at xs q x) p ≡ list_at xs p ++ cond (eqb q p) (x ∷ []) []
+    go (inl e) =
+        ap (λ z. list_at (push_at xs z x) p) e.1
+        ∙ (push_same xs p x l ∙ ap (λ b. list_at xs p ++ cond b (x ∷ []) []) (sym e.0))
+    go (inr e) =
+        push_other xs q p x e.1
+        ∙ (sym (append-nil (list_at xs p)) ∙ ap (λ b. list_at xs p ++ cond b (x ∷ []) []) (sym e.0))
 
 pub some_id : (b : Bool) (n id : ℕ) → cond b (Some n) None ≡ Some id → id ≡ n
 some_id true n id e = sym (some_inj e)

@@ -6,13 +6,14 @@ ghost use Rattle.automata_base.specs.Lists.{In, all_below, Distinct};
 ghost use Rattle.automata_base.specs.Nfas.Nodes.{node_of, nodes_of};
 ghost use Rattle.automata_base.specs.Retraced.Reach.{targets_at, targets_of};
 ghost use Rattle.automata_base.specs.Nfas.Errors.{states_below};
-ghost use Rattle.automata_base.specs.Retraced.ReversedEdges.{copied, copies, copy_of, is_of, matches_in, HaveCopies};
+ghost use Rattle.automata_base.specs.Retraced.ReversedEdges.{copied, copies, copy_of, lists_of, list_at, list_match};
+ghost use Rattle.automata_base.specs.Retraced.ReversedEdges.{matches_in, HaveCopies};
 
 use crate::nfa::thompson::State;
 use crate::nfa::thompson::checks::MAX_STATES;
 use crate::nfa::thompson::reach::{Edges, walk};
 use crate::nfa::thompson::reading::pattern_of;
-use crate::nfa::thompson::turn::MakeError;
+use crate::nfa::thompson::turn::{MakeError, no_lists, push_at};
 use crate::util::determinize::sparse_set::SparseSet;
 use crate::util::primitives::{PatternID, StateID};
 use std::alloc::{AllocError, Global};
@@ -120,33 +121,43 @@ fn copy_all(
     Ok(())
 }
 
-// Whether it is this pattern.
-fn is_of(found: Option<PatternID>, pattern: PatternID) -> bool
-    ensures { result ≡ is_of found pattern }
+// Adds the state to the list of the pattern that it matches, if it is a match.
+fn list_match(
+    lists: &mut Vec<Vec<StateID>>,
+    found: Option<PatternID>,
+    id: StateID,
+) -> Result<(), AllocError>
+    ensures listed { OnOk result (lists_of lists.new.items ≡ list_match (lists_of lists.old.items) found id) }
+    ensures few { OnOk result (length lists.new.items ≡ length lists.old.items) }
 {
-    match found {
-        Some(other) => other == pattern,
-        None => false,
+    let Some(pattern) = found else {
+        return Ok(());
+    };
+    let at = pattern.as_usize();
+    if at >= lists.len() {
+        return Ok(());
     }
+    push_at(lists, at, id)?;
+    Ok(())
 }
 
-// The match states of the pattern among these.
-fn matches_of(
+// For each pattern its match states among these.
+fn matches_by_pattern(
     alloc: Global,
     states: &[State],
     ids: &[StateID],
-    pattern: PatternID,
-) -> Result<Vec<StateID>, AllocError>
+    patterns: usize,
+) -> Result<Vec<Vec<StateID>>, AllocError>
     requires { all_below (length states.now) ids.now ≡ true }
-    ensures { IfOk result (λ v. v.items ≡ matches_in states.now pattern ids.now) }
+    ensures matches { IfOk result (λ v. (p : ℕ) → p < patterns
+        → list_at (lists_of v.items) p ≡ matches_in states.now p ids.now) }
+    ensures few { IfOk result (λ v. length v.items ≡ patterns) }
 {
-    let mut matches = Vec::new(alloc);
+    let mut lists = no_lists(alloc, patterns)?;
     for id in ids {
-        if is_of(pattern_of(&states[id.as_usize()]), pattern) {
-            matches.push(*id)?;
-        }
+        list_match(&mut lists, pattern_of(&states[id.as_usize()]), *id)?;
     }
-    Ok(matches)
+    Ok(lists)
 }
 
 /// Copies for patterns, and for each pattern the state where its paths begin.
@@ -228,10 +239,11 @@ pub fn parts_of(
         states: Vec::new(alloc),
         entries: Vec::new(alloc),
     };
+    let matches = matches_by_pattern(alloc, states, reached, patterns)?;
     for p in 0..patterns {
         let pattern = PatternID::new_unchecked(p as u32);
-        let roots = matches_of(alloc, states, reached, pattern)?;
-        add_part(alloc, turned, &roots, &mut set, pattern, &mut parts)?;
+        let roots = &matches[p];
+        add_part(alloc, turned, roots, &mut set, pattern, &mut parts)?;
     }
     Ok(parts)
 }

@@ -48,7 +48,20 @@ fn push_state(states: &mut Vec<State>, state: State) -> Result<(), AllocError>
     Ok(())
 }
 
-fn push_at(lists: &mut Vec<Vec<StateID>>, at: usize, id: StateID) -> Result<(), AllocError>
+/// So many lists, all of them empty.
+pub fn no_lists(alloc: Global, count: usize) -> Result<Vec<Vec<StateID>>, AllocError>
+    ensures none { IfOk result (λ v. lists_of v.items ≡ no_lists count) }
+    ensures few { IfOk result (λ v. length v.items ≡ count) }
+{
+    let mut lists = Vec::new(alloc);
+    for i in 0..count {
+        lists.push(Vec::new(alloc))?;
+    }
+    Ok(lists)
+}
+
+/// Adds it after the others of a list.
+pub fn push_at(lists: &mut Vec<Vec<StateID>>, at: usize, id: StateID) -> Result<(), AllocError>
     requires { at < length lists.old.items }
     ensures pushed { OnOk result (lists_of lists.new.items ≡ push_at (lists_of lists.old.items) at id) }
     ensures few { OnOk result (length lists.new.items ≡ length lists.old.items) }
@@ -178,10 +191,7 @@ impl EdgesByTarget {
         ensures none { IfOk result (λ t. turns_of t ≡ record { lists = no_lists states; helpers = [] }) }
         ensures few { IfOk result (λ t. length t.lists.items ≡ states) }
     {
-        let mut lists = Vec::new(alloc);
-        for i in 0..states {
-            lists.push(Vec::new(alloc))?;
-        }
+        let lists = no_lists(alloc, states)?;
         Ok(EdgesByTarget {
             lists,
             helpers: Vec::new(alloc),

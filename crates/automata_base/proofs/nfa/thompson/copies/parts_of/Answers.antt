@@ -1,18 +1,20 @@
-use Rattle.std.proofs.Common.{List, ℕ, ◌≤◌, [], ◌∷◌, ◌+◌, length, length-append, refl, sym, ap, ◌∙◌, subst, arith}
+use Rattle.std.proofs.Common.{List, ℕ, ◌≡◌, ◌≤◌, [], ◌∷◌, ◌+◌, length, length-append, refl, sym, ap, ◌∙◌, subst, arith}
 use Rattle.automata_base.specs.declared.nfa.thompson.State.{State}
 use Rattle.automata_base.specs.Retraced.Copies.{AreParts, IsPartAdded}
 use Rattle.automata_base.specs.Lists.{all_below}
 use Rattle.automata_base.specs.Nfas.Nodes.{nodes_of}
-use Rattle.automata_base.specs.Retraced.ReversedEdges.{HaveCopies, IsCopied}
+use Rattle.automata_base.specs.Retraced.ReversedEdges.{HaveCopies, IsCopied, matches_in}
 use Rattle.automata_base.proofs.Powersets.Walking.{nodes_length}
-use Rattle.automata_base.proofs.Nfas.Mirrors.Copies.{have_more, have_none, matches_below, matches_few}
+use Rattle.automata_base.proofs.Nfas.Mirrors.Copies.{have_more, have_none, roots_are, matches_below, matches_few}
 use Rattle.automata_base.proofs.Nfas.Mirrors.Fits.{added_copies, added_length, added_more, added_nodes, part_fits, part_large}
 use Rattle.automata_base.proofs.Nfas.Mirrors.Lists.{err_is}
 use Rattle.automata_base.proofs.nfa.thompson.copies.parts_of.Goals as goal
 
 pub add_part-requires-clause-roots : goal.add_part-requires-clause-roots
 add_part-requires-clause-roots c =
-    ap (all_below (length c.args.turned.now)) (c.deref.ensures.value ∙ c.in_ok-roots.ensures)
+    ap (all_below (length c.args.turned.now)) (roots_are c.in_ok-matches.matches.items c.args.states.now c.args.reached.now c.deref.result.now c.index-roots.result.now c.args.patterns
+    c.loop-p.p c.new_unchecked-pattern.result c.deref.ensures.value c.loop-p-test.true c.in_ok-matches.ensures.few c.index-roots.ensures
+    c.in_ok-matches.ensures.matches c.new_unchecked-pattern.ensures)
     ∙ matches_below (length c.args.states.now) (length c.args.turned.now) c.args.states.now c.new_unchecked-pattern.result c.args.reached.now
     c.requires.turned.whole c.requires.below
 
@@ -40,8 +42,12 @@ loop-p-preserved c =
     let part = c.in_ok-add_part.ensures.part in
     let old = nodes_of c.loop-p.parts.states.items in
     let new = nodes_of c.add_part.new.parts.states.items in
+    let roots : c.deref.result.now ≡ matches_in c.args.states.now c.new_unchecked-pattern.result c.args.reached.now =
+    roots_are c.in_ok-matches.matches.items c.args.states.now c.args.reached.now c.deref.result.now c.index-roots.result.now c.args.patterns
+    c.loop-p.p c.new_unchecked-pattern.result c.deref.ensures.value c.loop-p-test.true c.in_ok-matches.ensures.few c.index-roots.ensures
+    c.in_ok-matches.ensures.matches c.new_unchecked-pattern.ensures in
     let few : length c.deref.result.now ≤ length c.args.reached.now =
-    subst (λ (z : List ℕ). length z ≤ length c.args.reached.now) (sym (c.deref.ensures.value ∙ c.in_ok-roots.ensures))
+    subst (λ (z : List ℕ). length z ≤ length c.args.reached.now) (sym roots)
     (matches_few c.args.states.now c.new_unchecked-pattern.result c.args.reached.now) in
     record {
       copies =
@@ -53,7 +59,7 @@ loop-p-preserved c =
           (c.new_unchecked-pattern.ensures ∙ sym c.loop-p.invariant.count) part.1 refl
           (added_length old new c.args.turned.now c.deref.result.now c.new_unchecked-pattern.result part.0 part.2.0 part.2.1)
           (subst (λ z. IsCopied new c.args.turned.now z c.new_unchecked-pattern.result part.0 (length old) part.2.0)
-          (c.deref.ensures.value ∙ c.in_ok-roots.ensures)
+          roots
           (added_copies old new c.args.turned.now c.deref.result.now c.new_unchecked-pattern.result part.0 part.2.0 part.2.1))
           c.loop-p.invariant.copies;
       count =

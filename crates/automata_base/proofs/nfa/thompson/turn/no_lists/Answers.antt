@@ -1,7 +1,7 @@
 use Rattle.std.proofs.Common.{[], ◌∷◌, ◌++◌, ◌+◌, length, length-append, ap, ap₂, sym, ◌∙◌}
 use Rattle.automata_base.specs.Retraced.ReversedEdges.{lists_of}
 use Rattle.automata_base.proofs.Nfas.Mirrors.Lists.{lists_append, none_more}
-use Rattle.automata_base.proofs.nfa.thompson.turn.EdgesByTarget.new.Goals as goal
+use Rattle.automata_base.proofs.nfa.thompson.turn.no_lists.Goals as goal
 
 pub loop-i-preserved : goal.loop-i-preserved
 loop-i-preserved c = record {
