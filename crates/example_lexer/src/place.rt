@@ -1,0 +1,48 @@
+//! Where a byte stands in a text.
+use std::fmt;
+
+/// A line and a column, counted from 1. Columns are characters.
+#[derive(Clone, Copy)]
+pub struct Place {
+    line: u64,
+    column: u64,
+}
+
+impl Place {
+    pub fn start() -> Place {
+        Place { line: 1, column: 1 }
+    }
+
+    /// The place after a byte.
+    fn after(self, byte: u8) -> Place {
+        let Place { line, column } = self;
+        match byte {
+            b'\n' => Place {
+                line: line.saturating_add(1),
+                column: 1,
+            },
+            // A byte inside a character, after its first.
+            0x80..=0xBF => self,
+            _ => Place {
+                line,
+                column: column.saturating_add(1),
+            },
+        }
+    }
+
+    /// The place after these bytes.
+    pub fn after_all(self, bytes: &[u8]) -> Place {
+        let mut place = self;
+        for byte in bytes {
+            place = place.after(*byte);
+        }
+        place
+    }
+}
+
+impl fmt::Display for Place {
+    fn fmt<W: fmt::Write>(&self, f: &mut fmt::Formatter<W>) -> fmt::Result {
+        let Place { line, column } = *self;
+        write!(f, "{line}:{column}")
+    }
+}
