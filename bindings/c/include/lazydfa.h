@@ -568,8 +568,9 @@ static inline lazydfa_status lazydfa_find_end(lazydfa_cache *cache, const uint8_
     return lazydfa_raw_find_end(&cache->handle, lazydfa_bytes(haystack, length), length, input, found);
 }
 
-/* By a search backward from the span's end: where the longest match starts that ends there if the input is anchored, and
-   where the one does that starts first if it is not; of an earliest input the one that starts last. */
+/* By a search backward from the span's end: where the longest match starts that ends there; of an earliest input the
+   shortest one. Only over a pair whose second NFA has an unanchored start that skips bytes, an input that is not anchored
+   also finds matches that end before. */
 static inline lazydfa_status lazydfa_find_start(lazydfa_cache *cache, const uint8_t *haystack, size_t length,
                                                 const lazydfa_input *input, lazydfa_half *found) {
     LAZYDFA_NEED(cache);
@@ -636,9 +637,9 @@ static inline lazydfa_status lazydfa_tokens(lazydfa_cache *cache, const uint8_t 
                               count);
 }
 
-/* The ends of all overlapping matches, forward; their starts, backward. They write the first ones, up to room, and how
-   many there are in all, with every code of an open cache: before an error, those that were found. LAZYDFA_OK also if
-   there is none. Build the regex with LAZYDFA_ALL for the ends. */
+/* The ends of all overlapping matches, forward; the starts of those that end where the span does, backward. They write
+   the first ones, up to room, and how many there are in all, with every code of an open cache: before an error, those
+   that were found. LAZYDFA_OK also if there is none. Build the regex with LAZYDFA_ALL for the ends. */
 static inline lazydfa_status lazydfa_all_ends(lazydfa_cache *cache, const uint8_t *haystack, size_t length,
                                               const lazydfa_input *input, lazydfa_half *found, size_t room,
                                               size_t *count) {
