@@ -34,9 +34,12 @@ fn is_empty_at(last: Option<usize>, found: &Match) -> bool
 }
 
 impl Regex {
-    /// The match after one that ended at `last`. An empty match there is replaced by the match of a search from one
-    /// offset later.
-    fn next_match(
+    /// The next match of an iteration that you make yourself. The input is what is left to be searched: it starts at
+    /// `last`, where the last match ended, or `last` is none if there was no match yet. An empty match at `last` is
+    /// replaced by the match of a search from one offset later.
+    ///
+    /// It fails as `try_search` does. `find_iter` makes these calls one after another.
+    pub fn next_match(
         &self,
         cache: &mut Cache,
         input: &Input<'_>,

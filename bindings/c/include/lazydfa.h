@@ -1,0 +1,692 @@
+/* A lazy DFA for C: regular expressions as NFAs, searched over a cache of bounded size.
+ *
+ * A program builds an NFA state by state, makes a regex of it, makes a cache of the regex, and searches with the cache:
+ *
+ *     lazydfa_builder builder = LAZYDFA_INIT;
+ *     lazydfa_regex regex = LAZYDFA_INIT;
+ *     lazydfa_cache cache = LAZYDFA_INIT;
+ *     lazydfa_status status = lazydfa_builder_new(&builder);
+ *     ...
+ *     status = lazydfa_regex_build(&regex, &builder, starts, NULL, NULL, 0);
+ *     status = lazydfa_cache_new(&cache, &regex);
+ *     lazydfa_iteration at = lazydfa_iterate(lazydfa_whole(length));
+ *     lazydfa_match match;
+ *     while ((status = lazydfa_next(&cache, text, length, &at, &match)).code == LAZYDFA_OK)
+ *         printf("%zu..%zu\n", match.start, match.end);
+ *     lazydfa_cache_close(&cache);
+ *
+ * Each call returns a status: a code, and for some codes an offset and a byte. No call aborts, and no call ends the
+ * process. If memory is out, the code is LAZYDFA_MEMORY; the call may be made again.
+ *
+ * What every call reports, so that its own comment does not repeat it:
+ *
+ *     LAZYDFA_CLOSED     a handle that the call works on owns nothing
+ *     LAZYDFA_OPEN       a handle that the call is to open owns something already
+ *     LAZYDFA_KIND       a handle owns another kind of object: a cast made it that
+ *     LAZYDFA_ARGUMENT   a pointer is null where none is allowed; a span does not lie in the haystack; a number is no
+ *                        state, pattern, look-around assertion, anchored mode or match kind
+ *     LAZYDFA_MEMORY     an allocation failed
+ *
+ * After an error each handle owns what it owned before, and a builder, a regex and a cache are as good as before: the
+ * same cache serves other searches. An out parameter is written only where its call says so; it need not be initialised.
+ *
+ * What the program has to keep, since no library can see it. If it breaks one of these, the behaviour is undefined:
+ *
+ *   1. A handle begins as LAZYDFA_INIT. The program does not write to it afterwards, and does not use a copy of an open
+ *      one: to close both would free one object twice. (Moving it, as by memcpy, is allowed if the old one is no longer
+ *      used.) A handle that is never closed leaks its object, and no more.
+ *   2. A pointer points to what its type says, and to as many of these as the length beside it says, aligned as the type
+ *      asks. What is read (a haystack, an input, settings, alternates) is initialised.
+ *   3. During a call nothing else writes to what the call reads, and nothing else reads or writes what it writes. What
+ *      one call writes to (a handle, an iteration, an out parameter) does not overlap anything else that it is given.
+ *   4. Calls with a regex and with its caches do not overlap in time: they share counts that are not atomic. So a
+ *      regex and its caches stay on one thread, or the program orders its threads. Other regexes are independent, also
+ *      those of the same builder.
+ *   5. No call is made from a signal handler, and none is left by longjmp.
+ *   6. malloc, realloc and free, which the library calls, are those of one allocator, as the C standard has them.
+ *
+ * Nothing else is asked of the program: every number is allowed in every argument.
+ */
+#ifndef LAZYDFA_H
+#define LAZYDFA_H
+
+#include <stddef.h>
+#include <stdint.h>
+
+#ifdef __cplusplus
+extern "C" {
+#endif
+
+enum lazydfa_code {
+    LAZYDFA_OK = 0,              /* done; a search found a match */
+    LAZYDFA_NONE = 1,            /* a search found no match, or no more */
+
+    LAZYDFA_CLOSED = 2,          /* the handle owns nothing */
+    LAZYDFA_OPEN = 3,            /* the handle owns something already */
+    LAZYDFA_KIND = 4,            /* the handle owns another kind of object */
+    LAZYDFA_ARGUMENT = 5,        /* a null pointer, a bad span, or a number that is none of its kind */
+    LAZYDFA_MEMORY = 6,          /* an allocation failed */
+
+    /* of a builder */
+    LAZYDFA_NO_PATTERN = 10,     /* no pattern was started, or the last one was finished */
+    LAZYDFA_UNFINISHED = 11,     /* the pattern that was started is not finished */
+    LAZYDFA_PATCH_RANGE = 12,    /* the state to be patched does not exist */
+    LAZYDFA_SPARSE_PATCH = 13,   /* a sparse state cannot be patched */
+    LAZYDFA_TOO_LARGE = 14,      /* too many states, patterns, groups or alternates */
+
+    /* of an NFA that a regex is to be built from */
+    LAZYDFA_STATE_RANGE = 15,    /* a state leads to a state that does not exist */
+    LAZYDFA_START_RANGE = 16,    /* a start state does not exist */
+    LAZYDFA_PATTERN_RANGE = 17,  /* a match state has a pattern that does not exist */
+    LAZYDFA_RANGES = 18,         /* the ranges of bytes of a state are not in order */
+    LAZYDFA_NOT_LAZY = 20,       /* the unanchored start does not skip lazily: lazydfa_add_unanchored_prefix makes one */
+    LAZYDFA_LOOK_CYCLE = 21,     /* a cycle of states that read nothing passes a look-around assertion */
+    LAZYDFA_NOT_UTF8 = 22,       /* in UTF-8 mode a match may be invalid UTF-8 */
+    LAZYDFA_STARTS = 23,         /* the starts differ in the empty match, so that the NFA cannot be reversed */
+    LAZYDFA_UNSUPPORTED = 24,    /* a Unicode word boundary, without the setting for it */
+    LAZYDFA_CAPACITY = 25,       /* the cache capacity is too small; the offset is the least that will do */
+    LAZYDFA_STATE_IDS = 26,      /* the smallest table is too large; the offset is the ID that does not fit */
+    LAZYDFA_PATTERN_COUNTS = 27, /* the two NFAs of a pair do not have equally many patterns */
+
+    /* of a search */
+    LAZYDFA_QUIT = 30,           /* the search met a quit byte, at the offset */
+    LAZYDFA_GAVE_UP = 31,        /* the search gave up at the offset, since the cache was cleared too often */
+    LAZYDFA_ANCHORED = 32,       /* the regex was not built for this anchored mode */
+    LAZYDFA_NOT_A_PAIR = 33,     /* the second NFA of a pair finds no start for a match of the first */
+    LAZYDFA_NO_TOKEN = 34        /* at the offset no pattern matches, or only the empty string does */
+};
+
+typedef struct {
+    uint32_t code; /* an enum lazydfa_code */
+    uint32_t byte; /* of LAZYDFA_QUIT the quit byte, else 0 */
+    size_t offset; /* where a code's comment says so, else 0 */
+} lazydfa_status;
+
+/* A handle owns an object, or nothing. Only the library reads and writes its members. */
+typedef struct {
+    void *at;
+    uint64_t live;
+} lazydfa_handle;
+
+typedef struct { lazydfa_handle handle; } lazydfa_builder;
+typedef struct { lazydfa_handle handle; } lazydfa_regex;
+typedef struct { lazydfa_handle handle; } lazydfa_cache;
+
+#define LAZYDFA_INIT { { NULL, 0 } }
+
+enum lazydfa_anchored {
+    LAZYDFA_UNANCHORED = 0,       /* a match may begin anywhere in the span */
+    LAZYDFA_ANCHORED_YES = 1,     /* a match begins where the span begins */
+    LAZYDFA_ANCHORED_PATTERN = 2  /* the same, of one pattern alone: the regex is built with starts_for_each_pattern */
+};
+
+enum lazydfa_match_kind {
+    LAZYDFA_LEFTMOST_FIRST = 0, /* the match that is preferred, as a backtracking matcher finds it */
+    LAZYDFA_ALL = 1             /* all matches: for overlapping searches and sets */
+};
+
+enum lazydfa_look {
+    LAZYDFA_LOOK_START = 0,
+    LAZYDFA_LOOK_END = 1,
+    LAZYDFA_LOOK_START_LF = 2,
+    LAZYDFA_LOOK_END_LF = 3,
+    LAZYDFA_LOOK_START_CRLF = 4,
+    LAZYDFA_LOOK_END_CRLF = 5,
+    LAZYDFA_LOOK_WORD_ASCII = 6,
+    LAZYDFA_LOOK_WORD_ASCII_NEGATE = 7,
+    LAZYDFA_LOOK_WORD_UNICODE = 8,
+    LAZYDFA_LOOK_WORD_UNICODE_NEGATE = 9,
+    LAZYDFA_LOOK_WORD_START_ASCII = 10,
+    LAZYDFA_LOOK_WORD_END_ASCII = 11,
+    LAZYDFA_LOOK_WORD_START_UNICODE = 12,
+    LAZYDFA_LOOK_WORD_END_UNICODE = 13,
+    LAZYDFA_LOOK_WORD_START_HALF_ASCII = 14,
+    LAZYDFA_LOOK_WORD_END_HALF_ASCII = 15,
+    LAZYDFA_LOOK_WORD_START_HALF_UNICODE = 16,
+    LAZYDFA_LOOK_WORD_END_HALF_UNICODE = 17
+};
+
+/* What is searched: a span of the haystack, which is done if start is end + 1; an enum lazydfa_anchored, and its
+   pattern; and whether the search may stop at the first match that it sees (0 no, else yes). */
+typedef struct {
+    size_t start, end;
+    uint32_t anchored;
+    uint32_t pattern;
+    uint32_t earliest;
+    uint32_t reserved;
+} lazydfa_input;
+
+typedef struct {
+    size_t start, end;
+    uint32_t pattern;
+    uint32_t reserved;
+} lazydfa_match;
+
+/* The pattern and one end of a match. */
+typedef struct {
+    size_t offset;
+    uint32_t pattern;
+    uint32_t reserved;
+} lazydfa_half;
+
+/* What is left to be searched, the end of the last match if there was one, and whether the iteration has ended. */
+typedef struct {
+    lazydfa_input left;
+    size_t last;
+    uint32_t has_last;
+    uint32_t ended;
+} lazydfa_iteration;
+
+/* A range of bytes, both ends included, and the state that it leads to. */
+typedef struct {
+    uint8_t lo, hi;
+    uint16_t reserved;
+    uint32_t next;
+} lazydfa_edge;
+
+/* The states in which searches start: anchored ones, and the others. */
+typedef struct {
+    uint32_t anchored;
+    uint32_t unanchored;
+} lazydfa_starts;
+
+/* Zeros are the default settings. A number counts only if its has_ member is not 0. Of the others 0 is no, else yes. */
+typedef struct {
+    size_t cache_capacity;              /* in bytes; by default 2 MB */
+    size_t minimum_cache_clear_count;   /* clears after which a search may give up; by default it never does */
+    size_t minimum_bytes_per_state;     /* and it does so only if fewer bytes than this were searched for each state */
+    uint32_t has_cache_capacity;
+    uint32_t has_minimum_cache_clear_count;
+    uint32_t has_minimum_bytes_per_state;
+    uint32_t match_kind;                /* an enum lazydfa_match_kind */
+    uint32_t starts_for_each_pattern;   /* for LAZYDFA_ANCHORED_PATTERN */
+    uint32_t no_byte_classes;           /* each byte is a class of its own */
+    uint32_t unicode_word_boundary;     /* allowed; the bytes from 0x80 on are quit bytes where there is one */
+    uint32_t specialize_start_states;
+    uint32_t skip_cache_capacity_check; /* raises a capacity that is too small */
+    uint32_t reserved;
+} lazydfa_settings;
+
+typedef struct {
+    size_t memory;          /* the bytes that the cache accounts for */
+    size_t forward_clears;  /* how often the part for ends of matches was cleared */
+    size_t reverse_clears;  /* and the part for starts */
+    size_t patterns;        /* how many patterns the regex has */
+} lazydfa_usage;
+
+/* The exports, by their names in the archive. They take no null pointer: call the functions below them, which have the
+   same names without `raw`, and test pointers first. */
+lazydfa_status lazydfa_raw_close(lazydfa_handle *);
+lazydfa_status lazydfa_raw_builder_new(lazydfa_handle *);
+lazydfa_status lazydfa_raw_builder_clear(lazydfa_handle *);
+lazydfa_status lazydfa_raw_start_pattern(lazydfa_handle *, uint32_t *);
+lazydfa_status lazydfa_raw_finish_pattern(lazydfa_handle *, uint32_t, uint32_t *);
+lazydfa_status lazydfa_raw_patch(lazydfa_handle *, uint32_t, uint32_t);
+lazydfa_status lazydfa_raw_set_utf8(lazydfa_handle *, uint32_t);
+lazydfa_status lazydfa_raw_set_reverse(lazydfa_handle *, uint32_t);
+lazydfa_status lazydfa_raw_set_line_terminator(lazydfa_handle *, uint8_t);
+lazydfa_status lazydfa_raw_add_empty(lazydfa_handle *, uint32_t *);
+lazydfa_status lazydfa_raw_add_range(lazydfa_handle *, uint8_t, uint8_t, uint32_t, uint32_t *);
+lazydfa_status lazydfa_raw_add_sparse(lazydfa_handle *, const lazydfa_edge *, size_t, uint32_t *);
+lazydfa_status lazydfa_raw_add_look(lazydfa_handle *, uint32_t, uint32_t, uint32_t *);
+lazydfa_status lazydfa_raw_add_union(lazydfa_handle *, const uint32_t *, size_t, uint32_t *);
+lazydfa_status lazydfa_raw_add_union_reverse(lazydfa_handle *, const uint32_t *, size_t, uint32_t *);
+lazydfa_status lazydfa_raw_add_capture_start(lazydfa_handle *, uint32_t, uint32_t, uint32_t *);
+lazydfa_status lazydfa_raw_add_capture_end(lazydfa_handle *, uint32_t, uint32_t, uint32_t *);
+lazydfa_status lazydfa_raw_add_fail(lazydfa_handle *, uint32_t *);
+lazydfa_status lazydfa_raw_add_match(lazydfa_handle *, uint32_t *);
+lazydfa_status lazydfa_raw_add_unanchored_prefix(lazydfa_handle *, uint32_t, uint32_t *);
+lazydfa_status lazydfa_raw_regex_build(lazydfa_handle *, lazydfa_handle *, const lazydfa_starts *,
+                                       const lazydfa_settings *, const uint8_t *, size_t);
+lazydfa_status lazydfa_raw_regex_build_pair(lazydfa_handle *, lazydfa_handle *, const lazydfa_starts *,
+                                            lazydfa_handle *, const lazydfa_starts *, const lazydfa_settings *,
+                                            const uint8_t *, size_t);
+lazydfa_status lazydfa_raw_cache_new(lazydfa_handle *, lazydfa_handle *);
+lazydfa_status lazydfa_raw_cache_reset(lazydfa_handle *);
+lazydfa_status lazydfa_raw_cache_usage(lazydfa_handle *, lazydfa_usage *);
+lazydfa_status lazydfa_raw_find(lazydfa_handle *, const uint8_t *, size_t, const lazydfa_input *, lazydfa_match *);
+lazydfa_status lazydfa_raw_is_match(lazydfa_handle *, const uint8_t *, size_t, const lazydfa_input *);
+lazydfa_status lazydfa_raw_find_end(lazydfa_handle *, const uint8_t *, size_t, const lazydfa_input *, lazydfa_half *);
+lazydfa_status lazydfa_raw_find_start(lazydfa_handle *, const uint8_t *, size_t, const lazydfa_input *, lazydfa_half *);
+lazydfa_status lazydfa_raw_next(lazydfa_handle *, const uint8_t *, size_t, lazydfa_iteration *, lazydfa_match *);
+lazydfa_status lazydfa_raw_next_all(lazydfa_handle *, const uint8_t *, size_t, lazydfa_iteration *, lazydfa_match *,
+                                    size_t, size_t *);
+lazydfa_status lazydfa_raw_token(lazydfa_handle *, const uint8_t *, size_t, lazydfa_input *, lazydfa_match *);
+lazydfa_status lazydfa_raw_tokens(lazydfa_handle *, const uint8_t *, size_t, lazydfa_input *, lazydfa_match *, size_t,
+                                  size_t *);
+lazydfa_status lazydfa_raw_all_ends(lazydfa_handle *, const uint8_t *, size_t, const lazydfa_input *, lazydfa_half *,
+                                    size_t, size_t *);
+lazydfa_status lazydfa_raw_all_starts(lazydfa_handle *, const uint8_t *, size_t, const lazydfa_input *, lazydfa_half *,
+                                      size_t, size_t *);
+lazydfa_status lazydfa_raw_which(lazydfa_handle *, const uint8_t *, size_t, const lazydfa_input *, size_t, uint32_t *,
+                                 size_t, size_t *);
+
+static inline lazydfa_status lazydfa_bad_argument(void) {
+    lazydfa_status status = { LAZYDFA_ARGUMENT, 0, 0 };
+    return status;
+}
+
+/* The library's slices are never null; an empty one may be anywhere else. */
+static inline const uint8_t *lazydfa_bytes(const uint8_t *at, size_t length) {
+    return length ? at : (const uint8_t *)"";
+}
+
+#define LAZYDFA_NEED(pointer) do { if (!(pointer)) return lazydfa_bad_argument(); } while (0)
+#define LAZYDFA_NEED_ALL(pointer, length) do { if (!(pointer) && (length)) return lazydfa_bad_argument(); } while (0)
+
+/* What a code means, in words. */
+static inline const char *lazydfa_code_text(uint32_t code) {
+    switch (code) {
+    case LAZYDFA_OK: return "done";
+    case LAZYDFA_NONE: return "no match";
+    case LAZYDFA_CLOSED: return "the handle owns nothing";
+    case LAZYDFA_OPEN: return "the handle owns something already";
+    case LAZYDFA_KIND: return "the handle owns another kind of object";
+    case LAZYDFA_ARGUMENT: return "an argument is not allowed";
+    case LAZYDFA_MEMORY: return "out of memory";
+    case LAZYDFA_NO_PATTERN: return "no pattern was started";
+    case LAZYDFA_UNFINISHED: return "a pattern was started and not finished";
+    case LAZYDFA_PATCH_RANGE: return "the state to be patched is out of range";
+    case LAZYDFA_SPARSE_PATCH: return "a sparse state cannot be patched";
+    case LAZYDFA_TOO_LARGE: return "too many states, patterns, groups or alternates";
+    case LAZYDFA_STATE_RANGE: return "a state leads to a state that is out of range";
+    case LAZYDFA_START_RANGE: return "a start state is out of range";
+    case LAZYDFA_PATTERN_RANGE: return "the pattern of a match state is out of range";
+    case LAZYDFA_RANGES: return "ranges of bytes are not in order";
+    case LAZYDFA_NOT_LAZY: return "the unanchored start does not skip lazily";
+    case LAZYDFA_LOOK_CYCLE: return "a cycle of states that read nothing passes a look-around assertion";
+    case LAZYDFA_NOT_UTF8: return "a match may be invalid UTF-8";
+    case LAZYDFA_STARTS: return "the starts differ in the empty match";
+    case LAZYDFA_UNSUPPORTED: return "Unicode word boundaries are not enabled";
+    case LAZYDFA_CAPACITY: return "the cache capacity is too small";
+    case LAZYDFA_STATE_IDS: return "the smallest table is too large";
+    case LAZYDFA_PATTERN_COUNTS: return "the two NFAs do not have equally many patterns";
+    case LAZYDFA_QUIT: return "the search met a quit byte";
+    case LAZYDFA_GAVE_UP: return "the search gave up";
+    case LAZYDFA_ANCHORED: return "the anchored mode is not supported";
+    case LAZYDFA_NOT_A_PAIR: return "the reverse NFA finds no start";
+    case LAZYDFA_NO_TOKEN: return "no token";
+    default: return "no code of this library";
+    }
+}
+
+/* Closing frees what a handle owns; the handle may be opened again. A cache keeps its regex, and a regex what it took
+   from its builder, so they may be closed in any order. LAZYDFA_OK, or LAZYDFA_CLOSED if the handle owned nothing. */
+static inline lazydfa_status lazydfa_builder_close(lazydfa_builder *builder) {
+    LAZYDFA_NEED(builder);
+    return lazydfa_raw_close(&builder->handle);
+}
+static inline lazydfa_status lazydfa_regex_close(lazydfa_regex *regex) {
+    LAZYDFA_NEED(regex);
+    return lazydfa_raw_close(&regex->handle);
+}
+static inline lazydfa_status lazydfa_cache_close(lazydfa_cache *cache) {
+    LAZYDFA_NEED(cache);
+    return lazydfa_raw_close(&cache->handle);
+}
+
+/* ---- Builders ----
+ *
+ * States have the numbers 0, 1, 2 and so on, in the order in which they are added. A state may lead to one that does not
+ * exist yet. A call that fails changes nothing, and writes nothing. */
+
+/* Opens a handle on a builder without states. */
+static inline lazydfa_status lazydfa_builder_new(lazydfa_builder *builder) {
+    LAZYDFA_NEED(builder);
+    return lazydfa_raw_builder_new(&builder->handle);
+}
+
+/* Removes all states and patterns. The settings stay. */
+static inline lazydfa_status lazydfa_builder_clear(lazydfa_builder *builder) {
+    LAZYDFA_NEED(builder);
+    return lazydfa_raw_builder_clear(&builder->handle);
+}
+
+/* Starts the next pattern, and writes its number. Match states and groups belong to it until it is finished.
+   LAZYDFA_UNFINISHED if one is started; LAZYDFA_TOO_LARGE. */
+static inline lazydfa_status lazydfa_start_pattern(lazydfa_builder *builder, uint32_t *pattern) {
+    LAZYDFA_NEED(builder);
+    LAZYDFA_NEED(pattern);
+    return lazydfa_raw_start_pattern(&builder->handle, pattern);
+}
+
+/* Finishes the pattern that was started, whose own searches start at this state, and writes its number.
+   LAZYDFA_NO_PATTERN if none is started. */
+static inline lazydfa_status lazydfa_finish_pattern(lazydfa_builder *builder, uint32_t start, uint32_t *pattern) {
+    LAZYDFA_NEED(builder);
+    LAZYDFA_NEED(pattern);
+    return lazydfa_raw_finish_pattern(&builder->handle, start, pattern);
+}
+
+/* Lets a state lead to another one: a union gets one more alternate, any other state is moved.
+   LAZYDFA_PATCH_RANGE, LAZYDFA_SPARSE_PATCH. */
+static inline lazydfa_status lazydfa_patch(lazydfa_builder *builder, uint32_t from, uint32_t to) {
+    LAZYDFA_NEED(builder);
+    return lazydfa_raw_patch(&builder->handle, from, to);
+}
+
+/* Settings of the NFA, which a clear keeps: whether it is in UTF-8 mode (no match splits an encoded character), whether
+   it reads its haystack backward, and the byte that ends lines. By default no, no and '\n'. */
+static inline lazydfa_status lazydfa_set_utf8(lazydfa_builder *builder, uint32_t yes) {
+    LAZYDFA_NEED(builder);
+    return lazydfa_raw_set_utf8(&builder->handle, yes);
+}
+static inline lazydfa_status lazydfa_set_reverse(lazydfa_builder *builder, uint32_t yes) {
+    LAZYDFA_NEED(builder);
+    return lazydfa_raw_set_reverse(&builder->handle, yes);
+}
+static inline lazydfa_status lazydfa_set_line_terminator(lazydfa_builder *builder, uint8_t byte) {
+    LAZYDFA_NEED(builder);
+    return lazydfa_raw_set_line_terminator(&builder->handle, byte);
+}
+
+/* Each of the next calls adds a state, and writes its number. LAZYDFA_TOO_LARGE if there are too many. */
+
+/* A state that reads nothing and leads to state 0, until it is patched. */
+static inline lazydfa_status lazydfa_add_empty(lazydfa_builder *builder, uint32_t *id) {
+    LAZYDFA_NEED(builder);
+    LAZYDFA_NEED(id);
+    return lazydfa_raw_add_empty(&builder->handle, id);
+}
+
+/* A state that reads a byte from lo to hi. */
+static inline lazydfa_status lazydfa_add_range(lazydfa_builder *builder, uint8_t lo, uint8_t hi, uint32_t next,
+                                               uint32_t *id) {
+    LAZYDFA_NEED(builder);
+    LAZYDFA_NEED(id);
+    return lazydfa_raw_add_range(&builder->handle, lo, hi, next, id);
+}
+
+/* A state that reads a byte of several ranges, which are in order and do not overlap. */
+static inline lazydfa_status lazydfa_add_sparse(lazydfa_builder *builder, const lazydfa_edge *edges, size_t length,
+                                                uint32_t *id) {
+    lazydfa_edge none = { 0, 0, 0, 0 };
+    LAZYDFA_NEED(builder);
+    LAZYDFA_NEED(id);
+    LAZYDFA_NEED_ALL(edges, length);
+    return lazydfa_raw_add_sparse(&builder->handle, length ? edges : &none, length, id);
+}
+
+/* A state that reads nothing, and is passed only where a look-around assertion holds: an enum lazydfa_look. */
+static inline lazydfa_status lazydfa_add_look(lazydfa_builder *builder, uint32_t next, uint32_t look, uint32_t *id) {
+    LAZYDFA_NEED(builder);
+    LAZYDFA_NEED(id);
+    return lazydfa_raw_add_look(&builder->handle, next, look, id);
+}
+
+/* A state that reads nothing and leads to several states, of which the first is preferred. */
+static inline lazydfa_status lazydfa_add_union(lazydfa_builder *builder, const uint32_t *alternates, size_t length,
+                                               uint32_t *id) {
+    uint32_t none = 0;
+    LAZYDFA_NEED(builder);
+    LAZYDFA_NEED(id);
+    LAZYDFA_NEED_ALL(alternates, length);
+    return lazydfa_raw_add_union(&builder->handle, length ? alternates : &none, length, id);
+}
+
+/* The same, of which the last is preferred. */
+static inline lazydfa_status lazydfa_add_union_reverse(lazydfa_builder *builder, const uint32_t *alternates,
+                                                       size_t length, uint32_t *id) {
+    uint32_t none = 0;
+    LAZYDFA_NEED(builder);
+    LAZYDFA_NEED(id);
+    LAZYDFA_NEED_ALL(alternates, length);
+    return lazydfa_raw_add_union_reverse(&builder->handle, length ? alternates : &none, length, id);
+}
+
+/* Where a group of the pattern begins, and where it ends. Searches report no groups.
+   LAZYDFA_NO_PATTERN if no pattern is started. */
+static inline lazydfa_status lazydfa_add_capture_start(lazydfa_builder *builder, uint32_t next, uint32_t group,
+                                                       uint32_t *id) {
+    LAZYDFA_NEED(builder);
+    LAZYDFA_NEED(id);
+    return lazydfa_raw_add_capture_start(&builder->handle, next, group, id);
+}
+static inline lazydfa_status lazydfa_add_capture_end(lazydfa_builder *builder, uint32_t next, uint32_t group,
+                                                     uint32_t *id) {
+    LAZYDFA_NEED(builder);
+    LAZYDFA_NEED(id);
+    return lazydfa_raw_add_capture_end(&builder->handle, next, group, id);
+}
+
+/* A state from which nothing matches. */
+static inline lazydfa_status lazydfa_add_fail(lazydfa_builder *builder, uint32_t *id) {
+    LAZYDFA_NEED(builder);
+    LAZYDFA_NEED(id);
+    return lazydfa_raw_add_fail(&builder->handle, id);
+}
+
+/* A match state of the pattern that was started. LAZYDFA_NO_PATTERN if there is none. */
+static inline lazydfa_status lazydfa_add_match(lazydfa_builder *builder, uint32_t *id) {
+    LAZYDFA_NEED(builder);
+    LAZYDFA_NEED(id);
+    return lazydfa_raw_add_match(&builder->handle, id);
+}
+
+/* Two states that skip as few bytes as can be before a start, and writes the number of the first: the unanchored start. */
+static inline lazydfa_status lazydfa_add_unanchored_prefix(lazydfa_builder *builder, uint32_t start, uint32_t *id) {
+    LAZYDFA_NEED(builder);
+    LAZYDFA_NEED(id);
+    return lazydfa_raw_add_unanchored_prefix(&builder->handle, start, id);
+}
+
+/* ---- Regexes ---- */
+
+/* Opens a handle on the regex of what a builder has, which stays as it is. settings may be NULL for the defaults, and
+   quits lists the quit bytes. Its matches are those of the NFA's ordered paths. LAZYDFA_UNFINISHED, and every code of an
+   NFA but LAZYDFA_PATTERN_COUNTS; LAZYDFA_ARGUMENT also for a quit byte that the other settings do not allow. */
+static inline lazydfa_status lazydfa_regex_build(lazydfa_regex *regex, lazydfa_builder *builder, lazydfa_starts starts,
+                                                 const lazydfa_settings *settings, const uint8_t *quits,
+                                                 size_t length) {
+    static const lazydfa_settings defaults = { 0, 0, 0, 0, 0, 0, 0, 0, 0, 0, 0, 0, 0 };
+    LAZYDFA_NEED(regex);
+    LAZYDFA_NEED(builder);
+    LAZYDFA_NEED_ALL(quits, length);
+    return lazydfa_raw_regex_build(&regex->handle, &builder->handle, &starts, settings ? settings : &defaults,
+                                   lazydfa_bytes(quits, length), length);
+}
+
+/* The same of two NFAs, of which the second reads the same backward (lazydfa_set_reverse). Nothing tests that it does:
+   if it does not, a search may report a wrong start, or LAZYDFA_NOT_A_PAIR. The two builders are different handles. */
+static inline lazydfa_status lazydfa_regex_build_pair(lazydfa_regex *regex, lazydfa_builder *forward,
+                                                      lazydfa_starts forward_starts, lazydfa_builder *reverse,
+                                                      lazydfa_starts reverse_starts,
+                                                      const lazydfa_settings *settings, const uint8_t *quits,
+                                                      size_t length) {
+    static const lazydfa_settings defaults = { 0, 0, 0, 0, 0, 0, 0, 0, 0, 0, 0, 0, 0 };
+    LAZYDFA_NEED(regex);
+    LAZYDFA_NEED(forward);
+    LAZYDFA_NEED(reverse);
+    LAZYDFA_NEED_ALL(quits, length);
+    if (forward == reverse) return lazydfa_bad_argument();
+    return lazydfa_raw_regex_build_pair(&regex->handle, &forward->handle, &forward_starts, &reverse->handle,
+                                        &reverse_starts, settings ? settings : &defaults,
+                                        lazydfa_bytes(quits, length), length);
+}
+
+/* ---- Caches ---- */
+
+/* Opens a handle on a cache of a regex. */
+static inline lazydfa_status lazydfa_cache_new(lazydfa_cache *cache, lazydfa_regex *regex) {
+    LAZYDFA_NEED(cache);
+    LAZYDFA_NEED(regex);
+    return lazydfa_raw_cache_new(&cache->handle, &regex->handle);
+}
+
+/* Makes it a fresh cache of its regex. After an error it is as it was. */
+static inline lazydfa_status lazydfa_cache_reset(lazydfa_cache *cache) {
+    LAZYDFA_NEED(cache);
+    return lazydfa_raw_cache_reset(&cache->handle);
+}
+
+/* Writes what the cache accounts for. */
+static inline lazydfa_status lazydfa_cache_usage(lazydfa_cache *cache, lazydfa_usage *usage) {
+    LAZYDFA_NEED(cache);
+    LAZYDFA_NEED(usage);
+    return lazydfa_raw_cache_usage(&cache->handle, usage);
+}
+
+/* ---- Searches ----
+ *
+ * Every search takes a cache and a haystack, which is `length` bytes; the haystack may be NULL if it has none. It
+ * returns LAZYDFA_OK with a match and LAZYDFA_NONE without one, and writes only with LAZYDFA_OK, if its comment says
+ * nothing else. It fails with LAZYDFA_QUIT, LAZYDFA_GAVE_UP and LAZYDFA_ANCHORED, over a pair also with
+ * LAZYDFA_NOT_A_PAIR. */
+
+/* The whole haystack, neither anchored nor earliest. */
+static inline lazydfa_input lazydfa_whole(size_t length) {
+    lazydfa_input input = { 0, length, LAZYDFA_UNANCHORED, 0, 0, 0 };
+    return input;
+}
+
+/* The first match; of an earliest input the match that ends first. */
+static inline lazydfa_status lazydfa_find(lazydfa_cache *cache, const uint8_t *haystack, size_t length,
+                                          const lazydfa_input *input, lazydfa_match *found) {
+    LAZYDFA_NEED(cache);
+    LAZYDFA_NEED(input);
+    LAZYDFA_NEED(found);
+    LAZYDFA_NEED_ALL(haystack, length);
+    return lazydfa_raw_find(&cache->handle, lazydfa_bytes(haystack, length), length, input, found);
+}
+
+/* Whether there is a match. */
+static inline lazydfa_status lazydfa_is_match(lazydfa_cache *cache, const uint8_t *haystack, size_t length,
+                                              const lazydfa_input *input) {
+    LAZYDFA_NEED(cache);
+    LAZYDFA_NEED(input);
+    LAZYDFA_NEED_ALL(haystack, length);
+    return lazydfa_raw_is_match(&cache->handle, lazydfa_bytes(haystack, length), length, input);
+}
+
+/* Where the first match ends; of an earliest input, where the match that ends first does. */
+static inline lazydfa_status lazydfa_find_end(lazydfa_cache *cache, const uint8_t *haystack, size_t length,
+                                              const lazydfa_input *input, lazydfa_half *found) {
+    LAZYDFA_NEED(cache);
+    LAZYDFA_NEED(input);
+    LAZYDFA_NEED(found);
+    LAZYDFA_NEED_ALL(haystack, length);
+    return lazydfa_raw_find_end(&cache->handle, lazydfa_bytes(haystack, length), length, input, found);
+}
+
+/* By a search backward from the span's end: where the longest match starts that ends there; of an earliest input the
+   shortest one. Only over a pair whose second NFA has an unanchored start that skips bytes, an input that is not anchored
+   also finds matches that end before. */
+static inline lazydfa_status lazydfa_find_start(lazydfa_cache *cache, const uint8_t *haystack, size_t length,
+                                                const lazydfa_input *input, lazydfa_half *found) {
+    LAZYDFA_NEED(cache);
+    LAZYDFA_NEED(input);
+    LAZYDFA_NEED(found);
+    LAZYDFA_NEED_ALL(haystack, length);
+    return lazydfa_raw_find_start(&cache->handle, lazydfa_bytes(haystack, length), length, input, found);
+}
+
+/* An iteration over the matches of an input. */
+static inline lazydfa_iteration lazydfa_iterate(lazydfa_input input) {
+    lazydfa_iteration at = { { 0, 0, 0, 0, 0, 0 }, 0, 0, 0 };
+    at.left = input;
+    return at;
+}
+
+/* The next match of an iteration. Each call is given the same haystack, or matches are those of what it is given.
+   LAZYDFA_NONE and the errors of a search end the iteration: each later call returns LAZYDFA_NONE. */
+static inline lazydfa_status lazydfa_next(lazydfa_cache *cache, const uint8_t *haystack, size_t length,
+                                          lazydfa_iteration *at, lazydfa_match *found) {
+    LAZYDFA_NEED(cache);
+    LAZYDFA_NEED(at);
+    LAZYDFA_NEED(found);
+    LAZYDFA_NEED_ALL(haystack, length);
+    return lazydfa_raw_next(&cache->handle, lazydfa_bytes(haystack, length), length, at, found);
+}
+
+/* The next matches of an iteration, up to room. It writes how many they are with every code of an open cache, and the
+   matches before an error are found: LAZYDFA_OK if there was no room for more, else what ended the iteration. */
+static inline lazydfa_status lazydfa_next_all(lazydfa_cache *cache, const uint8_t *haystack, size_t length,
+                                              lazydfa_iteration *at, lazydfa_match *found, size_t room,
+                                              size_t *count) {
+    lazydfa_match none;
+    LAZYDFA_NEED(cache);
+    LAZYDFA_NEED(at);
+    LAZYDFA_NEED(count);
+    LAZYDFA_NEED_ALL(found, room);
+    LAZYDFA_NEED_ALL(haystack, length);
+    return lazydfa_raw_next_all(&cache->handle, lazydfa_bytes(haystack, length), length, at, room ? found : &none, room,
+                                count);
+}
+
+/* The token at the start of what is left: the match that begins there and is not empty. left then starts where the token
+   ends. LAZYDFA_NONE at the end of the span; LAZYDFA_NO_TOKEN where none begins. The mode and earliest do not count. */
+static inline lazydfa_status lazydfa_token(lazydfa_cache *cache, const uint8_t *haystack, size_t length,
+                                           lazydfa_input *left, lazydfa_match *found) {
+    LAZYDFA_NEED(cache);
+    LAZYDFA_NEED(left);
+    LAZYDFA_NEED(found);
+    LAZYDFA_NEED_ALL(haystack, length);
+    return lazydfa_raw_token(&cache->handle, lazydfa_bytes(haystack, length), length, left, found);
+}
+
+/* The next tokens, up to room, as lazydfa_next_all. */
+static inline lazydfa_status lazydfa_tokens(lazydfa_cache *cache, const uint8_t *haystack, size_t length,
+                                            lazydfa_input *left, lazydfa_match *found, size_t room, size_t *count) {
+    lazydfa_match none;
+    LAZYDFA_NEED(cache);
+    LAZYDFA_NEED(left);
+    LAZYDFA_NEED(count);
+    LAZYDFA_NEED_ALL(found, room);
+    LAZYDFA_NEED_ALL(haystack, length);
+    return lazydfa_raw_tokens(&cache->handle, lazydfa_bytes(haystack, length), length, left, room ? found : &none, room,
+                              count);
+}
+
+/* The ends of all overlapping matches, forward; the starts of those that end where the span does, backward. They write
+   the first ones, up to room, and how many there are in all, with every code of an open cache: before an error, those
+   that were found. LAZYDFA_OK also if there is none. Build the regex with LAZYDFA_ALL for the ends. */
+static inline lazydfa_status lazydfa_all_ends(lazydfa_cache *cache, const uint8_t *haystack, size_t length,
+                                              const lazydfa_input *input, lazydfa_half *found, size_t room,
+                                              size_t *count) {
+    lazydfa_half none;
+    LAZYDFA_NEED(cache);
+    LAZYDFA_NEED(input);
+    LAZYDFA_NEED(count);
+    LAZYDFA_NEED_ALL(found, room);
+    LAZYDFA_NEED_ALL(haystack, length);
+    return lazydfa_raw_all_ends(&cache->handle, lazydfa_bytes(haystack, length), length, input, room ? found : &none,
+                                room, count);
+}
+static inline lazydfa_status lazydfa_all_starts(lazydfa_cache *cache, const uint8_t *haystack, size_t length,
+                                                const lazydfa_input *input, lazydfa_half *found, size_t room,
+                                                size_t *count) {
+    lazydfa_half none;
+    LAZYDFA_NEED(cache);
+    LAZYDFA_NEED(input);
+    LAZYDFA_NEED(count);
+    LAZYDFA_NEED_ALL(found, room);
+    LAZYDFA_NEED_ALL(haystack, length);
+    return lazydfa_raw_all_starts(&cache->handle, lazydfa_bytes(haystack, length), length, input, room ? found : &none,
+                                  room, count);
+}
+
+/* The patterns below a number that match, in increasing order, overlapping matches included; of an earliest input that
+   of the first match alone. It writes the first ones, up to room, and how many there are in all, with every code of an
+   open cache: before an error, those that were found. LAZYDFA_OK also if there is none. Build the regex with
+   LAZYDFA_ALL. It allocates `below` bytes, and keeps them for the next call. */
+static inline lazydfa_status lazydfa_which(lazydfa_cache *cache, const uint8_t *haystack, size_t length,
+                                           const lazydfa_input *input, size_t below, uint32_t *patterns, size_t room,
+                                           size_t *count) {
+    uint32_t none = 0;
+    LAZYDFA_NEED(cache);
+    LAZYDFA_NEED(input);
+    LAZYDFA_NEED(count);
+    LAZYDFA_NEED_ALL(patterns, room);
+    LAZYDFA_NEED_ALL(haystack, length);
+    return lazydfa_raw_which(&cache->handle, lazydfa_bytes(haystack, length), length, input, below,
+                             room ? patterns : &none, room, count);
+}
+
+#undef LAZYDFA_NEED
+#undef LAZYDFA_NEED_ALL
+
+#ifdef __cplusplus
+}
+#endif
+
+#endif

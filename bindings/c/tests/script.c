@@ -1,0 +1,456 @@
+/* Reads a script of the program `lazydfa` from standard input, runs it by the C library, and prints the same replies. A
+   walk is run whole at its first step, and once more at a step after an error; its matches are then given one by one.
+   It ends with status 2 at a line that it does not know. */
+#include <stdio.h>
+#include <stdlib.h>
+#include <string.h>
+#include "catalogue.h"
+
+#define TRY(call)                                        \
+    do {                                                 \
+        lazydfa_status status_ = (call);                 \
+        if (status_.code != LAZYDFA_OK) return status_;  \
+    } while (0)
+
+enum { MOST = 128, ROOM = 4096 };
+
+static lazydfa_cache caches[MOST];
+static size_t regexes, current;
+
+/* A walk, the matches that are known of it, how many were reported, and what came after the known ones. */
+static struct walk {
+    size_t regex, length, known, reported;
+    int backward, is_whole;
+    uint8_t *haystack;
+    lazydfa_input input;
+    lazydfa_half *halves;
+} walks[MOST];
+static size_t walk_count;
+
+static size_t line_number;
+
+static void bad_line(void) {
+    fprintf(stderr, "line %lu: bad line\n", (unsigned long)line_number);
+    exit(2);
+}
+
+static void *room_for(size_t count, size_t size) {
+    void *at = calloc(count ? count : 1, size);
+    if (!at) {
+        fputs("out of memory\n", stderr);
+        exit(1);
+    }
+    return at;
+}
+
+/* ---- Words ---- */
+
+/* The next word of a line, which it ends with a zero; NULL after the last one. */
+static char *next_word(char **line) {
+    char *word = *line, *end;
+    if (!word) return NULL;
+    end = strchr(word, ' ');
+    if (end) *end = '\0';
+    *line = end ? end + 1 : NULL;
+    if (!*word) bad_line();
+    return word;
+}
+
+static size_t number(const char *digits) {
+    size_t value = 0;
+    if (!*digits) bad_line();
+    for (; *digits; digits++) {
+        size_t digit = (size_t)(*digits - '0');
+        if (digit > 9 || value > (SIZE_MAX - digit) / 10) bad_line();
+        value = 10 * value + digit;
+    }
+    return value;
+}
+
+static unsigned digit(char c) {
+    if (c >= '0' && c <= '9') return (unsigned)(c - '0');
+    if (c >= 'a' && c <= 'f') return (unsigned)(c - 'a') + 10;
+    if (c >= 'A' && c <= 'F') return (unsigned)(c - 'A') + 10;
+    bad_line();
+    return 0;
+}
+
+static uint8_t byte(const char *pair) { return (uint8_t)(16 * digit(pair[0]) + digit(pair[1])); }
+
+/* What follows `name` in an option, or NULL. */
+static const char *after(const char *option, const char *name) {
+    size_t length = strlen(name);
+    return strncmp(option, name, length) ? NULL : option + length;
+}
+
+/* ---- Regexes ---- */
+
+struct definition {
+    const struct entry *entry;
+    lazydfa_settings settings;
+    uint8_t quits[256];
+    size_t quit_count;
+};
+
+static void set_option(struct definition *d, const char *option) {
+    const char *value;
+    if (!strcmp(option, "all")) d->settings.match_kind = LAZYDFA_ALL;
+    else if (!strcmp(option, "starts")) d->settings.starts_for_each_pattern = 1;
+    else if (!strcmp(option, "noclasses")) d->settings.no_byte_classes = 1;
+    else if (!strcmp(option, "unicode")) d->settings.unicode_word_boundary = 1;
+    else if (!strcmp(option, "tags")) d->settings.specialize_start_states = 1;
+    else if (!strcmp(option, "skip")) d->settings.skip_cache_capacity_check = 1;
+    else if ((value = after(option, "quit=")) && d->quit_count < 256) d->quits[d->quit_count++] = byte(value);
+    else if ((value = after(option, "capacity="))) {
+        d->settings.has_cache_capacity = 1;
+        d->settings.cache_capacity = number(value);
+    } else if ((value = after(option, "limit="))) {
+        d->settings.has_minimum_cache_clear_count = 1;
+        d->settings.minimum_cache_clear_count = number(value);
+    } else if ((value = after(option, "perstate="))) {
+        d->settings.has_minimum_bytes_per_state = 1;
+        d->settings.minimum_bytes_per_state = number(value);
+    } else bad_line();
+}
+
+static lazydfa_status add_state(lazydfa_builder *b, const struct state *state) {
+    lazydfa_edge edges[4] = { { '0', '9', 0, 0 }, { 'A', 'Z', 0, 0 }, { '_', '_', 0, 0 }, { 'a', 'z', 0, 0 } };
+    uint32_t both[2], id;
+    int i;
+    switch (state->kind) {
+    case RANGE: return lazydfa_add_range(b, state->lo, state->hi, state->next, &id);
+    case WORD:
+        for (i = 0; i < 4; i++) edges[i].next = state->next;
+        return lazydfa_add_sparse(b, edges, 4, &id);
+    case EITHER:
+        both[0] = state->next;
+        both[1] = state->other;
+        return lazydfa_add_union(b, both, 2, &id);
+    case ASSERT: return lazydfa_add_look(b, state->next, state->lo, &id);
+    case ACCEPT: return lazydfa_add_match(b, &id);
+    default: return lazydfa_add_fail(b, &id);
+    }
+}
+
+/* The states in their order. The match state of a pattern is its last state, and prefixes come after all patterns. */
+static lazydfa_status add_states(lazydfa_builder *b, const struct entry *entry, const struct state *states) {
+    lazydfa_status ok = { LAZYDFA_OK, 0, 0 };
+    uint32_t pattern = 0;
+    uint8_t i;
+    if (entry->patterns) TRY(lazydfa_start_pattern(b, &pattern));
+    for (i = 0; i < entry->length; i++) {
+        TRY(add_state(b, &states[i]));
+        if (states[i].kind != ACCEPT) continue;
+        TRY(lazydfa_finish_pattern(b, entry->starts[states[i].next], &pattern));
+        if (states[i].next + 1 < entry->patterns) TRY(lazydfa_start_pattern(b, &pattern));
+    }
+    return ok;
+}
+
+static lazydfa_status build(const struct definition *d, lazydfa_cache *cache) {
+    lazydfa_builder forward = LAZYDFA_INIT, backward = LAZYDFA_INIT;
+    lazydfa_regex regex = LAZYDFA_INIT;
+    lazydfa_starts starts = { 0, 0 };
+    lazydfa_status status = lazydfa_builder_new(&forward);
+    starts.unanchored = d->entry->unanchored;
+    if (status.code == LAZYDFA_OK) status = lazydfa_builder_new(&backward);
+    if (status.code == LAZYDFA_OK) status = lazydfa_set_utf8(&forward, d->entry->utf8);
+    if (status.code == LAZYDFA_OK) status = lazydfa_set_utf8(&backward, d->entry->utf8);
+    if (status.code == LAZYDFA_OK) status = lazydfa_set_reverse(&backward, 1);
+    if (status.code == LAZYDFA_OK) status = add_states(&forward, d->entry, d->entry->forward);
+    if (status.code == LAZYDFA_OK) status = add_states(&backward, d->entry, d->entry->backward);
+    if (status.code == LAZYDFA_OK)
+        status = lazydfa_regex_build_pair(&regex, &forward, starts, &backward, starts, &d->settings, d->quits,
+                                          d->quit_count);
+    if (status.code == LAZYDFA_OK) status = lazydfa_cache_new(cache, &regex);
+    lazydfa_regex_close(&regex);
+    lazydfa_builder_close(&backward);
+    lazydfa_builder_close(&forward);
+    return status;
+}
+
+static void refuse(const struct definition *d, lazydfa_status status) {
+    fputs("refused ", stdout);
+    switch (status.code) {
+    case LAZYDFA_UNSUPPORTED:
+        puts("unsupported regex feature for DFAs: cannot build lazy DFAs for regexes with Unicode word boundaries; "
+             "switch to ASCII word boundaries, or heuristically enable Unicode word boundaries or use a different "
+             "regex engine");
+        break;
+    case LAZYDFA_CAPACITY:
+        printf("given cache capacity (%lu) is smaller than minimum required (%lu)\n",
+               (unsigned long)d->settings.cache_capacity, (unsigned long)status.offset);
+        break;
+    default: puts(lazydfa_code_text(status.code));
+    }
+}
+
+static void define(char *line) {
+    const char *name = next_word(&line), *option;
+    struct definition d;
+    lazydfa_status status;
+    size_t i;
+    memset(&d, 0, sizeof d);
+    for (i = 0; i < sizeof catalogue / sizeof *catalogue; i++)
+        if (name && !strcmp(catalogue[i].name, name)) d.entry = &catalogue[i];
+    if (!d.entry || regexes == MOST) bad_line();
+    while ((option = next_word(&line))) set_option(&d, option);
+    status = build(&d, &caches[regexes]);
+    if (status.code != LAZYDFA_OK) refuse(&d, status);
+    else printf("regex %lu\n", (unsigned long)regexes++);
+}
+
+/* ---- Requests ---- */
+
+struct query {
+    uint8_t *haystack;
+    size_t length;
+    lazydfa_input input;
+};
+
+static void set_how(struct query *q, char *how) {
+    const char *value;
+    if (!strcmp(how, "anchored")) q->input.anchored = LAZYDFA_ANCHORED_YES;
+    else if (!strcmp(how, "earliest")) q->input.earliest = 1;
+    else if ((value = after(how, "pattern="))) {
+        q->input.anchored = LAZYDFA_ANCHORED_PATTERN;
+        q->input.pattern = (uint32_t)number(value);
+    } else if (after(how, "span=")) {
+        char *end = strstr(how, "..");
+        if (!end) bad_line();
+        *end = '\0';
+        q->input.start = number(how + 5);
+        q->input.end = number(end + 2);
+    } else bad_line();
+}
+
+static struct query query(char *line) {
+    struct query q;
+    char *haystack = next_word(&line), *how;
+    size_t i;
+    if (!haystack || (strlen(haystack) % 2 && strcmp(haystack, "-"))) bad_line();
+    q.length = strlen(haystack) / 2;
+    q.haystack = room_for(q.length, 1);
+    for (i = 0; i < q.length; i++) q.haystack[i] = byte(haystack + 2 * i);
+    q.input = lazydfa_whole(q.length);
+    while ((how = next_word(&line))) set_how(&q, how);
+    return q;
+}
+
+/* The words of an error. */
+static void print_error(lazydfa_status status) {
+    switch (status.code) {
+    case LAZYDFA_QUIT: printf("quit %02x %lu", (unsigned)status.byte, (unsigned long)status.offset); break;
+    case LAZYDFA_GAVE_UP: printf("gaveup %lu", (unsigned long)status.offset); break;
+    case LAZYDFA_ANCHORED: fputs("unsupported", stdout); break;
+    case LAZYDFA_MEMORY: fputs("memory", stdout); break;
+    case LAZYDFA_NOT_A_PAIR: fputs("notapair", stdout); break;
+    case LAZYDFA_NO_TOKEN: printf("notoken %lu", (unsigned long)status.offset); break;
+    default: fputs(lazydfa_code_text(status.code), stdout);
+    }
+}
+
+static void print_half(lazydfa_status status, lazydfa_half half) {
+    if (status.code == LAZYDFA_OK) printf("half %lu %lu", (unsigned long)half.pattern, (unsigned long)half.offset);
+    else if (status.code == LAZYDFA_NONE) fputs("none", stdout);
+    else print_error(status);
+}
+
+static void print_match(lazydfa_match m) {
+    printf("%lu %lu..%lu", (unsigned long)m.pattern, (unsigned long)m.start, (unsigned long)m.end);
+}
+
+/* What ended a list, if it is an error. */
+static void print_end(lazydfa_status status) {
+    if (status.code == LAZYDFA_OK || status.code == LAZYDFA_NONE) return;
+    putchar(' ');
+    print_error(status);
+}
+
+static void find(struct query *q) {
+    lazydfa_match m;
+    lazydfa_status status = lazydfa_find(&caches[current], q->haystack, q->length, &q->input, &m);
+    if (status.code == LAZYDFA_OK) {
+        fputs("match ", stdout);
+        print_match(m);
+    } else if (status.code == LAZYDFA_NONE) fputs("none", stdout);
+    else print_error(status);
+}
+
+static void is_match(struct query *q) {
+    lazydfa_status status = lazydfa_is_match(&caches[current], q->haystack, q->length, &q->input);
+    if (status.code == LAZYDFA_OK) fputs("true", stdout);
+    else if (status.code == LAZYDFA_NONE) fputs("false", stdout);
+    else print_error(status);
+}
+
+static void half(struct query *q, int backward) {
+    lazydfa_half h = { 0, 0, 0 };
+    print_half(backward ? lazydfa_find_start(&caches[current], q->haystack, q->length, &q->input, &h)
+                        : lazydfa_find_end(&caches[current], q->haystack, q->length, &q->input, &h), h);
+}
+
+static void iterate(struct query *q) {
+    lazydfa_iteration at = lazydfa_iterate(q->input);
+    lazydfa_match m;
+    lazydfa_status status;
+    fputs("iter", stdout);
+    while ((status = lazydfa_next(&caches[current], q->haystack, q->length, &at, &m)).code == LAZYDFA_OK) {
+        putchar(' ');
+        print_match(m);
+    }
+    print_end(status);
+}
+
+static void tokens(struct query *q) {
+    lazydfa_match m[3];
+    lazydfa_status status;
+    size_t i, count;
+    fputs("tokens", stdout);
+    do {
+        status = lazydfa_tokens(&caches[current], q->haystack, q->length, &q->input, m, 3, &count);
+        for (i = 0; i < count; i++) {
+            putchar(' ');
+            print_match(m[i]);
+        }
+    } while (status.code == LAZYDFA_OK);
+    print_end(status);
+}
+
+static void which(size_t below, struct query *q) {
+    uint32_t patterns[ROOM];
+    size_t i, count = 0;
+    lazydfa_status status = lazydfa_which(&caches[current], q->haystack, q->length, &q->input, below, patterns, ROOM,
+                                          &count);
+    fputs("patterns", stdout);
+    for (i = 0; i < count && i < ROOM; i++) printf(" %lu", (unsigned long)patterns[i]);
+    print_end(status);
+}
+
+static void begin_walk(struct query *q, int backward) {
+    struct walk *w;
+    if (walk_count == MOST) bad_line();
+    w = &walks[walk_count];
+    w->regex = current;
+    w->backward = backward;
+    w->haystack = q->haystack;
+    w->length = q->length;
+    w->input = q->input;
+    w->halves = room_for(ROOM, sizeof *w->halves);
+    q->haystack = NULL;
+    printf("walk %lu", (unsigned long)walk_count++);
+}
+
+/* Runs a walk from its beginning. */
+static lazydfa_status run_walk(struct walk *w) {
+    lazydfa_cache *cache = &caches[current];
+    lazydfa_status status =
+        w->backward ? lazydfa_all_starts(cache, w->haystack, w->length, &w->input, w->halves, ROOM, &w->known)
+                    : lazydfa_all_ends(cache, w->haystack, w->length, &w->input, w->halves, ROOM, &w->known);
+    w->is_whole = status.code == LAZYDFA_OK;
+    if (w->known > ROOM) bad_line();
+    return status;
+}
+
+static void step(size_t at) {
+    lazydfa_status status = { LAZYDFA_NONE, 0, 0 }, found = { LAZYDFA_OK, 0, 0 };
+    lazydfa_half none = { 0, 0, 0 };
+    struct walk *w = &walks[at];
+    if (at >= walk_count) {
+        fputs("bad walk", stdout);
+        return;
+    }
+    if (w->regex != current) {
+        fputs("bad other", stdout);
+        return;
+    }
+    if (w->reported == w->known && !w->is_whole) status = run_walk(w);
+    if (w->reported < w->known) print_half(found, w->halves[w->reported++]);
+    else {
+        if (status.code == LAZYDFA_OK) status.code = LAZYDFA_NONE;
+        print_half(status, none);
+    }
+}
+
+static void reset(size_t at) {
+    lazydfa_status status;
+    if (at >= regexes) {
+        fputs("bad regex", stdout);
+        return;
+    }
+    status = lazydfa_cache_reset(&caches[at]);
+    if (status.code == LAZYDFA_OK) {
+        current = at;
+        fputs("ok", stdout);
+    } else print_error(status);
+}
+
+/* A request that has a haystack. */
+static void request(const char *form, char *line) {
+    const char *direction = strcmp(form, "walk") ? NULL : next_word(&line);
+    size_t below = strcmp(form, "which") ? 0 : number(next_word(&line));
+    struct query q = query(line);
+    if (!regexes) fputs("bad regex", stdout);
+    else if (!strcmp(form, "fwd")) half(&q, 0);
+    else if (!strcmp(form, "rev")) half(&q, 1);
+    else if (!strcmp(form, "find")) find(&q);
+    else if (!strcmp(form, "is")) is_match(&q);
+    else if (!strcmp(form, "iter")) iterate(&q);
+    else if (!strcmp(form, "tok")) tokens(&q);
+    else if (!strcmp(form, "which")) which(below, &q);
+    else if (direction) begin_walk(&q, !strcmp(direction, "rev"));
+    else bad_line();
+    free(q.haystack);
+}
+
+static void run_line(char *line) {
+    const char *form;
+    if (!*line || *line == '#') return;
+    form = next_word(&line);
+    if (!strcmp(form, "regex")) {
+        define(line);
+        return;
+    }
+    if (!strcmp(form, "step")) {
+        size_t at = number(next_word(&line));
+        if (regexes) step(at);
+        else fputs("bad regex", stdout);
+    } else if (!strcmp(form, "reset")) reset(number(next_word(&line)));
+    else request(form, line);
+    putchar('\n');
+}
+
+/* The whole of standard input, ended by a zero. */
+static char *read_all(void) {
+    size_t length = 0, room = 1 << 16, got;
+    char *text = room_for(room, 1);
+    while ((got = fread(text + length, 1, room - length - 1, stdin)) > 0) {
+        length += got;
+        if (length + 1 == room) {
+            room *= 2;
+            text = realloc(text, room);
+            if (!text) exit(1);
+        }
+    }
+    text[length] = '\0';
+    return text;
+}
+
+int main(void) {
+    char *text = read_all(), *line = text;
+    size_t i;
+    while (line) {
+        char *end = strchr(line, '\n');
+        if (end) *end = '\0';
+        line_number++;
+        run_line(line);
+        line = end ? end + 1 : NULL;
+    }
+    free(text);
+    for (i = 0; i < walk_count; i++) {
+        free(walks[i].haystack);
+        free(walks[i].halves);
+    }
+    for (i = 0; i < regexes; i++) lazydfa_cache_close(&caches[i]);
+    return 0;
+}

@@ -1,0 +1,3 @@
+mod Codes
+mod Slots
+mod Values

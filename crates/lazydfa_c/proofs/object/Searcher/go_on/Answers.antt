@@ -1,0 +1,25 @@
+use Rattle.std.proofs.Common.{rules, ◌≡◌, ℕ, Option, subst}
+use Rattle.std.specs.Prelude.{Err}
+use Rattle.regex_automata.specs.Spans.Effects.{IsNextEffect}
+use Rattle.regex_automata.specs.Spans.Iteration.{IsNextRefusal}
+use Rattle.regex_automata.specs.declared.hybrid.regex.Regex.{Regex}
+use Rattle.lazydfa_c.specs.Calls.{last_of, regex_of}
+use Rattle.lazydfa_c.proofs.object.Searcher.go_on.Goals as goal
+
+pub returns-in-Err : goal.returns-in-Err
+returns-in-Err c =
+    let input = c.args.input.now in let old = c.args.self.now.cache in let new = c.next_match.new.cache in
+    let e = c.in-Err.error in let regex = regex_of c.args.self.now in record {
+      result = Err e;
+      told = c.from-in-Err.ensures;
+      next = search rules;
+      refusal =
+          subst (λ (l : Option ℕ). IsNextRefusal regex new input l e) c.last.ensures
+          (subst (λ (r : Regex). IsNextRefusal r new input c.last.result e) c.deref.ensures c.in-Err.ensures.refusal);
+      effect =
+          subst (λ (l : Option ℕ). IsNextEffect regex input l old new (Err e)) c.last.ensures
+          (subst (λ (r : Regex). IsNextEffect r input c.last.result old new (Err e)) c.deref.ensures
+          c.in-Err.ensures.effect);
+      same = search rules;
+      iterated = search rules;
+    }

@@ -1,0 +1,136 @@
+-- What the calls for a cache do, each seen by the cache before and after it and by the status that it returns.
+use Rattle.std.specs.Prelude.{ℕ, ◌≡◌, ◌==◌, Bool, true, false, not, List, length, replicate, slice_index, ◌<◌}
+use Rattle.std.specs.Prelude.{Option, Some, None, Result, Ok, Err, IfErr, IfOk, IsSomeAnd, if◌then◌else◌}
+use Rattle.automata_config.specs.declared.error.SearchError.{SearchError}
+use Rattle.automata_hybrid.specs.Searches.Contracts.{IsSearchEffect}
+use Rattle.automata_hybrid.specs.Walks.Contracts.{IsWhichEffect}
+use Rattle.regex_automata.specs.Promises.{Backward, Forward, HalfMatch, Input, IsHalf, IsSpanEffect, IsSpanOf}
+use Rattle.regex_automata.specs.Promises.{IsTruthEffect, IsTruthOf, IsWhich, Match, members}
+use Rattle.regex_automata.specs.Spans.Effects.{IsNextEffect}
+use Rattle.regex_automata.specs.Spans.Iteration.{IsNextMatch, IsNextRefusal}
+use Rattle.regex_automata.specs.declared.hybrid.regex.Regex.{Regex}
+use Rattle.lazydfa_c.specs.Requests.{half_of, input_of, match_of}
+use Rattle.lazydfa_c.specs.Statuses.{plain, search_status}
+use Rattle.lazydfa_c.specs.declared.code.Code.TheVariants as code
+use Rattle.lazydfa_c.specs.declared.handle.Handle.{Handle}
+use Rattle.lazydfa_c.specs.declared.input.Found.{Found}
+use Rattle.lazydfa_c.specs.declared.input.FoundHalf.{FoundHalf}
+use Rattle.lazydfa_c.specs.declared.iterate.Iteration.{Iteration}
+use Rattle.lazydfa_c.specs.declared.object.Object.{Object}
+use Rattle.lazydfa_c.specs.declared.object.Object.TheVariants.{Builder, Regex as RegexObject, Searcher as CacheObject}
+use Rattle.lazydfa_c.specs.declared.object.Searcher.{Searcher}
+use Rattle.lazydfa_c.specs.declared.status.Status.{Status}
+
+-- the regex of a cache
+abbrev pub regex_of : Searcher → Regex
+regex_of s = s.shared.regex.value
+
+-- what a search found, or why it failed, is told: a match is written, and the status says the rest
+abbrev pub IsTold : {A : Type 0} → (written : A) → Result (Option A) SearchError → Status → Type 0
+IsTold written (Ok (Some found)) status = (written ≡ found) × (status ≡ plain code.Done)
+IsTold written (Ok None) status = status ≡ plain code.Nothing
+IsTold written (Err e) status = status ≡ search_status e
+
+-- the same of a search that writes nothing
+abbrev pub IsTruthTold : Result Bool SearchError → Status → Type 0
+IsTruthTold (Ok true) status = status ≡ plain code.Done
+IsTruthTold (Ok false) status = status ≡ plain code.Nothing
+IsTruthTold (Err e) status = status ≡ search_status e
+
+-- the same of a call that answers nothing else
+abbrev pub IsDoneTold : Result (Unit {0}) SearchError → Status → Type 0
+IsDoneTold (Ok u) status = status ≡ plain code.Done
+IsDoneTold (Err e) status = status ≡ search_status e
+
+-- a call that searches an input; without one it changes nothing, and the argument is reported
+abbrev pub OfInput :
+    (Does : Input → Searcher → Searcher → Status → Type 0)
+    → Option Input → Searcher → Searcher → Status → Type 0
+OfInput Does None s t status = (t ≡ s) × (status ≡ plain code.Argument)
+OfInput Does (Some input) s t status = Does input s t status
+
+-- a call on the object of a handle, which does this to a cache; any other object stays, and its kind is reported
+abbrev pub OfObject : (Does : Searcher → Searcher → Status → Type 0) → Object → Object → Status → Type 0
+OfObject Does (CacheObject s) (CacheObject t) status = Does s t status
+OfObject Does (CacheObject s) (Builder b) status = ⊥
+OfObject Does (CacheObject s) (RegexObject r) status = ⊥
+OfObject Does (Builder b) new status = (new ≡ Builder b) × (status ≡ plain code.Kind)
+OfObject Does (RegexObject r) new status = (new ≡ RegexObject r) × (status ≡ plain code.Kind)
+
+-- a call on a handle: of one that is open, on its object, which is put back; a closed one is reported
+pub record OfHandle (Does : Searcher → Searcher → Status → Type 0) (old new : Handle) (status : Status) : Type 0 where
+  pub opened :
+      (o : Object) → old.live ≡ 1 → old.slot.value ≡ Some o
+      → (new.live ≡ 1) × IsSomeAnd new.slot.value (λ p. OfObject Does o p status)
+  pub closed : (old.live ≡ 1 → ⊥) → (new.live ≡ 0) × (status ≡ plain code.Closed)
+
+-- `lazydfa_find`: the result of `Regex::find`, with its promises, is told
+pub record Finds (found : Found) (input : Input) (s t : Searcher) (status : Status) : Type 0 where
+  pub result : Result (Option Match) SearchError
+  pub told : IsTold (match_of found) result status
+  pub returned : IsSpanOf (regex_of s) input result
+  pub effect : IsSpanEffect (regex_of s) input s.cache t.cache result
+  pub same : t.shared ≡ s.shared
+
+-- `lazydfa_is_match`: the result of `Regex::is_match`
+pub record Tests (input : Input) (s t : Searcher) (status : Status) : Type 0 where
+  pub result : Result Bool SearchError
+  pub told : IsTruthTold result status
+  pub returned : IsTruthOf (regex_of s) input result
+  pub effect : IsTruthEffect (regex_of s) input s.cache t.cache result
+  pub same : t.shared ≡ s.shared
+
+-- `lazydfa_find_end`: the result of a search of the forward DFA; the reverse cache stays
+pub record FindsEnd (found : FoundHalf) (input : Input) (s t : Searcher) (status : Status) : Type 0 where
+  pub result : Result (Option HalfMatch) SearchError
+  pub told : IsTold (half_of found) result status
+  pub returned : IsHalf Forward (regex_of s).forward input result
+  pub effect : IsSearchEffect Forward (regex_of s).forward input s.cache.forward t.cache.forward result
+  pub reverse : t.cache.reverse ≡ s.cache.reverse
+  pub same : t.shared ≡ s.shared
+
+-- `lazydfa_find_start`: the result of a search of the reverse DFA; the forward cache stays
+pub record FindsStart (found : FoundHalf) (input : Input) (s t : Searcher) (status : Status) : Type 0 where
+  pub result : Result (Option HalfMatch) SearchError
+  pub told : IsTold (half_of found) result status
+  pub returned : IsHalf Backward (regex_of s).reverse input result
+  pub effect : IsSearchEffect Backward (regex_of s).reverse input s.cache.reverse t.cache.reverse result
+  pub forward : t.cache.forward ≡ s.cache.forward
+  pub same : t.shared ≡ s.shared
+
+-- an iteration after a search from where it stands: a match is passed, and anything else ends it
+abbrev pub iterated : Iteration → Result (Option Match) SearchError → Iteration
+iterated at (Ok (Some m)) =
+    record at { left = record at.left { start = m.end }; last = m.end; has_last = 1 }
+iterated at (Ok None) = record at { ended = 1 }
+iterated at (Err e) = record at { ended = 1 }
+
+-- where the last match of an iteration ended, if there was one
+abbrev pub last_of : Iteration → Option ℕ
+last_of at = if at.has_last == 0 then None else Some at.last
+
+-- a search of an iteration that has not ended: the result of `Regex::next_match`
+pub record GoesOn (found : Found) (old new : Iteration) (input : Input) (s t : Searcher) (status : Status) : Type 0 where
+  pub result : Result (Option Match) SearchError
+  pub told : IsTold (match_of found) result status
+  pub next : IfOk result (IsNextMatch (regex_of s) input (last_of old))
+  pub refusal : IfErr result (IsNextRefusal (regex_of s) t.cache input (last_of old))
+  pub effect : IsNextEffect (regex_of s) input (last_of old) s.cache t.cache result
+  pub same : t.shared ≡ s.shared
+  pub iterated : new ≡ iterated old result
+
+-- `lazydfa_next`: an iteration that has ended stays, and so does one without an input
+abbrev pub Iterates : List ℕ → Found → (old new : Iteration) → (s t : Searcher) → Status → Type 0
+Iterates haystack found old new s t status =
+    (old.ended ≡ 0 → OfInput (GoesOn found old new) (input_of haystack old.left) s t status)
+    × ((old.ended ≡ 0 → ⊥) → (t ≡ s) × (new ≡ old) × (status ≡ plain code.Nothing))
+    × ((old.ended ≡ 0) → input_of haystack old.left ≡ None → new ≡ old)
+
+-- `lazydfa_which`: the set that is joined with the patterns that match
+pub record Joins (input : Input) (s t : Searcher) (status : Status) : Type 0 where
+  pub result : Result (Unit {0}) SearchError
+  pub told : IsDoneTold result status
+  pub returned : IsWhich (regex_of s).forward input s.patterns t.patterns result
+  pub effect : IsWhichEffect (regex_of s).forward input s.patterns s.cache.forward t.cache.forward result
+  pub reverse : t.cache.reverse ≡ s.cache.reverse
+  pub same : t.shared ≡ s.shared

@@ -1,0 +1,5 @@
+pub mod Calls
+pub mod Codes
+pub mod Held
+pub mod Requests
+pub mod Statuses

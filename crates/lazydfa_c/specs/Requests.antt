@@ -1,0 +1,43 @@
+-- What C asks for, and what it is told.
+use Rattle.std.specs.Prelude.{ℕ, zero, suc, ◌+◌, ◌&&◌, ◌==◌, not, Bool, true, false, List, length, nat_le}
+use Rattle.std.specs.Prelude.{Option, Some, None, if◌then◌else◌}
+use Rattle.automata_base.specs.declared.util.search.Anchored.{Anchored}
+use Rattle.regex_automata.specs.Promises.{HalfMatch, Input, Match, No, Pattern, Yes}
+use Rattle.lazydfa_c.specs.declared.input.Found.{Found}
+use Rattle.lazydfa_c.specs.declared.input.FoundHalf.{FoundHalf}
+use Rattle.lazydfa_c.specs.declared.input.Request.{Request}
+
+-- the anchored mode of two numbers, if they stand for one
+abbrev pub mode_of : ℕ → ℕ → Option Anchored
+mode_of zero pattern = Some No
+mode_of (suc zero) pattern = Some Yes
+mode_of (suc (suc zero)) pattern = if nat_le pattern 2147483646 then Some (Pattern pattern) else None
+mode_of (suc (suc (suc n))) pattern = None
+
+-- whether a span lies in a haystack, as `Input::allows` tests it
+abbrev pub is_span : List ℕ → Request → Bool
+is_span haystack r = nat_le r.end (length haystack) && nat_le r.start (r.end + 1)
+
+abbrev pub input_in : List ℕ → Request → Option Anchored → Option Input
+input_in haystack r None = None
+input_in haystack r (Some mode) =
+    if is_span haystack r
+    then Some (record {
+      haystack = haystack;
+      start = r.start;
+      end = r.end;
+      anchored = mode;
+      earliest = not (r.earliest == 0);
+    })
+    else None
+
+-- the input that a request stands for, if its numbers are a mode and a span of the haystack
+abbrev pub input_of : List ℕ → Request → Option Input
+input_of haystack r = input_in haystack r (mode_of r.anchored r.pattern)
+
+-- a match, and one end of a match, that C reads
+abbrev pub match_of : Found → Match
+match_of f = record { pattern = f.pattern; start = f.start; end = f.end }
+
+abbrev pub half_of : FoundHalf → HalfMatch
+half_of f = record { pattern = f.pattern; offset = f.offset }

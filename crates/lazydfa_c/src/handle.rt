@@ -1,0 +1,121 @@
+//! Handles: what C holds of an object on the heap.
+ghost use Rattle.std.specs.Prelude.{◌≡◌, ◌↔◌, IfSome, IsSome, None, Option, Some};
+ghost use Rattle.lazydfa_c.specs.Held.{held};
+ghost use Rattle.lazydfa_c.specs.contracts.object.Object.{the_row as object_row};
+ghost use Rattle.lazydfa_c.specs.declared.object.Object.{Object};
+
+use crate::code::Code;
+use crate::loose::Loose;
+use crate::object::Object;
+use crate::status::Status;
+use std::alloc::Global;
+use std::marker::Model;
+use std::mem;
+use std::ptr::null_mut;
+
+/// A pointer that owns an object, or is of no use.
+#[repr(C)]
+#[derive(Drop)]
+pub struct Slot {
+    at: *mut u8,
+    ghost value: { Option Object },
+}
+
+impl Model for Slot {
+    ghost also_owns = { λ s. held object_row s.at s.value };
+}
+
+impl Slot {
+    fn closed(at: *mut u8) -> Slot
+        ensures { result.value ≡ None }
+    {
+        Slot { at }
+    }
+
+    fn of(object: Loose<Object, Global>) -> Slot
+        ensures { result.value ≡ Some object.value }
+    {
+        let Loose { at, alloc: _ } = object;
+        Slot { at: at as *mut u8 }
+    }
+
+    fn open(self, alloc: Global) -> Loose<Object, Global>
+        requires { IsSome self.value }
+        ensures { self.value ≡ Some result.value }
+    {
+        let Slot { at } = self;
+        Loose {
+            at: at as *mut Object,
+            alloc,
+        }
+    }
+
+    fn empty() -> Slot
+        ensures { result.value ≡ None }
+    {
+        let at: *mut u8 = null_mut();
+        Slot::closed(at)
+    }
+}
+
+/// What C holds: a pointer, and whether it is open. C begins with zeros, and changes neither.
+#[repr(C)]
+#[derive(Drop)]
+pub struct Handle {
+    slot: Slot,
+    live: u64,
+    ghost full: { live ≡ 1 → IsSome slot.value },
+    ghost empty: { live ≡ 0 → slot.value ≡ None },
+}
+
+impl Handle {
+    pub fn of(object: Box<Object>) -> Handle
+        ensures live { result.live ≡ 1 }
+        ensures value { result.slot.value ≡ Some object.value }
+    {
+        Handle {
+            slot: Slot::of(Loose::of(object)),
+            live: 1,
+        }
+    }
+
+    /// Whether it owns an object.
+    pub fn is_open(&self) -> bool {
+        self.live != 0
+    }
+
+    /// Takes the object out, and leaves the handle closed.
+    pub fn take(&mut self, alloc: Global) -> Option<Box<Object>>
+        ensures empty { self.new.slot.value ≡ None }
+        ensures live { self.new.live ≡ 0 }
+        ensures value { IfSome result (λ b. self.old.slot.value ≡ Some b.value) }
+        ensures opened { IsSome result ↔ (self.old.live ≡ 1) }
+    {
+        let live = mem::replace(&mut self.live, 0);
+        let slot = mem::replace(&mut self.slot, Slot::empty());
+        if live != 1 {
+            return None;
+        }
+        Some(slot.open(alloc).into_box())
+    }
+
+    /// Puts an object into a handle. What the handle had is forgotten.
+    pub fn put(&mut self, object: Box<Object>)
+        ensures live { self.new.live ≡ 1 }
+        ensures value { self.new.slot.value ≡ Some object.value }
+    {
+        *self = Handle::of(object);
+    }
+}
+
+/// Frees what a handle owns, and closes it.
+#[unsafe(no_mangle)]
+pub extern "C" fn lazydfa_raw_close(alloc: Global, handle: &mut Handle) -> Status {
+    match handle.take(alloc) {
+        Some(object) => {
+            drop(object);
+            Status::from(Code::Done)
+        }
+        None => Status::from(Code::Closed),
+    }
+}

@@ -1,0 +1,96 @@
+//! What is searched and what is found, as C lays it out.
+ghost use Rattle.std.specs.Prelude.{◌≡◌};
+ghost use Rattle.lazydfa_c.specs.Requests.{half_of, input_of, match_of, mode_of};
+
+use regex_automata::{Anchored, HalfMatch, Input, Match, PatternID};
+
+/// A span, an anchored mode (0 no, 1 yes, 2 this pattern) and whether the search may stop at the first match that it
+/// sees.
+#[repr(C)]
+#[derive(Clone, Copy)]
+pub struct Request {
+    pub start: usize,
+    pub end: usize,
+    pub anchored: u32,
+    pub pattern: u32,
+    pub earliest: u32,
+    pub reserved: u32,
+}
+
+/// A match: its span and its pattern.
+#[repr(C)]
+#[derive(Clone, Copy)]
+pub struct Found {
+    pub start: usize,
+    pub end: usize,
+    pub pattern: u32,
+    pub reserved: u32,
+}
+
+/// The pattern and one end of a match.
+#[repr(C)]
+#[derive(Clone, Copy)]
+pub struct FoundHalf {
+    pub offset: usize,
+    pub pattern: u32,
+    pub reserved: u32,
+}
+
+impl Request {
+    fn mode(&self) -> Option<Anchored>
+        ensures { result ≡ mode_of self.now.anchored self.now.pattern }
+    {
+        match self.anchored {
+            0 => Some(Anchored::No),
+            1 => Some(Anchored::Yes),
+            2 => match PatternID::new(self.pattern as usize) {
+                Some(pattern) => Some(Anchored::Pattern(pattern)),
+                None => None,
+            },
+            _ => None,
+        }
+    }
+
+    /// The input that it stands for, if its mode is one and its span lies in the haystack.
+    pub fn input<'h>(&self, haystack: &'h [u8]) -> Option<Input<'h>>
+        ensures { result ≡ input_of haystack.now self.now }
+    {
+        let mode = self.mode()?;
+        let input = Input::new(haystack);
+        if !input.allows(self.start, self.end) {
+            return None;
+        }
+        let range = self.start..self.end;
+        Some(
+            input
+                .range(range)
+                .anchored(mode)
+                .earliest(self.earliest != 0),
+        )
+    }
+}
+
+impl Found {
+    pub fn of(found: Match) -> Found
+        ensures { match_of result ≡ found }
+    {
+        Found {
+            start: found.start(),
+            end: found.end(),
+            pattern: found.pattern().as_u32(),
+            reserved: 0,
+        }
+    }
+}
+
+impl FoundHalf {
+    pub fn of(found: HalfMatch) -> FoundHalf
+        ensures { half_of result ≡ found }
+    {
+        FoundHalf {
+            offset: found.offset(),
+            pattern: found.pattern().as_u32(),
+            reserved: 0,
+        }
+    }
+}

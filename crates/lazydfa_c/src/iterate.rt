@@ -1,0 +1,147 @@
+//! The matches of an input, one after another.
+ghost use Rattle.std.specs.Prelude.{◌≡◌, Ok, Some};
+ghost use Rattle.lazydfa_c.specs.Calls.{GoesOn, Iterates, OfHandle, OfObject, iterated, last_of};
+ghost use Rattle.lazydfa_c.specs.Requests.{match_of};
+
+use crate::code::Code;
+use crate::handle::Handle;
+use crate::input::{Found, Request};
+use crate::object::{Object, Searcher};
+use crate::status::Status;
+use regex_automata::Input;
+use std::alloc::Global;
+
+/// An iteration: what is left to be searched, the end of the last match if there was one, and whether it has ended.
+#[repr(C)]
+#[derive(Clone, Copy)]
+pub struct Iteration {
+    pub left: Request,
+    pub last: usize,
+    pub has_last: u32,
+    pub ended: u32,
+}
+
+impl Iteration {
+    /// Goes on after a match.
+    fn pass(&mut self, found: &Found)
+        ensures { self.new ≡ iterated self.old (Ok (Some (match_of found.now))) }
+    {
+        self.left.start = found.end;
+        self.last = found.end;
+        self.has_last = 1;
+    }
+
+    fn last(&self) -> Option<usize>
+        ensures { result ≡ last_of self.now }
+    {
+        if self.has_last == 0 {
+            None
+        } else {
+            Some(self.last)
+        }
+    }
+}
+
+impl Searcher {
+    /// The match after the last one of an iteration that has not ended.
+    fn go_on(&mut self, input: &Input<'_>, at: &mut Iteration, found: &mut Found) -> Status
+        ensures { GoesOn found.new at.old at.new input.now self.old self.new result }
+    {
+        let shared = &self.shared;
+        match shared.regex.next_match(&mut self.cache, input, at.last()) {
+            Ok(Some(it)) => {
+                *found = Found::of(it);
+                at.pass(found);
+                Status::from(Code::Done)
+            }
+            Ok(None) => {
+                at.ended = 1;
+                Status::from(Code::Nothing)
+            }
+            Err(error) => {
+                at.ended = 1;
+                Status::from(error)
+            }
+        }
+    }
+
+    fn next(&mut self, haystack: &[u8], at: &mut Iteration, found: &mut Found) -> Status
+        ensures { Iterates haystack.now found.new at.old at.new self.old self.new result }
+    {
+        if at.ended != 0 {
+            return Status::from(Code::Nothing);
+        }
+        match at.left.input(haystack) {
+            Some(input) => self.go_on(&input, at, found),
+            None => Status::from(Code::Argument),
+        }
+    }
+
+    /// The next matches, as many as there is room for. The status is that of the last one, or of what came after it.
+    fn next_all(
+        &mut self,
+        haystack: &[u8],
+        at: &mut Iteration,
+        out: &mut [Found],
+        count: &mut usize,
+    ) -> Status {
+        *count = 0;
+        for place in out {
+            let status = self.next(haystack, at, place);
+            if !status.is_done() {
+                return status;
+            }
+            *count = count.saturating_add(1);
+        }
+        Status::from(Code::Done)
+    }
+}
+
+fn next_in(object: &mut Object, haystack: &[u8], at: &mut Iteration, found: &mut Found) -> Status
+    ensures { OfObject (Iterates haystack.now found.new at.old at.new) object.old object.new result }
+{
+    match object {
+        Object::Searcher(searcher) => searcher.next(haystack, at, found),
+        Object::Builder(_) | Object::Regex(_) => Status::from(Code::Kind),
+    }
+}
+
+/// The next match of an iteration.
+#[unsafe(no_mangle)]
+pub extern "C" fn lazydfa_raw_next(
+    alloc: Global,
+    cache: &mut Handle,
+    haystack: &[u8],
+    at: &mut Iteration,
+    found: &mut Found,
+) -> Status
+    ensures { OfHandle (Iterates haystack.now found.new at.old at.new) cache.old cache.new result }
+{
+    let Some(mut object) = cache.take(alloc) else {
+        return Status::from(Code::Closed);
+    };
+    let status = next_in(object.as_mut(), haystack, at, found);
+    cache.put(object);
+    status
+}
+
+/// The next matches of an iteration, as many as there is room for.
+#[unsafe(no_mangle)]
+pub extern "C" fn lazydfa_raw_next_all(
+    alloc: Global,
+    cache: &mut Handle,
+    haystack: &[u8],
+    at: &mut Iteration,
+    found: &mut [Found],
+    count: &mut usize,
+) -> Status {
+    let Some(mut object) = cache.take(alloc) else {
+        return Status::from(Code::Closed);
+    };
+    let status = match object.as_mut() {
+        Object::Searcher(searcher) => searcher.next_all(haystack, at, found, count),
+        Object::Builder(_) | Object::Regex(_) => Status::from(Code::Kind),
+    };
+    cache.put(object);
+    status
+}

@@ -1,0 +1,23 @@
+//! The library for C: `bindings/c/include/lazydfa.h` declares each export, and says what a C program has to keep.
+//!
+//! A builder, a regex and a cache are behind handles of one type. A call takes the object out of its handle, works on
+//! it, and puts it back. So a handle that is closed, open already, or of another kind is reported by a status, as is
+//! every error of the library.
+#![tactic(auto)]
+
+mod builder;
+mod code;
+mod handle;
+mod input;
+mod iterate;
+mod loose;
+mod object;
+mod regex;
+mod search;
+mod sets;
+mod settings;
+mod status;
+mod tokens;
+mod usage;
+
+pub use handle::Handle;

@@ -1,0 +1,181 @@
+//! Regexes and caches.
+ghost use Rattle.std.specs.Prelude.{◌≡◌, IfOk, true};
+ghost use Rattle.regex_automata.specs.Promises.{IsSoundPair};
+
+use crate::builder::state_id;
+use crate::code::Code;
+use crate::handle::Handle;
+use crate::object::{Object, Searcher, Shared};
+use crate::settings::Settings;
+use crate::status::Status;
+use regex_automata::PatternSet;
+use regex_automata::hybrid::dfa::Config;
+use regex_automata::hybrid::regex::Regex;
+use regex_automata::nfa::thompson::{Builder, NFA};
+use std::alloc::Global;
+use std::rc::Rc;
+
+/// The states in which searches start.
+#[repr(C)]
+#[derive(Clone, Copy)]
+pub struct StartStates {
+    pub anchored: u32,
+    pub unanchored: u32,
+}
+
+fn nfa_of(builder: &Builder, starts: StartStates) -> Result<NFA, Status> {
+    let anchored = state_id(starts.anchored)?;
+    let unanchored = state_id(starts.unanchored)?;
+    Ok(builder.build(anchored, unanchored)?)
+}
+
+fn nfa_in(alloc: Global, builder: &mut Handle, starts: StartStates) -> Result<NFA, Status> {
+    let Some(object) = builder.take(alloc) else {
+        return Err(Status::from(Code::Closed));
+    };
+    let nfa = match object.as_ref() {
+        Object::Builder(builder) => nfa_of(builder, starts),
+        Object::Regex(_) | Object::Searcher(_) => Err(Status::from(Code::Kind)),
+    };
+    builder.put(object);
+    nfa
+}
+
+fn regex_of(nfa: NFA, config: Config) -> Result<Regex, Status>
+    ensures { IfOk result (λ regex. ∥ IsSoundPair regex ∥₁) }
+{
+    let mut builder = Regex::builder();
+    builder.dfa(config);
+    Ok(builder.build_from_nfa(nfa)?)
+}
+
+fn pair_of(forward: NFA, reverse: NFA, config: Config) -> Result<Regex, Status> {
+    let mut builder = Regex::builder();
+    builder.dfa(config);
+    Ok(builder.build_from_nfas(forward, reverse)?)
+}
+
+/// Shares a regex and opens a handle on it.
+fn open(alloc: Global, handle: &mut Handle, regex: Regex, is_sound: bool) -> Result<(), Status>
+    requires { is_sound ≡ true → ∥ IsSoundPair regex ∥₁ }
+{
+    let shared = Shared {
+        regex: Rc::new(alloc, regex)?,
+        is_sound,
+    };
+    let object = Box::new(alloc, Object::Regex(shared))?;
+    handle.put(object);
+    Ok(())
+}
+
+fn build(
+    alloc: Global,
+    regex: &mut Handle,
+    builder: &mut Handle,
+    starts: StartStates,
+    settings: &Settings,
+    quits: &[u8],
+) -> Result<(), Status> {
+    if regex.is_open() {
+        return Err(Status::from(Code::Open));
+    }
+    let config = settings.config(quits)?;
+    let nfa = nfa_in(alloc, builder, starts)?;
+    open(alloc, regex, regex_of(nfa, config)?, true)
+}
+
+fn build_pair(
+    alloc: Global,
+    regex: &mut Handle,
+    builders: (&mut Handle, &mut Handle),
+    starts: (StartStates, StartStates),
+    settings: &Settings,
+    quits: &[u8],
+) -> Result<(), Status> {
+    if regex.is_open() {
+        return Err(Status::from(Code::Open));
+    }
+    let config = settings.config(quits)?;
+    let forward = nfa_in(alloc, builders.0, starts.0)?;
+    let reverse = nfa_in(alloc, builders.1, starts.1)?;
+    open(alloc, regex, pair_of(forward, reverse, config)?, false)
+}
+
+/// Opens a handle on the regex of what a builder has. The builder stays as it is.
+#[unsafe(no_mangle)]
+pub extern "C" fn lazydfa_raw_regex_build(
+    alloc: Global,
+    regex: &mut Handle,
+    builder: &mut Handle,
+    starts: &StartStates,
+    settings: &Settings,
+    quits: &[u8],
+) -> Status {
+    Status::of(build(alloc, regex, builder, *starts, settings, quits))
+}
+
+/// Opens a handle on the regex of two NFAs, of which the second reads the same backward. The builders stay as they are.
+#[unsafe(no_mangle)]
+pub extern "C" fn lazydfa_raw_regex_build_pair(
+    alloc: Global,
+    regex: &mut Handle,
+    forward: &mut Handle,
+    forward_starts: &StartStates,
+    reverse: &mut Handle,
+    reverse_starts: &StartStates,
+    settings: &Settings,
+    quits: &[u8],
+) -> Status {
+    let starts = (*forward_starts, *reverse_starts);
+    Status::of(build_pair(alloc, regex, (forward, reverse), starts, settings, quits))
+}
+
+fn share(shared: &Shared) -> Result<Shared, Status> {
+    let regex = shared.regex.clone()?;
+    Ok(Shared {
+        regex,
+        is_sound: shared.is_sound,
+    })
+}
+
+fn shared_in(alloc: Global, regex: &mut Handle) -> Result<Shared, Status> {
+    let Some(object) = regex.take(alloc) else {
+        return Err(Status::from(Code::Closed));
+    };
+    let shared = match object.as_ref() {
+        Object::Regex(shared) => share(shared),
+        Object::Builder(_) | Object::Searcher(_) => Err(Status::from(Code::Kind)),
+    };
+    regex.put(object);
+    shared
+}
+
+fn searcher_of(alloc: Global, shared: Shared) -> Result<Searcher, Status> {
+    let cache = shared.regex.create_cache()?;
+    let patterns = PatternSet::new(alloc, shared.regex.pattern_len())?;
+    Ok(Searcher {
+        shared,
+        cache,
+        patterns,
+    })
+}
+
+fn create_cache(alloc: Global, cache: &mut Handle, regex: &mut Handle) -> Result<(), Status> {
+    if cache.is_open() {
+        return Err(Status::from(Code::Open));
+    }
+    let shared = shared_in(alloc, regex)?;
+    let object = Box::new(alloc, Object::Searcher(searcher_of(alloc, shared)?))?;
+    cache.put(object);
+    Ok(())
+}
+
+/// Opens a handle on a cache of a regex. It keeps the regex, whose handle may be closed before.
+#[unsafe(no_mangle)]
+pub extern "C" fn lazydfa_raw_cache_new(
+    alloc: Global,
+    cache: &mut Handle,
+    regex: &mut Handle,
+) -> Status {
+    Status::of(create_cache(alloc, cache, regex))
+}

@@ -1,0 +1,204 @@
+//! Searches over a cache: the first match, whether there is one, and its two ends.
+ghost use Rattle.lazydfa_c.specs.Calls.{Finds, FindsEnd, FindsStart, OfHandle, OfInput, OfObject, Tests};
+ghost use Rattle.lazydfa_c.specs.Requests.{input_of};
+
+use crate::code::Code;
+use crate::handle::Handle;
+use crate::input::{Found, FoundHalf, Request};
+use crate::object::{Object, Searcher};
+use crate::status::Status;
+use regex_automata::Input;
+use std::alloc::Global;
+
+impl Searcher {
+    fn find(&mut self, input: &Input<'_>, found: &mut Found) -> Status
+        ensures { Finds found.new input.now self.old self.new result }
+    {
+        let shared = &self.shared;
+        match shared.regex.find(&mut self.cache, input) {
+            Ok(Some(it)) => {
+                *found = Found::of(it);
+                Status::from(Code::Done)
+            }
+            Ok(None) => Status::from(Code::Nothing),
+            Err(error) => Status::from(error),
+        }
+    }
+
+    fn is_match(&mut self, input: &Input<'_>) -> Status
+        ensures { Tests input.now self.old self.new result }
+    {
+        let shared = &self.shared;
+        match shared.regex.is_match(&mut self.cache, input) {
+            Ok(true) => Status::from(Code::Done),
+            Ok(false) => Status::from(Code::Nothing),
+            Err(error) => Status::from(error),
+        }
+    }
+
+    fn find_end(&mut self, input: &Input<'_>, found: &mut FoundHalf) -> Status
+        ensures { FindsEnd found.new input.now self.old self.new result }
+    {
+        let shared = &self.shared;
+        let dfa = shared.regex.forward();
+        match dfa.try_search_fwd(self.cache.forward_mut(), input) {
+            Ok(Some(half)) => {
+                *found = FoundHalf::of(half);
+                Status::from(Code::Done)
+            }
+            Ok(None) => Status::from(Code::Nothing),
+            Err(error) => Status::from(error),
+        }
+    }
+
+    fn find_start(&mut self, input: &Input<'_>, found: &mut FoundHalf) -> Status
+        ensures { FindsStart found.new input.now self.old self.new result }
+    {
+        let shared = &self.shared;
+        let dfa = shared.regex.reverse();
+        match dfa.try_search_rev(self.cache.reverse_mut(), input) {
+            Ok(Some(half)) => {
+                *found = FoundHalf::of(half);
+                Status::from(Code::Done)
+            }
+            Ok(None) => Status::from(Code::Nothing),
+            Err(error) => Status::from(error),
+        }
+    }
+}
+
+fn find_in(object: &mut Object, haystack: &[u8], request: &Request, found: &mut Found) -> Status
+    ensures { OfObject (OfInput (Finds found.new) (input_of haystack.now request.now)) object.old object.new result }
+{
+    match object {
+        Object::Searcher(searcher) => match request.input(haystack) {
+            Some(input) => searcher.find(&input, found),
+            None => Status::from(Code::Argument),
+        },
+        Object::Builder(_) | Object::Regex(_) => Status::from(Code::Kind),
+    }
+}
+
+fn is_match_in(object: &mut Object, haystack: &[u8], request: &Request) -> Status
+    ensures { OfObject (OfInput Tests (input_of haystack.now request.now)) object.old object.new result }
+{
+    match object {
+        Object::Searcher(searcher) => match request.input(haystack) {
+            Some(input) => searcher.is_match(&input),
+            None => Status::from(Code::Argument),
+        },
+        Object::Builder(_) | Object::Regex(_) => Status::from(Code::Kind),
+    }
+}
+
+fn find_end_in(
+    object: &mut Object,
+    haystack: &[u8],
+    request: &Request,
+    found: &mut FoundHalf,
+) -> Status
+    ensures { OfObject (OfInput (FindsEnd found.new) (input_of haystack.now request.now))
+        object.old object.new result }
+{
+    match object {
+        Object::Searcher(searcher) => match request.input(haystack) {
+            Some(input) => searcher.find_end(&input, found),
+            None => Status::from(Code::Argument),
+        },
+        Object::Builder(_) | Object::Regex(_) => Status::from(Code::Kind),
+    }
+}
+
+fn find_start_in(
+    object: &mut Object,
+    haystack: &[u8],
+    request: &Request,
+    found: &mut FoundHalf,
+) -> Status
+    ensures { OfObject (OfInput (FindsStart found.new) (input_of haystack.now request.now))
+        object.old object.new result }
+{
+    match object {
+        Object::Searcher(searcher) => match request.input(haystack) {
+            Some(input) => searcher.find_start(&input, found),
+            None => Status::from(Code::Argument),
+        },
+        Object::Builder(_) | Object::Regex(_) => Status::from(Code::Kind),
+    }
+}
+
+/// The first match.
+#[unsafe(no_mangle)]
+pub extern "C" fn lazydfa_raw_find(
+    alloc: Global,
+    cache: &mut Handle,
+    haystack: &[u8],
+    request: &Request,
+    found: &mut Found,
+) -> Status
+    ensures { OfHandle (OfInput (Finds found.new) (input_of haystack.now request.now)) cache.old cache.new result }
+{
+    let Some(mut object) = cache.take(alloc) else {
+        return Status::from(Code::Closed);
+    };
+    let status = find_in(object.as_mut(), haystack, request, found);
+    cache.put(object);
+    status
+}
+
+/// Whether there is a match.
+#[unsafe(no_mangle)]
+pub extern "C" fn lazydfa_raw_is_match(
+    alloc: Global,
+    cache: &mut Handle,
+    haystack: &[u8],
+    request: &Request,
+) -> Status
+    ensures { OfHandle (OfInput Tests (input_of haystack.now request.now)) cache.old cache.new result }
+{
+    let Some(mut object) = cache.take(alloc) else {
+        return Status::from(Code::Closed);
+    };
+    let status = is_match_in(object.as_mut(), haystack, request);
+    cache.put(object);
+    status
+}
+
+/// Where the first match ends.
+#[unsafe(no_mangle)]
+pub extern "C" fn lazydfa_raw_find_end(
+    alloc: Global,
+    cache: &mut Handle,
+    haystack: &[u8],
+    request: &Request,
+    found: &mut FoundHalf,
+) -> Status
+    ensures { OfHandle (OfInput (FindsEnd found.new) (input_of haystack.now request.now)) cache.old cache.new result }
+{
+    let Some(mut object) = cache.take(alloc) else {
+        return Status::from(Code::Closed);
+    };
+    let status = find_end_in(object.as_mut(), haystack, request, found);
+    cache.put(object);
+    status
+}
+
+/// Where a match that ends at the span's end starts.
+#[unsafe(no_mangle)]
+pub extern "C" fn lazydfa_raw_find_start(
+    alloc: Global,
+    cache: &mut Handle,
+    haystack: &[u8],
+    request: &Request,
+    found: &mut FoundHalf,
+) -> Status
+    ensures { OfHandle (OfInput (FindsStart found.new) (input_of haystack.now request.now))
+        cache.old cache.new result }
+{
+    let Some(mut object) = cache.take(alloc) else {
+        return Status::from(Code::Closed);
+    };
+    let status = find_start_in(object.as_mut(), haystack, request, found);
+    cache.put(object);
+    status
+}

@@ -1,0 +1,261 @@
+//! Overlapping matches, and sets of patterns.
+ghost use Rattle.lazydfa_c.specs.Calls.{Joins};
+ghost use Rattle.regex_automata.specs.Promises.{Backward, Forward, IsCacheOf, IsWalkOf};
+
+use crate::code::Code;
+use crate::handle::Handle;
+use crate::input::{FoundHalf, Request};
+use crate::object::{Object, Searcher};
+use crate::status::Status;
+use regex_automata::hybrid::SearchError;
+use regex_automata::hybrid::dfa::{Cache, DFA, OverlappingState};
+use regex_automata::{HalfMatch, Input, PatternSet};
+use std::alloc::Global;
+
+/// The next of all overlapping matches, forward.
+fn next_end(
+    dfa: &DFA,
+    cache: &mut Cache,
+    input: &Input<'_>,
+    state: &mut OverlappingState,
+) -> Result<Option<HalfMatch>, SearchError>
+    requires of { IsCacheOf cache.old dfa.now }
+    requires walk { IsWalkOf Forward dfa.now input.now state.old }
+    ensures of { IsCacheOf cache.new dfa.now }
+    ensures walk { IsWalkOf Forward dfa.now input.now state.new }
+{
+    match dfa.try_search_overlapping_fwd(cache, input, state) {
+        Ok(()) => Ok(state.get_match()),
+        Err(error) => Err(error),
+    }
+}
+
+/// The next of all overlapping matches, backward.
+fn next_start(
+    dfa: &DFA,
+    cache: &mut Cache,
+    input: &Input<'_>,
+    state: &mut OverlappingState,
+) -> Result<Option<HalfMatch>, SearchError>
+    requires of { IsCacheOf cache.old dfa.now }
+    requires walk { IsWalkOf Backward dfa.now input.now state.old }
+    ensures of { IsCacheOf cache.new dfa.now }
+    ensures walk { IsWalkOf Backward dfa.now input.now state.new }
+{
+    match dfa.try_search_overlapping_rev(cache, input, state) {
+        Ok(()) => Ok(state.get_match()),
+        Err(error) => Err(error),
+    }
+}
+
+/// Writes a match at an index, if there is room, and counts it.
+fn write(out: &mut [FoundHalf], count: &mut usize, half: HalfMatch) {
+    let index = *count;
+    if index < out.len() {
+        out[index] = FoundHalf::of(half);
+    }
+    *count = index.saturating_add(1);
+}
+
+/// Writes the ends of all matches that there is room for, and counts all.
+fn all_ends(
+    dfa: &DFA,
+    cache: &mut Cache,
+    input: &Input<'_>,
+    out: &mut [FoundHalf],
+    count: &mut usize,
+) -> Status
+    requires { IsCacheOf cache.old dfa.now }
+    ensures { IsCacheOf cache.new dfa.now }
+{
+    let mut state = OverlappingState::start();
+    for _at in 0..u64::MAX {
+        match next_end(dfa, cache, input, &mut state) {
+            Ok(Some(half)) => write(out, count, half),
+            Ok(None) => return Status::from(Code::Done),
+            Err(error) => return Status::from(error),
+        }
+    }
+    Status::from(Code::Done)
+}
+
+/// Writes the starts of all matches that there is room for, and counts all.
+fn all_starts(
+    dfa: &DFA,
+    cache: &mut Cache,
+    input: &Input<'_>,
+    out: &mut [FoundHalf],
+    count: &mut usize,
+) -> Status
+    requires { IsCacheOf cache.old dfa.now }
+    ensures { IsCacheOf cache.new dfa.now }
+{
+    let mut state = OverlappingState::start();
+    for _at in 0..u64::MAX {
+        match next_start(dfa, cache, input, &mut state) {
+            Ok(Some(half)) => write(out, count, half),
+            Ok(None) => return Status::from(Code::Done),
+            Err(error) => return Status::from(error),
+        }
+    }
+    Status::from(Code::Done)
+}
+
+/// Writes the members of a set that there is room for, and returns how many it has.
+fn write_members(set: &PatternSet, out: &mut [u32]) -> usize {
+    let mut count = 0usize;
+    for pattern in set.iter() {
+        if count < out.len() {
+            out[count] = pattern.as_u32();
+        }
+        count = count.saturating_add(1);
+    }
+    count
+}
+
+impl Searcher {
+    fn all_ends(
+        &mut self,
+        haystack: &[u8],
+        request: &Request,
+        out: &mut [FoundHalf],
+        count: &mut usize,
+    ) -> Status {
+        *count = 0;
+        let Some(input) = request.input(haystack) else {
+            return Status::from(Code::Argument);
+        };
+        let shared = &self.shared;
+        let dfa = shared.regex.forward();
+        all_ends(dfa, self.cache.forward_mut(), &input, out, count)
+    }
+
+    fn all_starts(
+        &mut self,
+        haystack: &[u8],
+        request: &Request,
+        out: &mut [FoundHalf],
+        count: &mut usize,
+    ) -> Status {
+        *count = 0;
+        let Some(input) = request.input(haystack) else {
+            return Status::from(Code::Argument);
+        };
+        let shared = &self.shared;
+        let dfa = shared.regex.reverse();
+        all_starts(dfa, self.cache.reverse_mut(), &input, out, count)
+    }
+
+    /// Makes the set an empty one for the patterns below a number.
+    fn empty_set(&mut self, alloc: Global, below: usize) -> Result<(), Status> {
+        if self.patterns.capacity() == below {
+            self.patterns.clear();
+        } else {
+            self.patterns = PatternSet::new(alloc, below)?;
+        }
+        Ok(())
+    }
+
+    /// Joins the set with the patterns that match.
+    fn join(&mut self, input: &Input<'_>) -> Status
+        ensures { Joins input.now self.old self.new result }
+    {
+        let shared = &self.shared;
+        let dfa = shared.regex.forward();
+        match dfa.try_which_overlapping_matches(
+            self.cache.forward_mut(),
+            input,
+            &mut self.patterns,
+        ) {
+            Ok(()) => Status::from(Code::Done),
+            Err(error) => Status::from(error),
+        }
+    }
+
+    fn which(
+        &mut self,
+        alloc: Global,
+        haystack: &[u8],
+        request: &Request,
+        below: usize,
+        out: &mut [u32],
+        count: &mut usize,
+    ) -> Status {
+        *count = 0;
+        let Some(input) = request.input(haystack) else {
+            return Status::from(Code::Argument);
+        };
+        if let Err(status) = self.empty_set(alloc, below) {
+            return status;
+        }
+        let status = self.join(&input);
+        *count = write_members(&self.patterns, out);
+        status
+    }
+}
+
+/// The ends of all overlapping matches.
+#[unsafe(no_mangle)]
+pub extern "C" fn lazydfa_raw_all_ends(
+    alloc: Global,
+    cache: &mut Handle,
+    haystack: &[u8],
+    request: &Request,
+    found: &mut [FoundHalf],
+    count: &mut usize,
+) -> Status {
+    let Some(mut object) = cache.take(alloc) else {
+        return Status::from(Code::Closed);
+    };
+    let status = match object.as_mut() {
+        Object::Searcher(searcher) => searcher.all_ends(haystack, request, found, count),
+        Object::Builder(_) | Object::Regex(_) => Status::from(Code::Kind),
+    };
+    cache.put(object);
+    status
+}
+
+/// The starts of all overlapping matches, by the reverse DFA.
+#[unsafe(no_mangle)]
+pub extern "C" fn lazydfa_raw_all_starts(
+    alloc: Global,
+    cache: &mut Handle,
+    haystack: &[u8],
+    request: &Request,
+    found: &mut [FoundHalf],
+    count: &mut usize,
+) -> Status {
+    let Some(mut object) = cache.take(alloc) else {
+        return Status::from(Code::Closed);
+    };
+    let status = match object.as_mut() {
+        Object::Searcher(searcher) => searcher.all_starts(haystack, request, found, count),
+        Object::Builder(_) | Object::Regex(_) => Status::from(Code::Kind),
+    };
+    cache.put(object);
+    status
+}
+
+/// The patterns below a number that match.
+#[unsafe(no_mangle)]
+pub extern "C" fn lazydfa_raw_which(
+    alloc: Global,
+    cache: &mut Handle,
+    haystack: &[u8],
+    request: &Request,
+    below: usize,
+    patterns: &mut [u32],
+    count: &mut usize,
+) -> Status {
+    let Some(mut object) = cache.take(alloc) else {
+        return Status::from(Code::Closed);
+    };
+    let status = match object.as_mut() {
+        Object::Searcher(searcher) => {
+            searcher.which(alloc, haystack, request, below, patterns, count)
+        }
+        Object::Builder(_) | Object::Regex(_) => Status::from(Code::Kind),
+    };
+    cache.put(object);
+    status
+}

@@ -1,0 +1,73 @@
+//! The settings of a regex, as C lays them out. Zeros are the default settings.
+use crate::code::Code;
+use crate::status::Status;
+use regex_automata::MatchKind;
+use regex_automata::hybrid::dfa::Config;
+
+/// A number counts only if its `has` is not 0.
+#[repr(C)]
+#[derive(Clone, Copy)]
+pub struct Settings {
+    pub cache_capacity: usize,
+    pub minimum_cache_clear_count: usize,
+    pub minimum_bytes_per_state: usize,
+    pub has_cache_capacity: u32,
+    pub has_minimum_cache_clear_count: u32,
+    pub has_minimum_bytes_per_state: u32,
+    /// 0 leftmost-first, 1 all.
+    pub match_kind: u32,
+    pub starts_for_each_pattern: u32,
+    pub no_byte_classes: u32,
+    pub unicode_word_boundary: u32,
+    pub specialize_start_states: u32,
+    pub skip_cache_capacity_check: u32,
+    pub reserved: u32,
+}
+
+fn with_quits(config: Config, quits: &[u8]) -> Result<Config, Status> {
+    let mut config = config;
+    for byte in quits {
+        if !config.allows_quit(*byte, true) {
+            return Err(Status::from(Code::Argument));
+        }
+        config = config.quit(*byte, true);
+    }
+    Ok(config)
+}
+
+impl Settings {
+    fn kind(&self) -> Result<MatchKind, Status> {
+        match self.match_kind {
+            0 => Ok(MatchKind::LeftmostFirst),
+            1 => Ok(MatchKind::All),
+            _ => Err(Status::from(Code::Argument)),
+        }
+    }
+
+    fn with_limits(&self, config: Config) -> Config {
+        let mut config = config;
+        if self.has_cache_capacity != 0 {
+            config = config.cache_capacity(self.cache_capacity);
+        }
+        if self.has_minimum_cache_clear_count != 0 {
+            config = config.minimum_cache_clear_count(Some(self.minimum_cache_clear_count));
+        }
+        if self.has_minimum_bytes_per_state != 0 {
+            config = config.minimum_bytes_per_state(Some(self.minimum_bytes_per_state));
+        }
+        config
+    }
+
+    /// The configuration, with these quit bytes, if they are allowed.
+    pub fn config(&self, quits: &[u8]) -> Result<Config, Status> {
+        let kind = self.kind()?;
+        let config = Config::new()
+            .match_kind(kind)
+            .starts_for_each_pattern(self.starts_for_each_pattern != 0)
+            .byte_classes(self.no_byte_classes == 0)
+            .unicode_word_boundary(self.unicode_word_boundary != 0)
+            .specialize_start_states(self.specialize_start_states != 0)
+            .skip_cache_capacity_check(self.skip_cache_capacity_check != 0);
+        with_quits(self.with_limits(config), quits)
+    }
+}

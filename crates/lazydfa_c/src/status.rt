@@ -1,0 +1,173 @@
+//! What each call returns.
+ghost use Rattle.std.specs.Prelude.{◌≡◌, ◌↔◌, Err, IsTrue};
+ghost use Rattle.lazydfa_c.specs.Codes.{CodesDiffer, number_of};
+ghost use Rattle.lazydfa_c.specs.Statuses.{plain, search_status, status_at, token_status};
+ghost use Rattle.lazydfa_c.specs.declared.code.Code.TheVariants as code;
+
+use crate::code::Code;
+use regex_automata::hybrid::regex::RegexBuildError;
+use regex_automata::hybrid::{BuildError, SearchError};
+use regex_automata::nfa::thompson::{BuildError as NfaBuildError, NfaError};
+use regex_automata::tokens::TokenError;
+use regex_automata::{Anchored, MatchErrorKind};
+use std::alloc::{AllocError, AllocFailed};
+
+/// The number of a code, the quit byte if there is one, and an offset; of `Code::Capacity` the least capacity that would
+/// do.
+#[repr(C)]
+#[derive(Clone, Copy)]
+pub struct Status {
+    pub code: u32,
+    pub byte: u32,
+    pub offset: usize,
+}
+
+/// States a fact for proofs, and does nothing: no two codes have one number.
+pub fn codes_differ()
+    ensures { CodesDiffer }
+{}
+
+impl Status {
+    pub fn at(code: Code, offset: usize) -> Status
+        ensures { result ≡ status_at code offset }
+    {
+        Status {
+            code: code.number(),
+            byte: 0,
+            offset,
+        }
+    }
+
+    /// Whether a call did what it was asked to, or a search found a match.
+    pub fn is_done(&self) -> bool
+        ensures { IsTrue result ↔ (self.now.code ≡ number_of code.Done) }
+    {
+        self.code == 0
+    }
+
+    /// The status of a call that returns nothing else.
+    pub fn of(done: Result<(), Status>) -> Status
+        ensures err { (s : Status) → done ≡ Err s → result ≡ s }
+    {
+        match done {
+            Ok(()) => Status::from(Code::Done),
+            Err(status) => status,
+        }
+    }
+}
+
+impl From<Code> for Status {
+    ghost from_gives = { λ c s. s ≡ plain c };
+
+    fn from(code: Code) -> Status {
+        Status::at(code, 0)
+    }
+}
+
+impl From<AllocError> for Status {
+    ghost from_gives = { λ _ s. s ≡ plain code.Memory };
+
+    fn from(_error: AllocError) -> Status {
+        Status::from(Code::Memory)
+    }
+}
+
+impl<T: Drop> From<AllocFailed<T>> for Status {
+    ghost from_gives = { λ _ s. s ≡ plain code.Memory };
+
+    fn from(_error: AllocFailed<T>) -> Status {
+        Status::from(Code::Memory)
+    }
+}
+
+impl From<NfaError> for Code {
+    fn from(error: NfaError) -> Code {
+        match error {
+            NfaError::StateRange => Code::StateRange,
+            NfaError::StartRange => Code::StartRange,
+            NfaError::PatternRange => Code::PatternRange,
+            NfaError::Ranges => Code::Ranges,
+            NfaError::TooLarge => Code::TooLarge,
+            NfaError::OutOfMemory => Code::Memory,
+        }
+    }
+}
+
+impl From<NfaBuildError> for Status {
+    fn from(error: NfaBuildError) -> Status {
+        let code = match error {
+            NfaBuildError::NoPattern => Code::NoPattern,
+            NfaBuildError::UnfinishedPattern => Code::UnfinishedPattern,
+            NfaBuildError::StateRange => Code::PatchRange,
+            NfaBuildError::SparsePatch => Code::SparsePatch,
+            NfaBuildError::TooLarge => Code::TooLarge,
+            NfaBuildError::OutOfMemory => Code::Memory,
+            NfaBuildError::NFA(error) => Code::from(error),
+        };
+        Status::from(code)
+    }
+}
+
+impl From<BuildError> for Status {
+    fn from(error: BuildError) -> Status {
+        match error {
+            BuildError::Unsupported => Status::from(Code::Unsupported),
+            BuildError::InsufficientCacheCapacity { minimum, given: _ } => {
+                Status::at(Code::Capacity, minimum)
+            }
+            BuildError::InsufficientStateIDCapacity { attempted } => {
+                Status::at(Code::StateIDs, attempted)
+            }
+            BuildError::OutOfMemory => Status::from(Code::Memory),
+            BuildError::PatternCounts {
+                forward: _,
+                reverse: _,
+            } => { Status::from(Code::PatternCounts) }
+        }
+    }
+}
+
+impl From<RegexBuildError> for Status {
+    fn from(error: RegexBuildError) -> Status {
+        match error {
+            RegexBuildError::NotLazy => Status::from(Code::NotLazy),
+            RegexBuildError::LookCycle => Status::from(Code::LookCycle),
+            RegexBuildError::NotUtf8 => Status::from(Code::NotUtf8),
+            RegexBuildError::Starts => Status::from(Code::Starts),
+            RegexBuildError::TooLarge => Status::from(Code::TooLarge),
+            RegexBuildError::OutOfMemory => Status::from(Code::Memory),
+            RegexBuildError::Build(error) => Status::from(error),
+        }
+    }
+}
+
+impl From<SearchError> for Status {
+    ghost from_gives = { λ e s. s ≡ search_status e };
+
+    fn from(error: SearchError) -> Status {
+        match error {
+            SearchError::Match(error) => match *error.kind() {
+                MatchErrorKind::Quit { byte, offset } => Status {
+                    code: Code::Quit.number(),
+                    byte: u32::from(byte),
+                    offset,
+                },
+                MatchErrorKind::GaveUp { offset } => Status::at(Code::GaveUp, offset),
+                MatchErrorKind::UnsupportedAnchored { mode: _ } => Status::from(Code::Anchored),
+            },
+            SearchError::OutOfMemory => Status::from(Code::Memory),
+            SearchError::NotAPair => Status::from(Code::NotAPair),
+        }
+    }
+}
+
+impl From<TokenError> for Status {
+    ghost from_gives = { λ e s. s ≡ token_status e };
+
+    fn from(error: TokenError) -> Status {
+        match error {
+            TokenError::NoToken(offset) => Status::at(Code::NoToken, offset),
+            TokenError::Search(error) => Status::from(error),
+        }
+    }
+}

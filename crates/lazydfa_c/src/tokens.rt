@@ -1,0 +1,113 @@
+//! Tokens, one after another.
+ghost use Rattle.std.specs.Prelude.{◌≡◌};
+ghost use Rattle.regex_automata.specs.Tokens.{match_of as token_match};
+ghost use Rattle.lazydfa_c.specs.Requests.{match_of};
+
+use crate::code::Code;
+use crate::handle::Handle;
+use crate::input::{Found, Request};
+use crate::object::{Object, Searcher};
+use crate::status::Status;
+use regex_automata::Input;
+use regex_automata::tokens::Token;
+use std::alloc::Global;
+
+impl Found {
+    fn of_token(token: &Token<'_>) -> Found
+        ensures { match_of result ≡ token_match token.now }
+    {
+        Found {
+            start: token.start(),
+            end: token.end(),
+            pattern: token.pattern().as_u32(),
+            reserved: 0,
+        }
+    }
+}
+
+impl Searcher {
+    /// The token at the start of a span, which then starts where the token ends.
+    fn token(&mut self, input: Input<'_>, left: &mut Request, found: &mut Found) -> Status {
+        let shared = &self.shared;
+        match shared.regex.tokens(&mut self.cache, input).next() {
+            Some(Ok(token)) => {
+                *found = Found::of_token(&token);
+                left.start = found.end;
+                Status::from(Code::Done)
+            }
+            None => Status::from(Code::Nothing),
+            Some(Err(error)) => Status::from(error),
+        }
+    }
+
+    fn next_token(&mut self, haystack: &[u8], left: &mut Request, found: &mut Found) -> Status {
+        match left.input(haystack) {
+            Some(input) => self.token(input, left, found),
+            None => Status::from(Code::Argument),
+        }
+    }
+
+    /// The next tokens, as many as there is room for. The status is that of the last one, or of what came after it.
+    fn next_tokens(
+        &mut self,
+        haystack: &[u8],
+        left: &mut Request,
+        out: &mut [Found],
+        count: &mut usize,
+    ) -> Status {
+        *count = 0;
+        for place in out {
+            let status = self.next_token(haystack, left, place);
+            if !status.is_done() {
+                return status;
+            }
+            *count = count.saturating_add(1);
+        }
+        Status::from(Code::Done)
+    }
+}
+
+fn token_in(object: &mut Object, haystack: &[u8], left: &mut Request, found: &mut Found) -> Status {
+    match object {
+        Object::Searcher(searcher) => searcher.next_token(haystack, left, found),
+        Object::Builder(_) | Object::Regex(_) => Status::from(Code::Kind),
+    }
+}
+
+/// The token at the start of what is left.
+#[unsafe(no_mangle)]
+pub extern "C" fn lazydfa_raw_token(
+    alloc: Global,
+    cache: &mut Handle,
+    haystack: &[u8],
+    left: &mut Request,
+    found: &mut Found,
+) -> Status {
+    let Some(mut object) = cache.take(alloc) else {
+        return Status::from(Code::Closed);
+    };
+    let status = token_in(object.as_mut(), haystack, left, found);
+    cache.put(object);
+    status
+}
+
+/// The next tokens, as many as there is room for.
+#[unsafe(no_mangle)]
+pub extern "C" fn lazydfa_raw_tokens(
+    alloc: Global,
+    cache: &mut Handle,
+    haystack: &[u8],
+    left: &mut Request,
+    found: &mut [Found],
+    count: &mut usize,
+) -> Status {
+    let Some(mut object) = cache.take(alloc) else {
+        return Status::from(Code::Closed);
+    };
+    let status = match object.as_mut() {
+        Object::Searcher(searcher) => searcher.next_tokens(haystack, left, found, count),
+        Object::Builder(_) | Object::Regex(_) => Status::from(Code::Kind),
+    };
+    cache.put(object);
+    status
+}

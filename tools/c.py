@@ -1,0 +1,138 @@
+#!/usr/bin/env python3
+"""Builds the library for C, installs it into a folder of its own, and runs the tests of bindings/c:
+
+    tools/c.py ['N passed, M failed']
+
+Every call, right and with every wrong argument (calls.c); each allocation refused in turn (faults.c); the script of the
+program `lazydfa` by a C program (script.c), which has to print what `lazydfa` does; the header in C++, if there is a C++
+compiler; and the program of docs/C.md, which has to print what is said there. Each C program is compiled twice, the
+second time under the address and undefined behaviour sanitizers, if the compiler has them.
+
+The last line counts these too, beside what the given line counts. It needs Python 3, the kit's rt, make, ar and cc.
+"""
+import os
+import re
+import subprocess
+import sys
+import tempfile
+
+TOP = os.path.dirname(os.path.dirname(os.path.abspath(__file__)))
+C = f"{TOP}/bindings/c"
+STRICT = ["-std=c99", "-Wall", "-Wextra", "-pedantic", "-Werror", "-O1", "-g"]
+SANITIZED = ["-fsanitize=address,undefined", "-fno-sanitize-recover=all"]
+REFUSING = ["-Wl,--wrap=malloc,--wrap=realloc,--wrap=free"]
+
+
+def run(words, stdin="", seconds=600):
+    """Runs a program, and returns its status, and what it wrote to standard output and to standard error."""
+    try:
+        ran = subprocess.run(words, input=stdin.encode(), capture_output=True, timeout=seconds)
+    except (OSError, subprocess.TimeoutExpired) as error:
+        return 1, "", str(error)
+    return ran.returncode, ran.stdout.decode(errors="replace"), ran.stderr.decode(errors="replace")
+
+
+def text(path):
+    with open(f"{TOP}/{path}", encoding="utf-8") as it:
+        return it.read()
+
+
+def program():
+    """Returns the program of docs/C.md, and what it prints."""
+    document = text("docs/C.md")
+    source = re.search(r"`words.c`:\n\n```c\n(.*?)```", document, re.S)
+    prints = re.search(r"prints:\n\n```text\n(.*?)```", document, re.S)
+    return (source[1] if source else ""), (prints[1] if prints else "")
+
+
+class Tests:
+    """The tests over an installed library, and how they ended."""
+
+    def __init__(self, room):
+        self.room, self.passed, self.failed = room, 0, 0
+        self.include, self.archive = f"{room}/include", f"{room}/lib/liblazydfa.a"
+
+    def count(self, name, fault):
+        print(f"{name}: {fault or 'passed'}", flush=True)
+        self.passed, self.failed = self.passed + (not fault), self.failed + bool(fault)
+
+    def compile(self, source, flags):
+        """Compiles a program, and returns its path, or nothing and what is wrong."""
+        target = f"{self.room}/program"
+        words = ["cc", *STRICT, *flags, f"-I{self.include}", "-o", target, source, self.archive]
+        status, out, err = run(words)
+        return ("", f"it does not compile\n{out}{err}") if status else (target, "")
+
+    def has(self, flags):
+        """Whether the compiler has these flags, and what it makes with them runs."""
+        source = f"{self.room}/nothing.c"
+        with open(source, "w", encoding="utf-8") as it:
+            it.write("int main(void) { return 0; }\n")
+        target, _ = self.compile(source, flags)
+        return bool(target) and not run([target])[0]
+
+    def try_program(self, name, source, flags, stdin="", prints=None):
+        """Compiles and runs a program, which has to end with status 0, and to print this if it is given."""
+        target, fault = self.compile(source, flags)
+        if target:
+            status, out, err = run([target], stdin)
+            if status or err or prints not in (None, out):
+                fault = f"status {status}\n{differing(out, prints)}{err}"
+        self.count(name, fault)
+
+    def try_all(self, kind, flags):
+        source, prints = program()
+        with open(f"{self.room}/words.c", "w", encoding="utf-8") as it:
+            it.write(source)
+        self.try_program(f"calls{kind}", f"{C}/tests/calls.c", flags)
+        self.try_program(f"faults{kind}", f"{C}/tests/faults.c", [*REFUSING, *flags])
+        script, replies = text("crates/lazydfa/stdin"), text("crates/lazydfa/stdout")
+        self.try_program(f"script{kind}", f"{C}/tests/script.c", flags, script, replies)
+        self.try_program(f"docs/C.md{kind}", f"{self.room}/words.c", flags, "", prints)
+
+    def try_header(self):
+        words = ["c++", "-std=c++11", "-Wall", "-Wextra", "-pedantic", "-Werror", "-fsyntax-only"]
+        status, out, err = run([*words, "-x", "c++", f"{self.include}/lazydfa.h"])
+        self.count("the header in C++", f"it does not compile\n{out}{err}" if status else "")
+
+    def try_package(self):
+        """The installed pkg-config file names the header's folder and the library."""
+        os.environ["PKG_CONFIG_PATH"] = f"{self.room}/lib/pkgconfig"
+        status, out, err = run(["pkg-config", "--cflags", "--libs", "lazydfa"])
+        wanted = f"-I{self.include} -L{self.room}/lib -llazydfa"
+        self.count("pkg-config", "" if not status and out.strip() == wanted else f"{out}{err}")
+
+
+def differing(out, prints):
+    """Returns the first line that is not the one that is wanted."""
+    if prints is None:
+        return out
+    lines, wanted = out.splitlines(), prints.splitlines()
+    for number, (line, want) in enumerate(zip(lines, wanted), 1):
+        if line != want:
+            return f"line {number}: {line}\nand not: {want}\n"
+    return "" if len(lines) == len(wanted) else f"{len(lines)} lines, and not {len(wanted)}\n"
+
+
+def main(words):
+    counted = re.fullmatch(r"(\d+) passed, (\d+) failed", words[0] if words else "0 passed, 0 failed")
+    passed, failed = (int(counted[1]), int(counted[2])) if counted else (0, 1)
+    with tempfile.TemporaryDirectory(prefix="c-") as room:
+        tests = Tests(room)
+        status, out, err = run(["make", "-C", C, "install", f"PREFIX={room}", "DESTDIR="], seconds=7200)
+        tests.count("the library for C", f"it was not built\n{out}{err}" if status else "")
+        if not status:
+            tests.try_all("", [])
+            if tests.has(SANITIZED):
+                tests.try_all(", sanitized", SANITIZED)
+            if not run(["c++", "--version"])[0]:
+                tests.try_header()
+            if not run(["pkg-config", "--version"])[0]:
+                tests.try_package()
+        passed, failed = passed + tests.passed, failed + tests.failed
+    print(f"{passed} passed, {failed} failed")
+    return 1 if failed else 0
+
+
+if __name__ == "__main__":
+    sys.exit(main(sys.argv[1:]))
