@@ -3,14 +3,14 @@
 use super::bench::{Bench, Call};
 use super::plans::{Mode, Plan, Shape};
 use super::regex_bench::{Ask, Pair, RegexBench};
-use super::reports::{Automaton, ONCE, Refusal, Short, refuse_each};
+use super::reports::{Automaton, ONCE, Refusal, Short, answer_within, refuse_each};
 use super::walker::{Over, Turn, Walked, Walker};
 use crate::catalogue::Entry;
 use Automaton::{Chain, Forward, Planned, Reverse};
 use Call::{
     Brief, Classes, Counts, End, Find, FindIn, KeepsUtf8, Known, Matched, Memory, Minimum,
-    Patterns, PatternsOfCopy, PatternsOfNfaCopy, PatternsOfReversed, Replace, Reset, Room, Start,
-    StartIn, StartOn, State, Step, Steps,
+    Patterns, PatternsOfCopy, PatternsOfNfaCopy, PatternsOfReversed, Replace, ReplaceByNew, Reset,
+    Room, Start, StartIn, StartOn, State, Step, Steps,
 };
 use Mode::{Every, First, Of};
 use Over::{Span, Text};
@@ -63,6 +63,22 @@ const KNOWN: &[Lazy] = &[
 #[test]
 fn goes_known_ways_without_memory(rt: HostRuntime) {
     refuse_each::<Bench>(&rt, KNOWN);
+}
+
+/// A fresh cache of a small NFA, made by each call that makes one.
+#[rattlefmt::skip]
+const FRESH: &[Lazy] = &[
+    ("create_cache", AB, "", &[], &[(Replace, "-"), (Counts, "0 335 0")], &[]),
+    ("Cache::new", AB, "", &[], &[(ReplaceByNew, "-"), (Counts, "0 335 0")], &[]),
+    ("a reset", AB, "", &[Find("ab")], &[(Reset, "-"), (Counts, "0 335 0")], &[]),
+];
+
+/// How much memory is lent for it, in bytes.
+const LITTLE: usize = 1 << 13;
+
+#[test]
+fn makes_fresh_caches_in_little_memory(rt: HostRuntime) {
+    answer_within::<Bench>(&rt, LITTLE, FRESH);
 }
 
 const FULL: &str = "noclasses capacity=37281";

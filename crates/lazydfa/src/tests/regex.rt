@@ -7,8 +7,9 @@ use super::texts::UNSUPPORTED;
 use super::{Host, same_of};
 use crate::catalogue::Entry;
 use Ask::{
-    Both, Counts, Find, Forward, Is, Items, Memory, Patterns, ReplaceByClone, ReplaceByNew, Reset,
-    ResetByCache, ResetForward, ResetReverse, Reverse, Search, Tokens,
+    Both, Counts, Find, Forward, Is, Items, ItemsPrint, Memory, Patterns, Prints, ReplaceByClone,
+    ReplaceByNew, Reset, ResetByCache, ResetForward, ResetReverse, Reverse, Search, Tokens,
+    TokensPrint,
 };
 use Pair::{Barren, Joined, Mixed, Of, Planned};
 use regex_automata::tokens::Token;
@@ -115,12 +116,31 @@ const REFUSED: &[Row] = &[
         "given cache capacity (1735) is smaller than minimum required (2649)"),
 ];
 
+/// What is printed for debugging: how much a cache has, and how far an iteration has come.
+#[rattlefmt::skip]
+const PRINTED: &[Row] = &[
+    ("a cache, in one part the states of `ab` and in the other none", Of(Entry::Ab), "", &[Find(b"ab"),
+        Prints("Cache { forward: Cache { states: 4, memory_usage: 678, clear_count: 0, .. }, reverse: Cache { states: 0, memory_usage: 335, clear_count: 0, .. } }")],
+        "match 0 0..2, true"),
+    ("one that was cleared", Of(Entry::A16), "noclasses capacity=37281", &[Items(SIXTEENS),
+        Prints("Cache { forward: Cache { states: 4, memory_usage: 15084, clear_count: 4, .. }, reverse: Cache { states: 0, memory_usage: 6677, clear_count: 0, .. } }")],
+        "0 0..16; 0 16..32; 0 32..48, true"),
+    ("matches, to their end", Of(Entry::Words), "", &[ItemsPrint(WORDS, [
+        "FindMatches { start: 0, end: 8, last: None, ended: false, .. }",
+        "FindMatches { start: 4, end: 8, last: Some(4), ended: false, .. }",
+        "FindMatches { start: 8, end: 8, last: Some(8), ended: true, .. }"])], "true"),
+    ("tokens, to an error", Of(Entry::Runs), "", &[TokensPrint(b"ab 1", [
+        "Tokens { start: 0, end: 4, failed: false, .. }", "Tokens { start: 2, end: 4, failed: false, .. }",
+        "Tokens { start: 2, end: 4, failed: true, .. }"])], "true"),
+];
+
 #[test]
 fn regexes_report_their_rows(rt: HostRuntime) {
     reports_all::<RegexBench>(&rt, AMPLE);
     reports_all::<RegexBench>(&rt, STARTS);
     reports_all::<RegexBench>(&rt, ENDS);
     reports_all::<RegexBench>(&rt, REFUSED);
+    reports_all::<RegexBench>(&rt, PRINTED);
 }
 
 /// A token is kept when the iterator that gave it, its cache and its regex are gone.

@@ -6,7 +6,7 @@ ghost use Rattle.regex_automata.specs.Promises.{AreCachesOf, IsSoundPair};
 use super::Host;
 use super::bench::counted;
 use super::plans::{Mode, Plan, Shape};
-use super::reported::{Counted, Item, Reported};
+use super::reported::{Counted, Item, Reported, prints};
 use super::reports::{Automaton, Caller, RowOf, config};
 use crate::catalogue::Entry;
 use regex_automata::hybrid::dfa::{Config, DFA};
@@ -128,6 +128,11 @@ pub enum Ask {
     Memory,
     /// How often each part was cleared, its memory, and the bytes searched.
     Counts,
+    /// Whether the cache is printed so for debugging.
+    Prints(&'static str),
+    /// Whether an iteration is printed so at first, after one item, and after two more calls; and one of tokens.
+    ItemsPrint(&'static [u8], [&'static str; 3]),
+    TokensPrint(&'static [u8], [&'static str; 3]),
     /// How many patterns there are.
     Patterns,
     /// How many a regex of the forward NFA alone has.
@@ -181,7 +186,7 @@ impl RegexBench {
         RegexBench { regex, cache }
     }
 
-    fn call(&mut self, ask: Ask) -> Reported {
+    fn call(&mut self, alloc: Global, ask: Ask) -> Reported {
         match ask {
             Ask::Find(haystack) => self.find(&Input::new(haystack)),
             Ask::Learn(haystack, places, mode) => self.learn(haystack, places, mode),
@@ -197,6 +202,9 @@ impl RegexBench {
             Ask::Both(haystack) => self.both(&Input::new(haystack)),
             Ask::Memory => self.memory(),
             Ask::Counts => Reported::Parts(self.counts()),
+            Ask::Prints(text) => Reported::of_flag(prints(alloc, &self.cache, text)),
+            Ask::ItemsPrint(haystack, texts) => self.items_print(alloc, haystack, texts),
+            Ask::TokensPrint(haystack, texts) => self.tokens_print(alloc, haystack, texts),
             Ask::Patterns => Reported::Number("", self.regex.pattern_len(), ""),
             Ask::PatternsOfAlone => match self.regex.forward().get_nfa().clone() {
                 Ok(nfa) => patterns_of(alone(nfa, Config::new())),
@@ -308,6 +316,36 @@ impl RegexBench {
         ]
     }
 
+    fn items_print(
+        &mut self,
+        alloc: Global,
+        haystack: &[u8],
+        texts: [&'static str; 3],
+    ) -> Reported {
+        let mut it = self.regex.find_iter(&mut self.cache, Input::new(haystack));
+        let first = prints(alloc, &it, texts[0]);
+        let _ = it.next();
+        let second = prints(alloc, &it, texts[1]);
+        let _ = it.next();
+        let _ = it.next();
+        Reported::of_flag(first && second && prints(alloc, &it, texts[2]))
+    }
+
+    fn tokens_print(
+        &mut self,
+        alloc: Global,
+        haystack: &[u8],
+        texts: [&'static str; 3],
+    ) -> Reported {
+        let mut tokens = self.regex.tokens(&mut self.cache, Input::new(haystack));
+        let first = prints(alloc, &tokens, texts[0]);
+        let _ = next_token(&mut tokens, haystack);
+        let second = prints(alloc, &tokens, texts[1]);
+        let _ = next_token(&mut tokens, haystack);
+        let _ = next_token(&mut tokens, haystack);
+        Reported::of_flag(first && second && prints(alloc, &tokens, texts[2]))
+    }
+
     pub fn regex(&self) -> &Regex {
         &self.regex
     }
@@ -380,9 +418,9 @@ impl Caller for RegexBench {
         }
     }
 
-    fn answer(&mut self, _alloc: Global, ask: Ask) -> Reported {
+    fn answer(&mut self, alloc: Global, ask: Ask) -> Reported {
         let before = self.counts();
-        let reported = self.call(ask);
+        let reported = self.call(alloc, ask);
         if reported.is_refusal() && self.counts() != before {
             return Reported::Word("a refusal that changed a part");
         }

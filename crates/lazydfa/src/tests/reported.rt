@@ -4,7 +4,7 @@ use crate::reply::{write_error, write_half, write_span};
 use regex_automata::hybrid::{BuildError, LazyStateID, SearchError, StartError, StepError};
 use regex_automata::tokens::TokenError;
 use regex_automata::util::search::{HalfMatch, Match};
-use std::alloc::AllocError;
+use std::alloc::{AllocError, Global};
 use std::fmt;
 
 /// An item of an iteration, or a token: its pattern, its start and its end.
@@ -136,6 +136,14 @@ fn write_item<W: fmt::Write>(
         Ok((pattern, start, end)) => write!(f, "{pattern} {start}..{end}"),
         Err(TokenError::Search(error)) => write_error(f, &error),
         Err(TokenError::NoToken(place)) => write!(f, "no token at {place}"),
+    }
+}
+
+/// Whether a value is printed so for debugging.
+pub fn prints<T: fmt::Debug>(alloc: Global, value: &T, text: &str) -> bool {
+    match format!(in alloc; "{value:?}") {
+        Ok(printed) => printed.as_str() == text,
+        Err(_) => false,
     }
 }
 

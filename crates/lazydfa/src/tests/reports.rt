@@ -311,6 +311,16 @@ pub fn refuse_each<T: Caller>(rt: &impl Host, rows: &[Short<T::Of, T::Call>]) {
     }
 }
 
+/// Takes one turn with each row, which lends so much memory. No call fails then.
+pub fn answer_within<T: Caller>(rt: &impl Host, lent: usize, rows: &[Short<T::Of, T::Call>]) {
+    let mut turns = Turns::new(rt);
+    turns.lend_from(lent);
+    for row in rows {
+        take_turn::<T>(rt, row, &mut turns);
+        turns.has_begun(rt, row.0, &[]);
+    }
+}
+
 /// Calls turn by turn until nothing fails, and checks that the named failures were seen, the first one when no memory
 /// was lent.
 fn refuse_in_turn<T: Caller>(rt: &impl Host, row: &Short<T::Of, T::Call>, turns: &mut Turns) {

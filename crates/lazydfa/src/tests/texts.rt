@@ -1,11 +1,16 @@
-//! The texts of errors.
+//! The texts of errors, and those of values that are printed for debugging.
 
 use super::plans::pattern_id;
-use super::{Host, Text, same_text};
+use super::reported::prints;
+use super::{Host, Text, check, same_of, same_text};
 use crate::error::RunError;
+use regex_automata::hybrid::regex::RegexBuildError;
 use regex_automata::hybrid::{BuildError, CacheError, SearchError, StartError, StepError};
+use regex_automata::nfa::thompson;
+use regex_automata::nfa::thompson::{NfaError, ReverseError};
 use regex_automata::tokens::TokenError;
-use regex_automata::util::search::{Anchored, MatchError};
+use regex_automata::util::byte_set::ByteSet;
+use regex_automata::util::search::{Anchored, MatchError, PatternSet, PatternSetInsertError};
 use std::fmt::Display;
 
 pub const UNSUPPORTED: &str =
@@ -90,6 +95,49 @@ const TOKENS: [(TokenError, Text); 2] = [
     ),
 ];
 
+#[rattlefmt::skip]
+const NFAS: &[(NfaError, Text)] = &[
+    (NfaError::StateRange, "a state leads to a state that is out of range"),
+    (NfaError::StartRange, "a start state is out of range"),
+    (NfaError::PatternRange, "a match state has a pattern that is out of range"),
+    (NfaError::Ranges, "ranges of bytes are not in order"),
+    (NfaError::TooLarge, "too many states, patterns or alternates"),
+    (NfaError::OutOfMemory, "out of memory"),
+];
+
+#[rattlefmt::skip]
+const NFA_BUILDS: &[(thompson::BuildError, Text)] = &[
+    (thompson::BuildError::NoPattern, "no pattern was started"),
+    (thompson::BuildError::UnfinishedPattern, "a pattern was started and not finished"),
+    (thompson::BuildError::StateRange, "the state to be patched is out of range"),
+    (thompson::BuildError::SparsePatch, "a sparse state cannot be patched"),
+    (thompson::BuildError::TooLarge, "too many states, patterns or groups"),
+    (thompson::BuildError::NFA(NfaError::Ranges), "ranges of bytes are not in order"),
+    (thompson::BuildError::OutOfMemory, "out of memory"),
+];
+
+const OTHER_STARTS: Text =
+    "the starts differ in the empty match, so the reversed NFA would have others";
+
+#[rattlefmt::skip]
+const REVERSES: &[(ReverseError, Text)] = &[
+    (ReverseError::Starts, OTHER_STARTS),
+    (ReverseError::TooLarge, "the reversed NFA would be too large"),
+    (ReverseError::OutOfMemory, "out of memory"),
+];
+
+#[rattlefmt::skip]
+const REGEXES: &[(RegexBuildError, Text)] = &[
+    (RegexBuildError::NotLazy, "the unanchored start does not skip lazily, so an unanchored match may have no start"),
+    (RegexBuildError::LookCycle,
+        "a cycle of edges that read nothing passes a look, so matches may not follow the paths"),
+    (RegexBuildError::NotUtf8, "a match may be invalid UTF-8, so in UTF-8 mode it might split a character"),
+    (RegexBuildError::Starts, OTHER_STARTS),
+    (RegexBuildError::TooLarge, "the reversed NFA would be too large"),
+    (RegexBuildError::OutOfMemory, "out of memory"),
+    (RegexBuildError::Build(BuildError::Unsupported), UNSUPPORTED),
+];
+
 const RUNS: &[(RunError, Text)] = &[
     (RunError::BadLine(17), "line 17: bad line"),
     (RunError::Failed, "input or output failed"),
@@ -108,6 +156,44 @@ fn prints_errors(rt: HostRuntime) {
 }
 
 #[test]
+fn prints_errors_of_nfas(rt: HostRuntime) {
+    print_all(&rt, NFAS);
+    print_all(&rt, NFA_BUILDS);
+    print_all(&rt, REVERSES);
+    print_all(&rt, REGEXES);
+    print_misfit(&rt);
+}
+
+fn print_misfit(rt: &impl Host) {
+    match misfit(rt) {
+        Err(error) => print(rt, &error, MISFIT),
+        Ok(_) => check(rt, false),
+    }
+}
+
+const MISFIT: Text = "failed to insert pattern 5 into a set of capacity 3";
+
+/// The error of a pattern that is not below a set's capacity, which the set alone makes.
+fn misfit(rt: &impl Host) -> Result<bool, PatternSetInsertError> {
+    let mut set = PatternSet::new(rt.alloc(), 3).expect(rt, "memory");
+    set.try_insert(pattern_id(5))
+}
+
+/// A set of bytes is printed as its bytes.
+#[test]
+fn prints_sets_of_bytes(rt: HostRuntime) {
+    let none = ByteSet::empty();
+    same_of(&rt, &prints(rt.alloc(), &none, "{}"), &true, &"no byte");
+    let some = none.with(255, true).with(0, true).with(b'a', true);
+    same_of(
+        &rt,
+        &prints(rt.alloc(), &some, "{0, 97, 255}"),
+        &true,
+        &"three bytes",
+    );
+}
+
+#[test]
 fn prints_errors_of_a_place(rt: HostRuntime) {
     print_places(&rt);
 }
@@ -122,6 +208,9 @@ fn print_places(rt: &impl Host) {
         &TokenError::Search(gave_up),
         "gave up searching at offset 24",
     );
+    let unsupported = SearchError::Match(MatchError::unsupported_anchored(Anchored::Yes));
+    let text = "anchored searches are not supported or enabled";
+    print(rt, &unsupported, text);
     let mode = Anchored::Pattern(pattern_id(5));
     let text =
         "error computing start state because anchored searches for a specific pattern (5) are not supported or enabled";

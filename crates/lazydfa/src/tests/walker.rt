@@ -6,7 +6,7 @@ ghost use Rattle.regex_automata.specs.Promises.{IsCacheOf};
 
 use super::bench::{counted, search, within};
 use super::plans::pattern_id;
-use super::reported::Reported;
+use super::reported::{Reported, prints};
 use super::reports::{Automaton, Caller, Short, Turns, write_reported};
 use super::{Host, check};
 use regex_automata::hybrid::dfa::{Cache, DFA, OverlappingState};
@@ -48,6 +48,8 @@ pub enum Turn {
     Match,
     /// The same of a copy of it.
     Copy,
+    /// Whether the walk is printed so for debugging.
+    Prints(&'static str),
     /// The patterns of all matches, in a set of this capacity.
     Which(usize),
     /// The same in a set of this capacity that has a pattern.
@@ -245,6 +247,7 @@ impl Walker {
             }
             Turn::Match => Reported::Half(Ok(walk.get_match())),
             Turn::Copy => reported_of_copy(walk),
+            Turn::Prints(text) => Reported::of_flag(prints(alloc, walk, text)),
             _ => self.call(alloc, input, turn),
         }
     }

@@ -7,7 +7,7 @@ use super::walker::{Over, Turn, Walked, Walker};
 use crate::catalogue::Entry;
 use Automaton::{Forward, Planned, Reverse};
 use Over::{Pattern, Span, Text};
-use Turn::{Counts, Find, Join, Match, Next, Reset, Switch, Which};
+use Turn::{Counts, Find, Join, Match, Next, Prints, Reset, Switch, Which};
 
 /// A row of calls over a walk.
 type Row = RowOf<Walked, Turn>;
@@ -134,10 +134,22 @@ const SETS: &[Row] = &[
         Join(2, 1), Counts], "{0}, 1 19288 3, {} gaveup 8, {1} gaveup 8, 1 36104 19"),
 ];
 
+/// What a walk prints for debugging: the match that its last call found.
+#[rattlefmt::skip]
+const PRINTED: &[Row] = &[
+    ("before the first match", OVER_AA, "all", &[Prints("OverlappingState { match: None, .. }")], "true"),
+    ("after the third, and after the end", OVER_AA, "all", &[Next, Next, Next,
+        Prints("OverlappingState { match: Some(HalfMatch { pattern: PatternID { id: 0 }, offset: 2 }), .. }"), Next,
+        Prints("OverlappingState { match: Some(HalfMatch { pattern: PatternID { id: 1 }, offset: 2 }), .. }"), Next,
+        Prints("OverlappingState { match: None, .. }")],
+        "half 0 1, half 1 1, half 0 2, true, half 1 2, true, none, true"),
+];
+
 #[test]
 fn walks_and_sets_report_their_rows(rt: HostRuntime) {
     reports_all::<Walker>(&rt, PAIRS);
     reports_all::<Walker>(&rt, CACHES);
     reports_all::<Walker>(&rt, CLEARED);
     reports_all::<Walker>(&rt, SETS);
+    reports_all::<Walker>(&rt, PRINTED);
 }
