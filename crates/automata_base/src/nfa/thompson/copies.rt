@@ -92,7 +92,8 @@ fn copy_state(
 
 /// Adds a state after the others.
 pub fn push_state(states: &mut Vec<State>, state: State) -> Result<(), AllocError>
-    ensures { OnOk result (nodes_of states.new.items ≡ nodes_of states.old.items ++ node_of state ∷ []) }
+    ensures nodes { OnOk result (nodes_of states.new.items ≡ nodes_of states.old.items ++ node_of state ∷ []) }
+    ensures more { OnOk result (length states.new.items ≡ length states.old.items + 1) }
 {
     states.push(state)?;
     Ok(())

@@ -45,6 +45,6 @@ returns-clause-part c =
             c.in_ok-copy_all.ensures
             (id_length c.len.result c.len.result c.new_unchecked-entry.result c.copy_all.new.out.items
             (c.len.ensures ∙ c.copy_all.new.out.ok.0) refl c.new_unchecked-entry.ensures)
-            c.in_ok-alternates.ensures c.in_ok-push_state.ensures,
+            c.in_ok-alternates.ensures c.in_ok-push_state.ensures.nodes,
       ),
     )

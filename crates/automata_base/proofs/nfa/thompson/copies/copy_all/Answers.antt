@@ -39,7 +39,7 @@ loop-id-preserved c =
     (nodes_of c.args.out.now.items ++ copies (copy_of c.args.base c.args.set.now.items) c.args.pattern c.args.turned.now c.as_slice-members.result.now)
     c.loop-id.id-index c.id-item.result c.as_usize.result c.index-turned-as_usize.result (node_of c.in_ok-copy.copy)
     c.loop-id-test.true c.id-item.is (omega (arith, below, c.requires.whole, c.as_usize.ensures.value)) c.as_usize.ensures.value
-    c.index-turned-as_usize.is c.in_ok-copy.ensures c.in_ok-push_state.ensures c.loop-id.invariant
+    c.index-turned-as_usize.is c.in_ok-copy.ensures c.in_ok-push_state.ensures.nodes c.loop-id.invariant
 
 pub returns : goal.returns
 returns c =
