@@ -1,0 +1,137 @@
+use crate::raw::Status;
+use std::fmt;
+
+/// Why a call fails.
+#[derive(Clone, Copy, Debug, PartialEq, Eq)]
+#[non_exhaustive]
+pub enum Error {
+    /// An allocation failed.
+    OutOfMemory,
+    /// A number is no state, pattern or quit byte that is allowed.
+    Argument,
+    /// No pattern was started, or the last one was finished.
+    NoPattern,
+    /// The pattern that was started is not finished.
+    UnfinishedPattern,
+    /// The state to be patched does not exist.
+    PatchRange,
+    /// A sparse state cannot be patched.
+    SparsePatch,
+    /// There are too many states, patterns, groups or alternates.
+    TooLarge,
+    /// A state leads to a state that does not exist.
+    StateRange,
+    /// A start state does not exist.
+    StartRange,
+    /// A match state has a pattern that does not exist.
+    PatternRange,
+    /// The ranges of bytes of a state are not in order.
+    Ranges,
+    /// The unanchored start does not skip lazily.
+    NotLazy,
+    /// A cycle of states that read nothing passes a look-around assertion.
+    LookCycle,
+    /// In UTF-8 mode a match may be invalid UTF-8.
+    NotUtf8,
+    /// The starts differ in the empty match, so that the NFA cannot be reversed.
+    Starts,
+    /// There is a Unicode word boundary, and it is not enabled.
+    Unsupported,
+    /// The cache capacity is below the minimum.
+    InsufficientCacheCapacity { minimum: usize },
+    /// The smallest table has more offsets than an ID can hold.
+    InsufficientStateIDCapacity { attempted: usize },
+    /// The two NFAs of a pair do not have equally many patterns.
+    PatternCounts,
+    /// The search met a quit byte.
+    Quit { byte: u8, offset: usize },
+    /// The search gave up: the cache is full, and the settings do not allow another clear.
+    GaveUp { offset: usize },
+    /// The regex was not built for the anchored mode.
+    UnsupportedAnchored,
+    /// The second NFA of a pair finds no start for a match of the first.
+    NotAPair,
+    /// At this offset no pattern matches, or only the empty string does.
+    NoToken { offset: usize },
+}
+
+impl fmt::Display for Error {
+    fn fmt(&self, f: &mut fmt::Formatter<'_>) -> fmt::Result {
+        let text = match *self {
+            Error::OutOfMemory => "out of memory",
+            Error::Argument => "an argument is not allowed",
+            Error::NoPattern => "no pattern was started",
+            Error::UnfinishedPattern => "a pattern was started and not finished",
+            Error::PatchRange => "the state to be patched is out of range",
+            Error::SparsePatch => "a sparse state cannot be patched",
+            Error::TooLarge => "too many states, patterns, groups or alternates",
+            Error::StateRange => "a state leads to a state that is out of range",
+            Error::StartRange => "a start state is out of range",
+            Error::PatternRange => "the pattern of a match state is out of range",
+            Error::Ranges => "ranges of bytes are not in order",
+            Error::NotLazy => "the unanchored start does not skip lazily",
+            Error::LookCycle => "a cycle of states that read nothing passes a look-around assertion",
+            Error::NotUtf8 => "a match may be invalid UTF-8",
+            Error::Starts => "the starts differ in the empty match",
+            Error::Unsupported => "Unicode word boundaries are not enabled",
+            Error::PatternCounts => "the two NFAs do not have equally many patterns",
+            Error::UnsupportedAnchored => "the anchored mode is not supported",
+            Error::NotAPair => "the reverse NFA finds no start",
+            Error::InsufficientCacheCapacity { minimum } => {
+                return write!(f, "the cache capacity is smaller than the minimum, {minimum}");
+            }
+            Error::InsufficientStateIDCapacity { attempted } => {
+                return write!(f, "the ID {attempted} is too large");
+            }
+            Error::Quit { byte, offset } => {
+                return write!(f, "quit search after observing byte {byte:#04X} at offset {offset}");
+            }
+            Error::GaveUp { offset } => return write!(f, "gave up searching at offset {offset}"),
+            Error::NoToken { offset } => return write!(f, "no token at offset {offset}"),
+        };
+        f.write_str(text)
+    }
+}
+
+impl std::error::Error for Error {}
+
+impl Status {
+    /// Whether a call did what it was asked to, or found something.
+    pub fn found(self) -> Result<bool, Error> {
+        let offset = self.offset;
+        let error = match self.code {
+            0 => return Ok(true),
+            1 => return Ok(false),
+            5 => Error::Argument,
+            6 => Error::OutOfMemory,
+            10 => Error::NoPattern,
+            11 => Error::UnfinishedPattern,
+            12 => Error::PatchRange,
+            13 => Error::SparsePatch,
+            14 => Error::TooLarge,
+            15 => Error::StateRange,
+            16 => Error::StartRange,
+            17 => Error::PatternRange,
+            18 => Error::Ranges,
+            20 => Error::NotLazy,
+            21 => Error::LookCycle,
+            22 => Error::NotUtf8,
+            23 => Error::Starts,
+            24 => Error::Unsupported,
+            25 => Error::InsufficientCacheCapacity { minimum: offset },
+            26 => Error::InsufficientStateIDCapacity { attempted: offset },
+            27 => Error::PatternCounts,
+            30 => Error::Quit { byte: self.byte as u8, offset },
+            31 => Error::GaveUp { offset },
+            32 => Error::UnsupportedAnchored,
+            33 => Error::NotAPair,
+            34 => Error::NoToken { offset },
+            code => unreachable!("code {code}: the types here allow no call that returns it"),
+        };
+        Err(error)
+    }
+
+    pub fn done(self) -> Result<(), Error> {
+        self.found().map(|_| ())
+    }
+}

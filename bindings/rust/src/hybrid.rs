@@ -1,0 +1,455 @@
+//! Lazy DFAs and regexes.
+pub mod dfa {
+    use super::regex::{Cache, Regex};
+    use crate::raw::{self, Half, Handle};
+    use crate::{Error, HalfMatch, Input, MatchKind, PatternSet};
+
+    /// The settings of the lazy DFAs of a regex.
+    #[derive(Clone, Debug, Default)]
+    pub struct Config {
+        pub(super) settings: raw::Settings,
+        pub(super) quits: Vec<u8>,
+    }
+
+    impl Config {
+        pub fn new() -> Config {
+            Config::default()
+        }
+
+        pub fn match_kind(mut self, kind: MatchKind) -> Config {
+            self.settings.match_kind = (kind == MatchKind::All).into();
+            self
+        }
+
+        pub fn starts_for_each_pattern(mut self, yes: bool) -> Config {
+            self.settings.starts_for_each_pattern = yes.into();
+            self
+        }
+
+        pub fn byte_classes(mut self, yes: bool) -> Config {
+            self.settings.no_byte_classes = (!yes).into();
+            self
+        }
+
+        pub fn unicode_word_boundary(mut self, yes: bool) -> Config {
+            self.settings.unicode_word_boundary = yes.into();
+            self
+        }
+
+        pub fn specialize_start_states(mut self, yes: bool) -> Config {
+            self.settings.specialize_start_states = yes.into();
+            self
+        }
+
+        /// Makes this byte a quit byte, or not.
+        pub fn quit(mut self, byte: u8, yes: bool) -> Config {
+            self.quits.retain(|quit| *quit != byte);
+            if yes {
+                self.quits.push(byte);
+            }
+            self
+        }
+
+        pub fn cache_capacity(mut self, bytes: usize) -> Config {
+            (self.settings.has_cache_capacity, self.settings.cache_capacity) = (1, bytes);
+            self
+        }
+
+        pub fn skip_cache_capacity_check(mut self, yes: bool) -> Config {
+            self.settings.skip_cache_capacity_check = yes.into();
+            self
+        }
+
+        pub fn minimum_cache_clear_count(mut self, min: Option<usize>) -> Config {
+            self.settings.has_minimum_cache_clear_count = min.is_some().into();
+            self.settings.minimum_cache_clear_count = min.unwrap_or(0);
+            self
+        }
+
+        pub fn minimum_bytes_per_state(mut self, min: Option<usize>) -> Config {
+            self.settings.has_minimum_bytes_per_state = min.is_some().into();
+            self.settings.minimum_bytes_per_state = min.unwrap_or(0);
+            self
+        }
+    }
+
+    /// One of the two DFAs of a regex. It searches over a cache of the regex.
+    #[derive(Clone, Copy)]
+    pub struct DFA<'r> {
+        pub(super) regex: &'r Regex,
+    }
+
+    impl DFA<'_> {
+        /// Where the first match ends. Call it on the forward DFA: every DFA of a regex searches forward with that one.
+        pub fn try_search_fwd(&self, cache: &mut Cache<'_>, input: &Input<'_>) -> Result<Option<HalfMatch>, Error> {
+            self.half(cache, input, raw::lazydfa_raw_find_end)
+        }
+
+        /// Where a match starts that ends at the span's end, by the reverse DFA.
+        pub fn try_search_rev(&self, cache: &mut Cache<'_>, input: &Input<'_>) -> Result<Option<HalfMatch>, Error> {
+            self.half(cache, input, raw::lazydfa_raw_find_start)
+        }
+
+        fn half(
+            &self,
+            cache: &mut Cache<'_>,
+            input: &Input<'_>,
+            search: unsafe extern "C" fn(*mut Handle, *const u8, usize, *const raw::Input, *mut Half) -> raw::Status,
+        ) -> Result<Option<HalfMatch>, Error> {
+            let haystack = input.haystack();
+            let mut half = Half::default();
+            let handle = self.regex.own(cache);
+            let status = unsafe { search(handle, haystack.as_ptr(), haystack.len(), &input.raw(), &mut half) };
+            Ok(status.found()?.then(|| half.into()))
+        }
+
+        /// Adds to a set the patterns below its capacity of all overlapping matches. After an error the set has those
+        /// that were reported before it.
+        pub fn try_which_overlapping_matches(
+            &self,
+            cache: &mut Cache<'_>,
+            input: &Input<'_>,
+            patset: &mut PatternSet,
+        ) -> Result<(), Error> {
+            let haystack = input.haystack();
+            let mut patterns = vec![0; patset.capacity()];
+            let mut count = 0;
+            let status = unsafe {
+                raw::lazydfa_raw_which(
+                    self.regex.own(cache),
+                    haystack.as_ptr(),
+                    haystack.len(),
+                    &input.raw(),
+                    patterns.len(),
+                    patterns.as_mut_ptr(),
+                    patterns.len(),
+                    &mut count,
+                )
+            };
+            for pattern in &patterns[..count] {
+                patset.insert(crate::PatternID(*pattern));
+            }
+            status.done()
+        }
+
+        /// The ends of all overlapping matches.
+        pub fn all_ends(&self, cache: &mut Cache<'_>, input: &Input<'_>) -> Result<Vec<HalfMatch>, Error> {
+            self.all(cache, input, raw::lazydfa_raw_all_ends)
+        }
+
+        /// The starts of all overlapping matches, by the reverse DFA.
+        pub fn all_starts(&self, cache: &mut Cache<'_>, input: &Input<'_>) -> Result<Vec<HalfMatch>, Error> {
+            self.all(cache, input, raw::lazydfa_raw_all_starts)
+        }
+
+        fn all(&self, cache: &mut Cache<'_>, input: &Input<'_>, search: SearchAll) -> Result<Vec<HalfMatch>, Error> {
+            let haystack = input.haystack();
+            let handle = self.regex.own(cache);
+            let mut halves = vec![Half::default(); 64];
+            loop {
+                let (mut count, room) = (0, halves.len());
+                let (at, length) = (haystack.as_ptr(), haystack.len());
+                let status =
+                    unsafe { search(handle, at, length, &input.raw(), halves.as_mut_ptr(), room, &mut count) };
+                status.done()?;
+                halves.resize(count, Half::default());
+                if count <= room {
+                    return Ok(halves.into_iter().map(HalfMatch::from).collect());
+                }
+            }
+        }
+    }
+
+    type SearchAll =
+        unsafe extern "C" fn(*mut Handle, *const u8, usize, *const raw::Input, *mut Half, usize, *mut usize) -> raw::Status;
+}
+
+pub mod regex {
+    use super::dfa::{Config, DFA};
+    use crate::nfa::thompson::NFA;
+    use crate::raw::{self, Handle};
+    use crate::{Error, Input, Match};
+    use std::cell::RefCell;
+    use std::ptr;
+
+    /// A builder of regexes. It holds the settings of their DFAs.
+    #[derive(Clone, Debug, Default)]
+    pub struct Builder {
+        config: Config,
+    }
+
+    impl Builder {
+        pub fn new() -> Builder {
+            Builder::default()
+        }
+
+        /// Sets the settings.
+        pub fn dfa(&mut self, config: Config) -> &mut Builder {
+            self.config = config;
+            self
+        }
+
+        /// The regex of one NFA, whose matches are those of the NFA's ordered paths. The NFA stays as it is.
+        pub fn build_from_nfa(&self, nfa: &NFA) -> Result<Regex, Error> {
+            let Config { settings, quits } = &self.config;
+            let mut handle = Handle::closed();
+            let builder: *mut Handle = &mut *nfa.handle.borrow_mut();
+            unsafe {
+                raw::lazydfa_raw_regex_build(
+                    &mut handle,
+                    builder,
+                    &nfa.starts,
+                    settings,
+                    quits.as_ptr(),
+                    quits.len(),
+                )
+            }
+            .done()?;
+            Ok(Regex { handle: RefCell::new(handle) })
+        }
+
+        /// The regex of two NFAs, of which the second reads the same backward, which nothing tests.
+        pub fn build_from_nfas(&self, forward: &NFA, reverse: &NFA) -> Result<Regex, Error> {
+            if ptr::eq(forward, reverse) {
+                return Err(Error::Argument);
+            }
+            let Config { settings, quits } = &self.config;
+            let mut handle = Handle::closed();
+            let mut builders = (forward.handle.borrow_mut(), reverse.handle.borrow_mut());
+            unsafe {
+                raw::lazydfa_raw_regex_build_pair(
+                    &mut handle,
+                    &mut *builders.0,
+                    &forward.starts,
+                    &mut *builders.1,
+                    &reverse.starts,
+                    settings,
+                    quits.as_ptr(),
+                    quits.len(),
+                )
+            }
+            .done()?;
+            Ok(Regex { handle: RefCell::new(handle) })
+        }
+    }
+
+    /// A regex: two lazy DFAs, one that finds where matches end, and one that finds where they start. It and its caches
+    /// stay on one thread.
+    pub struct Regex {
+        handle: RefCell<Handle>,
+    }
+
+    impl Regex {
+        pub fn builder() -> Builder {
+            Builder::new()
+        }
+
+        /// A cache for its searches.
+        pub fn create_cache(&self) -> Result<Cache<'_>, Error> {
+            let mut handle = Handle::closed();
+            let regex: *mut Handle = &mut *self.handle.borrow_mut();
+            unsafe { raw::lazydfa_raw_cache_new(&mut handle, regex) }.done()?;
+            Ok(Cache { handle, regex: self })
+        }
+
+        /// The DFA that finds where matches end.
+        pub fn forward(&self) -> DFA<'_> {
+            DFA { regex: self }
+        }
+
+        /// The DFA that finds where matches start.
+        pub fn reverse(&self) -> DFA<'_> {
+            DFA { regex: self }
+        }
+
+        /// The handle of one of its caches. A cache of another regex is the caller's mistake, and a panic.
+        pub(super) fn own<'c>(&self, cache: &'c mut Cache<'_>) -> &'c mut Handle {
+            assert!(ptr::eq(self, cache.regex), "a cache of another regex");
+            &mut cache.handle
+        }
+
+        /// Whether there is a match.
+        pub fn is_match<'h, I: Into<Input<'h>>>(&self, cache: &mut Cache<'_>, input: I) -> Result<bool, Error> {
+            let input = input.into();
+            let haystack = input.haystack();
+            unsafe {
+                raw::lazydfa_raw_is_match(self.own(cache), haystack.as_ptr(), haystack.len(), &input.raw())
+            }
+            .found()
+        }
+
+        /// The first match.
+        pub fn find<'h, I: Into<Input<'h>>>(&self, cache: &mut Cache<'_>, input: I) -> Result<Option<Match>, Error> {
+            let input = input.into();
+            let haystack = input.haystack();
+            let mut found = raw::Match::default();
+            let status = unsafe {
+                raw::lazydfa_raw_find(
+                    self.own(cache),
+                    haystack.as_ptr(),
+                    haystack.len(),
+                    &input.raw(),
+                    &mut found,
+                )
+            };
+            Ok(status.found()?.then(|| found.into()))
+        }
+
+        /// The matches of an input, one after another. An error is the last item.
+        pub fn find_iter<'c, 'r, 'h, I: Into<Input<'h>>>(
+            &self,
+            cache: &'c mut Cache<'r>,
+            input: I,
+        ) -> FindMatches<'c, 'r, 'h> {
+            self.own(cache);
+            let input = input.into();
+            FindMatches {
+                cache,
+                haystack: input.haystack(),
+                at: raw::Iteration { left: input.raw(), ..raw::Iteration::default() },
+                buffer: [raw::Match::default(); ROOM],
+                taken: 0,
+                length: 0,
+                room: 1,
+                end: None,
+            }
+        }
+
+        /// The tokens of an input's span, each of which begins where the one before ended. An error is the last item.
+        pub fn tokens<'c, 'r, 'h, I: Into<Input<'h>>>(
+            &self,
+            cache: &'c mut Cache<'r>,
+            input: I,
+        ) -> Tokens<'c, 'r, 'h> {
+            self.own(cache);
+            let input = input.into();
+            Tokens { cache, haystack: input.haystack(), left: input.raw(), ended: false }
+        }
+    }
+
+    /// A cache of a regex, which it cannot outlive.
+    pub struct Cache<'r> {
+        handle: Handle,
+        regex: &'r Regex,
+    }
+
+    impl Cache<'_> {
+        /// Makes it a fresh cache.
+        pub fn reset(&mut self) -> Result<(), Error> {
+            unsafe { raw::lazydfa_raw_cache_reset(&mut self.handle) }.done()
+        }
+
+        fn usage(&mut self) -> raw::Usage {
+            let mut usage = raw::Usage::default();
+            // It fails for handles that are closed or of another kind, and this one is neither.
+            let _ = unsafe { raw::lazydfa_raw_cache_usage(&mut self.handle, &mut usage) };
+            usage
+        }
+
+        /// The bytes that it accounts for.
+        pub fn memory_usage(&mut self) -> usize {
+            self.usage().memory
+        }
+
+        /// How often its two parts were cleared, the forward one first.
+        pub fn clear_counts(&mut self) -> (usize, usize) {
+            let usage = self.usage();
+            (usage.forward_clears, usage.reverse_clears)
+        }
+
+        /// How many patterns the regex has.
+        pub fn pattern_len(&mut self) -> usize {
+            self.usage().patterns
+        }
+    }
+
+    const ROOM: usize = 32;
+
+    /// An iterator over the matches of an input. It asks for one match first, and then for 32 at a time.
+    pub struct FindMatches<'c, 'r, 'h> {
+        cache: &'c mut Cache<'r>,
+        haystack: &'h [u8],
+        at: raw::Iteration,
+        buffer: [raw::Match; ROOM],
+        taken: usize,
+        length: usize,
+        room: usize,
+        // what comes after the matches that the buffer has
+        end: Option<Result<(), Error>>,
+    }
+
+    impl FindMatches<'_, '_, '_> {
+        fn fill(&mut self) {
+            let status = unsafe {
+                raw::lazydfa_raw_next_all(
+                    &mut self.cache.handle,
+                    self.haystack.as_ptr(),
+                    self.haystack.len(),
+                    &mut self.at,
+                    self.buffer.as_mut_ptr(),
+                    self.room,
+                    &mut self.length,
+                )
+            };
+            (self.taken, self.room) = (0, ROOM);
+            self.end = match status.found() {
+                Ok(true) => None,
+                Ok(false) => Some(Ok(())),
+                Err(error) => Some(Err(error)),
+            };
+        }
+    }
+
+    impl Iterator for FindMatches<'_, '_, '_> {
+        type Item = Result<Match, Error>;
+
+        fn next(&mut self) -> Option<Result<Match, Error>> {
+            if self.taken == self.length && self.end.is_none() {
+                self.fill();
+            }
+            if self.taken < self.length {
+                self.taken += 1;
+                return Some(Ok(self.buffer[self.taken - 1].into()));
+            }
+            self.end.replace(Ok(()))?.err().map(Err)
+        }
+    }
+
+    impl std::iter::FusedIterator for FindMatches<'_, '_, '_> {}
+
+    /// An iterator over the tokens of a span.
+    pub struct Tokens<'c, 'r, 'h> {
+        cache: &'c mut Cache<'r>,
+        haystack: &'h [u8],
+        left: raw::Input,
+        ended: bool,
+    }
+
+    impl Iterator for Tokens<'_, '_, '_> {
+        type Item = Result<Match, Error>;
+
+        fn next(&mut self) -> Option<Result<Match, Error>> {
+            if self.ended {
+                return None;
+            }
+            let mut found = raw::Match::default();
+            let status = unsafe {
+                raw::lazydfa_raw_token(
+                    &mut self.cache.handle,
+                    self.haystack.as_ptr(),
+                    self.haystack.len(),
+                    &mut self.left,
+                    &mut found,
+                )
+            };
+            let item = status.found();
+            self.ended = item != Ok(true);
+            match item {
+                Ok(is_one) => is_one.then(|| Ok(found.into())),
+                Err(error) => Some(Err(error)),
+            }
+        }
+    }
+
+    impl std::iter::FusedIterator for Tokens<'_, '_, '_> {}
+}

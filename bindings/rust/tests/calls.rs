@@ -1,0 +1,141 @@
+//! The types over the library itself.
+use lazydfa::hybrid::dfa::Config;
+use lazydfa::hybrid::regex::Regex;
+use lazydfa::nfa::thompson::{Builder, Transition, NFA};
+use lazydfa::util::look::Look;
+use lazydfa::util::primitives::StateID;
+use lazydfa::{Anchored, Error, Input, MatchKind, PatternID, PatternSet};
+
+/// `[a-z]+`
+fn word() -> Result<NFA, Error> {
+    let mut builder = Builder::new()?;
+    builder.start_pattern()?;
+    let letter = builder.add_range(Transition { start: b'a', end: b'z', next: StateID::ZERO })?;
+    let found = builder.add_match()?;
+    let more = builder.add_union(vec![letter, found])?;
+    builder.patch(letter, more)?;
+    builder.finish_pattern(letter)?;
+    let prefix = builder.add_unanchored_prefix(letter)?;
+    Ok(builder.build(letter, prefix))
+}
+
+/// `[a-z]` and `[a-z0-9]`
+fn two() -> Result<NFA, Error> {
+    let mut builder = Builder::new()?;
+    builder.start_pattern()?;
+    let end = builder.add_match()?;
+    let letter = builder.add_range(Transition { start: b'a', end: b'z', next: end })?;
+    builder.finish_pattern(letter)?;
+    builder.start_pattern()?;
+    let next = builder.add_match()?;
+    let ranges = [(b'0', b'9'), (b'a', b'z')].map(|(start, end)| Transition { start, end, next });
+    let any = builder.add_sparse(ranges.to_vec())?;
+    builder.finish_pattern(any)?;
+    let start = builder.add_union(vec![letter, any])?;
+    let prefix = builder.add_unanchored_prefix(start)?;
+    Ok(builder.build(start, prefix))
+}
+
+fn with(config: Config, nfa: &NFA) -> Result<Regex, Error> {
+    Regex::builder().dfa(config).build_from_nfa(nfa)
+}
+
+#[test]
+fn finds() -> Result<(), Error> {
+    let regex = with(Config::new(), &word()?)?;
+    let mut cache = regex.create_cache()?;
+    let found = regex.find(&mut cache, Input::new("12 foo").range(1..6))?.unwrap();
+    assert_eq!((found.range(), found.pattern(), found.len()), (3..6, PatternID::ZERO, 3));
+    assert!(regex.is_match(&mut cache, "a")?);
+    assert!(!regex.is_match(&mut cache, "")?);
+    let half = regex.forward().try_search_fwd(&mut cache, &Input::new("ab-").earliest(true))?;
+    assert_eq!(half.unwrap().offset(), 1);
+    let half = regex.reverse().try_search_rev(&mut cache, &Input::new("-ab").anchored(Anchored::Yes))?;
+    assert_eq!(half.unwrap().offset(), 1);
+    Ok(())
+}
+
+#[test]
+fn iterates_past_the_buffer() -> Result<(), Error> {
+    let regex = with(Config::new(), &word()?)?;
+    let mut cache = regex.create_cache()?;
+    for n in [0, 1, 2, 31, 32, 33, 34, 65, 66, 1000] {
+        let text = "a ".repeat(n);
+        let starts: Result<Vec<_>, _> = regex.find_iter(&mut cache, &text).map(|m| m.map(|m| m.start())).collect();
+        assert_eq!(starts?, (0..n).map(|i| 2 * i).collect::<Vec<_>>());
+    }
+    assert!(cache.memory_usage() > 0);
+    cache.reset()?;
+    assert_eq!((cache.clear_counts(), cache.pattern_len()), ((0, 0), 1));
+    Ok(())
+}
+
+#[test]
+fn tokens() -> Result<(), Error> {
+    let regex = with(Config::new(), &two()?)?;
+    let mut cache = regex.create_cache()?;
+    let patterns: Vec<_> = regex.tokens(&mut cache, "a1-").map(|t| t.map(|t| t.pattern().as_usize())).collect();
+    assert_eq!(patterns, [Ok(0), Ok(1), Err(Error::NoToken { offset: 2 })]);
+    Ok(())
+}
+
+#[test]
+fn sets() -> Result<(), Error> {
+    let regex = with(Config::new().match_kind(MatchKind::All), &two()?)?;
+    let mut cache = regex.create_cache()?;
+    let mut set = PatternSet::new(2);
+    regex.forward().try_which_overlapping_matches(&mut cache, &Input::new("1"), &mut set)?;
+    assert_eq!(set.iter().map(PatternID::as_usize).collect::<Vec<_>>(), [1]);
+    regex.forward().try_which_overlapping_matches(&mut cache, &Input::new("a"), &mut set)?;
+    assert_eq!((set.len(), set.contains(PatternID::ZERO)), (2, true));
+    let text = "a".repeat(100);
+    let ends = regex.forward().all_ends(&mut cache, &Input::new(&text))?;
+    assert_eq!((ends.len(), ends[199].offset()), (200, 100));
+    assert_eq!(regex.reverse().all_starts(&mut cache, &Input::new("a"))?.len(), 2);
+    Ok(())
+}
+
+#[test]
+fn errors() -> Result<(), Error> {
+    let regex = with(Config::new().quit(b';', true), &word()?)?;
+    let mut cache = regex.create_cache()?;
+    let error = regex.find(&mut cache, "--;").unwrap_err();
+    assert_eq!(error.to_string(), "quit search after observing byte 0x3B at offset 2");
+    let items: Vec<_> = regex.find_iter(&mut cache, "a b;c").map(|m| m.map(|m| m.start())).collect();
+    assert_eq!(items, [Ok(0), Err(Error::Quit { byte: b';', offset: 3 })]);
+    let input = Input::new("a").anchored(Anchored::Pattern(PatternID::ZERO));
+    assert_eq!(regex.find(&mut cache, input), Err(Error::UnsupportedAnchored));
+    let error = with(Config::new().cache_capacity(1), &word()?).err();
+    assert!(matches!(error, Some(Error::InsufficientCacheCapacity { minimum }) if minimum > 100));
+    let mut builder = Builder::new()?;
+    assert_eq!(builder.add_match(), Err(Error::NoPattern));
+    let look = builder.add_look(StateID::ZERO, Look::Start)?;
+    builder.patch(look, look)?;
+    assert_eq!(with(Config::new(), &builder.build(look, look)).err(), Some(Error::LookCycle));
+    Ok(())
+}
+
+#[test]
+fn pairs() -> Result<(), Error> {
+    let same = word()?;
+    assert_eq!(Regex::builder().build_from_nfas(&same, &same).err(), Some(Error::Argument));
+    let regex = Regex::builder().build_from_nfas(&two()?, &two()?)?;
+    let mut cache = regex.create_cache()?;
+    assert_eq!(regex.find(&mut cache, "-a")?.unwrap().range(), 1..2);
+    assert_eq!(Regex::builder().build_from_nfas(&two()?, &same).err(), Some(Error::PatternCounts));
+    Ok(())
+}
+
+#[test]
+#[should_panic(expected = "a cache of another regex")]
+fn another_cache() {
+    let (one, two) = (with(Config::new(), &word().unwrap()).unwrap(), with(Config::new(), &two().unwrap()).unwrap());
+    let mut cache = two.create_cache().unwrap();
+    let _ = one.is_match(&mut cache, "a");
+}
+
+#[test]
+#[should_panic(expected = "invalid span")]
+fn a_bad_span() {
+    let _ = Input::new("a").range(0..2);
+}
