@@ -1,0 +1,31 @@
+use Rattle.std.proofs.Common.{◌≡◌, ◌∙◌, ℕ, Bool, true, false, List, Option, None, Some, ap, subst, sym}
+use Rattle.std.specs.Prelude.{◌↔◌, IsTrue, is_some}
+use Rattle.regex_automata.specs.Promises.{Forward, Half, HalfMatch, Input, IsAnswer, Machine, WithoutBase, engine_of, match_kind_of}
+use Rattle.example_grep.specs.Lines.{HasMatch, whole}
+use Rattle.example_grep.proofs.lines.LineSearcher.has_match.Goals as goal
+
+decides :
+    (m : Machine) (line : List ℕ) (found : Option HalfMatch) (has : Bool)
+    → ((a b : Option Half) → IsAnswer Forward (engine_of m.nfa (match_kind_of m.config)) (whole line) a
+    → IsAnswer Forward (engine_of m.nfa (match_kind_of m.config)) (whole line) b → a ≡ b)
+    → WithoutBase (IsAnswer Forward (engine_of m.nfa (match_kind_of m.config)) (whole line)) found
+    → has ≡ is_some found → IsTrue has ↔ HasMatch m line
+decides m line None has one (None, a, e) said =
+    (λ t. absurd (true_false (sym t ∙ said)), λ h. absurd (none_some (one None (Some h.half) a h.answer))) where
+      true_false : true ≡ false → ⊥
+      true_false h = cc
+
+      none_some : {h : Half} → ◌≡◌ {A = Option Half} None (Some h) → ⊥
+      none_some h = cc
+decides m line None has one (Some half, a, e) said = absurd (cc)
+decides m line (Some half) has one (None, a, e) said = absurd (cc)
+decides m line (Some found) has one (Some half, a, e) said = (λ t. record { half = half; answer = a }, λ h. said)
+
+pub returns-clause-found : goal.returns-clause-found
+returns-clause-found c =
+    let same : c.earliest-input.result ≡ whole c.args.line.now = c.earliest-input.ensures ∙ ap (λ (i : Input). record i { earliest = true }) c.new.ensures in
+    decides c.args.self.now.dfa c.args.line.now c.in_ok-found.found c.is_some.result
+    (c.start_is_right.ensures.one.answer Forward (engine_of c.args.self.now.dfa.nfa (match_kind_of c.args.self.now.dfa.config)) (whole c.args.line.now))
+    (subst (λ i. WithoutBase (IsAnswer Forward (engine_of c.args.self.now.dfa.nfa (match_kind_of c.args.self.now.dfa.config)) i) c.in_ok-found.found)
+    same (c.in_ok-found.ensures.half.answer c.args.self.now.ordered))
+    c.is_some.ensures
