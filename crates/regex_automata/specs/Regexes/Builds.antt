@@ -45,8 +45,8 @@ reverse_refusal reverse.Starts = is.Starts
 reverse_refusal reverse.TooLarge = is.TooLarge
 reverse_refusal reverse.OutOfMemory = is.OutOfMemory
 
--- the tests that an NFA passes: the first two; also the third, that in UTF-8 mode it reads valid UTF-8; and all, with that
--- of its starts
+-- the tests that an NFA passes: the first two; the third as well, that in UTF-8 mode it reads valid UTF-8; and all, with
+-- that of its starts
 abbrev pub PassesTwo : Automaton → Type 0
 PassesTwo forward = SkipsLazily forward × IsLookAcyclic (nfa_of forward)
 

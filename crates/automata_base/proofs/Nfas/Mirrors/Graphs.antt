@@ -59,7 +59,7 @@ in_push (xs ∷ rest) (suc to) y (suc k) x i = go (in_push rest to y k x i)
     go (inl j) = inl j
     go (inr e) = inr (ap suc e.0, e.1)
 
--- The same of what is added unless it is the last.
+-- What is put after the alternates of a state, unless it is the last of them, is among them, and nothing else is new.
 put_old : (lists : List (List ℕ)) (to y k x : ℕ) → InAt lists k x → InAt (put_at lists to y) k x
 put_old [] to y k x i = i
 put_old (xs ∷ rest) zero y zero x i = go (ends_in xs y)

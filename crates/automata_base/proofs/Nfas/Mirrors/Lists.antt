@@ -49,7 +49,7 @@ push_length [] k x = refl
 push_length (y ∷ ys) zero x = refl
 push_length (y ∷ ys) (suc k) x = ap suc (push_length ys k x)
 
--- The same of what is added unless it is the last.
+-- What is added to a list of IDs, unless it is the last, is added to the list of its numbers.
 pub lists_put :
     (vs : List (Vec ℕ Global)) (k : ℕ) (old new d : Vec ℕ Global) (x : ℕ) → k < length vs → old ≡ get_or vs k d
     → new.items ≡ put old.items x → lists_of (set vs k new) ≡ put_at (lists_of vs) k x

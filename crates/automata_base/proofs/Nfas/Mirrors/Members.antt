@@ -40,7 +40,7 @@ arc_target (Accept p) Free r h = absurd h
 arc_target (Accept p) (Asks look) r h = absurd h
 arc_target (Accept p) (Reads lo hi) r h = absurd h
 
--- The same of states whose edges are ranges.
+-- A state with its edges as ranges has the same targets, and matches the same pattern.
 pub ranged_is : (states : List State) (q : ℕ) → node_or_fail (slice_get (ranged_nodes states) q) ≡ ranged (get_or states q is.Fail)
 ranged_is [] q = refl
 ranged_is (x ∷ xs) zero = refl
@@ -128,7 +128,7 @@ map_distinct f (x ∷ xs) g d = (
   map_distinct f xs (λ y z i j. g y z (inr i) (inr j)) d.1,
 )
 
--- A target is what an edge leads to.
+-- Some edge leads to each target.
 next_range : (ranges : List Range) (r : ℕ) → In r (nexts ranges) → (lo hi : ℕ) × HasRange ranges lo hi r
 next_range [] r h = absurd h
 next_range (x ∷ xs) r (inl e) = (x.lo, x.hi, inl (refl, refl, sym e))

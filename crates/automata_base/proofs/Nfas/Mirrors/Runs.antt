@@ -178,7 +178,7 @@ runs_next (x ∷ xs) lo byte r i =
     go true f g i = later x (f i)
     go false f g i = one x g i
 
--- The other way round.
+-- Each target of a dense state is that of a run.
 pub next_runs :
     (xs : List ℕ) (lo byte r : ℕ) → In r (nexts (dense_from byte xs)) → In r (nexts (ranges_of (runs_from lo byte xs)))
 next_runs [] lo byte r i = i
