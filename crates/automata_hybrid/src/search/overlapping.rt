@@ -175,10 +175,9 @@ impl DFA {
             walk.end(arrival.units);
             return Ok(());
         };
-        let next = held.of_row(cache, id)?;
+        held.move_to(cache, id)?;
         cache.end_search(last);
         self.stand(cache, input, way, walk, id, arrival.units);
-        *held = next;
         Ok(())
     }
 

@@ -1,5 +1,5 @@
 //! How far an overlapping search is, and what it holds between its calls.
-ghost use Rattle.std.specs.Prelude.{◌≡◌, ◌+◌, ◌<◌, ◌^◌, IfOk, OnErr, true, false};
+ghost use Rattle.std.specs.Prelude.{◌≡◌, ◌+◌, ◌<◌, ◌^◌, IfOk, OnOk, OnErr, true, false};
 ghost use Rattle.std.specs.Prelude.{None};
 ghost use Rattle.automata_base.specs.Powersets.Powerset.{Powerset};
 ghost use Rattle.automata_hybrid.specs.Cache.Table.{IsRowId, Names};
@@ -70,19 +70,24 @@ impl Held {
         }
     }
 
-    /// The state of a row, held in the same way.
-    pub(crate) fn of_row(&self, cache: &Cache, id: LazyStateID) -> Result<Held, AllocError>
+    /// Holds the state of a row in place of its own, in the same way. If that cannot be held, nothing has changed.
+    pub(crate) fn move_to(&mut self, cache: &Cache, id: LazyStateID) -> Result<(), AllocError>
         requires { IsRowId cache.now.store.table id }
-        ensures holds { IfOk result (λ held. (q : Powerset) → Names cache.now.store.table id q
-            → Holds cache.now.store.table held q) }
-        ensures keeping { IfOk result (λ held. keeping_of held ≡ keeping_of self.now) }
-        ensures refused { OnErr result (keeping_of self.now ≡ States) }
+        ensures holds { OnOk result ((q : Powerset) → Names cache.now.store.table id q
+            → Holds cache.now.store.table self.new q) }
+        ensures keeping { OnOk result (keeping_of self.new ≡ keeping_of self.old) }
+        ensures refused { OnErr result (keeping_of self.old ≡ States) }
+        ensures err { OnErr result (self.new ≡ self.old) }
     {
         match self {
-            Held::Row(_) => Ok(Held::Row(Some(id))),
-            Held::State(_) => {
+            Held::Row(row) => {
+                *row = Some(id);
+                Ok(())
+            }
+            Held::State(held) => {
                 let handle = cache.handle(id)?;
-                Ok(Held::State(Some(handle)))
+                *held = Some(handle);
+                Ok(())
             }
         }
     }

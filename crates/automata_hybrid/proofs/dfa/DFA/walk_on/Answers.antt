@@ -276,8 +276,8 @@ returns-in_default-clause-effect c =
       finish.stops arrival.units (omega arith),
     )))
 
-pub returns-in_err-next-clause-refusal : goal.returns-in_err-next-clause-refusal
-returns-in_err-next-clause-refusal c =
+pub returns-in_err-move_to-clause-refusal : goal.returns-in_err-move_to-clause-refusal
+returns-in_err-move_to-clause-refusal c =
     let d : Direction = way_of c.args.way in
     let m : Machine = c.args.self.now in
     let input : Input = c.args.input.now in
@@ -292,13 +292,13 @@ returns-in_err-next-clause-refusal c =
     let arrives : IsArrival d m c.advance.new.cache.store.table input w.units arrival.id arrival.units =
     subst (λ n. IsArrival d m c.advance.new.cache.store.table input n arrival.id arrival.units) c.units-2.ensures c.in_ok-arrival.ensures.arrives in
     let arrived : Arrives d m c.advance.new.cache.store.table input w.units c.in-Some.id arrival.units = subst (λ (o : Option ℕ). IsArrival d m c.advance.new.cache.store.table input w.units o arrival.units) c.in-Some.«is» arrives in
-    if_err c.from_residual-in_err-next.result search.OutOfMemory _ c.from_residual-in_err-next.ensures.1
-    (subst (λ k. IsCallRefused k d m input w c.advance.new.cache.store search.OutOfMemory) (sym c.in_err-next.ensures.refused)
+    if_err c.from_residual-in_err-move_to.result search.OutOfMemory _ c.from_residual-in_err-move_to.ensures.1
+    (subst (λ k. IsCallRefused k d m input w c.advance.new.cache.store search.OutOfMemory) (sym c.in_err-move_to.ensures.refused)
     (refused_unheld d m input w c.in_ok-from.from c.args.cache.now c.resume.new.cache c.search_start.new.self c.advance.new.cache
     c.span_offset-place.ensures.inside (skips_or_not c.skips-skips.result c.skips-skips.ensures.yes c.skips-skips.ensures.no) c.requires.walk.reported r c.in_ok-from.ensures.effect c.in_ok-from.ensures.answer begins arrival advanced arrives c.in-Some.id arrived))
 
-pub returns-in_err-next-clause-effect : goal.returns-in_err-next-clause-effect
-returns-in_err-next-clause-effect c =
+pub returns-in_err-move_to-clause-effect : goal.returns-in_err-move_to-clause-effect
+returns-in_err-move_to-clause-effect c =
     let d : Direction = way_of c.args.way in
     let m : Machine = c.args.self.now in
     let input : Input = c.args.input.now in
@@ -313,8 +313,8 @@ returns-in_err-next-clause-effect c =
     let arrives : IsArrival d m c.advance.new.cache.store.table input w.units arrival.id arrival.units =
     subst (λ n. IsArrival d m c.advance.new.cache.store.table input n arrival.id arrival.units) c.units-2.ensures c.in_ok-arrival.ensures.arrives in
     let arrived : Arrives d m c.advance.new.cache.store.table input w.units c.in-Some.id arrival.units = subst (λ (o : Option ℕ). IsArrival d m c.advance.new.cache.store.table input w.units o arrival.units) c.in-Some.«is» arrives in
-    at_err c.from_residual-in_err-next.result search.OutOfMemory (λ (x : Result (Unit {0}) SearchError). IsCallEffect (keeping_of c.args.held.now) d m input w w c.args.cache.now c.advance.new.cache x) c.from_residual-in_err-next.ensures.1
-    (subst (λ k. IsCallEffect {T = Unit {0}} k d m input w w c.args.cache.now c.advance.new.cache (Err search.OutOfMemory)) (sym c.in_err-next.ensures.refused)
+    at_err c.from_residual-in_err-move_to.result search.OutOfMemory (λ (x : Result (Unit {0}) SearchError). IsCallEffect (keeping_of c.args.held.now) d m input w w c.args.cache.now c.advance.new.cache x) c.from_residual-in_err-move_to.ensures.1
+    (subst (λ k. IsCallEffect {T = Unit {0}} k d m input w w c.args.cache.now c.advance.new.cache (Err search.OutOfMemory)) (sym c.in_err-move_to.ensures.refused)
     (effect_unheld d m input w c.in_ok-from.from c.args.cache.now c.resume.new.cache c.search_start.new.self c.advance.new.cache
     c.span_offset-place.ensures.inside (skips_or_not c.skips-skips.result c.skips-skips.ensures.yes c.skips-skips.ensures.no) c.requires.walk.reported r c.in_ok-from.ensures.effect c.in_ok-from.ensures.answer begins arrival advanced arrives c.in-Some.id arrived w))
 
@@ -393,8 +393,8 @@ pub returns-clause-held : goal.returns-clause-held
 returns-clause-held c =
     let s = c.stand.ensures in
     record {
-      holds = subst (λ (x : Stage). IsHeldAt c.end_search-2.new.self.store.table x c.in_ok-next.next) (sym s.at.1)
-          (subst (λ (t : Rows). Holds t c.in_ok-next.next s.at.0) (sym c.end_search-2.ensures.table)
-          (c.in_ok-next.ensures.holds s.at.0 (subst (λ (t : Rows). Names t c.in-Some.id s.at.0) c.end_search-2.ensures.table s.at.2)));
-      keeping = c.in_ok-next.ensures.keeping;
+      holds = subst (λ (x : Stage). IsHeldAt c.end_search-2.new.self.store.table x c.move_to.new.self) (sym s.at.1)
+          (subst (λ (t : Rows). Holds t c.move_to.new.self s.at.0) (sym c.end_search-2.ensures.table)
+          (c.in_ok-move_to.ensures.holds s.at.0 (subst (λ (t : Rows). Names t c.in-Some.id s.at.0) c.end_search-2.ensures.table s.at.2)));
+      keeping = c.in_ok-move_to.ensures.keeping;
     }
