@@ -1,0 +1,59 @@
+//! Tells which rules match each line of standard input, and how many lines each rule matches:
+//!
+//!     example_rules RULES < RECORDS
+//!
+//! RULES is a file with a pattern on each line; lines that begin with `#` are comments. A rule is known by the number of
+//! its line. One that is no pattern is shown with a caret below its place, and left out. All rules are searched at once:
+//! a record costs one pass, however many rules there are, in memory that is bounded beforehand.
+//!
+//! It is proved that the rules named for a record are exactly those that match it: a rule matches if some path of its
+//! pattern through the record ends in a match (`RuleMatcher::rules_of`).
+#![tactic(auto)]
+
+mod book;
+mod rules;
+
+use crate::book::{Book, read_rules};
+use anyhow::{Result, bail};
+use regex_automata::util::search::PatternSet;
+use std::alloc::Global;
+use std::fmt::Write;
+use std::io::Read;
+use std::{env, fs};
+
+/// What is printed of a record.
+fn push_record(book: &Book, found: &PatternSet, record: &str, shown: &mut String) -> Result<()> {
+    for rule in found.iter() {
+        write!(shown, "{} ", book.line(rule.as_usize()))?;
+    }
+    writeln!(shown, "| {record}")?;
+    Ok(())
+}
+
+fn push_records(alloc: Global, book: &mut Book, records: &str, shown: &mut String) -> Result<()> {
+    for record in records.lines() {
+        let found = book.rules_of(alloc, record.as_bytes())?;
+        push_record(book, &found, record, shown)?;
+    }
+    Ok(())
+}
+
+fn run(alloc: Global, rules: &str, records: &str) -> Result<String> {
+    let mut shown = String::new(alloc);
+    let mut book = read_rules(alloc, rules, &mut shown)?;
+    push_records(alloc, &mut book, records, &mut shown)?;
+    book.push_counts(&mut shown)?;
+    Ok(shown)
+}
+
+fn main(rt: HostRuntime) -> Result<()> {
+    let Some(path) = env::args(&rt)?.nth(1) else {
+        bail!("usage: example_rules RULES < RECORDS");
+    };
+    let rules = fs::read_to_string(&rt, path)?;
+    let mut records = String::new(rt.alloc());
+    rt.reader().read_to_string(&mut records)?;
+    let shown = run(rt.alloc(), rules.as_str(), records.as_str())?;
+    print!(rt; "{shown}")?;
+    Ok(())
+}
