@@ -1,11 +1,11 @@
 -- What the calls for a cache do, each seen by the cache before and after it and by the status that it returns.
-use Rattle.std.specs.Prelude.{ℕ, ◌≡◌, ◌==◌, Bool, true, false, not, List, length, replicate, slice_index, ◌<◌}
+use Rattle.std.specs.Prelude.{ℕ, ◌≡◌, ◌==◌, Bool, true, false, List}
 use Rattle.std.specs.Prelude.{Option, Some, None, Result, Ok, Err, IfErr, IfOk, IsSomeAnd, if◌then◌else◌}
 use Rattle.automata_config.specs.declared.error.SearchError.{SearchError}
 use Rattle.automata_hybrid.specs.Searches.Contracts.{IsSearchEffect}
 use Rattle.automata_hybrid.specs.Walks.Contracts.{IsWhichEffect}
 use Rattle.regex_automata.specs.Promises.{Backward, Forward, HalfMatch, Input, IsHalf, IsSpanEffect, IsSpanOf}
-use Rattle.regex_automata.specs.Promises.{IsTruthEffect, IsTruthOf, IsWhich, Match, members}
+use Rattle.regex_automata.specs.Promises.{IsTruthEffect, IsTruthOf, IsWhich, Match}
 use Rattle.regex_automata.specs.Spans.Effects.{IsNextEffect}
 use Rattle.regex_automata.specs.Spans.Iteration.{IsNextMatch, IsNextRefusal}
 use Rattle.regex_automata.specs.Tokens.{GivesToken, IsTokenEffect}
