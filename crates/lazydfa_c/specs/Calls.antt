@@ -1,20 +1,25 @@
 -- What the calls for a cache do, each seen by the cache before and after it and by the status that it returns.
-use Rattle.std.specs.Prelude.{ℕ, ◌≡◌, ◌==◌, Bool, true, false, not, List, length, replicate, slice_index, ◌<◌}
+use Rattle.std.specs.Prelude.{ℕ, ◌≡◌, ◌==◌, Bool, true, false, List}
 use Rattle.std.specs.Prelude.{Option, Some, None, Result, Ok, Err, IfErr, IfOk, IsSomeAnd, if◌then◌else◌}
 use Rattle.automata_config.specs.declared.error.SearchError.{SearchError}
 use Rattle.automata_hybrid.specs.Searches.Contracts.{IsSearchEffect}
 use Rattle.automata_hybrid.specs.Walks.Contracts.{IsWhichEffect}
 use Rattle.regex_automata.specs.Promises.{Backward, Forward, HalfMatch, Input, IsHalf, IsSpanEffect, IsSpanOf}
-use Rattle.regex_automata.specs.Promises.{IsTruthEffect, IsTruthOf, IsWhich, Match, members}
+use Rattle.regex_automata.specs.Promises.{IsTruthEffect, IsTruthOf, IsWhich, Match}
 use Rattle.regex_automata.specs.Spans.Effects.{IsNextEffect}
 use Rattle.regex_automata.specs.Spans.Iteration.{IsNextMatch, IsNextRefusal}
+use Rattle.regex_automata.specs.Tokens.{GivesToken, IsTokenEffect}
+use Rattle.regex_automata.specs.Tokens.{match_of as token_match}
 use Rattle.regex_automata.specs.declared.hybrid.regex.Regex.{Regex}
+use Rattle.regex_automata.specs.declared.tokens.error.TokenError.{TokenError}
+use Rattle.regex_automata.specs.declared.tokens.token.Token.{Token}
 use Rattle.lazydfa_c.specs.Requests.{half_of, input_of, match_of}
-use Rattle.lazydfa_c.specs.Statuses.{plain, search_status}
+use Rattle.lazydfa_c.specs.Statuses.{plain, search_status, token_status}
 use Rattle.lazydfa_c.specs.declared.code.Code.TheVariants as code
 use Rattle.lazydfa_c.specs.declared.handle.Handle.{Handle}
 use Rattle.lazydfa_c.specs.declared.input.Found.{Found}
 use Rattle.lazydfa_c.specs.declared.input.FoundHalf.{FoundHalf}
+use Rattle.lazydfa_c.specs.declared.input.Request.{Request}
 use Rattle.lazydfa_c.specs.declared.iterate.Iteration.{Iteration}
 use Rattle.lazydfa_c.specs.declared.object.Object.{Object}
 use Rattle.lazydfa_c.specs.declared.object.Object.TheVariants.{Builder, Regex as RegexObject, Searcher as CacheObject}
@@ -125,6 +130,36 @@ Iterates haystack found old new s t status =
     (old.ended ≡ 0 → OfInput (GoesOn found old new) (input_of haystack old.left) s t status)
     × ((old.ended ≡ 0 → ⊥) → (t ≡ s) × (new ≡ old) × (status ≡ plain code.Nothing))
     × ((old.ended ≡ 0) → input_of haystack old.left ≡ None → new ≡ old)
+
+-- the next token, or why there is none, is told
+abbrev pub IsTokenTold : (written : Match) → Option (Result Token TokenError) → Status → Type 0
+IsTokenTold written (Some (Ok t)) status = (written ≡ token_match t) × (status ≡ plain code.Done)
+IsTokenTold written None status = status ≡ plain code.Nothing
+IsTokenTold written (Some (Err e)) status = status ≡ token_status e
+
+-- where the next token begins, and whether an error was the last item
+abbrev pub offset_after : ℕ → Option (Result Token TokenError) → ℕ
+offset_after offset (Some (Ok t)) = t.span.end
+offset_after offset None = offset
+offset_after offset (Some (Err e)) = offset
+
+abbrev pub has_failed : Option (Result Token TokenError) → Bool
+has_failed (Some (Ok t)) = false
+has_failed None = false
+has_failed (Some (Err e)) = true
+
+-- `lazydfa_token`: the next item of `Regex::tokens`
+pub record TakesToken (found : Found) (old new : Request) (input : Input) (s t : Searcher) (status : Status) : Type 0 where
+  pub item : Option (Result Token TokenError)
+  pub told : IsTokenTold (match_of found) item status
+  pub given :
+      GivesToken (regex_of s).forward t.cache.forward.store input.haystack input.end item
+      input.start (offset_after input.start item) false (has_failed item)
+  pub effect :
+      IsTokenEffect (regex_of s).forward input.haystack input.end input.start s.cache.forward t.cache.forward item
+  pub reverse : t.cache.reverse ≡ s.cache.reverse
+  pub same : t.shared ≡ s.shared
+  pub left : new ≡ record old { start = offset_after old.start item }
 
 -- `lazydfa_which`: the set that is joined with the patterns that match
 pub record Joins (input : Input) (s t : Searcher) (status : Status) : Type 0 where

@@ -1,5 +1,5 @@
 -- What C asks for, and what it is told.
-use Rattle.std.specs.Prelude.{ℕ, zero, suc, ◌+◌, ◌&&◌, ◌==◌, not, Bool, true, false, List, length, nat_le}
+use Rattle.std.specs.Prelude.{ℕ, zero, suc, ◌+◌, ◌&&◌, ◌==◌, not, Bool, List, length, nat_le}
 use Rattle.std.specs.Prelude.{Option, Some, None, if◌then◌else◌}
 use Rattle.automata_base.specs.declared.util.search.Anchored.{Anchored}
 use Rattle.regex_automata.specs.Promises.{HalfMatch, Input, Match, No, Pattern, Yes}

@@ -1,7 +1,8 @@
 //! Tokens, one after another.
 ghost use Rattle.std.specs.Prelude.{◌≡◌};
 ghost use Rattle.regex_automata.specs.Tokens.{match_of as token_match};
-ghost use Rattle.lazydfa_c.specs.Requests.{match_of};
+ghost use Rattle.lazydfa_c.specs.Calls.{OfHandle, OfInput, OfObject, TakesToken};
+ghost use Rattle.lazydfa_c.specs.Requests.{input_of, match_of};
 
 use crate::code::Code;
 use crate::handle::Handle;
@@ -27,7 +28,9 @@ impl Found {
 
 impl Searcher {
     /// The token at the start of a span, which then starts where the token ends.
-    fn token(&mut self, input: Input<'_>, left: &mut Request, found: &mut Found) -> Status {
+    fn token(&mut self, input: Input<'_>, left: &mut Request, found: &mut Found) -> Status
+        ensures { TakesToken found.new left.old left.new input.entry self.old self.new result }
+    {
         let shared = &self.shared;
         match shared.regex.tokens(&mut self.cache, input).next() {
             Some(Ok(token)) => {
@@ -40,7 +43,10 @@ impl Searcher {
         }
     }
 
-    fn next_token(&mut self, haystack: &[u8], left: &mut Request, found: &mut Found) -> Status {
+    fn next_token(&mut self, haystack: &[u8], left: &mut Request, found: &mut Found) -> Status
+        ensures { OfInput (TakesToken found.new left.old left.new) (input_of haystack.now left.old)
+            self.old self.new result }
+    {
         match left.input(haystack) {
             Some(input) => self.token(input, left, found),
             None => Status::from(Code::Argument),
@@ -67,7 +73,10 @@ impl Searcher {
     }
 }
 
-fn token_in(object: &mut Object, haystack: &[u8], left: &mut Request, found: &mut Found) -> Status {
+fn token_in(object: &mut Object, haystack: &[u8], left: &mut Request, found: &mut Found) -> Status
+    ensures { OfObject (OfInput (TakesToken found.new left.old left.new) (input_of haystack.now left.old))
+        object.old object.new result }
+{
     match object {
         Object::Searcher(searcher) => searcher.next_token(haystack, left, found),
         Object::Builder(_) | Object::Regex(_) => Status::from(Code::Kind),
@@ -82,7 +91,10 @@ pub extern "C" fn lazydfa_raw_token(
     haystack: &[u8],
     left: &mut Request,
     found: &mut Found,
-) -> Status {
+) -> Status
+    ensures { OfHandle (OfInput (TakesToken found.new left.old left.new) (input_of haystack.now left.old))
+        cache.old cache.new result }
+{
     let Some(mut object) = cache.take(alloc) else {
         return Status::from(Code::Closed);
     };

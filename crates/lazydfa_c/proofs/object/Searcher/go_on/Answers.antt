@@ -1,9 +1,9 @@
-use Rattle.std.proofs.Common.{rules, ◌≡◌, ℕ, Option, subst}
+use Rattle.std.proofs.Common.{rules, ℕ, Option, subst}
 use Rattle.std.specs.Prelude.{Err}
 use Rattle.regex_automata.specs.Spans.Effects.{IsNextEffect}
 use Rattle.regex_automata.specs.Spans.Iteration.{IsNextRefusal}
 use Rattle.regex_automata.specs.declared.hybrid.regex.Regex.{Regex}
-use Rattle.lazydfa_c.specs.Calls.{last_of, regex_of}
+use Rattle.lazydfa_c.specs.Calls.{regex_of}
 use Rattle.lazydfa_c.proofs.object.Searcher.go_on.Goals as goal
 
 pub returns-in-Err : goal.returns-in-Err
