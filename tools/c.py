@@ -8,15 +8,19 @@ program `lazydfa` by a C program (script.c), which has to print what `lazydfa` d
 compiler; and the program of docs/C.md, which has to print what is said there. Each C program is compiled twice, the
 second time under the address and undefined behaviour sanitizers, if the compiler has them.
 
-The last line counts these too, beside what the given line counts. It needs Python 3, the kit's rt, make, ar and cc.
+The last line counts these too, beside what the given line counts. It needs Python 3, the kit's rt, make, ar and cc. The
+library stands on the crates as `rt ci` proved and left them, if it did so since they were last changed, and else as
+`rt lib` makes them, which first proves what was not proved yet.
 """
 import os
 import re
+import shutil
 import subprocess
 import sys
 import tempfile
 
 TOP = os.path.dirname(os.path.dirname(os.path.abspath(__file__)))
+KIT = os.path.dirname(os.path.dirname(os.path.realpath(shutil.which("rt") or sys.exit("there is no rt"))))
 C = f"{TOP}/bindings/c"
 STRICT = ["-std=c99", "-Wall", "-Wextra", "-pedantic", "-Werror", "-O1", "-g"]
 SANITIZED = ["-fsanitize=address,undefined", "-fno-sanitize-recover=all"]
@@ -35,6 +39,47 @@ def run(words, stdin="", seconds=600):
 def text(path):
     with open(f"{TOP}/{path}", encoding="utf-8") as it:
         return it.read()
+
+
+def uses():
+    """Returns what the crate of the library uses, as crates.txt says: crates of the repository, and others."""
+    line = next(it for it in text("crates.txt").splitlines() if it.startswith("lazydfa_c "))
+    names = line.partition(":")[2].split()
+    own = [it for it in names if os.path.isdir(f"{TOP}/crates/{it}")]
+    return own, [it for it in names if it not in own]
+
+
+def rlib(name):
+    return f"{TOP}/crates/{name}/out/rlib/{name}.rlib"
+
+
+def is_left_by_ci(name):
+    """Whether rt ci made the rlib, which has no stamp then, and since the crate was last changed."""
+    if not os.path.isdir(rlib(name)) or os.path.exists(f"{os.path.dirname(rlib(name))}/stamp"):
+        return False
+    parts = [f"{TOP}/crates/{name}/{it}" for it in ("src", "specs", "proofs")]
+    files = [f"{at}/{it}" for part in parts for at, _, inside in os.walk(part) for it in inside]
+    return all(os.path.getmtime(it) <= os.path.getmtime(rlib(name)) for it in files)
+
+
+def archive(room):
+    """Proves and builds the crate over what rt ci left, and returns the words that have make take it, if it could."""
+    own, others = uses()
+    if not all(is_left_by_ci(it) for it in own):
+        return []
+    made = f"{room}/liblazydfa_c.a"
+    words = ["--crate-name", "lazydfa_c", "src/lib.rt", "--crate-type", "staticlib", "-L", f"dependency={KIT}/rlibs"]
+    for name in ["std", *others]:
+        words += ["--extern", f"{name}={KIT}/rlibs/{name}.rlib"]
+    for name in own:
+        words += ["--extern", f"{name}={rlib(name)}", "-L", f"dependency={os.path.dirname(rlib(name))}"]
+    words += ["--antt-project", f"{KIT}/rattle/logic/antt-project.json", "--logic-built", f"{KIT}/logic_built"]
+    words += ["--links", "lazydfa_c=", "--toolchain", f"{KIT}/toolchain", "--backend", "llvm", "-o", made]
+    how = {"cwd": f"{TOP}/crates/lazydfa_c", "stdin": subprocess.DEVNULL, "capture_output": True, "errors": "replace"}
+    ran = subprocess.run([f"{KIT}/bin/rattle", "build", *words], **how)
+    proved = ran.returncode == 0 and re.search(r"^logic=proved ", ran.stdout, re.M)
+    print(proved[0] if proved else ran.stdout + ran.stderr, flush=True)
+    return [f"ARCHIVE={made}"] if proved else []
 
 
 def program():
@@ -119,7 +164,7 @@ def main(words):
     passed, failed = (int(counted[1]), int(counted[2])) if counted else (0, 1)
     with tempfile.TemporaryDirectory(prefix="c-") as room:
         tests = Tests(room)
-        status, out, err = run(["make", "-C", C, "install", f"PREFIX={room}", "DESTDIR="], seconds=7200)
+        status, out, err = run(["make", "-C", C, "install", f"PREFIX={room}", "DESTDIR=", *archive(room)], seconds=7200)
         tests.count("the library for C", f"it was not built\n{out}{err}" if status else "")
         if not status:
             tests.try_all("", [])
