@@ -1,7 +1,8 @@
 //! What each call returns.
 ghost use Rattle.std.specs.Prelude.{◌≡◌, ◌↔◌, Err, IsTrue};
 ghost use Rattle.lazydfa_c.specs.Codes.{CodesDiffer, number_of};
-ghost use Rattle.lazydfa_c.specs.Statuses.{plain, search_status, status_at, token_status};
+ghost use Rattle.lazydfa_c.specs.Statuses.{build_status, builder_code, nfa_code, plain, regex_status};
+ghost use Rattle.lazydfa_c.specs.Statuses.{search_status, status_at, token_status};
 ghost use Rattle.lazydfa_c.specs.declared.code.Code.TheVariants as code;
 
 use crate::code::Code;
@@ -81,6 +82,8 @@ impl<T: Drop> From<AllocFailed<T>> for Status {
 }
 
 impl From<NfaError> for Code {
+    ghost from_gives = { λ e c. c ≡ nfa_code e };
+
     fn from(error: NfaError) -> Code {
         match error {
             NfaError::StateRange => Code::StateRange,
@@ -94,6 +97,8 @@ impl From<NfaError> for Code {
 }
 
 impl From<NfaBuildError> for Status {
+    ghost from_gives = { λ e s. s ≡ plain (builder_code e) };
+
     fn from(error: NfaBuildError) -> Status {
         let code = match error {
             NfaBuildError::NoPattern => Code::NoPattern,
@@ -109,6 +114,8 @@ impl From<NfaBuildError> for Status {
 }
 
 impl From<BuildError> for Status {
+    ghost from_gives = { λ e s. s ≡ build_status e };
+
     fn from(error: BuildError) -> Status {
         match error {
             BuildError::Unsupported => Status::from(Code::Unsupported),
@@ -128,6 +135,8 @@ impl From<BuildError> for Status {
 }
 
 impl From<RegexBuildError> for Status {
+    ghost from_gives = { λ e s. s ≡ regex_status e };
+
     fn from(error: RegexBuildError) -> Status {
         match error {
             RegexBuildError::NotLazy => Status::from(Code::NotLazy),
