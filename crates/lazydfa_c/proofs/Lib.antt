@@ -1,3 +1,4 @@
 mod Codes
+mod Errors
 mod Slots
 mod Values

@@ -1,5 +1,6 @@
 pub mod Calls
 pub mod Codes
+pub mod Errors
 pub mod Held
 pub mod Requests
 pub mod Statuses

@@ -45,6 +45,9 @@ builder_code builder.TooLarge = code.TooLarge
 builder_code builder.OutOfMemory = code.Memory
 builder_code (builder.NFA e) = nfa_code e
 
+abbrev pub builder_status : BuilderError → Status
+builder_status e = plain (builder_code e)
+
 -- why a DFA was not built; of a capacity that is too small, the least one that would do
 abbrev pub build_status : BuildError → Status
 build_status dfa.Unsupported = plain code.Unsupported

@@ -1,7 +1,8 @@
 //! What each call returns.
 ghost use Rattle.std.specs.Prelude.{◌≡◌, ◌↔◌, Err, IsTrue};
 ghost use Rattle.lazydfa_c.specs.Codes.{CodesDiffer, number_of};
-ghost use Rattle.lazydfa_c.specs.Statuses.{build_status, builder_code, nfa_code, plain, regex_status};
+ghost use Rattle.lazydfa_c.specs.Errors.{TellErrors, told_build, told_builder, told_regex, told_search, told_token};
+ghost use Rattle.lazydfa_c.specs.Statuses.{build_status, builder_status, nfa_code, plain, regex_status};
 ghost use Rattle.lazydfa_c.specs.Statuses.{search_status, status_at, token_status};
 ghost use Rattle.lazydfa_c.specs.declared.code.Code.TheVariants as code;
 
@@ -26,6 +27,15 @@ pub struct Status {
 /// States a fact for proofs, and does nothing: no two codes have one number.
 pub fn codes_differ()
     ensures { CodesDiffer }
+{}
+
+/// States a fact for proofs, and does nothing: the status of an error says that the call failed, and which error it is.
+pub fn errors_differ()
+    ensures builder { TellErrors builder_status told_builder }
+    ensures build { TellErrors build_status told_build }
+    ensures regex { TellErrors regex_status told_regex }
+    ensures search { TellErrors search_status told_search }
+    ensures token { TellErrors token_status told_token }
 {}
 
 impl Status {
@@ -97,7 +107,7 @@ impl From<NfaError> for Code {
 }
 
 impl From<NfaBuildError> for Status {
-    ghost from_gives = { λ e s. s ≡ plain (builder_code e) };
+    ghost from_gives = { λ e s. s ≡ builder_status e };
 
     fn from(error: NfaBuildError) -> Status {
         let code = match error {
