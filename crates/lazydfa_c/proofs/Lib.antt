@@ -2,3 +2,4 @@ mod Codes
 mod Errors
 mod Slots
 mod Values
+mod Written
