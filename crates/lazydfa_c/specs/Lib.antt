@@ -1,3 +1,4 @@
+pub mod Builds
 pub mod Caches
 pub mod Calls
 pub mod Codes
