@@ -1,5 +1,5 @@
 -- What the calls make that open a handle on a regex or on a cache, and why they fail.
-use Rattle.std.specs.Prelude.{◌≡◌, Bool, false, length, replicate, Some, IsSomeAnd, Result, Ok, Err}
+use Rattle.std.specs.Prelude.{◌≡◌, Bool, false, true, length, replicate, Some, IsSomeAnd, Result, Ok, Err}
 use Rattle.automata_base.specs.Nfas.Mirrors.{IsReversed}
 use Rattle.automata_base.specs.Nfas.Nodes.{Automaton}
 use Rattle.automata_config.specs.Options.{Options}
@@ -9,7 +9,8 @@ use Rattle.regex_automata.specs.Regexes.Caches.{AreFresh}
 use Rattle.regex_automata.specs.declared.hybrid.regex.Regex.{Regex}
 use Rattle.regex_automata.specs.declared.hybrid.regex.build.RegexBuildError.{RegexBuildError}
 use Rattle.lazydfa_c.specs.Calls.{regex_of}
-use Rattle.lazydfa_c.specs.Statuses.{build_status, plain, regex_status}
+use Rattle.lazydfa_c.specs.Handles.{is_open}
+use Rattle.lazydfa_c.specs.Statuses.{build_status, done_status, plain, regex_status}
 use Rattle.lazydfa_c.specs.declared.code.Code.TheVariants as code
 use Rattle.lazydfa_c.specs.declared.handle.Handle.{Handle}
 use Rattle.lazydfa_c.specs.declared.object.Object.{Object}
@@ -65,3 +66,32 @@ pub record IsFreshOf (regex : Regex) (s : Searcher) : Type 0 where
   pub regex_is : regex_of s ≡ regex
   pub cache : AreFresh regex s.cache
   pub patterns : s.patterns ≡ replicate (length regex.forward.nfa.start_pattern) false
+
+-- the object is a fresh cache of this regex
+abbrev pub IsCacheObject : Regex → Object → Type 0
+IsCacheObject regex (CacheObject s) = IsFreshOf regex s
+IsCacheObject regex (Builder b) = ⊥
+IsCacheObject regex (RegexObject r) = ⊥
+
+-- the handle is open on a fresh cache of this regex
+pub record IsCacheIn (regex : Regex) (handle : Handle) : Type 0 where
+  pub opened : handle.live ≡ 1
+  pub object : IsSomeAnd handle.slot.value (IsCacheObject regex)
+
+-- a handle is opened on a cache of the regex that was shared; without one, or without memory, it stays
+abbrev pub OpensCache : (old new : Handle) → Result Shared Status → Result (Unit {0}) Status → Type 0
+OpensCache old new (Ok shared) (Ok u) = IsCacheIn shared.regex.value new
+OpensCache old new (Ok shared) (Err status) = (new ≡ old) × (status ≡ plain code.Memory)
+OpensCache old new (Err e) done = (new ≡ old) × (done ≡ Err e)
+
+-- a cache is asked for: over a handle that is open nothing is done
+pub record CreatesCache (old new : Handle) (from left : Handle) (done : Result (Unit {0}) Status) : Type 0 where
+  pub taken : is_open old.live ≡ true → (new ≡ old) × (left ≡ from) × (done ≡ Err (plain code.Open))
+  pub made :
+      is_open old.live ≡ false
+      → (shared : Result Shared Status) × SharesRegex from left shared × OpensCache old new shared done
+
+-- `lazydfa_cache_new`
+abbrev pub NewsCache : (old new : Handle) → (from left : Handle) → Status → Type 0
+NewsCache old new from left status =
+    (done : Result (Unit {0}) Status) × CreatesCache old new from left done × (status ≡ done_status done)

@@ -1,5 +1,5 @@
 -- The status of each error.
-use Rattle.std.specs.Prelude.{ℕ}
+use Rattle.std.specs.Prelude.{ℕ, Result, Ok, Err}
 use Rattle.automata_base.specs.declared.nfa.thompson.NfaError.{NfaError}
 use Rattle.automata_base.specs.declared.nfa.thompson.NfaError.TheVariants as nfa
 use Rattle.automata_base.specs.declared.nfa.thompson.building.BuildError.{BuildError as BuilderError}
@@ -25,6 +25,11 @@ status_at c offset = record { code = number_of c; byte = 0; offset = offset }
 -- a code alone
 abbrev pub plain : Code → Status
 plain c = status_at c 0
+
+-- whether a call did what it was asked to, or why not
+abbrev pub done_status : Result (Unit {0}) Status → Status
+done_status (Ok u) = plain code.Done
+done_status (Err status) = status
 
 -- why states are no NFA
 abbrev pub nfa_code : NfaError → Code

@@ -1,12 +1,13 @@
 //! Regexes and caches.
-ghost use Rattle.std.specs.Prelude.{◌≡◌, IfErr, IfOk, OnErr, OnOk, true};
+ghost use Rattle.std.specs.Prelude.{◌≡◌, IfErr, IfOk, OnErr, OnOk, Some, true};
 ghost use Rattle.automata_base.specs.Nfas.Nodes.{Automaton};
 ghost use Rattle.automata_config.specs.Options.{overwritten, unset};
 ghost use Rattle.regex_automata.specs.Promises.{IsSoundPair};
 ghost use Rattle.lazydfa_c.specs.Builds.{IsFreshOf, IsPairOf, IsPairRefusal, IsRegexIn, IsRegexOf, IsRegexRefusal};
-ghost use Rattle.lazydfa_c.specs.Builds.{SharesRegex};
+ghost use Rattle.lazydfa_c.specs.Builds.{CreatesCache, NewsCache, SharesRegex};
 ghost use Rattle.lazydfa_c.specs.Statuses.{plain};
 ghost use Rattle.lazydfa_c.specs.declared.code.Code.TheVariants as code;
+ghost use Rattle.lazydfa_c.specs.declared.object.Object.TheVariants.{Searcher as CacheObject};
 
 use crate::builder::state_id;
 use crate::code::Code;
@@ -182,13 +183,27 @@ fn searcher_of(alloc: Global, shared: Shared) -> Result<Searcher, Status>
     })
 }
 
-fn create_cache(alloc: Global, cache: &mut Handle, regex: &mut Handle) -> Result<(), Status> {
+/// Opens a handle on a cache.
+fn open_cache(alloc: Global, handle: &mut Handle, searcher: Searcher) -> Result<(), Status>
+    ensures live { OnOk result (handle.new.live ≡ 1) }
+    ensures opened { OnOk result (handle.new.slot.value ≡ Some (CacheObject searcher)) }
+    ensures same { OnErr result (handle.new ≡ handle.old) }
+    ensures err { IfErr result (λ s. s ≡ plain code.Memory) }
+{
+    let object = Box::new(alloc, Object::Searcher(searcher))?;
+    handle.put(object);
+    Ok(())
+}
+
+fn create_cache(alloc: Global, cache: &mut Handle, regex: &mut Handle) -> Result<(), Status>
+    ensures { CreatesCache cache.old cache.new regex.old regex.new result }
+{
     if cache.is_open() {
         return Err(Status::from(Code::Open));
     }
     let shared = shared_in(alloc, regex)?;
-    let object = Box::new(alloc, Object::Searcher(searcher_of(alloc, shared)?))?;
-    cache.put(object);
+    let searcher = searcher_of(alloc, shared)?;
+    open_cache(alloc, cache, searcher)?;
     Ok(())
 }
 
@@ -198,6 +213,8 @@ pub extern "C" fn lazydfa_raw_cache_new(
     alloc: Global,
     cache: &mut Handle,
     regex: &mut Handle,
-) -> Status {
+) -> Status
+    ensures { NewsCache cache.old cache.new regex.old regex.new result }
+{
     Status::of(create_cache(alloc, cache, regex))
 }

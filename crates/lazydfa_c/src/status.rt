@@ -1,9 +1,9 @@
 //! What each call returns.
-ghost use Rattle.std.specs.Prelude.{◌≡◌, ◌↔◌, Err, IsTrue};
+ghost use Rattle.std.specs.Prelude.{◌≡◌, ◌↔◌, IsTrue};
 ghost use Rattle.lazydfa_c.specs.Codes.{CodesDiffer, number_of};
 ghost use Rattle.lazydfa_c.specs.Errors.{TellErrors, told_build, told_builder, told_regex, told_search, told_token};
-ghost use Rattle.lazydfa_c.specs.Statuses.{build_status, builder_status, nfa_code, plain, regex_status};
-ghost use Rattle.lazydfa_c.specs.Statuses.{search_status, status_at, token_status};
+ghost use Rattle.lazydfa_c.specs.Statuses.{build_status, builder_status, done_status, nfa_code, plain};
+ghost use Rattle.lazydfa_c.specs.Statuses.{regex_status, search_status, status_at, token_status};
 ghost use Rattle.lazydfa_c.specs.declared.code.Code.TheVariants as code;
 
 use crate::code::Code;
@@ -58,7 +58,7 @@ impl Status {
 
     /// The status of a call that returns nothing else.
     pub fn of(done: Result<(), Status>) -> Status
-        ensures err { (s : Status) → done ≡ Err s → result ≡ s }
+        ensures { result ≡ done_status done }
     {
         match done {
             Ok(()) => Status::from(Code::Done),
