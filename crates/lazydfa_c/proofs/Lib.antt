@@ -1,3 +1,5 @@
 mod Codes
+mod Errors
 mod Slots
 mod Values
+mod Written

@@ -161,11 +161,11 @@ pub record TakesToken (found : Found) (old new : Request) (input : Input) (s t :
   pub same : t.shared ≡ s.shared
   pub left : new ≡ record old { start = offset_after old.start item }
 
--- `lazydfa_which`: the set that is joined with the patterns that match
-pub record Joins (input : Input) (s t : Searcher) (status : Status) : Type 0 where
+-- this set is joined with the patterns that match
+pub record Joins (set : List Bool) (input : Input) (s t : Searcher) (status : Status) : Type 0 where
   pub result : Result (Unit {0}) SearchError
   pub told : IsDoneTold result status
-  pub returned : IsWhich (regex_of s).forward input s.patterns t.patterns result
-  pub effect : IsWhichEffect (regex_of s).forward input s.patterns s.cache.forward t.cache.forward result
+  pub returned : IsWhich (regex_of s).forward input set t.patterns result
+  pub effect : IsWhichEffect (regex_of s).forward input set s.cache.forward t.cache.forward result
   pub reverse : t.cache.reverse ≡ s.cache.reverse
   pub same : t.shared ≡ s.shared

@@ -1,5 +1,9 @@
+pub mod Builds
+pub mod Caches
 pub mod Calls
 pub mod Codes
+pub mod Errors
+pub mod Handles
 pub mod Held
 pub mod Requests
 pub mod Statuses

@@ -1,8 +1,16 @@
 -- The status of each error.
-use Rattle.std.specs.Prelude.{ℕ}
+use Rattle.std.specs.Prelude.{ℕ, Result, Ok, Err}
+use Rattle.automata_base.specs.declared.nfa.thompson.NfaError.{NfaError}
+use Rattle.automata_base.specs.declared.nfa.thompson.NfaError.TheVariants as nfa
+use Rattle.automata_base.specs.declared.nfa.thompson.building.BuildError.{BuildError as BuilderError}
+use Rattle.automata_base.specs.declared.nfa.thompson.building.BuildError.TheVariants as builder
 use Rattle.automata_base.specs.declared.util.search.MatchErrorKind.TheVariants.{GaveUp, Quit, UnsupportedAnchored}
+use Rattle.automata_config.specs.declared.error.BuildError.{BuildError}
+use Rattle.automata_config.specs.declared.error.BuildError.TheVariants as dfa
 use Rattle.automata_config.specs.declared.error.SearchError.{SearchError}
 use Rattle.automata_config.specs.declared.error.SearchError.TheVariants.{Match, NotAPair, OutOfMemory}
+use Rattle.regex_automata.specs.declared.hybrid.regex.build.RegexBuildError.{RegexBuildError}
+use Rattle.regex_automata.specs.declared.hybrid.regex.build.RegexBuildError.TheVariants as regex
 use Rattle.regex_automata.specs.declared.tokens.error.TokenError.{TokenError}
 use Rattle.regex_automata.specs.declared.tokens.error.TokenError.TheVariants.{NoToken, Search}
 use Rattle.lazydfa_c.specs.Codes.{number_of}
@@ -17,6 +25,51 @@ status_at c offset = record { code = number_of c; byte = 0; offset = offset }
 -- a code alone
 abbrev pub plain : Code → Status
 plain c = status_at c 0
+
+-- whether a call did what it was asked to, or why not
+abbrev pub done_status : Result (Unit {0}) Status → Status
+done_status (Ok u) = plain code.Done
+done_status (Err status) = status
+
+-- why states are no NFA
+abbrev pub nfa_code : NfaError → Code
+nfa_code nfa.StateRange = code.StateRange
+nfa_code nfa.StartRange = code.StartRange
+nfa_code nfa.PatternRange = code.PatternRange
+nfa_code nfa.Ranges = code.Ranges
+nfa_code nfa.TooLarge = code.TooLarge
+nfa_code nfa.OutOfMemory = code.Memory
+
+-- why a builder of an NFA refused
+abbrev pub builder_code : BuilderError → Code
+builder_code builder.NoPattern = code.NoPattern
+builder_code builder.UnfinishedPattern = code.UnfinishedPattern
+builder_code builder.StateRange = code.PatchRange
+builder_code builder.SparsePatch = code.SparsePatch
+builder_code builder.TooLarge = code.TooLarge
+builder_code builder.OutOfMemory = code.Memory
+builder_code (builder.NFA e) = nfa_code e
+
+abbrev pub builder_status : BuilderError → Status
+builder_status e = plain (builder_code e)
+
+-- why a DFA was not built; of a capacity that is too small, the least one that would do
+abbrev pub build_status : BuildError → Status
+build_status dfa.Unsupported = plain code.Unsupported
+build_status (dfa.InsufficientCacheCapacity minimum given) = status_at code.Capacity minimum
+build_status (dfa.InsufficientStateIDCapacity attempted) = status_at code.StateIDs attempted
+build_status dfa.OutOfMemory = plain code.Memory
+build_status (dfa.PatternCounts forward reverse) = plain code.PatternCounts
+
+-- why a regex was not built
+abbrev pub regex_status : RegexBuildError → Status
+regex_status regex.NotLazy = plain code.NotLazy
+regex_status regex.LookCycle = plain code.LookCycle
+regex_status regex.NotUtf8 = plain code.NotUtf8
+regex_status regex.Starts = plain code.Starts
+regex_status regex.TooLarge = plain code.TooLarge
+regex_status regex.OutOfMemory = plain code.Memory
+regex_status (regex.Build e) = build_status e
 
 -- why a search failed
 abbrev pub search_status : SearchError → Status

@@ -1,6 +1,7 @@
 //! Handles: what C holds of an object on the heap.
 ghost use Rattle.std.specs.Prelude.{◌≡◌, ◌↔◌, IfSome, IsSome, None, Option, Some};
 ghost use Rattle.lazydfa_c.specs.Held.{held};
+ghost use Rattle.lazydfa_c.specs.Handles.{is_open};
 ghost use Rattle.lazydfa_c.specs.contracts.object.Object.{the_row as object_row};
 ghost use Rattle.lazydfa_c.specs.declared.object.Object.{Object};
 
@@ -80,7 +81,9 @@ impl Handle {
     }
 
     /// Whether it owns an object.
-    pub fn is_open(&self) -> bool {
+    pub fn is_open(&self) -> bool
+        ensures { result ≡ is_open self.now.live }
+    {
         self.live != 0
     }
 

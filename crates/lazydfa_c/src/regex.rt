@@ -1,6 +1,13 @@
 //! Regexes and caches.
-ghost use Rattle.std.specs.Prelude.{◌≡◌, IfOk, true};
+ghost use Rattle.std.specs.Prelude.{◌≡◌, IfErr, IfOk, OnErr, OnOk, Some, true};
+ghost use Rattle.automata_base.specs.Nfas.Nodes.{Automaton};
+ghost use Rattle.automata_config.specs.Options.{overwritten, unset};
 ghost use Rattle.regex_automata.specs.Promises.{IsSoundPair};
+ghost use Rattle.lazydfa_c.specs.Builds.{IsFreshOf, IsPairOf, IsPairRefusal, IsRegexIn, IsRegexOf, IsRegexRefusal};
+ghost use Rattle.lazydfa_c.specs.Builds.{CreatesCache, NewsCache, SharesRegex};
+ghost use Rattle.lazydfa_c.specs.Statuses.{plain};
+ghost use Rattle.lazydfa_c.specs.declared.code.Code.TheVariants as code;
+ghost use Rattle.lazydfa_c.specs.declared.object.Object.TheVariants.{Searcher as CacheObject};
 
 use crate::builder::state_id;
 use crate::code::Code;
@@ -42,14 +49,19 @@ fn nfa_in(alloc: Global, builder: &mut Handle, starts: StartStates) -> Result<NF
 }
 
 fn regex_of(nfa: NFA, config: Config) -> Result<Regex, Status>
-    ensures { IfOk result (λ regex. ∥ IsSoundPair regex ∥₁) }
+    ensures sound { IfOk result (λ regex. ∥ IsSoundPair regex ∥₁) }
+    ensures built { IfOk result (IsRegexOf (overwritten unset config) nfa) }
+    ensures refused { IfErr result (IsRegexRefusal (overwritten unset config) nfa) }
 {
     let mut builder = Regex::builder();
     builder.dfa(config);
     Ok(builder.build_from_nfa(nfa)?)
 }
 
-fn pair_of(forward: NFA, reverse: NFA, config: Config) -> Result<Regex, Status> {
+fn pair_of(forward: NFA, reverse: NFA, config: Config) -> Result<Regex, Status>
+    ensures built { IfOk result (IsPairOf (overwritten unset config) forward reverse) }
+    ensures refused { IfErr result (IsPairRefusal (overwritten unset config) forward reverse) }
+{
     let mut builder = Regex::builder();
     builder.dfa(config);
     Ok(builder.build_from_nfas(forward, reverse)?)
@@ -58,6 +70,9 @@ fn pair_of(forward: NFA, reverse: NFA, config: Config) -> Result<Regex, Status> 
 /// Shares a regex and opens a handle on it.
 fn open(alloc: Global, handle: &mut Handle, regex: Regex, is_sound: bool) -> Result<(), Status>
     requires { is_sound ≡ true → ∥ IsSoundPair regex ∥₁ }
+    ensures opened { OnOk result (IsRegexIn regex is_sound handle.new) }
+    ensures same { OnErr result (handle.new ≡ handle.old) }
+    ensures err { IfErr result (λ s. s ≡ plain code.Memory) }
 {
     let shared = Shared {
         regex: Rc::new(alloc, regex)?,
@@ -130,7 +145,10 @@ pub extern "C" fn lazydfa_raw_regex_build_pair(
     Status::of(build_pair(alloc, regex, (forward, reverse), starts, settings, quits))
 }
 
-fn share(shared: &Shared) -> Result<Shared, Status> {
+fn share(shared: &Shared) -> Result<Shared, Status>
+    ensures ok { IfOk result (λ s. s.regex.value ≡ shared.now.regex.value) }
+    ensures err { IfErr result (λ s. s ≡ plain code.Memory) }
+{
     let regex = shared.regex.clone()?;
     Ok(Shared {
         regex,
@@ -138,7 +156,9 @@ fn share(shared: &Shared) -> Result<Shared, Status> {
     })
 }
 
-fn shared_in(alloc: Global, regex: &mut Handle) -> Result<Shared, Status> {
+fn shared_in(alloc: Global, regex: &mut Handle) -> Result<Shared, Status>
+    ensures { SharesRegex regex.old regex.new result }
+{
     let Some(object) = regex.take(alloc) else {
         return Err(Status::from(Code::Closed));
     };
@@ -150,7 +170,10 @@ fn shared_in(alloc: Global, regex: &mut Handle) -> Result<Shared, Status> {
     shared
 }
 
-fn searcher_of(alloc: Global, shared: Shared) -> Result<Searcher, Status> {
+fn searcher_of(alloc: Global, shared: Shared) -> Result<Searcher, Status>
+    ensures ok { IfOk result (IsFreshOf shared.regex.value) }
+    ensures err { IfErr result (λ s. s ≡ plain code.Memory) }
+{
     let cache = shared.regex.create_cache()?;
     let patterns = PatternSet::new(alloc, shared.regex.pattern_len())?;
     Ok(Searcher {
@@ -160,13 +183,27 @@ fn searcher_of(alloc: Global, shared: Shared) -> Result<Searcher, Status> {
     })
 }
 
-fn create_cache(alloc: Global, cache: &mut Handle, regex: &mut Handle) -> Result<(), Status> {
+/// Opens a handle on a cache.
+fn open_cache(alloc: Global, handle: &mut Handle, searcher: Searcher) -> Result<(), Status>
+    ensures live { OnOk result (handle.new.live ≡ 1) }
+    ensures opened { OnOk result (handle.new.slot.value ≡ Some (CacheObject searcher)) }
+    ensures same { OnErr result (handle.new ≡ handle.old) }
+    ensures err { IfErr result (λ s. s ≡ plain code.Memory) }
+{
+    let object = Box::new(alloc, Object::Searcher(searcher))?;
+    handle.put(object);
+    Ok(())
+}
+
+fn create_cache(alloc: Global, cache: &mut Handle, regex: &mut Handle) -> Result<(), Status>
+    ensures { CreatesCache cache.old cache.new regex.old regex.new result }
+{
     if cache.is_open() {
         return Err(Status::from(Code::Open));
     }
     let shared = shared_in(alloc, regex)?;
-    let object = Box::new(alloc, Object::Searcher(searcher_of(alloc, shared)?))?;
-    cache.put(object);
+    let searcher = searcher_of(alloc, shared)?;
+    open_cache(alloc, cache, searcher)?;
     Ok(())
 }
 
@@ -176,6 +213,8 @@ pub extern "C" fn lazydfa_raw_cache_new(
     alloc: Global,
     cache: &mut Handle,
     regex: &mut Handle,
-) -> Status {
+) -> Status
+    ensures { NewsCache cache.old cache.new regex.old regex.new result }
+{
     Status::of(create_cache(alloc, cache, regex))
 }

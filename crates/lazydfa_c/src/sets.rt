@@ -1,5 +1,11 @@
 //! Overlapping matches, and sets of patterns.
-ghost use Rattle.lazydfa_c.specs.Calls.{Joins};
+ghost use Rattle.std.specs.Prelude.{◌≡◌, false, length, replicate, IfErr, OnErr, OnOk};
+ghost use Rattle.automata_base.specs.Haystacks.PatternSet.{members};
+ghost use Rattle.lazydfa_c.specs.Calls.{Joins, OfHandle, OfInput, OfObject};
+ghost use Rattle.lazydfa_c.specs.Caches.{Lists, written_over};
+ghost use Rattle.lazydfa_c.specs.Requests.{input_of};
+ghost use Rattle.lazydfa_c.specs.Statuses.{plain};
+ghost use Rattle.lazydfa_c.specs.declared.code.Code.TheVariants as code;
 ghost use Rattle.regex_automata.specs.Promises.{Backward, Forward, IsCacheOf, IsWalkOf};
 
 use crate::code::Code;
@@ -102,15 +108,18 @@ fn all_starts(
 }
 
 /// Writes the members of a set that there is room for, and returns how many it has.
-fn write_members(set: &PatternSet, out: &mut [u32]) -> usize {
-    let mut count = 0usize;
+fn write_members(set: &PatternSet, out: &mut [u32]) -> usize
+    ensures written { out.new ≡ written_over (members set.now) out.old }
+    ensures count { result ≡ length (members set.now) }
+{
+    let mut at = 0usize;
     for pattern in set.iter() {
-        if count < out.len() {
-            out[count] = pattern.as_u32();
+        if at < out.len() {
+            out[at] = pattern.as_u32();
+            at += 1;
         }
-        count = count.saturating_add(1);
     }
-    count
+    set.len()
 }
 
 impl Searcher {
@@ -147,7 +156,13 @@ impl Searcher {
     }
 
     /// Makes the set an empty one for the patterns below a number.
-    fn empty_set(&mut self, alloc: Global, below: usize) -> Result<(), Status> {
+    fn empty_set(&mut self, alloc: Global, below: usize) -> Result<(), Status>
+        ensures ok { OnOk result (self.new.patterns ≡ replicate below false) }
+        ensures err { IfErr result (λ s. s ≡ plain code.Memory) }
+        ensures patterns { OnErr result (self.new.patterns ≡ self.old.patterns) }
+        ensures cache { self.new.cache ≡ self.old.cache }
+        ensures same { self.new.shared ≡ self.old.shared }
+    {
         if self.patterns.capacity() == below {
             self.patterns.clear();
         } else {
@@ -158,7 +173,7 @@ impl Searcher {
 
     /// Joins the set with the patterns that match.
     fn join(&mut self, input: &Input<'_>) -> Status
-        ensures { Joins input.now self.old self.new result }
+        ensures { Joins self.old.patterns input.now self.old self.new result }
     {
         let shared = &self.shared;
         let dfa = shared.regex.forward();
@@ -172,25 +187,52 @@ impl Searcher {
         }
     }
 
+    /// Writes the patterns below a number that match, as many as there is room for, and counts all.
     fn which(
         &mut self,
         alloc: Global,
-        haystack: &[u8],
-        request: &Request,
+        input: &Input<'_>,
         below: usize,
         out: &mut [u32],
         count: &mut usize,
-    ) -> Status {
-        *count = 0;
-        let Some(input) = request.input(haystack) else {
-            return Status::from(Code::Argument);
-        };
-        if let Err(status) = self.empty_set(alloc, below) {
-            return status;
+    ) -> Status
+        ensures { Lists below out.old out.new count.new input.now self.old self.new result }
+    {
+        match self.empty_set(alloc, below) {
+            Ok(()) => {
+                let status = self.join(input);
+                *count = write_members(&self.patterns, out);
+                status
+            }
+            Err(status) => {
+                *count = 0;
+                status
+            }
         }
-        let status = self.join(&input);
-        *count = write_members(&self.patterns, out);
-        status
+    }
+}
+
+fn which_in(
+    object: &mut Object,
+    alloc: Global,
+    haystack: &[u8],
+    request: &Request,
+    below: usize,
+    out: &mut [u32],
+    count: &mut usize,
+) -> Status
+    ensures { OfObject (OfInput (Lists below out.old out.new count.new) (input_of haystack.now request.now))
+        object.old object.new result }
+{
+    match object {
+        Object::Searcher(searcher) => match request.input(haystack) {
+            Some(input) => searcher.which(alloc, &input, below, out, count),
+            None => {
+                *count = 0;
+                Status::from(Code::Argument)
+            }
+        },
+        Object::Builder(_) | Object::Regex(_) => Status::from(Code::Kind),
     }
 }
 
@@ -246,16 +288,22 @@ pub extern "C" fn lazydfa_raw_which(
     below: usize,
     patterns: &mut [u32],
     count: &mut usize,
-) -> Status {
+) -> Status
+    ensures { OfHandle (OfInput (Lists below patterns.old patterns.new count.new) (input_of haystack.now request.now))
+        cache.old cache.new result }
+{
     let Some(mut object) = cache.take(alloc) else {
         return Status::from(Code::Closed);
     };
-    let status = match object.as_mut() {
-        Object::Searcher(searcher) => {
-            searcher.which(alloc, haystack, request, below, patterns, count)
-        }
-        Object::Builder(_) | Object::Regex(_) => Status::from(Code::Kind),
-    };
+    let status = which_in(
+        object.as_mut(),
+        alloc,
+        haystack,
+        request,
+        below,
+        patterns,
+        count,
+    );
     cache.put(object);
     status
 }

@@ -1,7 +1,9 @@
 //! What each call returns.
-ghost use Rattle.std.specs.Prelude.{◌≡◌, ◌↔◌, Err, IsTrue};
+ghost use Rattle.std.specs.Prelude.{◌≡◌, ◌↔◌, IsTrue};
 ghost use Rattle.lazydfa_c.specs.Codes.{CodesDiffer, number_of};
-ghost use Rattle.lazydfa_c.specs.Statuses.{plain, search_status, status_at, token_status};
+ghost use Rattle.lazydfa_c.specs.Errors.{TellErrors, told_build, told_builder, told_regex, told_search, told_token};
+ghost use Rattle.lazydfa_c.specs.Statuses.{build_status, builder_status, done_status, nfa_code, plain};
+ghost use Rattle.lazydfa_c.specs.Statuses.{regex_status, search_status, status_at, token_status};
 ghost use Rattle.lazydfa_c.specs.declared.code.Code.TheVariants as code;
 
 use crate::code::Code;
@@ -27,6 +29,15 @@ pub fn codes_differ()
     ensures { CodesDiffer }
 {}
 
+/// States a fact for proofs, and does nothing: the status of an error says that the call failed, and which error it is.
+pub fn errors_differ()
+    ensures builder { TellErrors builder_status told_builder }
+    ensures build { TellErrors build_status told_build }
+    ensures regex { TellErrors regex_status told_regex }
+    ensures search { TellErrors search_status told_search }
+    ensures token { TellErrors token_status told_token }
+{}
+
 impl Status {
     pub fn at(code: Code, offset: usize) -> Status
         ensures { result ≡ status_at code offset }
@@ -47,7 +58,7 @@ impl Status {
 
     /// The status of a call that returns nothing else.
     pub fn of(done: Result<(), Status>) -> Status
-        ensures err { (s : Status) → done ≡ Err s → result ≡ s }
+        ensures { result ≡ done_status done }
     {
         match done {
             Ok(()) => Status::from(Code::Done),
@@ -81,6 +92,8 @@ impl<T: Drop> From<AllocFailed<T>> for Status {
 }
 
 impl From<NfaError> for Code {
+    ghost from_gives = { λ e c. c ≡ nfa_code e };
+
     fn from(error: NfaError) -> Code {
         match error {
             NfaError::StateRange => Code::StateRange,
@@ -94,6 +107,8 @@ impl From<NfaError> for Code {
 }
 
 impl From<NfaBuildError> for Status {
+    ghost from_gives = { λ e s. s ≡ builder_status e };
+
     fn from(error: NfaBuildError) -> Status {
         let code = match error {
             NfaBuildError::NoPattern => Code::NoPattern,
@@ -109,6 +124,8 @@ impl From<NfaBuildError> for Status {
 }
 
 impl From<BuildError> for Status {
+    ghost from_gives = { λ e s. s ≡ build_status e };
+
     fn from(error: BuildError) -> Status {
         match error {
             BuildError::Unsupported => Status::from(Code::Unsupported),
@@ -128,6 +145,8 @@ impl From<BuildError> for Status {
 }
 
 impl From<RegexBuildError> for Status {
+    ghost from_gives = { λ e s. s ≡ regex_status e };
+
     fn from(error: RegexBuildError) -> Status {
         match error {
             RegexBuildError::NotLazy => Status::from(Code::NotLazy),

@@ -1,4 +1,8 @@
 //! What a cache accounts for, and making it a fresh one.
+ghost use Rattle.std.specs.Prelude.{◌≡◌};
+ghost use Rattle.lazydfa_c.specs.Calls.{OfHandle, OfObject};
+ghost use Rattle.lazydfa_c.specs.Caches.{Reports, Resets, usage_of};
+
 use crate::code::Code;
 use crate::handle::Handle;
 use crate::object::{Object, Searcher};
@@ -16,14 +20,19 @@ pub struct Usage {
 }
 
 impl Searcher {
-    fn reset(&mut self) -> Status {
-        match self.cache.reset(&self.shared.regex) {
+    fn reset(&mut self) -> Status
+        ensures { Resets self.old self.new result }
+    {
+        let shared = &self.shared;
+        match self.cache.reset(&shared.regex) {
             Ok(()) => Status::from(Code::Done),
             Err(error) => Status::from(error),
         }
     }
 
-    fn usage(&self) -> Usage {
+    fn usage(&self) -> Usage
+        ensures { result ≡ usage_of self.now }
+    {
         let (forward, reverse) = self.cache.as_parts();
         Usage {
             memory: self.cache.memory_usage(),
@@ -34,16 +43,36 @@ impl Searcher {
     }
 }
 
+fn reset_in(object: &mut Object) -> Status
+    ensures { OfObject Resets object.old object.new result }
+{
+    match object {
+        Object::Searcher(searcher) => searcher.reset(),
+        Object::Builder(_) | Object::Regex(_) => Status::from(Code::Kind),
+    }
+}
+
+fn usage_in(object: &mut Object, usage: &mut Usage) -> Status
+    ensures { OfObject (Reports usage.new) object.old object.new result }
+{
+    match object {
+        Object::Searcher(searcher) => {
+            *usage = searcher.usage();
+            Status::from(Code::Done)
+        }
+        Object::Builder(_) | Object::Regex(_) => Status::from(Code::Kind),
+    }
+}
+
 /// Makes the cache a fresh one.
 #[unsafe(no_mangle)]
-pub extern "C" fn lazydfa_raw_cache_reset(alloc: Global, cache: &mut Handle) -> Status {
+pub extern "C" fn lazydfa_raw_cache_reset(alloc: Global, cache: &mut Handle) -> Status
+    ensures { OfHandle Resets cache.old cache.new result }
+{
     let Some(mut object) = cache.take(alloc) else {
         return Status::from(Code::Closed);
     };
-    let status = match object.as_mut() {
-        Object::Searcher(searcher) => searcher.reset(),
-        Object::Builder(_) | Object::Regex(_) => Status::from(Code::Kind),
-    };
+    let status = reset_in(object.as_mut());
     cache.put(object);
     status
 }
@@ -54,17 +83,13 @@ pub extern "C" fn lazydfa_raw_cache_usage(
     alloc: Global,
     cache: &mut Handle,
     usage: &mut Usage,
-) -> Status {
-    let Some(object) = cache.take(alloc) else {
+) -> Status
+    ensures { OfHandle (Reports usage.new) cache.old cache.new result }
+{
+    let Some(mut object) = cache.take(alloc) else {
         return Status::from(Code::Closed);
     };
-    let status = match object.as_ref() {
-        Object::Searcher(searcher) => {
-            *usage = searcher.usage();
-            Status::from(Code::Done)
-        }
-        Object::Builder(_) | Object::Regex(_) => Status::from(Code::Kind),
-    };
+    let status = usage_in(object.as_mut(), usage);
     cache.put(object);
     status
 }

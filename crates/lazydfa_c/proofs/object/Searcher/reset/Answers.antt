@@ -1,0 +1,18 @@
+use Rattle.std.proofs.Common.{rules, inl, inr, subst}
+use Rattle.regex_automata.specs.Regexes.Caches.{AreFresh}
+use Rattle.regex_automata.specs.declared.hybrid.regex.Regex.{Regex}
+use Rattle.lazydfa_c.proofs.object.Searcher.reset.Goals as goal
+
+pub returns-in-Ok : goal.returns-in-Ok
+returns-in-Ok c = record {
+  told = inl (c.from.ensures, subst (λ (r : Regex). AreFresh r c.reset.new.self) c.deref.ensures c.in-Ok.ensures.ok);
+  patterns = search rules;
+  same = search rules;
+}
+
+pub returns-in-Err : goal.returns-in-Err
+returns-in-Err c = record {
+  told = inr (c.from-in-Err.ensures, c.in-Err.ensures.err);
+  patterns = search rules;
+  same = search rules;
+}

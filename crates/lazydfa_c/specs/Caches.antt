@@ -1,0 +1,53 @@
+-- What the calls do that list patterns, make a cache a fresh one, or report what it accounts for.
+use Rattle.std.specs.Prelude.{ℕ, ◌≡◌, ◌⊎◌, ◌+◌, ◌-◌, ◌^◌, List, [], ◌∷◌, false, length, min, replicate}
+use Rattle.automata_base.specs.Haystacks.PatternSet.{members}
+use Rattle.automata_hybrid.specs.Cache.Usage.{usage}
+use Rattle.regex_automata.specs.Promises.{Input}
+use Rattle.regex_automata.specs.Regexes.Caches.{AreFresh}
+use Rattle.lazydfa_c.specs.Calls.{Joins, regex_of}
+use Rattle.lazydfa_c.specs.Statuses.{plain}
+use Rattle.lazydfa_c.specs.declared.code.Code.TheVariants as code
+use Rattle.lazydfa_c.specs.declared.object.Searcher.{Searcher}
+use Rattle.lazydfa_c.specs.declared.status.Status.{Status}
+use Rattle.lazydfa_c.specs.declared.usage.Usage.{Usage}
+
+-- a cache stays as it is
+pub record IsKept (s t : Searcher) : Type 0 where
+  pub cache : t.cache ≡ s.cache
+  pub patterns : t.patterns ≡ s.patterns
+  pub same : t.shared ≡ s.shared
+
+-- the elements of a list, as many as there is room for, in place of those of another
+abbrev pub written_over : List ℕ → (old : List ℕ) → List ℕ
+written_over [] old = old
+written_over (x ∷ xs) [] = []
+written_over (x ∷ xs) (o ∷ old) = x ∷ written_over xs old
+
+-- `lazydfa_which`: an empty set for the patterns below a number is joined with the patterns that match; its members are
+-- written and counted, also after an error. If there is no memory for the set, all stays, and none is counted
+abbrev pub Lists : (below : ℕ) → (old new : List ℕ) → (count : ℕ) → Input → (s t : Searcher) → Status → Type 0
+Lists below old new count input s t status =
+    (Joins (replicate below false) input s t status
+    × (new ≡ written_over (members t.patterns) old) × (count ≡ length (members t.patterns)))
+    ⊎ ((status ≡ plain code.Memory) × IsKept s t × (new ≡ old) × (count ≡ 0))
+
+-- `lazydfa_cache_reset`: the cache is a fresh one of its regex, or memory is out and it stays
+pub record Resets (s t : Searcher) (status : Status) : Type 0 where
+  pub told :
+      ((status ≡ plain code.Done) × AreFresh (regex_of s) t.cache)
+      ⊎ ((status ≡ plain code.Memory) × (t.cache ≡ s.cache))
+  pub patterns : t.patterns ≡ s.patterns
+  pub same : t.shared ≡ s.shared
+
+-- what the getters of a cache and of its regex return
+abbrev pub usage_of : Searcher → Usage
+usage_of s = record {
+  memory = min (usage s.cache.forward.store + usage s.cache.reverse.store) (2 ^ 64 - 1);
+  forward_clears = s.cache.forward.store.clears;
+  reverse_clears = s.cache.reverse.store.clears;
+  patterns = length (regex_of s).forward.nfa.start_pattern;
+}
+
+-- `lazydfa_cache_usage`: it changes nothing
+abbrev pub Reports : Usage → (s t : Searcher) → Status → Type 0
+Reports written s t status = (t ≡ s) × (written ≡ usage_of s) × (status ≡ plain code.Done)

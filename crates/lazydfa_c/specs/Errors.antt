@@ -1,0 +1,80 @@
+-- What a status tells of an error: which one it is, beside what C gave itself or has another name for.
+use Rattle.std.specs.Prelude.{◌≡◌, ◌<◌}
+use Rattle.automata_base.specs.declared.nfa.thompson.NfaError.TheVariants as nfa
+use Rattle.automata_base.specs.declared.nfa.thompson.building.BuildError.{BuildError as BuilderError}
+use Rattle.automata_base.specs.declared.nfa.thompson.building.BuildError.TheVariants as builder
+use Rattle.automata_base.specs.declared.util.search.Anchored.TheVariants.{No}
+use Rattle.automata_base.specs.declared.util.search.MatchErrorKind.TheVariants.{GaveUp, Quit, UnsupportedAnchored}
+use Rattle.automata_config.specs.declared.error.BuildError.{BuildError}
+use Rattle.automata_config.specs.declared.error.BuildError.TheVariants as dfa
+use Rattle.automata_config.specs.declared.error.SearchError.{SearchError}
+use Rattle.automata_config.specs.declared.error.SearchError.TheVariants.{Match, NotAPair, OutOfMemory}
+use Rattle.regex_automata.specs.declared.hybrid.regex.build.RegexBuildError.{RegexBuildError}
+use Rattle.regex_automata.specs.declared.hybrid.regex.build.RegexBuildError.TheVariants as regex
+use Rattle.regex_automata.specs.declared.tokens.error.TokenError.{TokenError}
+use Rattle.regex_automata.specs.declared.tokens.error.TokenError.TheVariants.{NoToken, Search}
+use Rattle.lazydfa_c.specs.Codes.{number_of}
+use Rattle.lazydfa_c.specs.declared.code.Code.TheVariants as code
+use Rattle.lazydfa_c.specs.declared.status.Status.{Status}
+
+-- an error of a builder: too many states, and out of memory, are told alike wherever they come up
+abbrev pub told_builder : BuilderError → BuilderError
+told_builder builder.NoPattern = builder.NoPattern
+told_builder builder.UnfinishedPattern = builder.UnfinishedPattern
+told_builder builder.StateRange = builder.StateRange
+told_builder builder.SparsePatch = builder.SparsePatch
+told_builder builder.TooLarge = builder.TooLarge
+told_builder builder.OutOfMemory = builder.OutOfMemory
+told_builder (builder.NFA nfa.StateRange) = builder.NFA nfa.StateRange
+told_builder (builder.NFA nfa.StartRange) = builder.NFA nfa.StartRange
+told_builder (builder.NFA nfa.PatternRange) = builder.NFA nfa.PatternRange
+told_builder (builder.NFA nfa.Ranges) = builder.NFA nfa.Ranges
+told_builder (builder.NFA nfa.TooLarge) = builder.TooLarge
+told_builder (builder.NFA nfa.OutOfMemory) = builder.OutOfMemory
+
+-- why a DFA was not built: the capacity that was given, and how many patterns the two NFAs have, are not told
+abbrev pub told_build : BuildError → BuildError
+told_build dfa.Unsupported = dfa.Unsupported
+told_build (dfa.InsufficientCacheCapacity minimum given) = dfa.InsufficientCacheCapacity minimum 0
+told_build (dfa.InsufficientStateIDCapacity attempted) = dfa.InsufficientStateIDCapacity attempted
+told_build dfa.OutOfMemory = dfa.OutOfMemory
+told_build (dfa.PatternCounts forward reverse) = dfa.PatternCounts 0 0
+
+-- why a regex was not built: out of memory is told alike wherever it comes up
+abbrev pub told_regex : RegexBuildError → RegexBuildError
+told_regex regex.NotLazy = regex.NotLazy
+told_regex regex.LookCycle = regex.LookCycle
+told_regex regex.NotUtf8 = regex.NotUtf8
+told_regex regex.Starts = regex.Starts
+told_regex regex.TooLarge = regex.TooLarge
+told_regex regex.OutOfMemory = regex.OutOfMemory
+told_regex (regex.Build dfa.Unsupported) = regex.Build dfa.Unsupported
+told_regex (regex.Build (dfa.InsufficientCacheCapacity minimum given)) =
+    regex.Build (dfa.InsufficientCacheCapacity minimum 0)
+told_regex (regex.Build (dfa.InsufficientStateIDCapacity attempted)) =
+    regex.Build (dfa.InsufficientStateIDCapacity attempted)
+told_regex (regex.Build dfa.OutOfMemory) = regex.OutOfMemory
+told_regex (regex.Build (dfa.PatternCounts forward reverse)) = regex.Build (dfa.PatternCounts 0 0)
+
+-- why a search failed: the anchored mode that is not supported, which C gave, is not told
+abbrev pub told_search : SearchError → SearchError
+told_search (Match (Quit byte offset)) = Match (Quit byte offset)
+told_search (Match (GaveUp offset)) = Match (GaveUp offset)
+told_search (Match (UnsupportedAnchored mode)) = Match (UnsupportedAnchored No)
+told_search OutOfMemory = OutOfMemory
+told_search NotAPair = NotAPair
+
+-- why there is no next token
+abbrev pub told_token : TokenError → TokenError
+told_token (NoToken offset) = NoToken offset
+told_token (Search (Match (Quit byte offset))) = Search (Match (Quit byte offset))
+told_token (Search (Match (GaveUp offset))) = Search (Match (GaveUp offset))
+told_token (Search (Match (UnsupportedAnchored mode))) = Search (Match (UnsupportedAnchored No))
+told_token (Search OutOfMemory) = Search OutOfMemory
+told_token (Search NotAPair) = Search NotAPair
+
+-- the statuses of the errors of one call: none is that of a success, of a result without a match or of a handle or an
+-- argument that was refused; and two errors with one status are told alike
+pub record TellErrors {E : Type 0} (status : E → Status) (told : E → E) : Type 0 where
+  pub fails : (e : E) → number_of code.Argument < (status e).code
+  pub differ : (e f : E) → status e ≡ status f → told e ≡ told f
