@@ -1,7 +1,7 @@
 //! The calls of a regex over one cache, by rows with what they report.
 
 use super::plans::{Plan, Shape};
-use super::regex_bench::{Ask, Pair, RegexBench, Row};
+use super::regex_bench::{Ask, Pair, Printed, RegexBench, Row};
 use super::reports::reports_all;
 use super::texts::UNSUPPORTED;
 use super::{Host, same_of};
@@ -125,13 +125,14 @@ const PRINTED: &[Row] = &[
     ("one that was cleared", Of(Entry::A16), "noclasses capacity=37281", &[Items(SIXTEENS),
         Prints("Cache { forward: Cache { states: 4, memory_usage: 15084, clear_count: 4, .. }, reverse: Cache { states: 0, memory_usage: 6677, clear_count: 0, .. } }")],
         "0 0..16; 0 16..32; 0 32..48, true"),
-    ("matches, to their end", Of(Entry::Words), "", &[ItemsPrint(WORDS, [
-        "FindMatches { start: 0, end: 8, last: None, ended: false, .. }",
-        "FindMatches { start: 4, end: 8, last: Some(4), ended: false, .. }",
-        "FindMatches { start: 8, end: 8, last: Some(8), ended: true, .. }"])], "true"),
-    ("tokens, to an error", Of(Entry::Runs), "", &[TokensPrint(b"ab 1", [
-        "Tokens { start: 0, end: 4, failed: false, .. }", "Tokens { start: 2, end: 4, failed: false, .. }",
-        "Tokens { start: 2, end: 4, failed: true, .. }"])], "true"),
+    ("matches, to their end", Of(Entry::Words), "", &[ItemsPrint(WORDS, Printed {
+        first: "FindMatches { start: 0, end: 8, last: None, ended: false, .. }",
+        second: "FindMatches { start: 4, end: 8, last: Some(4), ended: false, .. }",
+        last: "FindMatches { start: 8, end: 8, last: Some(8), ended: true, .. }" })], "true"),
+    ("tokens, to an error", Of(Entry::Runs), "", &[TokensPrint(b"ab 1", Printed {
+        first: "Tokens { start: 0, end: 4, failed: false, .. }",
+        second: "Tokens { start: 2, end: 4, failed: false, .. }",
+        last: "Tokens { start: 2, end: 4, failed: true, .. }" })], "true"),
 ];
 
 #[test]

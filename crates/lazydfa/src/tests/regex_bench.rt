@@ -91,6 +91,14 @@ pub fn alone(nfa: NFA, config: Config) -> Result<Regex, RegexBuildError>
 #[rattlefmt::skip]
 const BARREN: Automaton = Automaton::Planned(&Plan { states: &[Shape::Union], starts: (0, 0), patterns: &[0] });
 
+/// How an iteration is printed: at first, after one item, and after two more calls.
+#[derive(Clone, Copy)]
+pub struct Printed {
+    pub first: &'static str,
+    pub second: &'static str,
+    pub last: &'static str,
+}
+
 /// A call.
 #[derive(Clone, Copy)]
 pub enum Ask {
@@ -131,8 +139,8 @@ pub enum Ask {
     /// Whether the cache is printed so for debugging.
     Prints(&'static str),
     /// Whether an iteration is printed so at first, after one item, and after two more calls; and one of tokens.
-    ItemsPrint(&'static [u8], [&'static str; 3]),
-    TokensPrint(&'static [u8], [&'static str; 3]),
+    ItemsPrint(&'static [u8], Printed),
+    TokensPrint(&'static [u8], Printed),
     /// How many patterns there are.
     Patterns,
     /// How many a regex of the forward NFA alone has.
@@ -316,34 +324,24 @@ impl RegexBench {
         ]
     }
 
-    fn items_print(
-        &mut self,
-        alloc: Global,
-        haystack: &[u8],
-        texts: [&'static str; 3],
-    ) -> Reported {
+    fn items_print(&mut self, alloc: Global, haystack: &[u8], texts: Printed) -> Reported {
         let mut it = self.regex.find_iter(&mut self.cache, Input::new(haystack));
-        let first = prints(alloc, &it, texts[0]);
+        let first = prints(alloc, &it, texts.first);
         let _ = it.next();
-        let second = prints(alloc, &it, texts[1]);
+        let second = prints(alloc, &it, texts.second);
         let _ = it.next();
         let _ = it.next();
-        Reported::of_flag(first && second && prints(alloc, &it, texts[2]))
+        Reported::of_flag(first && second && prints(alloc, &it, texts.last))
     }
 
-    fn tokens_print(
-        &mut self,
-        alloc: Global,
-        haystack: &[u8],
-        texts: [&'static str; 3],
-    ) -> Reported {
+    fn tokens_print(&mut self, alloc: Global, haystack: &[u8], texts: Printed) -> Reported {
         let mut tokens = self.regex.tokens(&mut self.cache, Input::new(haystack));
-        let first = prints(alloc, &tokens, texts[0]);
+        let first = prints(alloc, &tokens, texts.first);
         let _ = next_token(&mut tokens, haystack);
-        let second = prints(alloc, &tokens, texts[1]);
+        let second = prints(alloc, &tokens, texts.second);
         let _ = next_token(&mut tokens, haystack);
         let _ = next_token(&mut tokens, haystack);
-        Reported::of_flag(first && second && prints(alloc, &tokens, texts[2]))
+        Reported::of_flag(first && second && prints(alloc, &tokens, texts.last))
     }
 
     pub fn regex(&self) -> &Regex {
