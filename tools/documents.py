@@ -1,5 +1,5 @@
 #!/usr/bin/env python3
-"""Compares the excerpts of README.md, docs/CALLING.md and the docstrings with the files that they are from:
+"""Compares the excerpts of README.md, of pages of docs/ and of the docstrings with the files that they are from:
 
     tools/documents.py ['N passed, M failed']
 
@@ -16,7 +16,7 @@ import re
 import sys
 
 TOP = os.path.dirname(os.path.dirname(os.path.abspath(__file__)))
-DOCUMENTS = ["README.md", "docs/CALLING.md"]
+DOCUMENTS = ["README.md", "docs/CALLING.md", "docs/READING.md"]
 DOCSTRINGS = ["automata_config", "automata_hybrid", "regex_automata"]
 FILE = re.compile(r"`(crates/\w+)/((?:src|specs|proofs)/[\w+/.-]+\.(?:rt|antt))`[:.]?$")
 
