@@ -562,7 +562,8 @@ impl NFA {
         self.reads_utf8(&BACKWARD)
     }
 
-    // Whether match states are reached only between two characters, by the decoder of these classes.
+    /// Whether match states are reached from the anchored start and those of the patterns only between two characters,
+    /// by the decoder of these classes.
     fn reads_utf8(&self, classes: &[Class]) -> Result<bool, AllocError>
         requires { classes_below classes.now ≡ true }
         ensures ends { IfOk result (λ reads. IsTrue reads
