@@ -59,6 +59,7 @@ pub fn start_slots(nfa: &NFA, each_pattern: bool) -> usize
     }
 }
 
+/// The number of patterns of the NFA, at most 2^27.
 fn pattern_count(nfa: &NFA) -> usize
     ensures number { result ≡ length nfa.now.start_pattern }
     ensures few { result ≤ 2 ^ 27 }
@@ -66,7 +67,8 @@ fn pattern_count(nfa: &NFA) -> usize
     nfa.pattern_starts().len()
 }
 
-/// The least capacity that has room for a state in each start slot and for two more.
+/// The least capacity, in bytes, that has room for a state in each start slot and for two more, each of the greatest
+/// cost.
 pub(crate) fn minimum_capacity(stride: usize, slots: usize, greatest: usize, fixed: usize) -> usize
     requires stride { stride ≤ 512 }
     requires slots { slots ≤ 2 ^ 30 }
@@ -85,7 +87,7 @@ pub(crate) fn minimum_capacity(stride: usize, slots: usize, greatest: usize, fix
         + fixed
 }
 
-/// The greatest offset of a row in a table of that capacity.
+/// The greatest offset of a row, in cells, in the table of a cache that has the minimum capacity.
 pub(crate) fn greatest_offset(stride: usize, slots: usize) -> usize
     requires stride { stride ≤ 512 }
     requires slots { slots ≤ 2 ^ 30 }
@@ -94,6 +96,7 @@ pub(crate) fn greatest_offset(stride: usize, slots: usize) -> usize
     product(4 + slots, stride)
 }
 
+/// The product of two numbers that are at most 2^31 each.
 fn product(a: usize, b: usize) -> usize
     requires few { a ≤ 2 ^ 31 }
     requires many { b ≤ 2 ^ 31 }

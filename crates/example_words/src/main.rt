@@ -8,11 +8,12 @@ use regex_automata::nfa::thompson::NFA;
 use regex_automata::util::search::Input;
 use std::alloc::Global;
 
-/// A word is a run of letters, of whatever language.
+/// The NFA of a word: a run of letters, of whatever language.
 fn word(alloc: Global) -> Result<NFA> {
     Ok(nfa_of(alloc, &[r"\pL+"], &Options::default())?)
 }
 
+/// Prints the span, in bytes, of each word of a text.
 fn main(rt: HostRuntime) -> Result<()> {
     let regex = Regex::builder().build_from_nfa(word(rt.alloc())?)?;
     let mut cache = regex.create_cache()?;

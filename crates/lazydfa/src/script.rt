@@ -59,6 +59,7 @@ enum LineError {
 }
 
 impl LineError {
+    /// The error of a script, by that of its line of this number, counted from 1.
     fn at(self, number: usize) -> RunError {
         match self {
             LineError::Bad => RunError::BadLine(number),
@@ -101,6 +102,7 @@ impl Script {
             .collect(alloc)
     }
 
+    /// Reads a line, which is neither empty nor a comment, and adds the definition or the order that it has.
     fn add_line(&mut self, alloc: Global, line: &[u8]) -> Result<(), LineError> {
         let words: Vec<&[u8]> = line.split(|byte| *byte == b' ').collect(alloc)?;
         if words.iter().any(|word| word.is_empty()) {
@@ -119,6 +121,7 @@ impl Script {
         }
     }
 
+    /// Adds the definition of a regex. It is a bad line if an order came before it, or if the words are no definition.
     fn add_definition(&mut self, words: &[&[u8]]) -> Result<(), LineError> {
         if !self.orders.is_empty() {
             return Err(LineError::Bad);
@@ -127,12 +130,14 @@ impl Script {
         Ok(self.definitions.push(definition).map_err(AllocError::from)?)
     }
 
+    /// Adds an order after the others.
     fn add_order(&mut self, order: Order) -> Result<(), LineError> {
         Ok(self.orders.push(order).map_err(AllocError::from)?)
     }
 }
 
 impl Definition {
+    /// Reads the words of a definition: the name of an entry, and options of its DFAs. It is none if a word is bad.
     fn parse(words: &[&[u8]]) -> Option<Definition> {
         let (name, options) = words.split_first()?;
         let entry = Entry::named(*name)?;
@@ -145,6 +150,7 @@ impl Definition {
 }
 
 impl Order {
+    /// Reads an order, by its keyword and the words after it.
     fn parse(alloc: Global, keyword: Keyword, words: &[&[u8]]) -> Result<Order, LineError> {
         let order = match keyword {
             Keyword::Forward => Order::SearchFwd(Query::parse(alloc, words)?),
@@ -162,6 +168,7 @@ impl Order {
         Ok(order)
     }
 
+    /// Reads the words of an order that begins a walk: its direction, a haystack, and options.
     fn parse_walk(alloc: Global, words: &[&[u8]]) -> Result<Order, LineError> {
         let (direction, rest) = words.split_first().ok_or(LineError::Bad)?;
         let way = match Keyword::spelled(*direction) {
@@ -173,6 +180,7 @@ impl Order {
         Ok(Order::BeginWalk { way, query })
     }
 
+    /// Reads the words of an order for a set of patterns: its capacity, a haystack, and options.
     fn parse_which(alloc: Global, words: &[&[u8]]) -> Result<Order, LineError> {
         let (word, rest) = words.split_first().ok_or(LineError::Bad)?;
         let capacity = number(*word).ok_or(LineError::Bad)?;
@@ -180,6 +188,7 @@ impl Order {
         Ok(Order::Which { capacity, query })
     }
 
+    /// The request of the order, over the haystack that the order owns.
     fn request(&self) -> Request<'_> {
         match self {
             Order::SearchFwd(query) => Request::SearchFwd(query.input()),
@@ -210,7 +219,7 @@ fn only_number(words: &[&[u8]]) -> Result<usize, LineError> {
     }
 }
 
-/// The settings with one more option.
+/// The settings with one more option, or none if the word is no option.
 pub fn configured(config: Config, option: &[u8]) -> Option<Config> {
     Some(match option_of(option)? {
         (Keyword::All, None) => config.match_kind(MatchKind::All),
@@ -228,7 +237,7 @@ pub fn configured(config: Config, option: &[u8]) -> Option<Config> {
 }
 
 impl Query {
-    /// The haystack of a request, and the options of its search.
+    /// The input of a search: the haystack, and the options of the query.
     fn input(&self) -> Input<'_> {
         Input::new(self.haystack.as_slice())
             .span(self.span)
@@ -236,6 +245,7 @@ impl Query {
             .earliest(self.earliest)
     }
 
+    /// Reads the words of a query: a haystack, and options of its search.
     fn parse(alloc: Global, words: &[&[u8]]) -> Result<Query, LineError> {
         let (word, options) = words.split_first().ok_or(LineError::Bad)?;
         let haystack = haystack_of(alloc, *word)?;
@@ -255,6 +265,7 @@ impl Query {
         Ok(query)
     }
 
+    /// Sets an option of the search. It returns none if the word is no option.
     fn set(&mut self, option: &[u8]) -> Option<()> {
         match option_of(option)? {
             (Keyword::Anchored, None) => self.anchored = Anchored::Yes,
@@ -269,6 +280,8 @@ impl Query {
         Some(())
     }
 
+    /// Sets the span, in bytes, to the one that the text `START..END` writes. It returns none if the text has another
+    /// form, or if the input does not allow the span.
     fn set_span(&mut self, value: &[u8]) -> Option<()> {
         let (start, rest) = split_once(value, b'.')?;
         let (before, end) = split_once(rest, b'.')?;
@@ -294,6 +307,7 @@ fn haystack_of(alloc: Global, word: &[u8]) -> Result<Vec<u8>, LineError> {
     Ok(haystack)
 }
 
+/// Appends the bytes that pairs of hexadecimal digits spell.
 fn push_pairs(haystack: &mut Vec<u8>, word: &[u8]) -> Result<(), LineError> {
     haystack.reserve(word.len() / 2)?;
     for pair in word.chunks(2) {
@@ -311,7 +325,7 @@ fn option_of(option: &[u8]) -> Option<(Keyword, Option<&[u8]>)> {
     Some((Keyword::spelled(name)?, Some(value)))
 }
 
-/// The bytes before and after the first such byte.
+/// The bytes before and after the first separator, or none if there is no separator.
 fn split_once(word: &[u8], separator: u8) -> Option<(&[u8], &[u8])> {
     let at = word.iter().position(|byte| *byte == separator)?;
     Some((&word[..at], &word[at + 1..]))

@@ -26,6 +26,7 @@ impl Model for Stored {
 }
 
 impl Stored {
+    /// The bytes, whether they are in place or in the vector.
     fn as_slice(&self) -> &[u8]
         ensures { result.now ≡ self.now }
     {
@@ -88,7 +89,7 @@ impl SharedBytes {
         Ok(SharedBytes { stored })
     }
 
-    /// The bytes.
+    /// The shared bytes.
     pub fn as_slice(&self) -> &[u8]
         ensures value { result.now ≡ self.now }
     {
