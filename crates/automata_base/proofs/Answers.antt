@@ -5,6 +5,7 @@ pub mod Bytes
 pub mod Chosen
 pub mod Computed
 pub mod Empties
+pub mod KeptUnions
 pub mod Loops
 pub mod Answered
 pub mod Once

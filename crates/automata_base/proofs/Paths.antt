@@ -10,6 +10,9 @@ pub mod Follows
 pub mod Fuels
 pub mod Included
 pub mod Invariants
+pub mod Staying
+pub mod KeptSingles
+pub mod KeptUnions
 pub mod Late
 pub mod LookSets
 pub mod Loops

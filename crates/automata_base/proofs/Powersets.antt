@@ -21,3 +21,4 @@ pub mod ReportedPairs
 pub mod WalkReports
 pub mod ListTests
 pub mod Walking
+pub mod KeepingUnions

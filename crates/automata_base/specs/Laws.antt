@@ -1,3 +1,4 @@
+pub mod KeptUnions
 pub mod LateIsRight
 pub mod StartIsRight
 pub mod Steps

@@ -7,6 +7,7 @@ pub mod Shapes
 pub mod Errors
 pub mod Accepted
 pub mod Drafts
+pub mod Unions
 pub mod Utf8
 pub mod Mirrors
 pub mod ReversedSizes

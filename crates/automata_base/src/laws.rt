@@ -1,5 +1,6 @@
 //! The laws that searches are built on. Each function does nothing: its contract is the law.
 ghost use Rattle.automata_base.specs.Nfas.Drafts.{PrefixesSkipLazily};
+ghost use Rattle.automata_base.specs.Laws.KeptUnions.{AcyclicKeepsCycles, UnionsKeepCycles, UnionsAreDropped};
 ghost use Rattle.automata_base.specs.Laws.LateIsRight.{SearchesAreRight, WalksAreRight, NearestEndsAreRight};
 ghost use Rattle.automata_base.specs.Laws.LateIsRight.{EndsAreRight};
 ghost use Rattle.automata_base.specs.Laws.LateIsRight.{PairsAreRight};
@@ -16,10 +17,18 @@ ghost use Rattle.automata_base.specs.Answers.Within.{StatesReportOwn, ReportedLi
 
 use crate::nfa::thompson::NFA;
 
+/// What powerset states keep. An NFA keeps its cycles if no cycle of epsilon edges passes a look, and if it keeps
+/// unions. If it does not keep unions, its powerset states have byte, look and match states alone.
+pub fn cycles_are_kept()
+    ensures acyclic { AcyclicKeepsCycles }
+    ensures unions { UnionsKeepCycles }
+    ensures dropped { UnionsAreDropped }
+{}
+
 /// Late is right: a pass, whose matches are delayed by one byte, and whose looks are decided when the next byte is
-/// known, reports what the ordered paths select, if no cycle of epsilon edges passes a look. For every NFA an earliest
-/// search reports the nearest end, and under `MatchKind::All` any other one the farthest end, and an overlapping search
-/// the patterns of all accepting paths.
+/// known, reports what the ordered paths select, if the NFA keeps its cycles. For every NFA an earliest search reports
+/// the nearest end, and under `MatchKind::All` any other one the farthest end, and an overlapping search the patterns
+/// of all accepting paths.
 pub fn late_is_right()
     ensures searches { SearchesAreRight }
     ensures walks { WalksAreRight }
@@ -60,9 +69,9 @@ pub fn steps_are_alike()
     ensures dead { DeadStaysDead }
 {}
 
-/// What a pass reports, byte by byte, is what the ordered paths through the tape select, if no cycle of epsilon edges
-/// passes a look. For every NFA it is the nearest end of an earliest search, or under `MatchKind::All` the farthest end
-/// of any other one. Passes report one answer, also if offsets inside a UTF-8 encoded character are skipped.
+/// What a pass reports, byte by byte, is what the ordered paths through the tape select, if the NFA keeps its cycles.
+/// For every NFA it is the nearest end of an earliest search, or under `MatchKind::All` the farthest end of any other
+/// one. Passes report one answer, also if offsets inside a UTF-8 encoded character are skipped.
 pub fn passes_report_paths()
     ensures selects { PassesSelect }
     ensures nearest { PassesFindNearest }
@@ -70,9 +79,9 @@ pub fn passes_report_paths()
     ensures one { ReportedIsOne }
 {}
 
-/// What passes report is the answer of the ordered paths, both with offsets inside characters skipped, if no cycle of
-/// epsilon edges passes a look; and for every NFA the nearest end of an earliest search, or under `MatchKind::All` the
-/// farthest end of any other one. It lies in the span, and its pattern is the NFA's.
+/// What passes report is the answer of the ordered paths, both with offsets inside characters skipped, if the NFA keeps
+/// its cycles; and for every NFA the nearest end of an earliest search, or under `MatchKind::All` the farthest end of
+/// any other one. It lies in the span, and its pattern is the NFA's.
 pub fn reported_is_right(nfa: &NFA)
     ensures answer { ReportedIsRight nfa.now }
     ensures ends { ReportedEndsAreRight nfa.now }
@@ -81,9 +90,9 @@ pub fn reported_is_right(nfa: &NFA)
     let _states = nfa.states();
 }
 
-/// What the pass of an overlapping search reports is one list. If no cycle of epsilon edges passes a look, it is the
-/// list of the ordered paths; and for every NFA it has, under `MatchKind::All`, the pairs of all accepting paths. Each
-/// pair lies in the span, and its pattern is the NFA's.
+/// What the pass of an overlapping search reports is one list. If the NFA keeps its cycles, it is the list of the
+/// ordered paths; and for every NFA it has, under `MatchKind::All`, the pairs of all accepting paths. Each pair lies in
+/// the span, and its pattern is the NFA's.
 pub fn walk_is_right(nfa: &NFA)
     ensures reported { WalksAreReported nfa.now }
     ensures one { WalksAreOne }

@@ -1,2 +1,3 @@
+pub mod KeptUnions
 pub mod NonAscii
 pub mod Refusing

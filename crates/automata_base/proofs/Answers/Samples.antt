@@ -15,7 +15,7 @@ use Rattle.automata_base.specs.Paths.Selections.{Pair}
 abbrev pub dfa : List Node → (anchored unanchored : ℕ) → List ℕ → (utf8 reverse : Bool) → MatchKind → Engine
 dfa nodes a u starts utf8 reverse kind =
     record {
-      nfa = record { nodes = nodes; terminator = 10; reverse = reverse };
+      nfa = record { nodes = nodes; terminator = 10; reverse = reverse; keeps_unions = false };
       anchored = a;
       unanchored = u;
       starts = starts;

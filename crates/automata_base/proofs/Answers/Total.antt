@@ -4,7 +4,7 @@ use Rattle.std.proofs.Common.{reverse, Option, Some, None, inl, inr, refl, sym, 
 use Rattle.std.proofs.Common.{eq-or-lt_of_le}
 use Rattle.std.proofs.lemmas.Bool.{cases_lt}
 use Rattle.std.specs.Prelude.{slice_get}
-use Rattle.automata_base.specs.Paths.Paths.{Tape, next_in, IsLookAcyclic}
+use Rattle.automata_base.specs.Paths.Paths.{Tape, next_in, KeepsCycles}
 use Rattle.automata_base.specs.Powersets.Passes.{IsUnit, IsTape}
 use Rattle.automata_base.specs.Paths.Selections.{Pair}
 use Rattle.automata_base.specs.Retraced.Passes.{search_of}
@@ -58,7 +58,7 @@ tape_units Backward h s e b l w i =
 
 sel_from :
     (d : Engine) (earliest : Bool) (t : Tape) (o : Option ℕ)
-    → IsInRange d.nfa → IsLookAcyclic d.nfa → IsTape t → ((q : ℕ) → o ≡ Some q → q < length d.nfa.nodes)
+    → IsInRange d.nfa → KeepsCycles d.nfa → IsTape t → ((q : ℕ) → o ≡ Some q → q < length d.nfa.nodes)
     → (answer : Option Pair) × SelectsFrom d earliest t o answer
 sel_from d earliest t None r f u l = (None, refl)
 sel_from d earliest t (Some q) r f u l =

@@ -1,11 +1,12 @@
--- Least keys of a list of states, followed by least paths from what the states lead to, are least keys.
+-- Least keys of a list of states, followed by least paths from what the states lead to, are least keys, also if only the
+-- least of them can be joined.
 use Rattle.std.proofs.Common.{ℕ, zero, suc, ◌≡◌, ◌<◌, List, [], ◌∷◌, ◌++◌, ◌⊎◌, Option, Some, None, inl, inr, refl, sym}
 use Rattle.std.proofs.Common.{ap, ◌∙◌, subst, arith}
 use Rattle.automata_base.specs.Paths.Order.{Before, Upto, Begins}
 use Rattle.automata_base.specs.Lists.{In, Sorted, IsListOf, cons_some, pick, From}
 use Rattle.std.specs.Prelude.{slice_get}
 use Rattle.automata_base.proofs.Paths.Orders.{cons_head, cons_tail, none_some, before_then, before_after, upto_after}
-use Rattle.automata_base.proofs.Paths.Orders.{before_append}
+use Rattle.automata_base.proofs.Paths.Orders.{before_append, before_irrefl, before_upto, before_trans}
 
 -- The index of a state among those that are picked.
 pub put_nth : (o : Option ℕ) (ys : List ℕ) (r : ℕ) → (k : ℕ) × (slice_get ys k ≡ Some r) → (k : ℕ) × (slice_get (cons_some o ys) k ≡ Some r)
@@ -83,14 +84,21 @@ Carries P P' key image =
     (q : ℕ) (other : List ℕ) → P' q other
     → (pre : List ℕ) × P q pre × (Before key pre → Before image other) × (Upto key pre → Upto image other)
 
-pub transfer_sorted :
-    (P P' : ℕ → List ℕ → Type 0) (xs : List ℕ)
-    → ((q : ℕ) (key : List ℕ) → P q key → (image : List ℕ) × P' q image × Carries P P' key image)
-    → Sorted P xs → Sorted P' xs
-transfer_sorted P P' [] m s = tt
-transfer_sorted P P' (x ∷ xs) m s =
-    let i = m x s.0 s.1 in
-    (i.0, i.1, least i.0 i.2, later i.0 i.2, transfer_sorted P P' xs m s.4)
+-- No other key of the state is less.
+abbrev pub IsLeast : (ℕ → List ℕ → Type 0) → ℕ → List ℕ → Type 0
+IsLeast P q key = (other : List ℕ) → P q other → Upto key other
+
+-- Each least key stands for one of another kind.
+abbrev pub Moved : (ℕ → List ℕ → Type 0) → (ℕ → List ℕ → Type 0) → Type 0
+Moved P P' =
+    (q : ℕ) (key : List ℕ) → P q key → IsLeast P q key → (image : List ℕ) × P' q image × Carries P P' key image
+
+transfer_least_sorted :
+    (P P' : ℕ → List ℕ → Type 0) (xs : List ℕ) → Moved P P' → Sorted P xs → Sorted P' xs
+transfer_least_sorted P P' [] m s = tt
+transfer_least_sorted P P' (x ∷ xs) m s =
+    let i = m x s.0 s.1 s.2 in
+    (i.0, i.1, least i.0 i.2, later i.0 i.2, transfer_least_sorted P P' xs m s.4)
   where
     least : (image : List ℕ) → Carries P P' s.0 image → (other : List ℕ) → P' x other → Upto image other
     least image c other h = let w = c x other h in w.3 (s.2 w.0 w.1)
@@ -100,18 +108,33 @@ transfer_sorted P P' (x ∷ xs) m s =
         → In y xs → P' y other → Before image other
     later image c y other i h = let w = c y other h in w.2 (s.3 y w.0 i w.1)
 
+pub transfer_least :
+    (P P' : ℕ → List ℕ → Type 0) (xs : List ℕ)
+    → Moved P P' → ((q : ℕ) (key : List ℕ) → P' q key → (pre : List ℕ) × P q pre)
+    → IsListOf P xs → IsListOf P' xs
+transfer_least P P' xs m back l =
+    (λ q key h. let w = back q key h in l.0 q w.0 w.1, transfer_least_sorted P P' xs m l.1)
+
 pub transfer :
     (P P' : ℕ → List ℕ → Type 0) (xs : List ℕ)
     → ((q : ℕ) (key : List ℕ) → P q key → (image : List ℕ) × P' q image × Carries P P' key image)
     → ((q : ℕ) (key : List ℕ) → P' q key → (pre : List ℕ) × P q pre)
     → IsListOf P xs → IsListOf P' xs
-transfer P P' xs m back l =
-    (λ q key h. let w = back q key h in l.0 q w.0 w.1, transfer_sorted P P' xs m l.1)
+transfer P P' xs m back l = transfer_least P P' xs (λ q key h least. m q key h) back l
 
 abbrev pub Composes :
     (ℕ → List ℕ → Type 0) → (ℕ → Option ℕ) → (ℕ → List ℕ → ℕ → Type 0) → (ℕ → List ℕ → Type 0) → List ℕ → Type 0
 Composes P g S P' glue =
     (x r q : ℕ) (p s : List ℕ) → P x p → g x ≡ Some r → S r s q → P' q (p ++ (glue ++ s))
+
+-- A key of a picked state and a path from there make a key, if no less key of another picked state goes on to the same
+-- state.
+abbrev pub ComposesLeast :
+    (ℕ → List ℕ → Type 0) → (ℕ → Option ℕ) → (ℕ → List ℕ → ℕ → Type 0) → (ℕ → List ℕ → Type 0) → List ℕ → Type 0
+ComposesLeast P g S P' glue =
+    (x r q : ℕ) (p s : List ℕ) → P x p → g x ≡ Some r → S r s q
+    → ((y r' : ℕ) (p' s' : List ℕ) → P y p' → Before p' p → g y ≡ Some r' → S r' s' q → ⊥)
+    → P' q (p ++ (glue ++ s))
 
 -- A key is a key of a picked state, none of whose beginnings is another picked state's key, and then a path.
 abbrev pub Divides :
@@ -121,12 +144,12 @@ Divides P g S P' glue =
     → (x r : ℕ) × (p s : List ℕ) × P x p × (g x ≡ Some r) × S r s q × (key ≡ p ++ (glue ++ s))
     × ((y r' : ℕ) (other : List ℕ) → P y other → g y ≡ Some r' → Begins other p → ⊥)
 
-pub compose :
+pub compose_least :
     (P : ℕ → List ℕ → Type 0) (g : ℕ → Option ℕ) (S : ℕ → List ℕ → ℕ → Type 0) (P' : ℕ → List ℕ → Type 0)
     (glue : List ℕ) (N xs : List ℕ)
-    → Composes P g S P' glue → Divides P g S P' glue
+    → ComposesLeast P g S P' glue → Divides P g S P' glue
     → IsListOf P N → IsListOf (From S (pick g N)) xs → IsListOf P' xs
-compose P g S P' glue N xs h1 h2 n l = transfer (From S (pick g N)) P' xs image back l
+compose_least P g S P' glue N xs h1 h2 n l = transfer_least (From S (pick g N)) P' xs image back l
   where
     back : (q : ℕ) (key : List ℕ) → P' q key → (pre : List ℕ) × From S (pick g N) q pre
     back q key h =
@@ -176,10 +199,29 @@ compose P g S P' glue N xs h1 h2 n l = transfer (From S (pick g N)) P' xs image 
                 upto_after f.1 d.2 (glue ++ s) (glue ++ d.3) (o.1 d.2 d.4) apart (inl (ap (λ w. glue ++ w) t))
             go (inr (inr o)) e t = absurd (omega (arith, o, e))
 
-    image :
-        (q : ℕ) (key : List ℕ) → From S (pick g N) q key
-        → (image : List ℕ) × P' q image × Carries (From S (pick g N)) P' key image
-    image q [] h = absurd h
-    image q (k ∷ s) h =
-        let f = found P g N k h.0 n.1 h.1 in
-        (f.1 ++ (glue ++ s), h1 f.0 h.0 q f.1 s f.3 f.2 h.2, carries k h.0 s f)
+    image : Moved (From S (pick g N)) P'
+    image q [] h least = absurd h
+    image q (k ∷ s) h least = (f.1 ++ (glue ++ s), h1 f.0 h.0 q f.1 s f.3 f.2 h.2 none, carries k h.0 s f)
+      where
+        f : Found P g N (pick g N) k h.0
+        f = found P g N k h.0 n.1 h.1
+
+        none : (y r' : ℕ) (p' s' : List ℕ) → P y p' → Before p' f.1 → g y ≡ Some r' → S r' s' q → ⊥
+        none y r' p' s' py b gy sy = go w.2
+          where
+            w : (k' : ℕ) × (slice_get (pick g N) k' ≡ Some r') × Order3 P k k' f.1 y
+            w = f.4 y r' (n.0 y p' py) gy
+
+            go : Order3 P k w.0 f.1 y → ⊥
+            go (inl o) = before_irrefl p' (before_trans p' f.1 p' b (o.1 p' py))
+            go (inr (inl o)) = before_irrefl p' (before_upto p' f.1 p' b (o.1 p' py))
+            go (inr (inr o)) = before_irrefl (w.0 ∷ s')
+                (before_upto (w.0 ∷ s') (k ∷ s) (w.0 ∷ s') (inl o) (least (w.0 ∷ s') (r', w.1, sy)))
+
+pub compose :
+    (P : ℕ → List ℕ → Type 0) (g : ℕ → Option ℕ) (S : ℕ → List ℕ → ℕ → Type 0) (P' : ℕ → List ℕ → Type 0)
+    (glue : List ℕ) (N xs : List ℕ)
+    → Composes P g S P' glue → Divides P g S P' glue
+    → IsListOf P N → IsListOf (From S (pick g N)) xs → IsListOf P' xs
+compose P g S P' glue N xs h1 h2 n l =
+    compose_least P g S P' glue N xs (λ x r q p s k picked on none. h1 x r q p s k picked on) h2 n l

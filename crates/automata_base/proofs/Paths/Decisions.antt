@@ -4,15 +4,16 @@ use Rattle.std.proofs.Common.{inr, refl, sym, ap, ◌∙◌, subst}
 use Rattle.automata_base.specs.Lists.{In, IsListOf, pick, From}
 use Rattle.automata_base.specs.Haystacks.Looks.{Look, holds}
 use Rattle.automata_base.specs.Nfas.Nfa.{Nfa, Node, Split, Assert, Read, Accept, Truth, node, hop, hop_at, keep, ends}
-use Rattle.automata_base.specs.Nfas.Nfa.{stays_at, ends_at}
-use Rattle.automata_base.specs.Paths.Paths.{IsPathAt, IsLookAcyclic, IsClosure}
+use Rattle.automata_base.specs.Nfas.Nfa.{stays_at, ends_at, keeps}
+use Rattle.automata_base.specs.Paths.Paths.{IsPathAt, KeepsCycles, IsClosure}
 use Rattle.automata_base.specs.Powersets.Passes.{IsUnit, Occurs, IsKnownLook, IsNeeded, IsMake, true_looks, IsNews}
 use Rattle.automata_base.specs.Powersets.Passes.{IsDecided}
 use Rattle.automata_base.specs.Powersets.Powerset.{Powerset}
 use Rattle.automata_base.proofs.Paths.Orders.{none_some}
 use Rattle.automata_base.proofs.Paths.Walks.{walk_more}
 use Rattle.automata_base.proofs.Paths.Sift.{Sifted, sift, same, picked_in}
-use Rattle.automata_base.proofs.Paths.Late.{late, Ending, keep_sieve, ends_sieve, kept_at, ends_stay, keep_true}
+use Rattle.automata_base.proofs.Paths.Staying.{Ending, keep_sieve, ends_sieve, kept_at, ends_stay, keep_true, stays_kept}
+use Rattle.automata_base.proofs.Paths.Late.{late}
 use Rattle.automata_base.proofs.Paths.Truths.{truths}
 use Rattle.automata_base.specs.Haystacks.LookSets.{truth_of}
 use Rattle.automata_base.proofs.Paths.Included.{Includes}
@@ -96,7 +97,7 @@ decides_known n K patterns roots C prev u Q unit known c make quiet = subst Goal
           x,
           next,
           subst (λ v. In x v) (sym make.0)
-              (picked_in (keep n) C x x (c.0 x key k) (keep_true (stays_at (node n x)) x (ap stays_at e))),
+              (picked_in (keep n) C x x (c.0 x key k) (keep_true (keeps n x) x (stays_kept n x (ap stays_at e)))),
           e,
         )
 
@@ -121,7 +122,7 @@ decides_known n K patterns roots C prev u Q unit known c make quiet = subst Goal
     back q (i ∷ s) k = (
       k.0,
       (
-        keep_true (stays_at (node n q)) q (ends_stay (node n q) (kept_at (ends_at (node n q)) q q k.0)),
+        keep_true (keeps n q) q (stays_kept n q (ends_stay (node n q) (kept_at (ends_at (node n q)) q q k.0))),
         (k.1.0, k.1.1, walk_less n T K [] k.1.0 s q (λ x p w. reached x (i ∷ p) (k.1.0, k.1.1, w)) k.1.2),
       ),
     )
@@ -149,7 +150,7 @@ news_closure n patterns C prev u Q L unit make h c =
 
 pub decides :
     (n : Nfa) (K : Truth) (patterns roots C : List ℕ) (prev u : Option ℕ) (Q : Powerset) (L : List ℕ)
-    → IsLookAcyclic n → IsUnit u
+    → KeepsCycles n → IsUnit u
     → ((look : Look) → (K look ≡ true) ↔ IsKnownLook n prev look)
     → IsClosure n K roots C → IsMake n patterns C prev Q → IsDecided n Q u L
     → IsListOf (Ending n (From (λ root path q. IsPathAt n (truth_between n prev u) [] root path q) roots)) (pick (ends n) L)

@@ -3,7 +3,7 @@ use Rattle.std.proofs.Common.{ℕ, zero, suc, ◌≡◌, ◌<◌, ◌≤◌, Boo
 use Rattle.std.proofs.Common.{None, refl, sym, subst, arith, ⊎_elim, eq-or-lt_of_le, le_of_suc-le-suc}
 use Rattle.automata_base.specs.Lists.{IsSet}
 use Rattle.automata_base.specs.Nfas.Nfa.{Nfa}
-use Rattle.automata_base.specs.Paths.Paths.{Tape, IsLookAcyclic}
+use Rattle.automata_base.specs.Paths.Paths.{Tape, KeepsCycles}
 use Rattle.automata_base.specs.Powersets.Cuts.{MatchKind, All}
 use Rattle.automata_base.specs.Paths.Selections.{Accepts, Pair, IsNearest, IsFarthest, Pairs, Reports, Selects}
 use Rattle.automata_base.specs.Paths.Selections.{IsOverlappingOn}
@@ -82,7 +82,7 @@ pass_sel_right kind false n t start r l =
 -- Late is right, for searches.
 pub search_right :
     (kind : MatchKind) (earliest : Bool) (n : Nfa) (t : Tape) (start : ℕ)
-    → IsInRange n → start < length n.nodes → IsLookAcyclic n → IsTape t
+    → IsInRange n → start < length n.nodes → KeepsCycles n → IsTape t
     → Selects kind earliest n t start (search_of kind earliest n t start)
 search_right kind earliest n t start r l free tape_of =
     sel_right kind earliest n t start (search_of kind earliest n t start) free tape_of (pass_sel_right kind earliest n t start r l)
@@ -97,7 +97,7 @@ walk_pairs kind n t start (suc k) r l =
 -- Late is right, for walks.
 pub walked_right :
     (kind : MatchKind) (n : Nfa) (t : Tape) (start : ℕ)
-    → IsInRange n → start < length n.nodes → IsLookAcyclic n → IsTape t
+    → IsInRange n → start < length n.nodes → KeepsCycles n → IsTape t
     → IsOverlappingOn kind n t start (pairs_upto n kind start t (suc (length t.bytes)))
 walked_right kind n t start r l free tape_of =
     walk_right kind n t start (pairs_upto n kind start t (suc (length t.bytes))) free tape_of (walk_pairs kind n t start (suc (length t.bytes)) r l)

@@ -5,7 +5,7 @@ use Rattle.automata_base.specs.Paths.Order.{Before, Upto}
 use Rattle.automata_base.specs.Lists.{IsListOf, cons_some, pick, From}
 use Rattle.std.specs.Prelude.{slice_get}
 use Rattle.automata_base.specs.Nfas.Nfa.{Nfa, accepts, ends, takes}
-use Rattle.automata_base.specs.Paths.Paths.{IsPathAt, Tape, IsPath, truth, prev, next, next_in, IsLookAcyclic}
+use Rattle.automata_base.specs.Paths.Paths.{IsPathAt, Tape, IsPath, truth, prev, next, next_in, KeepsCycles}
 use Rattle.automata_base.specs.Powersets.Cuts.{MatchKind, All, LeftmostFirst, cut, cut_for, IsOnce, targets}
 use Rattle.automata_base.specs.Powersets.Passes.{IsTape, IsClosureOf, IsDecided, IsSuccessor, IsStart, IsPass}
 use Rattle.automata_base.specs.Powersets.Powerset.{Powerset}
@@ -13,7 +13,7 @@ use Rattle.automata_base.specs.Paths.Selections.{Accepts, IsFirstAt, ArePatterns
 use Rattle.automata_base.proofs.Paths.Orders.{before_total, before_upto, before_trans}
 use Rattle.automata_base.proofs.Paths.Places.{path_end, accepts_ends}
 use Rattle.automata_base.proofs.Paths.Sift.{same}
-use Rattle.automata_base.proofs.Paths.Late.{Ending}
+use Rattle.automata_base.proofs.Paths.Staying.{Ending}
 use Rattle.automata_base.proofs.Paths.Steps.{EndsWithin, Within, IsPast, step, first}
 use Rattle.automata_base.proofs.Paths.Cuts.{front, leader, no_leader, no_leader_in, led, Led}
 use Rattle.automata_base.proofs.Paths.Readings.{targets_all, targets_cut, patterns_all, patterns_cut, reported}
@@ -60,7 +60,7 @@ means_start kind n t start Q h = (None, [], start ∷ [], h, best kind, λ xs l.
 -- The decided list.
 pub means_decided :
     (kind : MatchKind) (n : Nfa) (t : Tape) (start i : ℕ) (Q : Powerset) (L : List ℕ)
-    → IsLookAcyclic n → IsTape t → (m : Means kind n t start i Q) → IsDecided n Q (next t i) L
+    → KeepsCycles n → IsTape t → (m : Means kind n t start i Q) → IsDecided n Q (next t i) L
     → IsListOf (EndsWithin n t start m.0 i) (pick (ends n) L)
 means_decided kind n t start i Q L free tape_of m d =
     m.5 (pick (ends n) L)
@@ -236,7 +236,7 @@ onward LeftmostFirst n t start i L u best byte b l = (a.0, a.2, on)
 
 pub means_succ :
     (kind : MatchKind) (n : Nfa) (t : Tape) (start i : ℕ) (P Q : Powerset)
-    → IsLookAcyclic n → IsTape t → i < length t.bytes → Means kind n t start i P → IsSuccessor n kind P (next t i) Q
+    → KeepsCycles n → IsTape t → i < length t.bytes → Means kind n t start i P → IsSuccessor n kind P (next t i) Q
     → Means kind n t start (suc i) Q
 means_succ kind n t start i P Q free tape_of inside m s = go (next_byte t.bytes t.after i inside)
   where
@@ -256,7 +256,7 @@ means_succ kind n t start i P Q free tape_of inside m s = go (next_byte t.bytes 
 
 pub means_reports :
     (kind : MatchKind) (n : Nfa) (t : Tape) (start i : ℕ) (P Q : Powerset)
-    → IsLookAcyclic n → IsTape t → Means kind n t start i P → IsSuccessor n kind P (next t i) Q
+    → KeepsCycles n → IsTape t → Means kind n t start i P → IsSuccessor n kind P (next t i) Q
     → ArePatternsAt kind n t start i Q.patterns
 means_reports kind n t start i P Q free tape_of m s =
     subst (λ v. ArePatternsAt kind n t start i v) (sym s.4.4.1)
@@ -279,7 +279,7 @@ means_reports kind n t start i P Q free tape_of m s =
 
 pub pass_means :
     (kind : MatchKind) (n : Nfa) (t : Tape) (start k : ℕ) (Q : Powerset)
-    → IsLookAcyclic n → IsTape t → k ≤ length t.bytes → IsPass n kind start t k Q → Means kind n t start k Q
+    → KeepsCycles n → IsTape t → k ≤ length t.bytes → IsPass n kind start t k Q → Means kind n t start k Q
 pass_means kind n t start zero Q free tape_of l p = means_start kind n t start Q p
 pass_means kind n t start (suc k) Q free tape_of l p =
     means_succ kind n t start k p.0 Q free tape_of l
@@ -288,7 +288,7 @@ pass_means kind n t start (suc k) Q free tape_of l p =
 -- What the pass reports at a place is what the paths define.
 pub pass_reports :
     (kind : MatchKind) (n : Nfa) (t : Tape) (start i : ℕ) (patterns : List ℕ)
-    → IsLookAcyclic n → IsTape t → i ≤ length t.bytes → Reports kind n t start i patterns → ArePatternsAt kind n t start i patterns
+    → KeepsCycles n → IsTape t → i ≤ length t.bytes → Reports kind n t start i patterns → ArePatternsAt kind n t start i patterns
 pass_reports kind n t start i patterns free tape_of l p =
     subst (λ v. ArePatternsAt kind n t start i v) p.2
     (means_reports kind n t start i p.1.0 p.0 free tape_of (pass_means kind n t start i p.1.0 free tape_of l p.1.1) p.1.2)

@@ -28,7 +28,7 @@ use Rattle.automata_base.specs.Nfas.Accepted.{IsInRange}
 use Rattle.automata_base.specs.Haystacks.Looks.{look_index}
 use Rattle.automata_base.proofs.Paths.Orders.{none_some, nil_cons}
 use Rattle.automata_base.proofs.Paths.Sift.{same, in_picked}
-use Rattle.automata_base.proofs.Paths.Late.{keep_sieve}
+use Rattle.automata_base.proofs.Paths.Staying.{keep_sieve}
 use Rattle.automata_base.proofs.Paths.Readings.{sorted_has}
 use Rattle.automata_base.proofs.Paths.FirstVisits.{visits_closure, hop_children}
 use Rattle.automata_base.proofs.Paths.Fuels.{is_in_true, is_in_false, AllBelow, closure_right}
@@ -42,7 +42,7 @@ use Rattle.automata_base.proofs.Paths.Sets.{nth_in}
 
 -- Each once.
 abbrev pub no_nodes : Nfa
-no_nodes = record { nodes = []; terminator = 0; reverse = false }
+no_nodes = record { nodes = []; terminator = 0; reverse = false; keeps_unions = false }
 
 abbrev pub no_truth : Truth
 no_truth look = false

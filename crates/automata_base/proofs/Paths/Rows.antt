@@ -10,6 +10,7 @@ use Rattle.automata_base.proofs.Paths.Checks.{is_in_range, is_look_cycle_free, t
 use Rattle.automata_base.proofs.Paths.Samples.{ab, aa, abc, bound, crlf, date, whole, answer}
 use Rattle.automata_base.proofs.Paths.Checked.{in_range, look_cycle_free, is_tape}
 use Rattle.automata_base.proofs.Paths.Finals.{search_right, walked_right}
+use Rattle.automata_base.proofs.Paths.KeptUnions.{acyclic_keeps}
 
 -- A row, from tests that compute.
 row :
@@ -19,7 +20,7 @@ row :
 row kind earliest n t start a range inside free fits e =
     subst (λ v. Selects kind earliest n t start v) e
     (search_right kind earliest n t start (in_range n range) (ltb-true start (length n.nodes) inside)
-    (look_cycle_free n range free) (is_tape t fits))
+    (acyclic_keeps n (look_cycle_free n range free)) (is_tape t fits))
 
 walk_row :
     (kind : MatchKind) (n : Nfa) (t : Tape) (start : ℕ) (pairs : List Pair)
@@ -28,7 +29,7 @@ walk_row :
 walk_row kind n t start pairs range inside free fits e =
     subst (λ v. IsOverlappingOn kind n t start v) e
     (walked_right kind n t start (in_range n range) (ltb-true start (length n.nodes) inside)
-    (look_cycle_free n range free) (is_tape t fits))
+    (acyclic_keeps n (look_cycle_free n range free)) (is_tape t fits))
 
 pub ab_found : Selects LeftmostFirst false ab (whole (97 ∷ 98 ∷ [])) 0 (answer 0 2)
 ab_found = row LeftmostFirst false ab (whole (97 ∷ 98 ∷ [])) 0 (answer 0 2) refl refl refl refl refl

@@ -11,7 +11,7 @@ abbrev pub read : ℕ → ℕ → ℕ → Node
 read lo hi next = Read (record { lo = lo; hi = hi; next = next } ∷ [])
 
 abbrev pub forward : List Node → Nfa
-forward nodes = record { nodes = nodes; terminator = 10; reverse = false }
+forward nodes = record { nodes = nodes; terminator = 10; reverse = false; keeps_unions = false }
 
 abbrev pub whole : List ℕ → Tape
 whole bytes = record { before = None; bytes = bytes; after = None }
@@ -32,7 +32,7 @@ abbrev pub crlf : Nfa
 crlf = forward (Assert EndCRLF 1 ∷ Accept 0 ∷ Split (0 ∷ 3 ∷ []) ∷ read 0 255 2 ∷ [])
 
 abbrev pub crlf_reverse : Nfa
-crlf_reverse = record { nodes = Assert StartCRLF 1 ∷ Accept 0 ∷ Split (0 ∷ 3 ∷ []) ∷ read 0 255 2 ∷ []; terminator = 10; reverse = true }
+crlf_reverse = record { nodes = Assert StartCRLF 1 ∷ Accept 0 ∷ Split (0 ∷ 3 ∷ []) ∷ read 0 255 2 ∷ []; terminator = 10; reverse = true; keeps_unions = false }
 
 abbrev pub date : Nfa
 date = forward (read 48 57 1 ∷ read 48 57 2 ∷ read 48 57 3 ∷ read 48 57 4 ∷ read 45 45 5 ∷ read 48 57 6 ∷ read 48 57 7 ∷ read 45 45 8 ∷ read 48 57 9 ∷ read 48 57 10 ∷ Accept 0 ∷ Split (0 ∷ 12 ∷ []) ∷ read 0 255 11 ∷ [])
@@ -122,3 +122,8 @@ look_cycle = forward (Split (2 ∷ 1 ∷ []) ∷ Accept 2 ∷ Assert EndLF 3 ∷
 
 pub row_look_cycle : reported_of look_cycle All 0 (record { before = Some 97; bytes = []; after = None }) 0 ≡ 2 ∷ 1 ∷ []
 row_look_cycle = refl
+
+-- With unions kept it is the order of least paths.
+pub row_kept_unions :
+    reported_of (record look_cycle { keeps_unions = true }) All 0 (record { before = Some 97; bytes = []; after = None }) 0 ≡ 1 ∷ 2 ∷ []
+row_kept_unions = refl

@@ -6,7 +6,7 @@ use Rattle.automata_base.specs.Paths.Order.{Before, Upto}
 use Rattle.automata_base.specs.Lists.{In}
 use Rattle.std.specs.Prelude.{slice_get}
 use Rattle.automata_base.specs.Nfas.Nfa.{Nfa}
-use Rattle.automata_base.specs.Paths.Paths.{Tape, IsPathFrom, IsLookAcyclic}
+use Rattle.automata_base.specs.Paths.Paths.{Tape, IsPathFrom, KeepsCycles}
 use Rattle.automata_base.specs.Powersets.Cuts.{MatchKind, All, LeftmostFirst}
 use Rattle.automata_base.specs.Paths.Selections.{Accepts, IsFirstAt, ArePatternsAt, Reports, Pair, Pairs, IsOverlappingOn}
 use Rattle.automata_base.specs.Paths.Selections.{Selects}
@@ -25,7 +25,7 @@ pairs_map At At' (suc k) pairs f p =
 -- The whole list of a walk.
 pub walk_right :
     (kind : MatchKind) (n : Nfa) (t : Tape) (start : ℕ) (pairs : List Pair)
-    → IsLookAcyclic n → IsTape t → PassReports kind n t start pairs → IsOverlappingOn kind n t start pairs
+    → KeepsCycles n → IsTape t → PassReports kind n t start pairs → IsOverlappingOn kind n t start pairs
 walk_right kind n t start pairs free tape_of p =
     pairs_map (Reports kind n t start) (ArePatternsAt kind n t start) (suc (length t.bytes)) pairs
     (λ i patterns l. pass_reports kind n t start i patterns free tape_of (le_of_suc-le-suc l)) p
@@ -174,7 +174,7 @@ sel_first n t start pair rest (inr h) f = (
 -- A plain search.
 pub sel_right :
     (kind : MatchKind) (earliest : Bool) (n : Nfa) (t : Tape) (start : ℕ) (answer : Option Pair)
-    → IsLookAcyclic n → IsTape t → PassSelects kind earliest n t start answer → Selects kind earliest n t start answer
+    → KeepsCycles n → IsTape t → PassSelects kind earliest n t start answer → Selects kind earliest n t start answer
 sel_right kind earliest n t start None free tape_of p =
     sel_none kind earliest n t start (λ i l. pass_reports kind n t start i [] free tape_of l (p i l))
 sel_right kind true n t start (Some pair) free tape_of p =

@@ -5,7 +5,7 @@ use Rattle.std.proofs.Common.{le_of_suc-le-suc}
 use Rattle.automata_base.specs.Lists.{In, IsSet, IsListOf, cons_some, pick, From}
 use Rattle.std.specs.Prelude.{slice_get}
 use Rattle.automata_base.specs.Haystacks.Looks.{Look}
-use Rattle.automata_base.specs.Nfas.Nfa.{Nfa, Truth, node, hop, takes, accepts, keep, ends, stays_at, ends_at}
+use Rattle.automata_base.specs.Nfas.Nfa.{Nfa, Truth, node, hop, takes, accepts, keep, keeps, ends, ends_at}
 use Rattle.automata_base.specs.Paths.Paths.{IsPathAt, Tape, IsPath, truth, prev, next, IsClosure}
 use Rattle.automata_base.specs.Powersets.Cuts.{MatchKind, All, LeftmostFirst, cut, cut_for, IsOnce, targets}
 use Rattle.automata_base.specs.Powersets.Passes.{IsUnit, IsTape, IsKnownLook, IsMake, IsClosureOf, IsDecided}
@@ -17,7 +17,8 @@ use Rattle.automata_base.proofs.Paths.Walks.{walk_more, walk_forget, in_either}
 use Rattle.automata_base.proofs.Paths.Places.{path_extend, last_place, walk_path, path_walk, accepts_ends}
 use Rattle.automata_base.proofs.Paths.Compose.{in_pick}
 use Rattle.automata_base.proofs.Paths.Sift.{picked_in, in_picked}
-use Rattle.automata_base.proofs.Paths.Late.{Ending, keep_sieve, ends_sieve, kept_at, keep_true, FirstStay, first_stay}
+use Rattle.automata_base.proofs.Paths.Staying.{Ending, keep_sieve, ends_sieve, kept_at, keep_true, stays_kept}
+use Rattle.automata_base.proofs.Paths.Late.{FirstKept, first_kept}
 use Rattle.automata_base.proofs.Paths.Steps.{takes_ends}
 use Rattle.automata_base.proofs.Paths.Cuts.{leader, no_leader, no_leader_in, leader_in, leader_accepts}
 use Rattle.automata_base.proofs.Paths.Readings.{sorted_has, targets_all, targets_cut, patterns_all, patterns_cut, reported}
@@ -126,8 +127,8 @@ decides_set n K patterns roots C prev u Q L unit known c make (inl h) = (from_li
     found : (q : ℕ) (key : List ℕ) → ends n q ≡ Some q → From (W T) roots q key → In q L
     found q [] e k = absurd k
     found q (i ∷ t) e k =
-        let f : FirstStay n K T [] k.0 t q = first_stay n K T [] k.0 t q (kept_at (ends_at (node n q)) q q e) k.2 in
-        let j = in_pick (keep n) C f.0 f.0 (c.0 f.0 (i ∷ f.1) (k.0, k.1, f.4)) (keep_true (stays_at (node n f.0)) f.0 f.6) in
+        let f : FirstKept n (keeps n) K T [] k.0 t q = first_kept n (keeps n) K T [] k.0 t q (λ x s. stays_kept n x s) (kept_at (ends_at (node n q)) q q e) k.2 in
+        let j = in_pick (keep n) C f.0 f.0 (c.0 f.0 (i ∷ f.1) (k.0, k.1, f.4)) (keep_true (keeps n f.0) f.0 f.6) in
         l.0 q (j.0 ∷ f.2) (f.0, j.1, f.7)
 
     to_list : (q : ℕ) → (ends n q ≡ Some q) × Reached n T roots q → In q (pick (ends n) L)

@@ -12,7 +12,7 @@ use Rattle.automata_base.proofs.Paths.Orders.{before_trans, before_begin}
 use Rattle.automata_base.proofs.Paths.Places.{path_extend, last_place, walk_path, path_walk, reader_apart}
 use Rattle.automata_base.proofs.Paths.Compose.{Composes, Divides, compose}
 use Rattle.automata_base.proofs.Paths.Sift.{same}
-use Rattle.automata_base.proofs.Paths.Late.{Ending}
+use Rattle.automata_base.proofs.Paths.Staying.{Ending}
 
 -- A bound that a path has to be before.
 abbrev pub Within : Option (List ℕ) → List ℕ → Type 0

@@ -1,11 +1,11 @@
 -- Steps of the loops that read lists of states.
-use Rattle.std.proofs.Common.{ℕ, ◌≡◌, ◌<◌, ◌≤◌, ◌+◌, ◌||◌, Bool, true, false, cond, eqb, List, [], ◌∷◌, ◌++◌}
+use Rattle.std.proofs.Common.{ℕ, ◌≡◌, ◌<◌, ◌≤◌, ◌+◌, ◌||◌, ◌&&◌, ltb, Bool, true, false, cond, eqb, List, [], ◌∷◌, ◌++◌}
 use Rattle.std.proofs.Common.{length, get_or, take, drop, Option, Some, None, refl, sym, ap, ◌∙◌, subst, arith}
 use Rattle.std.proofs.Common.{append_assoc, append-nil, length-append}
 use Rattle.std.proofs.lemmas.List.{at_drop_more, take_more, drop_all, take_all}
 use Rattle.automata_base.specs.Lists.{In, pick, cons_some, Distinct}
 use Rattle.automata_base.specs.Haystacks.Looks.{Look}
-use Rattle.automata_base.specs.Nfas.Nfa.{Nfa, Node, Split, Assert, Read, Accept, node, keep, stays_at, accepts}
+use Rattle.automata_base.specs.Nfas.Nfa.{Nfa, Node, Split, Assert, Read, Accept, node, keep, keeps, splits_at, stays_at, accepts}
 use Rattle.automata_base.specs.Nfas.Nfa.{accepts_at, takes, takes_at, looks_at}
 use Rattle.automata_base.specs.Retraced.Computed.{any_state, is_in}
 use Rattle.automata_base.specs.Powersets.Cuts.{cut, cut_after, targets}
@@ -35,7 +35,7 @@ put_cond false x rest = refl
 
 pub keep_next :
     (n : Nfa) (xs kept more : List ℕ) (i x : ℕ) (b : Bool)
-    → i < length xs → x ≡ get_or xs i x → b ≡ stays_at (node n x) → more ≡ kept ++ cond b (x ∷ []) []
+    → i < length xs → x ≡ get_or xs i x → b ≡ keeps n x → more ≡ kept ++ cond b (x ∷ []) []
     → kept ++ pick (keep n) (drop i xs) ≡ pick (keep n) xs → more ++ pick (keep n) (drop (i + 1) xs) ≡ pick (keep n) xs
 keep_next n xs kept more i x b l e s m h =
     ap (λ z. z ++ pick (keep n) (drop (i + 1) xs)) m
@@ -63,8 +63,12 @@ any_kept f n (x ∷ xs) = go (node n x) refl (any_kept f n xs)
   where
     go :
         (m : Node) → node n x ≡ m → any_state f n (pick (keep n) xs) ≡ any_state f n xs
-        → any_state f n (cons_some (cond (stays_at m) (Some x) None) (pick (keep n) xs)) ≡ (looks_at f (node n x) || any_state f n xs)
-    go (Split alternates) e h = h ∙ sym (ap (λ z. looks_at f z || any_state f n xs) e)
+        → any_state f n (cons_some (cond (stays_at m || (splits_at m && n.keeps_unions)) (Some x) None) (pick (keep n) xs)) ≡ (looks_at f (node n x) || any_state f n xs)
+    go (Split alternates) e h = union (ltb 1 (length alternates) && n.keeps_unions)
+      where
+        union : (b : Bool) → any_state f n (cons_some (cond b (Some x) None) (pick (keep n) xs)) ≡ (looks_at f (node n x) || any_state f n xs)
+        union true = ap (λ z. looks_at f (node n x) || z) h
+        union false = h ∙ sym (ap (λ z. looks_at f z || any_state f n xs) e)
     go (Assert look next) e h = ap (λ z. looks_at f (node n x) || z) h
     go (Read ranges) e h = ap (λ z. looks_at f (node n x) || z) h
     go (Accept p) e h = ap (λ z. looks_at f (node n x) || z) h
@@ -177,7 +181,7 @@ pick_next g xs i x l e = ap (pick g) (next_drop xs i x l e)
 
 pub kept_in : (n : Nfa) (xs : List ℕ) (q : ℕ) → In q (pick (keep n) xs) → In q xs
 kept_in n [] q i = i
-kept_in n (x ∷ xs) q i = go (stays_at (node n x)) (kept_in n xs q) i
+kept_in n (x ∷ xs) q i = go (keeps n x) (kept_in n xs q) i
   where
     go : (b : Bool) → (In q (pick (keep n) xs) → In q xs) → In q (cons_some (cond b (Some x) None) (pick (keep n) xs)) → In q (x ∷ xs)
     go true ih (inl e) = inl e

@@ -4,7 +4,7 @@ use Rattle.automata_base.specs.Nfas.Accepted.{IsInRange}
 use Rattle.automata_base.specs.Powersets.Cuts.{MatchKind, All}
 use Rattle.automata_base.specs.Nfas.Engines.{Anchored}
 use Rattle.automata_base.specs.Nfas.Nodes.{Automaton, nfa_of, nodes_of}
-use Rattle.automata_base.specs.Paths.Paths.{Tape, IsLookAcyclic}
+use Rattle.automata_base.specs.Paths.Paths.{Tape, KeepsCycles}
 use Rattle.automata_base.specs.Powersets.Passes.{IsTape}
 use Rattle.automata_base.specs.Powersets.Powerset.{Powerset}
 use Rattle.automata_base.specs.Paths.Selections.{Selects, IsNearest, IsFarthest}
@@ -49,7 +49,7 @@ pairs_is a kind mode t start k e = ap (λ o. pairs_among (from_start a kind t o)
 pub reported_selects :
     (kind : MatchKind) (earliest : Bool) (a : Automaton) (mode : Anchored) (t : Tape) (start : ℕ)
     → mode_start a mode ≡ Some start → IsInRange (nfa_of a) → start < length (nodes_of a.states)
-    → IsLookAcyclic (nfa_of a) → IsTape t → Selects kind earliest (nfa_of a) t start (reported_by kind earliest a mode t)
+    → KeepsCycles (nfa_of a) → IsTape t → Selects kind earliest (nfa_of a) t start (reported_by kind earliest a mode t)
 reported_selects kind earliest a mode t start e range below free tape =
     subst (Selects kind earliest (nfa_of a) t start) (sym (reported_by_is kind earliest a mode t start e))
     (search_right kind earliest (nfa_of a) t start range below free tape)

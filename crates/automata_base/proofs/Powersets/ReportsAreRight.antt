@@ -9,7 +9,7 @@ use Rattle.automata_base.specs.Nfas.Accepted.{IsChecked, IsInRange}
 use Rattle.automata_base.specs.Nfas.Engines.{Anchored, No, Yes, Pattern, IsSkipping, engine_of, first_state}
 use Rattle.automata_base.specs.Haystacks.Input.{Input}
 use Rattle.automata_base.specs.Nfas.Nodes.{Automaton, nfa_of, nodes_of}
-use Rattle.automata_base.specs.Paths.Paths.{Tape, next, IsLookAcyclic}
+use Rattle.automata_base.specs.Paths.Paths.{Tape, next, KeepsCycles}
 use Rattle.automata_base.specs.Powersets.Passes.{IsTape}
 use Rattle.automata_base.specs.Powersets.Powerset.{Powerset, dead}
 use Rattle.automata_base.specs.Nfas.Nfa.{Nfa}
@@ -86,7 +86,7 @@ start_below a (Pattern p) q d e =
 
 reported_from :
     (a : Automaton) (kind : MatchKind) (earliest : Bool) (mode : Anchored) (t : Tape) (o : Option ℕ)
-    → IsChecked a → IsLookAcyclic (nfa_of a) → IsTape t → mode_start a mode ≡ o
+    → IsChecked a → KeepsCycles (nfa_of a) → IsTape t → mode_start a mode ≡ o
     → SelectsFrom (engine_of a kind) earliest t o (reported_by kind earliest a mode t)
 reported_from a kind earliest mode t None d free tape e = none_reported kind earliest a mode t e
 reported_from a kind earliest mode t (Some q) d free tape e =
@@ -94,7 +94,7 @@ reported_from a kind earliest mode t (Some q) d free tape e =
 
 reported_over_selects :
     (a : Automaton) (kind : MatchKind) (way : Direction) (input : Input) (o : Option Pair)
-    → IsChecked a → IsLookAcyclic (nfa_of a) → IsInput input → input.start ≤ input.end
+    → IsChecked a → KeepsCycles (nfa_of a) → IsInput input → input.start ≤ input.end
     → ReportsOver way a kind input o → SelectsOver way (engine_of a kind) input o
 reported_over_selects a kind way input o d free i l e =
     let t : Tape = tape_of way input.haystack input.start input.end in

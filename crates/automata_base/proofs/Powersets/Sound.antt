@@ -1,5 +1,5 @@
 -- What `NFA::from_states` accepts is sound.
-use Rattle.std.proofs.Common.{◌≡◌, ◌↔◌, None, length}
+use Rattle.std.proofs.Common.{Bool, ◌≡◌, ◌↔◌, None, length}
 use Rattle.std.specs.Prelude.{IsTrue}
 use Rattle.automata_base.specs.declared.nfa.thompson.Data.{Data}
 use Rattle.automata_base.specs.Nfas.Nodes.{stack_room}
@@ -13,19 +13,19 @@ use Rattle.automata_base.proofs.Nfas.Reach.Led.{acyclic_is, empty_is}
 use Rattle.automata_base.proofs.Nfas.Reach.Refused.{passing, room_small}
 
 pub sound :
-    (d : Data) → states_refusal d.states.items d.start_anchored d.start_unanchored d.start_pattern.items ≡ None
-    → IsLooks (automaton_of d) d.looks → d.room ≡ stack_room d.states.items
+    (d : Data) (keeps_unions : Bool) → states_refusal d.states.items d.start_anchored d.start_unanchored d.start_pattern.items ≡ None
+    → IsLooks (automaton_of d keeps_unions) d.looks → d.room ≡ stack_room d.states.items
     → IsTrue d.has_empty ↔ ReachesMatch d.states.items d.start_pattern.items
-    → IsTrue d.skips_lazily ↔ SkipsLazily (automaton_of d)
+    → IsTrue d.skips_lazily ↔ SkipsLazily (automaton_of d keeps_unions)
     → IsTrue d.is_look_acyclic ↔ AreLooksAcyclic d.states.items
-    → IsConsistent d
-sound d none looks room empty skips acyclic =
+    → IsConsistent d keeps_unions
+sound d keeps_unions none looks room empty skips acyclic =
     let tests = passing d.states.items d.start_anchored d.start_unanchored d.start_pattern.items none in
     record {
       checked = record {
         small = tests.small;
         few = tests.few;
-        range = checked_range (automaton_of d) tests.range;
+        range = checked_range (automaton_of d keeps_unions) tests.range;
         anchored = tests.anchored;
         unanchored = tests.unanchored;
         starts = checked_starts (length d.states.items) d.start_pattern.items tests.starts;
@@ -35,7 +35,7 @@ sound d none looks room empty skips acyclic =
       };
       looks = looks;
       room = room;
-      empty = empty_is (automaton_of d) (IsTrue d.has_empty) empty;
+      empty = empty_is (automaton_of d keeps_unions) (IsTrue d.has_empty) empty;
       skips = skips;
-      acyclic = acyclic_is (automaton_of d) (IsTrue d.is_look_acyclic) acyclic;
+      acyclic = acyclic_is (automaton_of d keeps_unions) (IsTrue d.is_look_acyclic) acyclic;
     }

@@ -10,7 +10,7 @@ use Rattle.automata_base.specs.Nfas.Engines.{Anchored, IsSkipping, engine_of, fi
 use Rattle.automata_base.specs.Nfas.Getters.{HasEmpty}
 use Rattle.automata_base.specs.Haystacks.Input.{Input}
 use Rattle.automata_base.specs.Nfas.Nodes.{Automaton, nfa_of}
-use Rattle.automata_base.specs.Paths.Paths.{Tape, IsLookAcyclic}
+use Rattle.automata_base.specs.Paths.Paths.{Tape, KeepsCycles}
 use Rattle.automata_base.specs.Powersets.Passes.{IsTape}
 use Rattle.automata_base.specs.Paths.Selections.{Pair, IsOverlappingOn, at_place}
 use Rattle.automata_base.specs.Paths.Starts.{mode_start}
@@ -35,7 +35,7 @@ none_pairs a kind mode t (suc k) e =
 
 overlaps_from :
     (a : Automaton) (kind : MatchKind) (mode : Anchored) (t : Tape) (o : Option ℕ)
-    → IsChecked a → IsLookAcyclic (nfa_of a) → IsTape t → mode_start a mode ≡ o
+    → IsChecked a → KeepsCycles (nfa_of a) → IsTape t → mode_start a mode ≡ o
     → IsOverlappingFrom (engine_of a kind) t o (pairs_reported a kind mode t (suc (length t.bytes)))
 overlaps_from a kind mode t None d free tape e = none_pairs a kind mode t (suc (length t.bytes)) e
 overlaps_from a kind mode t (Some q) d free tape e =
@@ -44,7 +44,7 @@ overlaps_from a kind mode t (Some q) d free tape e =
 
 overlaps_over :
     (a : Automaton) (kind : MatchKind) (way : Direction) (input : Input) (pairs : List Pair)
-    → IsChecked a → IsLookAcyclic (nfa_of a) → IsInput input → input.start ≤ input.end
+    → IsChecked a → KeepsCycles (nfa_of a) → IsInput input → input.start ≤ input.end
     → SpanReports way a kind input pairs → OverlapsOver way (engine_of a kind) input pairs
 overlaps_over a kind way input pairs d free i l e =
     let t : Tape = tape_of way input.haystack input.start input.end in

@@ -2,7 +2,7 @@
 use Rattle.std.specs.Prelude.{ℕ, ◌≡◌, ◌<◌, ◌≤◌, ◌+◌, ◌-◌, Bool, true, false, cond, List, [], ◌∷◌, ◌⊎◌, ◌↔◌, length}
 use Rattle.std.specs.Prelude.{Option, Some, None}
 use Rattle.automata_base.specs.Lists.{In}
-use Rattle.automata_base.specs.Paths.Paths.{Tape, IsLookAcyclic}
+use Rattle.automata_base.specs.Paths.Paths.{Tape, KeepsCycles}
 use Rattle.automata_base.specs.Nfas.Accepted.{IsInRange}
 use Rattle.automata_base.specs.Paths.Selections.{Pair, Selects, IsOverlappingOn}
 use Rattle.automata_base.specs.Haystacks.Tapes.{IsHaystack, Direction, Forward, Backward, tape_of, offset, is_split}
@@ -130,8 +130,8 @@ ArePatternsFound d input capacity given found = ArePatterns (IsOverlapping Forwa
 abbrev pub IsInput : Input → Type 0
 IsInput input = IsHaystack input.haystack × (input.end ≤ length input.haystack)
 
--- An NFA whose edges and starts lead to its states, and without a look cycle.
+-- An NFA whose edges and starts lead to its states, and which keeps its cycles.
 abbrev pub IsSound : Engine → Type 0
 IsSound d =
-    IsInRange d.nfa × IsLookAcyclic d.nfa
+    IsInRange d.nfa × KeepsCycles d.nfa
     × ((mode : Anchored) (q : ℕ) → first_state d mode ≡ Some q → q < length d.nfa.nodes)

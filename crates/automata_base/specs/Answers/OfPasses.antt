@@ -6,7 +6,7 @@ use Rattle.automata_base.specs.Nfas.Engines.{Engine, IsSkipping, engine_of, firs
 use Rattle.automata_base.specs.Haystacks.Input.{Input}
 use Rattle.automata_base.specs.Nfas.Nodes.{Automaton, nfa_of}
 use Rattle.automata_base.specs.Nfas.Nfa.{Nfa}
-use Rattle.automata_base.specs.Paths.Paths.{Tape, IsLookAcyclic}
+use Rattle.automata_base.specs.Paths.Paths.{Tape, KeepsCycles}
 use Rattle.automata_base.specs.Paths.Selections.{Pair, IsFarthest, IsNearest}
 use Rattle.automata_base.specs.Haystacks.Tapes.{Direction, tape_of}
 use Rattle.automata_base.specs.Retraced.Passes.{reported_by}
@@ -23,11 +23,11 @@ ReportsOver way a kind input reported = reported ≡ reported_over way a kind in
 abbrev pub IsReported : Direction → Automaton → MatchKind → Input → Option Half → Type 0
 IsReported way a kind input answer = Answers (ReportsOver way a kind) (IsSkipping (engine_of a kind)) way input answer
 
--- without a look cycle it is the answer of the ordered paths
+-- if the NFA keeps its cycles it is the answer of the ordered paths
 abbrev pub ReportedIsRight : Automaton → Type 0
 ReportedIsRight a =
     (way : Direction) (kind : MatchKind) (input : Input) (answer : Option Half)
-    → IsLookAcyclic (nfa_of a) → IsInput input → IsReported way a kind input answer
+    → KeepsCycles (nfa_of a) → IsInput input → IsReported way a kind input answer
     → IsAnswer way (engine_of a kind) input answer
 
 -- passes report one answer

@@ -2,25 +2,25 @@
 use Rattle.std.specs.Prelude.{ℕ, suc, ◌<◌, ◌≤◌, Bool, true, false, List, length}
 use Rattle.automata_base.specs.Lists.{IsSet}
 use Rattle.automata_base.specs.Nfas.Nfa.{Nfa}
-use Rattle.automata_base.specs.Paths.Paths.{Tape, IsLookAcyclic}
+use Rattle.automata_base.specs.Paths.Paths.{Tape, KeepsCycles}
 use Rattle.automata_base.specs.Powersets.Cuts.{MatchKind, All}
 use Rattle.automata_base.specs.Powersets.Passes.{IsTape}
 use Rattle.automata_base.specs.Paths.Selections.{Accepts, Selects, IsOverlappingOn, IsNearest, IsFarthest}
 use Rattle.automata_base.specs.Retraced.Passes.{search_of, pairs_upto, reported_of}
 use Rattle.automata_base.specs.Nfas.Accepted.{IsInRange}
 
--- Without a look cycle, a search by passes selects what the ordered paths select.
+-- If the NFA keeps its cycles, a search by passes selects what the ordered paths select.
 abbrev pub SearchesAreRight : Type 0
 SearchesAreRight =
     (kind : MatchKind) (earliest : Bool) (n : Nfa) (t : Tape) (start : ℕ)
-    → IsInRange n → start < length n.nodes → IsLookAcyclic n → IsTape t
+    → IsInRange n → start < length n.nodes → KeepsCycles n → IsTape t
     → Selects kind earliest n t start (search_of kind earliest n t start)
 
--- Without one, a walk by passes reports the pairs that the ordered paths have.
+-- If it does, a walk by passes reports the pairs that the ordered paths have.
 abbrev pub WalksAreRight : Type 0
 WalksAreRight =
     (kind : MatchKind) (n : Nfa) (t : Tape) (start : ℕ)
-    → IsInRange n → start < length n.nodes → IsLookAcyclic n → IsTape t
+    → IsInRange n → start < length n.nodes → KeepsCycles n → IsTape t
     → IsOverlappingOn kind n t start (pairs_upto n kind start t (suc (length t.bytes)))
 
 -- For every NFA an earliest search reports the nearest end.

@@ -6,7 +6,7 @@ use Rattle.automata_base.specs.Nfas.Accepted.{IsInRange}
 use Rattle.automata_base.specs.Powersets.Cuts.{MatchKind, All}
 use Rattle.automata_base.specs.Nfas.Engines.{Anchored}
 use Rattle.automata_base.specs.Nfas.Nodes.{Automaton, nfa_of, nodes_of}
-use Rattle.automata_base.specs.Paths.Paths.{Tape, IsLookAcyclic}
+use Rattle.automata_base.specs.Paths.Paths.{Tape, KeepsCycles}
 use Rattle.automata_base.specs.Powersets.Passes.{IsSuccessor, IsTape}
 use Rattle.automata_base.specs.Powersets.Powerset.{Powerset, dead}
 use Rattle.automata_base.specs.Paths.Selections.{Selects, IsNearest, IsFarthest}
@@ -38,12 +38,12 @@ StartsAreAlike =
 abbrev pub DeadStaysDead : Type 0
 DeadStaysDead = (a : Automaton) (kind : MatchKind) (unit : Option ℕ) → successor a kind dead unit ≡ dead
 
--- a pass over an NFA without look cycles reports what the ordered paths select
+-- a pass over an NFA that keeps its cycles reports what the ordered paths select
 abbrev pub PassesSelect : Type 0
 PassesSelect =
     (kind : MatchKind) (earliest : Bool) (a : Automaton) (mode : Anchored) (t : Tape) (start : ℕ)
     → mode_start a mode ≡ Some start → IsInRange (nfa_of a) → start < length (nodes_of a.states)
-    → IsLookAcyclic (nfa_of a) → IsTape t
+    → KeepsCycles (nfa_of a) → IsTape t
     → Selects kind earliest (nfa_of a) t start (reported_by kind earliest a mode t)
 
 -- an earliest pass over any NFA reports the nearest end

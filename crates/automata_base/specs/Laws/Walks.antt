@@ -5,7 +5,7 @@ use Rattle.automata_base.specs.Powersets.Cuts.{MatchKind, All}
 use Rattle.automata_base.specs.Nfas.Engines.{IsSkipping, engine_of}
 use Rattle.automata_base.specs.Haystacks.Input.{Input}
 use Rattle.automata_base.specs.Nfas.Nodes.{Automaton, nfa_of}
-use Rattle.automata_base.specs.Paths.Paths.{IsLookAcyclic}
+use Rattle.automata_base.specs.Paths.Paths.{KeepsCycles}
 use Rattle.automata_base.specs.Paths.Selections.{Accepts, Pair}
 use Rattle.automata_base.specs.Paths.Starts.{mode_start}
 use Rattle.automata_base.specs.Haystacks.Tapes.{Direction, is_split, tape_of}
@@ -31,18 +31,18 @@ WalksAreOne =
     (way : Direction) (a : Automaton) (kind : MatchKind) (input : Input) (first second : List Pair)
     → AreReported way a kind input first → AreReported way a kind input second → first ≡ second
 
--- without a look cycle it is the list of the ordered paths
+-- if the NFA keeps its cycles it is the list of the ordered paths
 abbrev pub WalkIsRight : Automaton → Type 0
 WalkIsRight a =
     (way : Direction) (kind : MatchKind) (input : Input) (found : List Pair)
-    → IsLookAcyclic (nfa_of a) → IsInput input → AreReported way a kind input found
+    → KeepsCycles (nfa_of a) → IsInput input → AreReported way a kind input found
     → IsOverlapping way (engine_of a kind) input found
 
 -- and each list of the ordered paths is this one
 abbrev pub OverlappingIsReported : Automaton → Type 0
 OverlappingIsReported a =
     (way : Direction) (kind : MatchKind) (input : Input) (found : List Pair)
-    → IsLookAcyclic (nfa_of a) → IsInput input → IsOverlapping way (engine_of a kind) input found
+    → KeepsCycles (nfa_of a) → IsInput input → IsOverlapping way (engine_of a kind) input found
     → AreReported way a kind input found
 
 abbrev pub InPairs : Pair → List Pair → Type 0

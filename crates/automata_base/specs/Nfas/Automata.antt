@@ -1,5 +1,5 @@
 -- The data of an NFA as what contracts see.
-use Rattle.std.specs.Prelude.{ℕ, ◌≡◌, ◌↔◌, IsTrue, List}
+use Rattle.std.specs.Prelude.{ℕ, Bool, false, ◌≡◌, ◌↔◌, IsTrue, List}
 use Rattle.automata_base.specs.declared.nfa.thompson.Data.{Data}
 use Rattle.automata_base.specs.declared.nfa.thompson.Flags.{Flags}
 use Rattle.automata_base.specs.declared.nfa.thompson.State.{State}
@@ -16,22 +16,24 @@ automaton states anchored unanchored starts flags = record {
   start_unanchored = unanchored;
   start_pattern = starts;
   flags = flags;
+  keeps_unions = false;
 }
 
-abbrev pub automaton_of : Data → Automaton
-automaton_of d = record {
+abbrev pub automaton_of : Data → (keeps_unions : Bool) → Automaton
+automaton_of d keeps_unions = record {
   states = d.states.items;
   start_anchored = d.start_anchored;
   start_unanchored = d.start_unanchored;
   start_pattern = d.start_pattern.items;
   flags = d.flags;
+  keeps_unions = keeps_unions;
 }
 
 -- The data of an NFA that `NFA::from_states` accepts: what it says of itself was computed when it was made.
-pub record IsConsistent (d : Data) : Type 0 where
-  pub checked : IsChecked (automaton_of d)
-  pub looks : IsLooks (automaton_of d) d.looks
+pub record IsConsistent (d : Data) (keeps_unions : Bool) : Type 0 where
+  pub checked : IsChecked (automaton_of d keeps_unions)
+  pub looks : IsLooks (automaton_of d keeps_unions) d.looks
   pub room : d.room ≡ stack_room d.states.items
-  pub empty : IsTrue d.has_empty ↔ HasEmpty (automaton_of d)
-  pub skips : IsTrue d.skips_lazily ↔ SkipsLazily (automaton_of d)
-  pub acyclic : IsTrue d.is_look_acyclic ↔ IsLookAcyclic (nfa_of (automaton_of d))
+  pub empty : IsTrue d.has_empty ↔ HasEmpty (automaton_of d keeps_unions)
+  pub skips : IsTrue d.skips_lazily ↔ SkipsLazily (automaton_of d keeps_unions)
+  pub acyclic : IsTrue d.is_look_acyclic ↔ IsLookAcyclic (nfa_of (automaton_of d keeps_unions))

@@ -1,7 +1,7 @@
--- An NFA as paths see it: its states, the line terminator and the reverse flag.
+-- An NFA as paths see it: its states, the line terminator, the reverse flag, and whether powerset states keep unions.
 use Rattle.std.specs.Prelude.{ℕ, zero, suc, Bool, true, false, ◌||◌, cond, List, [], ◌∷◌, Option, Some, None}
+use Rattle.std.specs.Prelude.{◌&&◌, length, ltb, slice_get}
 use Rattle.automata_base.specs.Haystacks.Looks.{Look, within}
-use Rattle.std.specs.Prelude.{slice_get}
 
 -- Bytes from `lo` to `hi` lead to `next`.
 pub record Range : Type 0 where
@@ -20,6 +20,7 @@ pub record Nfa : Type 0 where
   pub nodes : List Node
   pub terminator : ℕ
   pub reverse : Bool
+  pub keeps_unions : Bool
 
 abbrev pub node_or_fail : Option Node → Node
 node_or_fail None = Split []
@@ -69,15 +70,26 @@ accepts_at (Accept p) = Some p
 abbrev pub accepts : Nfa → ℕ → Option ℕ
 accepts n q = accepts_at (node n q)
 
--- Whether a state is kept in a powerset state: byte, look and match states are.
+-- Whether a state is a byte, look or match state.
 abbrev pub stays_at : Node → Bool
 stays_at (Split alternates) = false
 stays_at (Assert look next) = true
 stays_at (Read ranges) = true
 stays_at (Accept p) = true
 
+-- Whether a state is a union of two or more alternates.
+abbrev pub splits_at : Node → Bool
+splits_at (Split alternates) = ltb 1 (length alternates)
+splits_at (Assert look next) = false
+splits_at (Read ranges) = false
+splits_at (Accept p) = false
+
+-- Whether powerset states keep a state of their closure: byte, look and match states, and unions if the NFA keeps them.
+abbrev pub keeps : Nfa → ℕ → Bool
+keeps n q = stays_at (node n q) || (splits_at (node n q) && n.keeps_unions)
+
 abbrev pub keep : Nfa → ℕ → Option ℕ
-keep n q = cond (stays_at (node n q)) (Some q) None
+keep n q = cond (keeps n q) (Some q) None
 
 -- Whether a state reads a byte or is a match.
 abbrev pub ends_at : Node → Bool

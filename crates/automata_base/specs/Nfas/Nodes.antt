@@ -1,5 +1,5 @@
 -- The states of the code as nodes.
-use Rattle.std.specs.Prelude.{ℕ, zero, suc, ◌+◌, ◌-◌, List, [], ◌∷◌, length, sum_by}
+use Rattle.std.specs.Prelude.{ℕ, Bool, zero, suc, ◌+◌, ◌-◌, List, [], ◌∷◌, length, sum_by}
 use Rattle.automata_base.specs.declared.nfa.thompson.State.{State}
 use Rattle.automata_base.specs.declared.nfa.thompson.State.TheVariants as is
 use Rattle.automata_base.specs.declared.nfa.thompson.Transition.{Transition}
@@ -42,10 +42,16 @@ pub record Automaton : Type 0 where
   pub start_unanchored : ℕ
   pub start_pattern : List ℕ
   pub flags : Flags
+  pub keeps_unions : Bool
 
 -- What paths see of an NFA.
 abbrev pub nfa_of : Automaton → Nfa
-nfa_of a = record { nodes = nodes_of a.states; terminator = a.flags.line_terminator; reverse = a.flags.reverse }
+nfa_of a = record {
+  nodes = nodes_of a.states;
+  terminator = a.flags.line_terminator;
+  reverse = a.flags.reverse;
+  keeps_unions = a.keeps_unions;
+}
 
 -- How many alternates of a state may wait on the stack while the first is followed.
 abbrev pub extra_of : State → ℕ

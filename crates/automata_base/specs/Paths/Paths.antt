@@ -2,7 +2,7 @@
 use Rattle.std.specs.Prelude.{ℕ, zero, suc, ◌≡◌, true, List, [], ◌∷◌, ◌⊎◌, Option, Some, slice_get}
 use Rattle.automata_base.specs.Haystacks.Looks.{Look, holds}
 use Rattle.automata_base.specs.Lists.{In, IsListOf, From}
-use Rattle.automata_base.specs.Nfas.Nfa.{Nfa, Assert, Truth, node, hop, takes}
+use Rattle.automata_base.specs.Nfas.Nfa.{Nfa, Split, Assert, Truth, node, hop, takes, keeps}
 
 -- A span as a search reads it: its bytes in the order in which they are read, and the bytes of the haystack beside it.
 pub record Tape : Type 0 where
@@ -71,6 +71,16 @@ LeadsOn n q z = (e r : ℕ) × (hop n all_true q e ≡ Some r) × HasEpsilonPath
 -- No cycle of such edges passes a look.
 abbrev pub IsLookAcyclic : Nfa → Type 0
 IsLookAcyclic n = (q : ℕ) (look : Look) (next : ℕ) → node n q ≡ Assert look next → LeadsOn n q q → ⊥
+
+-- A state with one alternate, as a capture.
+abbrev pub IsSingle : Nfa → ℕ → Type 0
+IsSingle n q = (r : ℕ) × (node n q ≡ Split (r ∷ []))
+
+-- A state on a cycle of such edges with one that powerset states keep is kept too, or has one alternate. It is so if no
+-- cycle passes a look, and if unions are kept.
+abbrev pub KeepsCycles : Nfa → Type 0
+KeepsCycles n =
+    (x y : ℕ) → keeps n x ≡ true → LeadsOn n x y → HasEpsilonPath n y x → (keeps n y ≡ true) ⊎ IsSingle n y
 
 -- The states reached from the roots at one place, each once, ordered by the least (index of the root, path).
 abbrev pub IsClosure : Nfa → Truth → List ℕ → List ℕ → Type 0

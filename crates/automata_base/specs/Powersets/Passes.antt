@@ -54,8 +54,8 @@ is_crlf_look look = false
 abbrev pub IsNeeded : Nfa → List ℕ → Look → Type 0
 IsNeeded n xs look = (q next : ℕ) × In q xs × (node n q ≡ Assert look next)
 
--- The powerset state that is made of a closure after a unit: its byte, look and match states in order, these patterns,
--- the looks that they need, those that are known after the unit, and the two flags about the unit, each kept only if
+-- The powerset state that is made of a closure after a unit: what the NFA keeps of it in order, these patterns, the
+-- looks that they need, those that are known after the unit, and the two flags about the unit, each kept only if
 -- some look of the NFA needs it.
 abbrev pub IsMake : Nfa → List ℕ → List ℕ → Option ℕ → Powerset → Type 0
 IsMake n patterns C prev Q =

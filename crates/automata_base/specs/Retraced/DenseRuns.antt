@@ -43,4 +43,5 @@ ranged_nfa a = record {
   nodes = ranged_nodes a.states;
   terminator = a.flags.line_terminator;
   reverse = a.flags.reverse;
+  keeps_unions = a.keeps_unions;
 }

@@ -157,6 +157,7 @@ module _ (states turned : List State) (reached : List ℕ) (first : ℕ) (below 
         start_unanchored = first;
         start_pattern = [];
         flags = record { utf8 = false; reverse = false; line_terminator = 10 };
+        keeps_unions = false;
       })
       turned reached below inside small are
 
@@ -169,5 +170,6 @@ module _ (states turned : List State) (reached : List ℕ) (first : ℕ) (below 
         start_unanchored = first;
         start_pattern = [];
         flags = record { utf8 = false; reverse = false; line_terminator = 10 };
+        keeps_unions = false;
       })
       turned reached below inside small are

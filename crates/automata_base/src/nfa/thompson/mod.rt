@@ -251,6 +251,7 @@ impl Drop for Data {
 pub struct NFA {
     data: Rc<Data>,
     alloc: Global,
+    keeps_unions: bool,
 }
 
 // One call for an owner, whose proof then has no step for each part.
@@ -259,6 +260,7 @@ impl Drop for NFA {
         let Self {
             data: _data,
             alloc: _alloc,
+            keeps_unions: _keeps_unions,
         } = self;
     }
 }
@@ -271,9 +273,9 @@ impl Model for NFA {
 
     ghost Value = { Automaton };
 
-    ghost view = { λ a. automaton_of a.data.value };
+    ghost view = { λ a. automaton_of a.data.value a.keeps_unions };
 
-    ghost invariant = { λ a. IsConsistent a.data.value };
+    ghost invariant = { λ a. IsConsistent a.data.value a.keeps_unions };
 }
 
 impl Clone for NFA {
@@ -286,6 +288,7 @@ impl Clone for NFA {
         Ok(NFA {
             data,
             alloc: self.alloc,
+            keeps_unions: self.keeps_unions,
         })
     }
 }
@@ -305,13 +308,14 @@ impl NFA {
     ghost use Rattle.automata_base.specs.Retraced.Copies.{IsFit};
     ghost use Rattle.automata_base.specs.Nfas.Nodes.{nfa_of, stack_room};
     ghost use Rattle.automata_base.specs.Powersets.Passes.{Occurs};
-    ghost use Rattle.automata_base.specs.Paths.Paths.{IsLookAcyclic};
+    ghost use Rattle.automata_base.specs.Paths.Paths.{IsLookAcyclic, KeepsCycles};
     ghost use Rattle.automata_base.specs.Nfas.Errors.{states_refusal};
     ghost use Rattle.automata_base.specs.Nfas.ReversedSizes.{most_states, most_alternates, MayBeTooLarge};
     ghost use Rattle.automata_base.specs.Paths.Starts.{mode_start};
     ghost use Rattle.automata_base.specs.Haystacks.Tapes.{Forward, Backward};
     ghost use Rattle.automata_base.specs.Answers.TruePairs.{IsTruePair, KeepsUtf8};
     ghost use Rattle.automata_base.specs.Haystacks.LookSets.{truth_of};
+    ghost use Rattle.automata_base.specs.Nfas.Unions.{IsKeepingUnions};
     ghost use Rattle.automata_base.specs.Nfas.Utf8.{HasNoLook, ReadsUtf8};
 
     /// An NFA of these states. Searches start at the anchored or the unanchored start, and those for pattern k at
@@ -392,7 +396,11 @@ impl NFA {
             is_look_acyclic,
         };
         match Rc::new(alloc, data) {
-            Ok(data) => Ok(NFA { data, alloc }),
+            Ok(data) => Ok(NFA {
+                data,
+                alloc,
+                keeps_unions: false,
+            }),
             Err(_) => Err(NfaError::OutOfMemory),
         }
     }
@@ -462,6 +470,34 @@ impl NFA {
         self.data.start_pattern.as_slice()
     }
 
+    /// The same NFA, which keeps unions in the states of its lazy DFAs if a cycle of epsilon transitions passes a look.
+    /// Searches are proved to answer by the ordered paths of every NFA that this returns. It changes nothing if there
+    /// is no such cycle, and allocates nothing.
+    pub fn keeping_unions(self) -> NFA
+        ensures same { IsKeepingUnions self result }
+        ensures keeps { KeepsCycles (nfa_of result) }
+    {
+        let has_look_cycle = !self.is_look_acyclic();
+        let NFA {
+            data,
+            alloc,
+            keeps_unions: _keeps_unions,
+        } = self;
+        NFA {
+            data,
+            alloc,
+            keeps_unions: has_look_cycle,
+        }
+    }
+
+    /// Whether the NFA keeps unions in the states of its lazy DFAs: it came from `NFA::keeping_unions`, and a cycle of
+    /// epsilon transitions passes a look.
+    pub fn keeps_unions(&self) -> bool
+        ensures { result ≡ self.now.keeps_unions }
+    {
+        self.keeps_unions
+    }
+
     /// The flags of the NFA.
     pub fn flags(&self) -> Flags
         ensures { result ≡ self.now.flags }
@@ -514,8 +550,8 @@ impl NFA {
         self.data.skips_lazily
     }
 
-    /// Whether no cycle of epsilon transitions passes a look. Then searches are proved to answer by the ordered paths.
-    /// It is computed when the NFA is made.
+    /// Whether no cycle of epsilon transitions passes a look. Then searches are proved to answer by the ordered paths;
+    /// with such a cycle they do if the NFA keeps unions (`NFA::keeping_unions`). It is computed when the NFA is made.
     ///
     /// An NFA of a regular expression passes a look twice at one place only if something that may be empty and has a
     /// look is repeated, as in `(?:\b|a)*`.

@@ -1,11 +1,11 @@
 //! What one state of an NFA has: its look, its pattern, and where it leads.
-ghost use Rattle.std.specs.Prelude.{◌≡◌, ◌<◌, ◌||◌, eqb, Some, slice_get};
+ghost use Rattle.std.specs.Prelude.{◌≡◌, ◌<◌, ◌||◌, ◌&&◌, eqb, Some, slice_get};
 ghost use Rattle.std.specs.Prelude.{None, length, slice_get};
 ghost use Rattle.automata_base.specs.Nfas.Accepted.{IsChecked};
 ghost use Rattle.automata_base.specs.Paths.Paths.{all_true};
 ghost use Rattle.automata_base.specs.Powersets.Closure.{children_at};
 ghost use Rattle.std.specs.Prelude.{◌⊎◌, ◌^◌};
-ghost use Rattle.automata_base.specs.Nfas.Nfa.{stays_at, accepts_at, takes_at, looks_at};
+ghost use Rattle.automata_base.specs.Nfas.Nfa.{stays_at, splits_at, accepts_at, takes_at, looks_at};
 ghost use Rattle.automata_base.specs.Haystacks.Looks.{look_index};
 ghost use Rattle.automata_base.specs.Nfas.Nodes.{node_of, ranges_of, dense_from};
 ghost use Rattle.automata_base.specs.Haystacks.LookSets.{truth_of};
@@ -31,9 +31,9 @@ pub fn state_at<'a>(nfa: &NFA, states: &'a [State], id: StateID) -> &'a State
     &states[id.as_usize()]
 }
 
-/// Whether a powerset state keeps the state.
-pub fn stays(state: &State) -> bool
-    ensures { result ≡ stays_at (node_of state.now) }
+/// Whether a powerset state keeps the state, of an NFA whose powerset states keep unions or not.
+pub fn is_kept(state: &State, keeps_unions: bool) -> bool
+    ensures { result ≡ (stays_at (node_of state.now) || (splits_at (node_of state.now) && keeps_unions)) }
 {
     match state {
         State::ByteRange { .. } => true,
@@ -41,8 +41,8 @@ pub fn stays(state: &State) -> bool
         State::Dense(_) => true,
         State::Look { .. } => true,
         State::Match { .. } => true,
-        State::Union { .. } => false,
-        State::BinaryUnion { .. } => false,
+        State::Union { alternates } => alternates.len() > 1 && keeps_unions,
+        State::BinaryUnion { .. } => keeps_unions,
         State::Capture { .. } => false,
         State::Fail => false,
     }

@@ -14,7 +14,7 @@ ghost use Rattle.automata_base.specs.Retraced.Computed.{is_in};
 ghost use Rattle.std.specs.Prelude.{vec_capacity, vec_len, cond};
 
 use crate::nfa::thompson::NFA;
-use crate::nfa::thompson::reading::{add_look, pattern_of, state_at, stays};
+use crate::nfa::thompson::reading::{add_look, is_kept, pattern_of, state_at};
 use crate::util::look::LookSet;
 use crate::util::primitives::{PatternID, StateID};
 
@@ -42,11 +42,12 @@ pub fn keep_states(nfa: &NFA, states: &[StateID], kept: &mut Vec<StateID>) -> Lo
     kept.clear();
     let mut looks = LookSet::empty();
     let nodes = nfa.states();
+    let keeps_unions = nfa.keeps_unions();
     for i in 0..states.len() {
         let id = states[i];
         let state = state_at(nfa, nodes, id);
         looks = add_look(looks, state);
-        push_if(kept, id, stays(state));
+        push_if(kept, id, is_kept(state, keeps_unions));
     }
     looks
 }

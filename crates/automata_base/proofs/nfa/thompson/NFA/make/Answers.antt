@@ -1,4 +1,4 @@
-use Rattle.std.proofs.Common.{◌≡◌, ◌<◌, ◌≤◌, ◌↔◌, true, eqb, length, sym, ap, ◌∙◌, subst}
+use Rattle.std.proofs.Common.{◌≡◌, ◌<◌, ◌≤◌, ◌↔◌, true, false, eqb, length, sym, ap, ◌∙◌, subst}
 use Rattle.std.specs.Prelude.{IsTrue}
 use Rattle.automata_base.specs.Nfas.Automata.{IsConsistent, automaton}
 use Rattle.automata_base.specs.Lists.{all_below}
@@ -65,8 +65,8 @@ invariant_of-result c =
       skips_lazily = c.skips_lazily-skips_lazily.result;
       is_look_acyclic = c.in_ok-is_look_acyclic.is_look_acyclic;
     } in
-    subst IsConsistent (sym c.in-Ok.ensures.ok)
-    (sound d c.requires.passed
+    subst (λ (d : Data). IsConsistent d false) (sym c.in-Ok.ensures.ok)
+    (sound d false c.requires.passed
     (λ look. c.looks_of-looks.ensures look ∙ ap (λ z. any_node (λ other. eqb (look_index other) (look_index look)) (nodes_of z)) c.as_slice-5.ensures.value)
     c.requires.room
     (subst (λ s. IsTrue c.reaches_match_in-has_empty.result ↔ ReachesMatch s c.args.start_pattern.items) c.as_slice-2.ensures.value

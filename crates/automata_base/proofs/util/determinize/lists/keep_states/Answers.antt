@@ -1,8 +1,8 @@
-use Rattle.std.proofs.Common.{◌≡◌, ◌++◌, ◌≤◌, ◌||◌, eqb, sym, ◌∙◌, ap, length, arith, vec_len, vec_capacity}
+use Rattle.std.proofs.Common.{◌≡◌, ◌++◌, ◌≤◌, ◌||◌, ◌&&◌, eqb, sym, ◌∙◌, ap, length, arith, vec_len, vec_capacity}
 use Rattle.automata_base.specs.Lists.{pick}
 use Rattle.automata_base.specs.Nfas.Nodes.{nfa_of, node_of}
 use Rattle.automata_base.specs.Haystacks.LookSets.{truth_of}
-use Rattle.automata_base.specs.Nfas.Nfa.{stays_at, node, keep, looks_at}
+use Rattle.automata_base.specs.Nfas.Nfa.{stays_at, splits_at, node, keep, looks_at}
 use Rattle.automata_base.specs.Retraced.Computed.{any_state}
 use Rattle.automata_base.specs.Haystacks.Looks.{look_index}
 use Rattle.automata_base.proofs.Powersets.Walking.{node_at}
@@ -39,9 +39,9 @@ loop-i-preserved c =
     let below = below_at c.args.states.now (length c.args.nfa.now.states) c.loop-i.i c.index-states-i.result c.requires.below c.loop-i-test.true c.index-states-i.is in
     let here : node (nfa_of c.args.nfa.now) c.index-states-i.result ≡ node_of c.state_at-state.result.now =
     node_at c.args.nfa.now.states c.index-states-i.result c.state_at-state.result.now c.state_at-state.result.now below (state_read c.args.nfa.now.states c.index-states-i.result c.state_at-state.result.now c.state_at-state.ensures.same) in (
-      keep_next (nfa_of c.args.nfa.now) c.args.states.now c.loop-i.kept.items c.push_if.new.kept.items c.loop-i.i c.index-states-i.result c.stays.result
-          c.loop-i-test.true c.index-states-i.is (c.stays.ensures ∙ ap stays_at (sym here)) c.push_if.ensures.items c.loop-i.invariant.0,
-      room_next c.loop-i.kept.items c.push_if.new.kept.items c.loop-i.i c.index-states-i.result c.stays.result c.push_if.ensures.items c.loop-i.invariant.1,
+      keep_next (nfa_of c.args.nfa.now) c.args.states.now c.loop-i.kept.items c.push_if.new.kept.items c.loop-i.i c.index-states-i.result c.is_kept.result
+          c.loop-i-test.true c.index-states-i.is (c.is_kept.ensures ∙ (ap (λ m. stays_at m || (splits_at m && c.keeps_unions-keeps_unions.result)) (sym here) ∙ ap (λ w. stays_at (node (nfa_of c.args.nfa.now) c.index-states-i.result) || (splits_at (node (nfa_of c.args.nfa.now) c.index-states-i.result) && w)) c.keeps_unions-keeps_unions.ensures)) c.push_if.ensures.items c.loop-i.invariant.0,
+      room_next c.loop-i.kept.items c.push_if.new.kept.items c.loop-i.i c.index-states-i.result c.is_kept.result c.push_if.ensures.items c.loop-i.invariant.1,
       (λ other. looks_next (nfa_of c.args.nfa.now) (λ look. eqb (look_index look) (look_index other)) c.args.states.now c.loop-i.i c.index-states-i.result
           (truth_of c.loop-i.looks other) (truth_of c.add_look-looks.result other) (any_state (λ look. eqb (look_index look) (look_index other)) (nfa_of c.args.nfa.now) c.args.states.now)
           c.loop-i-test.true c.index-states-i.is
