@@ -6,9 +6,9 @@ use crate::catalogue::Entry;
 use crate::error::RunError;
 use crate::keyword::Keyword;
 use regex_automata::hybrid::dfa::Config;
-use regex_automata::replay::{Request, Way};
+use regex_automata::replay::Request;
 use regex_automata::util::primitives::PatternID;
-use regex_automata::util::search::{Anchored, Input, MatchKind, Span};
+use regex_automata::util::search::{Anchored, Direction, Input, MatchKind, Span};
 use std::alloc::{AllocError, Global};
 
 /// What a script asks for, in the order of its lines.
@@ -34,7 +34,7 @@ enum Order {
     IsMatch(Query),
     Iterate(Query),
     Tokenise(Query),
-    BeginWalk { way: Way, query: Query },
+    BeginWalk { way: Direction, query: Query },
     StepWalk(usize),
     Which { capacity: usize, query: Query },
     Reset(usize),
@@ -172,8 +172,8 @@ impl Order {
     fn parse_walk(alloc: Global, words: &[&[u8]]) -> Result<Order, LineError> {
         let (direction, rest) = words.split_first().ok_or(LineError::Bad)?;
         let way = match Keyword::spelled(*direction) {
-            Some(Keyword::Forward) => Way::Forward,
-            Some(Keyword::Reverse) => Way::Backward,
+            Some(Keyword::Forward) => Direction::Forward,
+            Some(Keyword::Reverse) => Direction::Backward,
             _ => return Err(LineError::Bad),
         };
         let query = Query::parse(alloc, rest)?;

@@ -12,5 +12,5 @@ pub mod util;
 pub use automata_base::util::pattern_set::{PatternSet, PatternSetInsertError, PatternSetIter};
 pub use automata_base::util::primitives::PatternID;
 pub use automata_base::util::search::{
-    Anchored, HalfMatch, Input, Match, MatchError, MatchErrorKind, MatchKind, Span,
+    Anchored, Direction, HalfMatch, Input, Match, MatchError, MatchErrorKind, MatchKind, Span,
 };

@@ -1,7 +1,6 @@
 pub mod Decoder
 pub mod Adding
 pub mod Answering
-pub mod Backwards
 pub mod Chars
 pub mod Decoding
 pub mod Edges

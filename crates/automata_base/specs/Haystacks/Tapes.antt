@@ -4,6 +4,8 @@ use Rattle.std.specs.Prelude.{ℕ, zero, suc, ◌≡◌, ◌<◌, ◌≤◌, ◌
 use Rattle.std.specs.Prelude.{Option, Some, None, slice_get}
 use Rattle.automata_base.specs.Haystacks.Looks.{within}
 use Rattle.automata_base.specs.Paths.Paths.{Tape, prev, next}
+pub use Rattle.automata_base.specs.declared.util.search.Direction.{Direction}
+pub use Rattle.automata_base.specs.declared.util.search.Direction.TheVariants.{Forward, Backward}
 
 -- Each number is a byte.
 abbrev pub IsHaystack : List ℕ → Type 0
@@ -26,11 +28,7 @@ forward_tape h s e = record { before = byte_before h s; bytes = between h s e; a
 abbrev pub reverse_tape : List ℕ → ℕ → ℕ → Tape
 reverse_tape h s e = record { before = slice_get h e; bytes = reverse (between h s e); after = byte_before h s }
 
--- A search reads its span to the right or to the left.
-pub data Direction : Type 0 where
-  Forward : Direction
-  Backward : Direction
-
+-- The tape of the span `s..e` in a direction.
 abbrev pub tape_of : Direction → List ℕ → ℕ → ℕ → Tape
 tape_of Forward h s e = forward_tape h s e
 tape_of Backward h s e = reverse_tape h s e

@@ -175,6 +175,15 @@ pub enum MatchKind {
     LeftmostFirst,
 }
 
+/// The direction in which a search reads its span.
+#[derive(Clone, Copy, Debug, PartialEq, Eq)]
+pub enum Direction {
+    /// From the start of the span to its end.
+    Forward,
+    /// From the end of the span to its start.
+    Backward,
+}
+
 /// Where a match may begin: anywhere, at the search's start, or at the search's start and of one pattern alone.
 #[derive(Clone, Copy, Debug, PartialEq, Eq)]
 pub enum Anchored {

@@ -16,9 +16,6 @@ use Rattle.automata_hybrid.specs.Searches.Progress.{IsAfterEnd, KeepsNone}
 use Rattle.automata_hybrid.specs.Searches.Passes.{given_up_offset, state_in, tape_in, unit_offset}
 use Rattle.automata_hybrid.specs.Searches.SelfLoops.{byte_in}
 use Rattle.automata_hybrid.specs.Cache.Table.{Rows, Leads, Names}
-use Rattle.automata_hybrid.specs.Walks.State.{way_of}
-use Rattle.automata_hybrid.specs.declared.search.direction.Way.{Way}
-use Rattle.automata_hybrid.specs.declared.search.direction.Way.TheVariants as way
 use Rattle.automata_hybrid.proofs.Searches.PassState.{state_first}
 use Rattle.automata_hybrid.proofs.Steps.Ids.{dead_tagged}
 use Rattle.automata_hybrid.proofs.Searches.Units.{backward_read, backward_unit, backward_units, forward_read, forward_unit}
@@ -32,11 +29,11 @@ units_in Backward input s l = backward_units input s l
 
 -- forward the unit at a place is the byte at its offset, backward the one before it
 pub unit_forward :
-    (w : Way) (input : Input) (place at : ℕ)
-    → w ≡ way.Forward → input.start ≤ input.end → place ≤ input.end - input.start → input.end ≤ length input.haystack
-    → at ≡ offset_in (way_of w) input place → next (tape_in (way_of w) input) place ≡ slice_get input.haystack at
+    (w : Direction) (input : Input) (place at : ℕ)
+    → w ≡ Forward → input.start ≤ input.end → place ≤ input.end - input.start → input.end ≤ length input.haystack
+    → at ≡ offset_in w input place → next (tape_in w input) place ≡ slice_get input.haystack at
 unit_forward w input place at e s p l o =
-    subst (λ (v : Way). at ≡ offset_in (way_of v) input place → next (tape_in (way_of v) input) place ≡ slice_get input.haystack at) (sym e) forward o
+    subst (λ (v : Direction). at ≡ offset_in v input place → next (tape_in v input) place ≡ slice_get input.haystack at) (sym e) forward o
   where
     forward : at ≡ input.start + place → next (tape_in Forward input) place ≡ slice_get input.haystack at
     forward f =
@@ -44,11 +41,11 @@ unit_forward w input place at e s p l o =
         ap (next (tape_in Forward input)) k ∙ forward_unit input at (omega (arith, f)) (omega (arith, f, p, s)) l
 
 pub unit_backward :
-    (w : Way) (input : Input) (place at : ℕ)
-    → w ≡ way.Backward → input.start ≤ input.end → place ≤ input.end - input.start → input.end ≤ length input.haystack
-    → at ≡ offset_in (way_of w) input place → next (tape_in (way_of w) input) place ≡ byte_before input.haystack at
+    (w : Direction) (input : Input) (place at : ℕ)
+    → w ≡ Backward → input.start ≤ input.end → place ≤ input.end - input.start → input.end ≤ length input.haystack
+    → at ≡ offset_in w input place → next (tape_in w input) place ≡ byte_before input.haystack at
 unit_backward w input place at e s p l o =
-    subst (λ (v : Way). at ≡ offset_in (way_of v) input place → next (tape_in (way_of v) input) place ≡ byte_before input.haystack at) (sym e) backward o
+    subst (λ (v : Direction). at ≡ offset_in v input place → next (tape_in v input) place ≡ byte_before input.haystack at) (sym e) backward o
   where
     backward : at ≡ input.end - place → next (tape_in Backward input) place ≡ byte_before input.haystack at
     backward f =
@@ -60,9 +57,9 @@ pub before_read :
 before_read xs at i x e l read = ap (byte_before xs) (sym e) ∙ nth_read xs i x 0 l read
 
 pub backward_within :
-    (w : Way) (input : Input) (place at : ℕ) → w ≡ way.Backward → at ≡ offset_in (way_of w) input place → at ≤ input.end
+    (w : Direction) (input : Input) (place at : ℕ) → w ≡ Backward → at ≡ offset_in w input place → at ≤ input.end
 backward_within w input place at e o =
-    subst (λ (v : Way). at ≡ offset_in (way_of v) input place → at ≤ input.end) (sym e) backward o
+    subst (λ (v : Direction). at ≡ offset_in v input place → at ≤ input.end) (sym e) backward o
   where
     backward : at ≡ input.end - place → at ≤ input.end
     backward f = omega (arith, f)
@@ -85,14 +82,14 @@ unit_read Backward input xs place i p l same here =
 
 -- and so do the bytes from a place on
 pub units_forward :
-    (w : Way) (input : Input) (hay : List ℕ) (place first end : ℕ)
-    → w ≡ way.Forward → input.start ≤ input.end → place ≤ input.end - input.start → input.end ≤ length input.haystack
+    (w : Direction) (input : Input) (hay : List ℕ) (place first end : ℕ)
+    → w ≡ Forward → input.start ≤ input.end → place ≤ input.end - input.start → input.end ≤ length input.haystack
     → hay ≡ input.haystack → first ≡ input.start → end ≡ input.end → (k : ℕ)
     → k < length (take (end - (first + place)) (drop (first + place) hay))
-    → next (tape_in (way_of w) input) (place + k)
-    ≡ Some (byte_in (way_of w) (take (end - (first + place)) (drop (first + place) hay)) k)
+    → next (tape_in w input) (place + k)
+    ≡ Some (byte_in w (take (end - (first + place)) (drop (first + place) hay)) k)
 units_forward w input hay place first end e s p l same here there =
-    subst (λ (v : Way). (k : ℕ) → k < length xs → next (tape_in (way_of v) input) (place + k) ≡ Some (byte_in (way_of v) xs k)) (sym e) forward
+    subst (λ (v : Direction). (k : ℕ) → k < length xs → next (tape_in v input) (place + k) ≡ Some (byte_in v xs k)) (sym e) forward
   where
     xs : List ℕ
     xs = take (end - (first + place)) (drop (first + place) hay)
@@ -106,14 +103,14 @@ units_forward w input hay place first end e s p l same here there =
         ∙ ap Some (sym (get_or-chunk (first + place) (end - (first + place)) hay k 0 (omega (arith, low, long))))
 
 pub units_backward :
-    (w : Way) (input : Input) (hay : List ℕ) (place first end : ℕ)
-    → w ≡ way.Backward → input.start ≤ input.end → place ≤ input.end - input.start → input.end ≤ length input.haystack
+    (w : Direction) (input : Input) (hay : List ℕ) (place first end : ℕ)
+    → w ≡ Backward → input.start ≤ input.end → place ≤ input.end - input.start → input.end ≤ length input.haystack
     → hay ≡ input.haystack → first ≡ input.start → end ≡ input.end → (k : ℕ)
     → k < length (take (end - place - first) (drop first hay))
-    → next (tape_in (way_of w) input) (place + k)
-    ≡ Some (byte_in (way_of w) (take (end - place - first) (drop first hay)) k)
+    → next (tape_in w input) (place + k)
+    ≡ Some (byte_in w (take (end - place - first) (drop first hay)) k)
 units_backward w input hay place first end e s p l same here there =
-    subst (λ (v : Way). (k : ℕ) → k < length xs → next (tape_in (way_of v) input) (place + k) ≡ Some (byte_in (way_of v) xs k)) (sym e) backward
+    subst (λ (v : Direction). (k : ℕ) → k < length xs → next (tape_in v input) (place + k) ≡ Some (byte_in v xs k)) (sym e) backward
   where
     xs : List ℕ
     xs = take (end - place - first) (drop first hay)

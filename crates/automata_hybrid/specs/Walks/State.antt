@@ -2,11 +2,7 @@
 use Rattle.std.specs.Prelude.{ℕ, ◌≡◌, suc, Option, None, Some}
 use Rattle.automata_base.specs.Haystacks.Matches.{HalfMatch}
 use Rattle.automata_base.specs.Powersets.Powerset.{Powerset}
-use Rattle.automata_base.specs.Haystacks.Tapes.{Direction}
-use Rattle.automata_base.specs.Haystacks.Tapes as tapes
 use Rattle.automata_hybrid.specs.Cache.Table.{Names, Rows}
-use Rattle.automata_hybrid.specs.declared.search.direction.Way.{Way}
-use Rattle.automata_hybrid.specs.declared.search.direction.Way.TheVariants as way
 use Rattle.automata_hybrid.specs.declared.search.walk.Handle.{Handle}
 use Rattle.automata_hybrid.specs.declared.search.walk.Held.{Held}
 use Rattle.automata_hybrid.specs.declared.search.walk.Held.TheVariants as held
@@ -42,11 +38,6 @@ with_match w half = record { stage = w.stage; units = w.units; reported = suc w.
 -- at its end, when it has read so many units
 abbrev pub ended_walk : Walk → ℕ → Walk
 ended_walk w units = record { stage = Ended; units = units; reported = 0; found = None }
-
--- a direction as contracts name it
-abbrev pub way_of : Way → Direction
-way_of way.Forward = tapes.Forward
-way_of way.Backward = tapes.Backward
 
 -- what a walk keeps of the state where it stands: the state itself, over whatever caches; or, in the walk of a set,
 -- which is over with its call, the ID of the state's row alone

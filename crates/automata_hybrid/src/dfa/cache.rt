@@ -245,8 +245,7 @@ impl Cache {
         ensures own { (q : Powerset) → Names self.now.store.table id q → IsOwn self.now.store.table.of.nfa q }
         ensures stride { table_stride self.now.store.table.of ≤ 512 }
     {
-        self.see_bounds();
-        self.store.table.cell(id, class)
+        self.cell_in_row(id, id.offset() as usize, class)
     }
 
     /// The same, of an ID whose row's offset is known.

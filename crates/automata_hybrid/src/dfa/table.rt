@@ -248,18 +248,7 @@ impl Table {
         id == row.id(offset)
     }
 
-    /// The cell of a row at a class.
-    pub fn cell(&self, id: LazyStateID, class: usize) -> LazyStateID
-        requires row { IsRowId self.now id }
-        requires class { class < table_stride self.now.of }
-        ensures value { result ≡ slice_index self.now.cells (cell_at id class) }
-        ensures named { (q : Powerset) → Names self.now id q → IsCell self.now q class result }
-        ensures stride { table_stride self.now.of ≤ 512 }
-    {
-        cell_in(self.cells.as_slice(), id.offset() as usize, class)
-    }
-
-    /// The same, of an ID whose row's offset is known: no tag has to be taken off.
+    /// The cell of a row at a class. The row's offset is known: no tag has to be taken off.
     #[inline(always)]
     pub fn cell_in_row(&self, id: LazyStateID, row: usize, class: usize) -> LazyStateID
         requires row { IsRowId self.now id }

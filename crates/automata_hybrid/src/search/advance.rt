@@ -14,14 +14,13 @@ ghost use Rattle.automata_hybrid.specs.Searches.Passes.{state_in, tape_in, unit_
 ghost use Rattle.automata_hybrid.specs.Steps.Starts.{IsStartAnswer, IsStartEffect, IsStartRefusedAt};
 ghost use Rattle.automata_hybrid.specs.Cache.Table.{IsRowId, Leads, Names};
 ghost use Rattle.automata_hybrid.specs.Walks.Answers.{IsAdvanceRefusal, IsArrival, WalkReads};
-ghost use Rattle.automata_hybrid.specs.Walks.State.{way_of};
 
 use crate::dfa::DFA;
 use crate::dfa::cache::Cache;
 use crate::id::LazyStateID;
-use crate::search::direction::{Way, last_place, place_offset, span_offset, unit_at, unit_offset};
+use crate::search::direction::{last_place, place_offset, span_offset, unit_at, unit_offset};
 use crate::search::follow::Stop;
-use automata_base::util::search::Input;
+use automata_base::util::search::{Direction, Input};
 use automata_config::error::SearchError;
 
 /// Where a walk has come to: a state whose patterns match, or none at its end; and how many units it has read.
@@ -38,21 +37,21 @@ impl DFA {
         &self,
         cache: &mut Cache,
         input: &Input<'_>,
-        way: Way,
+        way: Direction,
     ) -> Result<LazyStateID, SearchError>
         requires { IsCacheOf cache.old self.now }
         ensures of { IsCacheOf cache.new self.now }
-        ensures answer { IfOk result (IsStartAnswer self.now input.now.anchored (tape_in (way_of way) input.now).before
+        ensures answer { IfOk result (IsStartAnswer self.now input.now.anchored (tape_in way input.now).before
             cache.old cache.new) }
         ensures refusal { IfErr result
-            (IsStartRefusedAt self.now input.now.anchored (tape_in (way_of way) input.now).before
-            (behind_offset (way_of way) input.now) (offset_in (way_of way) input.now 0) cache.old cache.new) }
-        ensures effect { IsStartEffect self.now input.now.anchored (tape_in (way_of way) input.now).before
+            (IsStartRefusedAt self.now input.now.anchored (tape_in way input.now).before
+            (behind_offset way input.now) (offset_in way input.now 0) cache.old cache.new) }
+        ensures effect { IsStartEffect self.now input.now.anchored (tape_in way input.now).before
             cache.old cache.new }
     {
         match way {
-            Way::Forward => self.start_state_forward(cache, input),
-            Way::Backward => self.start_state_reverse(cache, input),
+            Direction::Forward => self.start_state_forward(cache, input),
+            Direction::Backward => self.start_state_reverse(cache, input),
         }
     }
 
@@ -61,20 +60,20 @@ impl DFA {
         &self,
         cache: &mut Cache,
         input: &Input<'_>,
-        way: Way,
+        way: Direction,
         id: LazyStateID,
         place: usize,
     ) -> Result<LazyStateID, SearchError>
         requires of { IsCacheOf cache.old self.now }
-        requires at { StandsAfterUnits (way_of way) self.now cache.old.store.table input.now place id }
+        requires at { StandsAfterUnits way self.now cache.old.store.table input.now place id }
         ensures of { IsCacheOf cache.new self.now }
         ensures leads { IfOk result (λ n. Leads cache.new.store.table n
-            (state_in (way_of way) self.now input.now (suc place))) }
-        ensures clean { OnOk result ((byte : ℕ) → next (tape_in (way_of way) input.now) place ≡ Some byte
+            (state_in way self.now input.now (suc place))) }
+        ensures clean { OnOk result ((byte : ℕ) → next (tape_in way input.now) place ≡ Some byte
             → is_quit self.now.quits byte ≡ false) }
-        ensures reads { WalkReads (way_of way) self.now input.now place }
-        ensures refusal { IfErr result (IsUnitRefusal (way_of way) self.now cache.new.store input.now place) }
-        ensures effect { IsUnitEffect (way_of way) self.now input.now place cache.old cache.new result }
+        ensures reads { WalkReads way self.now input.now place }
+        ensures refusal { IfErr result (IsUnitRefusal way self.now cache.new.store input.now place) }
+        ensures effect { IsUnitEffect way self.now input.now place cache.old cache.new result }
     {
         let at = span_offset(input, way, place);
         let quit_at = unit_offset(input, way, place);
@@ -86,7 +85,7 @@ impl DFA {
         &self,
         cache: &Cache,
         input: &Input<'_>,
-        way: Way,
+        way: Direction,
         id: LazyStateID,
         place: usize,
     ) -> bool
@@ -95,10 +94,10 @@ impl DFA {
         requires within { place ≤ input.now.end - input.now.start }
         requires valid { IsRowId cache.now.store.table id }
         ensures yes { result ≡ true
-            → (Skips self.now → is_split input.now.haystack (offset_in (way_of way) input.now place) ≡ false)
+            → (Skips self.now → is_split input.now.haystack (offset_in way input.now place) ≡ false)
             × ((q : Powerset) → Names cache.now.store.table id q → 0 < length q.patterns) }
         ensures no { result ≡ false
-            → (Skips self.now × (is_split input.now.haystack (offset_in (way_of way) input.now place) ≡ true))
+            → (Skips self.now × (is_split input.now.haystack (offset_in way input.now place) ≡ true))
             ⊎ ((q : Powerset) → Names cache.now.store.table id q → q.patterns ≡ []) }
     {
         cache.see_bounds();
@@ -113,20 +112,20 @@ impl DFA {
         &self,
         cache: &Cache,
         input: &Input<'_>,
-        way: Way,
+        way: Direction,
         start: usize,
         from: LazyStateID,
     ) -> Stop
         requires of { IsCacheOf cache.now self.now }
         requires open { input.now.start ≤ input.now.end }
         requires within { start ≤ input.now.end - input.now.start }
-        requires named { Names cache.now.store.table from (state_in (way_of way) self.now input.now start) }
+        requires named { Names cache.now.store.table from (state_in way self.now input.now start) }
         ensures within { result.at ≤ input.now.end - input.now.start }
-        ensures followed { IsFollowed (way_of way) self.now cache.now.store input.now 0 start result.at result.id }
+        ensures followed { IsFollowed way self.now cache.now.store input.now 0 start result.at result.id }
     {
         match way {
-            Way::Forward => self.follow(cache, input, Way::Forward, start, from),
-            Way::Backward => self.follow(cache, input, Way::Backward, start, from),
+            Direction::Forward => self.follow(cache, input, Direction::Forward, start, from),
+            Direction::Backward => self.follow(cache, input, Direction::Backward, start, from),
         }
     }
 
@@ -136,18 +135,18 @@ impl DFA {
         &self,
         cache: &mut Cache,
         input: &Input<'_>,
-        way: Way,
+        way: Direction,
         from: LazyStateID,
         units: usize,
     ) -> Result<Arrival, SearchError>
         requires of { IsCacheOf cache.old self.now }
-        requires from { StandsAfterUnits (way_of way) self.now cache.old.store.table input.now units from }
-        requires clean { HasReadNoQuit (way_of way) self.now input.now units }
+        requires from { StandsAfterUnits way self.now cache.old.store.table input.now units from }
+        requires clean { HasReadNoQuit way self.now input.now units }
         ensures of { IsCacheOf cache.new self.now }
-        ensures arrives { IfOk result (λ a. IsArrival (way_of way) self.now cache.new.store.table input.now units a.id
+        ensures arrives { IfOk result (λ a. IsArrival way self.now cache.new.store.table input.now units a.id
             a.units) }
-        ensures refusal { IfErr result (IsAdvanceRefusal (way_of way) self.now cache.new.store input.now units) }
-        ensures effect { IsAdvanceEffect (way_of way) self.now input.now units cache.old cache.new result }
+        ensures refusal { IfErr result (IsAdvanceRefusal way self.now cache.new.store input.now units) }
+        ensures effect { IsAdvanceEffect way self.now input.now units cache.old cache.new result }
     {
         let _haystack = input.haystack();
         let last = last_place(input);

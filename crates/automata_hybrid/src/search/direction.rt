@@ -9,18 +9,10 @@ ghost use Rattle.automata_hybrid.specs.Searches.Progress.{KeepsNone, before_last
 ghost use Rattle.automata_hybrid.specs.Searches.Passes.{given_up_offset, tape_in, unit_offset};
 ghost use Rattle.automata_hybrid.specs.Cache.Stores.{with_searched};
 ghost use Rattle.automata_hybrid.specs.Searches.SelfLoops.{byte_in};
-ghost use Rattle.automata_hybrid.specs.Walks.State.{way_of};
 
 use crate::dfa::cache::Cache;
-use automata_base::util::search::Input;
+use automata_base::util::search::{Direction, Input};
 use automata_base::util::start;
-
-/// The direction of a search.
-#[derive(Clone, Copy)]
-pub(crate) enum Way {
-    Forward,
-    Backward,
-}
 
 /// The last place of a search: after the bytes of its span.
 pub(crate) fn last_place(input: &Input<'_>) -> usize
@@ -32,37 +24,37 @@ pub(crate) fn last_place(input: &Input<'_>) -> usize
 }
 
 /// The offset of a place.
-pub(crate) fn place_offset(input: &Input<'_>, way: Way, place: usize) -> usize
+pub(crate) fn place_offset(input: &Input<'_>, way: Direction, place: usize) -> usize
     requires open { input.now.start ≤ input.now.end }
     requires within { place ≤ input.now.end - input.now.start }
-    ensures value { result ≡ offset_in (way_of way) input.now place }
+    ensures value { result ≡ offset_in way input.now place }
     ensures inside { input.now.end ≤ length input.now.haystack }
 {
     let _haystack = input.haystack();
     match way {
-        Way::Forward => input.start() + place,
-        Way::Backward => input.end() - place,
+        Direction::Forward => input.start() + place,
+        Direction::Backward => input.end() - place,
     }
 }
 
 /// The offset of the byte at a place before the last one.
-pub(crate) fn byte_offset(input: &Input<'_>, way: Way, place: usize) -> usize
+pub(crate) fn byte_offset(input: &Input<'_>, way: Direction, place: usize) -> usize
     requires { place < input.now.end - input.now.start }
-    ensures unit { result ≡ unit_offset (way_of way) input.now place }
+    ensures unit { result ≡ unit_offset way input.now place }
     ensures from { input.now.start ≤ result }
     ensures within { result < input.now.end }
 {
     let _haystack = input.haystack();
     match way {
-        Way::Forward => input.start() + place,
-        Way::Backward => input.end() - 1 - place,
+        Direction::Forward => input.start() + place,
+        Direction::Backward => input.end() - 1 - place,
     }
 }
 
 /// The byte at a place before the last one.
-pub(crate) fn byte_at(input: &Input<'_>, way: Way, place: usize) -> u8
+pub(crate) fn byte_at(input: &Input<'_>, way: Direction, place: usize) -> u8
     requires { place < input.now.end - input.now.start }
-    ensures { next (tape_in (way_of way) input.now) place ≡ Some result }
+    ensures { next (tape_in way input.now) place ≡ Some result }
 {
     let haystack = input.haystack();
     haystack[byte_offset(input, way, place)]
@@ -70,38 +62,38 @@ pub(crate) fn byte_at(input: &Input<'_>, way: Way, place: usize) -> u8
 
 /// The bytes of the span from a place on, which are read from the front or from the back.
 #[inline(always)]
-pub(crate) fn bytes_from<'h>(input: &Input<'h>, way: Way, place: usize) -> &'h [u8]
+pub(crate) fn bytes_from<'h>(input: &Input<'h>, way: Direction, place: usize) -> &'h [u8]
     requires open { input.now.start ≤ input.now.end }
     requires within { place ≤ input.now.end - input.now.start }
     ensures long { length result.now ≡ input.now.end - input.now.start - place }
     ensures bound { input.now.end < 2 ^ 63 }
     ensures units { (k : ℕ) → k < length result.now
-        → next (tape_in (way_of way) input.now) (place + k) ≡ Some (byte_in (way_of way) result.now k) }
+        → next (tape_in way input.now) (place + k) ≡ Some (byte_in way result.now k) }
 {
     let haystack = input.haystack();
     match way {
-        Way::Forward => &haystack[input.start() + place..input.end()],
-        Way::Backward => &haystack[input.start()..input.end() - place],
+        Direction::Forward => &haystack[input.start() + place..input.end()],
+        Direction::Backward => &haystack[input.start()..input.end() - place],
     }
 }
 
 /// What is read at a place: a byte of the span or the one after it, or none after the haystack.
-pub(crate) fn unit_at(input: &Input<'_>, way: Way, place: usize) -> Option<u8>
+pub(crate) fn unit_at(input: &Input<'_>, way: Direction, place: usize) -> Option<u8>
     requires open { input.now.start ≤ input.now.end }
     requires within { place ≤ input.now.end - input.now.start }
-    ensures { result ≡ next (tape_in (way_of way) input.now) place }
+    ensures { result ≡ next (tape_in way input.now) place }
 {
     let haystack = input.haystack();
     let at = place_offset(input, way, place);
     match way {
-        Way::Forward => {
+        Direction::Forward => {
             if at < haystack.len() {
                 Some(haystack[at])
             } else {
                 None
             }
         }
-        Way::Backward => {
+        Direction::Backward => {
             if at == 0 {
                 None
             } else {
@@ -112,100 +104,100 @@ pub(crate) fn unit_at(input: &Input<'_>, way: Way, place: usize) -> Option<u8>
 }
 
 /// The offset of the unit at a place.
-pub(crate) fn unit_offset(input: &Input<'_>, way: Way, place: usize) -> usize
+pub(crate) fn unit_offset(input: &Input<'_>, way: Direction, place: usize) -> usize
     requires open { input.now.start ≤ input.now.end }
     requires within { place ≤ input.now.end - input.now.start }
-    ensures { result ≡ unit_offset (way_of way) input.now place }
+    ensures { result ≡ unit_offset way input.now place }
 {
     let at = place_offset(input, way, place);
     match way {
-        Way::Forward => at,
-        Way::Backward => at.saturating_sub(1),
+        Direction::Forward => at,
+        Direction::Backward => at.saturating_sub(1),
     }
 }
 
 /// The same, or where that is before the span, the span's start.
-pub(crate) fn span_offset(input: &Input<'_>, way: Way, place: usize) -> usize
+pub(crate) fn span_offset(input: &Input<'_>, way: Direction, place: usize) -> usize
     requires open { input.now.start ≤ input.now.end }
     requires within { place ≤ input.now.end - input.now.start }
-    ensures value { result ≡ given_up_offset (way_of way) input.now place }
+    ensures value { result ≡ given_up_offset way input.now place }
     ensures inside { input.now.end ≤ length input.now.haystack }
 {
     let at = place_offset(input, way, place);
     match way {
-        Way::Forward => at,
-        Way::Backward => at.saturating_sub(1).max(input.start()),
+        Direction::Forward => at,
+        Direction::Backward => at.saturating_sub(1).max(input.start()),
     }
 }
 
 /// The look-behind byte of a search, which its start state depends on.
 #[inline(always)]
-pub(crate) fn byte_behind(input: &Input<'_>, way: Way) -> Option<u8>
-    ensures { result ≡ (tape_in (way_of way) input.now).before }
+pub(crate) fn byte_behind(input: &Input<'_>, way: Direction) -> Option<u8>
+    ensures { result ≡ (tape_in way input.now).before }
 {
     match way {
-        Way::Forward => start::Config::from_input_forward(input).get_look_behind(),
-        Way::Backward => start::Config::from_input_reverse(input).get_look_behind(),
+        Direction::Forward => start::Config::from_input_forward(input).get_look_behind(),
+        Direction::Backward => start::Config::from_input_reverse(input).get_look_behind(),
     }
 }
 
 /// How many bytes a run counts that ended at a place: back, the byte after the span is none of them.
 #[inline(always)]
-pub(crate) fn bytes_read(input: &Input<'_>, way: Way, place: usize) -> usize
+pub(crate) fn bytes_read(input: &Input<'_>, way: Direction, place: usize) -> usize
     requires within { place ≤ input.now.end - input.now.start }
-    requires kept { KeepsNone (way_of way) input.now → ⊥ }
+    requires kept { KeepsNone way input.now → ⊥ }
     requires open { input.now.start ≤ input.now.end }
     ensures { result ≡ distance (record {
-      start = given_up_offset (way_of way) input.now 0;
-      place = given_up_offset (way_of way) input.now place;
+      start = given_up_offset way input.now 0;
+      place = given_up_offset way input.now place;
     }) }
 {
     match way {
-        Way::Forward => place,
-        Way::Backward => place.min(input.end() - input.start() - 1),
+        Direction::Forward => place,
+        Direction::Backward => place.min(input.end() - input.start() - 1),
     }
 }
 
 /// Whether a run over the span keeps no progress: one back over an empty span.
 #[inline(always)]
-pub(crate) fn keeps_none(input: &Input<'_>, way: Way) -> bool
-    ensures yes { result ≡ true → KeepsNone (way_of way) input.now }
-    ensures no { result ≡ false → KeepsNone (way_of way) input.now → ⊥ }
+pub(crate) fn keeps_none(input: &Input<'_>, way: Direction) -> bool
+    ensures yes { result ≡ true → KeepsNone way input.now }
+    ensures no { result ≡ false → KeepsNone way input.now → ⊥ }
 {
     match way {
-        Way::Forward => false,
-        Way::Backward => input.start() == input.end(),
+        Direction::Forward => false,
+        Direction::Backward => input.start() == input.end(),
     }
 }
 
 /// A run back has ended before it reads the byte after its span.
 #[inline(always)]
-pub(crate) fn end_before_last(cache: &mut Cache, way: Way, at: usize)
+pub(crate) fn end_before_last(cache: &mut Cache, way: Direction, at: usize)
     ensures value { cache.new ≡ with_store cache.old (with_searched cache.old.store
-        (before_last (way_of way) cache.old.store.searched at)) }
+        (before_last way cache.old.store.searched at)) }
     ensures table { cache.new.store.table ≡ cache.old.store.table }
 {
     match way {
-        Way::Forward => {}
-        Way::Backward => cache.end_search(at),
+        Direction::Forward => {}
+        Direction::Backward => cache.end_search(at),
     }
 }
 
 /// Has a search begin one place later, unless no offset is left.
 #[inline(always)]
-pub(crate) fn begin_later(input: &mut Input<'_>, way: Way) -> bool
+pub(crate) fn begin_later(input: &mut Input<'_>, way: Direction) -> bool
     requires { input.old.start ≤ input.old.end }
-    ensures later { result ≡ true → input.new ≡ later (way_of way) 1 input.old }
+    ensures later { result ≡ true → input.new ≡ later way 1 input.old }
     ensures shorter { result ≡ true → input.new.end + 2 - input.new.start ≡ input.old.end + 1 - input.old.start }
     ensures over { result ≡ false → input.old.end < input.old.start + 1 }
 {
     let _haystack = input.haystack();
     match way {
-        Way::Forward => {
+        Direction::Forward => {
             input.set_start(input.start() + 1);
             true
         }
-        Way::Backward => {
+        Direction::Backward => {
             if input.end() == 0 {
                 return false;
             }

@@ -7,13 +7,12 @@ ghost use Rattle.automata_hybrid.specs.Searches.PassState.{IsFollowed, IsMatchRu
 ghost use Rattle.automata_hybrid.specs.Searches.Passes.{state_in};
 ghost use Rattle.automata_hybrid.specs.Searches.SelfLoops.{IsSelfLoop};
 ghost use Rattle.automata_hybrid.specs.Cache.Table.{IsRowId, Names};
-ghost use Rattle.automata_hybrid.specs.Walks.State.{way_of};
 
 use crate::dfa::DFA;
 use crate::dfa::cache::Cache;
 use crate::id::LazyStateID;
-use crate::search::direction::{Way, byte_at, bytes_from, last_place};
-use automata_base::util::search::Input;
+use crate::search::direction::{byte_at, bytes_from, last_place};
+use automata_base::util::search::{Direction, Input};
 
 /// How many bytes are followed before a self-loop is looked for again, if one was looked for in vain. That look reads
 /// up to eight cells, which is little beside so many bytes.
@@ -35,17 +34,17 @@ impl DFA {
         &self,
         cache: &Cache,
         input: &Input<'_>,
-        way: Way,
+        way: Direction,
         start: usize,
         from: LazyStateID,
     ) -> Stop
         requires of { IsCacheOf cache.now self.now }
         requires open { input.now.start ≤ input.now.end }
         requires within { start ≤ input.now.end - input.now.start }
-        requires named { Names cache.now.store.table from (state_in (way_of way) self.now input.now start) }
+        requires named { Names cache.now.store.table from (state_in way self.now input.now start) }
         ensures within { result.at ≤ input.now.end - input.now.start }
-        ensures followed { IsFollowed (way_of way) self.now cache.now.store input.now 0 start result.at result.id }
-        ensures met { IsMet (way_of way) self.now cache.now.store input.now result.at result.id result.next }
+        ensures followed { IsFollowed way self.now cache.now.store input.now 0 start result.at result.id }
+        ensures met { IsMet way self.now cache.now.store input.now result.at result.id result.next }
     {
         if from.has_only(0) {
             return self.follow_tag(cache, input, way, start, from, 0);
@@ -71,17 +70,17 @@ impl DFA {
         &self,
         cache: &Cache,
         input: &Input<'_>,
-        way: Way,
+        way: Direction,
         start: usize,
         from: LazyStateID,
         next: LazyStateID,
     ) -> Stop
         requires of { IsCacheOf cache.now self.now }
         requires open { input.now.start ≤ input.now.end }
-        requires named { Names cache.now.store.table from (state_in (way_of way) self.now input.now start) }
-        requires met { MeetsMatch (way_of way) self.now cache.now.store input.now start from next }
-        ensures run { IsMatchRun (way_of way) self.now cache.now.store input.now start result.at result.id }
-        ensures met { IsMet (way_of way) self.now cache.now.store input.now result.at result.id result.next }
+        requires named { Names cache.now.store.table from (state_in way self.now input.now start) }
+        requires met { MeetsMatch way self.now cache.now.store input.now start from next }
+        ensures run { IsMatchRun way self.now cache.now.store input.now start result.at result.id }
+        ensures met { IsMet way self.now cache.now.store input.now result.at result.id result.next }
     {
         let _haystack = input.haystack();
         self.follow_tag(cache, input, way, start + 1, next, LazyStateID::MATCH)
@@ -93,7 +92,7 @@ impl DFA {
         &self,
         cache: &Cache,
         input: &Input<'_>,
-        way: Way,
+        way: Direction,
         start: usize,
         from: LazyStateID,
         tag: u32,
@@ -101,10 +100,10 @@ impl DFA {
         requires of { IsCacheOf cache.now self.now }
         requires open { input.now.start ≤ input.now.end }
         requires within { start ≤ input.now.end - input.now.start }
-        requires at { IsTagAt (way_of way) self.now cache.now.store.table input.now tag start from }
+        requires at { IsTagAt way self.now cache.now.store.table input.now tag start from }
         ensures within { result.at ≤ input.now.end - input.now.start }
-        ensures run { IsRun (way_of way) self.now cache.now.store input.now tag start result.at result.id }
-        ensures met { IsMet (way_of way) self.now cache.now.store input.now result.at result.id result.next }
+        ensures run { IsRun way self.now cache.now.store input.now tag start result.at result.id }
+        ensures met { IsMet way self.now cache.now.store input.now result.at result.id result.next }
     {
         let last = last_place(input);
         if last - start < 8 {
@@ -139,7 +138,7 @@ impl DFA {
         &self,
         cache: &Cache,
         input: &Input<'_>,
-        way: Way,
+        way: Direction,
         start: usize,
         from: LazyStateID,
         tag: u32,
@@ -147,10 +146,10 @@ impl DFA {
         requires of { IsCacheOf cache.now self.now }
         requires within { start + 8 ≤ input.now.end - input.now.start }
         requires room { start + 8 < 2 ^ 64 }
-        requires at { IsTagAt (way_of way) self.now cache.now.store.table input.now tag start from }
+        requires at { IsTagAt way self.now cache.now.store.table input.now tag start from }
         ensures upto { result.at ≤ start + 8 }
-        ensures run { IsRun (way_of way) self.now cache.now.store input.now tag start result.at result.id }
-        ensures met { IsMet (way_of way) self.now cache.now.store input.now result.at result.id result.next }
+        ensures run { IsRun way self.now cache.now.store input.now tag start result.at result.id }
+        ensures met { IsMet way self.now cache.now.store input.now result.at result.id result.next }
     {
         let mut row = from.offset_by(tag);
         for k in 0..8usize {
@@ -179,7 +178,7 @@ impl DFA {
         &self,
         cache: &Cache,
         input: &Input<'_>,
-        way: Way,
+        way: Direction,
         start: usize,
         from: LazyStateID,
         tag: u32,
@@ -187,10 +186,10 @@ impl DFA {
         requires of { IsCacheOf cache.now self.now }
         requires open { input.now.start ≤ input.now.end }
         requires within { start ≤ input.now.end - input.now.start }
-        requires at { IsTagAt (way_of way) self.now cache.now.store.table input.now tag start from }
+        requires at { IsTagAt way self.now cache.now.store.table input.now tag start from }
         ensures within { result.at ≤ input.now.end - input.now.start }
-        ensures run { IsRun (way_of way) self.now cache.now.store input.now tag start result.at result.id }
-        ensures met { IsMet (way_of way) self.now cache.now.store input.now result.at result.id result.next }
+        ensures run { IsRun way self.now cache.now.store input.now tag start result.at result.id }
+        ensures met { IsMet way self.now cache.now.store input.now result.at result.id result.next }
     {
         let last = last_place(input);
         let mut at = start;
@@ -217,7 +216,7 @@ impl DFA {
         &self,
         cache: &Cache,
         input: &Input<'_>,
-        way: Way,
+        way: Direction,
         place: usize,
         id: LazyStateID,
         row: usize,
@@ -225,11 +224,11 @@ impl DFA {
     ) -> LazyStateID
         requires of { IsCacheOf cache.now self.now }
         requires within { place < input.now.end - input.now.start }
-        requires at { IsTagAt (way_of way) self.now cache.now.store.table input.now tag place id }
+        requires at { IsTagAt way self.now cache.now.store.table input.now tag place id }
         requires row { id ≡ row + tag }
         ensures run { HasOnly tag result
-            → IsRun (way_of way) self.now cache.now.store input.now tag place (place + 1) result }
-        ensures met { IsMet (way_of way) self.now cache.now.store input.now place id result }
+            → IsRun way self.now cache.now.store input.now tag place (place + 1) result }
+        ensures met { IsMet way self.now cache.now.store input.now place id result }
     {
         self.next_state_in_row(cache, id, row, byte_at(input, way, place))
     }
@@ -240,7 +239,7 @@ impl DFA {
         &self,
         cache: &Cache,
         input: &Input<'_>,
-        way: Way,
+        way: Direction,
         start: usize,
         id: LazyStateID,
     ) -> usize
@@ -250,7 +249,7 @@ impl DFA {
         requires open { input.now.start ≤ input.now.end }
         requires within { start ≤ input.now.end - input.now.start }
         ensures within { result ≤ input.now.end - input.now.start }
-        ensures loops { IsSelfLoop (way_of way) self.now cache.now.store input.now id start result }
+        ensures loops { IsSelfLoop way self.now cache.now.store input.now id start result }
     {
         start + self.follow_self_loop(cache, id, way, bytes_from(input, way, start))
     }

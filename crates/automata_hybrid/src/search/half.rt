@@ -9,14 +9,13 @@ ghost use Rattle.automata_hybrid.specs.Searches.Contracts.{halves};
 ghost use Rattle.automata_hybrid.specs.Searches.Contracts.{unsupported_error};
 ghost use Rattle.automata_hybrid.specs.Searches.PassContracts.{MayBegin, input_at};
 ghost use Rattle.automata_hybrid.specs.Searches.Passes.{IsFound, IsRefused};
-ghost use Rattle.automata_hybrid.specs.Walks.State.{way_of};
 
 use crate::dfa::DFA;
 use crate::dfa::cache::Cache;
-use crate::search::direction::{Way, begin_later};
+use crate::search::direction::begin_later;
 use crate::search::pass::input_of;
 use automata_base::laws::reported_is_right;
-use automata_base::util::search::{Anchored, HalfMatch, Input, Span};
+use automata_base::util::search::{Anchored, Direction, HalfMatch, Input, Span};
 use automata_config::error::SearchError;
 
 /// What a search found, without where its span began.
@@ -89,7 +88,7 @@ impl DFA {
     {
         reported_is_right(self.get_nfa());
         let _haystack = input.haystack();
-        let found = self.search(cache, input, Way::Forward);
+        let found = self.search(cache, input, Direction::Forward);
         cache.see_bounds();
         found
     }
@@ -123,7 +122,7 @@ impl DFA {
     {
         reported_is_right(self.get_nfa());
         let _haystack = input.haystack();
-        let found = self.search(cache, input, Way::Backward);
+        let found = self.search(cache, input, Direction::Backward);
         cache.see_bounds();
         without_base(found)
     }
@@ -134,16 +133,16 @@ impl DFA {
         &self,
         cache: &mut Cache,
         input: &Input<'_>,
-        way: Way,
+        way: Direction,
     ) -> Result<Option<(HalfMatch, usize)>, SearchError>
         requires { IsCacheOf cache.old self.now }
         ensures of { IsCacheOf cache.new self.now }
-        ensures found { IfOk result (λ o. IsFound (way_of way) self.now input.now (based_half o)) }
-        ensures refusal { IfErr result (IsRefused (way_of way) self.now cache.new.store input.now) }
-        ensures effect { IsSearchEffect (way_of way) self.now input.now cache.old cache.new result }
-        ensures upto { way_of way ≡ Forward
+        ensures found { IfOk result (λ o. IsFound way self.now input.now (based_half o)) }
+        ensures refusal { IfErr result (IsRefused way self.now cache.new.store input.now) }
+        ensures effect { IsSearchEffect way self.now input.now cache.old cache.new result }
+        ensures upto { way ≡ Forward
             → IfOk result (λ o. IfSome o (λ p. IsCostUpto self.now input.now p.1 cache.old cache.new)) }
-        ensures unsupported { IsUnsupported (way_of way) self.now input.now
+        ensures unsupported { IsUnsupported way self.now input.now
             → result ≡ Err (unsupported_error input.now) }
         ensures done { input.now.end < input.now.start → result ≡ Ok None }
     {
@@ -179,27 +178,27 @@ impl DFA {
         span: Span,
         anchored: Anchored,
         earliest: bool,
-        way: Way,
+        way: Direction,
     ) -> Result<Option<(HalfMatch, usize)>, SearchError>
         requires { MayBegin self.now cache.old (input_at haystack.now span anchored earliest) }
         ensures of { IsCacheOf cache.new self.now }
-        ensures found { IfOk result (λ o. IsFound (way_of way) self.now
+        ensures found { IfOk result (λ o. IsFound way self.now
             (input_at haystack.now span anchored earliest) (based_half o)) }
-        ensures refusal { IfErr result (IsRefused (way_of way) self.now cache.new.store
+        ensures refusal { IfErr result (IsRefused way self.now cache.new.store
             (input_at haystack.now span anchored earliest)) }
-        ensures effect { IsSearchEffect (way_of way) self.now
+        ensures effect { IsSearchEffect way self.now
             (input_at haystack.now span anchored earliest) cache.old cache.new result }
-        ensures upto { way_of way ≡ Forward
+        ensures upto { way ≡ Forward
             → IfOk result (λ o. IfSome o (λ p. IsCostUpto self.now
             (input_at haystack.now span anchored earliest) p.1 cache.old cache.new)) }
         ensures unsupported { let input = input_at haystack.now span anchored earliest in
-            IsUnsupported (way_of way) self.now input → result ≡ Err (unsupported_error input) }
+            IsUnsupported way self.now input → result ≡ Err (unsupported_error input) }
         ensures done { span.end < span.start → result ≡ Ok None }
     {
         let own = input_of(haystack, span, anchored, earliest);
         match way {
-            Way::Forward => self.search_spans(cache, &own, Way::Forward),
-            Way::Backward => self.search_spans(cache, &own, Way::Backward),
+            Direction::Forward => self.search_spans(cache, &own, Direction::Forward),
+            Direction::Backward => self.search_spans(cache, &own, Direction::Backward),
         }
     }
 
@@ -209,16 +208,16 @@ impl DFA {
         &self,
         cache: &mut Cache,
         input: &Input<'_>,
-        way: Way,
+        way: Direction,
     ) -> Result<Option<(HalfMatch, usize)>, SearchError>
         requires { IsCacheOf cache.old self.now }
         ensures of { IsCacheOf cache.new self.now }
-        ensures found { IfOk result (λ o. IsFound (way_of way) self.now input.now (based_half o)) }
-        ensures refusal { IfErr result (IsRefused (way_of way) self.now cache.new.store input.now) }
-        ensures effect { IsSearchEffect (way_of way) self.now input.now cache.old cache.new result }
-        ensures upto { way_of way ≡ Forward
+        ensures found { IfOk result (λ o. IsFound way self.now input.now (based_half o)) }
+        ensures refusal { IfErr result (IsRefused way self.now cache.new.store input.now) }
+        ensures effect { IsSearchEffect way self.now input.now cache.old cache.new result }
+        ensures upto { way ≡ Forward
             → IfOk result (λ o. IfSome o (λ p. IsCostUpto self.now input.now p.1 cache.old cache.new)) }
-        ensures unsupported { IsUnsupported (way_of way) self.now input.now
+        ensures unsupported { IsUnsupported way self.now input.now
             → result ≡ Err (unsupported_error input.now) }
         ensures done { input.now.end < input.now.start → result ≡ Ok None }
     {

@@ -10,13 +10,12 @@ ghost use Rattle.automata_hybrid.specs.Searches.Passes.{state_in, tape_in};
 ghost use Rattle.automata_hybrid.specs.Searches.Units.{IsReadEffect};
 ghost use Rattle.automata_hybrid.specs.Steps.Starts.{IsStartAnswer, IsStartEffect};
 ghost use Rattle.automata_hybrid.specs.Steps.Steps.{IsStepAnswer, known_step};
-ghost use Rattle.automata_hybrid.specs.Walks.State.{way_of};
 
 use crate::dfa::DFA;
 use crate::dfa::cache::Cache;
 use crate::id::LazyStateID;
-use crate::search::direction::{Way, byte_at, byte_behind, last_place, place_offset, unit_at};
-use automata_base::util::search::{HalfMatch, Input};
+use crate::search::direction::{byte_at, byte_behind, last_place, place_offset, unit_at};
+use automata_base::util::search::{Direction, HalfMatch, Input};
 
 /// How far cached transitions led a pass.
 #[derive(Drop)]
@@ -57,12 +56,12 @@ impl Known {
 impl DFA {
     /// The start state of a search, if it may start and that is cached, and else the unknown ID.
     #[inline(always)]
-    pub(super) fn known_start(&self, cache: &Cache, input: &Input<'_>, way: Way) -> LazyStateID
+    pub(super) fn known_start(&self, cache: &Cache, input: &Input<'_>, way: Direction) -> LazyStateID
         requires { IsCacheOf cache.now self.now }
         ensures answer { result < unknown_id → IsStartAnswer self.now input.now.anchored
-            (tape_in (way_of way) input.now).before cache.now cache.now result }
+            (tape_in way input.now).before cache.now cache.now result }
         ensures effect { result < unknown_id → IsStartEffect self.now input.now.anchored
-            (tape_in (way_of way) input.now).before cache.now cache.now }
+            (tape_in way input.now).before cache.now cache.now }
     {
         self.start_state_known(cache, input.get_anchored(), byte_behind(input, way))
     }
@@ -87,7 +86,7 @@ impl DFA {
         &self,
         cache: &Cache,
         input: &Input<'_>,
-        way: Way,
+        way: Direction,
         at: usize,
         id: LazyStateID,
         met: LazyStateID,
@@ -95,14 +94,14 @@ impl DFA {
         requires of { IsCacheOf cache.now self.now }
         requires open { input.now.start ≤ input.now.end }
         requires within { at ≤ input.now.end - input.now.start }
-        requires named { Names cache.now.store.table id (state_in (way_of way) self.now input.now at) }
-        requires met { IsMet (way_of way) self.now cache.now.store input.now at id met }
+        requires named { Names cache.now.store.table id (state_in way self.now input.now at) }
+        requires met { IsMet way self.now cache.now.store input.now at id met }
         ensures value { result < unknown_id
-            → result ≡ known_step self.now cache.now.store id (next (tape_in (way_of way) input.now) at) }
+            → result ≡ known_step self.now cache.now.store id (next (tape_in way input.now) at) }
         ensures answer { result < unknown_id → IsStepAnswer self.now id
-            (next (tape_in (way_of way) input.now) at) cache.now cache.now result }
+            (next (tape_in way input.now) at) cache.now cache.now result }
         ensures effect { result < unknown_id → IsReadEffect self.now id
-            (next (tape_in (way_of way) input.now) at) cache.now cache.now (Ok result) }
+            (next (tape_in way input.now) at) cache.now cache.now (Ok result) }
     {
         if met.is_unknown() {
             if at < last_place(input) {
@@ -120,15 +119,15 @@ impl DFA {
         &self,
         cache: &Cache,
         input: &Input<'_>,
-        way: Way,
+        way: Direction,
         start: LazyStateID,
     ) -> Known
         requires of { IsCacheOf cache.now self.now }
-        requires at { IsUnderway (way_of way) self.now cache.now.store.table input.now 0 start None }
+        requires at { IsUnderway way self.now cache.now.store.table input.now 0 start None }
         ensures ended { result.ended ≡ true
-            → IsKnownEnd (way_of way) self.now cache.now input.now result.at result.id result.found }
+            → IsKnownEnd way self.now cache.now input.now result.at result.id result.found }
         ensures left { result.ended ≡ false
-            → IsKnownUpto (way_of way) self.now cache.now.store input.now result.at result.id result.found }
+            → IsKnownUpto way self.now cache.now.store input.now result.at result.id result.found }
     {
         cache.see_bounds();
         let last = last_place(input);

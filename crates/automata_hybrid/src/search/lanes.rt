@@ -2,10 +2,9 @@
 ghost use Rattle.std.specs.Prelude.{◌+◌, ◌<◌, ◌≡◌, ◌≤◌, ◌^◌, ℕ, IsTrue, length, slice_index};
 ghost use Rattle.std.specs.Int.{bit_at};
 ghost use Rattle.automata_hybrid.specs.Searches.SelfLoops.{HasByte, HasEither, above, byte_in, lane_of};
-ghost use Rattle.automata_hybrid.specs.Walks.State.{way_of};
 
-use crate::search::direction::Way;
 use crate::search::loop_range::LoopRange;
+use automata_base::util::search::Direction;
 use std::simd::prelude::*;
 
 /// How many bytes are compared at once.
@@ -25,35 +24,35 @@ fn outside(low: u8, size: u8, bytes: &[u8], from: usize) -> u64
 
 /// The same for the 32 bytes from a place on, of a slice that is read from its front or from its back.
 #[inline(always)]
-fn outside_at(way: Way, range: LoopRange, bytes: &[u8], at: usize) -> u64
+fn outside_at(way: Direction, range: LoopRange, bytes: &[u8], at: usize) -> u64
     requires { at + 32 ≤ length bytes.now }
     ensures small { result < 2 ^ 32 }
-    ensures near { (k : ℕ) → k < 32 → bit_at result (lane_of (way_of way) k) ≡ 0
-        → HasByte range (byte_in (way_of way) bytes.now (at + k)) }
+    ensures near { (k : ℕ) → k < 32 → bit_at result (lane_of way k) ≡ 0
+        → HasByte range (byte_in way bytes.now (at + k)) }
 {
     let from = match way {
-        Way::Forward => at,
-        Way::Backward => bytes.len() - at - LANES,
+        Direction::Forward => at,
+        Direction::Backward => bytes.len() - at - LANES,
     };
     outside(range.low, range.size, bytes, from)
 }
 
 /// Outside both of two ranges.
 #[inline(always)]
-fn outside_both(way: Way, first: LoopRange, second: LoopRange, bytes: &[u8], at: usize) -> u64
+fn outside_both(way: Direction, first: LoopRange, second: LoopRange, bytes: &[u8], at: usize) -> u64
     requires { at + 32 ≤ length bytes.now }
     ensures small { result < 2 ^ 32 }
-    ensures near { (k : ℕ) → k < 32 → bit_at result (lane_of (way_of way) k) ≡ 0
-        → HasEither first second (byte_in (way_of way) bytes.now (at + k)) }
+    ensures near { (k : ℕ) → k < 32 → bit_at result (lane_of way k) ≡ 0
+        → HasEither first second (byte_in way bytes.now (at + k)) }
 {
     outside_at(way, first, bytes, at) & outside_at(way, second, bytes, at)
 }
 
 /// Whether all 32 bytes from a place on are in a range.
 #[inline(always)]
-pub(super) fn are_in(way: Way, range: LoopRange, bytes: &[u8], at: usize) -> bool
+pub(super) fn are_in(way: Direction, range: LoopRange, bytes: &[u8], at: usize) -> bool
     requires { at + 32 ≤ length bytes.now }
-    ensures { IsTrue result → (k : ℕ) → at ≤ k → k < at + 32 → HasByte range (byte_in (way_of way) bytes.now k) }
+    ensures { IsTrue result → (k : ℕ) → at ≤ k → k < at + 32 → HasByte range (byte_in way bytes.now k) }
 {
     outside_at(way, range, bytes, at) == 0
 }
@@ -61,7 +60,7 @@ pub(super) fn are_in(way: Way, range: LoopRange, bytes: &[u8], at: usize) -> boo
 /// Whether each of them is in one of two ranges.
 #[inline(always)]
 pub(super) fn are_in_either(
-    way: Way,
+    way: Direction,
     first: LoopRange,
     second: LoopRange,
     bytes: &[u8],
@@ -69,7 +68,7 @@ pub(super) fn are_in_either(
 ) -> bool
     requires { at + 32 ≤ length bytes.now }
     ensures { IsTrue result → (k : ℕ) → at ≤ k → k < at + 32
-        → HasEither first second (byte_in (way_of way) bytes.now k) }
+        → HasEither first second (byte_in way bytes.now k) }
 {
     outside_both(way, first, second, bytes, at) == 0
 }
@@ -77,7 +76,7 @@ pub(super) fn are_in_either(
 /// How many of them are, before the first that is not.
 #[inline(always)]
 pub(super) fn count_in_either(
-    way: Way,
+    way: Direction,
     first: LoopRange,
     second: LoopRange,
     bytes: &[u8],
@@ -85,14 +84,14 @@ pub(super) fn count_in_either(
 ) -> usize
     requires { at + 32 ≤ length bytes.now }
     ensures few { result ≤ 32 }
-    ensures near { (k : ℕ) → at ≤ k → k < at + result → HasEither first second (byte_in (way_of way) bytes.now k) }
+    ensures near { (k : ℕ) → at ≤ k → k < at + result → HasEither first second (byte_in way bytes.now k) }
 {
     let outside = outside_both(way, first, second, bytes, at);
     if outside == 0 {
         return LANES;
     }
     match way {
-        Way::Forward => outside.trailing_zeros() as usize,
-        Way::Backward => 31usize.saturating_sub(outside.ilog2() as usize),
+        Direction::Forward => outside.trailing_zeros() as usize,
+        Direction::Backward => 31usize.saturating_sub(outside.ilog2() as usize),
     }
 }

@@ -14,17 +14,17 @@ ghost use Rattle.automata_hybrid.specs.Cache.Table.{IsRowState, Names};
 ghost use Rattle.automata_hybrid.specs.Walks.Answers.{Arrives, HasReported, HasReportedBy};
 ghost use Rattle.automata_hybrid.specs.Walks.Answers.{IsResumeRefusal, IsWalkOf, IsWalkRefusal};
 ghost use Rattle.automata_hybrid.specs.Walks.Answers.{ReportsNext};
-ghost use Rattle.automata_hybrid.specs.Walks.State.{At, Ended, IsHeldAt, States, keeping_of, way_of, without_match};
+ghost use Rattle.automata_hybrid.specs.Walks.State.{At, Ended, IsHeldAt, States, keeping_of, without_match};
 
 use crate::dfa::DFA;
 use crate::dfa::cache::Cache;
 use crate::id::LazyStateID;
-use crate::search::direction::{Way, last_place, place_offset, span_offset};
+use crate::search::direction::{last_place, place_offset, span_offset};
 use crate::search::refusal;
 use crate::search::walk::{Cursor, Handle, Held, OverlappingState};
 use automata_base::laws::walk_is_right;
 use automata_base::util::primitives::PatternID;
-use automata_base::util::search::{HalfMatch, Input};
+use automata_base::util::search::{Direction, HalfMatch, Input};
 use automata_config::error::{SearchError, StepError};
 
 impl DFA {
@@ -60,7 +60,7 @@ impl DFA {
         // What it does to the cache.
         ensures effect { IsCallEffect States Forward self.now input.now state.old state.new cache.old cache.new result }
     {
-        self.call(cache, input, Way::Forward, state)
+        self.try_search_overlapping(cache, input, Direction::Forward, state)
     }
 
     /// The same from the span's end to its start: the DFA reads the span backward, so build it of a reversed NFA.
@@ -84,7 +84,7 @@ impl DFA {
         ensures effect { IsCallEffect States Backward self.now input.now state.old state.new
             cache.old cache.new result }
     {
-        self.call(cache, input, Way::Backward, state)
+        self.try_search_overlapping(cache, input, Direction::Backward, state)
     }
 
     /// The ID of a state that a walk holds, which is added again if the cache lacks it.
@@ -109,18 +109,18 @@ impl DFA {
         &self,
         cache: &mut Cache,
         input: &Input<'_>,
-        way: Way,
+        way: Direction,
         walk: &Cursor,
         held: &Held,
     ) -> Result<LazyStateID, SearchError>
         requires of { IsCacheOf cache.old self.now }
-        requires walk { ReadsOn (way_of way) self.now input.now cache.old.store.table walk.now held.now }
+        requires walk { ReadsOn way self.now input.now cache.old.store.table walk.now held.now }
         ensures of { IsCacheOf cache.new self.now }
         ensures answer { IfOk result
-            (IsResumeAnswer (way_of way) self.now input.now walk.now cache.new.store) }
+            (IsResumeAnswer way self.now input.now walk.now cache.new.store) }
         ensures refusal { IfErr result
-            (IsResumeRefusal (way_of way) self.now cache.new.store input.now walk.now.stage walk.now.units) }
-        ensures effect { IsResumeEffect (way_of way) self.now input.now walk.now.stage cache.old cache.new result }
+            (IsResumeRefusal way self.now cache.new.store input.now walk.now.stage walk.now.units) }
+        ensures effect { IsResumeEffect way self.now input.now walk.now.stage cache.old cache.new result }
     {
         if walk.is_fresh() {
             cache.see_bounds();
@@ -142,20 +142,20 @@ impl DFA {
         &self,
         cache: &mut Cache,
         input: &Input<'_>,
-        way: Way,
+        way: Direction,
         walk: &mut Cursor,
         held: &mut Held,
     ) -> Result<(), SearchError>
         requires of { IsCacheOf cache.old self.now }
-        requires walk { ReadsOn (way_of way) self.now input.now cache.old.store.table walk.old held.old }
+        requires walk { ReadsOn way self.now input.now cache.old.store.table walk.old held.old }
         ensures of { IsCacheOf cache.new self.now }
         ensures answer { OnOk result
-            (IsCallAnswer (way_of way) self.now input.now walk.old walk.new cache.old.store cache.new.store) }
+            (IsCallAnswer way self.now input.now walk.old walk.new cache.old.store cache.new.store) }
         ensures held { OnOk result (HoldsOn cache.new.store.table walk.new held.old held.new) }
         ensures err { OnErr result ((walk.new ≡ walk.old) × (held.new ≡ held.old)) }
         ensures refusal { IfErr result
-            (IsCallRefused (keeping_of held.old) (way_of way) self.now input.now walk.old cache.new.store) }
-        ensures effect { IsCallEffect (keeping_of held.old) (way_of way) self.now input.now walk.old walk.new
+            (IsCallRefused (keeping_of held.old) way self.now input.now walk.old cache.new.store) }
+        ensures effect { IsCallEffect (keeping_of held.old) way self.now input.now walk.old walk.new
             cache.old cache.new result }
     {
         let _skips = self.skips();
@@ -186,18 +186,18 @@ impl DFA {
         &self,
         cache: &Cache,
         input: &Input<'_>,
-        way: Way,
+        way: Direction,
         walk: &mut Cursor,
         id: LazyStateID,
         units: usize,
     )
         requires of { IsCacheOf cache.now self.now }
         requires open { input.now.start ≤ input.now.end }
-        requires may { MayStart self.now input.now.anchored (tape_in (way_of way) input.now).before }
-        requires here { (k : ℕ) → HasReported (way_of way) self.now input.now walk.old k
-            → HasReportedBy (way_of way) self.now input.now walk.old.units k }
-        requires arrives { Arrives (way_of way) self.now cache.now.store.table input.now walk.old.units id units }
-        ensures reports { ReportsNext (way_of way) self.now input.now walk.old walk.new }
+        requires may { MayStart self.now input.now.anchored (tape_in way input.now).before }
+        requires here { (k : ℕ) → HasReported way self.now input.now walk.old k
+            → HasReportedBy way self.now input.now walk.old.units k }
+        requires arrives { Arrives way self.now cache.now.store.table input.now walk.old.units id units }
+        ensures reports { ReportsNext way self.now input.now walk.old walk.new }
         ensures units { walk.new.units ≡ units }
         ensures at { (q : Powerset) × (walk.new.stage ≡ At q) × Names cache.now.store.table id q }
     {
@@ -207,44 +207,45 @@ impl DFA {
         walk.report(half);
     }
 
-    /// One call of a walk by the state that it holds.
-    fn call(
+    /// One call of an overlapping search in a direction, as `try_search_overlapping_fwd` and `try_search_overlapping_rev`
+    /// make it in theirs.
+    pub fn try_search_overlapping(
         &self,
         cache: &mut Cache,
         input: &Input<'_>,
-        way: Way,
+        way: Direction,
         walk: &mut OverlappingState,
     ) -> Result<(), SearchError>
         requires of { IsCacheOf cache.old self.now }
-        requires walk { IsWalkOf (way_of way) self.now input.now walk.old }
+        requires walk { IsWalkOf way self.now input.now walk.old }
         ensures of { IsCacheOf cache.new self.now }
-        ensures walk { IsWalkOf (way_of way) self.now input.now walk.new }
-        ensures call { IsWalkCall (way_of way) self.now input.now walk.old walk.new result }
-        ensures refusal { (k : ℕ) → HasReported (way_of way) self.now input.now walk.old k
-            → IfErr result (IsWalkRefusal States (way_of way) self.now cache.new.store input.now walk.old k) }
-        ensures effect { IsCallEffect States (way_of way) self.now input.now walk.old walk.new
+        ensures walk { IsWalkOf way self.now input.now walk.new }
+        ensures call { IsWalkCall way self.now input.now walk.old walk.new result }
+        ensures refusal { (k : ℕ) → HasReported way self.now input.now walk.old k
+            → IfErr result (IsWalkRefusal States way self.now cache.new.store input.now walk.old k) }
+        ensures effect { IsCallEffect States way self.now input.now walk.old walk.new
             cache.old cache.new result }
     {
         self.call_held(cache, input, way, &mut walk.cursor, &mut walk.held)
     }
 
-    /// The same for its two parts.
+    /// One call of an overlapping search, given where the walk is and what is held of its state.
     fn call_held(
         &self,
         cache: &mut Cache,
         input: &Input<'_>,
-        way: Way,
+        way: Direction,
         walk: &mut Cursor,
         held: &mut Held,
     ) -> Result<(), SearchError>
         requires of { IsCacheOf cache.old self.now }
-        requires walk { IsKeptWalk (way_of way) self.now input.now walk.old held.old }
+        requires walk { IsKeptWalk way self.now input.now walk.old held.old }
         ensures of { IsCacheOf cache.new self.now }
-        ensures walk { IsKeptWalk (way_of way) self.now input.now walk.new held.new }
-        ensures call { IsWalkCall (way_of way) self.now input.now walk.old walk.new result }
-        ensures refusal { (k : ℕ) → HasReported (way_of way) self.now input.now walk.old k
-            → IfErr result (IsWalkRefusal States (way_of way) self.now cache.new.store input.now walk.old k) }
-        ensures effect { IsCallEffect States (way_of way) self.now input.now walk.old walk.new
+        ensures walk { IsKeptWalk way self.now input.now walk.new held.new }
+        ensures call { IsWalkCall way self.now input.now walk.old walk.new result }
+        ensures refusal { (k : ℕ) → HasReported way self.now input.now walk.old k
+            → IfErr result (IsWalkRefusal States way self.now cache.new.store input.now walk.old k) }
+        ensures effect { IsCallEffect States way self.now input.now walk.old walk.new
             cache.old cache.new result }
     {
         walk_is_right(self.get_nfa());
@@ -266,20 +267,20 @@ impl DFA {
         &self,
         cache: &mut Cache,
         input: &Input<'_>,
-        way: Way,
+        way: Direction,
         walk: &mut Cursor,
         held: &mut Held,
     ) -> Result<(), SearchError>
         requires of { IsCacheOf cache.old self.now }
-        requires walk { IsHeldWalk (way_of way) self.now input.now cache.old.store.table walk.old held.old }
+        requires walk { IsHeldWalk way self.now input.now cache.old.store.table walk.old held.old }
         ensures of { IsCacheOf cache.new self.now }
         ensures answer { OnOk result
-            (IsCallAnswer (way_of way) self.now input.now walk.old walk.new cache.old.store cache.new.store) }
+            (IsCallAnswer way self.now input.now walk.old walk.new cache.old.store cache.new.store) }
         ensures held { OnOk result (HoldsOn cache.new.store.table walk.new held.old held.new) }
         ensures err { OnErr result ((walk.new ≡ without_match walk.old) × (held.new ≡ held.old)) }
         ensures refusal { IfErr result
-            (IsCallRefused (keeping_of held.old) (way_of way) self.now input.now walk.old cache.new.store) }
-        ensures effect { IsCallEffect (keeping_of held.old) (way_of way) self.now input.now walk.old walk.new
+            (IsCallRefused (keeping_of held.old) way self.now input.now walk.old cache.new.store) }
+        ensures effect { IsCallEffect (keeping_of held.old) way self.now input.now walk.old walk.new
             cache.old cache.new result }
     {
         walk.forget_match();

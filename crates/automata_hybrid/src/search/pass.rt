@@ -14,16 +14,15 @@ ghost use Rattle.automata_hybrid.specs.Searches.Units.{IsEndProgress, IsStillPro
 ghost use Rattle.automata_hybrid.specs.Searches.Progress.{EndsAtLast, IsStoppedAt, KeepsNone};
 ghost use Rattle.automata_hybrid.specs.Searches.Passes.{IsPassRefusal, IsUnitRefusal};
 ghost use Rattle.automata_hybrid.specs.Cache.Table.{Names};
-ghost use Rattle.automata_hybrid.specs.Walks.State.{way_of};
 
 use crate::dfa::DFA;
 use crate::dfa::cache::Cache;
 use crate::id::LazyStateID;
 use crate::search::direction::{
-    Way, byte_at, byte_offset, bytes_read, end_before_last, keeps_none, last_place, place_offset,
+    Direction, byte_at, byte_offset, bytes_read, end_before_last, keeps_none, last_place, place_offset,
     span_offset, unit_at, unit_offset,
 };
-use automata_base::util::search::{Anchored, HalfMatch, Input, Span};
+use automata_base::util::search::{Anchored, Direction, HalfMatch, Input, Span};
 use automata_config::error::SearchError;
 
 /// Where a run is: its place, the ID of its state there, and what it found last.
@@ -74,16 +73,16 @@ impl DFA {
         &self,
         cache: &mut Cache,
         input: &Input<'_>,
-        way: Way,
+        way: Direction,
     ) -> Result<Option<HalfMatch>, SearchError>
         requires of { IsCacheOf cache.old self.now }
         requires open { input.now.start ≤ input.now.end }
         ensures of { IsCacheOf cache.new self.now }
-        ensures answer { IfOk result (IsPassAnswer (way_of way) self.now input.now) }
-        ensures refusal { IfErr result (IsPassRefusal (way_of way) self.now cache.new.store input.now) }
-        ensures unsupported { IsUnsupported (way_of way) self.now input.now
+        ensures answer { IfOk result (IsPassAnswer way self.now input.now) }
+        ensures refusal { IfErr result (IsPassRefusal way self.now cache.new.store input.now) }
+        ensures unsupported { IsUnsupported way self.now input.now
             → result ≡ Err (unsupported_error input.now) }
-        ensures effect { IsPassEffect (way_of way) self.now input.now cache.old cache.new result }
+        ensures effect { IsPassEffect way self.now input.now cache.old cache.new result }
     {
         cache.see_bounds();
         let start = self.known_start(cache, input, way);
@@ -132,19 +131,19 @@ impl DFA {
         span: Span,
         anchored: Anchored,
         earliest: bool,
-        way: Way,
+        way: Direction,
     ) -> Result<Option<HalfMatch>, SearchError>
         requires of { IsCacheOf cache.old self.now }
         requires allowed { Allows haystack.now span.start span.end }
         requires open { span.start ≤ span.end }
         ensures of { IsCacheOf cache.new self.now }
-        ensures answer { IfOk result (IsPassAnswer (way_of way) self.now
+        ensures answer { IfOk result (IsPassAnswer way self.now
             (input_at haystack.now span anchored earliest)) }
-        ensures refusal { IfErr result (IsPassRefusal (way_of way) self.now cache.new.store
+        ensures refusal { IfErr result (IsPassRefusal way self.now cache.new.store
             (input_at haystack.now span anchored earliest)) }
         ensures unsupported { let input = input_at haystack.now span anchored earliest in
-            IsUnsupported (way_of way) self.now input → result ≡ Err (unsupported_error input) }
-        ensures effect { IsPassEffect (way_of way) self.now
+            IsUnsupported way self.now input → result ≡ Err (unsupported_error input) }
+        ensures effect { IsPassEffect way self.now
             (input_at haystack.now span anchored earliest) cache.old cache.new result }
     {
         let own = input_of(haystack, span, anchored, earliest);
@@ -157,16 +156,16 @@ impl DFA {
         &self,
         cache: &mut Cache,
         input: &Input<'_>,
-        way: Way,
+        way: Direction,
     ) -> Result<Option<HalfMatch>, SearchError>
         requires of { IsCacheOf cache.old self.now }
         requires open { input.now.start ≤ input.now.end }
         ensures of { IsCacheOf cache.new self.now }
-        ensures answer { IfOk result (IsPassAnswer (way_of way) self.now input.now) }
-        ensures refusal { IfErr result (IsPassRefusal (way_of way) self.now cache.new.store input.now) }
-        ensures unsupported { IsUnsupported (way_of way) self.now input.now
+        ensures answer { IfOk result (IsPassAnswer way self.now input.now) }
+        ensures refusal { IfErr result (IsPassRefusal way self.now cache.new.store input.now) }
+        ensures unsupported { IsUnsupported way self.now input.now
             → result ≡ Err (unsupported_error input.now) }
-        ensures effect { IsPassEffect (way_of way) self.now input.now cache.old cache.new result }
+        ensures effect { IsPassEffect way self.now input.now cache.old cache.new result }
     {
         cache.see_bounds();
         let start = match self.walk_start(cache, input, way) {
@@ -207,7 +206,7 @@ impl DFA {
         &self,
         cache: &Cache,
         input: &Input<'_>,
-        way: Way,
+        way: Direction,
         start: usize,
         from: LazyStateID,
         found: Option<HalfMatch>,
@@ -215,10 +214,10 @@ impl DFA {
         requires of { IsCacheOf cache.now self.now }
         requires open { input.now.start ≤ input.now.end }
         requires within { start ≤ input.now.end - input.now.start }
-        requires at { IsAt (way_of way) self.now cache.now.store.table input.now start from found }
-        ensures run { HasRun (way_of way) self.now cache.now.store input.now start result.at }
-        ensures at { IsAt (way_of way) self.now cache.now.store.table input.now result.at result.id result.found }
-        ensures met { IsMet (way_of way) self.now cache.now.store input.now result.at result.id result.next }
+        requires at { IsAt way self.now cache.now.store.table input.now start from found }
+        ensures run { HasRun way self.now cache.now.store input.now start result.at }
+        ensures at { IsAt way self.now cache.now.store.table input.now result.at result.id result.found }
+        ensures met { IsMet way self.now cache.now.store input.now result.at result.id result.next }
     {
         let quiet = self.follow(cache, input, way, start, from);
         if input.get_earliest() {
@@ -258,30 +257,30 @@ impl DFA {
         span: Span,
         anchored: Anchored,
         earliest: bool,
-        way: Way,
+        way: Direction,
         from: usize,
         start: LazyStateID,
         before: Option<HalfMatch>,
     ) -> Result<Option<HalfMatch>, SearchError>
         requires of { IsCacheOf cache.old self.now }
-        requires at { IsTakenUp (way_of way) self.now cache.old.store
+        requires at { IsTakenUp way self.now cache.old.store
             (input_at haystack.now span anchored earliest) from start before }
         ensures of { IsCacheOf cache.new self.now }
-        ensures answer { IfOk result (IsPassAnswer (way_of way) self.now
+        ensures answer { IfOk result (IsPassAnswer way self.now
             (input_at haystack.now span anchored earliest)) }
-        ensures refusal { IfErr result (IsPassRefusal (way_of way) self.now cache.new.store
+        ensures refusal { IfErr result (IsPassRefusal way self.now cache.new.store
             (input_at haystack.now span anchored earliest)) }
-        ensures effect { IsRestEffect (way_of way) self.now
+        ensures effect { IsRestEffect way self.now
             (input_at haystack.now span anchored earliest) 0 cache.old cache.new result }
-        ensures ended { OnOk result (EndsAtLast (way_of way) self.now
+        ensures ended { OnOk result (EndsAtLast way self.now
             (input_at haystack.now span anchored earliest) cache.old.store cache.new.store) }
-        ensures left { IfErr result (IsStoppedAt (way_of way) self.now
+        ensures left { IfErr result (IsStoppedAt way self.now
             (input_at haystack.now span anchored earliest) cache.old.store cache.new.store) }
     {
         let own = input_of(haystack, span, anchored, earliest);
         match way {
-            Way::Forward => self.find(cache, &own, Way::Forward, from, start, before),
-            Way::Backward => self.find(cache, &own, Way::Backward, from, start, before),
+            Direction::Forward => self.find(cache, &own, Direction::Forward, from, start, before),
+            Direction::Backward => self.find(cache, &own, Direction::Backward, from, start, before),
         }
     }
 
@@ -291,19 +290,19 @@ impl DFA {
         &self,
         cache: &mut Cache,
         input: &Input<'_>,
-        way: Way,
+        way: Direction,
         from: usize,
         start: LazyStateID,
         before: Option<HalfMatch>,
     ) -> Result<Option<HalfMatch>, SearchError>
         requires of { IsCacheOf cache.old self.now }
-        requires at { IsKnownUpto (way_of way) self.now cache.old.store input.now from start before }
+        requires at { IsKnownUpto way self.now cache.old.store input.now from start before }
         ensures of { IsCacheOf cache.new self.now }
-        ensures answer { IfOk result (IsPassAnswer (way_of way) self.now input.now) }
-        ensures refusal { IfErr result (IsPassRefusal (way_of way) self.now cache.new.store input.now) }
-        ensures effect { IsRestEffect (way_of way) self.now input.now 0 cache.old cache.new result }
-        ensures ended { OnOk result (EndsAtLast (way_of way) self.now input.now cache.old.store cache.new.store) }
-        ensures left { IfErr result (IsStoppedAt (way_of way) self.now input.now cache.old.store cache.new.store) }
+        ensures answer { IfOk result (IsPassAnswer way self.now input.now) }
+        ensures refusal { IfErr result (IsPassRefusal way self.now cache.new.store input.now) }
+        ensures effect { IsRestEffect way self.now input.now 0 cache.old cache.new result }
+        ensures ended { OnOk result (EndsAtLast way self.now input.now cache.old.store cache.new.store) }
+        ensures left { IfErr result (IsStoppedAt way self.now input.now cache.old.store cache.new.store) }
     {
         let last = last_place(input);
         let mut at = from;
@@ -342,21 +341,21 @@ impl DFA {
         &self,
         cache: &mut Cache,
         input: &Input<'_>,
-        way: Way,
+        way: Direction,
         id: LazyStateID,
         found: Option<HalfMatch>,
     ) -> Result<Option<HalfMatch>, SearchError>
         requires of { IsCacheOf cache.old self.now }
-        requires at { IsUnderway (way_of way) self.now cache.old.store.table input.now (input.now.end - input.now.start)
+        requires at { IsUnderway way self.now cache.old.store.table input.now (input.now.end - input.now.start)
             id found }
         ensures of { IsCacheOf cache.new self.now }
-        ensures answer { IfOk result (IsPassAnswer (way_of way) self.now input.now) }
+        ensures answer { IfOk result (IsPassAnswer way self.now input.now) }
         ensures refusal { IfErr result
-            (IsUnitRefusal (way_of way) self.now cache.new.store input.now (input.now.end - input.now.start)) }
-        ensures effect { IsRestEffect (way_of way) self.now input.now (input.now.end - input.now.start)
+            (IsUnitRefusal way self.now cache.new.store input.now (input.now.end - input.now.start)) }
+        ensures effect { IsRestEffect way self.now input.now (input.now.end - input.now.start)
             cache.old cache.new result }
         ensures alive { (q : Powerset) → Names cache.old.store.table id q → q ≡ dead → ⊥ }
-        ensures progress { IsEndProgress (way_of way) self.now input.now (input.now.end - input.now.start)
+        ensures progress { IsEndProgress way self.now input.now (input.now.end - input.now.start)
             cache.old.store cache.new.store result }
     {
         let last = last_place(input);
@@ -377,17 +376,17 @@ impl DFA {
         &self,
         cache: &mut Cache,
         input: &Input<'_>,
-        way: Way,
+        way: Direction,
         id: LazyStateID,
     ) -> Result<Option<HalfMatch>, SearchError>
         requires of { IsCacheOf cache.old self.now }
-        requires none { KeepsNone (way_of way) input.now }
-        requires at { IsUnderway (way_of way) self.now cache.old.store.table input.now 0 id None }
+        requires none { KeepsNone way input.now }
+        requires at { IsUnderway way self.now cache.old.store.table input.now 0 id None }
         ensures of { IsCacheOf cache.new self.now }
-        ensures answer { IfOk result (IsPassAnswer (way_of way) self.now input.now) }
-        ensures refusal { IfErr result (IsUnitRefusal (way_of way) self.now cache.new.store input.now 0) }
-        ensures effect { IsRestEffect (way_of way) self.now input.now 0 cache.old cache.new result }
-        ensures progress { IsStillProgress (way_of way) self.now input.now cache.old.store cache.new.store result }
+        ensures answer { IfOk result (IsPassAnswer way self.now input.now) }
+        ensures refusal { IfErr result (IsUnitRefusal way self.now cache.new.store input.now 0) }
+        ensures effect { IsRestEffect way self.now input.now 0 cache.old cache.new result }
+        ensures progress { IsStillProgress way self.now input.now cache.old.store cache.new.store result }
     {
         let at = span_offset(input, way, 0);
         let unit = unit_at(input, way, 0);

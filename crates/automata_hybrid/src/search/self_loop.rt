@@ -5,14 +5,13 @@ ghost use Rattle.automata_hybrid.specs.Cache.Caches.{IsCacheOf};
 ghost use Rattle.automata_hybrid.specs.Cache.Ids.{fixed_from};
 ghost use Rattle.automata_hybrid.specs.Searches.SelfLoops.{IsKnownLoop, IsLoopRun, LoopsOn, LoopsOver, byte_in};
 ghost use Rattle.automata_hybrid.specs.Cache.Table.{IsRowId};
-ghost use Rattle.automata_hybrid.specs.Walks.State.{way_of};
 
 use crate::dfa::DFA;
 use crate::dfa::cache::Cache;
 use crate::id::LazyStateID;
-use crate::search::direction::Way;
 use crate::search::lanes::{LANES, are_in, are_in_either, count_in_either};
 use crate::search::loop_range::LoopRange;
+use automata_base::util::search::Direction;
 
 /// How many bytes of a self-loop are followed eight at once before its ranges are looked for.
 const MANY: usize = 256;
@@ -63,13 +62,13 @@ impl KnownLoop {
 
 /// The byte at a place of a slice that is read from its front or from its back.
 #[inline(always)]
-fn byte_at(way: Way, bytes: &[u8], at: usize) -> u8
+fn byte_at(way: Direction, bytes: &[u8], at: usize) -> u8
     requires { at < length bytes.now }
-    ensures { result ≡ byte_in (way_of way) bytes.now at }
+    ensures { result ≡ byte_in way bytes.now at }
 {
     match way {
-        Way::Forward => bytes[at],
-        Way::Backward => bytes[bytes.len() - 1 - at],
+        Direction::Forward => bytes[at],
+        Direction::Backward => bytes[bytes.len() - 1 - at],
     }
 }
 
@@ -92,7 +91,7 @@ impl DFA {
         &self,
         cache: &Cache,
         id: LazyStateID,
-        way: Way,
+        way: Direction,
         bytes: &[u8],
         at: usize,
     ) -> bool
@@ -100,7 +99,7 @@ impl DFA {
         requires valid { IsRowId cache.now.store.table id }
         requires plain { id < fixed_from }
         requires within { at + 8 ≤ length bytes.now }
-        ensures { IsTrue result → LoopsOver self.now cache.now.store id (way_of way) bytes.now at (at + 8) }
+        ensures { IsTrue result → LoopsOver self.now cache.now.store id way bytes.now at (at + 8) }
     {
         for k in 0..8usize {
             if !self.loops_on(cache, id, byte_at(way, bytes, at + k)) {
@@ -116,7 +115,7 @@ impl DFA {
         &self,
         cache: &Cache,
         id: LazyStateID,
-        way: Way,
+        way: Direction,
         bytes: &[u8],
         start: usize,
         end: usize,
@@ -127,7 +126,7 @@ impl DFA {
         requires within { start ≤ end }
         requires inside { end ≤ length bytes.now }
         ensures upto { result ≤ end }
-        ensures run { IsLoopRun self.now cache.now.store id (way_of way) bytes.now start result }
+        ensures run { IsLoopRun self.now cache.now.store id way bytes.now start result }
     {
         let mut at = start;
         'eights: while end - at >= 8 {
@@ -204,7 +203,7 @@ impl DFA {
         cache: &Cache,
         id: LazyStateID,
         known: KnownLoop,
-        way: Way,
+        way: Direction,
         bytes: &[u8],
         start: usize,
     ) -> usize
@@ -213,7 +212,7 @@ impl DFA {
         requires plain { id < fixed_from }
         requires known { IsKnownLoop self.now cache.now.store id known }
         requires within { start ≤ length bytes.now }
-        ensures { IsLoopRun self.now cache.now.store id (way_of way) bytes.now start result }
+        ensures { IsLoopRun self.now cache.now.store id way bytes.now start result }
     {
         let end = bytes.len();
         let mut at = start;
@@ -255,13 +254,13 @@ impl DFA {
     /// The place up to which a self-loop goes, at most seven bytes less: eight bytes at once, until its ranges are
     /// known.
     #[inline(always)]
-    fn follow_many(&self, cache: &Cache, id: LazyStateID, way: Way, bytes: &[u8]) -> usize
+    fn follow_many(&self, cache: &Cache, id: LazyStateID, way: Direction, bytes: &[u8]) -> usize
         requires of { IsCacheOf cache.now self.now }
         requires valid { IsRowId cache.now.store.table id }
         requires plain { id < fixed_from }
         requires long { 8 ≤ length bytes.now }
-        requires first { LoopsOver self.now cache.now.store id (way_of way) bytes.now 0 8 }
-        ensures { IsLoopRun self.now cache.now.store id (way_of way) bytes.now 0 result }
+        requires first { LoopsOver self.now cache.now.store id way bytes.now 0 8 }
+        ensures { IsLoopRun self.now cache.now.store id way bytes.now 0 result }
     {
         let end = bytes.len();
         let mut kept = cache.self_loop();
@@ -286,10 +285,10 @@ impl DFA {
         requires valid { IsRowId cache.now.store.table id }
         requires plain { id < fixed_from }
         requires long { 8 ≤ length bytes.now }
-        requires first { LoopsOver self.now cache.now.store id (way_of Way.Forward) bytes.now 0 8 }
-        ensures { IsLoopRun self.now cache.now.store id (way_of Way.Forward) bytes.now 0 result }
+        requires first { LoopsOver self.now cache.now.store id Forward bytes.now 0 8 }
+        ensures { IsLoopRun self.now cache.now.store id Forward bytes.now 0 result }
     {
-        self.follow_many(cache, id, Way::Forward, bytes)
+        self.follow_many(cache, id, Direction::Forward, bytes)
     }
 
     #[inline(never)]
@@ -298,10 +297,10 @@ impl DFA {
         requires valid { IsRowId cache.now.store.table id }
         requires plain { id < fixed_from }
         requires long { 8 ≤ length bytes.now }
-        requires first { LoopsOver self.now cache.now.store id (way_of Way.Backward) bytes.now 0 8 }
-        ensures { IsLoopRun self.now cache.now.store id (way_of Way.Backward) bytes.now 0 result }
+        requires first { LoopsOver self.now cache.now.store id Backward bytes.now 0 8 }
+        ensures { IsLoopRun self.now cache.now.store id Backward bytes.now 0 result }
     {
-        self.follow_many(cache, id, Way::Backward, bytes)
+        self.follow_many(cache, id, Direction::Backward, bytes)
     }
 
     /// On how many bytes of a slice, which is read from its front or from its back, a row has a self-loop, or some
@@ -311,13 +310,13 @@ impl DFA {
         &self,
         cache: &Cache,
         id: LazyStateID,
-        way: Way,
+        way: Direction,
         bytes: &[u8],
     ) -> usize
         requires of { IsCacheOf cache.now self.now }
         requires valid { IsRowId cache.now.store.table id }
         requires plain { id < fixed_from }
-        ensures { IsLoopRun self.now cache.now.store id (way_of way) bytes.now 0 result }
+        ensures { IsLoopRun self.now cache.now.store id way bytes.now 0 result }
     {
         if bytes.len() < 8 {
             return 0;
@@ -326,8 +325,8 @@ impl DFA {
             return 0;
         }
         match way {
-            Way::Forward => self.follow_many_fwd(cache, id, bytes),
-            Way::Backward => self.follow_many_rev(cache, id, bytes),
+            Direction::Forward => self.follow_many_fwd(cache, id, bytes),
+            Direction::Backward => self.follow_many_rev(cache, id, bytes),
         }
     }
 }

@@ -6,11 +6,10 @@ ghost use Rattle.automata_hybrid.specs.Walks.Sets.{IsWhichRefusal};
 
 use crate::dfa::DFA;
 use crate::dfa::cache::Cache;
-use crate::search::direction::Way;
 use crate::search::walk::{Cursor, Held};
 use automata_base::laws::walk_is_right;
 use automata_base::util::pattern_set::PatternSet;
-use automata_base::util::search::Input;
+use automata_base::util::search::{Direction, Input};
 use automata_config::error::SearchError;
 
 impl DFA {
@@ -64,7 +63,7 @@ impl DFA {
         let mut walk = Cursor::start();
         let mut held = Held::Row(None);
         'walk: loop {
-            self.go_on(cache, input, Way::Forward, &mut walk, &mut held)?;
+            self.go_on(cache, input, Direction::Forward, &mut walk, &mut held)?;
             let Some(half) = walk.get_match() else {
                 return Ok(());
             };

@@ -1,5 +1,6 @@
 -- The Ok replies to the steps of a walk, in their order, are the pairs of its list, and then none.
 use Rattle.std.proofs.Common.{◌≡◌, ◌==◌, ℕ, zero, suc, Bool, true, false, List, [], ◌∷◌, ◌++◌, Option, Some, None}
+use Rattle.automata_base.specs.Haystacks.Tapes.{Direction}
 use Rattle.std.proofs.Common.{Result, Ok, Err, IfOk, MatchOption, if◌then◌else◌, ap, refl, sym, subst, ◌∙◌, add-one}
 use Rattle.std.proofs.lemmas.Bool.{eqb-true, eqb-false}
 use Rattle.automata_base.specs.Haystacks.Input.{Input}
@@ -11,13 +12,12 @@ use Rattle.automata_hybrid.specs.Walks.Answers.{half_nth}
 use Rattle.regex_automata.specs.Replay.Histories.{Begun, History, start, stepped, step_at, after, history}
 use Rattle.regex_automata.specs.Spans.Contracts.{IsStep}
 use Rattle.regex_automata.specs.Replay.Replies.{IsReply, IsOwnValueBy, IsStepOf, walk_fault, AreReplies, AreRepliesAfter}
-use Rattle.regex_automata.specs.Replay.Replies.{AreReportedFrom, report, reported_to, ReportWalks, dfa_of, direction_of}
+use Rattle.regex_automata.specs.Replay.Replies.{AreReportedFrom, report, reported_to, ReportWalks, dfa_of}
 use Rattle.regex_automata.specs.declared.hybrid.regex.Regex.{Regex}
 use Rattle.regex_automata.specs.declared.replay.requests.Request.{Request}
 use Rattle.regex_automata.specs.declared.replay.requests.Request.TheVariants as request
 use Rattle.regex_automata.specs.declared.replay.requests.Reply.{Reply}
 use Rattle.regex_automata.specs.declared.replay.requests.Reply.TheVariants as reply
-use Rattle.regex_automata.specs.declared.replay.requests.Way.{Way}
 use Rattle.regex_automata.specs.declared.replay.requests.Fault.{Fault}
 use Rattle.regex_automata.specs.declared.replay.requests.Fault.TheVariants as fault
 use Rattle.automata_base.proofs.Paths.Orders.{none_some, some_inj, some_none}
@@ -105,7 +105,7 @@ step_of (y ∷ rs) h k found own =
 -- the walk `w` of the regex `r`: each Ok reply to its steps is a pair of this list, or none after the last
 module _
     (rs : List Regex) (k : ℕ) (w : Begun) (r : Regex) (of : slice_get rs w.regex ≡ Some r) (pairs : List Pair)
-    (names : (reported : ℕ) (found : Option HalfMatch) → IsStep (direction_of w.way) (dfa_of w.way r) w.input reported (Ok found) → found ≡ half_nth pairs reported) where
+    (names : (reported : ℕ) (found : Option HalfMatch) → IsStep w.way (dfa_of w.way r) w.input reported (Ok found) → found ≡ half_nth pairs reported) where
   -- what is reported of a walk from where it stands now, which is the walk `w` at the end
   abbrev Reports : Option Begun → List (Option HalfMatch) → Type 0
   Reports now steps = AreReportedFrom (reported_of now) pairs steps × Becomes now w
@@ -122,9 +122,9 @@ module _
   same_step v x found (regex, way, input) at step =
       let same : x ≡ r = some_inj (sym at ∙ ap (slice_get rs) regex ∙ of) in
       names v.reported found
-      (subst (λ (y : Regex). IsStep (direction_of w.way) (dfa_of w.way y) w.input v.reported (Ok found)) same
-      (subst (λ (i : Input). IsStep (direction_of w.way) (dfa_of w.way x) i v.reported (Ok found)) input
-      (subst (λ b. IsStep (direction_of b) (dfa_of b x) v.input v.reported (Ok found)) way step)))
+      (subst (λ (y : Regex). IsStep w.way (dfa_of w.way y) w.input v.reported (Ok found)) same
+      (subst (λ (i : Input). IsStep w.way (dfa_of w.way x) i v.reported (Ok found)) input
+      (subst (λ b. IsStep b (dfa_of b x) v.input v.reported (Ok found)) way step)))
 
   over_own_step :
       (h : History) (found : Option HalfMatch) (steps : List (Option HalfMatch))
@@ -150,7 +150,7 @@ module _
 
   -- back over one request
   over_begins :
-      (h : History) (way : Way) (input : Input) (a : Reply) (steps : List (Option HalfMatch))
+      (h : History) (way : Direction) (input : Input) (a : Reply) (steps : List (Option HalfMatch))
       → Reports (slice_get (after h (request.BeginWalk way input) a).walks k) steps → Reports (slice_get h.walks k) steps
   over_begins h way input (reply.Begun (Ok n)) steps more = over_begin _ h.walks steps (slice_get h.walks k) refl refl more
   over_begins h way input (reply.Begun (Err e)) steps more = more

@@ -26,12 +26,9 @@ use Rattle.regex_automata.specs.Regexes.Caches.{AreFresh}
 use Rattle.regex_automata.specs.Spans.Effects.{IsItemEffect, IsSpanEffect, IsTruthEffect}
 use Rattle.regex_automata.specs.Spans.Errors.{IsRegexRefusal}
 use Rattle.regex_automata.specs.Replay.Replies.{OnHalf, OnPatterns, OnSpan, OnSpans, OnTokens, OnTruth, dfa_of}
-use Rattle.regex_automata.specs.Replay.Replies.{direction_of}
 use Rattle.regex_automata.specs.Tokens.{IsRefusedAt, IsTokenEffect, match_of}
 use Rattle.regex_automata.specs.declared.hybrid.regex.Regex.{Regex}
 use Rattle.regex_automata.specs.declared.hybrid.regex.caches.Cache.{Cache}
-use Rattle.regex_automata.specs.declared.replay.requests.Way.{Way}
-use Rattle.regex_automata.specs.declared.replay.requests.Way.TheVariants as way
 use Rattle.regex_automata.specs.declared.replay.requests.Reply.{Reply}
 use Rattle.regex_automata.specs.declared.replay.requests.Reply.TheVariants as reply
 use Rattle.regex_automata.specs.declared.replay.requests.Request.{Request}
@@ -107,19 +104,19 @@ IsCalled way m input answered old new result =
     × IfErr call (IsWalkRefusal States way m new.store input walk answered)
 
 -- the cache of the DFA of a direction, and the other one
-abbrev pub own_of : Way → Cache → CacheView
-own_of way.Forward c = c.forward
-own_of way.Backward c = c.reverse
+abbrev pub own_of : Direction → Cache → CacheView
+own_of Forward c = c.forward
+own_of Backward c = c.reverse
 
-abbrev pub other_of : Way → Cache → CacheView
-other_of way.Forward c = c.reverse
-other_of way.Backward c = c.forward
+abbrev pub other_of : Direction → Cache → CacheView
+other_of Forward c = c.reverse
+other_of Backward c = c.forward
 
 -- the step of a walk, which leaves the other cache unchanged
 abbrev pub IsWalkStepped : Regex → Option Begun → (old new : Cache) → Result (Option HalfMatch) SearchError → Type 0
 IsWalkStepped r None old new result = ⊥
 IsWalkStepped r (Some w) old new result =
-    IsCalled (direction_of w.way) (dfa_of w.way r) w.input w.reported
+    IsCalled w.way (dfa_of w.way r) w.input w.reported
     (own_of w.way old) (own_of w.way new)
     result
     × (other_of w.way new ≡ other_of w.way old)

@@ -1,16 +1,16 @@
 -- What the requests so far and their replies have made: which regex is current, and which walks there are.
 use Rattle.std.specs.Prelude.{ℕ, zero, suc, ◌+◌, List, [], ◌∷◌, ◌++◌, Ok}
+use Rattle.automata_base.specs.Haystacks.Tapes.{Direction}
 use Rattle.automata_base.specs.Haystacks.Input.{Input}
 use Rattle.regex_automata.specs.declared.replay.requests.Request.{Request}
 use Rattle.regex_automata.specs.declared.replay.requests.Request.TheVariants as request
-use Rattle.regex_automata.specs.declared.replay.requests.Way.{Way}
 use Rattle.regex_automata.specs.declared.replay.requests.Reply.{Reply}
 use Rattle.regex_automata.specs.declared.replay.requests.Reply.TheVariants as reply
 
 -- a walk that was begun: the number of its regex, its direction, its input, and how many of its steps answered Ok
 pub record Begun : Type 0 where
   pub regex : ℕ
-  pub way : Way
+  pub way : Direction
   pub input : Input
   pub reported : ℕ
 
@@ -34,7 +34,7 @@ step_at zero (w ∷ ws) = stepped w ∷ ws
 step_at (suc k) (w ∷ ws) = w ∷ step_at k ws
 
 -- a walk is begun by an Ok reply, and goes on by an Ok reply; an Ok reply makes another regex current
-abbrev pub after_begin : History → Way → Input → Reply → History
+abbrev pub after_begin : History → Direction → Input → Reply → History
 after_begin h way input (reply.Begun (Ok k)) =
     record {
       current = h.current;

@@ -19,8 +19,6 @@ use Rattle.regex_automata.specs.Tokens.{AreTokensUpto}
 use Rattle.regex_automata.specs.declared.hybrid.regex.Regex.{Regex}
 use Rattle.regex_automata.specs.declared.replay.requests.Request.{Request}
 use Rattle.regex_automata.specs.declared.replay.requests.Request.TheVariants as request
-use Rattle.regex_automata.specs.declared.replay.requests.Way.{Way}
-use Rattle.regex_automata.specs.declared.replay.requests.Way.TheVariants as way
 use Rattle.regex_automata.specs.declared.replay.requests.Reply.{Reply}
 use Rattle.regex_automata.specs.declared.replay.requests.Reply.TheVariants as reply
 use Rattle.regex_automata.specs.declared.replay.requests.Fault.{Fault}
@@ -76,19 +74,15 @@ abbrev pub OnDone : (Result (Unit {0}) SearchError → Type 0) → Reply → Typ
 OnDone P (reply.Done result) = P result
 OnDone P other = ⊥
 
--- the direction of a walk, and the DFA that makes it
-abbrev pub direction_of : Way → Direction
-direction_of way.Forward = Forward
-direction_of way.Backward = Backward
-
-abbrev pub dfa_of : Way → Regex → Machine
-dfa_of way.Forward r = r.forward
-dfa_of way.Backward r = r.reverse
+-- the DFA that makes a walk
+abbrev pub dfa_of : Direction → Regex → Machine
+dfa_of Forward r = r.forward
+dfa_of Backward r = r.reverse
 
 -- the step of a walk
 abbrev pub IsStepOf : Regex → Option Begun → Result (Option HalfMatch) SearchError → Type 0
 IsStepOf r None result = ⊥
-IsStepOf r (Some w) result = IsStep (direction_of w.way) (dfa_of w.way r) w.input w.reported result
+IsStepOf r (Some w) result = IsStep w.way (dfa_of w.way r) w.input w.reported result
 
 -- a walk takes the next number
 abbrev pub IsNumber : ℕ → Result ℕ SearchError → Type 0
@@ -163,4 +157,4 @@ abbrev pub ReportWalks : List Regex → List Request → List Reply → Type 0
 ReportWalks regexes script replies =
     (k : ℕ) (w : Begun) (r : Regex)
     → slice_get (history start script replies).walks k ≡ Some w → slice_get regexes w.regex ≡ Some r
-    → ReportWalk (direction_of w.way) (dfa_of w.way r) w.input (reported_to k script replies)
+    → ReportWalk w.way (dfa_of w.way r) w.input (reported_to k script replies)

@@ -14,7 +14,7 @@ mod walks;
 
 use crate::hybrid::regex::Regex;
 use players::Player;
-pub use requests::{Fault, Reply, Request, Way};
+pub use requests::{Fault, Reply, Request};
 use std::alloc::{AllocError, Global};
 
 /// Returns one reply for each request, in order. Each is its request's own value, whatever came before.

@@ -9,10 +9,10 @@ use crate::hybrid::dfa::OverlappingState;
 use crate::hybrid::regex::{Cache, Regex};
 use crate::replay::iteration::matches_upto;
 use crate::replay::patterns::patterns_below;
-use crate::replay::requests::{Fault, Reply, Request, Way};
+use crate::replay::requests::{Fault, Reply, Request};
 use crate::replay::tokens::tokens_upto;
 use crate::replay::walks::{KeptWalk, step_at};
-use automata_base::util::search::Input;
+use automata_base::util::search::{Direction, Input};
 use automata_config::error::SearchError;
 use std::alloc::{AllocError, Global};
 
@@ -112,7 +112,7 @@ impl<'r, 'h> Player<'r, 'h> {
     }
 
     /// Begins a walk of the current regex.
-    fn begin(&mut self, way: Way, input: &Input<'h>) -> Reply
+    fn begin(&mut self, way: Direction, input: &Input<'h>) -> Reply
         requires { (h : History) × HasPlayed h self.old }
         ensures regexes { self.new.regexes.now ≡ self.old.regexes.now }
         ensures reply { IsReplyTo self.old (request.BeginWalk way input.now) result }

@@ -2,17 +2,8 @@
 
 use crate::tokens::TokenError;
 use automata_base::util::primitives::PatternID;
-use automata_base::util::search::{HalfMatch, Input, Match};
+use automata_base::util::search::{Direction, HalfMatch, Input, Match};
 use automata_config::error::SearchError;
-
-/// The direction of a walk.
-#[derive(Clone, Copy, Debug, PartialEq, Eq)]
-pub enum Way {
-    /// By the forward DFA, to the right.
-    Forward,
-    /// By the reverse DFA, to the left.
-    Backward,
-}
 
 /// A request of a script. It borrows its haystack.
 #[derive(Drop)]
@@ -30,7 +21,7 @@ pub enum Request<'h> {
     /// The tokens, one after another. Each search is anchored and not earliest, whatever the input says.
     Tokenise(Input<'h>),
     /// Begins an overlapping search with the current regex, called a walk. Walks are numbered from 0.
-    BeginWalk { way: Way, input: Input<'h> },
+    BeginWalk { way: Direction, input: Input<'h> },
     /// One step of a walk of the current regex.
     StepWalk(usize),
     /// The patterns of all overlapping matches that are below the capacity.

@@ -3,7 +3,7 @@ ghost use Rattle.std.specs.Prelude.{ℕ, ◌≡◌, ◌<◌, length};
 ghost use Rattle.automata_base.specs.Haystacks.Tapes.{Forward, Backward};
 ghost use Rattle.automata_hybrid.specs.Cache.Caches.{IsCacheOf};
 ghost use Rattle.regex_automata.specs.Regexes.Caches.{AreCachesOf};
-ghost use Rattle.regex_automata.specs.Replay.Replies.{dfa_of, direction_of};
+ghost use Rattle.regex_automata.specs.Replay.Replies.{dfa_of};
 ghost use Rattle.regex_automata.specs.Replay.Players.{GoesAt, HasAnsweredBy, IsCall, IsWalkAt};
 ghost use Rattle.regex_automata.specs.Replay.Players.{MakesCall, MakesStepAt};
 ghost use Rattle.regex_automata.specs.Replay.Caches.{HasAnswered, other_of, own_of};
@@ -12,14 +12,13 @@ ghost use Rattle.regex_automata.specs.declared.replay.walks.KeptWalk.{KeptWalk};
 use crate::hybrid::dfa;
 use crate::hybrid::dfa::{DFA, OverlappingState};
 use crate::hybrid::regex::{Cache, Regex};
-use crate::replay::requests::Way;
-use automata_base::util::search::{HalfMatch, Input};
+use automata_base::util::search::{Direction, HalfMatch, Input};
 use automata_config::error::SearchError;
 
 /// A walk: the number of its regex, its direction, its input, and how far it is.
 pub struct KeptWalk<'h> {
     pub(super) regex: usize,
-    pub(super) way: Way,
+    pub(super) way: Direction,
     pub(super) input: Input<'h>,
     pub(super) state: OverlappingState,
 }
@@ -36,39 +35,21 @@ impl<'h> Drop for KeptWalk<'h> {
     }
 }
 
-/// The match of a forward walk after one more call.
-fn step_fwd(
+/// The match of a walk of a DFA after one more call. An error leaves the walk unchanged.
+fn step_of(
+    way: Direction,
     dfa: &DFA,
     cache: &mut dfa::Cache,
     input: &Input<'_>,
     state: &mut OverlappingState,
 ) -> Result<Option<HalfMatch>, SearchError>
     requires of { IsCacheOf cache.old dfa.now }
-    requires reported { (k : ℕ) × HasAnswered Forward dfa.now input.now state.old k }
+    requires reported { (k : ℕ) × HasAnswered way dfa.now input.now state.old k }
     ensures of { IsCacheOf cache.new dfa.now }
-    ensures call { IsCall Forward dfa.now input.now state.old state.new result }
-    ensures made { MakesCall Forward dfa.now input.now state.old cache.old cache.new result }
+    ensures call { IsCall way dfa.now input.now state.old state.new result }
+    ensures made { MakesCall way dfa.now input.now state.old cache.old cache.new result }
 {
-    match dfa.try_search_overlapping_fwd(cache, input, state) {
-        Ok(()) => Ok(state.get_match()),
-        Err(error) => Err(error),
-    }
-}
-
-/// The match of a reverse walk after one more call.
-fn step_rev(
-    dfa: &DFA,
-    cache: &mut dfa::Cache,
-    input: &Input<'_>,
-    state: &mut OverlappingState,
-) -> Result<Option<HalfMatch>, SearchError>
-    requires of { IsCacheOf cache.old dfa.now }
-    requires reported { (k : ℕ) × HasAnswered Backward dfa.now input.now state.old k }
-    ensures of { IsCacheOf cache.new dfa.now }
-    ensures call { IsCall Backward dfa.now input.now state.old state.new result }
-    ensures made { MakesCall Backward dfa.now input.now state.old cache.old cache.new result }
-{
-    match dfa.try_search_overlapping_rev(cache, input, state) {
+    match dfa.try_search_overlapping(cache, input, way, state) {
         Ok(()) => Ok(state.get_match()),
         Err(error) => Err(error),
     }
@@ -76,23 +57,23 @@ fn step_rev(
 
 /// The match of a walk of a regex after one more call. An error leaves the walk unchanged.
 fn step(
-    way: Way,
+    way: Direction,
     regex: &Regex,
     cache: &mut Cache,
     input: &Input<'_>,
     state: &mut OverlappingState,
 ) -> Result<Option<HalfMatch>, SearchError>
     requires of { AreCachesOf cache.old regex.now }
-    requires reported { (k : ℕ) × HasAnswered (direction_of way) (dfa_of way regex.now) input.now state.old k }
+    requires reported { (k : ℕ) × HasAnswered way (dfa_of way regex.now) input.now state.old k }
     ensures of { AreCachesOf cache.new regex.now }
-    ensures call { IsCall (direction_of way) (dfa_of way regex.now) input.now state.old state.new result }
-    ensures made { MakesCall (direction_of way) (dfa_of way regex.now) input.now state.old
+    ensures call { IsCall way (dfa_of way regex.now) input.now state.old state.new result }
+    ensures made { MakesCall way (dfa_of way regex.now) input.now state.old
         (own_of way cache.old) (own_of way cache.new) result }
     ensures same { other_of way cache.new ≡ other_of way cache.old }
 {
     match way {
-        Way::Forward => step_fwd(regex.forward(), cache.forward_mut(), input, state),
-        Way::Backward => step_rev(regex.reverse(), cache.reverse_mut(), input, state),
+        Direction::Forward => step_of(way, regex.forward(), cache.forward_mut(), input, state),
+        Direction::Backward => step_of(way, regex.reverse(), cache.reverse_mut(), input, state),
     }
 }
 

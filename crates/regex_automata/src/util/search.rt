@@ -2,5 +2,5 @@
 
 pub use automata_base::util::pattern_set::{PatternSet, PatternSetInsertError, PatternSetIter};
 pub use automata_base::util::search::{
-    Anchored, HalfMatch, Input, Match, MatchError, MatchErrorKind, MatchKind, Span,
+    Anchored, Direction, HalfMatch, Input, Match, MatchError, MatchErrorKind, MatchKind, Span,
 };

@@ -1,8 +1,7 @@
 -- What the tests of UTF-8 answer.
-use Rattle.std.proofs.Common.{◌≡◌, ◌↔◌, Bool, true, List, ◌∷◌, reverse, Result, Ok, Err, IfOk, IsUtf8, sym}
-use Rattle.std.proofs.Common.{ap, ◌∙◌, ℕ}
+use Rattle.std.proofs.Common.{◌≡◌, ◌↔◌, Bool, true, List, ◌∷◌, Result, Ok, Err, IfOk, IsUtf8}
+use Rattle.std.proofs.Common.{ℕ}
 use Rattle.std.specs.Prelude.{IsTrue}
-use Rattle.std.proofs.lemmas.List.{reverse-reverse}
 use Rattle.automata_base.specs.declared.nfa.thompson.utf8.Class.{Class}
 use Rattle.automata_base.specs.Powersets.Cuts.{MatchKind}
 use Rattle.automata_base.specs.Retraced.Decoders.{classes_below, EndsAtBoundaries}
@@ -10,27 +9,18 @@ use Rattle.automata_base.proofs.Nfas.Utf8.Decoder.{decode}
 use Rattle.automata_base.specs.Nfas.Accepted.{IsChecked}
 use Rattle.automata_base.specs.Nfas.Engines.{engine_of}
 use Rattle.automata_base.specs.Nfas.Nodes.{Automaton}
-use Rattle.automata_base.specs.Haystacks.Tapes.{Direction, Forward, Backward}
+use Rattle.automata_base.specs.Haystacks.Tapes.{Direction, Forward}
 use Rattle.automata_base.specs.Answers.TruePairs.{KeepsUtf8}
 use Rattle.automata_base.specs.Nfas.Utf8.{in_order, ReadsUtf8, HasNoLook}
-use Rattle.automata_base.proofs.Nfas.Utf8.Backwards.{decode_backward}
 use Rattle.automata_base.proofs.Nfas.Utf8.Decoding.{AreBytes, below, decode_utf8}
 use Rattle.automata_base.proofs.Nfas.Utf8.Edges.{chained}
-use Rattle.automata_base.proofs.Nfas.Utf8.Keeping.{bytes_reverse, keeps_from, keeps_back}
+use Rattle.automata_base.proofs.Nfas.Utf8.Keeping.{keeps_from, keeps_back}
 use Rattle.automata_base.proofs.Nfas.Utf8.Reading.{ends_reads}
-use Rattle.automata_base.proofs.Nfas.Utf8.Tables.{forward, backward, forward_decodes, forward_chained, backward_below}
-use Rattle.automata_base.proofs.Nfas.Utf8.Tables.{backward_chained, backward_mirrors}
+use Rattle.automata_base.proofs.Nfas.Utf8.Tables.{forward, forward_decodes, forward_chained}
 
 -- Between two characters again exactly after UTF-8.
 forward_right : (us : List ℕ) → AreBytes us → decode forward 0 us ≡ 0 ↔ IsUtf8 us
 forward_right us bytes = decode_utf8 forward forward_decodes us bytes
-
-backward_right : (us : List ℕ) → AreBytes us → decode backward 0 us ≡ 0 ↔ IsUtf8 (reverse us)
-backward_right us bytes =
-    let back = decode_backward forward backward (below forward forward_decodes) backward_below backward_mirrors (reverse us) in
-    let there = forward_right (reverse us) (bytes_reverse us bytes) in
-    let same : decode backward 0 (reverse (reverse us)) ≡ decode backward 0 us = ap (decode backward 0) (reverse-reverse us) in
-    (λ e. there.0 (back.1 (same ∙ e)), λ k. sym same ∙ back.0 (there.1 k))
 
 abbrev pub IsAnswer : Direction → Automaton → Bool → Type 0
 IsAnswer way a b = IsTrue b ↔ (a.flags.utf8 ≡ true → ReadsUtf8 way a)
@@ -59,8 +49,3 @@ pub walked_forward :
     (a : Automaton) → IsChecked a → a.flags.utf8 ≡ true
     → (b : Bool) → IsTrue b ↔ EndsAtBoundaries forward a.states (a.start_anchored ∷ a.start_pattern) → IsAnswer Forward a b
 walked_forward a checked utf8 = walked Forward a forward forward_chained (below forward forward_decodes) forward_right checked utf8
-
-pub walked_backward :
-    (a : Automaton) → IsChecked a → a.flags.utf8 ≡ true
-    → (b : Bool) → IsTrue b ↔ EndsAtBoundaries backward a.states (a.start_anchored ∷ a.start_pattern) → IsAnswer Backward a b
-walked_backward a checked utf8 = walked Backward a backward backward_chained backward_below backward_right checked utf8

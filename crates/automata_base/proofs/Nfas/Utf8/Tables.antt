@@ -1,10 +1,8 @@
--- The two decoders of the program, and the tests that they pass.
+-- The decoder of the program, and the tests that it passes.
 use Rattle.std.proofs.Common.{◌≡◌, ◌∷◌, true, List, [], refl}
 use Rattle.automata_base.specs.declared.nfa.thompson.utf8.Class.{Class}
-use Rattle.automata_base.proofs.Nfas.Utf8.Backwards.{mirrors}
 use Rattle.automata_base.proofs.Nfas.Utf8.Decoding.{decodes_utf8}
 use Rattle.automata_base.proofs.Nfas.Utf8.Edges.{chained}
-use Rattle.automata_base.specs.Retraced.Decoders.{classes_below}
 
 -- From the first byte to the last.
 abbrev pub forward : List Class
@@ -25,36 +23,8 @@ forward =
     ∷ record { first = 245; last = 255; to = 1 ∷ 1 ∷ 1 ∷ 1 ∷ 1 ∷ 1 ∷ 1 ∷ 1 ∷ 1 ∷ 1 ∷ 1 ∷ [] }
     ∷ []
 
--- From the last byte to the first.
-abbrev pub backward : List Class
-backward =
-    record { first = 0; last = 127; to = 0 ∷ 1 ∷ 1 ∷ 1 ∷ 1 ∷ 1 ∷ 1 ∷ 1 ∷ 1 ∷ 1 ∷ 1 ∷ [] }
-    ∷ record { first = 128; last = 143; to = 2 ∷ 1 ∷ 5 ∷ 5 ∷ 5 ∷ 8 ∷ 8 ∷ 8 ∷ 1 ∷ 1 ∷ 1 ∷ [] }
-    ∷ record { first = 144; last = 159; to = 3 ∷ 1 ∷ 6 ∷ 6 ∷ 6 ∷ 9 ∷ 9 ∷ 9 ∷ 1 ∷ 1 ∷ 1 ∷ [] }
-    ∷ record { first = 160; last = 191; to = 4 ∷ 1 ∷ 7 ∷ 7 ∷ 7 ∷ 10 ∷ 10 ∷ 10 ∷ 1 ∷ 1 ∷ 1 ∷ [] }
-    ∷ record { first = 192; last = 193; to = 1 ∷ 1 ∷ 1 ∷ 1 ∷ 1 ∷ 1 ∷ 1 ∷ 1 ∷ 1 ∷ 1 ∷ 1 ∷ [] }
-    ∷ record { first = 194; last = 223; to = 1 ∷ 1 ∷ 0 ∷ 0 ∷ 0 ∷ 1 ∷ 1 ∷ 1 ∷ 1 ∷ 1 ∷ 1 ∷ [] }
-    ∷ record { first = 224; last = 224; to = 1 ∷ 1 ∷ 1 ∷ 1 ∷ 1 ∷ 1 ∷ 1 ∷ 0 ∷ 1 ∷ 1 ∷ 1 ∷ [] }
-    ∷ record { first = 225; last = 236; to = 1 ∷ 1 ∷ 1 ∷ 1 ∷ 1 ∷ 0 ∷ 0 ∷ 0 ∷ 1 ∷ 1 ∷ 1 ∷ [] }
-    ∷ record { first = 237; last = 237; to = 1 ∷ 1 ∷ 1 ∷ 1 ∷ 1 ∷ 0 ∷ 0 ∷ 1 ∷ 1 ∷ 1 ∷ 1 ∷ [] }
-    ∷ record { first = 238; last = 239; to = 1 ∷ 1 ∷ 1 ∷ 1 ∷ 1 ∷ 0 ∷ 0 ∷ 0 ∷ 1 ∷ 1 ∷ 1 ∷ [] }
-    ∷ record { first = 240; last = 240; to = 1 ∷ 1 ∷ 1 ∷ 1 ∷ 1 ∷ 1 ∷ 1 ∷ 1 ∷ 1 ∷ 0 ∷ 0 ∷ [] }
-    ∷ record { first = 241; last = 243; to = 1 ∷ 1 ∷ 1 ∷ 1 ∷ 1 ∷ 1 ∷ 1 ∷ 1 ∷ 0 ∷ 0 ∷ 0 ∷ [] }
-    ∷ record { first = 244; last = 244; to = 1 ∷ 1 ∷ 1 ∷ 1 ∷ 1 ∷ 1 ∷ 1 ∷ 1 ∷ 0 ∷ 1 ∷ 1 ∷ [] }
-    ∷ record { first = 245; last = 255; to = 1 ∷ 1 ∷ 1 ∷ 1 ∷ 1 ∷ 1 ∷ 1 ∷ 1 ∷ 1 ∷ 1 ∷ 1 ∷ [] }
-    ∷ []
-
 pub forward_decodes : decodes_utf8 forward ≡ true
 forward_decodes = refl
 
 pub forward_chained : chained 0 forward ≡ true
 forward_chained = refl
-
-pub backward_below : classes_below backward ≡ true
-backward_below = refl
-
-pub backward_chained : chained 0 backward ≡ true
-backward_chained = refl
-
-pub backward_mirrors : mirrors forward backward ≡ true
-backward_mirrors = refl

@@ -91,14 +91,7 @@ fn is_match_below(state: &State, n: usize) -> bool
 {
     match state {
         State::Match { pattern } => pattern_below(*pattern, n),
-        State::ByteRange { .. } => true,
-        State::Sparse(_) => true,
-        State::Dense(_) => true,
-        State::Look { .. } => true,
-        State::Union { .. } => true,
-        State::BinaryUnion { .. } => true,
-        State::Capture { .. } => true,
-        State::Fail => true,
+        _ => true,
     }
 }
 
@@ -202,13 +195,7 @@ fn is_state_ordered(state: &State) -> bool
     match state {
         State::ByteRange { lo, hi, .. } => is_range(*lo, *hi),
         State::Sparse(transitions) => is_ordered(transitions),
-        State::Dense(_) => true,
-        State::Look { .. } => true,
-        State::Union { .. } => true,
-        State::BinaryUnion { .. } => true,
-        State::Capture { .. } => true,
-        State::Fail => true,
-        State::Match { .. } => true,
+        _ => true,
     }
 }
 
@@ -231,13 +218,7 @@ fn count_alternates(state: &State) -> usize
     match state {
         State::Union { alternates } => alternates.len(),
         State::BinaryUnion { .. } => 2,
-        State::ByteRange { .. } => 0,
-        State::Sparse(_) => 0,
-        State::Dense(_) => 0,
-        State::Look { .. } => 0,
-        State::Capture { .. } => 0,
-        State::Fail => 0,
-        State::Match { .. } => 0,
+        _ => 0,
     }
 }
 

@@ -84,11 +84,7 @@ fn copy_state(
             Ok(State::Union { alternates })
         }
         State::Match { .. } => Ok(State::Match { pattern }),
-        State::Sparse(_) => Ok(State::Fail),
-        State::Dense(_) => Ok(State::Fail),
-        State::BinaryUnion { .. } => Ok(State::Fail),
-        State::Capture { .. } => Ok(State::Fail),
-        State::Fail => Ok(State::Fail),
+        _ => Ok(State::Fail),
     }
 }
 

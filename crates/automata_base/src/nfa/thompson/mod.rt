@@ -19,7 +19,7 @@ use crate::nfa::thompson::checks::{looks_of, room_of, test};
 use crate::nfa::thompson::cycles::are_looks_acyclic;
 use crate::nfa::thompson::reach::{reaches_match, reaches_match_in, set_for, skips_lazily};
 use crate::nfa::thompson::reverse::{Mirror, reverse_error, reverse_states};
-use crate::nfa::thompson::utf8::{BACKWARD, Class, FORWARD, ends_at_boundaries};
+use crate::nfa::thompson::utf8::{Class, FORWARD, ends_at_boundaries};
 use crate::util::look::{Look, LookSet};
 use crate::util::primitives::{PatternID, StateID};
 use crate::util::search::{Anchored, MatchKind};
@@ -312,7 +312,7 @@ impl NFA {
     ghost use Rattle.automata_base.specs.Nfas.Errors.{states_refusal};
     ghost use Rattle.automata_base.specs.Nfas.ReversedSizes.{most_states, most_alternates, MayBeTooLarge};
     ghost use Rattle.automata_base.specs.Paths.Starts.{mode_start};
-    ghost use Rattle.automata_base.specs.Haystacks.Tapes.{Forward, Backward};
+    ghost use Rattle.automata_base.specs.Haystacks.Tapes.{Forward};
     ghost use Rattle.automata_base.specs.Answers.TruePairs.{IsTruePair, KeepsUtf8};
     ghost use Rattle.automata_base.specs.Haystacks.LookSets.{truth_of};
     ghost use Rattle.automata_base.specs.Nfas.Unions.{IsKeepingUnions};
@@ -581,21 +581,6 @@ impl NFA {
             return Ok(true);
         }
         self.reads_utf8(&FORWARD)
-    }
-
-    /// The same as `keeps_utf8`, for an NFA that reads from the end of the haystack to its start.
-    pub fn keeps_utf8_reverse(&self) -> Result<bool, AllocError>
-        ensures reads { IfOk result (λ keeps. IsTrue keeps
-            ↔ (self.now.flags.utf8 ≡ true → ReadsUtf8 Backward self.now)) }
-        ensures keeps { IfOk result (λ keeps. IsTrue keeps
-            → (kind : MatchKind) → KeepsUtf8 Backward (engine_of self.now kind)) }
-        ensures exact { IfOk result (λ keeps. HasNoLook self.now
-            → (kind : MatchKind) → IsTrue keeps ↔ KeepsUtf8 Backward (engine_of self.now kind)) }
-    {
-        if !self.is_utf8() {
-            return Ok(true);
-        }
-        self.reads_utf8(&BACKWARD)
     }
 
     /// Whether match states are reached from the anchored start and those of the patterns only between two characters,

@@ -105,11 +105,7 @@ fn add_epsilon_targets(set: &mut SparseSet, state: &State)
         State::Capture { next, .. } => add(set, *next),
         State::Union { alternates } => add_ids(set, alternates),
         State::BinaryUnion { alt1, alt2 } => add_ids(set, &[*alt1, *alt2]),
-        State::ByteRange { .. } => {}
-        State::Sparse(_) => {}
-        State::Dense(_) => {}
-        State::Fail => {}
-        State::Match { .. } => {}
+        _ => {}
     }
 }
 
@@ -123,12 +119,7 @@ fn add_byte_targets(set: &mut SparseSet, state: &State)
         State::ByteRange { next, .. } => add(set, *next),
         State::Sparse(transitions) => add_nexts(set, transitions),
         State::Dense(targets) => add_all_dense(set, targets.as_slice()),
-        State::Look { .. } => {}
-        State::Capture { .. } => {}
-        State::Union { .. } => {}
-        State::BinaryUnion { .. } => {}
-        State::Fail => {}
-        State::Match { .. } => {}
+        _ => {}
     }
 }
 
@@ -302,13 +293,7 @@ fn second_alternate(state: &State, first: StateID) -> Option<StateID>
     match state {
         State::Union { alternates } => second(alternates, first),
         State::BinaryUnion { alt1, alt2 } => second(&[*alt1, *alt2], first),
-        State::Capture { .. } => None,
-        State::ByteRange { .. } => None,
-        State::Sparse(_) => None,
-        State::Dense(_) => None,
-        State::Look { .. } => None,
-        State::Fail => None,
-        State::Match { .. } => None,
+        _ => None,
     }
 }
 

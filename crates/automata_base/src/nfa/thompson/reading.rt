@@ -43,8 +43,7 @@ pub fn is_kept(state: &State, keeps_unions: bool) -> bool
         State::Match { .. } => true,
         State::Union { alternates } => alternates.len() > 1 && keeps_unions,
         State::BinaryUnion { .. } => keeps_unions,
-        State::Capture { .. } => false,
-        State::Fail => false,
+        _ => false,
     }
 }
 
@@ -55,14 +54,7 @@ pub fn add_look(set: LookSet, state: &State) -> LookSet
 {
     match state {
         State::Look { look, .. } => set.insert(*look),
-        State::ByteRange { .. } => set,
-        State::Sparse(_) => set,
-        State::Dense(_) => set,
-        State::Match { .. } => set,
-        State::Union { .. } => set,
-        State::BinaryUnion { .. } => set,
-        State::Capture { .. } => set,
-        State::Fail => set,
+        _ => set,
     }
 }
 
@@ -72,14 +64,7 @@ pub fn pattern_of(state: &State) -> Option<PatternID>
 {
     match state {
         State::Match { pattern } => Some(*pattern),
-        State::Look { .. } => None,
-        State::ByteRange { .. } => None,
-        State::Sparse(_) => None,
-        State::Dense(_) => None,
-        State::Union { .. } => None,
-        State::BinaryUnion { .. } => None,
-        State::Capture { .. } => None,
-        State::Fail => None,
+        _ => None,
     }
 }
 
@@ -89,14 +74,7 @@ pub fn look_target(state: &State) -> Option<StateID>
 {
     match state {
         State::Look { next, .. } => Some(*next),
-        State::Match { .. } => None,
-        State::ByteRange { .. } => None,
-        State::Sparse(_) => None,
-        State::Dense(_) => None,
-        State::Union { .. } => None,
-        State::BinaryUnion { .. } => None,
-        State::Capture { .. } => None,
-        State::Fail => None,
+        _ => None,
     }
 }
 
@@ -110,11 +88,7 @@ pub fn epsilon_target(state: &State, edge: usize) -> Option<StateID>
         State::Capture { next, .. } => [*next].get(edge).copied(),
         State::Union { alternates } => alternates.get(edge).copied(),
         State::BinaryUnion { alt1, alt2 } => [*alt1, *alt2].get(edge).copied(),
-        State::ByteRange { .. } => None,
-        State::Sparse(_) => None,
-        State::Dense(_) => None,
-        State::Fail => None,
-        State::Match { .. } => None,
+        _ => None,
     }
 }
 
@@ -167,11 +141,6 @@ pub fn target(state: &State, u: u8) -> Option<StateID>
         }
         State::Sparse(transitions) => sparse_target(transitions, u),
         State::Dense(targets) => dense_target(targets, u),
-        State::Match { .. } => None,
-        State::Look { .. } => None,
-        State::Union { .. } => None,
-        State::BinaryUnion { .. } => None,
-        State::Capture { .. } => None,
-        State::Fail => None,
+        _ => None,
     }
 }

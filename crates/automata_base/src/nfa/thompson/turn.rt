@@ -117,12 +117,7 @@ fn same(state: &State) -> Option<State>
             next: *next,
         }),
         State::Match { pattern } => Some(State::Match { pattern: *pattern }),
-        State::Sparse(_) => None,
-        State::Dense(_) => None,
-        State::Union { .. } => None,
-        State::BinaryUnion { .. } => None,
-        State::Capture { .. } => None,
-        State::Fail => None,
+        _ => None,
     }
 }
 

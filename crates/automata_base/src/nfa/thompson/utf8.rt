@@ -48,27 +48,6 @@ pub const FORWARD: [Class; 14] = [
     Class { first: 0xF5, last: 0xFF, to: [1, 1, 1, 1, 1, 1, 1, 1, 1, 1, 1] },
 ];
 
-/// Decodes from the last byte to the first. At states 2 to 4 one byte of a character was read, at states 5 to 7 two,
-/// and at states 8 to 10 three. Which of the three states it is depends on the byte that was read last (up to 0x8F, up
-/// to 0x9F, or greater), since 0xE0, 0xED, 0xF0 and 0xF4 restrict the byte after them.
-#[rattlefmt::skip]
-pub const BACKWARD: [Class; 14] = [
-    Class { first: 0x00, last: 0x7F, to: [0, 1, 1, 1, 1, 1, 1, 1, 1, 1, 1] },
-    Class { first: 0x80, last: 0x8F, to: [2, 1, 5, 5, 5, 8, 8, 8, 1, 1, 1] },
-    Class { first: 0x90, last: 0x9F, to: [3, 1, 6, 6, 6, 9, 9, 9, 1, 1, 1] },
-    Class { first: 0xA0, last: 0xBF, to: [4, 1, 7, 7, 7, 10, 10, 10, 1, 1, 1] },
-    Class { first: 0xC0, last: 0xC1, to: [1, 1, 1, 1, 1, 1, 1, 1, 1, 1, 1] },
-    Class { first: 0xC2, last: 0xDF, to: [1, 1, 0, 0, 0, 1, 1, 1, 1, 1, 1] },
-    Class { first: 0xE0, last: 0xE0, to: [1, 1, 1, 1, 1, 1, 1, 0, 1, 1, 1] },
-    Class { first: 0xE1, last: 0xEC, to: [1, 1, 1, 1, 1, 0, 0, 0, 1, 1, 1] },
-    Class { first: 0xED, last: 0xED, to: [1, 1, 1, 1, 1, 0, 0, 1, 1, 1, 1] },
-    Class { first: 0xEE, last: 0xEF, to: [1, 1, 1, 1, 1, 0, 0, 0, 1, 1, 1] },
-    Class { first: 0xF0, last: 0xF0, to: [1, 1, 1, 1, 1, 1, 1, 1, 1, 0, 0] },
-    Class { first: 0xF1, last: 0xF3, to: [1, 1, 1, 1, 1, 1, 1, 1, 0, 0, 0] },
-    Class { first: 0xF4, last: 0xF4, to: [1, 1, 1, 1, 1, 1, 1, 1, 0, 1, 1] },
-    Class { first: 0xF5, last: 0xFF, to: [1, 1, 1, 1, 1, 1, 1, 1, 1, 1, 1] },
-];
-
 /// The number of a pair of a state of the NFA and a state of the decoder.
 fn pair(state: StateID, decoder: usize) -> StateID
     requires few { state < 2 ^ 27 }
@@ -204,11 +183,7 @@ fn add_free(set: &mut SparseSet, state: &State, decoder: usize)
         State::Capture { next, .. } => add_pair(set, *next, decoder),
         State::Union { alternates } => add_pairs(set, alternates, decoder),
         State::BinaryUnion { alt1, alt2 } => add_pairs(set, &[*alt1, *alt2], decoder),
-        State::ByteRange { .. } => {}
-        State::Sparse(_) => {}
-        State::Dense(_) => {}
-        State::Fail => {}
-        State::Match { .. } => {}
+        _ => {}
     }
 }
 
@@ -232,12 +207,7 @@ fn add_byte(set: &mut SparseSet, state: &State, classes: &[Class], decoder: usiz
         }
         State::Sparse(ranges) => add_ranges(set, ranges, classes, decoder),
         State::Dense(targets) => add_targets(set, targets, classes, decoder),
-        State::Look { .. } => {}
-        State::Capture { .. } => {}
-        State::Union { .. } => {}
-        State::BinaryUnion { .. } => {}
-        State::Fail => {}
-        State::Match { .. } => {}
+        _ => {}
     }
 }
 

@@ -37,10 +37,7 @@ fn is_leaf(state: &State) -> bool
         State::Dense(_) => true,
         State::Fail => true,
         State::Match { .. } => true,
-        State::Look { .. } => false,
-        State::Union { .. } => false,
-        State::BinaryUnion { .. } => false,
-        State::Capture { .. } => false,
+        _ => false,
     }
 }
 

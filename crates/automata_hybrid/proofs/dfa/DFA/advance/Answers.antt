@@ -11,7 +11,6 @@ use Rattle.automata_hybrid.specs.Walks.Parts.{IsAdvanceEffect}
 use Rattle.automata_hybrid.specs.Searches.Passes.{HasReadNoQuit, state_in, tape_in}
 use Rattle.automata_hybrid.specs.Cache.Table.{Names}
 use Rattle.automata_hybrid.specs.Walks.Answers.{IsSilent, WalkReads}
-use Rattle.automata_hybrid.specs.Walks.State.{way_of}
 use Rattle.automata_hybrid.proofs.Searches.Runs.{followed_clean, followed_silent}
 use Rattle.automata_hybrid.proofs.Cache.Growth.{grown_same, grown_trans, nothing_first, nothing_second}
 use Rattle.automata_hybrid.proofs.Walks.Cached.{unit_knows, units_more, units_none}
@@ -26,7 +25,7 @@ use Rattle.automata_hybrid.proofs.dfa.DFA.advance.Goals as goal
 
 pub loop-read-init : goal.loop-read-init
 loop-read-init c =
-    let d : Direction = way_of c.args.way in
+    let d : Direction = c.args.way in
     record {
       of = c.requires.of;
       counted = omega arith;
@@ -44,7 +43,7 @@ loop-read-init c =
 
 pub loop-read-preserved : goal.loop-read-preserved
 loop-read-preserved c =
-    let d : Direction = way_of c.args.way in
+    let d : Direction = c.args.way in
     let k : ℕ = c.follow_walk-stop.result.at in
     let f : IsFollowed d c.args.self.now c.loop-read.cache.store c.args.input.now 0 c.loop-read.read k c.follow_walk-stop.result.id = c.follow_walk-stop.ensures.followed in
     let more : suc k ≡ k + 1 = omega arith in
@@ -80,7 +79,7 @@ loop-read-preserved c =
 
 pub returns-in_err-next-clause-refusal : goal.returns-in_err-next-clause-refusal
 returns-in_err-next-clause-refusal c =
-    let d : Direction = way_of c.args.way in
+    let d : Direction = c.args.way in
     let k : ℕ = c.follow_walk-stop.result.at in
     let f : IsFollowed d c.args.self.now c.loop-read.cache.store c.args.input.now 0 c.loop-read.read k c.follow_walk-stop.result.id = c.follow_walk-stop.ensures.followed in
     if_err c.from_residual.result _ _ c.from_residual.ensures.1
@@ -88,7 +87,7 @@ returns-in_err-next-clause-refusal c =
 
 pub returns-then-is_dead-clause-arrives : goal.returns-then-is_dead-clause-arrives
 returns-then-is_dead-clause-arrives c =
-    let d : Direction = way_of c.args.way in
+    let d : Direction = c.args.way in
     let k : ℕ = c.follow_walk-stop.result.at in
     let f : IsFollowed d c.args.self.now c.loop-read.cache.store c.args.input.now 0 c.loop-read.read k c.follow_walk-stop.result.id = c.follow_walk-stop.ensures.followed in
     let units : c.args.input.now.end - c.args.input.now.start ≡ length (tape_in d c.args.input.now).bytes = units_in d c.args.input.now c.requires.from.undone c.last_place-last.ensures.inside in
@@ -98,7 +97,7 @@ returns-then-is_dead-clause-arrives c =
 
 pub returns-then-reports-clause-arrives : goal.returns-then-reports-clause-arrives
 returns-then-reports-clause-arrives c =
-    let d : Direction = way_of c.args.way in
+    let d : Direction = c.args.way in
     let k : ℕ = c.follow_walk-stop.result.at in
     let f : IsFollowed d c.args.self.now c.loop-read.cache.store c.args.input.now 0 c.loop-read.read k c.follow_walk-stop.result.id = c.follow_walk-stop.ensures.followed in
     let units : c.args.input.now.end - c.args.input.now.start ≡ length (tape_in d c.args.input.now).bytes = units_in d c.args.input.now c.requires.from.undone c.last_place-last.ensures.inside in
@@ -119,14 +118,14 @@ returns-then-reports-clause-arrives c =
 
 pub returns-clause-arrives : goal.returns-clause-arrives
 returns-clause-arrives c =
-    let d : Direction = way_of c.args.way in
+    let d : Direction = c.args.way in
     let units : c.args.input.now.end - c.args.input.now.start ≡ length (tape_in d c.args.input.now).bytes = units_in d c.args.input.now c.requires.from.undone c.last_place-last.ensures.inside in
     let all : c.loop-read.read ≡ suc (length (tape_in d c.args.input.now).bytes) = omega (arith, units, c.loop-read-test.false, c.last_place-last.ensures.place, c.loop-read.invariant.within) in
     finish_read d c.args.self.now c.args.input.now c.args.units c.loop-read.read all c.loop-read.invariant.from c.loop-read.invariant.clean c.loop-read.invariant.silent
 
 pub returns-in_err-next-clause-effect : goal.returns-in_err-next-clause-effect
 returns-in_err-next-clause-effect c =
-    let d : Direction = way_of c.args.way in
+    let d : Direction = c.args.way in
     let k : ℕ = c.follow_walk-stop.result.at in
     let f : IsFollowed d c.args.self.now c.loop-read.cache.store c.args.input.now 0 c.loop-read.read k c.follow_walk-stop.result.id = c.follow_walk-stop.ensures.followed in
     let from : c.args.units ≤ k = omega (arith, c.loop-read.invariant.from, f.more) in
@@ -149,7 +148,7 @@ returns-in_err-next-clause-effect c =
 
 pub returns-then-is_dead-clause-effect : goal.returns-then-is_dead-clause-effect
 returns-then-is_dead-clause-effect c =
-    let d : Direction = way_of c.args.way in
+    let d : Direction = c.args.way in
     let k : ℕ = c.follow_walk-stop.result.at in
     let f : IsFollowed d c.args.self.now c.loop-read.cache.store c.args.input.now 0 c.loop-read.read k c.follow_walk-stop.result.id = c.follow_walk-stop.ensures.followed in
     let from : c.args.units ≤ k = omega (arith, c.loop-read.invariant.from, f.more) in
@@ -176,7 +175,7 @@ returns-then-is_dead-clause-effect c =
 
 pub returns-then-reports-clause-effect : goal.returns-then-reports-clause-effect
 returns-then-reports-clause-effect c =
-    let d : Direction = way_of c.args.way in
+    let d : Direction = c.args.way in
     let k : ℕ = c.follow_walk-stop.result.at in
     let f : IsFollowed d c.args.self.now c.loop-read.cache.store c.args.input.now 0 c.loop-read.read k c.follow_walk-stop.result.id = c.follow_walk-stop.ensures.followed in
     let from : c.args.units ≤ k = omega (arith, c.loop-read.invariant.from, f.more) in
@@ -203,7 +202,7 @@ returns-then-reports-clause-effect c =
 
 pub returns-clause-effect : goal.returns-clause-effect
 returns-clause-effect c =
-    let d : Direction = way_of c.args.way in
+    let d : Direction = c.args.way in
     let less : c.args.units < c.loop-read.read = omega (arith, c.requires.from.left, c.loop-read-test.false, c.last_place-last.ensures.place) in
     let last : (k : ℕ) × (c.loop-read.read ≡ suc k) × WalkReads d c.args.self.now c.args.input.now k = c.loop-read.invariant.reads less in
     record {

@@ -5,7 +5,6 @@ use Rattle.automata_hybrid.specs.Walks.Cached.{HasLearnedUnits, KnowsUnits}
 use Rattle.automata_hybrid.specs.Searches.Passes.{HasReadNoQuit, state_in}
 use Rattle.automata_hybrid.specs.Cache.Table.{Names}
 use Rattle.automata_hybrid.specs.Walks.Answers.{HasReportedBy, IsSilent, WalkReads}
-use Rattle.automata_hybrid.specs.Walks.State.{way_of}
 use Rattle.automata_hybrid.proofs.Searches.UnitsRead.{AreReadTo}
 use Rattle.automata_hybrid.proofs.dfa.DFA.advance.Given as goal
 
@@ -16,13 +15,13 @@ invariant-loop-read l = record {
   from : l.units ≤ l.read;
   within : l.read ≤ l.input.end - l.input.start + 1;
   grown : IsGrown l.fn.cache l.cache;
-  named : Names l.cache.store.table l.id (state_in (way_of l.way) l.self l.input l.read);
-  clean : HasReadNoQuit (way_of l.way) l.self l.input l.read;
-  idle : (k : ℕ) → HasReportedBy (way_of l.way) l.self l.input l.units k → KnowsUnits (way_of l.way) l.self l.fn.cache.store l.input l.units k → l.cache.count ≡ l.fn.cache.count;
-  learned : ClearedNothing l.fn.cache.store l.cache.store → HasLearnedUnits (way_of l.way) l.self l.cache.store l.input l.units l.read;
-  silent : IsSilent (way_of l.way) l.self l.input l.units l.read;
-  progress : AreReadTo (way_of l.way) l.self l.input l.units l.read l.fn.cache.store l.cache.store;
-  reads : l.units < l.read → (k : ℕ) × (l.read ≡ suc k) × WalkReads (way_of l.way) l.self l.input k;
+  named : Names l.cache.store.table l.id (state_in l.way l.self l.input l.read);
+  clean : HasReadNoQuit l.way l.self l.input l.read;
+  idle : (k : ℕ) → HasReportedBy l.way l.self l.input l.units k → KnowsUnits l.way l.self l.fn.cache.store l.input l.units k → l.cache.count ≡ l.fn.cache.count;
+  learned : ClearedNothing l.fn.cache.store l.cache.store → HasLearnedUnits l.way l.self l.cache.store l.input l.units l.read;
+  silent : IsSilent l.way l.self l.input l.units l.read;
+  progress : AreReadTo l.way l.self l.input l.units l.read l.fn.cache.store l.cache.store;
+  reads : l.units < l.read → (k : ℕ) × (l.read ≡ suc k) × WalkReads l.way l.self l.input k;
 }
 
 abbrev pub decreases-loop-read : goal.decreases-loop-read

@@ -12,7 +12,6 @@ use Rattle.automata_hybrid.specs.Cache.Progress.{progress_started}
 use Rattle.automata_hybrid.specs.Searches.Progress.{EndsAtLast, IsStoppedAt, with_search_begun, with_search_ended}
 use Rattle.automata_hybrid.specs.Searches.Passes.{IsPassRefusal, Reads, state_in}
 use Rattle.automata_hybrid.specs.Cache.Table.{Rows, Names}
-use Rattle.automata_hybrid.specs.Walks.State.{way_of}
 use Rattle.automata_hybrid.proofs.Searches.Directions.{begins_alive, begins_dead}
 use Rattle.automata_hybrid.proofs.Searches.Cached.{learned_none}
 use Rattle.automata_hybrid.proofs.Searches.PassContracts.{pass_rest, pass_unstarted, rest_dead, same_input}
@@ -24,19 +23,19 @@ use Rattle.automata_hybrid.proofs.dfa.DFA.begin.Goals as goal
 
 pub returns-then-is_dead-clause-answer : goal.returns-then-is_dead-clause-answer
 returns-then-is_dead-clause-answer c =
-    let d : Direction = way_of c.args.way in
+    let d : Direction = c.args.way in
     let dies : state_in d c.args.self.now c.args.input.now 0 ≡ dead = begins_dead d c.args.self.now c.walk_start.new.cache.store.table c.args.input.now c.in-Ok.start c.in-Ok.ensures.answer.named (c.see_bounds-2.ensures.sound.low c.in-Ok.start) c.see_bounds-2.ensures.sound.small (c.if-is_dead.ensures.0 refl) in
     record { found = starts_dead d c.args.self.now c.args.input.now dies; clean = clean_start d c.args.self.now c.args.input.now dies c.in-Ok.ensures.answer.may.0; supported = c.in-Ok.ensures.answer.may.1 }
 
 pub returns-then-is_dead-2-clause-answer : goal.returns-then-is_dead-2-clause-answer
 returns-then-is_dead-2-clause-answer c =
-    let d : Direction = way_of c.args.way in
+    let d : Direction = c.args.way in
     let dies : state_in d c.args.self.now c.args.input.now 0 ≡ dead = begins_dead d c.args.self.now c.walk_start.new.cache.store.table c.args.input.now c.in-Ok.start c.in-Ok.ensures.answer.named (c.see_bounds-2.ensures.sound.low c.in-Ok.start) c.see_bounds-2.ensures.sound.small (c.if-is_dead-2.ensures.0 refl) in
     record { found = starts_dead d c.args.self.now c.args.input.now dies; clean = clean_start d c.args.self.now c.args.input.now dies c.in-Ok.ensures.answer.may.0; supported = c.in-Ok.ensures.answer.may.1 }
 
 pub rest-requires-clause-at : goal.rest-requires-clause-at
 rest-requires-clause-at c =
-    let d : Direction = way_of c.args.way in
+    let d : Direction = c.args.way in
     let at : IsKnownUpto d c.args.self.now c.search_start.new.self.store c.args.input.now 0 c.in-Ok.start None = record {
       within = omega arith;
       learned = learned_none d c.args.self.now c.search_start.new.self.store c.args.input.now;
@@ -56,7 +55,7 @@ rest-requires-clause-at c =
 
 pub find_still-requires-clause-at : goal.find_still-requires-clause-at
 find_still-requires-clause-at c =
-    let d : Direction = way_of c.args.way in
+    let d : Direction = c.args.way in
     record {
       undone = c.requires.«open»;
       may = c.in-Ok.ensures.answer.may;
@@ -66,13 +65,13 @@ find_still-requires-clause-at c =
 
 pub returns-in-Err-clause-effect : goal.returns-in-Err-clause-effect
 returns-in-Err-clause-effect c =
-    let d : Direction = way_of c.args.way in
+    let d : Direction = c.args.way in
     (pass_unstarted d c.args.self.now c.args.input.now _ _ c.args.cache.now c.walk_start.new.cache c.in-Err.error (c.see_bounds.ensures.bounds.slots ∙ ap (λ (d : Machine). slot_count d) c.requires.of)
     c.in-Err.ensures.refusal c.in-Err.ensures.effect refl refl)
 
 pub returns-then-is_dead-clause-effect : goal.returns-then-is_dead-clause-effect
 returns-then-is_dead-clause-effect c =
-    let d : Direction = way_of c.args.way in
+    let d : Direction = c.args.way in
     let dies : state_in d c.args.self.now c.args.input.now 0 ≡ dead = begins_dead d c.args.self.now c.walk_start.new.cache.store.table c.args.input.now c.in-Ok.start c.in-Ok.ensures.answer.named (c.see_bounds-2.ensures.sound.low c.in-Ok.start) c.see_bounds-2.ensures.sound.small (c.if-is_dead.ensures.0 refl) in
     pass_rest d c.args.self.now c.args.input.now c.in-Ok.start c.args.cache.now c.walk_start.new.cache c.walk_start.new.cache c.walk_start.new.cache {s = c.walk_start.new.cache.store.searched} _ (c.see_bounds.ensures.bounds.slots ∙ ap (λ (d : Machine). slot_count d) c.requires.of)
     c.in-Ok.ensures.answer c.in-Ok.ensures.effect refl
@@ -85,7 +84,7 @@ returns-then-is_dead-clause-effect c =
 
 pub returns-then-is_dead-2-clause-effect : goal.returns-then-is_dead-2-clause-effect
 returns-then-is_dead-2-clause-effect c =
-    let d : Direction = way_of c.args.way in
+    let d : Direction = c.args.way in
     let begins : c.search_start.new.self.store ≡ with_search_begun d c.args.input.now 0 c.walk_start.new.cache.store =
     subst (λ at. c.search_start.new.self.store ≡ with_searched c.walk_start.new.cache.store (progress_started c.walk_start.new.cache.store.searched at)) c.span_offset-first.ensures.value (ap (λ (v : CacheView). v.store) c.search_start.ensures.value) in
     let dies : state_in d c.args.self.now c.args.input.now 0 ≡ dead = begins_dead d c.args.self.now c.walk_start.new.cache.store.table c.args.input.now c.in-Ok.start c.in-Ok.ensures.answer.named (c.see_bounds-2.ensures.sound.low c.in-Ok.start) c.see_bounds-2.ensures.sound.small (c.if-is_dead-2.ensures.0 refl) in
@@ -106,7 +105,7 @@ returns-then-is_dead-2-clause-effect c =
 
 pub returns-then-keeps_none-clause-effect : goal.returns-then-keeps_none-clause-effect
 returns-then-keeps_none-clause-effect c =
-    let d : Direction = way_of c.args.way in
+    let d : Direction = c.args.way in
     let reads : Reads d c.args.self.now c.args.input.now 0 =
     at_reads d c.args.self.now c.walk_start.new.cache.store.table c.args.input.now 0 c.in-Ok.start None
     (starts_at d c.args.self.now c.walk_start.new.cache.store.table c.args.input.now c.in-Ok.start
@@ -132,7 +131,7 @@ returns-then-keeps_none-clause-effect c =
 
 pub returns-then-keeps_none-clause-refusal : goal.returns-then-keeps_none-clause-refusal
 returns-then-keeps_none-clause-refusal c =
-    let d : Direction = way_of c.args.way in
+    let d : Direction = c.args.way in
     IfErr-weaker c.find_still.result _ _
     (λ error refused. place_refuses d c.args.self.now c.walk_start.new.cache.store.table c.find_still.new.cache.store c.args.input.now 0 c.in-Ok.start None error
     (starts_at d c.args.self.now c.walk_start.new.cache.store.table c.args.input.now c.in-Ok.start
@@ -142,7 +141,7 @@ returns-then-keeps_none-clause-refusal c =
 
 pub returns-clause-effect : goal.returns-clause-effect
 returns-clause-effect c =
-    let d : Direction = way_of c.args.way in
+    let d : Direction = c.args.way in
     let begins : c.search_start.new.self.store ≡ with_search_begun d c.args.input.now 0 c.walk_start.new.cache.store =
     subst (λ at. c.search_start.new.self.store ≡ with_searched c.walk_start.new.cache.store (progress_started c.walk_start.new.cache.store.searched at)) c.span_offset-first.ensures.value (ap (λ (v : CacheView). v.store) c.search_start.ensures.value) in
     pass_rest d c.args.self.now c.args.input.now c.in-Ok.start c.args.cache.now c.walk_start.new.cache c.search_start.new.self c.rest.new.cache _ (c.see_bounds.ensures.bounds.slots ∙ ap (λ (d : Machine). slot_count d) c.requires.of)
@@ -160,7 +159,7 @@ returns-clause-effect c =
 
 pub returns-in_err-found-clause-effect : goal.returns-in_err-found-clause-effect
 returns-in_err-found-clause-effect c =
-    let d : Direction = way_of c.args.way in
+    let d : Direction = c.args.way in
     let begins : c.search_start.new.self.store ≡ with_search_begun d c.args.input.now 0 c.walk_start.new.cache.store =
     subst (λ at. c.search_start.new.self.store ≡ with_searched c.walk_start.new.cache.store (progress_started c.walk_start.new.cache.store.searched at)) c.span_offset-first.ensures.value (ap (λ (v : CacheView). v.store) c.search_start.ensures.value) in
     at_err c.from_residual.result _ (IsPassEffect d c.args.self.now c.args.input.now c.args.cache.now c.rest.new.cache) c.from_residual.ensures.1
@@ -180,6 +179,6 @@ returns-in_err-found-clause-effect c =
 
 pub returns-in_err-found-clause-refusal : goal.returns-in_err-found-clause-refusal
 returns-in_err-found-clause-refusal c =
-    let d : Direction = way_of c.args.way in
+    let d : Direction = c.args.way in
     at_err c.from_residual.result _ (λ r. IfErr r (IsPassRefusal d c.args.self.now c.rest.new.cache.store c.args.input.now)) c.from_residual.ensures.1
     (subst (λ (i : Input). IsPassRefusal d c.args.self.now c.rest.new.cache.store i c.in_err-found.field-0.0) (same_input c.args.input.now c.haystack.result.now c.get_span.result c.get_anchored.result c.get_earliest.result c.haystack.ensures.same c.get_span.ensures.start c.get_span.ensures.end c.get_anchored.ensures c.get_earliest.ensures) c.in_err-found.ensures.refusal)

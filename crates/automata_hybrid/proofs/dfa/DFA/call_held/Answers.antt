@@ -5,7 +5,7 @@ use Rattle.automata_base.specs.Laws.Walks.{OverlappingIsReported, WalksAreReport
 use Rattle.automata_base.specs.Answers.Within.{WalkLiesWithin}
 use Rattle.automata_config.specs.Options.{match_kind_of}
 use Rattle.automata_config.specs.declared.error.SearchError.{SearchError}
-use Rattle.automata_hybrid.specs.Walks.State.{IsHeldItself, States, Walk, way_of}
+use Rattle.automata_hybrid.specs.Walks.State.{IsHeldItself, States, Walk}
 use Rattle.automata_hybrid.specs.Walks.Contracts.{IsCallEffect}
 use Rattle.automata_hybrid.specs.Walks.Parts.{IsCallRefused}
 use Rattle.automata_hybrid.specs.declared.search.walk.Held.{Held}
@@ -32,7 +32,7 @@ returns-in-Ok-clause-walk c =
 
 pub returns-in-Ok-clause-call : goal.returns-in-Ok-clause-call
 returns-in-Ok-clause-call c =
-    let d : Direction = way_of c.args.way in
+    let d : Direction = c.args.way in
     let m = c.args.self.now in
     let input = c.args.input.now in
     let reports = c.in-Ok.ensures.answer.reports in
@@ -57,14 +57,14 @@ returns-in-Ok-clause-call c =
 
 pub returns-in-Ok-clause-effect : goal.returns-in-Ok-clause-effect
 returns-in-Ok-clause-effect c =
-    subst (λ k. IsCallEffect {T = Unit {0}} k (way_of c.args.way) c.args.self.now c.args.input.now c.args.walk.now c.go_on.new.walk c.args.cache.now c.go_on.new.cache (Ok tt))
+    subst (λ k. IsCallEffect {T = Unit {0}} k c.args.way c.args.self.now c.args.input.now c.args.walk.now c.go_on.new.walk c.args.cache.now c.go_on.new.cache (Ok tt))
     (held_itself c.args.cache.now.store.table c.args.walk.now.stage c.args.held.now c.requires.walk.itself).1 c.in-Ok.ensures.effect
 
 pub returns-in-Err-clause-walk : goal.returns-in-Err-clause-walk
 returns-in-Err-clause-walk c =
     record {
       reported =
-          still_walk (way_of c.args.way) c.args.self.now c.args.input.now c.args.walk.now SearchError (Err c.in-Err.error) c.go_on.new.walk
+          still_walk c.args.way c.args.self.now c.args.input.now c.args.walk.now SearchError (Err c.in-Err.error) c.go_on.new.walk
           c.requires.walk.reported tt c.in-Err.ensures.err.0;
       itself =
           subst (λ (h : Held). IsHeldItself c.go_on.new.walk.stage h) (sym c.in-Err.ensures.err.1)
@@ -73,17 +73,17 @@ returns-in-Err-clause-walk c =
 
 pub returns-in-Err-clause-refusal : goal.returns-in-Err-clause-refusal
 returns-in-Err-clause-refusal c = λ k reported.
-    (subst (λ n. IsCallRefused n (way_of c.args.way) c.args.self.now c.args.input.now c.args.walk.now c.go_on.new.cache.store c.in-Err.error)
+    (subst (λ n. IsCallRefused n c.args.way c.args.self.now c.args.input.now c.args.walk.now c.go_on.new.cache.store c.in-Err.error)
     (held_itself c.args.cache.now.store.table c.args.walk.now.stage c.args.held.now c.requires.walk.itself).1 c.in-Err.ensures.refusal).why k reported
 
 pub returns-in-Err-clause-effect : goal.returns-in-Err-clause-effect
 returns-in-Err-clause-effect c =
-    subst (λ k. IsCallEffect {T = Unit {0}} k (way_of c.args.way) c.args.self.now c.args.input.now c.args.walk.now c.go_on.new.walk c.args.cache.now c.go_on.new.cache (Err c.in-Err.error))
+    subst (λ k. IsCallEffect {T = Unit {0}} k c.args.way c.args.self.now c.args.input.now c.args.walk.now c.go_on.new.walk c.args.cache.now c.go_on.new.cache (Err c.in-Err.error))
     (held_itself c.args.cache.now.store.table c.args.walk.now.stage c.args.held.now c.requires.walk.itself).1 c.in-Err.ensures.effect
 
 pub returns-in-Err-clause-call : goal.returns-in-Err-clause-call
 returns-in-Err-clause-call c =
-    let d : Direction = way_of c.args.way in
+    let d : Direction = c.args.way in
     let m = c.args.self.now in
     let input = c.args.input.now in
     let r : IsCallRefused States d m input c.args.walk.now c.go_on.new.cache.store c.in-Err.error =

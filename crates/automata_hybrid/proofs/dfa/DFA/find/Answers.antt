@@ -20,14 +20,13 @@ use Rattle.automata_hybrid.proofs.Searches.PassState.{place_refuses, step_refuse
 use Rattle.automata_hybrid.proofs.Searches.PassState.{some_is, none_is}
 use Rattle.automata_hybrid.proofs.Searches.Directions.{not_behind, quit_free, span_unit, units_in}
 use Rattle.automata_hybrid.proofs.Steps.Ids.{dead_tagged}
-use Rattle.automata_hybrid.specs.Walks.State.{way_of}
 use Rattle.automata_hybrid.proofs.dfa.DFA.find.Goals as goal
 use Rattle.automata_hybrid.proofs.dfa.DFA.find.Goals.{else-get_earliest-via-then-get_earliest+else-is_some}
 use Rattle.automata_hybrid.proofs.dfa.DFA.find.Goals.{else-get_earliest-via-else-get_earliest}
 
 pub loop-at-init : goal.loop-at-init
 loop-at-init c =
-    let d : Direction = way_of c.args.way in
+    let d : Direction = c.args.way in
     record {
       of = c.requires.of;
       counted = omega arith;
@@ -49,7 +48,7 @@ read_met-requires-clause-met c = λ low.
 
 pub find_end-requires-clause-at : goal.find_end-requires-clause-at
 find_end-requires-clause-at c =
-    let d : Direction = way_of c.args.way in
+    let d : Direction = c.args.way in
     let same : c.run-run.result.at ≡ c.args.input.now.end - c.args.input.now.start = omega (arith, c.if-run-last.true, c.run-run.ensures.run.within, c.last_place-last.ensures.place) in
     record {
       undone = c.requires.at.at.undone;
@@ -59,7 +58,7 @@ find_end-requires-clause-at c =
 
 pub find_end-requires-2-clause-at : goal.find_end-requires-2-clause-at
 find_end-requires-2-clause-at c =
-    let d : Direction = way_of c.args.way in
+    let d : Direction = c.args.way in
     let same : c.loop-at.at ≡ c.args.input.now.end - c.args.input.now.start = omega (arith, c.loop-at-test.false, c.loop-at.invariant.within, c.last_place-last.ensures.place) in
     record {
       undone = c.requires.at.at.undone;
@@ -69,7 +68,7 @@ find_end-requires-2-clause-at c =
 
 pub returns-in-Err-clause-refusal : goal.returns-in-Err-clause-refusal
 returns-in-Err-clause-refusal c =
-    let d : Direction = way_of c.args.way in
+    let d : Direction = c.args.way in
     let k : ℕ = c.run-run.result.at in
     let inside : k < c.args.input.now.end - c.args.input.now.start = omega (arith, c.if-run-last.false, c.last_place-last.ensures.place) in
     let at : IsAt d c.args.self.now c.loop-at.cache.store.table c.args.input.now k c.run-run.result.id c.run-run.result.found = c.run-run.ensures.at in
@@ -81,7 +80,7 @@ returns-in-Err-clause-refusal c =
 
 pub returns-then-is_dead-clause-answer : goal.returns-then-is_dead-clause-answer
 returns-then-is_dead-clause-answer c =
-    let d : Direction = way_of c.args.way in
+    let d : Direction = c.args.way in
     let k : ℕ = c.run-run.result.at in
     let inside : k < c.args.input.now.end - c.args.input.now.start = omega (arith, c.if-run-last.false, c.last_place-last.ensures.place) in
     let at : IsAt d c.args.self.now c.loop-at.cache.store.table c.args.input.now k c.run-run.result.id c.run-run.result.found = c.run-run.ensures.at in
@@ -91,7 +90,7 @@ returns-then-is_dead-clause-answer c =
 
 pub returns-then-is_dead-clause-effect : goal.returns-then-is_dead-clause-effect
 returns-then-is_dead-clause-effect c =
-    let d : Direction = way_of c.args.way in
+    let d : Direction = c.args.way in
     let k : ℕ = c.run-run.result.at in
     let inside : k < c.args.input.now.end - c.args.input.now.start = omega (arith, c.if-run-last.false, c.last_place-last.ensures.place) in
     let at : IsAt d c.args.self.now c.loop-at.cache.store.table c.args.input.now k c.run-run.result.id c.run-run.result.found = c.run-run.ensures.at in
@@ -104,7 +103,7 @@ returns-then-is_dead-clause-effect c =
 
 pub found_at-found-requires-clause-leads : goal.found_at-found-requires-clause-leads
 found_at-found-requires-clause-leads c =
-    let d : Direction = way_of c.args.way in
+    let d : Direction = c.args.way in
     let k : ℕ = c.run-run.result.at in
     let inside : k < c.args.input.now.end - c.args.input.now.start = omega (arith, c.if-run-last.false, c.last_place-last.ensures.place) in
     let at : IsAt d c.args.self.now c.loop-at.cache.store.table c.args.input.now k c.run-run.result.id c.run-run.result.found = c.run-run.ensures.at in
@@ -114,7 +113,7 @@ found_at-found-requires-clause-leads c =
 
 pub returns-then-is_some-clause-answer : goal.returns-then-is_some-clause-answer
 returns-then-is_some-clause-answer c =
-    let d : Direction = way_of c.args.way in
+    let d : Direction = c.args.way in
     let k : ℕ = c.run-run.result.at in
     let inside : k < c.args.input.now.end - c.args.input.now.start = omega (arith, c.if-run-last.false, c.last_place-last.ensures.place) in
     let at : IsAt d c.args.self.now c.loop-at.cache.store.table c.args.input.now k c.run-run.result.id c.run-run.result.found = c.run-run.ensures.at in
@@ -124,7 +123,7 @@ returns-then-is_some-clause-answer c =
 
 pub returns-then-is_some-clause-effect : goal.returns-then-is_some-clause-effect
 returns-then-is_some-clause-effect c =
-    let d : Direction = way_of c.args.way in
+    let d : Direction = c.args.way in
     let k : ℕ = c.run-run.result.at in
     let inside : k < c.args.input.now.end - c.args.input.now.start = omega (arith, c.if-run-last.false, c.last_place-last.ensures.place) in
     let at : IsAt d c.args.self.now c.loop-at.cache.store.table c.args.input.now k c.run-run.result.id c.run-run.result.found = c.run-run.ensures.at in
@@ -137,7 +136,7 @@ returns-then-is_some-clause-effect c =
 
 pub loop-at-preserved : goal.loop-at-preserved
 loop-at-preserved c =
-    let d : Direction = way_of c.args.way in
+    let d : Direction = c.args.way in
     let k : ℕ = c.run-run.result.at in
     let inside : k < c.args.input.now.end - c.args.input.now.start = omega (arith, c.if-run-last.false, c.last_place-last.ensures.place) in
     let at : IsAt d c.args.self.now c.loop-at.cache.store.table c.args.input.now k c.run-run.result.id c.run-run.result.found = c.run-run.ensures.at in
@@ -174,7 +173,7 @@ loop-at-preserved c =
 
 pub returns-in-Err-clause-effect : goal.returns-in-Err-clause-effect
 returns-in-Err-clause-effect c =
-    let d : Direction = way_of c.args.way in
+    let d : Direction = c.args.way in
     let k : ℕ = c.run-run.result.at in
     let inside : k < c.args.input.now.end - c.args.input.now.start = omega (arith, c.if-run-last.false, c.last_place-last.ensures.place) in
     let at : IsAt d c.args.self.now c.loop-at.cache.store.table c.args.input.now k c.run-run.result.id c.run-run.result.found = c.run-run.ensures.at in
@@ -186,13 +185,13 @@ returns-in-Err-clause-effect c =
 
 pub read_met-requires-clause-valid : goal.read_met-requires-clause-valid
 read_met-requires-clause-valid c =
-    let d : Direction = way_of c.args.way in
+    let d : Direction = c.args.way in
     let at : IsAt d c.args.self.now c.loop-at.cache.store.table c.args.input.now c.run-run.result.at c.run-run.result.id c.run-run.result.found = c.run-run.ensures.at in
     (_, at.named)
 
 pub returns-then-run-last-clause-effect : goal.returns-then-run-last-clause-effect
 returns-then-run-last-clause-effect c =
-    let d : Direction = way_of c.args.way in
+    let d : Direction = c.args.way in
     let same : c.run-run.result.at ≡ c.args.input.now.end - c.args.input.now.start = omega (arith, c.if-run-last.true, c.run-run.ensures.run.within, c.last_place-last.ensures.place) in
     let k : ℕ = c.args.input.now.end - c.args.input.now.start in
     rest_then d c.args.self.now c.args.input.now k c.args.cache.now c.loop-at.cache c.loop-at.cache c.find_end.new.cache {s = c.loop-at.cache.store.searched} c.find_end.result refl (omega arith)
@@ -201,7 +200,7 @@ returns-then-run-last-clause-effect c =
 
 pub returns-clause-effect : goal.returns-clause-effect
 returns-clause-effect c =
-    let d : Direction = way_of c.args.way in
+    let d : Direction = c.args.way in
     let same : c.loop-at.at ≡ c.args.input.now.end - c.args.input.now.start = omega (arith, c.loop-at-test.false, c.loop-at.invariant.within, c.last_place-last.ensures.place) in
     let k : ℕ = c.args.input.now.end - c.args.input.now.start in
     rest_then d c.args.self.now c.args.input.now k c.args.cache.now c.loop-at.cache c.loop-at.cache c.find_end-2.new.cache {s = c.loop-at.cache.store.searched} c.find_end-2.result refl (omega arith)
@@ -210,7 +209,7 @@ returns-clause-effect c =
 
 pub returns-in-Err-clause-left : goal.returns-in-Err-clause-left
 returns-in-Err-clause-left c =
-    let d : Direction = way_of c.args.way in
+    let d : Direction = c.args.way in
     let k : ℕ = c.run-run.result.at in
     let inside : k < c.args.input.now.end - c.args.input.now.start = omega (arith, c.if-run-last.false, c.last_place-last.ensures.place) in
     let at : IsAt d c.args.self.now c.loop-at.cache.store.table c.args.input.now k c.run-run.result.id c.run-run.result.found = c.run-run.ensures.at in
@@ -229,7 +228,7 @@ returns-in-Err-clause-left c =
 
 pub returns-then-is_dead-clause-ended : goal.returns-then-is_dead-clause-ended
 returns-then-is_dead-clause-ended c =
-    let d : Direction = way_of c.args.way in
+    let d : Direction = c.args.way in
     let k : ℕ = c.run-run.result.at in
     let inside : k < c.args.input.now.end - c.args.input.now.start = omega (arith, c.if-run-last.false, c.last_place-last.ensures.place) in
     let at : IsAt d c.args.self.now c.loop-at.cache.store.table c.args.input.now k c.run-run.result.id c.run-run.result.found = c.run-run.ensures.at in
@@ -245,7 +244,7 @@ returns-then-is_dead-clause-ended c =
 
 pub returns-then-is_some-clause-ended : goal.returns-then-is_some-clause-ended
 returns-then-is_some-clause-ended c =
-    let d : Direction = way_of c.args.way in
+    let d : Direction = c.args.way in
     let k : ℕ = c.run-run.result.at in
     let inside : k < c.args.input.now.end - c.args.input.now.start = omega (arith, c.if-run-last.false, c.last_place-last.ensures.place) in
     let at : IsAt d c.args.self.now c.loop-at.cache.store.table c.args.input.now k c.run-run.result.id c.run-run.result.found = c.run-run.ensures.at in
@@ -261,7 +260,7 @@ returns-then-is_some-clause-ended c =
 
 pub returns-then-run-last-clause-ended : goal.returns-then-run-last-clause-ended
 returns-then-run-last-clause-ended c =
-    let d : Direction = way_of c.args.way in
+    let d : Direction = c.args.way in
     let same : c.run-run.result.at ≡ c.args.input.now.end - c.args.input.now.start = omega (arith, c.if-run-last.true, c.run-run.ensures.run.within, c.last_place-last.ensures.place) in
     let k : ℕ = c.args.input.now.end - c.args.input.now.start in
     let at : IsAt d c.args.self.now c.loop-at.cache.store.table c.args.input.now k c.run-run.result.id c.run-run.result.found = subst (λ k. IsAt d c.args.self.now c.loop-at.cache.store.table c.args.input.now k c.run-run.result.id c.run-run.result.found) same c.run-run.ensures.at in
@@ -274,7 +273,7 @@ returns-then-run-last-clause-ended c =
 
 pub returns-then-run-last-clause-left : goal.returns-then-run-last-clause-left
 returns-then-run-last-clause-left c =
-    let d : Direction = way_of c.args.way in
+    let d : Direction = c.args.way in
     let same : c.run-run.result.at ≡ c.args.input.now.end - c.args.input.now.start = omega (arith, c.if-run-last.true, c.run-run.ensures.run.within, c.last_place-last.ensures.place) in
     let k : ℕ = c.args.input.now.end - c.args.input.now.start in
     let at : IsAt d c.args.self.now c.loop-at.cache.store.table c.args.input.now k c.run-run.result.id c.run-run.result.found = subst (λ k. IsAt d c.args.self.now c.loop-at.cache.store.table c.args.input.now k c.run-run.result.id c.run-run.result.found) same c.run-run.ensures.at in
@@ -287,7 +286,7 @@ returns-then-run-last-clause-left c =
 
 pub returns-clause-ended : goal.returns-clause-ended
 returns-clause-ended c =
-    let d : Direction = way_of c.args.way in
+    let d : Direction = c.args.way in
     let same : c.loop-at.at ≡ c.args.input.now.end - c.args.input.now.start = omega (arith, c.loop-at-test.false, c.loop-at.invariant.within, c.last_place-last.ensures.place) in
     let k : ℕ = c.args.input.now.end - c.args.input.now.start in
     let at : IsAt d c.args.self.now c.loop-at.cache.store.table c.args.input.now k c.loop-at.id c.loop-at.found = subst (λ k. IsAt d c.args.self.now c.loop-at.cache.store.table c.args.input.now k c.loop-at.id c.loop-at.found) same c.loop-at.invariant.at in
@@ -300,7 +299,7 @@ returns-clause-ended c =
 
 pub returns-clause-left : goal.returns-clause-left
 returns-clause-left c =
-    let d : Direction = way_of c.args.way in
+    let d : Direction = c.args.way in
     let same : c.loop-at.at ≡ c.args.input.now.end - c.args.input.now.start = omega (arith, c.loop-at-test.false, c.loop-at.invariant.within, c.last_place-last.ensures.place) in
     let k : ℕ = c.args.input.now.end - c.args.input.now.start in
     let at : IsAt d c.args.self.now c.loop-at.cache.store.table c.args.input.now k c.loop-at.id c.loop-at.found = subst (λ k. IsAt d c.args.self.now c.loop-at.cache.store.table c.args.input.now k c.loop-at.id c.loop-at.found) same c.loop-at.invariant.at in
@@ -313,7 +312,7 @@ returns-clause-left c =
 
 pub returns-then-run-last-clause-refusal : goal.returns-then-run-last-clause-refusal
 returns-then-run-last-clause-refusal c =
-    let d : Direction = way_of c.args.way in
+    let d : Direction = c.args.way in
     let same : c.run-run.result.at ≡ c.args.input.now.end - c.args.input.now.start = omega (arith, c.if-run-last.true, c.run-run.ensures.run.within, c.last_place-last.ensures.place) in
     let k : ℕ = c.args.input.now.end - c.args.input.now.start in
     let at : IsAt d c.args.self.now c.loop-at.cache.store.table c.args.input.now k c.run-run.result.id c.run-run.result.found = subst (λ k. IsAt d c.args.self.now c.loop-at.cache.store.table c.args.input.now k c.run-run.result.id c.run-run.result.found) same c.run-run.ensures.at in
@@ -324,7 +323,7 @@ returns-then-run-last-clause-refusal c =
 
 pub returns-clause-refusal : goal.returns-clause-refusal
 returns-clause-refusal c =
-    let d : Direction = way_of c.args.way in
+    let d : Direction = c.args.way in
     let same : c.loop-at.at ≡ c.args.input.now.end - c.args.input.now.start = omega (arith, c.loop-at-test.false, c.loop-at.invariant.within, c.last_place-last.ensures.place) in
     let k : ℕ = c.args.input.now.end - c.args.input.now.start in
     let at : IsAt d c.args.self.now c.loop-at.cache.store.table c.args.input.now k c.loop-at.id c.loop-at.found = subst (λ k. IsAt d c.args.self.now c.loop-at.cache.store.table c.args.input.now k c.loop-at.id c.loop-at.found) same c.loop-at.invariant.at in

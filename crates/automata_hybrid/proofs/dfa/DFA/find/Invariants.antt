@@ -3,7 +3,6 @@ use Rattle.automata_hybrid.specs.Cache.Caches.{IsCacheOf}
 use Rattle.automata_hybrid.specs.Cache.Growth.{IsGrown, ClearedNothing}
 use Rattle.automata_hybrid.specs.Searches.Cached.{KnowsItsStart, KnowsPass}
 use Rattle.automata_hybrid.specs.Searches.PassState.{HasLearned, IsAt}
-use Rattle.automata_hybrid.specs.Walks.State.{way_of}
 use Rattle.automata_hybrid.proofs.Searches.UnitsRead.{AreReadBehind}
 use Rattle.automata_hybrid.proofs.dfa.DFA.find.Given as goal
 
@@ -13,10 +12,10 @@ invariant-loop-at l = record {
   counted : l.cache.count ≤ l.fn.cache.count + l.at;
   within : l.at ≤ l.last;
   grown : IsGrown l.fn.cache l.cache;
-  idle : KnowsPass (way_of l.way) l.self l.fn.cache.store l.input → l.cache.count ≡ l.fn.cache.count;
-  learned : KnowsItsStart (way_of l.way) l.self l.fn.cache.store l.input → ClearedNothing l.fn.cache.store l.cache.store → KnowsItsStart (way_of l.way) l.self l.cache.store l.input × HasLearned (way_of l.way) l.self l.cache.store l.input l.at;
-  at : IsAt (way_of l.way) l.self l.cache.store.table l.input l.at l.id l.found;
-  progress : AreReadBehind (way_of l.way) l.self l.input 0 l.at l.fn.cache.store l.cache.store;
+  idle : KnowsPass l.way l.self l.fn.cache.store l.input → l.cache.count ≡ l.fn.cache.count;
+  learned : KnowsItsStart l.way l.self l.fn.cache.store l.input → ClearedNothing l.fn.cache.store l.cache.store → KnowsItsStart l.way l.self l.cache.store l.input × HasLearned l.way l.self l.cache.store l.input l.at;
+  at : IsAt l.way l.self l.cache.store.table l.input l.at l.id l.found;
+  progress : AreReadBehind l.way l.self l.input 0 l.at l.fn.cache.store l.cache.store;
 }
 
 abbrev pub decreases-loop-at : goal.decreases-loop-at

@@ -11,7 +11,6 @@ use Rattle.automata_hybrid.specs.Cache.Stores.{with_searched}
 use Rattle.automata_hybrid.specs.Searches.Passes.{given_up_offset, state_in, tape_in, unit_offset}
 use Rattle.automata_config.specs.Options.{match_kind_of}
 use Rattle.automata_hybrid.specs.Cache.Table.{IsRowId, Rows, Leads, Names}
-use Rattle.automata_hybrid.specs.Walks.State.{way_of}
 use Rattle.automata_hybrid.proofs.Searches.Directions.{units_in}
 use Rattle.automata_hybrid.proofs.Searches.PassContracts.{last_answer, rest_read, rest_refused, stands_alive}
 use Rattle.automata_hybrid.proofs.Searches.UnitsRead.{ended_here, last_left, last_read, refused_here, taken_here}
@@ -24,7 +23,7 @@ read-requires-clause-valid c =
 
 pub found_at-requires-clause-leads : goal.found_at-requires-clause-leads
 found_at-requires-clause-leads c =
-    let d : Direction = way_of c.args.way in
+    let d : Direction = c.args.way in
     let q : Powerset = state_in d c.args.self.now c.args.input.now (c.args.input.now.end - c.args.input.now.start) in
     let after : Powerset = successor c.args.self.now.nfa (match_kind_of c.args.self.now.config) q c.unit_at-unit.result in (
       after,
@@ -34,7 +33,7 @@ found_at-requires-clause-leads c =
 
 pub returns-clause-answer : goal.returns-clause-answer
 returns-clause-answer c =
-    let d : Direction = way_of c.args.way in
+    let d : Direction = c.args.way in
     let k : ℕ = c.args.input.now.end - c.args.input.now.start in
     let unit : next (tape_in d c.args.input.now) k ≡ c.unit_at-unit.result = sym (c.unit_at-unit.ensures ∙ ap (next (tape_in d c.args.input.now)) c.last_place-last.ensures.place) in
     let place : c.place_offset.result ≡ offset_in d c.args.input.now k = c.place_offset.ensures.value ∙ ap (offset_in d c.args.input.now) c.last_place-last.ensures.place in
@@ -44,7 +43,7 @@ returns-clause-answer c =
 
 pub returns-clause-effect : goal.returns-clause-effect
 returns-clause-effect c =
-    let d : Direction = way_of c.args.way in
+    let d : Direction = c.args.way in
     let k : ℕ = c.args.input.now.end - c.args.input.now.start in
     let unit : next (tape_in d c.args.input.now) k ≡ c.unit_at-unit.result = sym (c.unit_at-unit.ensures ∙ ap (next (tape_in d c.args.input.now)) c.last_place-last.ensures.place) in
     let units : k ≡ length (tape_in d c.args.input.now).bytes = units_in d c.args.input.now c.requires.at.undone c.last_place-last.ensures.inside in
@@ -52,14 +51,14 @@ returns-clause-effect c =
 
 pub returns-clause-alive : goal.returns-clause-alive
 returns-clause-alive c =
-    let d : Direction = way_of c.args.way in
+    let d : Direction = c.args.way in
     let k : ℕ = c.args.input.now.end - c.args.input.now.start in
     let unit : next (tape_in d c.args.input.now) k ≡ c.unit_at-unit.result = sym (c.unit_at-unit.ensures ∙ ap (next (tape_in d c.args.input.now)) c.last_place-last.ensures.place) in
     stands_alive d c.args.self.now c.args.input.now k c.args.id c.unit_at-unit.result c.args.found c.args.cache.now c.end_before_last.new.cache c.read.new.cache c.end_search.new.self c.end_before_last.ensures.value c.end_search.ensures.value c.requires.at unit c.in-Ok.ensures.effect.alive
 
 pub returns-clause-progress : goal.returns-clause-progress
 returns-clause-progress c =
-    let d : Direction = way_of c.args.way in
+    let d : Direction = c.args.way in
     let k : ℕ = c.args.input.now.end - c.args.input.now.start in
     let unit : next (tape_in d c.args.input.now) k ≡ c.unit_at-unit.result = sym (c.unit_at-unit.ensures ∙ ap (next (tape_in d c.args.input.now)) c.last_place-last.ensures.place) in
     let place : given_up_offset d c.args.input.now k ≡ c.span_offset-at.result = sym (c.span_offset-at.ensures.value ∙ ap (given_up_offset d c.args.input.now) c.last_place-last.ensures.place) in
@@ -77,7 +76,7 @@ returns-clause-progress c =
 
 pub returns-in-Err-clause-refusal : goal.returns-in-Err-clause-refusal
 returns-in-Err-clause-refusal c =
-    let d : Direction = way_of c.args.way in
+    let d : Direction = c.args.way in
     let k : ℕ = c.args.input.now.end - c.args.input.now.start in
     let unit : next (tape_in d c.args.input.now) k ≡ c.unit_at-unit.result = sym (c.unit_at-unit.ensures ∙ ap (next (tape_in d c.args.input.now)) c.last_place-last.ensures.place) in
     let quits : c.unit_offset.result ≡ unit_offset d c.args.input.now k = c.unit_offset.ensures ∙ ap (unit_offset d c.args.input.now) c.last_place-last.ensures.place in
@@ -88,7 +87,7 @@ returns-in-Err-clause-refusal c =
 
 pub returns-in-Err-clause-effect : goal.returns-in-Err-clause-effect
 returns-in-Err-clause-effect c =
-    let d : Direction = way_of c.args.way in
+    let d : Direction = c.args.way in
     let k : ℕ = c.args.input.now.end - c.args.input.now.start in
     let unit : next (tape_in d c.args.input.now) k ≡ c.unit_at-unit.result = sym (c.unit_at-unit.ensures ∙ ap (next (tape_in d c.args.input.now)) c.last_place-last.ensures.place) in
     let units : k ≡ length (tape_in d c.args.input.now).bytes = units_in d c.args.input.now c.requires.at.undone c.last_place-last.ensures.inside in
@@ -96,14 +95,14 @@ returns-in-Err-clause-effect c =
 
 pub returns-in-Err-clause-alive : goal.returns-in-Err-clause-alive
 returns-in-Err-clause-alive c =
-    let d : Direction = way_of c.args.way in
+    let d : Direction = c.args.way in
     let k : ℕ = c.args.input.now.end - c.args.input.now.start in
     let unit : next (tape_in d c.args.input.now) k ≡ c.unit_at-unit.result = sym (c.unit_at-unit.ensures ∙ ap (next (tape_in d c.args.input.now)) c.last_place-last.ensures.place) in
     stands_alive d c.args.self.now c.args.input.now k c.args.id c.unit_at-unit.result c.args.found c.args.cache.now c.end_before_last.new.cache c.read.new.cache c.read.new.cache {s' = c.read.new.cache.store.searched} c.end_before_last.ensures.value refl c.requires.at unit c.in-Err.ensures.effect.alive
 
 pub returns-in-Err-clause-progress : goal.returns-in-Err-clause-progress
 returns-in-Err-clause-progress c =
-    let d : Direction = way_of c.args.way in
+    let d : Direction = c.args.way in
     let k : ℕ = c.args.input.now.end - c.args.input.now.start in
     let unit : next (tape_in d c.args.input.now) k ≡ c.unit_at-unit.result = sym (c.unit_at-unit.ensures ∙ ap (next (tape_in d c.args.input.now)) c.last_place-last.ensures.place) in
     let place : given_up_offset d c.args.input.now k ≡ c.span_offset-at.result = sym (c.span_offset-at.ensures.value ∙ ap (given_up_offset d c.args.input.now) c.last_place-last.ensures.place) in

@@ -1,7 +1,6 @@
 use Rattle.std.proofs.Common.{◌<◌, sym, subst, refl, arith}
 use Rattle.automata_base.specs.ByteClasses.Classes.{class_in}
 use Rattle.automata_hybrid.specs.Machines.Machine.{Machine, table_stride}
-use Rattle.automata_hybrid.specs.Walks.State.{way_of}
 use Rattle.automata_hybrid.proofs.Searches.Runs.{followed_none, met_at}
 use Rattle.automata_hybrid.proofs.dfa.DFA.follow.Goals as goal
 
@@ -14,15 +13,15 @@ returns-then-has_only-clause-followed c = c.follow_tag.ensures.run.followed
 
 pub returns-then-start-last_place-clause-followed : goal.returns-then-start-last_place-clause-followed
 returns-then-start-last_place-clause-followed c =
-    followed_none (way_of c.args.way) c.args.self.now c.args.cache.now.store c.args.input.now 0 c.args.start c.args.from c.requires.named
+    followed_none c.args.way c.args.self.now c.args.cache.now.store c.args.input.now 0 c.args.start c.args.from c.requires.named
 
 pub returns-clause-followed : goal.returns-clause-followed
 returns-clause-followed c =
-    followed_none (way_of c.args.way) c.args.self.now c.args.cache.now.store c.args.input.now 0 c.args.start c.args.from c.requires.named
+    followed_none c.args.way c.args.self.now c.args.cache.now.store c.args.input.now 0 c.args.start c.args.from c.requires.named
 
 pub returns-clause-met : goal.returns-clause-met
 returns-clause-met c =
-    met_at (way_of c.args.way) c.args.self.now c.args.cache.now.store c.args.input.now c.args.start c.args.from c.next_state_known.result c.byte_at.result
+    met_at c.args.way c.args.self.now c.args.cache.now.store c.args.input.now c.args.start c.args.from c.next_state_known.result c.byte_at.result
     (omega (arith, c.if-start-last_place.false, c.last_place.ensures.place)) c.byte_at.ensures c.next_state_known.ensures.value
     (subst (λ (m : Machine). class_in c.args.self.now.classes c.byte_at.result < table_stride m) (sym c.requires.of) c.next_state_known.ensures.below)
     c.next_state_known.ensures.quit c.next_state_known.ensures.named c.requires.named

@@ -1,9 +1,8 @@
 use Rattle.std.proofs.Common.{◌+◌}
 use Rattle.automata_hybrid.specs.Searches.PassState.{IsRun}
-use Rattle.automata_hybrid.specs.Walks.State.{way_of}
 use Rattle.automata_hybrid.proofs.dfa.DFA.follow_eight.Given as goal
 
 abbrev pub invariant-loop-k : goal.invariant-loop-k
 invariant-loop-k l = record {
-  run : IsRun (way_of l.way) l.self l.cache.store l.input l.tag l.fn.start (l.fn.start + l.k) (l.row + l.tag);
+  run : IsRun l.way l.self l.cache.store l.input l.tag l.fn.start (l.fn.start + l.k) (l.row + l.tag);
 }

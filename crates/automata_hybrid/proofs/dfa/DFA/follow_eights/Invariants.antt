@@ -1,12 +1,11 @@
 use Rattle.std.proofs.Common.{◌≤◌, ◌-◌}
 use Rattle.automata_hybrid.specs.Searches.SelfLoops.{IsLoopRun}
-use Rattle.automata_hybrid.specs.Walks.State.{way_of}
 use Rattle.automata_hybrid.proofs.dfa.DFA.follow_eights.Given as goal
 
 abbrev pub invariant-eights : goal.invariant-eights
 invariant-eights l = record {
   upto : l.at ≤ l.end;
-  run : IsLoopRun l.self l.cache.store l.id (way_of l.way) l.bytes l.fn.start l.at;
+  run : IsLoopRun l.self l.cache.store l.id l.way l.bytes l.fn.start l.at;
 }
 
 abbrev pub decreases-eights : goal.decreases-eights

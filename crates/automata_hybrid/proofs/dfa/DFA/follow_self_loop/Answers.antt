@@ -1,15 +1,14 @@
 use Rattle.std.proofs.Common.{refl, subst}
+use Rattle.automata_base.specs.Haystacks.Tapes.{Direction}
 use Rattle.automata_hybrid.specs.Searches.SelfLoops.{LoopsOver}
-use Rattle.automata_hybrid.specs.Walks.State.{way_of}
-use Rattle.automata_hybrid.specs.declared.search.direction.Way.{Way}
 use Rattle.automata_hybrid.proofs.dfa.DFA.follow_self_loop.Goals as goal
 
 pub follow_many_fwd-requires-clause-first : goal.follow_many_fwd-requires-clause-first
 follow_many_fwd-requires-clause-first c =
-    subst (λ (way : Way). LoopsOver c.args.self.now c.args.cache.now.store c.args.id (way_of way) c.args.bytes.now 0 8)
+    subst (λ (way : Direction). LoopsOver c.args.self.now c.args.cache.now.store c.args.id way c.args.bytes.now 0 8)
     c.in-Forward.is (c.if-not-loops_on_eight.ensures refl)
 
 pub follow_many_rev-requires-clause-first : goal.follow_many_rev-requires-clause-first
 follow_many_rev-requires-clause-first c =
-    subst (λ (way : Way). LoopsOver c.args.self.now c.args.cache.now.store c.args.id (way_of way) c.args.bytes.now 0 8)
+    subst (λ (way : Direction). LoopsOver c.args.self.now c.args.cache.now.store c.args.id way c.args.bytes.now 0 8)
     c.in-Backward.is (c.if-not-loops_on_eight.ensures refl)

@@ -1,12 +1,11 @@
 use Rattle.std.proofs.Common.{◌≤◌, ◌-◌}
 use Rattle.automata_hybrid.specs.Searches.PassState.{IsRun}
-use Rattle.automata_hybrid.specs.Walks.State.{way_of}
 use Rattle.automata_hybrid.proofs.dfa.DFA.follow_tag.Given as goal
 
 abbrev pub invariant-eights : goal.invariant-eights
 invariant-eights l = record {
   within : l.at ≤ l.last;
-  run : IsRun (way_of l.way) l.self l.cache.store l.input l.tag l.fn.start l.at l.id;
+  run : IsRun l.way l.self l.cache.store l.input l.tag l.fn.start l.at l.id;
 }
 
 abbrev pub decreases-eights : goal.decreases-eights

@@ -9,7 +9,7 @@ use Rattle.automata_hybrid.specs.Walks.Contracts.{IsCallEffect}
 use Rattle.automata_hybrid.specs.Walks.Parts.{IsCallAnswer, IsCallRefused}
 use Rattle.automata_hybrid.specs.Searches.Passes.{tape_in}
 use Rattle.automata_hybrid.specs.Walks.Answers.{ReportsNext}
-use Rattle.automata_hybrid.specs.Walks.State.{At, Ended, Walk, ended_walk, keeping_of, way_of, with_match}
+use Rattle.automata_hybrid.specs.Walks.State.{At, Ended, Walk, ended_walk, keeping_of, with_match}
 use Rattle.automata_hybrid.specs.Walks.State.{without_match}
 use Rattle.automata_hybrid.proofs.Walks.Cached.{units_none}
 use Rattle.std.proofs.lemmas.Result.{IfErr-weaker, on_ok_weaker}
@@ -20,7 +20,7 @@ use Rattle.automata_hybrid.proofs.dfa.DFA.go_on.Goals as goal
 
 pub returns-then-has_ended-clause-answer : goal.returns-then-has_ended-clause-answer
 returns-then-has_ended-clause-answer c =
-    let d : Direction = way_of c.args.way in
+    let d : Direction = c.args.way in
     let w : Walk = c.args.walk.now in
     let ended : w.stage ≡ Ended = subst (λ (v : Walk). v.stage ≡ Ended) c.forget_match.ensures (c.has_ended.ensures.yes c.if-has_ended.true) in
     subst (λ (x : Walk). IsCallAnswer d c.args.self.now c.args.input.now w x c.args.cache.now.store c.args.cache.now.store) (sym c.forget_match.ensures)
@@ -34,13 +34,13 @@ returns-then-has_ended-clause-answer c =
 
 pub returns-then-has_ended-clause-effect : goal.returns-then-has_ended-clause-effect
 returns-then-has_ended-clause-effect c =
-    effect_none (keeping_of c.args.held.now) (way_of c.args.way) c.args.self.now c.args.input.now c.args.walk.now c.forget_match.new.self c.args.cache.now
+    effect_none (keeping_of c.args.held.now) c.args.way c.args.self.now c.args.input.now c.args.walk.now c.forget_match.new.self c.args.cache.now
     (inl (subst (λ (v : Walk). v.stage ≡ Ended) c.forget_match.ensures (c.has_ended.ensures.yes c.if-has_ended.true)))
     (ap (λ (v : Walk). v.units) c.forget_match.ensures)
 
 pub returns-then-is_done-clause-answer : goal.returns-then-is_done-clause-answer
 returns-then-is_done-clause-answer c =
-    let d : Direction = way_of c.args.way in
+    let d : Direction = c.args.way in
     let w : Walk = c.args.walk.now in
     let done : c.args.input.now.end < c.args.input.now.start = c.is_done.ensures.done.0 c.if-is_done.true in
     let same : c.end.new.self ≡ ended_walk w w.units = c.end.ensures ∙ ap (ended_walk w) (c.units.ensures ∙ ap (λ (v : Walk). v.units) c.forget_match.ensures) in
@@ -58,13 +58,13 @@ returns-then-is_done-clause-answer c =
 pub returns-then-is_done-clause-effect : goal.returns-then-is_done-clause-effect
 returns-then-is_done-clause-effect c =
     let done : c.args.input.now.end < c.args.input.now.start = c.is_done.ensures.done.0 c.if-is_done.true in
-    effect_none (keeping_of c.args.held.now) (way_of c.args.way) c.args.self.now c.args.input.now c.args.walk.now c.end.new.self c.args.cache.now
+    effect_none (keeping_of c.args.held.now) c.args.way c.args.self.now c.args.input.now c.args.walk.now c.end.new.self c.args.cache.now
     (inr (inr (omega (arith, done))))
     (ap (λ (v : Walk). v.units) c.end.ensures ∙ (c.units.ensures ∙ ap (λ (v : Walk). v.units) c.forget_match.ensures))
 
 pub returns-in-Some-clause-answer : goal.returns-in-Some-clause-answer
 returns-in-Some-clause-answer c =
-    let d : Direction = way_of c.args.way in
+    let d : Direction = c.args.way in
     let m : Machine = c.args.self.now in
     let input : Input = c.args.input.now in
     let w : Walk = c.args.walk.now in
@@ -87,7 +87,7 @@ returns-in-Some-clause-answer c =
 pub returns-in-Some-clause-effect : goal.returns-in-Some-clause-effect
 returns-in-Some-clause-effect c =
     let left = c.in-Some.ensures.left in
-    effect_none (keeping_of c.args.held.now) (way_of c.args.way) c.args.self.now c.args.input.now c.args.walk.now c.report.new.self c.args.cache.now
+    effect_none (keeping_of c.args.held.now) c.args.way c.args.self.now c.args.input.now c.args.walk.now c.report.new.self c.args.cache.now
     (inr (inl (
       left.0,
       subst (λ (v : Walk). v.stage ≡ At left.0) c.forget_match.ensures left.1,
@@ -97,7 +97,7 @@ returns-in-Some-clause-effect c =
 
 pub returns-then-units-last_place-clause-answer : goal.returns-then-units-last_place-clause-answer
 returns-then-units-last_place-clause-answer c =
-    let d : Direction = way_of c.args.way in
+    let d : Direction = c.args.way in
     let m : Machine = c.args.self.now in
     let input : Input = c.args.input.now in
     let w : Walk = c.args.walk.now in
@@ -120,24 +120,24 @@ returns-then-units-last_place-clause-answer c =
 pub returns-then-units-last_place-clause-effect : goal.returns-then-units-last_place-clause-effect
 returns-then-units-last_place-clause-effect c =
     let units : c.units-2.result ≡ c.args.walk.now.units = c.units-2.ensures ∙ ap (λ (v : Walk). v.units) c.forget_match.ensures in
-    effect_none (keeping_of c.args.held.now) (way_of c.args.way) c.args.self.now c.args.input.now c.args.walk.now c.end-then-units-last_place.new.self c.args.cache.now
+    effect_none (keeping_of c.args.held.now) c.args.way c.args.self.now c.args.input.now c.args.walk.now c.end-then-units-last_place.new.self c.args.cache.now
     (inr (inr (omega (arith, units, c.last_place.ensures.place, c.if-units-last_place.true))))
     (ap (λ (v : Walk). v.units) c.end-then-units-last_place.ensures ∙ (c.units-then-units-last_place.ensures ∙ ap (λ (v : Walk). v.units) c.forget_match.ensures))
 
 pub returns-clause-answer : goal.returns-clause-answer
 returns-clause-answer c =
-    on_ok_weaker c.walk_on.result (answer_matched (keeping_of c.args.held.now) (way_of c.args.way) c.args.self.now c.args.input.now c.args.walk.now c.walk_on.new.walk c.args.cache.now.store c.walk_on.new.cache.store)
-    (subst (λ (v : Walk). OnOk c.walk_on.result (IsCallAnswer (way_of c.args.way) c.args.self.now c.args.input.now v c.walk_on.new.walk c.args.cache.now.store c.walk_on.new.cache.store)) c.forget_match.ensures
+    on_ok_weaker c.walk_on.result (answer_matched (keeping_of c.args.held.now) c.args.way c.args.self.now c.args.input.now c.args.walk.now c.walk_on.new.walk c.args.cache.now.store c.walk_on.new.cache.store)
+    (subst (λ (v : Walk). OnOk c.walk_on.result (IsCallAnswer c.args.way c.args.self.now c.args.input.now v c.walk_on.new.walk c.args.cache.now.store c.walk_on.new.cache.store)) c.forget_match.ensures
     c.walk_on.ensures.answer)
 
 pub returns-clause-refusal : goal.returns-clause-refusal
 returns-clause-refusal c =
-    IfErr-weaker c.walk_on.result _ _ (refused_matched (keeping_of c.args.held.now) (way_of c.args.way) c.args.self.now c.args.input.now c.args.walk.now c.walk_on.new.walk c.walk_on.new.cache.store)
-    (subst (λ (v : Walk). IfErr c.walk_on.result (IsCallRefused (keeping_of c.args.held.now) (way_of c.args.way) c.args.self.now c.args.input.now v c.walk_on.new.cache.store)) c.forget_match.ensures
+    IfErr-weaker c.walk_on.result _ _ (refused_matched (keeping_of c.args.held.now) c.args.way c.args.self.now c.args.input.now c.args.walk.now c.walk_on.new.walk c.walk_on.new.cache.store)
+    (subst (λ (v : Walk). IfErr c.walk_on.result (IsCallRefused (keeping_of c.args.held.now) c.args.way c.args.self.now c.args.input.now v c.walk_on.new.cache.store)) c.forget_match.ensures
     c.walk_on.ensures.refusal)
 
 pub returns-clause-effect : goal.returns-clause-effect
 returns-clause-effect c =
-    effect_matched (keeping_of c.args.held.now) (way_of c.args.way) c.args.self.now c.args.input.now c.args.walk.now c.walk_on.new.walk c.args.cache.now c.walk_on.new.cache c.walk_on.result
-    (subst (λ (v : Walk). IsCallEffect (keeping_of c.args.held.now) (way_of c.args.way) c.args.self.now c.args.input.now v c.walk_on.new.walk c.args.cache.now c.walk_on.new.cache c.walk_on.result) c.forget_match.ensures
+    effect_matched (keeping_of c.args.held.now) c.args.way c.args.self.now c.args.input.now c.args.walk.now c.walk_on.new.walk c.args.cache.now c.walk_on.new.cache c.walk_on.result
+    (subst (λ (v : Walk). IsCallEffect (keeping_of c.args.held.now) c.args.way c.args.self.now c.args.input.now v c.walk_on.new.walk c.args.cache.now c.walk_on.new.cache c.walk_on.result) c.forget_match.ensures
     c.walk_on.ensures.effect)

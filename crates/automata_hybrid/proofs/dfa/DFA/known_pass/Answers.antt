@@ -3,7 +3,6 @@ use Rattle.std.proofs.lemmas.Grind.{common_steps}
 use Rattle.automata_base.specs.Haystacks.Tapes.{Direction}
 use Rattle.automata_hybrid.specs.Searches.PassContracts.{IsKnownEnd, IsKnownUpto}
 use Rattle.automata_hybrid.specs.Searches.Passes.{tape_in}
-use Rattle.automata_hybrid.specs.Walks.State.{way_of}
 use Rattle.automata_hybrid.specs.declared.search.known.Known.{Known}
 use Rattle.automata_hybrid.proofs.Searches.Directions.{units_in}
 use Rattle.automata_hybrid.proofs.Searches.Cached.{learned_none}
@@ -16,7 +15,7 @@ use Rattle.automata_hybrid.proofs.dfa.DFA.known_pass.Goals.{else-get_earliest-vi
 
 pub found_at-found-requires-clause-leads : goal.found_at-found-requires-clause-leads
 found_at-found-requires-clause-leads c =
-    let d : Direction = way_of c.args.way in
+    let d : Direction = c.args.way in
     let k : ℕ = c.run-run.result.at in
     let low : c.known_next-next.result < 2 ^ 31 = grind (arith, common_steps, c.if-is_unknown.ensures.size) in
     let upto : IsKnownUpto d c.args.self.now c.args.cache.now.store c.args.input.now k c.run-run.result.id c.run-run.result.found = record {
@@ -30,7 +29,7 @@ found_at-found-requires-clause-leads c =
 
 pub returns-then-is_dead-clause-ended : goal.returns-then-is_dead-clause-ended
 returns-then-is_dead-clause-ended c =
-    let d : Direction = way_of c.args.way in
+    let d : Direction = c.args.way in
     let k : ℕ = c.run-run.result.at in
     let low : c.known_next-next.result < 2 ^ 31 = grind (arith, common_steps, c.if-is_unknown.ensures.size) in
     let upto : IsKnownUpto d c.args.self.now c.args.cache.now.store c.args.input.now k c.run-run.result.id c.run-run.result.found = record {
@@ -45,7 +44,7 @@ returns-then-is_dead-clause-ended c =
 
 pub returns-then-run-last-clause-ended : goal.returns-then-run-last-clause-ended
 returns-then-run-last-clause-ended c =
-    let d : Direction = way_of c.args.way in
+    let d : Direction = c.args.way in
     let k : ℕ = c.run-run.result.at in
     let low : c.known_next-next.result < 2 ^ 31 = grind (arith, common_steps, c.if-is_unknown.ensures.size) in
     let upto : IsKnownUpto d c.args.self.now c.args.cache.now.store c.args.input.now k c.run-run.result.id c.run-run.result.found = record {
@@ -60,7 +59,7 @@ returns-then-run-last-clause-ended c =
 
 pub returns-then-is_some-clause-ended : goal.returns-then-is_some-clause-ended
 returns-then-is_some-clause-ended c =
-    let d : Direction = way_of c.args.way in
+    let d : Direction = c.args.way in
     let k : ℕ = c.run-run.result.at in
     let low : c.known_next-next.result < 2 ^ 31 = grind (arith, common_steps, c.if-is_unknown.ensures.size) in
     let upto : IsKnownUpto d c.args.self.now c.args.cache.now.store c.args.input.now k c.run-run.result.id c.run-run.result.found = record {
@@ -75,7 +74,7 @@ returns-then-is_some-clause-ended c =
 
 pub returns-clause-left : goal.returns-clause-left
 returns-clause-left c =
-    let d : Direction = way_of c.args.way in
+    let d : Direction = c.args.way in
     let k : ℕ = c.run-run.result.at in
     let low : c.known_next-next.result < 2 ^ 31 = grind (arith, common_steps, c.if-is_unknown.ensures.size) in
     let upto : IsKnownUpto d c.args.self.now c.args.cache.now.store c.args.input.now k c.run-run.result.id c.run-run.result.found = record {

@@ -12,7 +12,6 @@ use Rattle.automata_hybrid.specs.Machines.Machine.{Machine, slot_count}
 use Rattle.automata_hybrid.specs.Searches.PassContracts.{IsKnownUpto, IsPassEffect, IsRestEffect}
 use Rattle.automata_hybrid.specs.Searches.Progress.{EndsAtLast, IsStoppedAt, with_search_begun}
 use Rattle.automata_hybrid.specs.Searches.Passes.{tape_in}
-use Rattle.automata_hybrid.specs.Walks.State.{way_of}
 use Rattle.automata_hybrid.proofs.Searches.Directions.{begins_alive}
 use Rattle.automata_hybrid.proofs.Searches.KnownPasses.{known_ended, known_rest}
 use Rattle.automata_hybrid.proofs.Searches.PassContracts.{pass_rest, same_input}
@@ -23,7 +22,7 @@ use Rattle.automata_hybrid.proofs.dfa.DFA.pass.Goals as goal
 
 pub known_pass-known-requires-clause-at : goal.known_pass-known-requires-clause-at
 known_pass-known-requires-clause-at c =
-    let d : Direction = way_of c.args.way in
+    let d : Direction = c.args.way in
     let low : c.known_start-start.result < 2 ^ 31 = grind (arith, common_steps, c.if-is_fixed.ensures) in
     let a = c.known_start-start.ensures.answer low in
     record {
@@ -36,7 +35,7 @@ known_pass-known-requires-clause-at c =
 
 pub returns-then-known-clause-effect : goal.returns-then-known-clause-effect
 returns-then-known-clause-effect c =
-    let d : Direction = way_of c.args.way in
+    let d : Direction = c.args.way in
     let low : c.known_start-start.result < 2 ^ 31 = grind (arith, common_steps, c.if-is_fixed.ensures) in
     let slots : length c.args.cache.now.store.starts ≡ slot_count c.args.self.now = c.see_bounds.ensures.bounds.slots ∙ ap (λ (d : Machine). slot_count d) c.requires.of in
     let a = c.known_start-start.ensures.answer low in
@@ -56,7 +55,7 @@ returns-then-known-clause-effect c =
 
 pub rest-requires-clause-at : goal.rest-requires-clause-at
 rest-requires-clause-at c =
-    let d : Direction = way_of c.args.way in
+    let d : Direction = c.args.way in
     let k : IsKnownUpto d c.args.self.now c.args.cache.now.store c.args.input.now c.known_pass-known.result.at c.known_pass-known.result.id c.known_pass-known.result.found = c.known_pass-known.ensures.left c.if-known.false in
     let same = same_input c.args.input.now c.haystack-2.result.now c.get_span-2.result c.get_anchored-2.result c.get_earliest-2.result c.haystack-2.ensures.same c.get_span-2.ensures.start c.get_span-2.ensures.end c.get_anchored-2.ensures c.get_earliest-2.ensures in
     let upto =
@@ -69,15 +68,15 @@ rest-requires-clause-at c =
 
 pub returns-in-Err-clause-refusal : goal.returns-in-Err-clause-refusal
 returns-in-Err-clause-refusal c =
-    subst (λ (i : Input). IsPassRefusal (way_of c.args.way) c.args.self.now c.begin_of.new.cache.store i c.in-Err.error) (same_input c.args.input.now c.haystack.result.now c.get_span.result c.get_anchored.result c.get_earliest.result c.haystack.ensures.same c.get_span.ensures.start c.get_span.ensures.end c.get_anchored.ensures c.get_earliest.ensures) c.in-Err.ensures.refusal
+    subst (λ (i : Input). IsPassRefusal c.args.way c.args.self.now c.begin_of.new.cache.store i c.in-Err.error) (same_input c.args.input.now c.haystack.result.now c.get_span.result c.get_anchored.result c.get_earliest.result c.haystack.ensures.same c.get_span.ensures.start c.get_span.ensures.end c.get_anchored.ensures c.get_earliest.ensures) c.in-Err.ensures.refusal
 
 pub returns-in-Err-rest-clause-refusal : goal.returns-in-Err-rest-clause-refusal
 returns-in-Err-rest-clause-refusal c =
-    subst (λ (i : Input). IsPassRefusal (way_of c.args.way) c.args.self.now c.rest.new.cache.store i c.in-Err-rest.error) (same_input c.args.input.now c.haystack-2.result.now c.get_span-2.result c.get_anchored-2.result c.get_earliest-2.result c.haystack-2.ensures.same c.get_span-2.ensures.start c.get_span-2.ensures.end c.get_anchored-2.ensures c.get_earliest-2.ensures) c.in-Err-rest.ensures.refusal
+    subst (λ (i : Input). IsPassRefusal c.args.way c.args.self.now c.rest.new.cache.store i c.in-Err-rest.error) (same_input c.args.input.now c.haystack-2.result.now c.get_span-2.result c.get_anchored-2.result c.get_earliest-2.result c.haystack-2.ensures.same c.get_span-2.ensures.start c.get_span-2.ensures.end c.get_anchored-2.ensures c.get_earliest-2.ensures) c.in-Err-rest.ensures.refusal
 
 pub returns-in-Ok-rest-clause-effect : goal.returns-in-Ok-rest-clause-effect
 returns-in-Ok-rest-clause-effect c =
-    let d : Direction = way_of c.args.way in
+    let d : Direction = c.args.way in
     let low : c.known_start-start.result < 2 ^ 31 = grind (arith, common_steps, c.if-is_fixed.ensures) in
     let slots : length c.args.cache.now.store.starts ≡ slot_count c.args.self.now = c.see_bounds.ensures.bounds.slots ∙ ap (λ (d : Machine). slot_count d) c.requires.of in
     let a = c.known_start-start.ensures.answer low in
@@ -99,7 +98,7 @@ returns-in-Ok-rest-clause-effect c =
 
 pub returns-in-Err-rest-clause-effect : goal.returns-in-Err-rest-clause-effect
 returns-in-Err-rest-clause-effect c =
-    let d : Direction = way_of c.args.way in
+    let d : Direction = c.args.way in
     let low : c.known_start-start.result < 2 ^ 31 = grind (arith, common_steps, c.if-is_fixed.ensures) in
     let slots : length c.args.cache.now.store.starts ≡ slot_count c.args.self.now = c.see_bounds.ensures.bounds.slots ∙ ap (λ (d : Machine). slot_count d) c.requires.of in
     let a = c.known_start-start.ensures.answer low in
@@ -122,8 +121,8 @@ returns-in-Err-rest-clause-effect c =
 
 pub returns-in-Ok-clause-effect : goal.returns-in-Ok-clause-effect
 returns-in-Ok-clause-effect c =
-    subst (λ (i : Input). IsPassEffect {T = Option HalfMatch} (way_of c.args.way) c.args.self.now i c.args.cache.now c.begin_of.new.cache (Ok c.in-Ok.found)) (same_input c.args.input.now c.haystack.result.now c.get_span.result c.get_anchored.result c.get_earliest.result c.haystack.ensures.same c.get_span.ensures.start c.get_span.ensures.end c.get_anchored.ensures c.get_earliest.ensures) c.in-Ok.ensures.effect
+    subst (λ (i : Input). IsPassEffect {T = Option HalfMatch} c.args.way c.args.self.now i c.args.cache.now c.begin_of.new.cache (Ok c.in-Ok.found)) (same_input c.args.input.now c.haystack.result.now c.get_span.result c.get_anchored.result c.get_earliest.result c.haystack.ensures.same c.get_span.ensures.start c.get_span.ensures.end c.get_anchored.ensures c.get_earliest.ensures) c.in-Ok.ensures.effect
 
 pub returns-in-Err-clause-effect : goal.returns-in-Err-clause-effect
 returns-in-Err-clause-effect c =
-    subst (λ (i : Input). IsPassEffect {T = Option HalfMatch} (way_of c.args.way) c.args.self.now i c.args.cache.now c.begin_of.new.cache (Err c.in-Err.error)) (same_input c.args.input.now c.haystack.result.now c.get_span.result c.get_anchored.result c.get_earliest.result c.haystack.ensures.same c.get_span.ensures.start c.get_span.ensures.end c.get_anchored.ensures c.get_earliest.ensures) c.in-Err.ensures.effect
+    subst (λ (i : Input). IsPassEffect {T = Option HalfMatch} c.args.way c.args.self.now i c.args.cache.now c.begin_of.new.cache (Err c.in-Err.error)) (same_input c.args.input.now c.haystack.result.now c.get_span.result c.get_anchored.result c.get_earliest.result c.haystack.ensures.same c.get_span.ensures.start c.get_span.ensures.end c.get_anchored.ensures c.get_earliest.ensures) c.in-Err.ensures.effect

@@ -4,7 +4,6 @@ use Rattle.automata_base.specs.Retraced.Steps.{successor}
 use Rattle.automata_base.specs.Haystacks.Tapes.{Direction}
 use Rattle.automata_hybrid.specs.Searches.Passes.{state_in}
 use Rattle.automata_hybrid.specs.Cache.Table.{Leads}
-use Rattle.automata_hybrid.specs.Walks.State.{way_of}
 use Rattle.automata_hybrid.proofs.Walks.Parts.{unit_effect}
 use Rattle.automata_hybrid.proofs.Searches.PassState.{state_more}
 use Rattle.automata_hybrid.proofs.Searches.UnitsRead.{refused_here, taken_here}
@@ -13,7 +12,7 @@ use Rattle.automata_config.specs.Options.{match_kind_of}
 
 pub returns-clause-leads : goal.returns-clause-leads
 returns-clause-leads c =
-    let d : Direction = way_of c.args.way in
+    let d : Direction = c.args.way in
     let more = state_more d c.args.self.now c.args.input.now c.args.place ∙ ap (successor c.args.self.now.nfa (match_kind_of c.args.self.now.config) (state_in d c.args.self.now c.args.input.now c.args.place)) (sym c.unit_at.ensures) in
     IfOk-weaker c.read.result _ _
     (λ n h. subst (λ q. Leads c.read.new.cache.store.table n q) (sym more) (h.named (state_in d c.args.self.now c.args.input.now c.args.place) c.requires.at.named))
@@ -21,7 +20,7 @@ returns-clause-leads c =
 
 pub returns-clause-effect : goal.returns-clause-effect
 returns-clause-effect c =
-    let d : Direction = way_of c.args.way in
+    let d : Direction = c.args.way in
     unit_effect d c.args.self.now c.args.input.now c.args.place c.args.id c.unit_at.result c.args.cache.now c.args.cache.now c.read.new.cache {s = c.args.cache.now.store.searched} c.read.result
     (sym c.unit_at.ensures) refl c.requires.at.named c.read.ensures.of c.read.ensures.effect
     (IfOk-weaker c.read.result _ _

@@ -9,7 +9,6 @@ use Rattle.automata_base.specs.Haystacks.Tapes.{Direction, Forward}
 use Rattle.automata_hybrid.specs.Searches.Contracts.{IsSearchEffect, based_half}
 use Rattle.automata_hybrid.specs.Searches.Costs.{IsCostOfPasses, IsCostUpto}
 use Rattle.automata_hybrid.specs.Searches.Passes.{Finds, IsFound, IsRefused, Skips, with_base}
-use Rattle.automata_hybrid.specs.Walks.State.{way_of}
 use Rattle.automata_hybrid.proofs.Cache.Growth.{grown_same}
 use Rattle.automata_hybrid.proofs.Searches.Directions.{later_none}
 use Rattle.automata_hybrid.proofs.Searches.PassContracts.{same_input}
@@ -19,11 +18,11 @@ use Rattle.automata_hybrid.proofs.dfa.DFA.search.Goals as goal
 
 pub returns-in-Ok-clause-found : goal.returns-in-Ok-clause-found
 returns-in-Ok-clause-found c =
-    subst (λ (i : Input). IsFound (way_of c.args.way) c.args.self.now i (based_half c.in-Ok.found)) (same_input c.args.input.now c.haystack.result.now c.get_span.result c.get_anchored.result c.get_earliest.result c.haystack.ensures.same c.get_span.ensures.start c.get_span.ensures.end c.get_anchored.ensures c.get_earliest.ensures) c.in-Ok.ensures.found
+    subst (λ (i : Input). IsFound c.args.way c.args.self.now i (based_half c.in-Ok.found)) (same_input c.args.input.now c.haystack.result.now c.get_span.result c.get_anchored.result c.get_earliest.result c.haystack.ensures.same c.get_span.ensures.start c.get_span.ensures.end c.get_anchored.ensures c.get_earliest.ensures) c.in-Ok.ensures.found
 
 pub returns-in-Ok-clause-effect : goal.returns-in-Ok-clause-effect
 returns-in-Ok-clause-effect c =
-    subst (λ (i : Input). IsSearchEffect {T = Option (HalfMatch × ℕ)} (way_of c.args.way) c.args.self.now i c.args.cache.now c.search_skipping.new.cache (Ok c.in-Ok.found)) (same_input c.args.input.now c.haystack.result.now c.get_span.result c.get_anchored.result c.get_earliest.result c.haystack.ensures.same c.get_span.ensures.start c.get_span.ensures.end c.get_anchored.ensures c.get_earliest.ensures) c.in-Ok.ensures.effect
+    subst (λ (i : Input). IsSearchEffect {T = Option (HalfMatch × ℕ)} c.args.way c.args.self.now i c.args.cache.now c.search_skipping.new.cache (Ok c.in-Ok.found)) (same_input c.args.input.now c.haystack.result.now c.get_span.result c.get_anchored.result c.get_earliest.result c.haystack.ensures.same c.get_span.ensures.start c.get_span.ensures.end c.get_anchored.ensures c.get_earliest.ensures) c.in-Ok.ensures.effect
 
 pub returns-in-Ok-clause-upto : goal.returns-in-Ok-clause-upto
 returns-in-Ok-clause-upto c = λ forward.
@@ -31,15 +30,15 @@ returns-in-Ok-clause-upto c = λ forward.
 
 pub returns-in-Err-clause-refusal : goal.returns-in-Err-clause-refusal
 returns-in-Err-clause-refusal c =
-    subst (λ (i : Input). IsRefused (way_of c.args.way) c.args.self.now c.search_skipping.new.cache.store i c.in-Err.error) (same_input c.args.input.now c.haystack.result.now c.get_span.result c.get_anchored.result c.get_earliest.result c.haystack.ensures.same c.get_span.ensures.start c.get_span.ensures.end c.get_anchored.ensures c.get_earliest.ensures) c.in-Err.ensures.refusal
+    subst (λ (i : Input). IsRefused c.args.way c.args.self.now c.search_skipping.new.cache.store i c.in-Err.error) (same_input c.args.input.now c.haystack.result.now c.get_span.result c.get_anchored.result c.get_earliest.result c.haystack.ensures.same c.get_span.ensures.start c.get_span.ensures.end c.get_anchored.ensures c.get_earliest.ensures) c.in-Err.ensures.refusal
 
 pub returns-in-Err-clause-effect : goal.returns-in-Err-clause-effect
 returns-in-Err-clause-effect c =
-    subst (λ (i : Input). IsSearchEffect {T = Option (HalfMatch × ℕ)} (way_of c.args.way) c.args.self.now i c.args.cache.now c.search_skipping.new.cache (Err c.in-Err.error)) (same_input c.args.input.now c.haystack.result.now c.get_span.result c.get_anchored.result c.get_earliest.result c.haystack.ensures.same c.get_span.ensures.start c.get_span.ensures.end c.get_anchored.ensures c.get_earliest.ensures) c.in-Err.ensures.effect
+    subst (λ (i : Input). IsSearchEffect {T = Option (HalfMatch × ℕ)} c.args.way c.args.self.now i c.args.cache.now c.search_skipping.new.cache (Err c.in-Err.error)) (same_input c.args.input.now c.haystack.result.now c.get_span.result c.get_anchored.result c.get_earliest.result c.haystack.ensures.same c.get_span.ensures.start c.get_span.ensures.end c.get_anchored.ensures c.get_earliest.ensures) c.in-Err.ensures.effect
 
 pub returns-in-Ok-Some-clause-found : goal.returns-in-Ok-Some-clause-found
 returns-in-Ok-Some-clause-found c =
-    let d : Direction = way_of c.args.way in
+    let d : Direction = c.args.way in
     let same : c.args.input.now ≡ later d 0 c.args.input.now = later_none d c.args.input.now in
     let ahead : c.args.input.now.start ≤ c.args.input.now.end = grind (arith, common_steps, c.if-is_done.ensures) in
     let within : c.args.input.now.start + 0 ≤ c.args.input.now.end = omega (arith, ahead) in
@@ -50,7 +49,7 @@ returns-in-Ok-Some-clause-found c =
 
 pub returns-in-Ok-Some-clause-effect : goal.returns-in-Ok-Some-clause-effect
 returns-in-Ok-Some-clause-effect c =
-    let d : Direction = way_of c.args.way in
+    let d : Direction = c.args.way in
     let same : c.args.input.now ≡ later d 0 c.args.input.now = later_none d c.args.input.now in
     let ahead : c.args.input.now.start ≤ c.args.input.now.end = grind (arith, common_steps, c.if-is_done.ensures) in
     let within : c.args.input.now.start + 0 ≤ c.args.input.now.end = omega (arith, ahead) in
@@ -61,7 +60,7 @@ returns-in-Ok-Some-clause-effect c =
 
 pub returns-in-Ok-Some-clause-upto : goal.returns-in-Ok-Some-clause-upto
 returns-in-Ok-Some-clause-upto c = λ forward.
-    let d : Direction = way_of c.args.way in
+    let d : Direction = c.args.way in
     let same : c.args.input.now ≡ later d 0 c.args.input.now = later_none d c.args.input.now in
     let ahead : c.args.input.now.start ≤ c.args.input.now.end = grind (arith, common_steps, c.if-is_done.ensures) in
     let within : c.args.input.now.start + 0 ≤ c.args.input.now.end = omega (arith, ahead) in
@@ -74,7 +73,7 @@ returns-in-Ok-Some-clause-upto c = λ forward.
 
 pub returns-in-Ok-None-clause-found : goal.returns-in-Ok-None-clause-found
 returns-in-Ok-None-clause-found c =
-    let d : Direction = way_of c.args.way in
+    let d : Direction = c.args.way in
     let same : c.args.input.now ≡ later d 0 c.args.input.now = later_none d c.args.input.now in
     let ahead : c.args.input.now.start ≤ c.args.input.now.end = grind (arith, common_steps, c.if-is_done.ensures) in
     let within : c.args.input.now.start + 0 ≤ c.args.input.now.end = omega (arith, ahead) in
@@ -83,7 +82,7 @@ returns-in-Ok-None-clause-found c =
 
 pub returns-in-Ok-None-clause-effect : goal.returns-in-Ok-None-clause-effect
 returns-in-Ok-None-clause-effect c =
-    let d : Direction = way_of c.args.way in
+    let d : Direction = c.args.way in
     let same : c.args.input.now ≡ later d 0 c.args.input.now = later_none d c.args.input.now in
     let ahead : c.args.input.now.start ≤ c.args.input.now.end = grind (arith, common_steps, c.if-is_done.ensures) in
     let within : c.args.input.now.start + 0 ≤ c.args.input.now.end = omega (arith, ahead) in
@@ -94,7 +93,7 @@ returns-in-Ok-None-clause-effect c =
 
 pub returns-in-Err-pass-clause-refusal : goal.returns-in-Err-pass-clause-refusal
 returns-in-Err-pass-clause-refusal c =
-    let d : Direction = way_of c.args.way in
+    let d : Direction = c.args.way in
     let same : c.args.input.now ≡ later d 0 c.args.input.now = later_none d c.args.input.now in
     let ahead : c.args.input.now.start ≤ c.args.input.now.end = grind (arith, common_steps, c.if-is_done.ensures) in
     let within : c.args.input.now.start + 0 ≤ c.args.input.now.end = omega (arith, ahead) in
@@ -103,7 +102,7 @@ returns-in-Err-pass-clause-refusal c =
 
 pub returns-in-Err-pass-clause-effect : goal.returns-in-Err-pass-clause-effect
 returns-in-Err-pass-clause-effect c =
-    let d : Direction = way_of c.args.way in
+    let d : Direction = c.args.way in
     let same : c.args.input.now ≡ later d 0 c.args.input.now = later_none d c.args.input.now in
     let ahead : c.args.input.now.start ≤ c.args.input.now.end = grind (arith, common_steps, c.if-is_done.ensures) in
     let within : c.args.input.now.start + 0 ≤ c.args.input.now.end = omega (arith, ahead) in

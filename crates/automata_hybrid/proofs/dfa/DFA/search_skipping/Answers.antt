@@ -1,19 +1,18 @@
 use Rattle.std.proofs.Common.{subst, sym}
+use Rattle.automata_base.specs.Haystacks.Tapes.{Direction, Forward, Backward}
 use Rattle.std.specs.Prelude.{IfOk}
 use Rattle.automata_base.specs.Haystacks.Input.{Input}
 use Rattle.automata_hybrid.specs.Searches.Contracts.{based_half}
 use Rattle.automata_hybrid.specs.Searches.PassContracts.{input_at}
 use Rattle.automata_hybrid.specs.Searches.Passes.{IsFound}
-use Rattle.automata_hybrid.specs.Walks.State.{way_of}
-use Rattle.automata_hybrid.specs.declared.search.direction.Way.{Way}
 use Rattle.automata_hybrid.proofs.dfa.DFA.search_skipping.Goals as goal
 
 pub returns-in-Forward-clause-found : goal.returns-in-Forward-clause-found
 returns-in-Forward-clause-found c =
-    subst (λ (w : Way). IfOk c.search_spans.result (λ o. IsFound (way_of w) c.args.self.now (input_at c.args.haystack.now c.args.span c.args.anchored c.args.earliest) (based_half o))) (sym c.in-Forward.is)
-    (subst (λ (i : Input). IfOk c.search_spans.result (λ o. IsFound (way_of Way.Forward) c.args.self.now i (based_half o))) c.input_of-own.ensures c.search_spans.ensures.found)
+    subst (λ (w : Direction). IfOk c.search_spans.result (λ o. IsFound w c.args.self.now (input_at c.args.haystack.now c.args.span c.args.anchored c.args.earliest) (based_half o))) (sym c.in-Forward.is)
+    (subst (λ (i : Input). IfOk c.search_spans.result (λ o. IsFound Forward c.args.self.now i (based_half o))) c.input_of-own.ensures c.search_spans.ensures.found)
 
 pub returns-in-Backward-clause-found : goal.returns-in-Backward-clause-found
 returns-in-Backward-clause-found c =
-    subst (λ (w : Way). IfOk c.search_spans-in-Backward.result (λ o. IsFound (way_of w) c.args.self.now (input_at c.args.haystack.now c.args.span c.args.anchored c.args.earliest) (based_half o))) (sym c.in-Backward.is)
-    (subst (λ (i : Input). IfOk c.search_spans-in-Backward.result (λ o. IsFound (way_of Way.Backward) c.args.self.now i (based_half o))) c.input_of-own.ensures c.search_spans-in-Backward.ensures.found)
+    subst (λ (w : Direction). IfOk c.search_spans-in-Backward.result (λ o. IsFound w c.args.self.now (input_at c.args.haystack.now c.args.span c.args.anchored c.args.earliest) (based_half o))) (sym c.in-Backward.is)
+    (subst (λ (i : Input). IfOk c.search_spans-in-Backward.result (λ o. IsFound Backward c.args.self.now i (based_half o))) c.input_of-own.ensures c.search_spans-in-Backward.ensures.found)

@@ -18,7 +18,6 @@ use Rattle.automata_hybrid.proofs.Searches.Directions.{skipped_more, skipped_wit
 use Rattle.automata_hybrid.specs.Searches.Contracts.{IsUnsupported, unsupported_error}
 use Rattle.std.specs.Prelude.{Err}
 use Rattle.automata_hybrid.proofs.Searches.Contracts.{err_to}
-use Rattle.automata_hybrid.specs.Walks.State.{way_of}
 use Rattle.automata_hybrid.proofs.Searches.PassState.{false_true}
 use Rattle.automata_hybrid.proofs.Searches.Skips.{anchored_stops, none_stops, some_stops, finds_none, finds_no_more}
 use Rattle.automata_hybrid.proofs.Searches.Skips.{finds_some, finds_split, tries_on, refuses}
@@ -28,7 +27,7 @@ use Rattle.automata_hybrid.proofs.dfa.DFA.search_spans.Goals as goal
 
 pub returns-in-Err-clause-refusal : goal.returns-in-Err-clause-refusal
 returns-in-Err-clause-refusal c =
-    let d : Direction = way_of c.args.way in
+    let d : Direction = c.args.way in
     let k : ℕ = skipped c.args.input.now c.loop-later.later in
     let same : c.loop-later.later ≡ later d k c.args.input.now = c.loop-later.invariant.same in
     let ahead : c.loop-later.later.start ≤ c.loop-later.later.end = grind (arith, common_steps, c.loop-later-test.ensures.done) in
@@ -37,7 +36,7 @@ returns-in-Err-clause-refusal c =
 
 pub returns-in_default-clause-found : goal.returns-in_default-clause-found
 returns-in_default-clause-found c =
-    let d : Direction = way_of c.args.way in
+    let d : Direction = c.args.way in
     let k : ℕ = skipped c.args.input.now c.loop-later.later in
     let same : c.loop-later.later ≡ later d k c.args.input.now = c.loop-later.invariant.same in
     let ahead : c.loop-later.later.start ≤ c.loop-later.later.end = grind (arith, common_steps, c.loop-later-test.ensures.done) in
@@ -46,7 +45,7 @@ returns-in_default-clause-found c =
 
 pub returns-then-not-skips_at-clause-found : goal.returns-then-not-skips_at-clause-found
 returns-then-not-skips_at-clause-found c =
-    let d : Direction = way_of c.args.way in
+    let d : Direction = c.args.way in
     let k : ℕ = skipped c.args.input.now c.loop-later.later in
     let same : c.loop-later.later ≡ later d k c.args.input.now = c.loop-later.invariant.same in
     let ahead : c.loop-later.later.start ≤ c.loop-later.later.end = grind (arith, common_steps, c.loop-later-test.ensures.done) in
@@ -56,7 +55,7 @@ returns-then-not-skips_at-clause-found c =
 
 pub returns-then-is_anchored-clause-found : goal.returns-then-is_anchored-clause-found
 returns-then-is_anchored-clause-found c =
-    let d : Direction = way_of c.args.way in
+    let d : Direction = c.args.way in
     let k : ℕ = skipped c.args.input.now c.loop-later.later in
     let same : c.loop-later.later ≡ later d k c.args.input.now = c.loop-later.invariant.same in
     let ahead : c.loop-later.later.start ≤ c.loop-later.later.end = grind (arith, common_steps, c.loop-later-test.ensures.done) in
@@ -65,7 +64,7 @@ returns-then-is_anchored-clause-found c =
 
 pub loop-later-init : goal.loop-later-init
 loop-later-init c =
-    let d : Direction = way_of c.args.way in
+    let d : Direction = c.args.way in
     let whole : c.copied-later.result ≡ c.args.input.now = c.copied-later.ensures in
     let none : 0 ≡ skipped c.args.input.now c.copied-later.result = subst (λ (i : Input). 0 ≡ skipped c.args.input.now i) (sym whole) (omega arith) in
     record {
@@ -84,7 +83,7 @@ loop-later-init c =
 
 pub loop-later-preserved : goal.loop-later-preserved
 loop-later-preserved c =
-    let d : Direction = way_of c.args.way in
+    let d : Direction = c.args.way in
     let k : ℕ = skipped c.args.input.now c.loop-later.later in
     let same : c.loop-later.later ≡ later d k c.args.input.now = c.loop-later.invariant.same in
     let ahead : c.loop-later.later.start ≤ c.loop-later.later.end = grind (arith, common_steps, c.loop-later-test.ensures.done) in
@@ -111,7 +110,7 @@ loop-later-preserved c =
 
 pub returns-then-not-begin_later-clause-found : goal.returns-then-not-begin_later-clause-found
 returns-then-not-begin_later-clause-found c =
-    let d : Direction = way_of c.args.way in
+    let d : Direction = c.args.way in
     let k : ℕ = skipped c.args.input.now c.loop-later.later in
     let same : c.loop-later.later ≡ later d k c.args.input.now = c.loop-later.invariant.same in
     let ahead : c.loop-later.later.start ≤ c.loop-later.later.end = grind (arith, common_steps, c.loop-later-test.ensures.done) in
@@ -124,11 +123,11 @@ returns-then-not-begin_later-clause-found c =
 pub returns-clause-found : goal.returns-clause-found
 returns-clause-found c =
     let done : c.loop-later.later.end < c.loop-later.later.start = grind (arith, common_steps, c.loop-later-test.ensures.done) in
-    finds_no_more (way_of c.args.way) c.args.self.now c.args.input.now (skipped c.args.input.now c.loop-later.later) c.loop-later.invariant.tries (omega (arith, done))
+    finds_no_more c.args.way c.args.self.now c.args.input.now (skipped c.args.input.now c.loop-later.later) c.loop-later.invariant.tries (omega (arith, done))
 
 pub returns-then-not-skips_at-clause-upto : goal.returns-then-not-skips_at-clause-upto
 returns-then-not-skips_at-clause-upto c = λ forward.
-    let d : Direction = way_of c.args.way in
+    let d : Direction = c.args.way in
     let k : ℕ = skipped c.args.input.now c.loop-later.later in
     let same : c.loop-later.later ≡ later d k c.args.input.now = c.loop-later.invariant.same in
     let ahead : c.loop-later.later.start ≤ c.loop-later.later.end = grind (arith, common_steps, c.loop-later-test.ensures.done) in
@@ -140,7 +139,7 @@ returns-then-not-skips_at-clause-upto c = λ forward.
 
 pub returns-in-Err-clause-effect : goal.returns-in-Err-clause-effect
 returns-in-Err-clause-effect c =
-    let d : Direction = way_of c.args.way in
+    let d : Direction = c.args.way in
     let k : ℕ = skipped c.args.input.now c.loop-later.later in
     let same : c.loop-later.later ≡ later d k c.args.input.now = c.loop-later.invariant.same in
     let ahead : c.loop-later.later.start ≤ c.loop-later.later.end = grind (arith, common_steps, c.loop-later-test.ensures.done) in
@@ -150,7 +149,7 @@ returns-in-Err-clause-effect c =
 
 pub returns-in_default-clause-effect : goal.returns-in_default-clause-effect
 returns-in_default-clause-effect c =
-    let d : Direction = way_of c.args.way in
+    let d : Direction = c.args.way in
     let k : ℕ = skipped c.args.input.now c.loop-later.later in
     let same : c.loop-later.later ≡ later d k c.args.input.now = c.loop-later.invariant.same in
     let ahead : c.loop-later.later.start ≤ c.loop-later.later.end = grind (arith, common_steps, c.loop-later-test.ensures.done) in
@@ -161,7 +160,7 @@ returns-in_default-clause-effect c =
 
 pub returns-then-not-skips_at-clause-effect : goal.returns-then-not-skips_at-clause-effect
 returns-then-not-skips_at-clause-effect c =
-    let d : Direction = way_of c.args.way in
+    let d : Direction = c.args.way in
     let k : ℕ = skipped c.args.input.now c.loop-later.later in
     let same : c.loop-later.later ≡ later d k c.args.input.now = c.loop-later.invariant.same in
     let ahead : c.loop-later.later.start ≤ c.loop-later.later.end = grind (arith, common_steps, c.loop-later-test.ensures.done) in
@@ -172,7 +171,7 @@ returns-then-not-skips_at-clause-effect c =
 
 pub returns-then-is_anchored-clause-effect : goal.returns-then-is_anchored-clause-effect
 returns-then-is_anchored-clause-effect c =
-    let d : Direction = way_of c.args.way in
+    let d : Direction = c.args.way in
     let k : ℕ = skipped c.args.input.now c.loop-later.later in
     let same : c.loop-later.later ≡ later d k c.args.input.now = c.loop-later.invariant.same in
     let ahead : c.loop-later.later.start ≤ c.loop-later.later.end = grind (arith, common_steps, c.loop-later-test.ensures.done) in
@@ -183,7 +182,7 @@ returns-then-is_anchored-clause-effect c =
 
 pub returns-then-not-begin_later-clause-effect : goal.returns-then-not-begin_later-clause-effect
 returns-then-not-begin_later-clause-effect c =
-    let d : Direction = way_of c.args.way in
+    let d : Direction = c.args.way in
     let k : ℕ = skipped c.args.input.now c.loop-later.later in
     let same : c.loop-later.later ≡ later d k c.args.input.now = c.loop-later.invariant.same in
     let ahead : c.loop-later.later.start ≤ c.loop-later.later.end = grind (arith, common_steps, c.loop-later-test.ensures.done) in
@@ -195,7 +194,7 @@ returns-then-not-begin_later-clause-effect c =
 
 pub returns-clause-effect : goal.returns-clause-effect
 returns-clause-effect c =
-    let d : Direction = way_of c.args.way in
+    let d : Direction = c.args.way in
     let k : ℕ = skipped c.args.input.now c.loop-later.later in
     let done : c.loop-later.later.end < c.loop-later.later.start = grind (arith, common_steps, c.loop-later-test.ensures.done) in
     effect_before d c.args.self.now c.args.input.now k c.loop-later.invariant.tries c.args.cache.now c.loop-later.cache c.loop-later.invariant.grown c.loop-later.invariant.known c.loop-later.invariant.learned c.loop-later.invariant.bounded c.loop-later.invariant.progress _
@@ -203,7 +202,7 @@ returns-clause-effect c =
 
 pub returns-in-Err-clause-unsupported : goal.returns-in-Err-clause-unsupported
 returns-in-Err-clause-unsupported c = λ u.
-    let d : Direction = way_of c.args.way in
+    let d : Direction = c.args.way in
     let here : c.loop-later.later ≡ c.args.input.now =
     c.loop-later.invariant.same ∙ (ap (λ (n : ℕ). later d n c.args.input.now) (c.loop-later.invariant.first u.mode) ∙ sym (later_none d c.args.input.now)) in
     (err_to (c.in-Err.ensures.unsupported (subst (IsUnsupported d c.args.self.now) (sym here) u) ∙ ap (λ (i : Input). Err (unsupported_error i)) here))

@@ -6,7 +6,6 @@ use Rattle.automata_hybrid.specs.Searches.Cached.{Knows}
 use Rattle.automata_hybrid.specs.Searches.Progress.{HaveEnded}
 use Rattle.automata_hybrid.specs.Searches.Passes.{Finds, Skips}
 use Rattle.automata_hybrid.specs.Machines.StartSlots.{supports}
-use Rattle.automata_hybrid.specs.Walks.State.{way_of}
 use Rattle.automata_hybrid.proofs.Searches.Costs.{AreCounted}
 use Rattle.automata_hybrid.proofs.Searches.Directions.{skipped}
 use Rattle.automata_hybrid.proofs.Searches.Cached.{LearnedSpans}
@@ -16,15 +15,15 @@ abbrev pub invariant-loop-later : goal.invariant-loop-later
 invariant-loop-later l = record {
   of : IsCacheOf l.cache l.self;
   few : l.later.end + 1 - l.later.start ≤ l.input.end + 1 - l.input.start;
-  same : l.later ≡ later (way_of l.way) (skipped l.input l.later) l.input;
+  same : l.later ≡ later l.way (skipped l.input l.later) l.input;
   first : supports l.self l.input.anchored ≡ false → skipped l.input l.later ≡ 0;
   grown : IsGrown l.fn.cache l.cache;
-  known : Knows (way_of l.way) l.self l.fn.cache.store l.input → l.cache.count ≡ l.fn.cache.count;
-  learned : ClearedNothing l.fn.cache.store l.cache.store → LearnedSpans (way_of l.way) l.self l.cache.store l.input (skipped l.input l.later);
-  bounded : AreCounted (way_of l.way) l.self l.input (skipped l.input l.later) l.fn.cache l.cache;
+  known : Knows l.way l.self l.fn.cache.store l.input → l.cache.count ≡ l.fn.cache.count;
+  learned : ClearedNothing l.fn.cache.store l.cache.store → LearnedSpans l.way l.self l.cache.store l.input (skipped l.input l.later);
+  bounded : AreCounted l.way l.self l.input (skipped l.input l.later) l.fn.cache l.cache;
   done : skipped l.input l.later ≡ 0 → l.cache ≡ l.fn.cache;
-  progress : HaveEnded (way_of l.way) l.self l.input (skipped l.input l.later) l.fn.cache.store l.cache.store;
-  tries : Tries (Finds (way_of l.way) l.self) (Skips l.self) (way_of l.way) l.input (skipped l.input l.later);
+  progress : HaveEnded l.way l.self l.input (skipped l.input l.later) l.fn.cache.store l.cache.store;
+  tries : Tries (Finds l.way l.self) (Skips l.self) l.way l.input (skipped l.input l.later);
 }
 
 abbrev pub decreases-loop-later : goal.decreases-loop-later

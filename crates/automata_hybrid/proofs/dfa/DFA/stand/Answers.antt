@@ -6,7 +6,7 @@ use Rattle.automata_hybrid.specs.Machines.Machine.{Machine}
 use Rattle.automata_hybrid.specs.Searches.Passes.{state_in}
 use Rattle.automata_hybrid.specs.Cache.Table.{IsRowState}
 use Rattle.automata_hybrid.specs.Walks.Answers.{ReportsNext}
-use Rattle.automata_hybrid.specs.Walks.State.{Walk, way_of, with_match}
+use Rattle.automata_hybrid.specs.Walks.State.{Walk, with_match}
 use Rattle.automata_hybrid.proofs.Walks.Calls.{next_arrives}
 use Rattle.automata_hybrid.proofs.dfa.DFA.stand.Goals as goal
 
@@ -15,7 +15,7 @@ match_pattern-requires-clause-index c = λ q n. c.requires.arrives.reports q n
 
 pub returns-clause-reports : goal.returns-clause-reports
 returns-clause-reports c =
-    let d : Direction = way_of c.args.way in
+    let d : Direction = c.args.way in
     let q : Powerset = c.snapshot.result.value in
     let state : q ≡ state_in d c.args.self.now c.args.input.now c.args.units = c.snapshot.ensures.state _ c.requires.arrives.named in
     let row : IsRowState c.args.self.now q = subst (λ (m : Machine). IsRowState m q) c.requires.of c.snapshot.ensures.row in

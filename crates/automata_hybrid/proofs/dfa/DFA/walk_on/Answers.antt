@@ -17,7 +17,7 @@ use Rattle.automata_hybrid.specs.Searches.Passes.{HasReadNoQuit, given_up_offset
 use Rattle.automata_hybrid.specs.Cache.Stores.{Stored, with_searched}
 use Rattle.automata_hybrid.specs.Cache.Table.{Rows, Leads, Names}
 use Rattle.automata_hybrid.specs.Walks.Answers.{Arrives, Finishes, HasItsState, HasReportedBy, IsAdvanceRefusal, IsArrival}
-use Rattle.automata_hybrid.specs.Walks.State.{Holds, Ids, IsHeldAt, Stage, Walk, ended_walk, keeping_of, way_of}
+use Rattle.automata_hybrid.specs.Walks.State.{Holds, Ids, IsHeldAt, Stage, Walk, ended_walk, keeping_of}
 use Rattle.automata_hybrid.specs.declared.search.advance.Arrival.{Arrival}
 use Rattle.automata_hybrid.proofs.Cache.Growth.{grown_after, grown_moved, grown_trans}
 use Rattle.automata_hybrid.proofs.Walks.Cached.{has_state, state_after, still_same, unit_knows, units_none}
@@ -36,7 +36,7 @@ use Rattle.automata_hybrid.proofs.dfa.DFA.walk_on.Goals as goal
 
 pub returns-in_err-from-clause-refusal : goal.returns-in_err-from-clause-refusal
 returns-in_err-from-clause-refusal c =
-    let d : Direction = way_of c.args.way in
+    let d : Direction = c.args.way in
     let w : Walk = c.args.walk.now in
     let r = c.requires.walk.reads in
     if_err c.from_residual.result _ _ c.from_residual.ensures.1
@@ -45,7 +45,7 @@ returns-in_err-from-clause-refusal c =
 
 pub returns-in_err-from-clause-effect : goal.returns-in_err-from-clause-effect
 returns-in_err-from-clause-effect c =
-    let d : Direction = way_of c.args.way in
+    let d : Direction = c.args.way in
     let m : Machine = c.args.self.now in
     let input : Input = c.args.input.now in
     let w : Walk = c.args.walk.now in
@@ -72,7 +72,7 @@ returns-in_err-from-clause-effect c =
 
 pub returns-then-is_dead-clause-answer : goal.returns-then-is_dead-clause-answer
 returns-then-is_dead-clause-answer c =
-    let d : Direction = way_of c.args.way in
+    let d : Direction = c.args.way in
     let m : Machine = c.args.self.now in
     let input : Input = c.args.input.now in
     let w : Walk = c.args.walk.now in
@@ -96,7 +96,7 @@ returns-then-is_dead-clause-answer c =
 
 pub returns-then-is_dead-clause-effect : goal.returns-then-is_dead-clause-effect
 returns-then-is_dead-clause-effect c =
-    let d : Direction = way_of c.args.way in
+    let d : Direction = c.args.way in
     let m : Machine = c.args.self.now in
     let input : Input = c.args.input.now in
     let w : Walk = c.args.walk.now in
@@ -157,7 +157,7 @@ returns-then-is_dead-clause-effect c =
 
 pub returns-in_err-arrival-clause-refusal : goal.returns-in_err-arrival-clause-refusal
 returns-in_err-arrival-clause-refusal c =
-    let d : Direction = way_of c.args.way in
+    let d : Direction = c.args.way in
     let w : Walk = c.args.walk.now in
     let s = c.requires.walk.reads in
     let r : IsAdvanceRefusal d c.args.self.now c.advance.new.cache.store c.args.input.now w.units c.in_err-arrival.field-0.0 = subst (λ n. IsAdvanceRefusal d c.args.self.now c.advance.new.cache.store c.args.input.now n c.in_err-arrival.field-0.0) c.units-2.ensures c.in_err-arrival.ensures.refusal in
@@ -167,7 +167,7 @@ returns-in_err-arrival-clause-refusal c =
 
 pub returns-in_err-arrival-clause-effect : goal.returns-in_err-arrival-clause-effect
 returns-in_err-arrival-clause-effect c =
-    let d : Direction = way_of c.args.way in
+    let d : Direction = c.args.way in
     let m : Machine = c.args.self.now in
     let input : Input = c.args.input.now in
     let w : Walk = c.args.walk.now in
@@ -223,7 +223,7 @@ returns-in_err-arrival-clause-effect c =
 
 pub returns-in_default-clause-answer : goal.returns-in_default-clause-answer
 returns-in_default-clause-answer c =
-    let d : Direction = way_of c.args.way in
+    let d : Direction = c.args.way in
     let m : Machine = c.args.self.now in
     let input : Input = c.args.input.now in
     let w : Walk = c.args.walk.now in
@@ -252,7 +252,7 @@ returns-in_default-clause-answer c =
 
 pub returns-in_default-clause-effect : goal.returns-in_default-clause-effect
 returns-in_default-clause-effect c =
-    let d : Direction = way_of c.args.way in
+    let d : Direction = c.args.way in
     let m : Machine = c.args.self.now in
     let input : Input = c.args.input.now in
     let w : Walk = c.args.walk.now in
@@ -278,7 +278,7 @@ returns-in_default-clause-effect c =
 
 pub returns-in_err-move_to-clause-refusal : goal.returns-in_err-move_to-clause-refusal
 returns-in_err-move_to-clause-refusal c =
-    let d : Direction = way_of c.args.way in
+    let d : Direction = c.args.way in
     let m : Machine = c.args.self.now in
     let input : Input = c.args.input.now in
     let w : Walk = c.args.walk.now in
@@ -299,7 +299,7 @@ returns-in_err-move_to-clause-refusal c =
 
 pub returns-in_err-move_to-clause-effect : goal.returns-in_err-move_to-clause-effect
 returns-in_err-move_to-clause-effect c =
-    let d : Direction = way_of c.args.way in
+    let d : Direction = c.args.way in
     let m : Machine = c.args.self.now in
     let input : Input = c.args.input.now in
     let w : Walk = c.args.walk.now in
@@ -320,11 +320,11 @@ returns-in_err-move_to-clause-effect c =
 
 pub stand-requires-clause-here : goal.stand-requires-clause-here
 stand-requires-clause-here c = λ k t.
-    reported_here (way_of c.args.way) c.args.self.now c.args.input.now c.args.walk.now k (skips_or_not c.skips-skips.result c.skips-skips.ensures.yes c.skips-skips.ensures.no) t c.requires.walk.reads.on c.requires.walk.reads.all_reported
+    reported_here c.args.way c.args.self.now c.args.input.now c.args.walk.now k (skips_or_not c.skips-skips.result c.skips-skips.ensures.yes c.skips-skips.ensures.no) t c.requires.walk.reads.on c.requires.walk.reads.all_reported
 
 pub stand-requires-clause-arrives : goal.stand-requires-clause-arrives
 stand-requires-clause-arrives c =
-    let d : Direction = way_of c.args.way in
+    let d : Direction = c.args.way in
     let m : Machine = c.args.self.now in
     let input : Input = c.args.input.now in
     let w : Walk = c.args.walk.now in
@@ -342,7 +342,7 @@ stand-requires-clause-arrives c =
 
 pub returns-clause-answer : goal.returns-clause-answer
 returns-clause-answer c =
-    let d : Direction = way_of c.args.way in
+    let d : Direction = c.args.way in
     let m : Machine = c.args.self.now in
     let input : Input = c.args.input.now in
     let w : Walk = c.args.walk.now in
@@ -370,7 +370,7 @@ returns-clause-answer c =
 
 pub returns-clause-effect : goal.returns-clause-effect
 returns-clause-effect c =
-    let d : Direction = way_of c.args.way in
+    let d : Direction = c.args.way in
     let m : Machine = c.args.self.now in
     let input : Input = c.args.input.now in
     let w : Walk = c.args.walk.now in

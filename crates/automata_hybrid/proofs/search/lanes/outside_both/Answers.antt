@@ -2,7 +2,6 @@ use Rattle.std.proofs.Common.{◌≡◌, arith, ⊎_elim, inl, inr}
 use Rattle.std.specs.Int.{bit_at}
 use Rattle.std.proofs.lemmas.Nat.{and_le_l}
 use Rattle.automata_hybrid.specs.Searches.SelfLoops.{lane_of}
-use Rattle.automata_hybrid.specs.Walks.State.{way_of}
 use Rattle.automata_hybrid.proofs.Searches.Lanes.{both_clear}
 use Rattle.automata_hybrid.proofs.search.lanes.outside_both.Goals as goal
 
@@ -11,6 +10,6 @@ returns-clause-small c = omega (arith, and_le_l c.outside_at.result c.outside_at
 
 pub returns-clause-near : goal.returns-clause-near
 returns-clause-near c = λ k few clear. ⊎_elim
-    (λ (first : bit_at c.outside_at.result (lane_of (way_of c.args.way) k) ≡ 0). inl (c.outside_at.ensures.near k few first))
-    (λ (second : bit_at c.outside_at-2.result (lane_of (way_of c.args.way) k) ≡ 0). inr (c.outside_at-2.ensures.near k few second))
-    (both_clear c.outside_at.result c.outside_at-2.result (lane_of (way_of c.args.way) k) clear)
+    (λ (first : bit_at c.outside_at.result (lane_of c.args.way k) ≡ 0). inl (c.outside_at.ensures.near k few first))
+    (λ (second : bit_at c.outside_at-2.result (lane_of c.args.way k) ≡ 0). inr (c.outside_at-2.ensures.near k few second))
+    (both_clear c.outside_at.result c.outside_at-2.result (lane_of c.args.way k) clear)

@@ -1,8 +1,7 @@
 use Rattle.std.proofs.Common.{Err, Ok, inl, refl}
-use Rattle.automata_base.specs.Haystacks.Tapes.{Forward}
 use Rattle.regex_automata.proofs.Results.{ok_err, same_err}
 use Rattle.regex_automata.proofs.Replies.WalkCalls.{answered, stayed, step_answers, step_refused}
-use Rattle.regex_automata.proofs.replay.walks.step_fwd.Goals as goal
+use Rattle.regex_automata.proofs.replay.walks.step_of.Goals as goal
 
 pub returns-in-Ok-clause-call : goal.returns-in-Ok-clause-call
 returns-in-Ok-clause-call c =
@@ -10,11 +9,11 @@ returns-in-Ok-clause-call c =
     let m = c.args.dfa.now in
     let input = c.args.input.now in
     let old = c.args.state.now in
-    let new = c.try_search_overlapping_fwd.new.state in
+    let new = c.try_search_overlapping.new.walk in
     record {
-      step = λ k h. step_answers Forward m input old k h new c.get_match.result c.get_match.ensures s.reports s.paths s.within
+      step = λ k h. step_answers c.args.way m input old k h new c.get_match.result c.get_match.ensures s.reports s.paths s.within
           (λ fresh u. ok_err (s.unsupported fresh u));
-      reported = λ k h. answered Forward m input old k h new s.reports s.ended;
+      reported = λ k h. answered c.args.way m input old k h new s.reports s.ended;
       kept = λ k h. tt;
     }
 
@@ -24,22 +23,22 @@ returns-in-Err-clause-call c =
     let m = c.args.dfa.now in
     let input = c.args.input.now in
     let old = c.args.state.now in
-    let new = c.try_search_overlapping_fwd.new.state in
+    let new = c.try_search_overlapping.new.walk in
     record {
-      step = λ k h. step_refused Forward m input old k h c.in-Err.error s.errors (λ ended. s.ready (inl ended))
+      step = λ k h. step_refused c.args.way m input old k h c.in-Err.error s.errors (λ ended. s.ready (inl ended))
           (λ fresh u. same_err (s.unsupported fresh u)) s.free;
       reported = λ k h. tt;
-      kept = λ k h. stayed Forward m input old k h new s.refused;
+      kept = λ k h. stayed c.args.way m input old k h new s.refused;
     }
 
 pub returns-in-Ok-clause-made : goal.returns-in-Ok-clause-made
 returns-in-Ok-clause-made c = λ k h.
-    (c.args.state.now, c.try_search_overlapping_fwd.new.state, Ok tt, h, c.in-Ok.ensures.call.reports, c.in-Ok.ensures.effect, refl, tt)
+    (c.args.state.now, c.try_search_overlapping.new.walk, Ok tt, h, c.in-Ok.ensures.call.reports, c.in-Ok.ensures.effect, refl, tt)
 
 pub returns-in-Err-clause-made : goal.returns-in-Err-clause-made
 returns-in-Err-clause-made c = λ k h. (
   c.args.state.now,
-  c.try_search_overlapping_fwd.new.state,
+  c.try_search_overlapping.new.walk,
   Err c.in-Err.error,
   h,
   tt,

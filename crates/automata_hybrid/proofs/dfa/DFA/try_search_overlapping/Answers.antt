@@ -1,0 +1,31 @@
+use Rattle.std.proofs.Common.{ℕ, sym, subst}
+use Rattle.std.specs.Prelude.{IfErr}
+use Rattle.automata_hybrid.specs.Walks.Contracts.{IsCallEffect, IsWalkCall}
+use Rattle.automata_hybrid.specs.Walks.Answers.{HasReported, IsWalkOf, IsWalkRefusal}
+use Rattle.automata_hybrid.specs.Walks.State.{States, Walk}
+use Rattle.automata_hybrid.proofs.dfa.DFA.try_search_overlapping.Goals as goal
+
+pub call_held-requires-clause-walk : goal.call_held-requires-clause-walk
+call_held-requires-clause-walk c =
+    record {
+      reported = subst (IsWalkOf c.args.way c.args.self.now c.args.input.now) (sym c.walk.view_is) c.requires.walk;
+      itself = c.walk.invariant;
+    }
+
+pub returns-clause-walk : goal.returns-clause-walk
+returns-clause-walk c = c.call_held.ensures.walk.reported
+
+pub returns-clause-call : goal.returns-clause-call
+returns-clause-call c =
+    subst (λ (w : Walk). IsWalkCall c.args.way c.args.self.now c.args.input.now w c.call_held.new.walk c.call_held.result) c.walk.view_is
+    c.call_held.ensures.call
+
+pub returns-clause-refusal : goal.returns-clause-refusal
+returns-clause-refusal c =
+    subst (λ (w : Walk). (k : ℕ) → HasReported c.args.way c.args.self.now c.args.input.now w k → IfErr c.call_held.result (IsWalkRefusal States c.args.way c.args.self.now c.call_held.new.cache.store c.args.input.now w k)) c.walk.view_is
+    c.call_held.ensures.refusal
+
+pub returns-clause-effect : goal.returns-clause-effect
+returns-clause-effect c =
+    subst (λ (w : Walk). IsCallEffect States c.args.way c.args.self.now c.args.input.now w c.call_held.new.walk c.args.cache.now c.call_held.new.cache c.call_held.result) c.walk.view_is
+    c.call_held.ensures.effect
