@@ -12,7 +12,8 @@ use crate::util::look::Look;
 use crate::util::primitives::StateID;
 use std::marker::Model;
 
-/// Which bytes the NFA cannot distinguish: each byte has a class, and bytes of one class lead to the same states.
+/// The classes of the bytes that an NFA and a quit set do not distinguish: each byte has a class, and bytes of one
+/// class lead to the same states.
 ///
 /// One more class, after the last one, is that of the end of the input.
 #[derive(Clone, Copy, Debug, PartialEq, Eq)]
@@ -98,7 +99,8 @@ impl ByteClasses {
     }
 }
 
-// A mark before each byte at which a boundary is.
+/// The boundaries of the classes: a byte is marked if the NFA or the quit set distinguishes it from the byte before it.
+/// If `on` is false, each byte is marked.
 fn boundaries(nfa: &NFA, quits: &ByteSet, on: bool) -> [bool; 257]
     ensures { (byte : ℕ) → byte < 256 → is_marked result byte ≡ is_boundary nfa.now quits.now on byte }
 {
@@ -111,7 +113,7 @@ fn boundaries(nfa: &NFA, quits: &ByteSet, on: bool) -> [bool; 257]
     marks
 }
 
-// How many marks there are from byte 1 to each byte.
+/// The class of each byte: how many marks there are from byte 1 to it.
 fn counts(marks: &[bool; 257]) -> [u8; 256]
     ensures whole { length result ≡ 256 }
     ensures same { (byte : ℕ) → byte < 256 → class_in result byte ≡ boundary_count (is_marked marks.now) byte }
@@ -138,7 +140,8 @@ fn counts(marks: &[bool; 257]) -> [u8; 256]
     map
 }
 
-// Whether one of sixteen bytes is marked. It does not stop at the first, so that all are looked at at once.
+/// Whether one of the sixteen bytes from `at` on is marked. It does not stop at the first mark, so that all can be read
+/// at once.
 fn has_mark(marks: &[bool; 257], at: usize) -> bool
     requires { at ≤ 240 }
     ensures { IsFalse result → (i : ℕ) → i < 16 → is_marked marks.now (at + i) ≡ false }
@@ -150,6 +153,7 @@ fn has_mark(marks: &[bool; 257], at: usize) -> bool
     any
 }
 
+/// Marks the byte if `yes` is true. Marks that are there stay.
 fn mark_if(marks: &mut [bool; 257], byte: usize, yes: bool)
     requires { byte < 257 }
     ensures { Adds marks.old marks.new (λ b. eqb b byte && yes) }
@@ -159,7 +163,7 @@ fn mark_if(marks: &mut [bool; 257], byte: usize, yes: bool)
     }
 }
 
-// A boundary before the first of these bytes, and one after the last.
+/// Marks the boundaries of a range: its first byte, and the byte after its last.
 fn mark_range(marks: &mut [bool; 257], lo: u8, hi: u8)
     ensures { Adds marks.old marks.new (bounds lo hi) }
 {
@@ -167,6 +171,7 @@ fn mark_range(marks: &mut [bool; 257], lo: u8, hi: u8)
     marks[usize::from(hi) + 1] = true;
 }
 
+/// Marks the boundaries of the ranges of a sparse state.
 fn mark_transitions(marks: &mut [bool; 257], transitions: &[Transition])
     ensures { Adds marks.old marks.new (transitions_bound transitions.now) }
 {
@@ -175,6 +180,7 @@ fn mark_transitions(marks: &mut [bool; 257], transitions: &[Transition])
     }
 }
 
+/// Whether a dense state leads to another state on this byte than on the one before it.
 fn are_targets_apart(targets: &[StateID; 256], byte: usize) -> bool
     requires first { 1 ≤ byte }
     requires within { byte < 256 }
@@ -183,6 +189,7 @@ fn are_targets_apart(targets: &[StateID; 256], byte: usize) -> bool
     targets[byte].as_usize() != targets[byte - 1].as_usize()
 }
 
+/// Marks each byte on which a dense state leads to another state than on the byte before it.
 fn mark_targets(marks: &mut [bool; 257], targets: &[StateID; 256])
     ensures { Adds marks.old marks.new (targets_bound targets.now) }
 {
@@ -191,6 +198,7 @@ fn mark_targets(marks: &mut [bool; 257], targets: &[StateID; 256])
     }
 }
 
+/// Whether this byte is a quit byte and the byte before it is not, or the other way round.
 fn are_quits_apart(quits: &ByteSet, byte: usize) -> bool
     requires first { 1 ≤ byte }
     requires within { byte < 256 }
@@ -199,12 +207,14 @@ fn are_quits_apart(quits: &ByteSet, byte: usize) -> bool
     quits.contains(byte as u8) != quits.contains((byte - 1) as u8)
 }
 
+/// Whether one of the two is true, or both.
 fn either(a: bool, b: bool) -> bool
     ensures { result ≡ (a || b) }
 {
     a || b
 }
 
+/// Marks each byte that is a quit byte while the byte before it is not, or the other way round.
 fn mark_quits(marks: &mut [bool; 257], quits: &ByteSet)
     ensures { Adds marks.old marks.new (quits_bound quits.now) }
 {
@@ -216,7 +226,7 @@ fn mark_quits(marks: &mut [bool; 257], quits: &ByteSet)
     }
 }
 
-// The boundaries of the bytes that decide whether the look holds.
+/// Marks the boundaries of the bytes that decide whether the look holds. `terminator` is the byte that ends a line.
 fn mark_look(marks: &mut [bool; 257], look: Look, terminator: u8)
     ensures { Adds marks.old marks.new (look_bounds terminator look) }
 {
@@ -236,6 +246,7 @@ fn mark_look(marks: &mut [bool; 257], look: Look, terminator: u8)
     }
 }
 
+/// Marks the boundaries of the bytes that a state distinguishes. `terminator` is the byte that ends a line.
 fn mark_state(marks: &mut [bool; 257], state: &State, terminator: u8)
     ensures { Adds marks.old marks.new (state_bounds terminator state.now) }
 {
@@ -252,6 +263,7 @@ fn mark_state(marks: &mut [bool; 257], state: &State, terminator: u8)
     }
 }
 
+/// Marks the boundaries of the bytes that the states distinguish. `terminator` is the byte that ends a line.
 fn mark_states(marks: &mut [bool; 257], states: &[State], terminator: u8)
     ensures { Adds marks.old marks.new (states_bound terminator states.now) }
 {

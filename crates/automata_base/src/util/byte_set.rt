@@ -49,7 +49,7 @@ impl ByteSet {
         }
     }
 
-    /// Whether it has no byte.
+    /// Whether the set has no byte.
     pub fn is_empty(&self) -> bool
         ensures yes { IsTrue result → (byte : ℕ) → byte < 256 → is_quit self.now byte ≡ false }
         ensures no { ((byte : ℕ) → byte < 256 → is_quit self.now byte ≡ false) → IsTrue result }
@@ -57,7 +57,7 @@ impl ByteSet {
         self.words[0] | self.words[1] | self.words[2] | self.words[3] == 0
     }
 
-    /// Whether a byte is in it.
+    /// Whether a byte is in the set.
     #[inline(always)]
     pub fn contains(&self, byte: u8) -> bool
         ensures { result ≡ is_quit self.now byte }

@@ -13,15 +13,15 @@ use std::marker::Model;
 pub enum Look {
     /// No byte is before the offset.
     Start,
-    /// No byte is after it.
+    /// No byte is after the offset.
     End,
-    /// No byte or a line terminator is before it.
+    /// No byte or a line terminator is before the offset.
     StartLF,
-    /// No byte or a line terminator is after it.
+    /// No byte or a line terminator is after the offset.
     EndLF,
-    /// No byte, or `\r`, `\n` or `\r\n`, is before it: so never between the two bytes of `\r\n`.
+    /// No byte, or `\r`, `\n` or `\r\n`, is before the offset: so never between the two bytes of `\r\n`.
     StartCRLF,
-    /// No byte, or `\r`, `\n` or `\r\n`, is after it: so never between the two bytes of `\r\n`.
+    /// No byte, or `\r`, `\n` or `\r\n`, is after the offset: so never between the two bytes of `\r\n`.
     EndCRLF,
     /// A word boundary: a word byte is on one side alone.
     WordAscii,
@@ -31,17 +31,17 @@ pub enum Look {
     WordUnicode,
     /// As `WordAsciiNegate`.
     WordUnicodeNegate,
-    /// A word begins: a word byte is after it, and none before.
+    /// A word begins: a word byte is after the offset, and none before.
     WordStartAscii,
-    /// A word ends: a word byte is before it, and none after.
+    /// A word ends: a word byte is before the offset, and none after.
     WordEndAscii,
     /// As `WordStartAscii`.
     WordStartUnicode,
     /// As `WordEndAscii`.
     WordEndUnicode,
-    /// No word byte is before it.
+    /// No word byte is before the offset.
     WordStartHalfAscii,
-    /// No word byte is after it.
+    /// No word byte is after the offset.
     WordEndHalfAscii,
     /// As `WordStartHalfAscii`.
     WordStartHalfUnicode,
@@ -155,7 +155,7 @@ impl LookSet {
         }
     }
 
-    /// The bits. Bit k stands for look k.
+    /// The bits of the set. Bit k stands for look k.
     pub fn bits(self) -> u32
         ensures value { result ≡ self }
         ensures small { IsLookSet result }
@@ -163,14 +163,14 @@ impl LookSet {
         self.bits
     }
 
-    /// Whether it has no look.
+    /// Whether the set has no look.
     pub fn is_empty(self) -> bool
         ensures { result ≡ eqb self 0 }
     {
         self.bits == 0
     }
 
-    /// Whether a look is in it.
+    /// Whether a look is in the set.
     pub fn contains(self, look: Look) -> bool
         ensures { result ≡ truth_of self look }
     {

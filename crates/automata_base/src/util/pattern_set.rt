@@ -113,28 +113,28 @@ impl PatternSet {
         self.len == 0
     }
 
-    /// Whether each pattern below the capacity is in it.
+    /// Whether each pattern below the capacity is in the set.
     pub fn is_full(&self) -> bool
         ensures { IsTrue result ↔ (length (members self.now) ≡ length self.now) }
     {
         self.len == self.capacity()
     }
 
-    /// How many patterns are in it.
+    /// How many patterns are in the set.
     pub fn len(&self) -> usize
         ensures { result ≡ length (members self.now) }
     {
         self.len
     }
 
-    /// How many patterns it can hold: those with smaller numbers.
+    /// How many patterns the set can hold: those with smaller numbers.
     pub fn capacity(&self) -> usize
         ensures { result ≡ length self.now }
     {
         self.which.len()
     }
 
-    /// The members in increasing order.
+    /// Iterates over the members in increasing order.
     pub fn iter(&self) -> PatternSetIter<'_>
         ensures { result ≡ members self.now }
     {

@@ -5,24 +5,26 @@ use std::marker::Model;
 use std::ops::Range;
 use thiserror::Error;
 
-/// Offsets between the bytes of a haystack, from `start` to `end`.
+/// A part of a haystack, between two offsets, which count bytes.
 #[derive(Clone, Copy, Debug, PartialEq, Eq)]
 pub struct Span {
+    /// The offset where the part starts.
     pub start: usize,
+    /// The offset where the part ends.
     pub end: usize,
 }
 
 impl Span {
     ghost use Rattle.std.specs.Prelude.{◌≡◌, ◌<◌, ◌≤◌, ◌+◌, ◌-◌, ◌^◌, ◌↔◌, IsTrue};
 
-    /// The number of bytes between its offsets. It is 0 if the span starts after its end.
+    /// The number of bytes of the span. It is 0 if the span starts after its end.
     pub fn len(&self) -> usize
         ensures { result ≡ self.now.end - self.now.start }
     {
         self.end.saturating_sub(self.start)
     }
 
-    /// Whether it contains no byte: its start is not below its end.
+    /// Whether the span contains no byte: its start is not below its end.
     pub fn is_empty(&self) -> bool
         ensures { IsTrue result ↔ (self.now.end ≤ self.now.start) }
     {
@@ -92,7 +94,7 @@ impl HalfMatch {
         self.pattern
     }
 
-    /// Where in the haystack the match ends; for a reverse search, where it starts.
+    /// The offset in the haystack, in bytes, where the match ends; for a reverse search, where it starts.
     pub fn offset(&self) -> usize
         ensures { result ≡ self.now.offset }
     {
@@ -147,7 +149,7 @@ impl Match {
         self.span
     }
 
-    /// The offset of its first byte.
+    /// The offset of its first byte in the haystack.
     pub fn start(&self) -> usize
         ensures start { result ≡ self.now.start }
         ensures ordered { self.now.start ≤ self.now.end }
@@ -155,7 +157,7 @@ impl Match {
         self.span.start
     }
 
-    /// The offset after its last byte.
+    /// The offset after its last byte in the haystack.
     pub fn end(&self) -> usize
         ensures end { result ≡ self.now.end }
         ensures ordered { self.now.start ≤ self.now.end }
@@ -164,7 +166,7 @@ impl Match {
     }
 }
 
-/// Which matches a search reports: all of them, or those that a backtracking matcher would find first.
+/// The kind of matches that a search reports: all of them, or those that a backtracking matcher would find first.
 #[derive(Clone, Copy, Debug, PartialEq, Eq)]
 pub enum MatchKind {
     /// Each accepting path counts. A search reports the match that ends last, an overlapping search all of them.
@@ -180,7 +182,7 @@ pub enum Anchored {
     No,
     /// A match may begin at the search's start alone.
     Yes,
-    /// The same, and of this pattern alone.
+    /// A match may begin at the search's start alone, and has to be one of this pattern.
     Pattern(PatternID),
 }
 
@@ -318,7 +320,7 @@ impl<'h> Input<'h> {
     ghost use Rattle.automata_base.specs.Haystacks.Input.{Allows, IsAllowed};
     ghost use Rattle.automata_base.specs.Haystacks.Tapes.{IsHaystack, is_split};
 
-    /// The whole haystack, neither anchored nor earliest.
+    /// An input whose span is the whole haystack, neither anchored nor earliest.
     pub fn new(haystack: &'h [u8]) -> Input<'h>
         ensures { result ≡ record {
           haystack = haystack.now;
@@ -370,7 +372,7 @@ impl<'h> Input<'h> {
         })
     }
 
-    /// The same input once more. Unlike `clone`, it cannot fail.
+    /// A copy of the input. Unlike `clone`, it cannot fail.
     pub fn copied(&self) -> Input<'h>
         ensures { result ≡ self.now }
     {
@@ -466,7 +468,7 @@ impl<'h> Input<'h> {
         self.haystack
     }
 
-    /// The start of the span.
+    /// The offset in the haystack, in bytes, where the span starts.
     pub fn start(&self) -> usize
         ensures start { result ≡ self.now.start }
         ensures within { IsAllowed self.now }
@@ -474,7 +476,7 @@ impl<'h> Input<'h> {
         self.span.start
     }
 
-    /// The end of the span.
+    /// The offset in the haystack, in bytes, where the span ends.
     pub fn end(&self) -> usize
         ensures end { result ≡ self.now.end }
         ensures within { IsAllowed self.now }

@@ -25,7 +25,7 @@ impl Config {
     ghost use Rattle.std.specs.Prelude.{◌≡◌, None};
     ghost use Rattle.automata_base.specs.Haystacks.Tapes.{byte_before};
 
-    /// No look-behind byte, and not anchored.
+    /// The configuration of an unanchored search that has no look-behind byte.
     pub fn new() -> Config
         ensures { result ≡ record { look_behind = None; anchored = Anchored.No } }
     {
@@ -103,7 +103,7 @@ impl Config {
     }
 }
 
-// The byte of the haystack at an offset, if it has one there.
+/// The byte of the haystack at an offset, or none if the offset is at the haystack's end or after it.
 fn byte_at(haystack: &[u8], offset: usize) -> Option<u8>
     ensures { result ≡ slice_get haystack.now offset }
 {

@@ -19,7 +19,7 @@ impl<T> Model for Subject<T> {
 }
 
 impl<T> Subject<T> {
-    /// A value is made for this.
+    /// The subject of a value that is made for this one.
     pub fn of(made_for: &T) -> Subject<T>
         ensures { result.value ≡ made_for.now }
     {
@@ -29,7 +29,7 @@ impl<T> Subject<T> {
         }
     }
 
-    /// Another value is made for the same.
+    /// The subject of another value that is made for the same one.
     pub fn again(&self) -> Subject<T>
         ensures { result.value ≡ self.now.value }
     {

@@ -8,13 +8,14 @@ use crate::nfa::thompson::reach::Edges;
 use crate::nfa::thompson::{State, Transition};
 use crate::util::primitives::StateID;
 
-// Whether it is one of the two.
+/// Whether the state is one of the two.
 pub fn is_either(id: StateID, one: StateID, two: StateID) -> bool
     ensures { result ≡ is_either one two id }
 {
     id == one || id == two
 }
 
+/// Whether none of these states is one of the two.
 fn are_others(ids: &[StateID], one: StateID, two: StateID) -> bool
     ensures { result ≡ are_others one two ids.now }
 {
@@ -26,12 +27,14 @@ fn are_others(ids: &[StateID], one: StateID, two: StateID) -> bool
     true
 }
 
+/// Whether the edge leads to one of the two states.
 fn is_next_either(transition: &Transition, one: StateID, two: StateID) -> bool
     ensures { result ≡ is_either one two transition.now.next }
 {
     is_either(transition.next, one, two)
 }
 
+/// Whether none of the edges leads to one of the two states.
 fn lead_elsewhere(transitions: &[Transition], one: StateID, two: StateID) -> bool
     ensures { result ≡ lead_elsewhere one two transitions.now }
 {
@@ -43,6 +46,8 @@ fn lead_elsewhere(transitions: &[Transition], one: StateID, two: StateID) -> boo
     true
 }
 
+/// Whether no edge of the state leads to one of the two states. For a dense state it answers no, since it does not read
+/// its edges.
 fn leads_elsewhere(state: &State, one: StateID, two: StateID) -> bool
     ensures { result ≡ leads_elsewhere one two state.now }
 {

@@ -115,6 +115,7 @@ impl Builder {
         }
     }
 
+    /// Adds a state after the others, and returns its ID. If there is no ID left for it, it fails with `TooLarge`.
     fn add(&mut self, added: Added) -> Result<StateID, BuildError>
         ensures { IsAdding self.old self.new result (shape_added added ∷ []) }
     {
@@ -188,6 +189,8 @@ impl Builder {
         }
     }
 
+    /// Adds a capture for a group of the pattern that was started, with this slot. If none was started, it fails with
+    /// `NoPattern`.
     fn add_capture(
         &mut self,
         next: StateID,
@@ -257,21 +260,21 @@ impl Builder {
         patch(&mut self.states[from.as_usize()], to)
     }
 
-    /// Whether the NFA omits empty matches that split a UTF-8 encoded character.
+    /// Sets whether the NFA omits empty matches that split a UTF-8 encoded character.
     pub fn set_utf8(&mut self, yes: bool)
         ensures { self.new ≡ with_flags self.old (record self.old.flags { utf8 = yes }) }
     {
         self.flags.utf8 = yes;
     }
 
-    /// Whether the NFA matches the reversed texts.
+    /// Sets whether the NFA matches the reversed texts.
     pub fn set_reverse(&mut self, yes: bool)
         ensures { self.new ≡ with_flags self.old (record self.old.flags { reverse = yes }) }
     {
         self.flags.reverse = yes;
     }
 
-    /// The byte that ends a line, for the looks at lines.
+    /// Sets the byte that ends a line, for the looks at lines.
     pub fn set_line_terminator(&mut self, byte: u8)
         ensures { self.new ≡ with_flags self.old (record self.old.flags { line_terminator = byte }) }
     {

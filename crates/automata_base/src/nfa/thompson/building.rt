@@ -128,6 +128,7 @@ impl Drop for Added {
     }
 }
 
+/// Adds an alternate after the others of a union.
 fn push_alternate(alternates: &mut Vec<StateID>, to: StateID) -> Result<(), BuildError>
     ensures added { OnOk result (alternates.new.items ≡ alternates.old.items ++ to ∷ []) }
     ensures same { OnErr result (alternates.new.items ≡ alternates.old.items) }
@@ -161,6 +162,8 @@ pub fn patch(added: &mut Added, to: StateID) -> Result<(), BuildError>
     Ok(())
 }
 
+/// Makes the union of these alternates, the first of them preferred: a fail state if there are none, and a binary union
+/// if there are two.
 fn union(alternates: Vec<StateID>) -> State
     ensures { shape_of result ≡ union_of alternates.items }
 {
@@ -174,7 +177,7 @@ fn union(alternates: Vec<StateID>) -> State
     }
 }
 
-// The union whose last alternate is preferred.
+/// Makes the union of these alternates, the last of them preferred.
 fn union_reverse(alloc: Global, alternates: &[StateID]) -> Result<State, AllocError>
     ensures { IfOk result (λ state. shape_of state ≡ union_of (reverse alternates.now)) }
 {
@@ -183,7 +186,7 @@ fn union_reverse(alloc: Global, alternates: &[StateID]) -> Result<State, AllocEr
     Ok(union(reversed))
 }
 
-// The state of an NFA for one that was added.
+/// Makes the state of an NFA for one that was added to the builder.
 fn build_state(alloc: Global, added: &Added) -> Result<State, AllocError>
     ensures { IfOk result (λ state. shape_of state ≡ built_of (shape_added added.now)) }
 {
@@ -219,6 +222,7 @@ fn build_state(alloc: Global, added: &Added) -> Result<State, AllocError>
     })
 }
 
+/// Appends the state of an NFA for one that was added to the builder.
 fn push_state(alloc: Global, states: &mut Vec<State>, added: &Added) -> Result<(), AllocError>
     ensures { OnOk result (map shape_of states.new.items
         ≡ map shape_of states.old.items ++ built_of (shape_added added.now) ∷ []) }

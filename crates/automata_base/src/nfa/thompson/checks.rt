@@ -23,24 +23,28 @@ pub(super) const MAX_STATES: usize = 134_217_728;
 // 2^31, in all unions together.
 const MAX_ALTERNATES: usize = 2_147_483_648;
 
+/// Whether the state's ID is below `n`.
 fn is_below(id: StateID, n: usize) -> bool
     ensures { result ≡ ltb id n }
 {
     id.as_usize() < n
 }
 
+/// Whether the pattern's ID is below `n`.
 fn pattern_below(p: PatternID, n: usize) -> bool
     ensures { result ≡ ltb p n }
 {
     p.as_usize() < n
 }
 
+/// Whether the edge leads to a state below `n`.
 fn next_below(t: &Transition, n: usize) -> bool
     ensures { result ≡ ltb t.now.next n }
 {
     t.next.as_usize() < n
 }
 
+/// Whether each of these states is below `n`.
 fn ids_below(xs: &[StateID], n: usize) -> bool
     ensures { result ≡ all_below n xs.now }
 {
@@ -52,6 +56,7 @@ fn ids_below(xs: &[StateID], n: usize) -> bool
     true
 }
 
+/// Whether each of these edges leads to a state below `n`.
 fn targets_below(xs: &[Transition], n: usize) -> bool
     ensures { result ≡ transitions_below n xs.now }
 {
@@ -63,6 +68,7 @@ fn targets_below(xs: &[Transition], n: usize) -> bool
     true
 }
 
+/// Whether each edge of the state leads to a state below `n`.
 fn is_state_below(state: &State, n: usize) -> bool
     ensures { result ≡ state_below n state.now }
 {
@@ -79,6 +85,7 @@ fn is_state_below(state: &State, n: usize) -> bool
     }
 }
 
+/// Whether the state is no match state, or its pattern is below `n`.
 fn is_match_below(state: &State, n: usize) -> bool
     ensures { result ≡ match_below n state.now }
 {
@@ -95,6 +102,7 @@ fn is_match_below(state: &State, n: usize) -> bool
     }
 }
 
+/// Whether each edge of these states leads to a state below `n`.
 fn are_below(states: &[State], n: usize) -> bool
     ensures { result ≡ states_below n states.now }
 {
@@ -106,6 +114,7 @@ fn are_below(states: &[State], n: usize) -> bool
     true
 }
 
+/// Whether the pattern of each match state is below `n`.
 fn are_matches_below(states: &[State], n: usize) -> bool
     ensures { result ≡ matches_below n states.now }
 {
@@ -117,7 +126,8 @@ fn are_matches_below(states: &[State], n: usize) -> bool
     true
 }
 
-// Whether all states pass the tests of targets, ranges and patterns. It reads each state once.
+/// Whether all states pass the tests of targets, which are below `n`, of ranges, and of patterns, which are below
+/// `patterns`. It reads each state once.
 fn are_sound(states: &[State], n: usize, patterns: usize) -> bool
     ensures below { IsTrue result → states_below n states.now ≡ true }
     ensures ordered { IsTrue result → states_ordered states.now ≡ true }
@@ -137,7 +147,7 @@ fn are_sound(states: &[State], n: usize, patterns: usize) -> bool
     true
 }
 
-/// The looks that occur.
+/// The looks that occur in these states.
 pub fn looks_of(states: &[State]) -> LookSet
     ensures { (other : Look) → truth_of result other
         ≡ any_node (λ look. eqb (look_index look) (look_index other)) (nodes_of states.now) }
@@ -149,18 +159,21 @@ pub fn looks_of(states: &[State]) -> LookSet
     looks
 }
 
+/// Whether the range begins at byte `low` or after it, and does not end before it begins.
 fn fits(t: &Transition, low: usize) -> bool
     ensures { result ≡ (leb low t.now.lo && leb t.now.lo t.now.hi) }
 {
     low <= usize::from(t.lo) && t.lo <= t.hi
 }
 
+/// One more than the byte, 1 to 256: the least byte that the next range may begin with.
 fn above(hi: u8) -> usize
     ensures { result ≡ hi + 1 }
 {
     usize::from(hi) + 1
 }
 
+/// Whether the ranges of a sparse state are sorted, no two overlap, and none ends before it begins.
 fn is_ordered(xs: &[Transition]) -> bool
     ensures { result ≡ ordered_from 0 xs.now }
 {
@@ -175,12 +188,14 @@ fn is_ordered(xs: &[Transition]) -> bool
     true
 }
 
+/// Whether the range from `lo` to `hi` does not end before it begins.
 fn is_range(lo: u8, hi: u8) -> bool
     ensures { result ≡ leb lo hi }
 {
     lo <= hi
 }
 
+/// Whether the ranges of the state are in order. Those of a state without ranges are.
 fn is_state_ordered(state: &State) -> bool
     ensures { result ≡ state_ordered state.now }
 {
@@ -197,6 +212,7 @@ fn is_state_ordered(state: &State) -> bool
     }
 }
 
+/// Whether the ranges of each state are in order.
 fn are_ordered(states: &[State]) -> bool
     ensures { result ≡ states_ordered states.now }
 {
@@ -208,6 +224,7 @@ fn are_ordered(states: &[State]) -> bool
     true
 }
 
+/// How many alternates the state has: two if it is a binary union, and none if it is no union.
 fn count_alternates(state: &State) -> usize
     ensures count { result ≡ alternates_of state.now }
 {
@@ -243,12 +260,14 @@ pub fn room_of(states: &[State]) -> Option<usize>
     Some(room)
 }
 
+/// Whether there are at most 2^27 states and at most 2^27 patterns.
 fn has_few(states: &[State], starts: &[StateID]) -> bool
     ensures { result ≡ is_small states.now starts.now }
 {
     states.len() <= MAX_STATES && starts.len() <= MAX_STATES
 }
 
+/// Whether the anchored start, the unanchored one, and those of the patterns are below `n`.
 fn are_starts(n: usize, anchored: StateID, unanchored: StateID, starts: &[StateID]) -> bool
     ensures { result ≡ starts_below n anchored unanchored starts.now }
 {

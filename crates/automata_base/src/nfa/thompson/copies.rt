@@ -18,7 +18,7 @@ use crate::util::determinize::sparse_set::SparseSet;
 use crate::util::primitives::{PatternID, StateID};
 use std::alloc::{AllocError, Global};
 
-// The number of a member's copy, if the copies begin at `base`.
+/// The ID of a member's copy, if the copies of the set's members begin at `base`.
 fn copy_id(set: &SparseSet, base: StateID, id: StateID) -> StateID
     requires member { In id set.now.items }
     requires room { base + length set.now.items ≤ 2 ^ 27 }
@@ -27,6 +27,7 @@ fn copy_id(set: &SparseSet, base: StateID, id: StateID) -> StateID
     StateID::new_unchecked((base.as_usize() + set.place(id)) as u32)
 }
 
+/// Adds an ID after the others of a list.
 fn push_id(ids: &mut Vec<StateID>, id: StateID) -> Result<(), AllocError>
     ensures { OnOk result (ids.new.items ≡ ids.old.items ++ id ∷ []) }
 {
@@ -34,6 +35,7 @@ fn push_id(ids: &mut Vec<StateID>, id: StateID) -> Result<(), AllocError>
     Ok(())
 }
 
+/// The IDs of the copies of these members, in their order, if the copies of the set's members begin at `base`.
 fn copy_ids(
     alloc: Global,
     set: &SparseSet,
@@ -52,7 +54,7 @@ fn copy_ids(
     Ok(copies)
 }
 
-// The copy of a reversed state: its targets are their copies, and its match is of the pattern.
+/// Copies a reversed state for a pattern: its targets are their copies, and its match is one of the pattern.
 fn copy_state(
     alloc: Global,
     set: &SparseSet,
@@ -90,7 +92,7 @@ fn copy_state(
     }
 }
 
-/// Adds a state after the others.
+/// Adds a state after the others of a list.
 pub fn push_state(states: &mut Vec<State>, state: State) -> Result<(), AllocError>
     ensures nodes { OnOk result (nodes_of states.new.items ≡ nodes_of states.old.items ++ node_of state ∷ []) }
     ensures more { OnOk result (length states.new.items ≡ length states.old.items + 1) }
@@ -99,7 +101,7 @@ pub fn push_state(states: &mut Vec<State>, state: State) -> Result<(), AllocErro
     Ok(())
 }
 
-// The copies of a set's members, one after the other.
+/// Appends the copies of a set's members for a pattern, in their order. The first copy has the ID `base`.
 fn copy_all(
     alloc: Global,
     set: &SparseSet,
@@ -122,7 +124,7 @@ fn copy_all(
     Ok(())
 }
 
-// Adds the state to the list of the pattern that it matches, if it is a match.
+/// Adds the state to the list of the pattern that it matches, if it is a match state and the pattern has a list.
 fn list_match(
     lists: &mut Vec<Vec<StateID>>,
     found: Option<PatternID>,
@@ -142,7 +144,7 @@ fn list_match(
     Ok(())
 }
 
-// For each pattern its match states among these.
+/// The match states among these, in a list for each pattern.
 fn matches_by_pattern(
     alloc: Global,
     states: &[State],
@@ -168,7 +170,8 @@ pub struct Parts {
     pub entries: Vec<StateID>,
 }
 
-// Where the copies of the members begin, if there is room for them and for one state more.
+/// The ID of the first copy of the set's members: the number of states. It is none if with these copies and one state
+/// more there were more than 2^27.
 fn base_of(states: &[State], set: &SparseSet) -> Option<StateID>
     requires { set.now.capacity ≤ 2 ^ 27 }
     ensures some { (base : ℕ) → result ≡ Some base
@@ -185,7 +188,8 @@ fn base_of(states: &[State], set: &SparseSet) -> Option<StateID>
     Some(StateID::new_unchecked(states.len() as u32))
 }
 
-// Adds the copies, for a pattern, of what is reached from its roots.
+/// Adds the copies, for a pattern, of what is reached from its roots, and after them its entry, the union of the roots'
+/// copies. It overwrites the set.
 fn add_part(
     alloc: Global,
     turned: &[State],
@@ -216,7 +220,7 @@ fn add_part(
     Ok(())
 }
 
-/// The copies for each pattern.
+/// Copies, for each pattern, what is reached in the reversed states from the pattern's match states.
 pub fn parts_of(
     alloc: Global,
     states: &[State],

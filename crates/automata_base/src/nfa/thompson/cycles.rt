@@ -19,8 +19,8 @@ use crate::util::look::LookSet;
 use crate::util::primitives::StateID;
 use std::alloc::{AllocError, Global};
 
-// Adds the states that epsilon edges reach from this look, and returns whether the look is then a member. Before the
-// call, members have to lead to members only.
+/// Adds the states that epsilon edges reach from the look's target, and returns whether the look itself is then a
+/// member. Before the call, members have to lead to members only. A state that is no look adds nothing.
 fn reaches_look(set: &mut SparseSet, states: &[State], q: StateID) -> bool
     requires few { length states.now ≤ 2 ^ 27 }
     requires range { states_below (length states.now) states.now ≡ true }
@@ -43,8 +43,8 @@ fn reaches_look(set: &mut SparseSet, states: &[State], q: StateID) -> bool
     set.contains(q)
 }
 
-// Whether no look is on a cycle. One walk goes on from look to look in a finishing order, so the first look that it
-// returns to is on one.
+/// Whether no look is on a cycle of epsilon edges. One walk goes on from look to look in a finishing order, so the
+/// first look that it returns to is on one.
 fn are_acyclic_in(set: &mut SparseSet, states: &[State], order: &[StateID]) -> bool
     requires few { length states.now ≤ 2 ^ 27 }
     requires range { states_below (length states.now) states.now ≡ true }

@@ -32,7 +32,7 @@ struct Edge {
     target: StateID,
 }
 
-// The first edge, from this one on, that leads to an unvisited state.
+/// The first epsilon edge of the state, from number `from` on, that leads to an unvisited state.
 fn next_edge(visited: &SparseSet, state: &State, from: usize) -> Option<Edge>
     requires range { state_below visited.now.capacity state.now ≡ true }
     requires followed { (r : ℕ) → In r (take from (children_at (node_of state.now) all_true)) → In r visited.now.items }
@@ -53,6 +53,7 @@ fn next_edge(visited: &SparseSet, state: &State, from: usize) -> Option<Edge>
     None
 }
 
+/// Marks a state as visited. It has to be unvisited.
 fn mark(visited: &mut SparseSet, id: StateID)
     requires below { id < visited.old.capacity }
     requires new { In id visited.old.items → ⊥ }
@@ -66,7 +67,8 @@ fn mark(visited: &mut SparseSet, id: StateID)
     let _ = visited.as_slice();
 }
 
-// Follows one more edge from the state on top, or finishes it.
+/// Follows one more edge from the state that was on top of the stack, or finishes that state if none leads to an
+/// unvisited one.
 fn step(
     states: &[State],
     frame: Frame,
@@ -104,7 +106,7 @@ fn step(
     Ok(())
 }
 
-// Searches from this state, unless it is visited.
+/// Searches depth first from this state, unless it is visited, and finishes all states that it visits.
 fn search_from(
     states: &[State],
     root: StateID,
@@ -137,7 +139,7 @@ fn search_from(
     Ok(())
 }
 
-// Searches from each state.
+/// Searches depth first from each state in turn, until all are finished.
 fn search_all(
     states: &[State],
     stack: &mut Vec<Frame>,

@@ -352,6 +352,8 @@ impl NFA {
         )
     }
 
+    /// Makes the NFA of lists that have passed the tests of `from_states`, and computes what it keeps beside them.
+    /// `room` is how many states may wait on the stack of a closure. The only error is out of memory.
     fn make(
         alloc: Global,
         states: Vec<State>,
@@ -622,7 +624,8 @@ impl NFA {
         Ok(reversed)
     }
 
-    // Whether the empty match is reached from the start of some pattern exactly if it is from the anchored start.
+    /// Whether the empty match is reached from the start of some pattern exactly if it is reached from the anchored
+    /// start.
     fn begins_alike(&self) -> Result<bool, AllocError>
         ensures { IfOk result (λ alike. IsTrue alike ↔ BeginsAlike self.now) }
     {
@@ -630,7 +633,7 @@ impl NFA {
         Ok(begins == self.has_empty())
     }
 
-    // The reversed NFA, if the starts begin alike. If they do not, no memory is asked for.
+    /// The reversed NFA, if the starts begin alike. If they do not, it fails with `Starts` and asks for no memory.
     fn reversed_if(&self, alike: bool) -> Result<NFA, ReverseError>
         requires { IsTrue alike ↔ BeginsAlike self.now }
         ensures turned { IfOk result (λ reversed. IsReversed self.now reversed) }
@@ -654,7 +657,8 @@ impl NFA {
         Ok(reversed)
     }
 
-    // The reversed NFA, by its states.
+    /// The reversed NFA of these states, with the reverse flag flipped and the other flags as they are here. If its
+    /// unions have too many alternates, it fails with `TooLarge`.
     fn mirrored(&self, mirror: Mirror) -> Result<NFA, ReverseError>
         requires fit { IsFit
             self.now.states (length self.now.start_pattern) mirror.states.items mirror.entries.items mirror.root }

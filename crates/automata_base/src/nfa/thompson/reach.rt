@@ -40,6 +40,7 @@ pub fn add(set: &mut SparseSet, id: StateID)
     set.insert(id);
 }
 
+/// Adds those of the states that are not members, in their order.
 fn add_ids(set: &mut SparseSet, ids: &[StateID])
     requires { all_below set.old.capacity ids.now ≡ true }
     ensures items { set.new.items ≡ once_from set.old.items ids.now }
@@ -50,6 +51,7 @@ fn add_ids(set: &mut SparseSet, ids: &[StateID])
     }
 }
 
+/// Adds the state that the edge leads to, if it is not a member.
 fn add_next(set: &mut SparseSet, transition: &Transition)
     requires { transition.now.next < set.old.capacity }
     ensures items { set.new.items ≡ once_from set.old.items (transition.now.next ∷ []) }
@@ -58,6 +60,7 @@ fn add_next(set: &mut SparseSet, transition: &Transition)
     add(set, transition.next);
 }
 
+/// Adds the states that the edges lead to, those that are not members, in the order of the edges.
 fn add_nexts(set: &mut SparseSet, transitions: &[Transition])
     requires { transitions_below set.old.capacity transitions.now ≡ true }
     ensures items { set.new.items ≡ once_from set.old.items (nexts (ranges_of transitions.now)) }
@@ -68,7 +71,7 @@ fn add_nexts(set: &mut SparseSet, transitions: &[Transition])
     }
 }
 
-// Adds a target of a dense state: state 0 stands for no edge.
+/// Adds a target of a dense state, if it is not a member. Target 0 stands for no edge.
 fn add_dense(set: &mut SparseSet, target: StateID)
     requires { target < set.old.capacity }
     ensures items { set.new.items ≡ once_from set.old.items (nexts (dense_from 0 (target ∷ []))) }
@@ -80,6 +83,7 @@ fn add_dense(set: &mut SparseSet, target: StateID)
     add(set, target);
 }
 
+/// Adds the targets of a dense state, those that are not members, in the order of its bytes.
 fn add_all_dense(set: &mut SparseSet, targets: &[StateID])
     requires { all_below set.old.capacity targets.now ≡ true }
     ensures items { set.new.items ≡ once_from set.old.items (nexts (dense_from 0 targets.now)) }
@@ -90,6 +94,7 @@ fn add_all_dense(set: &mut SparseSet, targets: &[StateID])
     }
 }
 
+/// Adds the states that epsilon edges lead to from this state, looks taken as true.
 fn add_epsilon_targets(set: &mut SparseSet, state: &State)
     requires { state_below set.old.capacity state.now ≡ true }
     ensures items { set.new.items ≡ once_from set.old.items (children_at (node_of state.now) all_true) }
@@ -108,6 +113,7 @@ fn add_epsilon_targets(set: &mut SparseSet, state: &State)
     }
 }
 
+/// Adds the states that byte edges lead to from this state.
 fn add_byte_targets(set: &mut SparseSet, state: &State)
     requires { state_below set.old.capacity state.now ≡ true }
     ensures items { set.new.items ≡ once_from set.old.items (byte_targets (node_of state.now)) }
@@ -126,6 +132,7 @@ fn add_byte_targets(set: &mut SparseSet, state: &State)
     }
 }
 
+/// Adds the states that edges of this kind lead to from this state.
 fn add_targets(set: &mut SparseSet, state: &State, edges: Edges)
     requires { state_below set.old.capacity state.now ≡ true }
     ensures items { set.new.items ≡ once_from set.old.items (targets_at edges (node_of state.now)) }
@@ -138,7 +145,7 @@ fn add_targets(set: &mut SparseSet, state: &State, edges: Edges)
     }
 }
 
-// The member at this index, in the order in which members were added.
+/// The member at this index, in the order in which members were added, or none if there are fewer.
 pub fn member(set: &SparseSet, at: usize) -> Option<StateID>
     ensures some { (id : ℕ) → result ≡ Some id
         → (at < length set.now.items) × (id ≡ get_or set.now.items at id)
@@ -202,13 +209,14 @@ pub fn reach(
     Ok(set)
 }
 
-/// Whether it is a match state.
+/// Whether the state is a match state.
 pub fn is_match(state: &State) -> bool
     ensures { IsTrue result ↔ IsMatchAt (node_of state.now) }
 {
     pattern_of(state).is_some()
 }
 
+/// Whether one of these states is a match state.
 fn is_some_match(states: &[State], ids: &[StateID]) -> bool
     requires { (q : ℕ) → In q ids.now → q < length states.now }
     ensures { IsTrue result ↔ ((q : ℕ) × In q ids.now × IsMatchAt (node_in states.now q)) }
@@ -254,8 +262,8 @@ pub fn reaches_match(alloc: Global, states: &[State], roots: &[StateID]) -> Resu
     Ok(reaches_match_in(&mut set, states, roots))
 }
 
-// Whether edges lead from the root to the target. In most NFAs only a loop of the target and one state leads to these
-// two, and then no walk is needed.
+/// Whether edges lead from the root to the target. In most NFAs only a loop of the target and the state `through` leads
+/// to these two, and then no walk is needed.
 fn leads_back(
     set: &mut SparseSet,
     states: &[State],
@@ -277,6 +285,7 @@ fn leads_back(
     set.contains(target)
 }
 
+/// The second of two alternates, if the first is `first`, and none if there are not two.
 fn second(alternates: &[StateID], first: StateID) -> Option<StateID>
     ensures { result ≡ second_of alternates.now first }
 {
@@ -286,7 +295,7 @@ fn second(alternates: &[StateID], first: StateID) -> Option<StateID>
     Some(alternates[1])
 }
 
-// The second of two alternates, if the first is `first`.
+/// The second alternate of a union of two, if the first is `first`.
 fn second_alternate(state: &State, first: StateID) -> Option<StateID>
     ensures { result ≡ second_at (node_of state.now) first }
 {
@@ -303,14 +312,14 @@ fn second_alternate(state: &State, first: StateID) -> Option<StateID>
     }
 }
 
-// Whether a range has each byte, and leads to the target.
+/// Whether the range has each byte and leads to the target.
 fn is_whole(lo: u8, hi: u8, next: StateID, target: StateID) -> bool
     ensures { IsTrue result ↔ (Read (record { lo = lo; hi = hi; next = next } ∷ []) ≡ any_byte target) }
 {
     lo == 0 && hi == 255 && next == target
 }
 
-// Whether they are one range, which is such a one.
+/// Whether these are one range, which has each byte and leads to the target.
 fn are_whole(ranges: &[Transition], target: StateID) -> bool
     ensures { IsTrue result ↔ (Read (ranges_of ranges.now) ≡ any_byte target) }
 {
@@ -321,7 +330,7 @@ fn are_whole(ranges: &[Transition], target: StateID) -> bool
     is_whole(range.lo, range.hi, range.next, target)
 }
 
-// Whether any byte leads to the target, by one range.
+/// Whether the state leads to the target on any byte, by one range.
 fn is_any_byte(state: &State, target: StateID) -> bool
     ensures { IsTrue result ↔ (node_of state.now ≡ any_byte target) }
 {

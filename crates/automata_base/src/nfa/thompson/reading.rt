@@ -118,13 +118,14 @@ pub fn epsilon_target(state: &State, edge: usize) -> Option<StateID>
     }
 }
 
-// Whether the range contains the byte.
+/// Whether the range contains the byte.
 fn has(t: &Transition, u: u8) -> bool
     ensures { result ≡ within t.now.lo t.now.hi u }
 {
     t.lo <= u && u <= t.hi
 }
 
+/// The state that a sparse state leads to on a byte, by the first range that contains it.
 fn sparse_target(transitions: &[Transition], u: u8) -> Option<StateID>
     ensures { result ≡ takes_in (ranges_of transitions.now) u }
 {
@@ -136,12 +137,14 @@ fn sparse_target(transitions: &[Transition], u: u8) -> Option<StateID>
     None
 }
 
+/// Whether the ID is 0, which stands for no edge among the targets of a dense state.
 fn is_zero(id: StateID) -> bool
     ensures { result ≡ eqb id 0 }
 {
     id.as_usize() == 0
 }
 
+/// The state that a dense state leads to on a byte. Target 0 stands for no edge.
 fn dense_target(targets: &[StateID; 256], u: u8) -> Option<StateID>
     ensures { result ≡ takes_in (dense_from 0 targets.now) u }
 {

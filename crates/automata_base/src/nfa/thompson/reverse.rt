@@ -27,7 +27,9 @@ pub fn reverse_error(error: MakeError) -> ReverseError
     }
 }
 
-// For each state the union of what its edges are reversed to, and after these a state for each reversed edge.
+/// The reversed states of what is reached: for each state the union of what its edges are reversed to, and after these
+/// a state for each reversed edge that reads a byte or tests a look. If there are more than 2^27, it fails with
+/// `TooLarge`.
 fn turned_states(
     alloc: Global,
     states: &[State],
@@ -61,7 +63,8 @@ pub struct Mirror {
     pub root: StateID,
 }
 
-// The parts for each pattern, and the root, which goes on to their entries.
+/// Adds the root after the parts of the patterns: a union that goes on to their entries. If there are 2^27 states
+/// before, it fails with `TooLarge`.
 fn rooted(alloc: Global, parts: Parts) -> Result<Mirror, MakeError>
     ensures nodes { IfOk result (λ m. nodes_of m.states.items
         ≡ nodes_of parts.states.items ++ Node.Split parts.entries.items ∷ []) }
@@ -87,7 +90,7 @@ fn rooted(alloc: Global, parts: Parts) -> Result<Mirror, MakeError>
     })
 }
 
-/// Reverses what is reached from the first state.
+/// Makes the states of the reversed NFA of what is reached from the first state.
 pub fn reverse_states(
     alloc: Global,
     states: &[State],

@@ -41,6 +41,7 @@ fn flip(look: Look) -> Look
     }
 }
 
+/// Adds a state after the others of a list.
 fn push_state(states: &mut Vec<State>, state: State) -> Result<(), AllocError>
     ensures { OnOk result (states.new.items ≡ states.old.items ++ state ∷ []) }
 {
@@ -48,7 +49,7 @@ fn push_state(states: &mut Vec<State>, state: State) -> Result<(), AllocError>
     Ok(())
 }
 
-/// So many lists, all of them empty.
+/// A number of lists, all of them empty.
 pub fn no_lists(alloc: Global, count: usize) -> Result<Vec<Vec<StateID>>, AllocError>
     ensures none { IfOk result (λ v. lists_of v.items ≡ no_lists count) }
     ensures few { IfOk result (λ v. length v.items ≡ count) }
@@ -60,7 +61,7 @@ pub fn no_lists(alloc: Global, count: usize) -> Result<Vec<Vec<StateID>>, AllocE
     Ok(lists)
 }
 
-/// Adds it after the others of a list.
+/// Adds a state after the others of the list at an index.
 pub fn push_at(lists: &mut Vec<Vec<StateID>>, at: usize, id: StateID) -> Result<(), AllocError>
     requires { at < length lists.old.items }
     ensures pushed { OnOk result (lists_of lists.new.items ≡ push_at (lists_of lists.old.items) at id) }
@@ -70,7 +71,7 @@ pub fn push_at(lists: &mut Vec<Vec<StateID>>, at: usize, id: StateID) -> Result<
     Ok(())
 }
 
-// Whether it is the last one.
+/// Whether the state is the last of these.
 fn ends_in(ids: &[StateID], id: StateID) -> bool
     ensures { result ≡ ends_in ids.now id }
 {
@@ -80,7 +81,7 @@ fn ends_in(ids: &[StateID], id: StateID) -> bool
     }
 }
 
-// Adds it after the others, unless it is the last of them.
+/// Adds a state after the others, unless it is the last of them.
 fn put(ids: &mut Vec<StateID>, id: StateID) -> Result<(), AllocError>
     ensures { OnOk result (ids.new.items ≡ put ids.old.items id) }
 {
@@ -91,6 +92,7 @@ fn put(ids: &mut Vec<StateID>, id: StateID) -> Result<(), AllocError>
     Ok(())
 }
 
+/// Adds a state after the others of the list at an index, unless it is the last of that list.
 fn put_at(lists: &mut Vec<Vec<StateID>>, at: usize, id: StateID) -> Result<(), AllocError>
     requires { at < length lists.old.items }
     ensures put { OnOk result (lists_of lists.new.items ≡ put_at (lists_of lists.old.items) at id) }
@@ -100,7 +102,7 @@ fn put_at(lists: &mut Vec<Vec<StateID>>, at: usize, id: StateID) -> Result<(), A
     Ok(())
 }
 
-// A copy of a state, if it has no list.
+/// A copy of the state, if it reads one range of bytes, tests a look or matches, and none otherwise.
 fn same(state: &State) -> Option<State>
     ensures { (other : State) → result ≡ Some other → other ≡ state.now }
 {
@@ -124,7 +126,8 @@ fn same(state: &State) -> Option<State>
     }
 }
 
-// The helper that is the only alternate.
+/// A copy of the helper that is the only alternate, or none if there is not one alternate alone or it is no helper. The
+/// first helper has the ID `first`.
 fn only_helper(alternates: &[StateID], helpers: &[State], first: usize) -> Option<State>
     ensures { (state : State) → result ≡ Some state
         → (j : ℕ) × (alternates.now ≡ (first + j) ∷ []) × (slice_get helpers.now j ≡ Some state) }
@@ -139,7 +142,8 @@ fn only_helper(alternates: &[StateID], helpers: &[State], first: usize) -> Optio
     same(&helpers[at])
 }
 
-// The state of these alternates: their union, or the helper itself if it is the only one.
+/// The state of these alternates: their union, or the helper itself if it is the only one. The first helper has the ID
+/// `first`.
 fn head(alternates: Vec<StateID>, helpers: &[State], first: usize) -> State
     ensures { IsHead first helpers.now alternates.items result }
 {
@@ -149,7 +153,7 @@ fn head(alternates: Vec<StateID>, helpers: &[State], first: usize) -> State
     }
 }
 
-// Whether the byte after this one leads to the same state.
+/// Whether a dense state leads to the same state on this byte and on the one after it. Byte 255 has none after it.
 fn goes_on(targets: &[StateID; 256], byte: usize) -> bool
     requires { byte < 256 }
     ensures { result ≡ starts_with (slice_index_or targets.now byte 0) (drop (byte + 1) targets.now) }
@@ -157,7 +161,7 @@ fn goes_on(targets: &[StateID; 256], byte: usize) -> bool
     byte < 255 && targets[byte + 1] == targets[byte]
 }
 
-/// Why the states cannot be made.
+/// Why the states of a reversed NFA cannot be made.
 #[derive(Clone, Copy)]
 pub enum MakeError {
     /// There would be too many.
@@ -186,7 +190,7 @@ pub struct EdgesByTarget {
 }
 
 impl EdgesByTarget {
-    /// No edge to any of so many states.
+    /// The reversed edges of an NFA with so many states, before any edge is reversed.
     pub fn new(alloc: Global, states: usize) -> Result<EdgesByTarget, AllocError>
         ensures none { IfOk result (λ t. turns_of t ≡ record { lists = no_lists states; helpers = [] }) }
         ensures few { IfOk result (λ t. length t.lists.items ≡ states) }
@@ -198,7 +202,7 @@ impl EdgesByTarget {
         })
     }
 
-    // The number of the next helper.
+    /// The ID of the next helper, or none if there is no ID left.
     fn next_helper(&self) -> Option<StateID>
         ensures some { (id : ℕ) → result ≡ Some id → id ≡ size (turns_of self.now) }
         ensures none { result ≡ None → 2 ^ 27 < size (turns_of self.now) }
@@ -206,7 +210,8 @@ impl EdgesByTarget {
         StateID::new(self.lists.len() + self.helpers.len())
     }
 
-    // The state `x` leads to `to` freely. Its edges are turned one after another, so that it is no alternate twice.
+    /// Reverses an edge from the state `x` to `to` that reads and tests nothing. The edges of a state are reversed one
+    /// after another, so that it is no alternate twice.
     fn turn_free(&mut self, x: StateID, to: StateID) -> Result<(), AllocError>
         requires { to < length self.old.lists.items }
         ensures turned { OnOk result (turns_of self.new ≡ turn_free (turns_of self.old) x to) }
@@ -216,7 +221,8 @@ impl EdgesByTarget {
         Ok(())
     }
 
-    // A helper stands for an edge to `to`.
+    /// Adds a helper that stands for an edge to `to`, as an alternate of `to`. If there is no ID left, it fails with
+    /// `TooLarge`.
     fn turn_by(&mut self, helper: State, to: StateID) -> Result<(), MakeError>
         requires { to < length self.old.lists.items }
         ensures turned { OnOk result (turns_of self.new ≡ turn_by (turns_of self.old) helper to) }
@@ -232,6 +238,7 @@ impl EdgesByTarget {
         Ok(())
     }
 
+    /// Reverses the edges from a state to its alternates.
     fn turn_all(&mut self, from: StateID, alternates: &[StateID]) -> Result<(), AllocError>
         requires { all_below (length self.old.lists.items) alternates.now ≡ true }
         ensures turned { OnOk result (turns_of self.new ≡ turn_all (turns_of self.old) from alternates.now) }
@@ -243,6 +250,7 @@ impl EdgesByTarget {
         Ok(())
     }
 
+    /// Reverses the edge of a range of bytes.
     fn turn_range(&mut self, from: StateID, range: &Transition) -> Result<(), MakeError>
         requires { range.now.next < length self.old.lists.items }
         ensures turned { OnOk result (turns_of self.new
@@ -260,6 +268,7 @@ impl EdgesByTarget {
         self.turn_by(helper, range.next)
     }
 
+    /// Reverses the edges of the ranges of a state.
     fn turn_ranges(&mut self, from: StateID, ranges: &[Transition]) -> Result<(), MakeError>
         requires { transitions_below (length self.old.lists.items) ranges.now ≡ true }
         ensures turned { OnOk result (turns_of self.new ≡ turn_ranges (turns_of self.old) from ranges.now) }
@@ -273,7 +282,7 @@ impl EdgesByTarget {
         Ok(())
     }
 
-    // Reverses the edge of the bytes from `lo` to `hi` of a dense state: target 0 stands for no edge.
+    /// Reverses the edge of the bytes from `lo` to `hi` of a dense state. Target 0 stands for no edge.
     fn turn_run(&mut self, from: StateID, lo: u8, hi: u8, target: StateID) -> Result<(), MakeError>
         requires { target < length self.old.lists.items }
         ensures turned { OnOk result (turns_of self.new
@@ -289,8 +298,8 @@ impl EdgesByTarget {
         self.turn_by(helper, target)
     }
 
-    // Reverses the run of bytes that begins at `lo`, if it ends at this byte, and returns where the run of the next
-    // byte begins.
+    /// Reverses the run of bytes of a dense state that begins at `lo`, if it ends at this byte, and returns where the
+    /// run of the next byte begins.
     fn turn_byte(
         &mut self,
         from: StateID,
@@ -316,6 +325,7 @@ impl EdgesByTarget {
         Ok(byte + 1)
     }
 
+    /// Reverses the edges of a dense state, one for each run of bytes that lead to the same state.
     fn turn_targets(&mut self, from: StateID, targets: &[StateID; 256]) -> Result<(), MakeError>
         requires { all_below (length self.old.lists.items) targets.now ≡ true }
         ensures turned { OnOk result (turns_of self.new
@@ -331,6 +341,7 @@ impl EdgesByTarget {
         Ok(())
     }
 
+    /// Reverses the edge of a look, which is flipped.
     fn turn_look(&mut self, from: StateID, look: Look, to: StateID) -> Result<(), MakeError>
         requires { to < length self.old.lists.items }
         ensures turned { OnOk result (turns_of self.new
@@ -346,7 +357,7 @@ impl EdgesByTarget {
         self.turn_by(helper, to)
     }
 
-    // Reverses each edge of a state.
+    /// Reverses each edge of a state.
     fn turn_state(&mut self, from: StateID, state: &State) -> Result<(), MakeError>
         requires { state_below (length self.old.lists.items) state.now ≡ true }
         ensures turned { OnOk result (turns_of self.new ≡ turn_state (turns_of self.old) from state.now) }

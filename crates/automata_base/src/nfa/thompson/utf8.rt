@@ -78,6 +78,7 @@ fn pair(state: StateID, decoder: usize) -> StateID
     StateID::new_unchecked(state.as_u32() * STATES as u32 + decoder as u32)
 }
 
+/// Adds the pair of these two states, if it is not a member.
 fn add_pair(set: &mut SparseSet, state: StateID, decoder: usize)
     requires few { set.old.capacity ≤ 2 ^ 27 * 11 }
     requires decoder { decoder < 11 }
@@ -88,6 +89,7 @@ fn add_pair(set: &mut SparseSet, state: StateID, decoder: usize)
     add(set, pair(state, decoder));
 }
 
+/// Adds the pair of each of these states and the decoder's, those that are not members.
 fn add_pairs(set: &mut SparseSet, ids: &[StateID], decoder: usize)
     requires few { set.old.capacity ≤ 2 ^ 27 * 11 }
     requires decoder { decoder < 11 }
@@ -100,13 +102,14 @@ fn add_pairs(set: &mut SparseSet, ids: &[StateID], decoder: usize)
     }
 }
 
-// Whether a range and a class have a byte in common.
+/// Whether a range and a class have a byte in common.
 fn meets(class: &Class, range: &Transition) -> bool
     ensures { result ≡ meets class.now (range_of range.now) }
 {
     class.first <= range.hi && range.lo <= class.last
 }
 
+/// Adds the pair that a range leads to by the bytes of a class, if they have one in common.
 fn add_class(set: &mut SparseSet, range: &Transition, class: &Class, decoder: usize)
     requires few { set.old.capacity ≤ 2 ^ 27 * 11 }
     requires decoder { decoder < 11 }
@@ -120,6 +123,7 @@ fn add_class(set: &mut SparseSet, range: &Transition, class: &Class, decoder: us
     }
 }
 
+/// Adds the pairs that a range leads to, one for each class that it meets.
 fn add_range(set: &mut SparseSet, range: &Transition, classes: &[Class], decoder: usize)
     requires few { set.old.capacity ≤ 2 ^ 27 * 11 }
     requires decoder { decoder < 11 }
@@ -133,6 +137,7 @@ fn add_range(set: &mut SparseSet, range: &Transition, classes: &[Class], decoder
     }
 }
 
+/// Adds the pairs that the ranges of a state lead to.
 fn add_ranges(set: &mut SparseSet, ranges: &[Transition], classes: &[Class], decoder: usize)
     requires few { set.old.capacity ≤ 2 ^ 27 * 11 }
     requires decoder { decoder < 11 }
@@ -147,7 +152,7 @@ fn add_ranges(set: &mut SparseSet, ranges: &[Transition], classes: &[Class], dec
     }
 }
 
-// Adds the pairs to which a dense state leads on the byte: target 0 stands for no edge.
+/// Adds the pairs that a dense state leads to on the byte. Target 0 stands for no edge.
 fn add_target(set: &mut SparseSet, byte: usize, target: StateID, classes: &[Class], decoder: usize)
     requires few { set.old.capacity ≤ 2 ^ 27 * 11 }
     requires decoder { decoder < 11 }
@@ -170,6 +175,7 @@ fn add_target(set: &mut SparseSet, byte: usize, target: StateID, classes: &[Clas
     add_range(set, &range, classes, decoder);
 }
 
+/// Adds the pairs that a dense state leads to, byte by byte.
 fn add_targets(set: &mut SparseSet, targets: &[StateID; 256], classes: &[Class], decoder: usize)
     requires few { set.old.capacity ≤ 2 ^ 27 * 11 }
     requires decoder { decoder < 11 }
@@ -184,6 +190,7 @@ fn add_targets(set: &mut SparseSet, targets: &[StateID; 256], classes: &[Class],
     }
 }
 
+/// Adds the pairs that epsilon edges lead to, looks taken as true. The decoder's state stays.
 fn add_free(set: &mut SparseSet, state: &State, decoder: usize)
     requires few { set.old.capacity ≤ 2 ^ 27 * 11 }
     requires decoder { decoder < 11 }
@@ -205,6 +212,7 @@ fn add_free(set: &mut SparseSet, state: &State, decoder: usize)
     }
 }
 
+/// Adds the pairs that byte edges lead to.
 fn add_byte(set: &mut SparseSet, state: &State, classes: &[Class], decoder: usize)
     requires few { set.old.capacity ≤ 2 ^ 27 * 11 }
     requires decoder { decoder < 11 }
@@ -233,6 +241,7 @@ fn add_byte(set: &mut SparseSet, state: &State, classes: &[Class], decoder: usiz
     }
 }
 
+/// Adds the pairs that the edges of a state lead to.
 fn add_state(set: &mut SparseSet, state: &State, classes: &[Class], decoder: usize)
     requires few { set.old.capacity ≤ 2 ^ 27 * 11 }
     requires decoder { decoder < 11 }
@@ -245,7 +254,7 @@ fn add_state(set: &mut SparseSet, state: &State, classes: &[Class], decoder: usi
     add_byte(set, state, classes, decoder);
 }
 
-// Adds the pairs that those of the set lead to.
+/// Adds the pairs that are reached from the members.
 fn follow(set: &mut SparseSet, states: &[State], classes: &[Class])
     requires few { length states.now ≤ 2 ^ 27 }
     requires range { states_below (length states.now) states.now ≡ true }
@@ -263,7 +272,7 @@ fn follow(set: &mut SparseSet, states: &[State], classes: &[Class])
     }
 }
 
-// Whether the pair is not at a match state, or is between two characters.
+/// Whether the pair is at no match state, or is between two characters.
 fn is_boundary(states: &[State], id: StateID) -> bool
     requires { id / 11 < length states.now }
     ensures { IsTrue result ↔ IsBoundary states.now id }
@@ -272,6 +281,7 @@ fn is_boundary(states: &[State], id: StateID) -> bool
     number % STATES == 0 || !is_match(&states[number / STATES])
 }
 
+/// Whether each pair that is at a match state is between two characters.
 fn are_boundaries(states: &[State], ids: &[StateID]) -> bool
     requires { (x : ℕ) → In x ids.now → x / 11 < length states.now }
     ensures { IsTrue result ↔ ((x : ℕ) → In x ids.now → IsBoundary states.now x) }

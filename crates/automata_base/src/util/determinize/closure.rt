@@ -16,7 +16,7 @@ use crate::util::determinize::sparse_set::SparseSet;
 use crate::util::look::LookSet;
 use crate::util::primitives::StateID;
 
-// Puts the states on the stack, the first of them on top.
+/// Puts the states on the stack, the first of them on top. The stack has room for them.
 fn push_reversed(stack: &mut Vec<StateID>, states: &[StateID])
     requires { vec_len stack.old + length states.now ≤ vec_capacity stack.old }
     ensures pushed { stack.new.items ≡ stack.old.items ++ reverse states.now }
@@ -27,7 +27,7 @@ fn push_reversed(stack: &mut Vec<StateID>, states: &[StateID])
     }
 }
 
-// Whether no epsilon edge leaves the state.
+/// Whether no epsilon edge leaves the state.
 fn is_leaf(state: &State) -> bool
     ensures { IsTrue result → (truth : Truth) → children_at (node_of state.now) truth ≡ [] }
 {
@@ -44,7 +44,7 @@ fn is_leaf(state: &State) -> bool
     }
 }
 
-// Visits the states at the front of a list that no epsilon edge leaves, and returns how many these are.
+/// Visits the states at the front of a list that no epsilon edge leaves, and returns how many these are.
 fn visit_leaves(nfa: &NFA, list: &[StateID], set: &mut SparseSet) -> usize
     requires below { (q : ℕ) → In q list.now → q < length nfa.now.states }
     requires whole { set.old.capacity ≡ length nfa.now.states }
@@ -66,8 +66,8 @@ fn visit_leaves(nfa: &NFA, list: &[StateID], set: &mut SparseSet) -> usize
     list.len()
 }
 
-// Returns the first state that an epsilon edge leads to, and puts the others on the stack. States at the front that no
-// epsilon edge leaves are visited at once.
+/// Returns the first state that an epsilon edge of this one leads to, and puts the others on the stack. States at the
+/// front that no epsilon edge leaves are visited at once. A look leads on if it is among `looks`.
 fn expand(
     nfa: &NFA,
     state: &State,
@@ -114,7 +114,8 @@ fn expand(
     }
 }
 
-// Adds what epsilon edges reach from `start` to the set, by the stack.
+/// Adds what epsilon edges reach from `start` to the set, by the stack, in the order of preference. A look leads on if
+/// it is among `looks`.
 fn close_from(
     nfa: &NFA,
     start: StateID,

@@ -30,19 +30,21 @@ use crate::util::look::LookSet;
 use crate::util::primitives::{PatternID, StateID};
 use crate::util::search::{Anchored, MatchKind};
 
+/// Whether the NFA has a word look.
 fn has_word(nfa: &NFA) -> bool
     ensures { result ≡ any_node is_word_look (nfa_of nfa.now).nodes }
 {
     has_news(nfa.look_set_any(), LookSet::word(), LookSet::empty())
 }
 
+/// Whether the NFA has a CRLF look.
 fn has_crlf(nfa: &NFA) -> bool
     ensures { result ≡ any_node is_crlf_look (nfa_of nfa.now).nodes }
 {
     has_news(nfa.look_set_any(), LookSet::crlf(), LookSet::empty())
 }
 
-// Whether the set has a look.
+/// Whether the set has a look.
 fn has_some(looks: LookSet) -> bool
     ensures some { IsTrue result → (look : Look) × (truth_of looks look ≡ true) }
     ensures none { IsFalse result → (look : Look) → truth_of looks look ≡ false }
@@ -50,20 +52,21 @@ fn has_some(looks: LookSet) -> bool
     has_news(looks, looks, LookSet::empty())
 }
 
+/// The known looks that a powerset state has: those given if `some` is true, and none otherwise.
 fn pick_known(some: bool, known: LookSet) -> LookSet
     ensures { (look : Look) → truth_of result look ≡ (some && truth_of known look) }
 {
     if some { known } else { LookSet::empty() }
 }
 
-// Whether a state that has NFA states is after a word byte, and some look of the NFA asks for that.
+/// Whether a powerset state that has NFA states is after a word byte, and some look of the NFA asks for that.
 fn is_after_word(nfa: &NFA, full: bool, prev: Option<u8>) -> bool
     ensures { result ≡ (full && any_node is_word_look (nfa_of nfa.now).nodes && is_word prev) }
 {
     full && has_word(nfa) && is_word_unit(prev)
 }
 
-// Whether a state that has NFA states is half way through a CRLF, and some look of the NFA asks for that.
+/// Whether a powerset state that has NFA states is half way through a CRLF, and some look of the NFA asks for that.
 fn is_half_way(nfa: &NFA, full: bool, prev: Option<u8>) -> bool
     ensures { result ≡ (full && any_node is_crlf_look (nfa_of nfa.now).nodes
         && is_byte (first_half nfa.now.flags.reverse) prev) }
@@ -71,13 +74,14 @@ fn is_half_way(nfa: &NFA, full: bool, prev: Option<u8>) -> bool
     full && has_crlf(nfa) && is_unit(first_of(nfa.flags().reverse), prev)
 }
 
+/// Whether the list has a state.
 fn has_any(list: &[StateID]) -> bool
     ensures { result ≡ is_full list.now }
 {
     !list.is_empty()
 }
 
-/// Makes a powerset state of a closure, whose patterns are set before.
+/// Makes the powerset state of a closure. The patterns of its parts are set before.
 #[inline(always)]
 fn fill(nfa: &NFA, set: &SparseSet, known: LookSet, prev: Option<u8>, parts: &mut Parts)
     requires whole { set.now.capacity ≡ length nfa.now.states }
@@ -98,6 +102,8 @@ fn fill(nfa: &NFA, set: &SparseSet, known: LookSet, prev: Option<u8>, parts: &mu
     parts.half = is_half_way(nfa, full, prev);
 }
 
+/// Adds the closure of what a list leads to on the unit to the set, which is empty before. On the end of the haystack
+/// it adds nothing.
 fn close_unit(
     nfa: &NFA,
     list: &[StateID],
@@ -119,7 +125,7 @@ fn close_unit(
     }
 }
 
-// Closes the targets of the byte states of a list that take the byte.
+/// Adds the closure of what a list leads to on the byte to the set, which is empty before.
 fn close_targets(
     nfa: &NFA,
     list: &[StateID],
@@ -140,6 +146,7 @@ fn close_targets(
     }
 }
 
+/// Adds what epsilon edges reach from `start` to the set, if there is a start.
 fn close_maybe(
     nfa: &NFA,
     start: Option<StateID>,
@@ -160,6 +167,7 @@ fn close_maybe(
     }
 }
 
+/// Makes the set what epsilon edges reach from `start`.
 fn close_start(
     nfa: &NFA,
     start: StateID,
@@ -176,7 +184,7 @@ fn close_start(
     close_one(nfa, start, known, stack, set);
 }
 
-// A start at a state.
+/// Makes the start state of a search that starts at this NFA state, after this look-behind byte or after none.
 fn start_at(
     nfa: &NFA,
     start: StateID,
@@ -198,7 +206,8 @@ fn start_at(
     fill(nfa, set, known, prev, parts);
 }
 
-/// The start of a mode: at a state, or the dead state.
+/// Makes the start state of an anchored mode, after this look-behind byte or after none. If the mode has no start in
+/// the NFA, it is the dead state.
 pub fn start_into(
     nfa: &NFA,
     mode: Anchored,
@@ -228,8 +237,8 @@ pub fn start_into(
     }
 }
 
-// Reads a list up to its first match state: closes the targets of the byte states that take the byte. The pattern is
-// that of the match state.
+/// Reads a list up to its first match state: adds the closure of what the states before it lead to on the byte to the
+/// set, and makes the pattern of that match state the only one.
 fn read_first(
     nfa: &NFA,
     list: &[StateID],
@@ -264,7 +273,7 @@ fn read_first(
     }
 }
 
-// Reads what of a list counts under the kind: its patterns, and the targets of the byte states that take the unit.
+/// Reads what of a list counts under the match kind: its patterns, and the closure of what it leads to on the unit.
 fn read_list(
     kind: MatchKind,
     nfa: &NFA,
@@ -299,7 +308,8 @@ fn read_list(
     }
 }
 
-// What a list whose looks are decided leads to.
+/// Makes the powerset state that a list of NFA states leads to on the unit. The looks that its states test are decided
+/// before.
 fn advance(
     nfa: &NFA,
     kind: MatchKind,
@@ -333,7 +343,7 @@ fn advance(
     fill(nfa, set, known, unit, parts);
 }
 
-/// The successor on a unit.
+/// Makes the successor of a powerset state on a unit. The list is that of its NFA states.
 pub fn next_into(
     nfa: &NFA,
     kind: MatchKind,

@@ -18,7 +18,7 @@ impl Model for Count {
 }
 
 impl Count {
-    /// Nothing was counted.
+    /// The count of nothing.
     pub fn zero() -> Count
         ensures { result.number ≡ 0 }
     {
@@ -27,7 +27,7 @@ impl Count {
         }
     }
 
-    /// One more.
+    /// The count that is greater by one.
     pub fn next(self) -> Count
         ensures { result.number ≡ self.number + 1 }
     {
@@ -37,7 +37,7 @@ impl Count {
         }
     }
 
-    /// The same count once more.
+    /// Another count with the same number.
     pub fn again(&self) -> Count
         ensures { result.number ≡ self.now.number }
     {
@@ -47,7 +47,7 @@ impl Count {
         }
     }
 
-    /// Counts one.
+    /// Increases the count by one.
     pub fn tick(&mut self)
         ensures { self.new.number ≡ self.old.number + 1 }
     {

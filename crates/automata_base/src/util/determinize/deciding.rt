@@ -53,7 +53,7 @@ pub fn second_of(reverse: bool) -> u8
     if reverse { 13 } else { 10 }
 }
 
-// Whether the look holds after `prev` whatever comes next.
+/// Whether the look holds after the byte `prev`, or after none, whatever comes next.
 fn is_always(look: Look, terminator: u8, reverse: bool, prev: Option<u8>) -> bool
     ensures { result ≡ always terminator reverse look prev }
 {
@@ -79,7 +79,8 @@ fn is_always(look: Look, terminator: u8, reverse: bool, prev: Option<u8>) -> boo
     }
 }
 
-// Whether the look is decided true by the unit, the flags standing for the byte before.
+/// Whether the look is decided true by the unit. The flags stand for the byte before: whether it is a word byte, and
+/// whether it is the first half of a CRLF.
 fn is_decided(
     look: Look,
     terminator: u8,
@@ -114,7 +115,7 @@ fn is_decided(
     }
 }
 
-// Whether the look occurs in the NFA and holds after `prev` whatever comes next.
+/// Whether the look occurs in the NFA and holds after `prev` whatever comes next.
 fn is_known(nfa: &NFA, look: Look, prev: Option<u8>) -> bool
     ensures { result ≡ known_looks (nfa_of nfa.now) prev look }
 {
@@ -122,7 +123,7 @@ fn is_known(nfa: &NFA, look: Look, prev: Option<u8>) -> bool
     nfa.look_set_any().contains(look) && is_always(look, flags.line_terminator, flags.reverse, prev)
 }
 
-// The set, with the look if it passes.
+/// The set, with the look added if `passes` is true.
 fn insert_if(set: LookSet, look: Look, passes: bool) -> LookSet
     ensures { (other : Look) → truth_of result other
         ≡ (eqb (look_index other) (look_index look) && passes || truth_of set other) }
@@ -146,7 +147,7 @@ pub fn known_behind(nfa: &NFA, prev: Option<u8>) -> LookSet
     set
 }
 
-// The looks that are known or that the unit decides.
+/// The looks that are known to hold, or that the unit decides true. The flags stand for the byte before.
 fn looks_true(nfa: &NFA, known: LookSet, word: bool, half: bool, unit: Option<u8>) -> LookSet
     ensures { (look : Look)
         → truth_of result look ≡ (truth_of known look || decided nfa.now.flags.line_terminator nfa.now.flags.reverse
@@ -162,14 +163,14 @@ fn looks_true(nfa: &NFA, known: LookSet, word: bool, half: bool, unit: Option<u8
     set
 }
 
-// Whether the look is needed, true and was not known.
+/// Whether the look is needed, is true and was not known.
 fn is_news(needed: LookSet, truth: LookSet, known: LookSet, look: Look) -> bool
     ensures { result ≡ (truth_of needed look && truth_of truth look && not (truth_of known look)) }
 {
     needed.contains(look) && truth.contains(look) && !known.contains(look)
 }
 
-// Whether a needed look is true and was not known, look by look.
+/// Whether a needed look is true and was not known, by going through all looks.
 fn finds_news(needed: LookSet, truth: LookSet, known: LookSet) -> bool
     ensures news { IsTrue result → (look : Look) × (truth_of needed look ≡ true) × (truth_of truth look ≡ true)
         × (truth_of known look ≡ false) }
@@ -198,7 +199,7 @@ pub fn has_news(needed: LookSet, truth: LookSet, known: LookSet) -> bool
     finds_news(needed, truth, known)
 }
 
-/// The looks that are true at the unit, if one of them is needed and was not known.
+/// The looks that are true at the unit, if one of them is needed by the state and was not known.
 pub fn news(nfa: &NFA, from: &State, unit: Option<u8>) -> Option<LookSet>
     ensures truth { IfSome result (λ truth. (look : Look)
         → truth_of truth look ≡ true_looks (nfa_of nfa.now) from.now unit look) }

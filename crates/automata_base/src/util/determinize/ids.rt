@@ -49,7 +49,7 @@ impl<'a> Ids<'a> {
     ghost use Rattle.std.specs.Prelude.{length, ◌≤◌};
     ghost use Rattle.automata_base.specs.Powersets.Code.{ids_of, numbers, AreIds};
 
-    /// The NFA states of these bytes.
+    /// The NFA states that these bytes code.
     pub fn new(bytes: &'a [u8]) -> Ids<'a>
         requires { AreIds 0 bytes.now }
         ensures { result ≡ ids_of 0 (numbers bytes.now) }
@@ -60,7 +60,7 @@ impl<'a> Ids<'a> {
         }
     }
 
-    /// No more NFA states than these are left: each takes a byte.
+    /// An upper bound of how many NFA states are left: each takes a byte at least.
     fn at_most(&self) -> usize
         ensures { length self.now ≤ result }
     {
@@ -68,7 +68,7 @@ impl<'a> Ids<'a> {
     }
 }
 
-/// Sets the list to the NFA states.
+/// Sets the list to these NFA states.
 pub fn read_ids(ids: Ids<'_>, out: &mut Vec<StateID>) -> Result<(), AllocError>
     ensures ok { OnOk result (out.new.items ≡ ids.entry) }
 {
@@ -79,7 +79,7 @@ pub fn read_ids(ids: Ids<'_>, out: &mut Vec<StateID>) -> Result<(), AllocError>
     Ok(())
 }
 
-/// Sets the list to the NFA states. It makes room for all of them first, so that none asks for its own.
+/// Sets the list to these NFA states. It makes room for all of them first, so that none asks for its own.
 pub(crate) fn list_ids(ids: Ids<'_>, out: &mut Vec<StateID>) -> Result<(), AllocError>
     ensures ok { OnOk result (out.new.items ≡ ids.entry) }
 {
@@ -91,7 +91,7 @@ pub(crate) fn list_ids(ids: Ids<'_>, out: &mut Vec<StateID>) -> Result<(), Alloc
     Ok(())
 }
 
-/// Whether all of them are below a length.
+/// Whether each NFA state is below a length.
 pub(crate) fn are_below(ids: Ids<'_>, len: usize) -> bool
     ensures { result ≡ all_below len ids.entry }
 {

@@ -18,6 +18,7 @@ enum Bytes {
 impl Bytes {
     ghost use Rattle.automata_base.specs.Powersets.Key.{bytes_of};
 
+    /// The bytes, whether they are shared or not.
     fn as_slice(&self) -> &[u8]
         ensures { result.now ≡ bytes_of self.now }
     {

@@ -18,6 +18,7 @@ use crate::nfa::thompson::reading::{add_look, pattern_of, state_at, stays};
 use crate::util::look::LookSet;
 use crate::util::primitives::{PatternID, StateID};
 
+/// Adds the state after the others if `passes` is true. The list has room for it.
 fn push_if(kept: &mut Vec<StateID>, id: StateID, passes: bool)
     requires { vec_len kept.old < vec_capacity kept.old }
     ensures items { kept.new.items ≡ kept.old.items ++ cond passes (id ∷ []) [] }
@@ -63,6 +64,7 @@ pub fn read_patterns(nfa: &NFA, list: &[StateID], patterns: &mut Vec<PatternID>)
     }
 }
 
+/// Adds the pattern after the others, if there is one and the list does not have it. The list has room for it.
 fn add_maybe(patterns: &mut Vec<PatternID>, pattern: Option<PatternID>)
     requires { (p : ℕ) → pattern ≡ Some p → is_in p patterns.old.items ≡ false
         → vec_len patterns.old < vec_capacity patterns.old }
@@ -99,13 +101,14 @@ pub fn cut_first(nfa: &NFA, states: &[StateID], patterns: &mut Vec<PatternID>) -
     states.len()
 }
 
+/// Whether the two patterns are the same one.
 fn is_same(p: PatternID, q: PatternID) -> bool
     ensures { result ≡ eqb p q }
 {
     p.as_usize() == q.as_usize()
 }
 
-// Whether the pattern is in the list.
+/// Whether the pattern is in the list.
 fn has_pattern(patterns: &[PatternID], p: PatternID) -> bool
     ensures { result ≡ is_in p patterns.now }
 {
@@ -117,6 +120,7 @@ fn has_pattern(patterns: &[PatternID], p: PatternID) -> bool
     false
 }
 
+/// Adds the pattern after the others, if the list does not have it. The list has room for it.
 fn add_pattern(patterns: &mut Vec<PatternID>, p: PatternID)
     requires { (is_in p patterns.old.items ≡ false) → vec_len patterns.old < vec_capacity patterns.old }
     ensures added { patterns.new.items ≡ patterns.old.items ++ cond (is_in p patterns.old.items) [] (p ∷ []) }

@@ -37,7 +37,7 @@ fn groups_in(bytes: &[u8]) -> (u64, &[u8])
     }
 }
 
-// The number in groups at the front.
+/// The number in groups at the front of these bytes.
 #[inline(never)]
 fn long_number(bytes: &[u8]) -> u64
     requires { (n : ℕ) × (tail : List ℕ) × IsFront bytes.now n tail }
@@ -47,7 +47,7 @@ fn long_number(bytes: &[u8]) -> u64
     number
 }
 
-// What comes after the number in groups at the front.
+/// The bytes after the number in groups at the front.
 #[inline(never)]
 fn after_long(bytes: &[u8]) -> &[u8]
     requires { (n : ℕ) × (tail : List ℕ) × IsFront bytes.now n tail }
@@ -105,7 +105,7 @@ pub fn id_from(before: u32, difference: u64) -> u32
     }
 }
 
-/// Whether there are patterns.
+/// Whether the powerset state of these bytes has patterns.
 fn has_patterns(bytes: &[u8]) -> bool
     requires { 0 < length bytes.now }
     ensures { result ≡ is_set 1 bytes.now }
@@ -113,7 +113,7 @@ fn has_patterns(bytes: &[u8]) -> bool
     bytes[0] % 2 == 1
 }
 
-/// Whether the patterns are listed.
+/// Whether the powerset state of these bytes lists its patterns.
 fn lists_patterns(bytes: &[u8]) -> bool
     requires { 0 < length bytes.now }
     ensures { result ≡ is_set 2 bytes.now }
@@ -121,7 +121,7 @@ fn lists_patterns(bytes: &[u8]) -> bool
     bytes[0] / 2 % 2 == 1
 }
 
-/// How many patterns there are.
+/// How many patterns the powerset state of these bytes has.
 pub fn pattern_count(bytes: &[u8]) -> usize
     requires { IsCode bytes.now }
     ensures { result ≡ length (patterns_of bytes.now) }
@@ -135,7 +135,7 @@ pub fn pattern_count(bytes: &[u8]) -> usize
     }
 }
 
-/// The pattern at an index.
+/// The pattern at an index of the powerset state of these bytes.
 pub fn pattern_at(bytes: &[u8], index: usize) -> PatternID
     requires code { IsCode bytes.now }
     requires index_in { index < length (patterns_of bytes.now) }
@@ -148,7 +148,7 @@ pub fn pattern_at(bytes: &[u8], index: usize) -> PatternID
     }
 }
 
-/// What comes after the patterns.
+/// The bytes after the patterns, which code the NFA states of the powerset state.
 pub fn ids_in(bytes: &[u8]) -> &[u8]
     requires { IsCode bytes.now }
     ensures { result.now ≡ ids_bytes bytes.now }
@@ -161,7 +161,7 @@ pub fn ids_in(bytes: &[u8]) -> &[u8]
     }
 }
 
-/// Sets the list to the patterns.
+/// Sets the list to the patterns of the powerset state of these bytes.
 pub fn read_patterns(bytes: &[u8], out: &mut Vec<PatternID>) -> Result<(), AllocError>
     requires { IsCode bytes.now }
     ensures ok { OnOk result (out.new.items ≡ patterns_of bytes.now) }

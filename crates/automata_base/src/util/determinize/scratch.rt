@@ -66,7 +66,7 @@ const KEY_ROOM: usize = 64;
 impl Clone for Scratch {
     ghost is_clone = { λ a b. b ≡ a };
 
-    /// It has buffers of its own, with the same room.
+    /// The copy has buffers of its own, with the same room.
     fn clone(&self) -> Result<Scratch, AllocError> {
         let alloc = self.alloc;
         Ok(Scratch {
@@ -124,7 +124,7 @@ impl Scratch {
     }
 }
 
-// A key of the parts, in the room of the bytes.
+/// The key of the powerset state of these parts. It takes the vector of bytes and leaves an empty one.
 #[inline(always)]
 fn key_of(alloc: Global, parts: &Parts, bytes: &mut Vec<u8>) -> Result<Key, AllocError>
     requires { Distinct parts.now.patterns.items }
@@ -160,7 +160,7 @@ pub fn start_key(
     Ok(key)
 }
 
-/// What a powerset state leads to on a unit, none being the end of the haystack, as a key to look it up by.
+/// The successor of a powerset state on a unit, none being the end of the haystack, as a key to look it up by.
 pub fn next_key(
     nfa: &NFA,
     scratch: &mut Scratch,

@@ -26,6 +26,7 @@ impl Model for Stored {
 }
 
 impl Stored {
+    /// The bytes, whether they are in place or in the vector.
     fn as_slice(&self) -> &[u8]
         ensures { result.now ≡ self.now }
     {
@@ -37,7 +38,7 @@ impl Stored {
     }
 }
 
-/// A copy of a few bytes.
+/// A copy of at most 48 bytes, at the front of an array.
 fn few_of(bytes: &[u8]) -> [u8; 48]
     requires { length bytes.now ≤ 48 }
     ensures { take (length bytes.now) result ≡ bytes.now }
@@ -88,7 +89,7 @@ impl SharedBytes {
         Ok(SharedBytes { stored })
     }
 
-    /// The bytes.
+    /// The shared bytes.
     pub fn as_slice(&self) -> &[u8]
         ensures value { result.now ≡ self.now }
     {

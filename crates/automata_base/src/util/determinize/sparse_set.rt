@@ -43,7 +43,7 @@ impl SparseSet {
         })
     }
 
-    /// An empty set with the same room.
+    /// An empty set with room for the same numbers.
     pub fn emptied(&self, alloc: Global) -> Result<SparseSet, AllocError>
         ensures empty { IfOk result (λ set. set.items ≡ []) }
         ensures capacity { IfOk result (λ set. set.capacity ≡ self.now.capacity) }
@@ -58,7 +58,7 @@ impl SparseSet {
         })
     }
 
-    /// Takes each number out, in constant time.
+    /// Takes each number out of the set, in constant time.
     pub fn clear(&mut self)
         ensures empty { self.new.items ≡ [] }
         ensures capacity { self.new.capacity ≡ self.old.capacity }
@@ -66,7 +66,7 @@ impl SparseSet {
         self.len = 0;
     }
 
-    /// Its numbers, in the order they came in.
+    /// The numbers of the set, in the order in which they were added.
     pub fn as_slice(&self) -> &[StateID]
         ensures items { result.now ≡ self.now.items }
         ensures below { (q : ℕ) → In q self.now.items → q < self.now.capacity }
@@ -76,7 +76,7 @@ impl SparseSet {
         &self.dense[..self.len]
     }
 
-    /// Whether a number is in it.
+    /// Whether a number is in the set.
     pub fn contains(&self, id: StateID) -> bool
         requires { id < self.now.capacity }
         ensures had { IsTrue result → In id self.now.items }
@@ -86,7 +86,7 @@ impl SparseSet {
         i < self.len && self.dense[i] == id
     }
 
-    /// Where a member stands among the numbers, from 0.
+    /// The index of a member among the numbers of the set, from 0.
     pub fn place(&self, id: StateID) -> usize
         requires { In id self.now.items }
         ensures place { result ≡ place_in self.now.items id }
@@ -95,7 +95,7 @@ impl SparseSet {
         self.sparse[id.as_usize()] as usize
     }
 
-    /// Whether the number is new. It then comes last.
+    /// Adds a number after the others, and returns whether it is new. A number that the set has stays where it is.
     pub fn insert(&mut self, id: StateID) -> bool
         requires { id < self.old.capacity }
         ensures new { IsTrue result → In id self.old.items → ⊥ }

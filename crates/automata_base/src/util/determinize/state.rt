@@ -53,7 +53,7 @@ impl Drop for Parts {
 }
 
 impl Parts {
-    /// Whether no pattern repeats.
+    /// Whether no pattern repeats in the parts.
     pub fn is_without_repeats(&self) -> bool
         ensures { IsTrue result ↔ Distinct self.now.patterns.items }
     {
@@ -76,7 +76,7 @@ impl Parts {
         })
     }
 
-    /// Sets the bytes to those of the state. It allocates nothing if there is room.
+    /// Sets the bytes to those of the state of these parts. The call allocates nothing if there is room.
     pub fn write(&self, out: &mut Vec<u8>) -> Result<(), AllocError>
         requires { Distinct self.now.patterns.items }
         ensures bytes { OnOk result (out.new.items ≡ code (powerset_of self.now)) }
@@ -187,7 +187,7 @@ impl State {
         Ok(State { bytes })
     }
 
-    /// A key of a map, which shares the bytes.
+    /// A key of a map for the state, which shares its bytes.
     pub fn key(&self) -> Result<Key, AllocError>
         ensures { IfOk result (λ key. key ≡ self.now) }
     {
@@ -195,7 +195,7 @@ impl State {
         Ok(Key::shared(bytes))
     }
 
-    /// The bytes. It allocates nothing.
+    /// The coded bytes of the state. The call allocates nothing.
     pub fn as_bytes(&self) -> &[u8]
         ensures bytes { result.now ≡ code self.now }
         ensures state { IsPowerset self.now }
@@ -204,28 +204,28 @@ impl State {
         self.bytes.as_slice()
     }
 
-    /// The NFA states, in order. It allocates nothing.
+    /// The NFA states of the state, in order of preference. The call allocates nothing.
     pub fn nfa(&self) -> Ids<'_>
         ensures { result ≡ self.now.nfa }
     {
         Ids::new(ids_in(self.bytes.as_slice()))
     }
 
-    /// How many NFA states there are. It does not read them.
+    /// How many NFA states the state has. The call does not read them.
     pub fn nfa_len(&self) -> usize
         ensures { result ≡ length self.now.nfa }
     {
         number_count(ids_in(self.bytes.as_slice()))
     }
 
-    /// How many patterns there are.
+    /// How many patterns match in the state.
     pub fn match_len(&self) -> usize
         ensures { result ≡ length self.now.patterns }
     {
         pattern_count(self.bytes.as_slice())
     }
 
-    /// The pattern at an index below `match_len`.
+    /// The matching pattern at an index below `match_len`.
     pub fn match_pattern(&self, index: usize) -> PatternID
         requires { index < length self.now.patterns }
         ensures { result ≡ slice_index self.now.patterns index }
@@ -247,21 +247,21 @@ impl State {
         u32_at(self.bytes.as_slice(), 5)
     }
 
-    /// Whether it is after a word byte.
+    /// Whether the state is after a word byte.
     pub fn word(&self) -> bool
         ensures { result ≡ self.now.word }
     {
         self.bytes.as_slice()[0] / 4 % 2 == 1
     }
 
-    /// Whether it is half way through a CRLF.
+    /// Whether the state is half way through a CRLF.
     pub fn half(&self) -> bool
         ensures { result ≡ self.now.half }
     {
         self.bytes.as_slice()[0] / 8 % 2 == 1
     }
 
-    /// Whether every NFA state is one of the NFA's. It allocates nothing.
+    /// Whether the NFA states are all below the number of states of this NFA. The call allocates nothing.
     pub fn is_of(&self, nfa: &NFA) -> bool
         ensures { IsTrue result ↔ IsOf nfa.now self.now }
     {
@@ -269,7 +269,7 @@ impl State {
         are_below(self.nfa(), len)
     }
 
-    /// Sets the parts to those of the state. It allocates nothing if the lists have room.
+    /// Sets the parts to those of the state. The call allocates nothing if the lists have room.
     pub fn read(&self, parts: &mut Parts) -> Result<(), AllocError>
         ensures ok { OnOk result (powerset_of parts.new ≡ self.now) }
     {
@@ -281,7 +281,7 @@ impl State {
         read_ids(self.nfa(), &mut parts.nfa)
     }
 
-    /// The six parts. The only error is out of memory.
+    /// The six parts of the state. The only error is out of memory.
     pub fn decode(&self, alloc: Global) -> Result<Parts, AllocError>
         ensures { IfOk result (λ parts. powerset_of parts ≡ self.now) }
     {

@@ -5,14 +5,14 @@ ghost use Rattle.automata_base.specs.Lists.{Distinct};
 
 use crate::util::primitives::PatternID;
 
-/// Whether this is none of them.
+/// Whether the pattern is none of these.
 fn is_apart(id: PatternID, ids: &[PatternID]) -> bool
     ensures { IsTrue result ↔ AllByRecursion (λ other. nat_eq id other ≡ false) ids.now }
 {
     ids.iter().all(|other| id != *other)
 }
 
-/// Whether none repeats.
+/// Whether no pattern repeats in the list.
 pub fn are_distinct(ids: &[PatternID]) -> bool
     ensures { IsTrue result ↔ Distinct ids.now }
 {

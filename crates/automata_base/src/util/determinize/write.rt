@@ -40,7 +40,7 @@ fn push_number(out: &mut Vec<u8>, n: u64) -> Result<(), AllocError>
     Ok(())
 }
 
-/// The difference as a number without a sign.
+/// The difference of an NFA state to the one before it, as a number without a sign.
 fn difference_of(before: u32, id: u32) -> u64
     ensures value { result ≡ difference before id }
     ensures bound { result < 2 ^ 35 }
@@ -111,7 +111,8 @@ fn push_patterns(out: &mut Vec<u8>, patterns: &[PatternID]) -> Result<(), AllocE
     push_u32s(out, patterns)
 }
 
-/// The first byte.
+/// The first byte of a powerset state: whether it has patterns, lists them, is after a word byte, and is half way
+/// through a CRLF.
 fn flags_of(patterns: &[PatternID], word: bool, half: bool) -> u8
     ensures { result ≡ flag_byte (has_any patterns.now) (is_listed patterns.now) word half }
 {
