@@ -13,22 +13,22 @@ pub const PATTERN_COST: usize = 4;
 /// The accounted bytes of each of its NFA states.
 pub const ID_COST: usize = 5;
 
-/// The size of an ID, which is a cell of the table or a start slot.
+/// The size, in bytes, of an ID, which is a cell of the table or a start slot.
 pub const CELL_SIZE: usize = 4;
 
-/// The size of a row in the list of rows, without its cells.
+/// The size, in bytes, of a row in the list of rows, without its cells.
 pub const ROW_SIZE: usize = 16;
 
-/// The size of a row in the map.
+/// The size, in bytes, of a row in the map.
 pub const ENTRY_SIZE: usize = 20;
 
-/// The cost of the states of the three rows with which every table begins.
+/// The cost, in accounted bytes, of the states of the three rows with which every table begins.
 pub const FIXED_ROWS_COST: usize = 39;
 
-/// The size, for each state of the NFA, of the two sets of NFA states that determinization uses.
+/// The size, in bytes for each state of the NFA, of the two sets of NFA states that determinization uses.
 const SETS_COST: usize = 16;
 
-/// The size of an entry on the stack of a closure.
+/// The size, in bytes, of an entry on the stack of a closure.
 const PLACE_COST: usize = 4;
 
 /// The greatest cost of a powerset state of the NFA, in accounted bytes.
@@ -47,7 +47,7 @@ pub fn fixed_cost(nfa: &NFA) -> usize
     SETS_COST * nfa.states().len() + PLACE_COST * nfa.room() + max_cost(nfa)
 }
 
-/// The number of start slots of a cache.
+/// The number of start slots of a cache: twelve, and six more for each pattern if `each_pattern` is true.
 pub fn start_slots(nfa: &NFA, each_pattern: bool) -> usize
     ensures number { result ≡ bytes.start_slots nfa.now each_pattern }
     ensures few { result ≤ 2 ^ 30 }
@@ -59,6 +59,7 @@ pub fn start_slots(nfa: &NFA, each_pattern: bool) -> usize
     }
 }
 
+/// The number of patterns of the NFA, at most 2^27.
 fn pattern_count(nfa: &NFA) -> usize
     ensures number { result ≡ length nfa.now.start_pattern }
     ensures few { result ≤ 2 ^ 27 }
@@ -66,7 +67,8 @@ fn pattern_count(nfa: &NFA) -> usize
     nfa.pattern_starts().len()
 }
 
-/// The least capacity that has room for a state in each start slot and for two more.
+/// The least capacity, in bytes, that has room for a state in each start slot and for two more, each of the greatest
+/// cost.
 pub(crate) fn minimum_capacity(stride: usize, slots: usize, greatest: usize, fixed: usize) -> usize
     requires stride { stride ≤ 512 }
     requires slots { slots ≤ 2 ^ 30 }
@@ -85,7 +87,7 @@ pub(crate) fn minimum_capacity(stride: usize, slots: usize, greatest: usize, fix
         + fixed
 }
 
-/// The greatest offset of a row in a table of that capacity.
+/// The greatest offset of a row, in cells, in the table of a cache that has the minimum capacity.
 pub(crate) fn greatest_offset(stride: usize, slots: usize) -> usize
     requires stride { stride ≤ 512 }
     requires slots { slots ≤ 2 ^ 30 }
@@ -94,6 +96,7 @@ pub(crate) fn greatest_offset(stride: usize, slots: usize) -> usize
     product(4 + slots, stride)
 }
 
+/// The product of two numbers that are at most 2^31 each.
 fn product(a: usize, b: usize) -> usize
     requires few { a ≤ 2 ^ 31 }
     requires many { b ≤ 2 ^ 31 }

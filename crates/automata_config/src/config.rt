@@ -71,7 +71,7 @@ impl Config {
     ghost use Rattle.automata_config.specs.Options.{unset, overwritten};
     ghost use Rattle.automata_config.specs.Options as options;
 
-    /// No option is set.
+    /// A configuration in which no option is set.
     pub fn new() -> Config
         ensures { result ≡ unset }
     {
@@ -309,7 +309,7 @@ impl Config {
         }
     }
 
-    /// The least capacity that a cache for the NFA may have. The only error is `Unsupported`.
+    /// The least capacity, in bytes, that a cache for the NFA may have. The only error is `Unsupported`.
     pub fn get_minimum_cache_capacity(&self, nfa: &NFA) -> Result<usize, BuildError>
         ensures ok { IfOk result (λ minimum. minimum ≡ settled_minimum self.now nfa.now) }
         ensures refused { result_err result
@@ -320,7 +320,7 @@ impl Config {
         Ok(self.minimum_for(nfa, classes.stride()))
     }
 
-    /// What a DFA of the NFA is built from.
+    /// Settles what a DFA of the NFA is built from.
     ///
     /// It fails if a Unicode word boundary cannot be decided, if the capacity is below the minimum and the check of it
     /// is not skipped, or if the offset of some row at the minimum is too great for an ID. The error is that of the
@@ -348,6 +348,7 @@ impl Config {
         })
     }
 
+    /// Whether the configured capacity is below this minimum, in bytes, and the check of it is not skipped.
     fn is_too_small_for(&self, minimum: usize) -> bool
         ensures { result ≡ (not (options.skip_cache_capacity_check_of self.now) && nat_lt
             (options.cache_capacity_of self.now) minimum) }
@@ -355,6 +356,7 @@ impl Config {
         !self.get_skip_cache_capacity_check() && self.get_cache_capacity() < minimum
     }
 
+    /// The least capacity, in bytes, that a cache for the NFA may have at this stride.
     fn minimum_for(&self, nfa: &NFA, stride: usize) -> usize
         requires few { stride ≤ 512 }
         requires stride { stride ≡ settled_stride self.now nfa.now }
@@ -364,6 +366,7 @@ impl Config {
         minimum_capacity(stride, slots, max_cost(nfa), fixed_cost(nfa))
     }
 
+    /// The greatest offset of a row, in cells, in the table of a cache for the NFA that has the minimum capacity.
     fn greatest_offset_for(&self, nfa: &NFA, stride: usize) -> usize
         requires few { stride ≤ 512 }
         requires stride { stride ≡ settled_stride self.now nfa.now }
@@ -373,6 +376,8 @@ impl Config {
         greatest_offset(stride, slots)
     }
 
+    /// The quit set of a DFA of the NFA. If the NFA has a Unicode word boundary, each byte from 0x80 on has to be in
+    /// it: the heuristic adds these bytes. If it is off and one of them is missing, the call fails with `Unsupported`.
     fn settled_quits(&self, nfa: &NFA) -> Result<ByteSet, BuildError>
         ensures ok { IfOk result (λ quits. quits ≡ settled_quits self.now nfa.now) }
         ensures refused { result_err result
@@ -391,6 +396,7 @@ impl Config {
         Err(BuildError::Unsupported)
     }
 
+    /// The configured quit set, or the empty one if none is set.
     fn quit_set(&self) -> ByteSet
         ensures whole { length result ≡ 256 }
         ensures set { result ≡ options.quits_of self.now }
@@ -411,20 +417,21 @@ const UNICODE_WORD_LOOKS: [Look; 6] = [
     Look::WordEndHalfUnicode,
 ];
 
-// Whether some state of the NFA is a Unicode word boundary.
+/// Whether some state of the NFA is a Unicode word boundary.
 fn has_unicode_word(nfa: &NFA) -> bool
     ensures { result ≡ has_unicode_word nfa.now }
 {
     contains_any(nfa.look_set_any(), &UNICODE_WORD_LOOKS)
 }
 
+/// Whether one of these looks is in the set.
 fn contains_any(set: LookSet, looks: &[Look]) -> bool
     ensures { result ≡ list_any (truth_of set) looks.now }
 {
     looks.iter().any(|look| set.contains(*look))
 }
 
-// Whether each byte from 0x80 on is in the quit set.
+/// Whether each byte from 0x80 on is in the quit set.
 fn holds_non_ascii(quits: &ByteSet) -> bool
     ensures { result ≡ holds_non_ascii quits.now }
 {
@@ -436,7 +443,7 @@ fn holds_non_ascii(quits: &ByteSet) -> bool
     true
 }
 
-// The quit set joined with the bytes from 0x80 on.
+/// The quit set joined with the bytes from 0x80 on.
 fn with_non_ascii(quits: &ByteSet) -> ByteSet
     requires { length quits.now ≡ 256 }
     ensures whole { length result ≡ 256 }

@@ -20,10 +20,10 @@ pub enum BuildError {
     /// byte.
     #[error("unsupported regex feature for DFAs: cannot build lazy DFAs for regexes with Unicode word boundaries; switch to ASCII word boundaries, or heuristically enable Unicode word boundaries or use a different regex engine")]
     Unsupported,
-    /// The capacity given is below the minimum, and the check is not skipped.
+    /// The capacity given is below the minimum, both in bytes, and the check is not skipped.
     #[error("given cache capacity ({given}) is smaller than minimum required ({minimum})")]
     InsufficientCacheCapacity { minimum: usize, given: usize },
-    /// Some offset in the smallest table is greater than an ID can hold.
+    /// Some offset in the smallest table, in cells, is greater than an ID can hold.
     #[error("failed to create LazyStateID from {attempted}, which exceeds 134217727")]
     InsufficientStateIDCapacity { attempted: usize },
     /// An allocation failed.
@@ -70,7 +70,7 @@ pub enum StartError {
 /// Why a search fails.
 #[derive(Clone, Copy, Debug, PartialEq, Eq, Error)]
 pub enum SearchError {
-    /// It met a quit byte, gave up, or does not support the anchored mode.
+    /// The search met a quit byte, gave up, or has an anchored mode that is not supported.
     #[error("{0}")]
     Match(MatchError),
     /// An allocation failed.
