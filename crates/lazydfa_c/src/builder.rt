@@ -34,7 +34,7 @@ enum Added<'a> {
     UnanchoredPrefix { start: u32 },
 }
 
-/// A state's ID, if the number is one.
+/// The ID of the state of this number. It fails with `Code::Argument` if there is no such ID.
 pub fn state_id(number: u32) -> Result<StateID, Status> {
     match StateID::new(number as usize) {
         Some(id) => Ok(id),
@@ -42,6 +42,7 @@ pub fn state_id(number: u32) -> Result<StateID, Status> {
     }
 }
 
+/// The IDs of the states of these numbers. It fails with `Code::Argument` at a number that is no ID.
 fn state_ids(alloc: Global, numbers: &[u32]) -> Result<Vec<StateID>, Status> {
     let mut ids = Vec::new(alloc);
     for number in numbers {
@@ -51,6 +52,7 @@ fn state_ids(alloc: Global, numbers: &[u32]) -> Result<Vec<StateID>, Status> {
     Ok(ids)
 }
 
+/// The transition of an edge as C lays it out. It fails with `Code::Argument` if the number of its state is no ID.
 fn transition(edge: Edge) -> Result<Transition, Status> {
     let next = state_id(edge.next)?;
     Ok(Transition {
@@ -60,6 +62,8 @@ fn transition(edge: Edge) -> Result<Transition, Status> {
     })
 }
 
+/// The transitions of edges as C lays them out, in their order. It fails with `Code::Argument` if the number of a state
+/// is no ID.
 fn transitions(alloc: Global, edges: &[Edge]) -> Result<Vec<Transition>, Status> {
     let mut transitions = Vec::new(alloc);
     for edge in edges {
@@ -69,6 +73,7 @@ fn transitions(alloc: Global, edges: &[Edge]) -> Result<Vec<Transition>, Status>
     Ok(transitions)
 }
 
+/// The look of this number. It fails with `Code::Argument` if the number is not below 18.
 fn look_of(number: u32) -> Result<Look, Status> {
     if number < 18 {
         Ok(Look::from_index(number))
@@ -77,6 +82,8 @@ fn look_of(number: u32) -> Result<Look, Status> {
     }
 }
 
+/// Adds a state to a builder, and returns its ID. It fails with `Code::Argument` if a number is no ID or no look, and
+/// else with the status of the builder's error.
 fn add_to(alloc: Global, builder: &mut Builder, added: Added<'_>) -> Result<StateID, Status> {
     let id = match added {
         Added::Empty => builder.add_empty()?,
@@ -127,7 +134,7 @@ enum Change {
     LineTerminator(u8),
 }
 
-/// Changes a builder, and returns a pattern where the change has one.
+/// Changes a builder, and returns the number of a pattern if the change starts or finishes one, and 0 otherwise.
 fn change_in(builder: &mut Builder, change: Change) -> Result<u32, Status> {
     match change {
         Change::Clear => builder.clear(),
@@ -143,6 +150,8 @@ fn change_in(builder: &mut Builder, change: Change) -> Result<u32, Status> {
     Ok(0)
 }
 
+/// Changes the builder behind a handle, and returns the number of a pattern if the change starts or finishes one. It
+/// fails if the handle is closed or owns no builder.
 fn do_change(alloc: Global, handle: &mut Handle, change: Change) -> Result<u32, Status> {
     let Some(mut object) = handle.take(alloc) else {
         return Err(Status::from(Code::Closed));
@@ -155,6 +164,7 @@ fn do_change(alloc: Global, handle: &mut Handle, change: Change) -> Result<u32, 
     result
 }
 
+/// Changes the builder behind a handle. The status says whether it was changed, and if not, why.
 fn changed(alloc: Global, handle: &mut Handle, wanted: Change) -> Status {
     match do_change(alloc, handle, wanted) {
         Ok(_) => Status::from(Code::Done),
@@ -162,6 +172,8 @@ fn changed(alloc: Global, handle: &mut Handle, wanted: Change) -> Status {
     }
 }
 
+/// Changes the builder behind a handle by starting or finishing a pattern, and writes the pattern's number. After an
+/// error nothing is written.
 fn changed_pattern(
     alloc: Global,
     handle: &mut Handle,
@@ -177,6 +189,7 @@ fn changed_pattern(
     }
 }
 
+/// Opens a handle on a builder without states. It fails with `Code::Open` if the handle is open already.
 fn new_builder(alloc: Global, handle: &mut Handle) -> Result<(), Status> {
     if handle.is_open() {
         return Err(Status::from(Code::Open));

@@ -37,7 +37,7 @@ pub enum Code {
 }
 
 impl Code {
-    /// Its number in the header.
+    /// The number of the code in the header.
     pub fn number(self) -> u32
         ensures { result ≡ number_of self }
     {

@@ -27,12 +27,14 @@ impl Model for Slot {
 }
 
 impl Slot {
+    /// A slot that owns nothing, with this pointer in it.
     fn closed(at: *mut u8) -> Slot
         ensures { result.value ≡ None }
     {
         Slot { at }
     }
 
+    /// A slot that owns the object behind this pointer.
     fn of(object: Loose<Object, Global>) -> Slot
         ensures { result.value ≡ Some object.value }
     {
@@ -40,6 +42,7 @@ impl Slot {
         Slot { at: at as *mut u8 }
     }
 
+    /// The pointer to the object that a slot owns.
     fn open(self, alloc: Global) -> Loose<Object, Global>
         requires { IsSome self.value }
         ensures { self.value ≡ Some result.value }
@@ -51,6 +54,7 @@ impl Slot {
         }
     }
 
+    /// A slot that owns nothing, with a null pointer in it.
     fn empty() -> Slot
         ensures { result.value ≡ None }
     {
@@ -70,6 +74,7 @@ pub struct Handle {
 }
 
 impl Handle {
+    /// A handle that owns the object, and is open.
     pub fn of(object: Box<Object>) -> Handle
         ensures live { result.live ≡ 1 }
         ensures value { result.slot.value ≡ Some object.value }
@@ -80,14 +85,14 @@ impl Handle {
         }
     }
 
-    /// Whether it owns an object.
+    /// Whether the handle owns an object.
     pub fn is_open(&self) -> bool
         ensures { result ≡ is_open self.now.live }
     {
         self.live != 0
     }
 
-    /// Takes the object out, and leaves the handle closed.
+    /// Takes the object out of a handle, and leaves the handle closed.
     pub fn take(&mut self, alloc: Global) -> Option<Box<Object>>
         ensures empty { self.new.slot.value ≡ None }
         ensures live { self.new.live ≡ 0 }
@@ -102,7 +107,7 @@ impl Handle {
         Some(slot.open(alloc).into_box())
     }
 
-    /// Puts an object into a handle. What the handle had is forgotten.
+    /// Puts an object into a handle, which is then open. What the handle had before is forgotten.
     pub fn put(&mut self, object: Box<Object>)
         ensures live { self.new.live ≡ 1 }
         ensures value { self.new.slot.value ≡ Some object.value }

@@ -4,8 +4,8 @@ ghost use Rattle.lazydfa_c.specs.Requests.{half_of, input_of, match_of, mode_of}
 
 use regex_automata::{Anchored, HalfMatch, Input, Match, PatternID};
 
-/// A span, an anchored mode (0 no, 1 yes, 2 this pattern) and whether the search may stop at the first match that it
-/// sees.
+/// A span, by its offsets in bytes, an anchored mode (0 no, 1 yes, 2 this pattern) and whether the search may stop at
+/// the first match that it sees.
 #[repr(C)]
 #[derive(Clone, Copy)]
 pub struct Request {
@@ -17,7 +17,7 @@ pub struct Request {
     pub reserved: u32,
 }
 
-/// A match: its span and its pattern.
+/// A match: its span, by its offsets in bytes, and its pattern.
 #[repr(C)]
 #[derive(Clone, Copy)]
 pub struct Found {
@@ -27,7 +27,7 @@ pub struct Found {
     pub reserved: u32,
 }
 
-/// The pattern and one end of a match.
+/// The pattern and one end of a match, by its offset in bytes.
 #[repr(C)]
 #[derive(Clone, Copy)]
 pub struct FoundHalf {
@@ -37,6 +37,8 @@ pub struct FoundHalf {
 }
 
 impl Request {
+    /// The anchored mode: 0 is unanchored, 1 anchored, 2 of the pattern. It is none for another number, or if the
+    /// pattern's number is no ID.
     fn mode(&self) -> Option<Anchored>
         ensures { result ≡ mode_of self.now.anchored self.now.pattern }
     {
@@ -51,7 +53,7 @@ impl Request {
         }
     }
 
-    /// The input that it stands for, if its mode is one and its span lies in the haystack.
+    /// The input that the request stands for, or none if its mode is none or its span does not lie in the haystack.
     pub fn input<'h>(&self, haystack: &'h [u8]) -> Option<Input<'h>>
         ensures { result ≡ input_of haystack.now self.now }
     {
@@ -71,6 +73,7 @@ impl Request {
 }
 
 impl Found {
+    /// A match as C lays it out.
     pub fn of(found: Match) -> Found
         ensures { match_of result ≡ found }
     {
@@ -84,6 +87,7 @@ impl Found {
 }
 
 impl FoundHalf {
+    /// A half match as C lays it out.
     pub fn of(found: HalfMatch) -> FoundHalf
         ensures { half_of result ≡ found }
     {

@@ -11,7 +11,8 @@ use crate::status::Status;
 use regex_automata::Input;
 use std::alloc::Global;
 
-/// An iteration: what is left to be searched, the end of the last match if there was one, and whether it has ended.
+/// An iteration: what is left to be searched, the offset, in bytes, where the last match ended if there was one, and
+/// whether the iteration has ended.
 #[repr(C)]
 #[derive(Clone, Copy)]
 pub struct Iteration {
@@ -22,7 +23,7 @@ pub struct Iteration {
 }
 
 impl Iteration {
-    /// Goes on after a match.
+    /// Moves an iteration on to the end of a match.
     fn pass(&mut self, found: &Found)
         ensures { self.new ≡ iterated self.old (Ok (Some (match_of found.now))) }
     {
@@ -31,6 +32,7 @@ impl Iteration {
         self.has_last = 1;
     }
 
+    /// The offset where the last match ended, if there was one.
     fn last(&self) -> Option<usize>
         ensures { result ≡ last_of self.now }
     {
@@ -43,7 +45,8 @@ impl Iteration {
 }
 
 impl Searcher {
-    /// The match after the last one of an iteration that has not ended.
+    /// Searches for the next match of an iteration that has not ended, and writes it. If there is none, or the search
+    /// fails, the iteration has ended.
     fn go_on(&mut self, input: &Input<'_>, at: &mut Iteration, found: &mut Found) -> Status
         ensures { GoesOn found.new at.old at.new input.now self.old self.new result }
     {
@@ -65,6 +68,8 @@ impl Searcher {
         }
     }
 
+    /// Searches for the next match of an iteration, and writes it. The status is `Code::Nothing` if the iteration has
+    /// ended, and `Code::Argument` if what is left is no input of the haystack.
     fn next(&mut self, haystack: &[u8], at: &mut Iteration, found: &mut Found) -> Status
         ensures { Iterates haystack.now found.new at.old at.new self.old self.new result }
     {
@@ -77,7 +82,8 @@ impl Searcher {
         }
     }
 
-    /// The next matches, as many as there is room for. The status is that of the last one, or of what came after it.
+    /// Writes the next matches of an iteration, as many as there is room for, and counts them. The status is that of
+    /// the last one, or of what came after it.
     fn next_all(
         &mut self,
         haystack: &[u8],
@@ -97,6 +103,8 @@ impl Searcher {
     }
 }
 
+/// Searches for the next match of an iteration over a cache, and writes it. The status is `Code::Kind` if the object is
+/// no cache.
 fn next_in(object: &mut Object, haystack: &[u8], at: &mut Iteration, found: &mut Found) -> Status
     ensures { OfObject (Iterates haystack.now found.new at.old at.new) object.old object.new result }
 {
@@ -106,7 +114,7 @@ fn next_in(object: &mut Object, haystack: &[u8], at: &mut Iteration, found: &mut
     }
 }
 
-/// The next match of an iteration.
+/// Searches for the next match of an iteration over the cache behind a handle, and writes it.
 #[unsafe(no_mangle)]
 pub extern "C" fn lazydfa_raw_next(
     alloc: Global,
@@ -125,7 +133,8 @@ pub extern "C" fn lazydfa_raw_next(
     status
 }
 
-/// The next matches of an iteration, as many as there is room for.
+/// Writes the next matches of an iteration over the cache behind a handle, as many as there is room for, and counts
+/// them.
 #[unsafe(no_mangle)]
 pub extern "C" fn lazydfa_raw_next_all(
     alloc: Global,

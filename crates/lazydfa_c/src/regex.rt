@@ -30,12 +30,16 @@ pub struct StartStates {
     pub unanchored: u32,
 }
 
+/// Builds the NFA of what a builder has, with these start states. It fails with `Code::Argument` if a start is no ID,
+/// and else with the status of the builder's error.
 fn nfa_of(builder: &Builder, starts: StartStates) -> Result<NFA, Status> {
     let anchored = state_id(starts.anchored)?;
     let unanchored = state_id(starts.unanchored)?;
     Ok(builder.build(anchored, unanchored)?)
 }
 
+/// Builds the NFA of what the builder behind a handle has. It fails if the handle is closed or owns no builder; the
+/// builder stays as it is.
 fn nfa_in(alloc: Global, builder: &mut Handle, starts: StartStates) -> Result<NFA, Status> {
     let Some(object) = builder.take(alloc) else {
         return Err(Status::from(Code::Closed));
@@ -48,6 +52,8 @@ fn nfa_in(alloc: Global, builder: &mut Handle, starts: StartStates) -> Result<NF
     nfa
 }
 
+/// Builds the regex of one NFA, whose reverse DFA is that of the reversed NFA. It fails with the status of the error
+/// that building returns.
 fn regex_of(nfa: NFA, config: Config) -> Result<Regex, Status>
     ensures sound { IfOk result (λ regex. ∥ IsSoundPair regex ∥₁) }
     ensures built { IfOk result (IsRegexOf (overwritten unset config) nfa) }
@@ -58,6 +64,8 @@ fn regex_of(nfa: NFA, config: Config) -> Result<Regex, Status>
     Ok(builder.build_from_nfa(nfa)?)
 }
 
+/// Builds the regex of two NFAs. It fails with the status of the error that building returns; whether the NFAs are a
+/// pair is not tested.
 fn pair_of(forward: NFA, reverse: NFA, config: Config) -> Result<Regex, Status>
     ensures built { IfOk result (IsPairOf (overwritten unset config) forward reverse) }
     ensures refused { IfErr result (IsPairRefusal (overwritten unset config) forward reverse) }
@@ -83,6 +91,8 @@ fn open(alloc: Global, handle: &mut Handle, regex: Regex, is_sound: bool) -> Res
     Ok(())
 }
 
+/// Opens a handle on the regex of what a builder has. It fails with `Code::Open` if the handle is open already; after
+/// an error it is as it was.
 fn build(
     alloc: Global,
     regex: &mut Handle,
@@ -99,6 +109,8 @@ fn build(
     open(alloc, regex, regex_of(nfa, config)?, true)
 }
 
+/// Opens a handle on the regex of what two builders have, the forward one first. It fails with `Code::Open` if the
+/// handle is open already; after an error it is as it was.
 fn build_pair(
     alloc: Global,
     regex: &mut Handle,
@@ -145,6 +157,7 @@ pub extern "C" fn lazydfa_raw_regex_build_pair(
     Status::of(build_pair(alloc, regex, (forward, reverse), starts, settings, quits))
 }
 
+/// Another owner of a shared regex.
 fn share(shared: &Shared) -> Result<Shared, Status>
     ensures ok { IfOk result (λ s. s.regex.value ≡ shared.now.regex.value) }
     ensures err { IfErr result (λ s. s ≡ plain code.Memory) }
@@ -156,6 +169,7 @@ fn share(shared: &Shared) -> Result<Shared, Status>
     })
 }
 
+/// Another owner of the regex behind a handle. It fails if the handle is closed or owns no regex.
 fn shared_in(alloc: Global, regex: &mut Handle) -> Result<Shared, Status>
     ensures { SharesRegex regex.old regex.new result }
 {
@@ -170,6 +184,7 @@ fn shared_in(alloc: Global, regex: &mut Handle) -> Result<Shared, Status>
     shared
 }
 
+/// Creates a fresh cache of a regex, with room for a set of its patterns.
 fn searcher_of(alloc: Global, shared: Shared) -> Result<Searcher, Status>
     ensures ok { IfOk result (IsFreshOf shared.regex.value) }
     ensures err { IfErr result (λ s. s ≡ plain code.Memory) }
@@ -183,7 +198,7 @@ fn searcher_of(alloc: Global, shared: Shared) -> Result<Searcher, Status>
     })
 }
 
-/// Opens a handle on a cache.
+/// Opens a handle on a cache. If an allocation fails, the handle is as it was.
 fn open_cache(alloc: Global, handle: &mut Handle, searcher: Searcher) -> Result<(), Status>
     ensures live { OnOk result (handle.new.live ≡ 1) }
     ensures opened { OnOk result (handle.new.slot.value ≡ Some (CacheObject searcher)) }
@@ -195,6 +210,8 @@ fn open_cache(alloc: Global, handle: &mut Handle, searcher: Searcher) -> Result<
     Ok(())
 }
 
+/// Opens a handle on a fresh cache of the regex behind another handle. It fails with `Code::Open` if the first handle
+/// is open already.
 fn create_cache(alloc: Global, cache: &mut Handle, regex: &mut Handle) -> Result<(), Status>
     ensures { CreatesCache cache.old cache.new regex.old regex.new result }
 {

@@ -11,6 +11,7 @@ use regex_automata::Input;
 use std::alloc::Global;
 
 impl Searcher {
+    /// Searches for the first match, and writes it. The status is `Code::Nothing` if there is none.
     fn find(&mut self, input: &Input<'_>, found: &mut Found) -> Status
         ensures { Finds found.new input.now self.old self.new result }
     {
@@ -25,6 +26,8 @@ impl Searcher {
         }
     }
 
+    /// Tests whether there is a match. The status is `Code::Done` if there is one, and `Code::Nothing` if there is
+    /// none.
     fn is_match(&mut self, input: &Input<'_>) -> Status
         ensures { Tests input.now self.old self.new result }
     {
@@ -36,6 +39,8 @@ impl Searcher {
         }
     }
 
+    /// Searches for the end of the first match by the forward DFA, and writes it with its pattern. The status is
+    /// `Code::Nothing` if there is none.
     fn find_end(&mut self, input: &Input<'_>, found: &mut FoundHalf) -> Status
         ensures { FindsEnd found.new input.now self.old self.new result }
     {
@@ -51,6 +56,8 @@ impl Searcher {
         }
     }
 
+    /// Searches by the reverse DFA for the start of a match that ends at the span's end, and writes it with its
+    /// pattern. The status is `Code::Nothing` if there is none.
     fn find_start(&mut self, input: &Input<'_>, found: &mut FoundHalf) -> Status
         ensures { FindsStart found.new input.now self.old self.new result }
     {
@@ -67,6 +74,8 @@ impl Searcher {
     }
 }
 
+/// Searches for the first match of a request over a cache. The status is `Code::Kind` if the object is no cache, and
+/// `Code::Argument` if the request is no input of the haystack.
 fn find_in(object: &mut Object, haystack: &[u8], request: &Request, found: &mut Found) -> Status
     ensures { OfObject (OfInput (Finds found.new) (input_of haystack.now request.now)) object.old object.new result }
 {
@@ -79,6 +88,8 @@ fn find_in(object: &mut Object, haystack: &[u8], request: &Request, found: &mut 
     }
 }
 
+/// Tests whether a request has a match, over a cache. The status is `Code::Kind` if the object is no cache, and
+/// `Code::Argument` if the request is no input of the haystack.
 fn is_match_in(object: &mut Object, haystack: &[u8], request: &Request) -> Status
     ensures { OfObject (OfInput Tests (input_of haystack.now request.now)) object.old object.new result }
 {
@@ -91,6 +102,8 @@ fn is_match_in(object: &mut Object, haystack: &[u8], request: &Request) -> Statu
     }
 }
 
+/// Searches for the end of the first match of a request over a cache. The status is `Code::Kind` if the object is no
+/// cache, and `Code::Argument` if the request is no input of the haystack.
 fn find_end_in(
     object: &mut Object,
     haystack: &[u8],
@@ -109,6 +122,8 @@ fn find_end_in(
     }
 }
 
+/// Searches for the start of a match that ends at the end of a request's span, over a cache. The status is `Code::Kind`
+/// if the object is no cache, and `Code::Argument` if the request is no input of the haystack.
 fn find_start_in(
     object: &mut Object,
     haystack: &[u8],
@@ -127,7 +142,7 @@ fn find_start_in(
     }
 }
 
-/// The first match.
+/// Searches for the first match of a request over the cache behind a handle, and writes it.
 #[unsafe(no_mangle)]
 pub extern "C" fn lazydfa_raw_find(
     alloc: Global,
@@ -146,7 +161,7 @@ pub extern "C" fn lazydfa_raw_find(
     status
 }
 
-/// Whether there is a match.
+/// Tests whether a request has a match, over the cache behind a handle.
 #[unsafe(no_mangle)]
 pub extern "C" fn lazydfa_raw_is_match(
     alloc: Global,
@@ -164,7 +179,8 @@ pub extern "C" fn lazydfa_raw_is_match(
     status
 }
 
-/// Where the first match ends.
+/// Searches for the offset where the first match of a request ends, over the cache behind a handle, and writes it with
+/// the pattern.
 #[unsafe(no_mangle)]
 pub extern "C" fn lazydfa_raw_find_end(
     alloc: Global,
@@ -183,7 +199,8 @@ pub extern "C" fn lazydfa_raw_find_end(
     status
 }
 
-/// Where a match that ends at the span's end starts.
+/// Searches for the offset where a match starts that ends at the end of a request's span, over the cache behind a
+/// handle, and writes it with the pattern.
 #[unsafe(no_mangle)]
 pub extern "C" fn lazydfa_raw_find_start(
     alloc: Global,

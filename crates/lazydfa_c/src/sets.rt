@@ -18,7 +18,7 @@ use regex_automata::hybrid::dfa::{Cache, DFA, OverlappingState};
 use regex_automata::{HalfMatch, Input, PatternSet};
 use std::alloc::Global;
 
-/// The next of all overlapping matches, forward.
+/// Searches forward for the next of all overlapping matches, by its end.
 fn next_end(
     dfa: &DFA,
     cache: &mut Cache,
@@ -36,7 +36,7 @@ fn next_end(
     }
 }
 
-/// The next of all overlapping matches, backward.
+/// Searches backward for the next of all overlapping matches, by its start.
 fn next_start(
     dfa: &DFA,
     cache: &mut Cache,
@@ -63,7 +63,7 @@ fn write(out: &mut [FoundHalf], count: &mut usize, half: HalfMatch) {
     *count = index.saturating_add(1);
 }
 
-/// Writes the ends of all matches that there is room for, and counts all.
+/// Writes the ends of all overlapping matches that there is room for, and counts all.
 fn all_ends(
     dfa: &DFA,
     cache: &mut Cache,
@@ -123,6 +123,8 @@ fn write_members(set: &PatternSet, out: &mut [u32]) -> usize
 }
 
 impl Searcher {
+    /// Writes the ends of all matches of a request that there is room for, and counts all. The status
+    /// is `Code::Argument` if the request is no input of the haystack.
     fn all_ends(
         &mut self,
         haystack: &[u8],
@@ -139,6 +141,8 @@ impl Searcher {
         all_ends(dfa, self.cache.forward_mut(), &input, out, count)
     }
 
+    /// Writes the starts of all matches of a request that there is room for, and counts all. The status
+    /// is `Code::Argument` if the request is no input of the haystack.
     fn all_starts(
         &mut self,
         haystack: &[u8],
@@ -155,7 +159,7 @@ impl Searcher {
         all_starts(dfa, self.cache.reverse_mut(), &input, out, count)
     }
 
-    /// Makes the set an empty one for the patterns below a number.
+    /// Makes the set of the searcher an empty one for the patterns below a number.
     fn empty_set(&mut self, alloc: Global, below: usize) -> Result<(), Status>
         ensures ok { OnOk result (self.new.patterns ≡ replicate below false) }
         ensures err { IfErr result (λ s. s ≡ plain code.Memory) }
@@ -171,7 +175,7 @@ impl Searcher {
         Ok(())
     }
 
-    /// Joins the set with the patterns that match.
+    /// Adds the patterns that match to the set of the searcher.
     fn join(&mut self, input: &Input<'_>) -> Status
         ensures { Joins self.old.patterns input.now self.old self.new result }
     {
@@ -212,6 +216,9 @@ impl Searcher {
     }
 }
 
+/// Writes the patterns below a number that match a request, over a cache, as many as there is room for, and counts all.
+/// The status is `Code::Kind` if the object is no cache, and `Code::Argument` if the request is no input of the
+/// haystack.
 fn which_in(
     object: &mut Object,
     alloc: Global,
@@ -236,7 +243,7 @@ fn which_in(
     }
 }
 
-/// The ends of all overlapping matches.
+/// Writes the ends of all overlapping matches of a request, as many as there is room for, and counts all.
 #[unsafe(no_mangle)]
 pub extern "C" fn lazydfa_raw_all_ends(
     alloc: Global,
@@ -257,7 +264,8 @@ pub extern "C" fn lazydfa_raw_all_ends(
     status
 }
 
-/// The starts of all overlapping matches, by the reverse DFA.
+/// Writes the starts of all overlapping matches of a request that end at the end of its span, by the reverse DFA, as
+/// many as there is room for, and counts all.
 #[unsafe(no_mangle)]
 pub extern "C" fn lazydfa_raw_all_starts(
     alloc: Global,
@@ -278,7 +286,8 @@ pub extern "C" fn lazydfa_raw_all_starts(
     status
 }
 
-/// The patterns below a number that match.
+/// Writes the patterns below a number that match a request, overlapping matches included, as many as there is room for,
+/// and counts all.
 #[unsafe(no_mangle)]
 pub extern "C" fn lazydfa_raw_which(
     alloc: Global,

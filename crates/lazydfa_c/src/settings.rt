@@ -4,7 +4,7 @@ use crate::status::Status;
 use regex_automata::MatchKind;
 use regex_automata::hybrid::dfa::Config;
 
-/// A number counts only if its `has` is not 0.
+/// The settings of a regex. The capacity is in bytes, and a number counts only if its `has` is not 0.
 #[repr(C)]
 #[derive(Clone, Copy)]
 pub struct Settings {
@@ -14,7 +14,7 @@ pub struct Settings {
     pub has_cache_capacity: u32,
     pub has_minimum_cache_clear_count: u32,
     pub has_minimum_bytes_per_state: u32,
-    /// 0 leftmost-first, 1 all.
+    /// The match kind: 0 for leftmost-first, 1 for all.
     pub match_kind: u32,
     pub starts_for_each_pattern: u32,
     pub no_byte_classes: u32,
@@ -24,6 +24,8 @@ pub struct Settings {
     pub reserved: u32,
 }
 
+/// The configuration with these quit bytes. It fails with `Code::Argument` at a byte that the configuration does not
+/// allow.
 fn with_quits(config: Config, quits: &[u8]) -> Result<Config, Status> {
     let mut config = config;
     for byte in quits {
@@ -36,6 +38,7 @@ fn with_quits(config: Config, quits: &[u8]) -> Result<Config, Status> {
 }
 
 impl Settings {
+    /// The match kind: 0 for leftmost-first, 1 for all. It fails with `Code::Argument` for another number.
     fn kind(&self) -> Result<MatchKind, Status> {
         match self.match_kind {
             0 => Ok(MatchKind::LeftmostFirst),
@@ -44,6 +47,8 @@ impl Settings {
         }
     }
 
+    /// The configuration with the capacity, in bytes, and the limits of clears and of bytes for each state, those that
+    /// are set.
     fn with_limits(&self, config: Config) -> Config {
         let mut config = config;
         if self.has_cache_capacity != 0 {
@@ -58,7 +63,8 @@ impl Settings {
         config
     }
 
-    /// The configuration, with these quit bytes, if they are allowed.
+    /// The configuration that the settings stand for, with these quit bytes. It fails with `Code::Argument` if the
+    /// match kind is none or a quit byte is not allowed.
     pub fn config(&self, quits: &[u8]) -> Result<Config, Status> {
         let kind = self.kind()?;
         let config = Config::new()

@@ -14,8 +14,8 @@ use regex_automata::tokens::TokenError;
 use regex_automata::{Anchored, MatchErrorKind};
 use std::alloc::{AllocError, AllocFailed};
 
-/// The number of a code, the quit byte if there is one, and an offset; of `Code::Capacity` the least capacity that would
-/// do.
+/// The number of a code, the quit byte if there is one, and an offset in bytes; of `Code::Capacity` the least capacity,
+/// in bytes, that would do.
 #[repr(C)]
 #[derive(Clone, Copy)]
 pub struct Status {
@@ -39,6 +39,7 @@ pub fn errors_differ()
 {}
 
 impl Status {
+    /// The status of a code at an offset, with no quit byte.
     pub fn at(code: Code, offset: usize) -> Status
         ensures { result ≡ status_at code offset }
     {

@@ -14,6 +14,7 @@ use regex_automata::tokens::Token;
 use std::alloc::Global;
 
 impl Found {
+    /// A token's pattern and span as C lays out a match.
     fn of_token(token: &Token<'_>) -> Found
         ensures { match_of result ≡ token_match token.now }
     {
@@ -27,7 +28,8 @@ impl Found {
 }
 
 impl Searcher {
-    /// The token at the start of a span, which then starts where the token ends.
+    /// Writes the token at the start of an input's span, and moves the start of what is left to the token's end. The
+    /// status is `Code::Nothing` if the span has ended.
     fn token(&mut self, input: Input<'_>, left: &mut Request, found: &mut Found) -> Status
         ensures { TakesToken found.new left.old left.new input.entry self.old self.new result }
     {
@@ -43,6 +45,8 @@ impl Searcher {
         }
     }
 
+    /// Searches for the token at the start of what is left, and writes it. The status is `Code::Argument` if what is
+    /// left is no input of the haystack.
     fn next_token(&mut self, haystack: &[u8], left: &mut Request, found: &mut Found) -> Status
         ensures { OfInput (TakesToken found.new left.old left.new) (input_of haystack.now left.old)
             self.old self.new result }
@@ -53,7 +57,8 @@ impl Searcher {
         }
     }
 
-    /// The next tokens, as many as there is room for. The status is that of the last one, or of what came after it.
+    /// Writes the next tokens of what is left, as many as there is room for, and counts them. The status is that of the
+    /// last one, or of what came after it.
     fn next_tokens(
         &mut self,
         haystack: &[u8],
@@ -73,6 +78,8 @@ impl Searcher {
     }
 }
 
+/// Searches for the token at the start of what is left, over a cache, and writes it. The status is `Code::Kind` if the
+/// object is no cache.
 fn token_in(object: &mut Object, haystack: &[u8], left: &mut Request, found: &mut Found) -> Status
     ensures { OfObject (OfInput (TakesToken found.new left.old left.new) (input_of haystack.now left.old))
         object.old object.new result }
@@ -83,7 +90,7 @@ fn token_in(object: &mut Object, haystack: &[u8], left: &mut Request, found: &mu
     }
 }
 
-/// The token at the start of what is left.
+/// Writes the token at the start of what is left, over the cache behind a handle.
 #[unsafe(no_mangle)]
 pub extern "C" fn lazydfa_raw_token(
     alloc: Global,
@@ -103,7 +110,8 @@ pub extern "C" fn lazydfa_raw_token(
     status
 }
 
-/// The next tokens, as many as there is room for.
+/// Writes the next tokens of what is left, over the cache behind a handle, as many as there is room for, and counts
+/// them.
 #[unsafe(no_mangle)]
 pub extern "C" fn lazydfa_raw_tokens(
     alloc: Global,

@@ -20,6 +20,7 @@ pub struct Usage {
 }
 
 impl Searcher {
+    /// Makes the cache a fresh one of its regex.
     fn reset(&mut self) -> Status
         ensures { Resets self.old self.new result }
     {
@@ -30,6 +31,8 @@ impl Searcher {
         }
     }
 
+    /// Returns what the cache accounts for, in bytes, how often its two parts were cleared, and how many patterns its
+    /// regex has.
     fn usage(&self) -> Usage
         ensures { result ≡ usage_of self.now }
     {
@@ -43,6 +46,7 @@ impl Searcher {
     }
 }
 
+/// Makes a cache a fresh one of its regex. The status is `Code::Kind` if the object is no cache.
 fn reset_in(object: &mut Object) -> Status
     ensures { OfObject Resets object.old object.new result }
 {
@@ -52,6 +56,7 @@ fn reset_in(object: &mut Object) -> Status
     }
 }
 
+/// Writes what a cache accounts for. The status is `Code::Kind` if the object is no cache.
 fn usage_in(object: &mut Object, usage: &mut Usage) -> Status
     ensures { OfObject (Reports usage.new) object.old object.new result }
 {
@@ -64,7 +69,7 @@ fn usage_in(object: &mut Object, usage: &mut Usage) -> Status
     }
 }
 
-/// Makes the cache a fresh one.
+/// Makes the cache behind a handle a fresh one of its regex.
 #[unsafe(no_mangle)]
 pub extern "C" fn lazydfa_raw_cache_reset(alloc: Global, cache: &mut Handle) -> Status
     ensures { OfHandle Resets cache.old cache.new result }
@@ -77,7 +82,7 @@ pub extern "C" fn lazydfa_raw_cache_reset(alloc: Global, cache: &mut Handle) -> 
     status
 }
 
-/// What the cache accounts for.
+/// Writes what the cache behind a handle accounts for, in bytes, and how often its two parts were cleared.
 #[unsafe(no_mangle)]
 pub extern "C" fn lazydfa_raw_cache_usage(
     alloc: Global,
