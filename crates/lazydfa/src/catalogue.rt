@@ -45,6 +45,7 @@ pub enum Entry {
 }
 
 impl Entry {
+    /// All entries of the catalogue.
     pub const ALL: [Entry; 17] = [
         Entry::Ab,
         Entry::Always,
@@ -65,24 +66,25 @@ impl Entry {
         Entry::A16,
     ];
 
-    /// The entry with this name.
+    /// The entry with this name, or none if no entry has it.
     pub fn named(name: &[u8]) -> Option<Entry> {
         let (_, entry) = NAMES.iter().find(|(text, _)| *text == name)?;
         Some(*entry)
     }
 
-    /// The NFA for forward searches.
+    /// Builds the NFA for forward searches.
     pub fn forward(self, alloc: Global) -> Result<NFA, NfaError> {
         let outline = self.outline();
         outline.build(alloc, outline.forward, false)
     }
 
-    /// The NFA for reverse searches.
+    /// Builds the NFA for reverse searches.
     pub fn reverse(self, alloc: Global) -> Result<NFA, NfaError> {
         let outline = self.outline();
         outline.build(alloc, outline.reverse, true)
     }
 
+    /// The tables of the entry, and whether it is in UTF-8 mode.
     fn outline(self) -> Outline {
         match self {
             Entry::Ab => Outline::new(&AB, 0, &[0]).reversed(&AB_REVERSED),
@@ -386,7 +388,7 @@ struct Outline {
 }
 
 impl Outline {
-    /// One table for both directions, and the starts of the patterns.
+    /// The outline of an NFA with one table for both directions, its unanchored start, and the starts of its patterns.
     fn new(lines: &'static [Line], unanchored: u8, patterns: &'static [u8]) -> Outline {
         Outline {
             forward: lines,
@@ -397,7 +399,7 @@ impl Outline {
         }
     }
 
-    /// The same, with another table for the reverse direction.
+    /// The outline with another table for the reverse direction.
     fn reversed(self, lines: &'static [Line]) -> Outline {
         Outline {
             reverse: lines,
@@ -405,10 +407,12 @@ impl Outline {
         }
     }
 
+    /// The outline of an NFA in UTF-8 mode.
     fn utf8(self) -> Outline {
         Outline { utf8: true, ..self }
     }
 
+    /// Builds the NFA of one of the outline's tables. State 0 is its anchored start.
     fn build(self, alloc: Global, lines: &[Line], reverse: bool) -> Result<NFA, NfaError> {
         let flags = Flags {
             utf8: self.utf8,
@@ -421,6 +425,7 @@ impl Outline {
     }
 }
 
+/// The states of a table, in its order.
 fn states_of(alloc: Global, lines: &[Line]) -> Result<Vec<State>, AllocError> {
     let mut states = Vec::with_capacity(alloc, lines.len())?;
     for line in lines {
@@ -429,6 +434,7 @@ fn states_of(alloc: Global, lines: &[Line]) -> Result<Vec<State>, AllocError> {
     Ok(states)
 }
 
+/// The state that a line of a table writes.
 fn state_of(alloc: Global, line: Line) -> Result<State, AllocError> {
     Ok(match line {
         Line::Byte(byte, next) => State::ByteRange {
@@ -457,6 +463,7 @@ fn state_of(alloc: Global, line: Line) -> Result<State, AllocError> {
     })
 }
 
+/// The transitions on ASCII word bytes, all of them to this state.
 fn word_bytes(alloc: Global, next: StateID) -> Result<Vec<Transition>, AllocError> {
     let mut transitions = Vec::with_capacity(alloc, 4)?;
     for (lo, hi) in [(b'0', b'9'), (b'A', b'Z'), (b'_', b'_'), (b'a', b'z')] {
@@ -465,6 +472,7 @@ fn word_bytes(alloc: Global, next: StateID) -> Result<Vec<Transition>, AllocErro
     Ok(transitions)
 }
 
+/// The IDs of the states of these numbers.
 fn ids_of(alloc: Global, numbers: &[u8]) -> Result<Vec<StateID>, AllocError> {
     let mut ids = Vec::with_capacity(alloc, numbers.len())?;
     for number in numbers {
@@ -473,10 +481,12 @@ fn ids_of(alloc: Global, numbers: &[u8]) -> Result<Vec<StateID>, AllocError> {
     Ok(ids)
 }
 
+/// The ID of the state of this number.
 fn id(number: u8) -> StateID {
     StateID::new(usize::from(number)).unwrap()
 }
 
+/// The ID of the pattern of this number.
 fn pattern_id(number: u8) -> PatternID {
     PatternID::new(usize::from(number)).unwrap()
 }

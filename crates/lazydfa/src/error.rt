@@ -16,7 +16,7 @@ pub enum RunError {
 }
 
 impl RunError {
-    /// A read or a write failed.
+    /// The error of a script whose input cannot be read, or whose output cannot be written.
     pub fn of_io(error: io::Error) -> RunError {
         match error.kind() {
             io::ErrorKind::OutOfMemory => RunError::OutOfMemory,
@@ -24,7 +24,7 @@ impl RunError {
         }
     }
 
-    /// The exit status of the process.
+    /// The exit status of the process: 2 for a bad line, 1 for any other error.
     pub fn status(self) -> ExitCode {
         match self {
             RunError::BadLine(_) => ExitCode::from(2),

@@ -59,7 +59,7 @@ const KEYWORDS: [(&[u8], Keyword); 25] = [
 ];
 
 impl Keyword {
-    /// The keyword with this spelling.
+    /// The keyword with this spelling, or none if the word is no keyword.
     pub fn spelled(word: &[u8]) -> Option<Keyword> {
         let (_, keyword) = KEYWORDS.iter().find(|(text, _)| *text == word)?;
         Some(*keyword)

@@ -14,6 +14,7 @@ mod script;
 #[cfg(test)]
 mod tests;
 
+/// Answers the script on standard input. An error is written to standard error, and gives the exit status.
 fn main(rt: HostRuntime) -> ExitCode {
     match run(rt.alloc(), &mut rt.reader(), &mut io::writer(&rt)) {
         Ok(()) => ExitCode::SUCCESS,

@@ -30,6 +30,7 @@ impl<'a> fmt::Display for Line<'a> {
     }
 }
 
+/// Writes a half match as `half PATTERN OFFSET`, its offset in bytes, or `none`, or the words of the error.
 pub(crate) fn write_half<W: fmt::Write>(
     f: &mut fmt::Formatter<W>,
     found: &Result<Option<HalfMatch>, SearchError>,
@@ -45,6 +46,7 @@ pub(crate) fn write_half<W: fmt::Write>(
     }
 }
 
+/// Writes a match as `match PATTERN START..END`, its offsets in bytes, or `none`, or the words of the error.
 pub(crate) fn write_span<W: fmt::Write>(
     f: &mut fmt::Formatter<W>,
     found: &Result<Option<Match>, SearchError>,
@@ -59,6 +61,7 @@ pub(crate) fn write_span<W: fmt::Write>(
     }
 }
 
+/// Writes `iter`, the matches of an iteration, and the words of the error that ended it, if one did.
 fn write_matches<W: fmt::Write>(
     f: &mut fmt::Formatter<W>,
     matches: &[Match],
@@ -69,6 +72,7 @@ fn write_matches<W: fmt::Write>(
     write_end(f, error)
 }
 
+/// Writes `tokens`, the tokens of a span, and the words of the error that ended the list, if one did.
 fn write_tokens<W: fmt::Write>(
     f: &mut fmt::Formatter<W>,
     tokens: &[Match],
@@ -83,6 +87,7 @@ fn write_tokens<W: fmt::Write>(
     }
 }
 
+/// Writes each match of a list as `PATTERN START..END`, with a blank before it.
 fn write_each<W: fmt::Write>(f: &mut fmt::Formatter<W>, matches: &[Match]) -> fmt::Result {
     for found in matches {
         write!(f, " ")?;
@@ -91,6 +96,7 @@ fn write_each<W: fmt::Write>(f: &mut fmt::Formatter<W>, matches: &[Match]) -> fm
     Ok(())
 }
 
+/// Writes a match as `PATTERN START..END`, its offsets in bytes.
 fn write_match<W: fmt::Write>(f: &mut fmt::Formatter<W>, found: &Match) -> fmt::Result {
     let pattern = found.pattern().as_usize();
     let start = found.start();
@@ -98,6 +104,7 @@ fn write_match<W: fmt::Write>(f: &mut fmt::Formatter<W>, found: &Match) -> fmt::
     write!(f, "{pattern} {start}..{end}")
 }
 
+/// Writes `patterns`, the numbers of the patterns, and the words of the error that ended the list, if one did.
 fn write_patterns<W: fmt::Write>(
     f: &mut fmt::Formatter<W>,
     patterns: &[PatternID],
@@ -110,7 +117,7 @@ fn write_patterns<W: fmt::Write>(
     write_end(f, error)
 }
 
-/// The words of the error that ended a list, if one did.
+/// Writes a blank and the words of the error that ended a list, if one did.
 fn write_end<W: fmt::Write>(f: &mut fmt::Formatter<W>, error: Option<&SearchError>) -> fmt::Result {
     if let Some(error) = error {
         write!(f, " ")?;
@@ -119,6 +126,7 @@ fn write_end<W: fmt::Write>(f: &mut fmt::Formatter<W>, error: Option<&SearchErro
     Ok(())
 }
 
+/// Writes the words of the error of a search, its offset in bytes.
 pub(crate) fn write_error<W: fmt::Write>(
     f: &mut fmt::Formatter<W>,
     error: &SearchError,
@@ -134,6 +142,7 @@ pub(crate) fn write_error<W: fmt::Write>(
     }
 }
 
+/// Writes the words of a request that names no regex, no walk, or a walk of another regex.
 fn write_fault<W: fmt::Write>(f: &mut fmt::Formatter<W>, fault: Fault) -> fmt::Result {
     match fault {
         Fault::NoRegex => write!(f, "bad regex"),

@@ -101,6 +101,7 @@ impl Script {
             .collect(alloc)
     }
 
+    /// Reads a line, which is neither empty nor a comment, and adds the definition or the order that it has.
     fn add_line(&mut self, alloc: Global, line: &[u8]) -> Result<(), LineError> {
         let words: Vec<&[u8]> = line.split(|byte| *byte == b' ').collect(alloc)?;
         if words.iter().any(|word| word.is_empty()) {
@@ -127,6 +128,7 @@ impl Script {
         Ok(self.definitions.push(definition).map_err(AllocError::from)?)
     }
 
+    /// Adds an order after the others.
     fn add_order(&mut self, order: Order) -> Result<(), LineError> {
         Ok(self.orders.push(order).map_err(AllocError::from)?)
     }
@@ -145,6 +147,7 @@ impl Definition {
 }
 
 impl Order {
+    /// Reads an order, by its keyword and the words after it.
     fn parse(alloc: Global, keyword: Keyword, words: &[&[u8]]) -> Result<Order, LineError> {
         let order = match keyword {
             Keyword::Forward => Order::SearchFwd(Query::parse(alloc, words)?),
@@ -173,6 +176,7 @@ impl Order {
         Ok(Order::BeginWalk { way, query })
     }
 
+    /// Reads the words of an order for a set of patterns: its capacity, a haystack, and options.
     fn parse_which(alloc: Global, words: &[&[u8]]) -> Result<Order, LineError> {
         let (word, rest) = words.split_first().ok_or(LineError::Bad)?;
         let capacity = number(*word).ok_or(LineError::Bad)?;
@@ -180,6 +184,7 @@ impl Order {
         Ok(Order::Which { capacity, query })
     }
 
+    /// The request of the order, over the haystack that the order owns.
     fn request(&self) -> Request<'_> {
         match self {
             Order::SearchFwd(query) => Request::SearchFwd(query.input()),
@@ -228,7 +233,7 @@ pub fn configured(config: Config, option: &[u8]) -> Option<Config> {
 }
 
 impl Query {
-    /// The haystack of a request, and the options of its search.
+    /// The input of a search: the haystack, and the options of the query.
     fn input(&self) -> Input<'_> {
         Input::new(self.haystack.as_slice())
             .span(self.span)
@@ -236,6 +241,7 @@ impl Query {
             .earliest(self.earliest)
     }
 
+    /// Reads the words of a query: a haystack, and options of its search.
     fn parse(alloc: Global, words: &[&[u8]]) -> Result<Query, LineError> {
         let (word, options) = words.split_first().ok_or(LineError::Bad)?;
         let haystack = haystack_of(alloc, *word)?;
@@ -255,6 +261,7 @@ impl Query {
         Ok(query)
     }
 
+    /// Sets an option of the search. It returns none if the word is no option.
     fn set(&mut self, option: &[u8]) -> Option<()> {
         match option_of(option)? {
             (Keyword::Anchored, None) => self.anchored = Anchored::Yes,
@@ -269,6 +276,8 @@ impl Query {
         Some(())
     }
 
+    /// Sets the span, in bytes, to the one that the text `START..END` writes. It returns none if the text has another
+    /// form, or if the input does not allow the span.
     fn set_span(&mut self, value: &[u8]) -> Option<()> {
         let (start, rest) = split_once(value, b'.')?;
         let (before, end) = split_once(rest, b'.')?;
@@ -294,6 +303,7 @@ fn haystack_of(alloc: Global, word: &[u8]) -> Result<Vec<u8>, LineError> {
     Ok(haystack)
 }
 
+/// Appends the bytes that pairs of hexadecimal digits spell.
 fn push_pairs(haystack: &mut Vec<u8>, word: &[u8]) -> Result<(), LineError> {
     haystack.reserve(word.len() / 2)?;
     for pair in word.chunks(2) {
