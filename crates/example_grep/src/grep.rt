@@ -27,6 +27,7 @@ impl Drop for Unsearched {
 }
 
 impl Unsearched {
+    /// Makes room for a block, before anything is read.
     fn new(alloc: Global) -> Result<Unsearched> {
         let block = vec![in alloc; 0; BLOCK]?;
         let text = Vec::new(alloc);
@@ -89,6 +90,7 @@ impl Drop for Grep {
 }
 
 impl Grep {
+    /// A grep that has found nothing so far. Without a searcher of spans it shows whole lines.
     pub fn new(
         alloc: Global,
         show: Show,
@@ -128,7 +130,7 @@ impl Grep {
         }
     }
 
-    /// Searches whole lines.
+    /// Searches the lines of a text, and appends what is to be shown of them.
     fn search(&mut self, text: &[u8]) -> Result<()> {
         let found = self.lines.matching(self.alloc, text)?;
         for line in &found {
@@ -168,6 +170,7 @@ impl Grep {
     }
 }
 
+/// Appends a line, after the prefix and before a line feed.
 fn push_whole(prefix: &[u8], line: &[u8], shown: &mut Vec<u8>) -> Result<()> {
     shown.extend_from_slice(prefix)?;
     shown.extend_from_slice(line)?;

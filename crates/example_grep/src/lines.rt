@@ -38,6 +38,7 @@ pub struct Line<'t> {
 }
 
 impl LineSearcher {
+    /// A searcher of lines over a fresh cache of the DFA. Its lines are counted from 1.
     pub fn new(dfa: DFA) -> Result<LineSearcher>
         requires { IsLookAcyclic (nfa_of dfa.nfa) }
         ensures { IfOk result (λ s. s.dfa ≡ dfa) }

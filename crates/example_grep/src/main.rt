@@ -39,7 +39,7 @@ fn patterns_nfa(alloc: Global, options: &Options<'_>) -> Result<NFA, PatternErro
     nfa_of(alloc, options.patterns.as_slice(), &how)
 }
 
-/// Shows what is wrong with a pattern.
+/// Shows what is wrong with a pattern, and returns exit status 2.
 fn report(rt: &HostRuntime, options: &Options<'_>, error: PatternError) -> Result<ExitCode> {
     let pattern = options.patterns.get(error.number).copied().unwrap_or("");
     let shown = error.show(rt.alloc(), pattern)?;
@@ -47,6 +47,7 @@ fn report(rt: &HostRuntime, options: &Options<'_>, error: PatternError) -> Resul
     Ok(ExitCode::from(2))
 }
 
+/// The searcher of lines for an NFA. It fails if a cycle of the NFA passes a look-around assertion.
 fn line_searcher(nfa: NFA) -> Result<LineSearcher> {
     let dfa = DFA::builder().build_from_nfa(nfa)?;
     if !dfa.get_nfa().is_look_acyclic() {
@@ -55,10 +56,12 @@ fn line_searcher(nfa: NFA) -> Result<LineSearcher> {
     LineSearcher::new(dfa)
 }
 
+/// The searcher of matches in a line, for an NFA.
 fn span_searcher(nfa: &NFA) -> Result<SpanSearcher> {
     SpanSearcher::new(Regex::builder().build_from_nfa(nfa.clone()?)?)
 }
 
+/// The grep of an NFA. It searches for matches in lines if these alone are to be shown.
 fn grep_of(alloc: Global, show: Show, nfa: NFA) -> Result<Grep> {
     let spans = if show.only_matches {
         Some(span_searcher(&nfa)?)
@@ -68,7 +71,7 @@ fn grep_of(alloc: Global, show: Show, nfa: NFA) -> Result<Grep> {
     Ok(Grep::new(alloc, show, line_searcher(nfa)?, spans))
 }
 
-/// Searches standard input.
+/// Searches standard input. The exit status is 0 if a line has a match, and 1 if none has.
 fn search(rt: &HostRuntime, show: Show, nfa: NFA) -> Result<ExitCode> {
     let mut grep = grep_of(rt.alloc(), show, nfa)?;
     grep.run(&mut rt.reader(), &mut io::writer(rt))?;
@@ -79,6 +82,7 @@ fn search(rt: &HostRuntime, show: Show, nfa: NFA) -> Result<ExitCode> {
     })
 }
 
+/// The arguments after the program's name.
 fn arguments(rt: &HostRuntime) -> Result<Vec<String>> {
     let mut all = Vec::new(rt.alloc());
     for argument in env::args(rt)?.skip(1) {
@@ -87,6 +91,7 @@ fn arguments(rt: &HostRuntime) -> Result<Vec<String>> {
     Ok(all)
 }
 
+/// Searches standard input for the patterns of the arguments, and returns the exit status.
 fn run(rt: &HostRuntime) -> Result<ExitCode> {
     let arguments = arguments(rt)?;
     let options = Options::read(rt.alloc(), arguments.as_slice())?;
@@ -96,6 +101,7 @@ fn run(rt: &HostRuntime) -> Result<ExitCode> {
     }
 }
 
+/// Runs the program. An error is written to standard error, and gives the exit status 2.
 fn main(rt: HostRuntime) -> ExitCode {
     match run(&rt) {
         Ok(status) => status,

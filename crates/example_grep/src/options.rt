@@ -34,6 +34,7 @@ impl<'a> Drop for Options<'a> {
 }
 
 impl<'a> Options<'a> {
+    /// Options without a flag or a pattern.
     fn new(alloc: Global) -> Options<'a> {
         let show = Show {
             count: false,
@@ -61,6 +62,7 @@ impl<'a> Options<'a> {
         Ok(())
     }
 
+    /// Takes an argument: flags if it is `-` with letters and no pattern came before it, and otherwise a pattern.
     fn take(&mut self, argument: &'a str) -> Result<()> {
         match argument.strip_prefix('-') {
             Some(letters) if self.patterns.is_empty() && !letters.is_empty() => self.set_flags(

@@ -24,6 +24,7 @@ impl Drop for SpanSearcher {
 }
 
 impl SpanSearcher {
+    /// A searcher of matches over fresh caches of the regex.
     pub fn new(regex: Regex) -> Result<SpanSearcher> {
         let caches = regex.create_cache()?;
         Ok(SpanSearcher { regex, caches })

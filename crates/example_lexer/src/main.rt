@@ -22,6 +22,7 @@ use std::alloc::Global;
 use std::fmt::Write;
 use std::io::Read;
 
+/// The lexer of the kinds of tokens.
 fn lexer(alloc: Global) -> Result<Lexer> {
     let regex = Regex::builder().build_from_nfa(kinds_nfa(alloc)?)?;
     Ok(Lexer::new(regex)?)
@@ -44,6 +45,7 @@ fn push_tokens(alloc: Global, text: &[u8], lexed: &Lexed<'_>, shown: &mut String
     Ok(())
 }
 
+/// Prints the tokens of standard input.
 fn main(rt: HostRuntime) -> Result<()> {
     let mut text = Vec::new(rt.alloc());
     rt.reader().read_to_end(&mut text)?;

@@ -9,6 +9,7 @@ pub struct Place {
 }
 
 impl Place {
+    /// The place of the first byte: line 1, column 1.
     pub fn start() -> Place {
         Place { line: 1, column: 1 }
     }

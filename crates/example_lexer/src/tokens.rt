@@ -34,7 +34,7 @@ pub struct Lexed<'t> {
     pub end: usize,
 }
 
-/// The offset at which there is no token.
+/// The offset, in bytes, at which there is no token. The error of a search is returned as it is.
 fn missing(error: TokenError) -> Result<usize, SearchError>
     ensures { IfOk result (λ at. error ≡ NoToken at) }
 {
@@ -45,6 +45,7 @@ fn missing(error: TokenError) -> Result<usize, SearchError>
 }
 
 impl Lexer {
+    /// A lexer over fresh caches of the regex.
     pub fn new(regex: Regex) -> Result<Lexer, AllocError>
         ensures { IfOk result (λ lexer. lexer.regex ≡ regex) }
     {

@@ -49,7 +49,7 @@ impl From<regex_compile::Error> for Fault {
     }
 }
 
-/// Which pattern has no NFA, and why.
+/// The first pattern that has no NFA, and why it has none.
 #[derive(Clone, Copy, Debug, PartialEq, Eq, Error)]
 #[error("pattern {number}: {fault}")]
 pub struct PatternError {

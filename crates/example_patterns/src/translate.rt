@@ -6,7 +6,7 @@ use regex_automata::util::primitives::{PatternID, StateID};
 use regex_nfa::Nfa;
 use std::alloc::Global;
 
-/// Which pattern the states belong to, and how many states stand before them.
+/// The pattern that states belong to, and how many states stand before them.
 #[derive(Clone, Copy)]
 pub(crate) struct Origin {
     pub base: usize,

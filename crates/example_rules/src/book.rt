@@ -29,6 +29,7 @@ impl Drop for Book {
     }
 }
 
+/// Whether a line of the file is to be a rule: it is neither empty nor a comment.
 fn is_rule(line: &str) -> bool {
     !line.is_empty() && !line.starts_with('#')
 }
@@ -66,7 +67,7 @@ pub fn read_rules(alloc: Global, text: &str, shown: &mut String) -> Result<Book>
 }
 
 impl Book {
-    /// The line of a rule.
+    /// The number of a rule's line in the file, counted from 1.
     pub fn line(&self, rule: usize) -> u64 {
         match self.rules.get(rule) {
             Some(rule) => rule.line,

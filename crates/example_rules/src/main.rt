@@ -21,7 +21,7 @@ use std::fmt::Write;
 use std::io::Read;
 use std::{env, fs};
 
-/// What is printed of a record.
+/// Appends what is printed of a record: the lines of the rules that match it, and the record.
 fn push_record(book: &Book, found: &PatternSet, record: &str, shown: &mut String) -> Result<()> {
     for rule in found.iter() {
         write!(shown, "{} ", book.line(rule.as_usize()))?;
@@ -30,6 +30,7 @@ fn push_record(book: &Book, found: &PatternSet, record: &str, shown: &mut String
     Ok(())
 }
 
+/// Appends what is printed of each record, one on each line.
 fn push_records(alloc: Global, book: &mut Book, records: &str, shown: &mut String) -> Result<()> {
     for record in records.lines() {
         let found = book.rules_of(alloc, record.as_bytes())?;
@@ -38,6 +39,7 @@ fn push_records(alloc: Global, book: &mut Book, records: &str, shown: &mut Strin
     Ok(())
 }
 
+/// What the program prints for the text of a file of rules and the text of the records.
 fn run(alloc: Global, rules: &str, records: &str) -> Result<String> {
     let mut shown = String::new(alloc);
     let mut book = read_rules(alloc, rules, &mut shown)?;
@@ -46,6 +48,7 @@ fn run(alloc: Global, rules: &str, records: &str) -> Result<String> {
     Ok(shown)
 }
 
+/// Prints which rules of the file that the argument names match each line of standard input.
 fn main(rt: HostRuntime) -> Result<()> {
     let Some(path) = env::args(&rt)?.nth(1) else {
         bail!("usage: example_rules RULES < RECORDS");

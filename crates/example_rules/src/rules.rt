@@ -30,6 +30,7 @@ impl Drop for RuleMatcher {
 }
 
 impl RuleMatcher {
+    /// A matcher of the NFA's patterns over a fresh cache. Its DFA reports all matches.
     pub fn new(nfa: NFA) -> Result<RuleMatcher>
         ensures { IfOk result (λ matcher. matcher.dfa.nfa ≡ nfa) }
     {

@@ -19,7 +19,8 @@ use std::alloc::Global;
 use std::fmt::Write;
 use std::io::Read;
 
-/// `[0-9]+`: a digit, and then more digits or the match. The prefix skips bytes, for searches that are not anchored.
+/// The NFA of `[0-9]+`: a digit, and then more digits or the match. The prefix skips bytes, for searches that are not
+/// anchored.
 fn number(alloc: Global) -> Result<NFA> {
     let mut builder = Builder::new(alloc);
     builder.start_pattern()?;
@@ -33,6 +34,7 @@ fn number(alloc: Global) -> Result<NFA> {
     Ok(builder.build(digit, prefix)?)
 }
 
+/// The finder of numbers.
 fn finder(alloc: Global) -> Result<Finder> {
     let nfa = number(alloc)?;
     if nfa.is_utf8() {
@@ -41,7 +43,7 @@ fn finder(alloc: Global) -> Result<Finder> {
     Finder::new(nfa)
 }
 
-/// What is printed of a line.
+/// Appends what is printed of a line: where its first number ends, and the line.
 fn push_end(finder: &mut Finder, line: &str, shown: &mut String) -> Result<()> {
     match finder.find(line.as_bytes())? {
         Some(half) => writeln!(shown, "ends at {}: {line}", half.offset())?,
@@ -50,6 +52,7 @@ fn push_end(finder: &mut Finder, line: &str, shown: &mut String) -> Result<()> {
     Ok(())
 }
 
+/// Appends what is printed of each line of a text.
 fn push_ends(alloc: Global, text: &str, shown: &mut String) -> Result<()> {
     let mut finder = finder(alloc)?;
     for line in text.lines() {
@@ -58,6 +61,7 @@ fn push_ends(alloc: Global, text: &str, shown: &mut String) -> Result<()> {
     Ok(())
 }
 
+/// Prints where the first number ends in each line of standard input.
 fn main(rt: HostRuntime) -> Result<()> {
     let mut text = String::new(rt.alloc());
     rt.reader().read_to_string(&mut text)?;

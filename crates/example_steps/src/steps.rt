@@ -87,6 +87,7 @@ fn first_match(dfa: &DFA, cache: &mut Cache, input: &Input<'_>) -> Option<Option
 }
 
 impl Finder {
+    /// A finder over fresh caches of two DFAs of the NFA.
     pub fn new(nfa: NFA) -> Result<Finder>
         requires { nfa.flags.utf8 ≡ false }
     {
