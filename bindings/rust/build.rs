@@ -2,6 +2,7 @@
 use std::env;
 use std::path::PathBuf;
 
+/// Tells cargo where `liblazydfa.a` is, and when to link it again.
 fn main() {
     let made = PathBuf::from(env::var("CARGO_MANIFEST_DIR").expect("cargo sets it")).join("../c/out");
     let folder = env::var("LAZYDFA_LIB").map_or(made, PathBuf::from);

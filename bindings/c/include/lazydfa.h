@@ -261,6 +261,7 @@ lazydfa_status lazydfa_raw_all_starts(lazydfa_handle *, const uint8_t *, size_t,
 lazydfa_status lazydfa_raw_which(lazydfa_handle *, const uint8_t *, size_t, const lazydfa_input *, size_t, uint32_t *,
                                  size_t, size_t *);
 
+/* The status of a call that is given an argument which is not allowed. */
 static inline lazydfa_status lazydfa_bad_argument(void) {
     lazydfa_status status = { LAZYDFA_ARGUMENT, 0, 0 };
     return status;
@@ -316,10 +317,12 @@ static inline lazydfa_status lazydfa_builder_close(lazydfa_builder *builder) {
     LAZYDFA_NEED(builder);
     return lazydfa_raw_close(&builder->handle);
 }
+/* Frees a regex, with the codes of lazydfa_builder_close. Its caches keep what they need of it. */
 static inline lazydfa_status lazydfa_regex_close(lazydfa_regex *regex) {
     LAZYDFA_NEED(regex);
     return lazydfa_raw_close(&regex->handle);
 }
+/* Frees a cache, with the codes of lazydfa_builder_close. */
 static inline lazydfa_status lazydfa_cache_close(lazydfa_cache *cache) {
     LAZYDFA_NEED(cache);
     return lazydfa_raw_close(&cache->handle);
@@ -371,10 +374,12 @@ static inline lazydfa_status lazydfa_set_utf8(lazydfa_builder *builder, uint32_t
     LAZYDFA_NEED(builder);
     return lazydfa_raw_set_utf8(&builder->handle, yes);
 }
+/* Sets whether the NFA reads its haystack backward. By default it does not. */
 static inline lazydfa_status lazydfa_set_reverse(lazydfa_builder *builder, uint32_t yes) {
     LAZYDFA_NEED(builder);
     return lazydfa_raw_set_reverse(&builder->handle, yes);
 }
+/* Sets the byte that ends lines, for the looks at lines. By default it is '\n'. */
 static inline lazydfa_status lazydfa_set_line_terminator(lazydfa_builder *builder, uint8_t byte) {
     LAZYDFA_NEED(builder);
     return lazydfa_raw_set_line_terminator(&builder->handle, byte);
@@ -442,6 +447,7 @@ static inline lazydfa_status lazydfa_add_capture_start(lazydfa_builder *builder,
     LAZYDFA_NEED(id);
     return lazydfa_raw_add_capture_start(&builder->handle, next, group, id);
 }
+/* Where a group of the pattern ends. LAZYDFA_NO_PATTERN if no pattern is started. */
 static inline lazydfa_status lazydfa_add_capture_end(lazydfa_builder *builder, uint32_t next, uint32_t group,
                                                      uint32_t *id) {
     LAZYDFA_NEED(builder);
@@ -652,6 +658,8 @@ static inline lazydfa_status lazydfa_all_ends(lazydfa_cache *cache, const uint8_
     return lazydfa_raw_all_ends(&cache->handle, lazydfa_bytes(haystack, length), length, input, room ? found : &none,
                                 room, count);
 }
+/* The starts of all overlapping matches that end where the span does, backward, by the reverse DFA. It writes and
+   counts as lazydfa_all_ends does, with the same codes. */
 static inline lazydfa_status lazydfa_all_starts(lazydfa_cache *cache, const uint8_t *haystack, size_t length,
                                                 const lazydfa_input *input, lazydfa_half *found, size_t room,
                                                 size_t *count) {

@@ -4,7 +4,7 @@ use lazydfa::nfa::thompson::{Builder, Transition};
 use lazydfa::util::primitives::StateID;
 use lazydfa::{Error, Input};
 
-/// `[a-z]+`
+/// Builds the regex `[a-z]+`.
 fn word() -> Result<Regex, Error> {
     let mut builder = Builder::new()?;
     builder.start_pattern()?;
@@ -17,7 +17,7 @@ fn word() -> Result<Regex, Error> {
     Regex::builder().build_from_nfa(&builder.build(letter, prefix))
 }
 
-/// `[0-9]{4}-[0-9]{2}-[0-9]{2}`, from its end.
+/// Builds the regex `[0-9]{4}-[0-9]{2}-[0-9]{2}`, from its end.
 fn date() -> Result<Regex, Error> {
     let mut builder = Builder::new()?;
     builder.start_pattern()?;
@@ -31,7 +31,7 @@ fn date() -> Result<Regex, Error> {
     Regex::builder().build_from_nfa(&builder.build(at, prefix))
 }
 
-/// How many lines have a match. After one, the search goes on in the next line.
+/// Counts the lines that have a match. After a match, the search goes on in the next line.
 fn count_lines(regex: &Regex, text: &[u8]) -> Result<usize, Error> {
     let mut cache = regex.create_cache()?;
     let (mut count, mut from) = (0, 0);
@@ -45,6 +45,7 @@ fn count_lines(regex: &Regex, text: &[u8]) -> Result<usize, Error> {
     Ok(count)
 }
 
+/// Prints the spans, in bytes, of the words of the arguments, or how many lines of a file have a date.
 fn main() -> Result<(), Box<dyn std::error::Error>> {
     let words: Vec<String> = std::env::args().skip(1).collect();
     match words.as_slice() {

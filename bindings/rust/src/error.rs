@@ -37,21 +37,21 @@ pub enum Error {
     Starts,
     /// There is a Unicode word boundary, and it is not enabled.
     Unsupported,
-    /// The cache capacity is below the minimum.
+    /// The cache capacity is below the minimum, in bytes.
     InsufficientCacheCapacity { minimum: usize },
     /// The smallest table has more offsets than an ID can hold.
     InsufficientStateIDCapacity { attempted: usize },
     /// The two NFAs of a pair do not have equally many patterns.
     PatternCounts,
-    /// The search met a quit byte.
+    /// The search met a quit byte at this offset of the haystack, in bytes.
     Quit { byte: u8, offset: usize },
-    /// The search gave up: the cache is full, and the settings do not allow another clear.
+    /// The search gave up at this offset, in bytes: the cache is full, and the settings do not allow another clear.
     GaveUp { offset: usize },
     /// The regex was not built for the anchored mode.
     UnsupportedAnchored,
     /// The second NFA of a pair finds no start for a match of the first.
     NotAPair,
-    /// At this offset no pattern matches, or only the empty string does.
+    /// At this offset of the haystack, in bytes, no pattern matches, or only the empty string does.
     NoToken { offset: usize },
 }
 
@@ -96,7 +96,7 @@ impl fmt::Display for Error {
 impl std::error::Error for Error {}
 
 impl Status {
-    /// Whether a call did what it was asked to, or found something.
+    /// Whether a call did what it was asked to, or found something. A call that failed is an error.
     pub fn found(self) -> Result<bool, Error> {
         let offset = self.offset;
         let error = match self.code {
@@ -131,6 +131,7 @@ impl Status {
         Err(error)
     }
 
+    /// Returns the error of a call that failed. For any other call it returns `Ok`.
     pub fn done(self) -> Result<(), Error> {
         self.found().map(|_| ())
     }

@@ -12,36 +12,45 @@ pub mod dfa {
     }
 
     impl Config {
+        /// The default settings.
         pub fn new() -> Config {
             Config::default()
         }
 
+        /// Sets which matches a search reports. By default it is `MatchKind::LeftmostFirst`.
         pub fn match_kind(mut self, kind: MatchKind) -> Config {
             self.settings.match_kind = (kind == MatchKind::All).into();
             self
         }
 
+        /// Sets whether each pattern has start states of its own, so that it can be searched for alone. By default it
+        /// has none.
         pub fn starts_for_each_pattern(mut self, yes: bool) -> Config {
             self.settings.starts_for_each_pattern = yes.into();
             self
         }
 
+        /// Sets whether bytes that the NFA does not distinguish share a class, which makes rows shorter. By default
+        /// they do.
         pub fn byte_classes(mut self, yes: bool) -> Config {
             self.settings.no_byte_classes = (!yes).into();
             self
         }
 
+        /// Sets whether Unicode word boundaries are decided as ASCII ones, with every byte from 0x80 on a quit byte. By
+        /// default they are not, and an NFA that has one is an error.
         pub fn unicode_word_boundary(mut self, yes: bool) -> Config {
             self.settings.unicode_word_boundary = yes.into();
             self
         }
 
+        /// Sets whether the IDs of start states are tagged. By default they are not.
         pub fn specialize_start_states(mut self, yes: bool) -> Config {
             self.settings.specialize_start_states = yes.into();
             self
         }
 
-        /// Makes this byte a quit byte, or not.
+        /// Makes this byte a quit byte, at which a search fails, or makes it none. By default no byte is one.
         pub fn quit(mut self, byte: u8, yes: bool) -> Config {
             self.quits.retain(|quit| *quit != byte);
             if yes {
@@ -50,22 +59,28 @@ pub mod dfa {
             self
         }
 
+        /// Sets the most bytes that a cache of each of the two DFAs may account for. By default it is 2 MiB.
         pub fn cache_capacity(mut self, bytes: usize) -> Config {
             (self.settings.has_cache_capacity, self.settings.cache_capacity) = (1, bytes);
             self
         }
 
+        /// Sets whether a capacity below the minimum is raised to it. By default it is an error.
         pub fn skip_cache_capacity_check(mut self, yes: bool) -> Config {
             self.settings.skip_cache_capacity_check = yes.into();
             self
         }
 
+        /// Sets the number of clears after which a search may give up instead of clearing the cache once more. By
+        /// default, `None`, it never gives up.
         pub fn minimum_cache_clear_count(mut self, min: Option<usize>) -> Config {
             self.settings.has_minimum_cache_clear_count = min.is_some().into();
             self.settings.minimum_cache_clear_count = min.unwrap_or(0);
             self
         }
 
+        /// Sets the number of bytes for each state of the cache which keeps a search from giving up, if so many were
+        /// searched since the last clear. By default, `None`, no number does.
         pub fn minimum_bytes_per_state(mut self, min: Option<usize>) -> Config {
             self.settings.has_minimum_bytes_per_state = min.is_some().into();
             self.settings.minimum_bytes_per_state = min.unwrap_or(0);
@@ -90,6 +105,7 @@ pub mod dfa {
             self.half(cache, input, raw::lazydfa_raw_find_start)
         }
 
+        /// Runs a search of the library that writes a half match.
         fn half(
             &self,
             cache: &mut Cache<'_>,
@@ -142,6 +158,8 @@ pub mod dfa {
             self.all(cache, input, raw::lazydfa_raw_all_starts)
         }
 
+        /// Runs a search of the library that writes all overlapping matches. It is run once more, with room for all, if
+        /// they are more than 64.
         fn all(&self, cache: &mut Cache<'_>, input: &Input<'_>, search: SearchAll) -> Result<Vec<HalfMatch>, Error> {
             let haystack = input.haystack();
             let handle = self.regex.own(cache);
@@ -179,11 +197,12 @@ pub mod regex {
     }
 
     impl Builder {
+        /// A builder with the default settings.
         pub fn new() -> Builder {
             Builder::default()
         }
 
-        /// Sets the settings.
+        /// Sets the settings of both DFAs.
         pub fn dfa(&mut self, config: Config) -> &mut Builder {
             self.config = config;
             self
@@ -240,11 +259,12 @@ pub mod regex {
     }
 
     impl Regex {
+        /// A builder of regexes, with the default settings.
         pub fn builder() -> Builder {
             Builder::new()
         }
 
-        /// A cache for its searches.
+        /// Creates a fresh cache for searches of the regex.
         pub fn create_cache(&self) -> Result<Cache<'_>, Error> {
             let mut handle = Handle::closed();
             let regex: *mut Handle = &mut *self.handle.borrow_mut();
@@ -278,7 +298,7 @@ pub mod regex {
             .found()
         }
 
-        /// The first match.
+        /// Searches for the first match.
         pub fn find<'h, I: Into<Input<'h>>>(&self, cache: &mut Cache<'_>, input: I) -> Result<Option<Match>, Error> {
             let input = input.into();
             let haystack = input.haystack();
@@ -334,11 +354,13 @@ pub mod regex {
     }
 
     impl Cache<'_> {
-        /// Makes it a fresh cache.
+        /// Makes the cache a fresh one.
         pub fn reset(&mut self) -> Result<(), Error> {
             unsafe { raw::lazydfa_raw_cache_reset(&mut self.handle) }.done()
         }
 
+        /// What the cache accounts for, in bytes, how often its two parts were cleared, and how many patterns its regex
+        /// has.
         fn usage(&mut self) -> raw::Usage {
             let mut usage = raw::Usage::default();
             // It fails for handles that are closed or of another kind, and this one is neither.
@@ -346,12 +368,12 @@ pub mod regex {
             usage
         }
 
-        /// The bytes that it accounts for.
+        /// How many bytes the cache accounts for.
         pub fn memory_usage(&mut self) -> usize {
             self.usage().memory
         }
 
-        /// How often its two parts were cleared, the forward one first.
+        /// How often the two parts of the cache were cleared, the forward one first.
         pub fn clear_counts(&mut self) -> (usize, usize) {
             let usage = self.usage();
             (usage.forward_clears, usage.reverse_clears)
@@ -379,6 +401,7 @@ pub mod regex {
     }
 
     impl FindMatches<'_, '_, '_> {
+        /// Refills the buffer with the next matches, and sets what comes after them.
         fn fill(&mut self) {
             let status = unsafe {
                 raw::lazydfa_raw_next_all(
@@ -403,6 +426,7 @@ pub mod regex {
     impl Iterator for FindMatches<'_, '_, '_> {
         type Item = Result<Match, Error>;
 
+        /// Returns the next match. After an error, or after the last match, it returns `None`.
         fn next(&mut self) -> Option<Result<Match, Error>> {
             if self.taken == self.length && self.end.is_none() {
                 self.fill();
@@ -428,6 +452,7 @@ pub mod regex {
     impl Iterator for Tokens<'_, '_, '_> {
         type Item = Result<Match, Error>;
 
+        /// Returns the next token. After an error, or after the last token, it returns `None`.
         fn next(&mut self) -> Option<Result<Match, Error>> {
             if self.ended {
                 return None;

@@ -9,8 +9,11 @@ pub mod thompson {
     /// A range of bytes, both ends included, and the state that it leads to.
     #[derive(Clone, Copy, Debug, PartialEq, Eq)]
     pub struct Transition {
+        /// The least byte.
         pub start: u8,
+        /// The greatest byte.
         pub end: u8,
+        /// The state that the range leads to.
         pub next: StateID,
     }
 
@@ -21,6 +24,7 @@ pub mod thompson {
     }
 
     impl Builder {
+        /// A builder without states, whose NFA is neither in UTF-8 mode nor reversed, and whose lines end in `\n`.
         pub fn new() -> Result<Builder, Error> {
             let mut handle = Handle::closed();
             // SAFETY: every call here passes handles that began closed and that only the library wrote to, and
@@ -49,6 +53,7 @@ pub mod thompson {
             Ok(PatternID(id))
         }
 
+        /// Adds a state by a call of the library that writes its number.
         fn add(&mut self, add: impl FnOnce(&mut Handle, &mut u32) -> Status) -> Result<StateID, Error> {
             let mut id = 0;
             add(&mut self.handle, &mut id).done()?;
@@ -134,7 +139,7 @@ pub mod thompson {
             let _ = unsafe { raw::lazydfa_raw_set_line_terminator(&mut self.handle, byte) };
         }
 
-        /// The NFA of these states. Whether it is one is tested when a regex is built from it.
+        /// The NFA of the states that were added. Whether they make one is tested when a regex is built from it.
         pub fn build(self, start_anchored: StateID, start_unanchored: StateID) -> NFA {
             let starts = raw::Starts { anchored: start_anchored.0, unanchored: start_unanchored.0 };
             NFA { handle: RefCell::new(self.handle), starts }

@@ -14,7 +14,7 @@ pub enum Anchored {
     Pattern(PatternID),
 }
 
-/// Which matches count.
+/// The kind of matches that a search reports.
 #[derive(Clone, Copy, Debug, Default, PartialEq, Eq)]
 #[non_exhaustive]
 pub enum MatchKind {
@@ -67,18 +67,22 @@ impl<'h> Input<'h> {
         self
     }
 
+    /// The whole haystack, not the span alone: looks see the bytes beside the span.
     pub fn haystack(&self) -> &'h [u8] {
         self.haystack
     }
 
+    /// The offset, in bytes, where the span starts.
     pub fn start(&self) -> usize {
         self.raw.start
     }
 
+    /// The offset, in bytes, where the span ends.
     pub fn end(&self) -> usize {
         self.raw.end
     }
 
+    /// The span, the anchored mode and the earliest flag as the library takes them.
     pub(crate) fn raw(&self) -> raw::Input {
         self.raw
     }
@@ -99,26 +103,32 @@ pub struct Match {
 }
 
 impl Match {
+    /// The pattern that matched.
     pub fn pattern(&self) -> PatternID {
         self.pattern
     }
 
+    /// The offset of the match's first byte in the haystack.
     pub fn start(&self) -> usize {
         self.start
     }
 
+    /// The offset after the match's last byte in the haystack.
     pub fn end(&self) -> usize {
         self.end
     }
 
+    /// The span of the match, in bytes, with which the haystack can be indexed.
     pub fn range(&self) -> Range<usize> {
         self.start..self.end
     }
 
+    /// The number of bytes that the match has.
     pub fn len(&self) -> usize {
         self.end - self.start
     }
 
+    /// Whether the match has no byte.
     pub fn is_empty(&self) -> bool {
         self.start == self.end
     }
@@ -138,10 +148,12 @@ pub struct HalfMatch {
 }
 
 impl HalfMatch {
+    /// The pattern that matched.
     pub fn pattern(&self) -> PatternID {
         self.pattern
     }
 
+    /// The offset in the haystack, in bytes, where the match ends, or, for a reverse search, where it starts.
     pub fn offset(&self) -> usize {
         self.offset
     }
@@ -165,6 +177,7 @@ impl PatternSet {
         PatternSet { which: vec![false; capacity] }
     }
 
+    /// The number of patterns that the set has room for: those below it.
     pub fn capacity(&self) -> usize {
         self.which.len()
     }
@@ -174,18 +187,22 @@ impl PatternSet {
         !std::mem::replace(&mut self.which[pattern.as_usize()], true)
     }
 
+    /// Whether a pattern is in the set. A pattern that is not below the capacity is not.
     pub fn contains(&self, pattern: PatternID) -> bool {
         self.which.get(pattern.as_usize()).copied().unwrap_or(false)
     }
 
+    /// Removes all patterns. The capacity stays.
     pub fn clear(&mut self) {
         self.which.fill(false);
     }
 
+    /// The number of patterns in the set.
     pub fn len(&self) -> usize {
         self.iter().count()
     }
 
+    /// Whether no pattern is in the set.
     pub fn is_empty(&self) -> bool {
         self.len() == 0
     }

@@ -11,6 +11,7 @@ pub mod primitives {
     const MAX: usize = (i32::MAX - 1) as usize;
 
     impl PatternID {
+        /// The first pattern.
         pub const ZERO: PatternID = PatternID(0);
 
         /// The pattern of a number, if it is below 2^31 - 1.
@@ -18,12 +19,14 @@ pub mod primitives {
             (id <= MAX).then_some(PatternID(id as u32))
         }
 
+        /// The number of the pattern, as an index.
         pub fn as_usize(self) -> usize {
             self.0 as usize
         }
     }
 
     impl StateID {
+        /// The first state.
         pub const ZERO: StateID = StateID(0);
 
         /// The state of a number, if it is below 2^31 - 1.
@@ -31,6 +34,7 @@ pub mod primitives {
             (id <= MAX).then_some(StateID(id as u32))
         }
 
+        /// The number of the state, as an index.
         pub fn as_usize(self) -> usize {
             self.0 as usize
         }

@@ -6,7 +6,7 @@ use lazydfa::util::look::Look;
 use lazydfa::util::primitives::StateID;
 use lazydfa::{Anchored, Error, Input, MatchKind, PatternID, PatternSet};
 
-/// `[a-z]+`
+/// The NFA of `[a-z]+`.
 fn word() -> Result<NFA, Error> {
     let mut builder = Builder::new()?;
     builder.start_pattern()?;
@@ -19,7 +19,7 @@ fn word() -> Result<NFA, Error> {
     Ok(builder.build(letter, prefix))
 }
 
-/// `[a-z]` and `[a-z0-9]`
+/// The NFA of `[a-z]` and `[a-z0-9]`.
 fn two() -> Result<NFA, Error> {
     let mut builder = Builder::new()?;
     builder.start_pattern()?;
@@ -36,10 +36,12 @@ fn two() -> Result<NFA, Error> {
     Ok(builder.build(start, prefix))
 }
 
+/// Builds the regex of an NFA with these settings.
 fn with(config: Config, nfa: &NFA) -> Result<Regex, Error> {
     Regex::builder().dfa(config).build_from_nfa(nfa)
 }
 
+/// A search finds spans, ends and starts, in the span of its input.
 #[test]
 fn finds() -> Result<(), Error> {
     let regex = with(Config::new(), &word()?)?;
@@ -55,6 +57,7 @@ fn finds() -> Result<(), Error> {
     Ok(())
 }
 
+/// An iteration returns every match, however many fit its buffer.
 #[test]
 fn iterates_past_the_buffer() -> Result<(), Error> {
     let regex = with(Config::new(), &word()?)?;
@@ -70,6 +73,7 @@ fn iterates_past_the_buffer() -> Result<(), Error> {
     Ok(())
 }
 
+/// Tokens follow each other up to the offset where there is none.
 #[test]
 fn tokens() -> Result<(), Error> {
     let regex = with(Config::new(), &two()?)?;
@@ -79,6 +83,7 @@ fn tokens() -> Result<(), Error> {
     Ok(())
 }
 
+/// Sets of patterns and lists of overlapping matches have all that match.
 #[test]
 fn sets() -> Result<(), Error> {
     let regex = with(Config::new().match_kind(MatchKind::All), &two()?)?;
@@ -95,6 +100,7 @@ fn sets() -> Result<(), Error> {
     Ok(())
 }
 
+/// Each of these errors is the one that its call returns.
 #[test]
 fn errors() -> Result<(), Error> {
     let regex = with(Config::new().quit(b';', true), &word()?)?;
@@ -115,6 +121,7 @@ fn errors() -> Result<(), Error> {
     Ok(())
 }
 
+/// A regex is built of two NFAs, but not of one NFA twice.
 #[test]
 fn pairs() -> Result<(), Error> {
     let same = word()?;
@@ -126,6 +133,7 @@ fn pairs() -> Result<(), Error> {
     Ok(())
 }
 
+/// A search over a cache of another regex panics.
 #[test]
 #[should_panic(expected = "a cache of another regex")]
 fn another_cache() {
@@ -134,6 +142,7 @@ fn another_cache() {
     let _ = one.is_match(&mut cache, "a");
 }
 
+/// A span that does not lie in the haystack panics.
 #[test]
 #[should_panic(expected = "invalid span")]
 fn a_bad_span() {
