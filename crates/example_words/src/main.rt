@@ -13,6 +13,7 @@ fn word(alloc: Global) -> Result<NFA> {
     Ok(nfa_of(alloc, &[r"\pL+"], &Options::default())?)
 }
 
+/// Prints the span, in bytes, of each word of a text.
 fn main(rt: HostRuntime) -> Result<()> {
     let regex = Regex::builder().build_from_nfa(word(rt.alloc())?)?;
     let mut cache = regex.create_cache()?;
