@@ -48,6 +48,7 @@ impl Drop for Draft {
     }
 }
 
+/// Parses a pattern by these options.
 fn parse(alloc: Global, text: &str, options: &Options) -> Result<Parsed, Fault> {
     let mut config = Config::default();
     config.flags.case_insensitive = options.case_insensitive;
@@ -68,7 +69,7 @@ fn compile(alloc: Global, text: &str, options: &Options, room: usize) -> Result<
     }
 }
 
-/// About how many bytes its tables take.
+/// About how many bytes the tables of an NFA take.
 fn table_bytes(nfa: &Nfa) -> usize {
     let states = nfa.states.len().saturating_mul(16);
     let transitions = nfa.transitions.len().saturating_mul(8);
@@ -76,6 +77,7 @@ fn table_bytes(nfa: &Nfa) -> usize {
 }
 
 impl Draft {
+    /// No pattern so far. `room` is how many bytes the tables of all patterns may take.
     fn new(alloc: Global, room: usize) -> Draft {
         Draft {
             states: Vec::new(alloc),
@@ -124,6 +126,7 @@ impl Draft {
         Ok(start)
     }
 
+    /// Adds a state after the others, and returns its ID.
     fn push(&mut self, state: State) -> Result<StateID, Fault> {
         let id = id_of(self.states.len())?;
         self.states.push(state)?;

@@ -13,6 +13,7 @@ pub(crate) struct Origin {
     pub pattern: PatternID,
 }
 
+/// The ID of a state of this number. It fails with `TooLarge` if there is no such ID.
 pub(crate) fn id_of(number: usize) -> Result<StateID, Fault> {
     match StateID::new(number) {
         Some(id) => Ok(id),
@@ -25,6 +26,7 @@ pub(crate) fn shifted(origin: &Origin, number: u32) -> Result<StateID, Fault> {
     id_of(origin.base.saturating_add(number as usize))
 }
 
+/// The library's look for one of the kit's.
 fn look_of(look: regex_hir::Look) -> Look {
     match look {
         regex_hir::Look::Start => Look::Start,
@@ -48,6 +50,7 @@ fn look_of(look: regex_hir::Look) -> Look {
     }
 }
 
+/// The library's ranges for those of a state of a pattern. It fails with `TooLarge` if a target has no ID.
 fn ranges_of(
     alloc: Global,
     own: &[regex_nfa::Transition],
@@ -62,6 +65,8 @@ fn ranges_of(
     Ok(ranges)
 }
 
+/// The library's state for one of a pattern. It fails with `Malformed` if the state's ranges are not in the table, and
+/// with `TooLarge` if a target has no ID.
 fn state_of(
     alloc: Global,
     nfa: &Nfa,

@@ -33,6 +33,7 @@ pub fn run<R: Read, W: io::Write>(
     output.flush().map_err(RunError::of_io)
 }
 
+/// The lines that answer a script: one for each regex that it defines, and one for each request.
 fn replies_to(alloc: Global, script: &Script) -> Result<String, RunError> {
     let mut text = String::new(alloc);
     let regexes = build_all(alloc, script.definitions.as_slice(), &mut text)?;
@@ -73,6 +74,7 @@ fn build(alloc: Global, definition: &Definition) -> Result<Regex, BuildError> {
         .build_from_nfas(forward, reverse)
 }
 
+/// The NFA, with every error named out of memory: an NFA of the catalogue has no other.
 fn built(nfa: Result<NFA, NfaError>) -> Result<NFA, BuildError> {
     match nfa {
         Ok(nfa) => Ok(nfa),

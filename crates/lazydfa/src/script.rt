@@ -59,6 +59,7 @@ enum LineError {
 }
 
 impl LineError {
+    /// The error of a script, by that of its line of this number, counted from 1.
     fn at(self, number: usize) -> RunError {
         match self {
             LineError::Bad => RunError::BadLine(number),
@@ -120,6 +121,7 @@ impl Script {
         }
     }
 
+    /// Adds the definition of a regex. It is a bad line if an order came before it, or if the words are no definition.
     fn add_definition(&mut self, words: &[&[u8]]) -> Result<(), LineError> {
         if !self.orders.is_empty() {
             return Err(LineError::Bad);
@@ -135,6 +137,7 @@ impl Script {
 }
 
 impl Definition {
+    /// Reads the words of a definition: the name of an entry, and options of its DFAs. It is none if a word is bad.
     fn parse(words: &[&[u8]]) -> Option<Definition> {
         let (name, options) = words.split_first()?;
         let entry = Entry::named(*name)?;
@@ -165,6 +168,7 @@ impl Order {
         Ok(order)
     }
 
+    /// Reads the words of an order that begins a walk: its direction, a haystack, and options.
     fn parse_walk(alloc: Global, words: &[&[u8]]) -> Result<Order, LineError> {
         let (direction, rest) = words.split_first().ok_or(LineError::Bad)?;
         let way = match Keyword::spelled(*direction) {
@@ -215,7 +219,7 @@ fn only_number(words: &[&[u8]]) -> Result<usize, LineError> {
     }
 }
 
-/// The settings with one more option.
+/// The settings with one more option, or none if the word is no option.
 pub fn configured(config: Config, option: &[u8]) -> Option<Config> {
     Some(match option_of(option)? {
         (Keyword::All, None) => config.match_kind(MatchKind::All),
@@ -321,7 +325,7 @@ fn option_of(option: &[u8]) -> Option<(Keyword, Option<&[u8]>)> {
     Some((Keyword::spelled(name)?, Some(value)))
 }
 
-/// The bytes before and after the first such byte.
+/// The bytes before and after the first separator, or none if there is no separator.
 fn split_once(word: &[u8], separator: u8) -> Option<(&[u8], &[u8])> {
     let at = word.iter().position(|byte| *byte == separator)?;
     Some((&word[..at], &word[at + 1..]))

@@ -547,7 +547,9 @@ impl NFA {
         self.reads_utf8(&FORWARD)
     }
 
-    /// The same as `keeps_utf8`, for an NFA that reads from the end of the haystack to its start.
+    /// Whether every path that is not empty, from the anchored start or the start of a pattern to a match state, reads
+    /// valid UTF-8, from the end of the haystack to its start. Looks are taken as true, and outside UTF-8 mode it
+    /// returns `true`. The only error is out of memory.
     pub fn keeps_utf8_reverse(&self) -> Result<bool, AllocError>
         ensures reads { IfOk result (λ keeps. IsTrue keeps
             ↔ (self.now.flags.utf8 ≡ true → ReadsUtf8 Backward self.now)) }
@@ -562,7 +564,8 @@ impl NFA {
         self.reads_utf8(&BACKWARD)
     }
 
-    // Whether match states are reached only between two characters, by the decoder of these classes.
+    /// Whether match states are reached from the anchored start and those of the patterns only between two characters,
+    /// by the decoder of these classes.
     fn reads_utf8(&self, classes: &[Class]) -> Result<bool, AllocError>
         requires { classes_below classes.now ≡ true }
         ensures ends { IfOk result (λ reads. IsTrue reads

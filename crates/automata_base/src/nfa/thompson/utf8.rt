@@ -69,7 +69,7 @@ pub const BACKWARD: [Class; 14] = [
     Class { first: 0xF5, last: 0xFF, to: [1, 1, 1, 1, 1, 1, 1, 1, 1, 1, 1] },
 ];
 
-// The number of a pair: a state of the NFA and one of the decoder.
+/// The number of a pair of a state of the NFA and a state of the decoder.
 fn pair(state: StateID, decoder: usize) -> StateID
     requires few { state < 2 ^ 27 }
     requires decoder { decoder < 11 }
