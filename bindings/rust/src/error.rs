@@ -96,7 +96,7 @@ impl fmt::Display for Error {
 impl std::error::Error for Error {}
 
 impl Status {
-    /// Whether a call did what it was asked to, or found something. Any other status is an error.
+    /// Whether a call did what it was asked to, or found something. A call that failed is an error.
     pub fn found(self) -> Result<bool, Error> {
         let offset = self.offset;
         let error = match self.code {
@@ -131,7 +131,7 @@ impl Status {
         Err(error)
     }
 
-    /// Returns the error of a call that found something or not, if it failed.
+    /// Returns the error of a call that failed. For any other call it returns `Ok`.
     pub fn done(self) -> Result<(), Error> {
         self.found().map(|_| ())
     }

@@ -202,7 +202,7 @@ pub mod regex {
             Builder::default()
         }
 
-        /// Sets the settings.
+        /// Sets the settings of both DFAs.
         pub fn dfa(&mut self, config: Config) -> &mut Builder {
             self.config = config;
             self
@@ -264,7 +264,7 @@ pub mod regex {
             Builder::new()
         }
 
-        /// A cache for its searches.
+        /// Creates a fresh cache for searches of the regex.
         pub fn create_cache(&self) -> Result<Cache<'_>, Error> {
             let mut handle = Handle::closed();
             let regex: *mut Handle = &mut *self.handle.borrow_mut();
@@ -298,7 +298,7 @@ pub mod regex {
             .found()
         }
 
-        /// The first match.
+        /// Searches for the first match.
         pub fn find<'h, I: Into<Input<'h>>>(&self, cache: &mut Cache<'_>, input: I) -> Result<Option<Match>, Error> {
             let input = input.into();
             let haystack = input.haystack();
@@ -354,7 +354,7 @@ pub mod regex {
     }
 
     impl Cache<'_> {
-        /// Makes it a fresh cache.
+        /// Makes the cache a fresh one.
         pub fn reset(&mut self) -> Result<(), Error> {
             unsafe { raw::lazydfa_raw_cache_reset(&mut self.handle) }.done()
         }

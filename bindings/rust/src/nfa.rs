@@ -139,7 +139,7 @@ pub mod thompson {
             let _ = unsafe { raw::lazydfa_raw_set_line_terminator(&mut self.handle, byte) };
         }
 
-        /// The NFA of these states. Whether it is one is tested when a regex is built from it.
+        /// The NFA of the states that were added. Whether they make one is tested when a regex is built from it.
         pub fn build(self, start_anchored: StateID, start_unanchored: StateID) -> NFA {
             let starts = raw::Starts { anchored: start_anchored.0, unanchored: start_unanchored.0 };
             NFA { handle: RefCell::new(self.handle), starts }

@@ -13,22 +13,22 @@ pub const PATTERN_COST: usize = 4;
 /// The accounted bytes of each of its NFA states.
 pub const ID_COST: usize = 5;
 
-/// The size of an ID, which is a cell of the table or a start slot.
+/// The size, in bytes, of an ID, which is a cell of the table or a start slot.
 pub const CELL_SIZE: usize = 4;
 
-/// The size of a row in the list of rows, without its cells.
+/// The size, in bytes, of a row in the list of rows, without its cells.
 pub const ROW_SIZE: usize = 16;
 
-/// The size of a row in the map.
+/// The size, in bytes, of a row in the map.
 pub const ENTRY_SIZE: usize = 20;
 
-/// The cost of the states of the three rows with which every table begins.
+/// The cost, in accounted bytes, of the states of the three rows with which every table begins.
 pub const FIXED_ROWS_COST: usize = 39;
 
-/// The size, for each state of the NFA, of the two sets of NFA states that determinization uses.
+/// The size, in bytes for each state of the NFA, of the two sets of NFA states that determinization uses.
 const SETS_COST: usize = 16;
 
-/// The size of an entry on the stack of a closure.
+/// The size, in bytes, of an entry on the stack of a closure.
 const PLACE_COST: usize = 4;
 
 /// The greatest cost of a powerset state of the NFA, in accounted bytes.
@@ -47,7 +47,7 @@ pub fn fixed_cost(nfa: &NFA) -> usize
     SETS_COST * nfa.states().len() + PLACE_COST * nfa.room() + max_cost(nfa)
 }
 
-/// The number of start slots of a cache.
+/// The number of start slots of a cache: twelve, and six more for each pattern if `each_pattern` is true.
 pub fn start_slots(nfa: &NFA, each_pattern: bool) -> usize
     ensures number { result ≡ bytes.start_slots nfa.now each_pattern }
     ensures few { result ≤ 2 ^ 30 }

@@ -309,7 +309,7 @@ impl Config {
         }
     }
 
-    /// The least capacity that a cache for the NFA may have. The only error is `Unsupported`.
+    /// The least capacity, in bytes, that a cache for the NFA may have. The only error is `Unsupported`.
     pub fn get_minimum_cache_capacity(&self, nfa: &NFA) -> Result<usize, BuildError>
         ensures ok { IfOk result (λ minimum. minimum ≡ settled_minimum self.now nfa.now) }
         ensures refused { result_err result

@@ -130,7 +130,7 @@ impl Grep {
         }
     }
 
-    /// Searches whole lines.
+    /// Searches the lines of a text, and appends what is to be shown of them.
     fn search(&mut self, text: &[u8]) -> Result<()> {
         let found = self.lines.matching(self.alloc, text)?;
         for line in &found {

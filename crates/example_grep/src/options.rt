@@ -62,7 +62,7 @@ impl<'a> Options<'a> {
         Ok(())
     }
 
-    /// Takes an argument: flags, or, once there is a pattern, one more pattern.
+    /// Takes an argument: flags if it is `-` with letters and no pattern came before it, and otherwise a pattern.
     fn take(&mut self, argument: &'a str) -> Result<()> {
         match argument.strip_prefix('-') {
             Some(letters) if self.patterns.is_empty() && !letters.is_empty() => self.set_flags(

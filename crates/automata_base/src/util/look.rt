@@ -155,7 +155,7 @@ impl LookSet {
         }
     }
 
-    /// The bits. Bit k stands for look k.
+    /// The bits of the set. Bit k stands for look k.
     pub fn bits(self) -> u32
         ensures value { result ≡ self }
         ensures small { IsLookSet result }

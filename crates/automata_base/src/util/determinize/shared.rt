@@ -38,7 +38,7 @@ impl Stored {
     }
 }
 
-/// A copy of a few bytes.
+/// A copy of at most 48 bytes, at the front of an array.
 fn few_of(bytes: &[u8]) -> [u8; 48]
     requires { length bytes.now ≤ 48 }
     ensures { take (length bytes.now) result ≡ bytes.now }

@@ -53,7 +53,7 @@ impl Drop for Parts {
 }
 
 impl Parts {
-    /// Whether no pattern repeats.
+    /// Whether no pattern repeats in the parts.
     pub fn is_without_repeats(&self) -> bool
         ensures { IsTrue result ↔ Distinct self.now.patterns.items }
     {
