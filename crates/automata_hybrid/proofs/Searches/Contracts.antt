@@ -44,7 +44,7 @@ module _ (m : Machine) (input : Input) where
     go : IsBased m input (Ok (Some p)) → IsHalf Forward m input (Ok (Some p.0))
     go b = record {
       found = (Some (with_base p.0 p.1), b.found, refl);
-      answer = λ acyclic. (Some (with_base p.0 p.1), b.answer acyclic, refl);
+      answer = λ cycles. (Some (with_base p.0 p.1), b.answer cycles, refl);
       nearest = λ early. (Some (with_base p.0 p.1), b.nearest early, refl);
       farthest = λ late all. (Some (with_base p.0 p.1), b.farthest late all, refl);
       within = b.within.lies;
@@ -60,7 +60,7 @@ module _ (m : Machine) (input : Input) where
     go : IsBased m input (Ok None) → IsHalf Forward m input (Ok None)
     go b = record {
       found = (None, b.found, refl);
-      answer = λ acyclic. (None, b.answer acyclic, refl);
+      answer = λ cycles. (None, b.answer cycles, refl);
       nearest = λ early. (None, b.nearest early, refl);
       farthest = λ late all. (None, b.farthest late all, refl);
       within = tt;
@@ -78,7 +78,7 @@ module _ (m : Machine) (input : Input) where
     go : IsBased m input (Err x) → IsHalf Forward m input (Err x)
     go b = record {
       found = tt;
-      answer = λ acyclic. tt;
+      answer = λ cycles. tt;
       nearest = λ early. tt;
       farthest = λ late all. tt;
       within = tt;

@@ -10,7 +10,7 @@ use Rattle.automata_base.specs.Haystacks.Input.{Input}
 use Rattle.automata_base.specs.Lists.{In}
 use Rattle.automata_base.specs.Haystacks.Matches.{HalfMatch}
 use Rattle.automata_base.specs.Nfas.Nodes.{nfa_of}
-use Rattle.automata_base.specs.Paths.Paths.{IsLookAcyclic}
+use Rattle.automata_base.specs.Paths.Paths.{KeepsCycles}
 use Rattle.automata_base.specs.Haystacks.PatternSet.{has, members, members_from}
 use Rattle.automata_base.specs.Paths.Selections.{Pair}
 use Rattle.automata_base.specs.Haystacks.Tapes.{Forward}
@@ -354,13 +354,13 @@ module _ (m : Machine) (input : Input) (inside : input.end ≤ length input.hays
       let times : (input.end - input.start + 2 - new.units) * (greatest m + 1) ≡ (input.end - input.start + 2 - old.units) * (greatest m + 1) = ap (λ n. n * (greatest m + 1)) units in
       omega (arith, times, more, s.reported)
 
--- what the walk reports is what the ordered paths do, where no cycle passes a look
+-- what the walk reports is what the ordered paths do, where the NFA keeps its cycles
 pub patterns_of :
     (m : Machine) (input : Input) → WalkIsRight m.nfa → IsInput input → (old new : List Bool)
-    → IsLookAcyclic (nfa_of m.nfa)
+    → KeepsCycles (nfa_of m.nfa)
     → ArePatterns (AreWalked Forward m input) input (length old) (members old) (members new)
     → ArePatternsFound (engine_of m.nfa (match_kind_of m.config)) input (length old) (members old) (members new)
-patterns_of m input law good old new free h = (h.0, law Forward (match_kind_of m.config) input h.0 free good h.1, h.2)
+patterns_of m input law good old new kept h = (h.0, law Forward (match_kind_of m.config) input h.0 kept good h.1, h.2)
 
 none_half : (half : HalfMatch) → ◌≡◌ {A = Option HalfMatch} None (Some half) → ⊥
 none_half half e = cc

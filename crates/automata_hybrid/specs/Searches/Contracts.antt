@@ -6,7 +6,7 @@ use Rattle.automata_base.specs.Nfas.Engines.{engine_of}
 use Rattle.automata_base.specs.Haystacks.Input.{Input}
 use Rattle.automata_base.specs.Haystacks.Matches.{HalfMatch}
 use Rattle.automata_base.specs.Nfas.Nodes.{nfa_of}
-use Rattle.automata_base.specs.Paths.Paths.{IsLookAcyclic}
+use Rattle.automata_base.specs.Paths.Paths.{KeepsCycles}
 use Rattle.automata_base.specs.Haystacks.Tapes.{Direction, Forward}
 use Rattle.automata_base.specs.Answers.OfPasses.{IsNearestAnswer, IsFarthestAnswer}
 use Rattle.automata_base.specs.declared.util.search.MatchErrorKind.TheVariants.{UnsupportedAnchored as UnsupportedMode}
@@ -66,9 +66,9 @@ MayRefuse way m input e = (c : Stored) × IsStoreOf c m × IsRefused way m c inp
 -- what a search in a direction returns: an option, seen as an answer by `Is`, which lies where `Lies` says
 pub record IsAnswered {A : Type 0} (Is : (Option Half → Type 0) → Option A → Type 0) (Lies : Option A → Type 0)
     (way : Direction) (m : Machine) (input : Input) (result : Result (Option A) SearchError) : Type 0 where
-  -- By the paths of the NFA alone: if no cycle passes a look, the answer of the ordered paths;
+  -- By the paths of the NFA alone: if it keeps its cycles, the answer of the ordered paths;
   pub answer :
-      IsLookAcyclic (nfa_of m.nfa) → IfOk result (Is (IsAnswer way (engine_of m.nfa (match_kind_of m.config)) input))
+      KeepsCycles (nfa_of m.nfa) → IfOk result (Is (IsAnswer way (engine_of m.nfa (match_kind_of m.config)) input))
   -- for every NFA, the nearest end in an earliest search, and in any other under `MatchKind::All` the farthest one.
   pub nearest :
       input.earliest ≡ true → IfOk result (Is (IsNearestAnswer way (engine_of m.nfa (match_kind_of m.config)) input))

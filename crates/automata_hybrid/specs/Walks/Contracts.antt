@@ -6,7 +6,7 @@ use Rattle.automata_base.specs.Answers.Answers.{ArePatterns, ArePatternsFound, I
 use Rattle.automata_base.specs.Nfas.Engines.{engine_of}
 use Rattle.automata_base.specs.Haystacks.Input.{Input}
 use Rattle.automata_base.specs.Nfas.Nodes.{nfa_of}
-use Rattle.automata_base.specs.Paths.Paths.{IsLookAcyclic}
+use Rattle.automata_base.specs.Paths.Paths.{KeepsCycles}
 use Rattle.automata_base.specs.Haystacks.PatternSet.{members}
 use Rattle.automata_base.specs.Powersets.Powerset.{Powerset}
 use Rattle.automata_base.specs.Paths.Selections.{Pair}
@@ -42,9 +42,9 @@ pub record IsWalkCall (way : Direction) (m : Machine) (input : Input) (old new :
     (result : Result (Unit {0}) SearchError) : Type 0 where
   -- for every NFA, the next pair that its pass reports
   pub reports : OnOk result (ReportsNext way m input old new)
-  -- if no cycle passes a look, that of the list which the ordered paths define
+  -- if the NFA keeps its cycles, that of the list which the ordered paths define
   pub paths :
-      IsLookAcyclic (nfa_of m.nfa) → (k : ℕ) (pairs : List Pair) → HasReported way m input old k
+      KeepsCycles (nfa_of m.nfa) → (k : ℕ) (pairs : List Pair) → HasReported way m input old k
       → IsOverlapping way (engine_of m.nfa (match_kind_of m.config)) input pairs
       → OnOk result (new.found ≡ half_nth pairs k)
   -- it lies in the input's span, and its pattern is one of the NFA's
@@ -119,9 +119,9 @@ pub record IsSetReported (m : Machine) (input : Input) (old new : List Bool)
   -- for every NFA, the patterns below its capacity that the walk reports
   pub found :
       OnOk result (ArePatterns (AreWalked Forward m input) input (length old) (members old) (members new))
-  -- if no cycle passes a look, those of the ordered paths
+  -- if the NFA keeps its cycles, those of the ordered paths
   pub paths :
-      IsLookAcyclic (nfa_of m.nfa)
+      KeepsCycles (nfa_of m.nfa)
       → OnOk result (ArePatternsFound (engine_of m.nfa (match_kind_of m.config)) input (length old) (members old)
       (members new))
   pub capacity : length new ≡ length old

@@ -24,9 +24,9 @@ returns-clause-based c =
     let lies = subst ReportedLiesWithin c.get_nfa.ensures c.reported_is_right.ensures.within in
     record {
       found = s.found;
-      answer = λ acyclic.
+      answer = λ cycles.
           IfOk-weaker r _ _
-          (λ o found. reported Forward (match_kind_of m.config) input _ acyclic (haystack.bytes, haystack.within.1) (found_reported Forward m input _ found))
+          (λ o found. reported Forward (match_kind_of m.config) input _ cycles (haystack.bytes, haystack.within.1) (found_reported Forward m input _ found))
           s.found;
       nearest = λ early.
           IfOk-weaker r _ _

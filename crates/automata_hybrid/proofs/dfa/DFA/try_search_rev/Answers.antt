@@ -29,9 +29,9 @@ returns-clause-half c =
     subst (λ v. IsHalf Backward m input v) (sym c.without_base.ensures)
     (record {
       found = found;
-      answer = λ acyclic.
+      answer = λ cycles.
           halves_ok _ r (IfOk-weaker r _ _
-          (λ o found. reported Backward (match_kind_of m.config) input _ acyclic (haystack.bytes, haystack.within.1) (found_reported Backward m input _ found))
+          (λ o found. reported Backward (match_kind_of m.config) input _ cycles (haystack.bytes, haystack.within.1) (found_reported Backward m input _ found))
           s.found);
       nearest = λ early.
           halves_ok _ r (IfOk-weaker r _ _
