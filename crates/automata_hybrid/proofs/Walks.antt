@@ -6,7 +6,6 @@ pub mod Sets
 pub mod Reach
 pub mod CachedSets
 pub mod Bounds
-pub mod Contracts
 pub mod Parts
 pub mod Units
 pub mod SetsByPaths

@@ -1,4 +1,5 @@
 //! Laws that searches and walks stand on. The contract of each function is the law; what it does is to cite others.
+ghost use Rattle.automata_hybrid.specs.Cache.Caches.{IsCacheOf, IsStoreOf};
 ghost use Rattle.automata_hybrid.specs.Walks.SetsByPaths.{SetsHaveMatching};
 ghost use Rattle.automata_hybrid.specs.Searches.Agreement.{AnswersAgree, WalksAgree};
 ghost use Rattle.automata_hybrid.specs.Searches.Costs.{SearchesCostFew};
@@ -6,6 +7,7 @@ ghost use Rattle.automata_hybrid.specs.Searches.Cached.{KnownStays};
 ghost use Rattle.automata_hybrid.specs.Steps.BySteps.{FirstMatchIsFound};
 
 use crate::dfa::DFA;
+use crate::dfa::cache::Cache;
 use automata_base::laws::{passes_report_paths, reported_is_right, walk_is_right};
 
 /// What was searched before, and how large the cache is, shows in no answer: two searches of one automaton, match kind
@@ -16,11 +18,21 @@ pub fn answers_agree()
     passes_report_paths();
 }
 
-/// Nor does it show in an overlapping search: two of one NFA, match kind and input report one list, match by match.
+/// What was searched before, and how large the cache is, shows in no overlapping search: two of one NFA, match kind and
+/// input report one list, match by match.
 pub fn walks_agree(dfa: &DFA)
     ensures { WalksAgree dfa.now }
 {
     walk_is_right(dfa.get_nfa());
+}
+
+/// A cache of a DFA is one within its settings. So an error that a call gives over the cache that it leaves is one that
+/// some cache of the DFA gives, within its settings.
+pub fn cache_is_within(dfa: &DFA, cache: &Cache)
+    requires { IsCacheOf cache.now dfa.now }
+    ensures { IsStoreOf cache.now.store dfa.now }
+{
+    cache.see_bounds();
 }
 
 /// Over m bytes a search determinizes at most m + 2 times if no offset is skipped or it is anchored, and never more

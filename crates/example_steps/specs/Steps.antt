@@ -1,6 +1,6 @@
 -- The first match of a text.
-use Rattle.std.specs.Prelude.{ℕ, ◌≡◌, List, length, Ok, Option, true}
-use Rattle.regex_automata.specs.Promises.{Forward, HalfMatch, Input, IsHalf, IsNearestAnswer, Machine, No, WithoutBase}
+use Rattle.std.specs.Prelude.{ℕ, ◌≡◌, List, length, Option, true}
+use Rattle.regex_automata.specs.Promises.{Forward, HalfMatch, Input, IsFound, IsNearestAnswer, Machine, No, WithoutBase}
 use Rattle.regex_automata.specs.Promises.{engine_of, match_kind_of}
 
 -- a text, searched for its first match
@@ -10,6 +10,6 @@ earliest text = record { haystack = text; start = 0; end = length text; anchored
 -- the end of the first match in a text
 pub record IsEarliest (m : Machine) (text : List ℕ) (found : Option HalfMatch) : Type 0 where
   -- Whatever `try_search_fwd` answers, it is this.
-  pub same : (answer : Option HalfMatch) → IsHalf Forward m (earliest text) (Ok answer) → found ≡ answer
+  pub same : (answer : Option HalfMatch) → WithoutBase (IsFound Forward m (earliest text)) answer → found ≡ answer
   -- No path ends in a match before it.
   pub nearest : WithoutBase (IsNearestAnswer Forward (engine_of m.nfa (match_kind_of m.config)) (earliest text)) found

@@ -1,12 +1,17 @@
 -- What the calls for a cache do, each seen by the cache before and after it and by the status that it returns.
 use Rattle.std.specs.Prelude.{ℕ, ◌≡◌, ◌==◌, Bool, true, false, List}
-use Rattle.std.specs.Prelude.{Option, Some, None, Result, Ok, Err, IfErr, IfOk, IsSomeAnd, if◌then◌else◌}
+use Rattle.std.specs.Prelude.{Option, Some, None, Result, Ok, Err, IfErr, IfOk, IsSomeAnd, OnOk, if◌then◌else◌}
 use Rattle.automata_config.specs.declared.error.SearchError.{SearchError}
 use Rattle.automata_hybrid.specs.Searches.Contracts.{IsSearchEffect}
+use Rattle.automata_hybrid.specs.Searches.Passes.{IsRefused}
 use Rattle.automata_hybrid.specs.Walks.Contracts.{IsWhichEffect}
-use Rattle.regex_automata.specs.Promises.{Backward, Forward, HalfMatch, Input, IsHalf, IsSpanEffect, IsSpanOf}
-use Rattle.regex_automata.specs.Promises.{IsTruthEffect, IsTruthOf, IsWhich, Match}
+use Rattle.automata_hybrid.specs.Walks.Sets.{IsWhichRefusal}
+use Rattle.regex_automata.specs.Promises.{Backward, FindsMatch, Forward, HalfMatch, Input, IsFound, IsHalf, IsSpanEffect}
+use Rattle.regex_automata.specs.Promises.{IsSpanOf, IsTruthEffect, IsTruthOf, IsTruthReported, IsWhich}
+use Rattle.regex_automata.specs.Promises.{JoinsReported, Match, WithoutBase}
 use Rattle.regex_automata.specs.Spans.Effects.{IsNextEffect}
+use Rattle.regex_automata.specs.Spans.Errors.{IsRegexRefusal}
+use Rattle.regex_automata.specs.Spans.IsMatch.{IsMatchRefused}
 use Rattle.regex_automata.specs.Spans.Iteration.{IsNextMatch, IsNextRefusal}
 use Rattle.regex_automata.specs.Tokens.{GivesToken, IsTokenEffect}
 use Rattle.regex_automata.specs.Tokens.{match_of as token_match}
@@ -74,6 +79,8 @@ pub record Finds (found : Found) (input : Input) (s t : Searcher) (status : Stat
   pub result : Result (Option Match) SearchError
   pub told : IsTold (match_of found) result status
   pub returned : IsSpanOf (regex_of s) input result
+  pub found : IfOk result (FindsMatch (regex_of s) input)
+  pub refusal : IfErr result (IsRegexRefusal (regex_of s) t.cache input)
   pub effect : IsSpanEffect (regex_of s) input s.cache t.cache result
   pub same : t.shared ≡ s.shared
 
@@ -82,6 +89,8 @@ pub record Tests (input : Input) (s t : Searcher) (status : Status) : Type 0 whe
   pub result : Result Bool SearchError
   pub told : IsTruthTold result status
   pub returned : IsTruthOf (regex_of s) input result
+  pub found : IfOk result (IsTruthReported (regex_of s).forward input)
+  pub refusal : IfErr result (IsMatchRefused (regex_of s).forward t.cache.forward.store input)
   pub effect : IsTruthEffect (regex_of s) input s.cache t.cache result
   pub same : t.shared ≡ s.shared
 
@@ -90,6 +99,8 @@ pub record FindsEnd (found : FoundHalf) (input : Input) (s t : Searcher) (status
   pub result : Result (Option HalfMatch) SearchError
   pub told : IsTold (half_of found) result status
   pub returned : IsHalf Forward (regex_of s).forward input result
+  pub found : IfOk result (WithoutBase (IsFound Forward (regex_of s).forward input))
+  pub refusal : IfErr result (IsRefused Forward (regex_of s).forward t.cache.forward.store input)
   pub effect : IsSearchEffect Forward (regex_of s).forward input s.cache.forward t.cache.forward result
   pub reverse : t.cache.reverse ≡ s.cache.reverse
   pub same : t.shared ≡ s.shared
@@ -99,6 +110,8 @@ pub record FindsStart (found : FoundHalf) (input : Input) (s t : Searcher) (stat
   pub result : Result (Option HalfMatch) SearchError
   pub told : IsTold (half_of found) result status
   pub returned : IsHalf Backward (regex_of s).reverse input result
+  pub found : IfOk result (WithoutBase (IsFound Backward (regex_of s).reverse input))
+  pub refusal : IfErr result (IsRefused Backward (regex_of s).reverse t.cache.reverse.store input)
   pub effect : IsSearchEffect Backward (regex_of s).reverse input s.cache.reverse t.cache.reverse result
   pub forward : t.cache.forward ≡ s.cache.forward
   pub same : t.shared ≡ s.shared
@@ -166,6 +179,9 @@ pub record Joins (set : List Bool) (input : Input) (s t : Searcher) (status : St
   pub result : Result (Unit {0}) SearchError
   pub told : IsDoneTold result status
   pub returned : IsWhich (regex_of s).forward input set t.patterns result
+  pub found : OnOk result (JoinsReported (regex_of s).forward input set t.patterns)
+  pub refusal :
+      IfErr result (IsWhichRefusal (regex_of s).forward t.cache.forward.store input set t.patterns)
   pub effect : IsWhichEffect (regex_of s).forward input set s.cache.forward t.cache.forward result
   pub reverse : t.cache.reverse ≡ s.cache.reverse
   pub same : t.shared ≡ s.shared

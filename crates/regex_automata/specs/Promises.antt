@@ -23,8 +23,8 @@ pub use Rattle.automata_base.specs.Answers.Answers.{Half}
 pub use Rattle.automata_base.specs.Answers.Answers.{IsAnswer}
 pub use Rattle.automata_base.specs.Answers.OfPasses.{IsNearestAnswer}
 pub use Rattle.automata_base.specs.Nfas.Engines.{engine_of}
-pub use Rattle.automata_base.specs.Haystacks.Tapes.{Backward, Forward}
--- What a search returns by its DFA and its input alone, and the part of it that holds for every NFA.
+pub use Rattle.automata_base.specs.declared.util.search.Direction.TheVariants.{Backward, Forward}
+-- What a search returns by its DFA and its input alone, by paths; and by its passes, for every NFA.
 pub use Rattle.automata_hybrid.specs.Searches.Contracts.{IsHalf}
 pub use Rattle.automata_hybrid.specs.Searches.Passes.{IsFound, Skips, WithoutBase, without_base}
 pub use Rattle.automata_hybrid.specs.Searches.Agreement.{AnswersAgree}
@@ -36,7 +36,7 @@ pub use Rattle.automata_hybrid.specs.Walks.Contracts.{IsWalkCall}
 -- Some path of the pattern, from a start and through the span of an input, ends in a match; under `MatchKind::All` a
 -- set has exactly these patterns after a call that answers.
 pub use Rattle.automata_hybrid.specs.Walks.SetsByPaths.{MatchesIn, SetsHaveMatching}
-pub use Rattle.automata_hybrid.specs.Walks.Contracts.{IsWhich}
+pub use Rattle.automata_hybrid.specs.Walks.Contracts.{IsWhich, JoinsReported}
 -- The two DFAs of a regex are a sound pair: spans need it. A regex that `build_from_nfa` returns is one.
 pub use Rattle.regex_automata.specs.Regexes.SoundPairs.{IsSoundPair}
 -- A match by the ordered paths: its pattern, its end, and the start of the path; whether there is one; all of them, one
@@ -44,8 +44,9 @@ pub use Rattle.regex_automata.specs.Regexes.SoundPairs.{IsSoundPair}
 pub use Rattle.automata_base.specs.Haystacks.Matches.{Match}
 pub use Rattle.automata_base.specs.Answers.Spans.{AreSpans, IsMatch, IsSpan}
 pub use Rattle.regex_automata.specs.Regexes.SoundPairs.{forward_engine}
--- What `find` and `is_match` return by the two DFAs and the input alone.
-pub use Rattle.regex_automata.specs.Spans.Contracts.{IsSpanOf, IsTruthOf}
+-- What `find` and `is_match` return by the two DFAs and the input alone, by paths; and by their passes, for every NFA.
+pub use Rattle.regex_automata.specs.Spans.Contracts.{IsSpanOf, IsTruthOf, IsTruthReported}
+pub use Rattle.regex_automata.specs.Spans.Outcomes.{FindsMatch}
 -- One item of `find_iter`: the match or the error that it gives, and what is left to be searched after it; its match
 -- may be sliced from the haystack.
 pub use Rattle.regex_automata.specs.Spans.Iteration.{GivesItem, LiesInHaystack}

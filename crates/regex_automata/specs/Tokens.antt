@@ -1,13 +1,13 @@
 -- The tokens of an input, one after another.
 use Rattle.std.specs.Prelude.{ℕ, ◌≡◌, ◌<◌, ◌≤◌, ◌⊎◌, ◌-◌, ◌++◌, Bool, true, false, if◌then◌else◌, nat_lt, List, [], ◌∷◌}
-use Rattle.std.specs.Prelude.{length, Option, None, Some, Result, Ok, Err, IfErr, IfSome, slice_range}
+use Rattle.std.specs.Prelude.{length, Option, None, Some, Result, Ok, Err, IfErr, IfOk, IfSome, slice_range}
 use Rattle.automata_base.specs.Answers.Answers.{IsAnswer}
 use Rattle.automata_base.specs.Nfas.Engines.{engine_of}
 use Rattle.automata_base.specs.Haystacks.Input.{Input}
 use Rattle.automata_base.specs.Haystacks.Matches.{HalfMatch, Match}
 use Rattle.automata_base.specs.Nfas.Nodes.{nfa_of}
 use Rattle.automata_base.specs.Paths.Paths.{IsLookAcyclic}
-use Rattle.automata_base.specs.Haystacks.Tapes.{Forward}
+use Rattle.automata_base.specs.declared.util.search.Direction.TheVariants.{Forward}
 use Rattle.automata_base.specs.declared.util.search.Anchored.TheVariants.{Yes}
 use Rattle.automata_config.specs.declared.error.SearchError.{SearchError}
 use Rattle.automata_config.specs.declared.error.SearchError.TheVariants as search
@@ -39,12 +39,18 @@ item_of offset (Ok (Some half)) =
 item_of offset (Ok None) = Err (NoToken offset)
 item_of offset (Err e) = Err (Search e)
 
+-- the forward search at an offset returns this, by paths and by passes
+abbrev pub SearchReturns : Machine → List ℕ → (end offset : ℕ) → Result (Option HalfMatch) SearchError → Type 0
+SearchReturns m h end offset result =
+    IsHalf Forward m (asked h end offset) result
+    × IfOk result (WithoutBase (IsFound Forward m (asked h end offset)))
+
 -- an item at an offset before the span's end: what an answer makes that the forward search there returns
 abbrev pub IsItemAt : Machine → List ℕ → (end offset : ℕ) → Result Match TokenError → Type 0
 IsItemAt m h end offset item =
     (offset < end)
     × ((answer : Result (Option HalfMatch) SearchError)
-    × IsHalf Forward m (asked h end offset) answer × (item ≡ item_of offset answer))
+    × SearchReturns m h end offset answer × (item ≡ item_of offset answer))
 
 -- the bytes of a match; and of matches, joined
 abbrev pub match_bytes : List ℕ → Match → List ℕ
@@ -72,9 +78,9 @@ pub record IsTokenAt (m : Machine) (h : List ℕ) (end offset : ℕ) (t : Token)
 pub record IsNoTokenAt (m : Machine) (h : List ℕ) (end offset : ℕ) : Type 0 where
   pub within : offset < end
   pub none :
-      IsHalf Forward m (asked h end offset) (Ok None)
+      SearchReturns m h end offset (Ok None)
       ⊎ ((pattern : ℕ)
-      × IsHalf Forward m (asked h end offset) (Ok (Some (record { pattern = pattern; offset = offset }))))
+      × SearchReturns m h end offset (Ok (Some (record { pattern = pattern; offset = offset }))))
 
 -- an error names this offset, or is that of a search that fails over this cache
 abbrev pub IsRefusedAt : Machine → Stored → List ℕ → (end offset : ℕ) → TokenError → Type 0
@@ -173,12 +179,16 @@ abbrev pub IsNoTokenOrMemory : TokenError → Type 0
 IsNoTokenOrMemory (NoToken at) = Unit {0}
 IsNoTokenOrMemory (Search e) = IsMemory e
 
--- the tokens of an input, one after another; or the first ones, and the error that ended them
-pub record AreTokensUpto (m : Machine) (input : Input) (ts : List Match) (error : Option TokenError) : Type 0 where
+-- the tokens of an input by the searches at their offsets, for every NFA; or the first ones, and the error that ended
+-- them
+pub record AreTokensReported (m : Machine) (input : Input) (ts : List Match) (error : Option TokenError) : Type 0 where
   -- each is what an answer makes that the search at its offset returns
   pub given : AreGiven m input.haystack input.end input.start ts error
-  -- for every NFA, what the passes report
+  -- it is what the passes report
   pub found : AreFoundBy (λ i. WithoutBase (IsFound Forward m i)) input.haystack input.end input.start ts error
+
+-- the tokens of an input, one after another; or the first ones, and the error that ended them
+pub record AreTokensUpto (m : Machine) (input : Input) (ts : List Match) (error : Option TokenError) : Type 0 where
   -- without a look cycle, the answers of the ordered paths
   pub paths :
       IsLookAcyclic (nfa_of m.nfa)

@@ -5,19 +5,20 @@ pub use automata_base::laws::{
     passes_report_paths, reported_is_right, start_is_right, steps_are_right, walk_is_right,
 };
 pub use automata_hybrid::laws::{
-    answers_agree, costs_are_few, first_match_is_found, known_stays, sets_have_matching,
-    walks_agree,
+    answers_agree, cache_is_within, costs_are_few, first_match_is_found, known_stays,
+    sets_have_matching, walks_agree,
 };
 
-/// Neither earlier searches nor the capacity of the caches show in a match: two searches for one input that answer find
-/// the same, over one regex, or over two of the same NFAs and match kinds, in whatever else their settings differ.
+/// Earlier searches and the capacity of the caches show in no match: two searches for one input that answer find the
+/// same, over one regex, or over two of the same NFAs and match kinds, in whatever else their settings differ.
 pub fn matches_agree()
     ensures { MatchesAgree }
 {
     answers_agree();
 }
 
-/// The same holds for whether there is a match, for which the forward NFA and match kind suffice.
+/// Earlier searches and the capacity of the caches do not show in whether there is a match: two searches for one input
+/// that answer say the same, over DFAs of one forward NFA and match kind.
 pub fn truths_agree()
     ensures { TruthsAgree }
 {

@@ -5,28 +5,23 @@ use Rattle.std.specs.Result.{IsErrAnd}
 use Rattle.automata_base.specs.Answers.Answers.{Half}
 use Rattle.automata_base.specs.Haystacks.Input.{Input}
 use Rattle.automata_base.specs.Haystacks.Matches.{HalfMatch}
-use Rattle.automata_base.specs.Haystacks.Tapes.{Direction, Forward}
+use Rattle.automata_base.specs.declared.util.search.Direction.{Direction}
+use Rattle.automata_base.specs.declared.util.search.Direction.TheVariants.{Forward}
 use Rattle.automata_config.specs.declared.error.SearchError.{SearchError}
 use Rattle.automata_hybrid.specs.Cache.Stores.{Stored}
 use Rattle.automata_hybrid.specs.Cache.Caches.{CacheView}
 use Rattle.automata_hybrid.specs.Searches.Cached.{IsOfInput}
 use Rattle.automata_hybrid.specs.Machines.Machine.{Machine}
-use Rattle.automata_hybrid.specs.Searches.Contracts.{IsBased, IsHalf, IsSearchEffect, IsStoreOf, MayRefuse, based_half}
+use Rattle.automata_hybrid.specs.Cache.Caches.{IsStoreOf}
+use Rattle.automata_hybrid.specs.Searches.Contracts.{IsBased, IsHalf, IsSearchEffect, based_half}
 use Rattle.automata_hybrid.specs.Searches.Contracts.{halves}
 use Rattle.automata_hybrid.specs.Searches.Progress.{LeavesProgress}
-use Rattle.automata_hybrid.specs.Searches.Passes.{IsRefused, WithoutBase, with_base}
+use Rattle.automata_hybrid.specs.Searches.Passes.{WithoutBase, with_base}
 use Rattle.automata_hybrid.proofs.Cases.{err_ok, ok_err, same_err}
 
 -- a cache that is of its DFA and keeps its bounds is one of it, within its settings
 pub is_store : (c : Stored) (m : Machine) → c.table.of ≡ m → IsStoreOf c c.table.of → IsStoreOf c m
 is_store c m of bounds = subst (λ (n : Machine). IsStoreOf c n) of bounds
-
--- a refusal over some cache
-pub may_refuse :
-    {T : Type 0} (r : Result T SearchError) (way : Direction) (m : Machine) (c : Stored) (input : Input)
-    → IsStoreOf c m → IfErr r (IsRefused way m c input) → IfErr r (MayRefuse way m input)
-may_refuse (Ok x) way m c input of h = h
-may_refuse (Err e) way m c input of h = (c, of, h)
 
 pub err_to :
     {A B E : Type 0} {e f : E} → ◌≡◌ {A = Result A E} (Err e) (Err f) → ◌≡◌ {A = Result B E} (Err e) (Err f)
@@ -43,12 +38,10 @@ module _ (m : Machine) (input : Input) where
   half_some o p is based = go (subst (λ (v : Option (HalfMatch × ℕ)). IsBased m input (Ok v)) is based) where
     go : IsBased m input (Ok (Some p)) → IsHalf Forward m input (Ok (Some p.0))
     go b = record {
-      found = (Some (with_base p.0 p.1), b.found, refl);
       answer = λ cycles. (Some (with_base p.0 p.1), b.answer cycles, refl);
       nearest = λ early. (Some (with_base p.0 p.1), b.nearest early, refl);
       farthest = λ late all. (Some (with_base p.0 p.1), b.farthest late all, refl);
       within = b.within.lies;
-      errors = tt;
       unsupported = λ u. absurd (ok_err (b.unsupported u));
       free = λ f. tt;
       done = λ past. absurd (some_none (b.done past));
@@ -59,12 +52,10 @@ module _ (m : Machine) (input : Input) where
   half_none o is based = go (subst (λ (v : Option (HalfMatch × ℕ)). IsBased m input (Ok v)) is based) where
     go : IsBased m input (Ok None) → IsHalf Forward m input (Ok None)
     go b = record {
-      found = (None, b.found, refl);
       answer = λ cycles. (None, b.answer cycles, refl);
       nearest = λ early. (None, b.nearest early, refl);
       farthest = λ late all. (None, b.farthest late all, refl);
       within = tt;
-      errors = tt;
       unsupported = λ u. absurd (ok_err (b.unsupported u));
       free = λ f. tt;
       done = λ past. refl;
@@ -77,16 +68,29 @@ module _ (m : Machine) (input : Input) where
   half_err (Err x) e is based = go (subst (λ (v : SearchError). IsBased m input (Err v)) (sym is) based) where
     go : IsBased m input (Err x) → IsHalf Forward m input (Err x)
     go b = record {
-      found = tt;
       answer = λ cycles. tt;
       nearest = λ early. tt;
       farthest = λ late all. tt;
       within = tt;
-      errors = b.errors;
       unsupported = λ u. err_to (b.unsupported u);
       free = b.free;
       done = λ past. absurd (err_ok (b.done past));
     }
+
+-- what passes report, without its base
+pub found_some :
+    (P : Option Half → Type 0) (o : Option (HalfMatch × ℕ)) (p : HalfMatch × ℕ)
+    → o ≡ Some p → P (based_half o) → WithoutBase P (Some p.0)
+found_some P o p is h = (Some (with_base p.0 p.1), subst (λ v. P (based_half v)) is h, refl)
+
+pub found_none : (P : Option Half → Type 0) (o : Option (HalfMatch × ℕ)) → o ≡ None → P (based_half o) → WithoutBase P None
+found_none P o is h = (None, subst (λ v. P (based_half v)) is h, refl)
+
+pub found_err :
+    (P : Option HalfMatch → Type 0) (r : Result (Option HalfMatch) SearchError) (e : SearchError)
+    → IsErrAnd r (λ x. x ≡ e) → IfOk r P
+found_err P (Ok o) e is = absurd is
+found_err P (Err x) e is = tt
 
 -- what is made of the cache, by another answer of the same kind
 module _ {T U : Type 0} (way : Direction) (m : Machine) (input : Input) (old new : CacheView) where

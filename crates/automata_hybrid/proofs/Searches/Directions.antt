@@ -9,7 +9,9 @@ use Rattle.automata_base.specs.Haystacks.Input.{Input}
 use Rattle.automata_base.specs.Paths.Paths.{next}
 use Rattle.automata_base.specs.Powersets.Powerset.{Powerset, dead}
 use Rattle.automata_base.specs.Retraced.Steps.{start_state_of}
-use Rattle.automata_base.specs.Haystacks.Tapes.{Direction, Forward, Backward, byte_before}
+use Rattle.automata_base.specs.Haystacks.Tapes.{byte_before}
+use Rattle.automata_base.specs.declared.util.search.Direction.{Direction}
+use Rattle.automata_base.specs.declared.util.search.Direction.TheVariants.{Forward, Backward}
 use Rattle.automata_base.proofs.Paths.Orders.{some_inj}
 use Rattle.automata_hybrid.specs.Machines.Machine.{Machine, table_stride}
 use Rattle.automata_hybrid.specs.Searches.Progress.{IsAfterEnd, KeepsNone}

@@ -12,7 +12,7 @@ use Rattle.automata_base.specs.Paths.Paths.{Tape, next}
 use Rattle.automata_base.specs.Powersets.Powerset.{Powerset, dead}
 use Rattle.automata_base.specs.Paths.Selections.{Pair}
 use Rattle.automata_base.specs.Retraced.Steps.{start_state_of, successor}
-use Rattle.automata_base.specs.Haystacks.Tapes.{Direction}
+use Rattle.automata_base.specs.declared.util.search.Direction.{Direction}
 use Rattle.automata_base.specs.Retraced.Passes.{state_after, reported_at, last_reported, first_reported, reported_upto}
 use Rattle.automata_base.proofs.Powersets.Alike.{dead_stays}
 use Rattle.std.specs.Prelude.{Result, Ok, Err, IfErr, is_some}

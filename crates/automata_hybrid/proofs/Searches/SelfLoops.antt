@@ -7,7 +7,8 @@ use Rattle.automata_base.specs.Haystacks.Input.{Input}
 use Rattle.automata_base.specs.Paths.Paths.{next}
 use Rattle.automata_base.specs.Powersets.Powerset.{Powerset}
 use Rattle.automata_base.specs.Retraced.Steps.{successor}
-use Rattle.automata_base.specs.Haystacks.Tapes.{Direction, Forward, Backward}
+use Rattle.automata_base.specs.declared.util.search.Direction.{Direction}
+use Rattle.automata_base.specs.declared.util.search.Direction.TheVariants.{Forward, Backward}
 use Rattle.automata_config.specs.Options.{match_kind_of}
 use Rattle.automata_hybrid.specs.Searches.SelfLoops.{HasByte, HasEither, IsKnownLoop, IsLoopRange, IsLoopRun, IsSelfLoop}
 use Rattle.automata_hybrid.specs.Searches.SelfLoops.{LoopsAt, LoopsOn, LoopsOver, byte_in}

@@ -6,7 +6,8 @@ use Rattle.automata_base.specs.declared.util.search.Anchored.TheVariants.{No}
 use Rattle.automata_base.specs.Haystacks.Input.{Input}
 use Rattle.automata_base.specs.Haystacks.Matches.{HalfMatch}
 use Rattle.automata_base.specs.Paths.Selections.{Pair}
-use Rattle.automata_base.specs.Haystacks.Tapes.{Direction, is_split}
+use Rattle.automata_base.specs.Haystacks.Tapes.{is_split}
+use Rattle.automata_base.specs.declared.util.search.Direction.{Direction}
 use Rattle.automata_base.specs.Answers.OfPasses.{ReportsOver, IsReported, reported_over}
 use Rattle.automata_base.proofs.Answers.Turning.{turn_answers}
 use Rattle.automata_config.specs.declared.error.SearchError.{SearchError}

@@ -3,7 +3,8 @@ use Rattle.std.proofs.Common.{ℕ, zero, suc, ◌≡◌, ◌∙◌, ◌+◌, ◌
 use Rattle.std.specs.Prelude.{Result, Ok, Err}
 use Rattle.automata_base.specs.Answers.Answers.{Tries, later}
 use Rattle.automata_base.specs.Haystacks.Input.{Input}
-use Rattle.automata_base.specs.Haystacks.Tapes.{Direction, Forward, Backward}
+use Rattle.automata_base.specs.declared.util.search.Direction.{Direction}
+use Rattle.automata_base.specs.declared.util.search.Direction.TheVariants.{Forward, Backward}
 use Rattle.automata_config.specs.declared.error.SearchError.{SearchError}
 use Rattle.automata_hybrid.specs.Cache.Caches.{CacheView}
 use Rattle.automata_hybrid.specs.Searches.Costs.{IsCostOfPasses}

@@ -4,7 +4,8 @@ use Rattle.std.proofs.Common.{ap₂, ◌∙◌, arith, get_or}
 use Rattle.automata_base.specs.Haystacks.Input.{Input}
 use Rattle.std.specs.Prelude.{slice_get}
 use Rattle.automata_base.specs.Paths.Paths.{next}
-use Rattle.automata_base.specs.Haystacks.Tapes.{Forward, Backward, byte_before}
+use Rattle.automata_base.specs.Haystacks.Tapes.{byte_before}
+use Rattle.automata_base.specs.declared.util.search.Direction.TheVariants.{Forward, Backward}
 use Rattle.automata_base.proofs.Answers.Bytes.{forward_next, forward_length, reverse_next, tape_length}
 use Rattle.automata_hybrid.specs.Searches.Passes.{tape_in}
 

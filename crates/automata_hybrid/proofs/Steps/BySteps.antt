@@ -9,7 +9,8 @@ use Rattle.automata_base.specs.Haystacks.Matches.{HalfMatch}
 use Rattle.automata_base.specs.Paths.Paths.{next}
 use Rattle.automata_base.specs.Powersets.Powerset.{Powerset, dead}
 use Rattle.automata_base.specs.Retraced.Steps.{start_state_of, successor}
-use Rattle.automata_base.specs.Haystacks.Tapes.{Forward, byte_before}
+use Rattle.automata_base.specs.Haystacks.Tapes.{byte_before}
+use Rattle.automata_base.specs.declared.util.search.Direction.TheVariants.{Forward}
 use Rattle.automata_base.specs.Answers.OfPasses.{ReportedEndsAreRight}
 use Rattle.automata_config.specs.Options.{match_kind_of}
 use Rattle.automata_hybrid.specs.Cache.Caches.{CacheView}

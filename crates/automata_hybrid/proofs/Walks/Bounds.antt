@@ -5,7 +5,7 @@ use Rattle.std.specs.Prelude.{Result, Ok, Err, IfSome, OnErr, OnOk}
 use Rattle.automata_base.specs.Haystacks.Input.{Input}
 use Rattle.automata_base.specs.Haystacks.Matches.{HalfMatch}
 use Rattle.automata_base.specs.Paths.Selections.{Pair}
-use Rattle.automata_base.specs.Haystacks.Tapes.{Direction}
+use Rattle.automata_base.specs.declared.util.search.Direction.{Direction}
 use Rattle.automata_base.specs.Laws.Walks.{InPairs, WalksAreReported}
 use Rattle.automata_base.specs.Answers.Within.{WalkLiesWithin}
 use Rattle.automata_hybrid.specs.Machines.Machine.{Machine}

@@ -1,14 +1,14 @@
 -- A walk of `MatchKind::All` reports the patterns of the accepting paths.
 use Rattle.std.proofs.Common.{ℕ, ◌≡◌, ◌<◌, ◌≤◌, ◌⊎◌, inl, inr, Bool, true, false, List, [], ◌∷◌, length, Some, refl}
 use Rattle.std.proofs.Common.{sym, ap, subst}
-use Rattle.std.specs.Prelude.{Ok, ◌↔◌}
+use Rattle.std.specs.Prelude.{◌↔◌}
 use Rattle.automata_base.specs.Answers.Answers.{HasPattern, IsInput, first_alone}
 use Rattle.automata_base.specs.Haystacks.Input.{Input}
 use Rattle.automata_base.specs.Lists.{In}
 use Rattle.automata_base.specs.Haystacks.PatternSet.{members}
 use Rattle.automata_base.specs.Paths.Selections.{Pair}
 use Rattle.automata_base.specs.Paths.Starts.{mode_start}
-use Rattle.automata_base.specs.Haystacks.Tapes.{Forward}
+use Rattle.automata_base.specs.declared.util.search.Direction.TheVariants.{Forward}
 use Rattle.automata_base.specs.Laws.Walks.{AllPairsAreReported, AreReported, InPairs, WalksAreReported}
 use Rattle.automata_base.specs.Answers.Within.{WalkLiesWithin}
 use Rattle.automata_base.specs.declared.util.search.MatchKind.{MatchKind}
@@ -16,7 +16,7 @@ use Rattle.automata_base.specs.declared.util.search.MatchKind.TheVariants.{All a
 use Rattle.automata_config.specs.Options.{match_kind_of}
 use Rattle.automata_hybrid.specs.Walks.SetsByPaths.{MatchesIn, SetsHaveMatching}
 use Rattle.automata_hybrid.specs.Machines.Machine.{Machine}
-use Rattle.automata_hybrid.specs.Walks.Contracts.{IsWhich}
+use Rattle.automata_hybrid.specs.Walks.Contracts.{JoinsReported}
 
 pair_of : (p : ℕ) (pairs : List Pair) → HasPattern p pairs → (at : ℕ) × InPairs (record { pattern = p; place = at }) pairs
 pair_of p [] h = elim h [ ]
@@ -53,10 +53,9 @@ module _ (m : Machine) (all : AllPairsAreReported m.nfa) (reported : WalksAreRep
         has_pair p matching.at pairs ((all Forward input pairs start bytes undone starts walked (record { pattern = p; place = matching.at })).1 matching.accepted)
 
   sets :
-      (old new : List Bool) → match_kind_of m.config ≡ KindAll → input.earliest ≡ false → IsWhich m input old new (Ok tt)
+      (old new : List Bool) → match_kind_of m.config ≡ KindAll → input.earliest ≡ false → JoinsReported m input old new
       → (p : ℕ) → In p (members new) ↔ (In p (members old) ⊎ ((p < length old) × MatchesIn m input start p))
-  sets old new kind full which p =
-      let found = which.reported.found in
+  sets old new kind full found p =
       let walked : AreReported Forward m.nfa KindAll input found.0 = subst (λ (k : MatchKind). AreReported Forward m.nfa k input found.0) kind found.1 in
       let same : first_alone input.earliest found.0 ≡ found.0 = all_pairs input.earliest found.0 full in
       (λ h. forth found.0 walked same ((found.2 p).0 h), λ h. (found.2 p).1 (back found.0 walked same h)) where

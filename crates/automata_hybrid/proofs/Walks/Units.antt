@@ -4,7 +4,8 @@ use Rattle.std.proofs.Common.{arith}
 use Rattle.std.specs.Prelude.{Err, Ok}
 use Rattle.automata_base.specs.Answers.Answers.{offset_in}
 use Rattle.automata_base.specs.Haystacks.Input.{Input}
-use Rattle.automata_base.specs.Haystacks.Tapes.{Direction, is_split}
+use Rattle.automata_base.specs.Haystacks.Tapes.{is_split}
+use Rattle.automata_base.specs.declared.util.search.Direction.{Direction}
 use Rattle.automata_config.specs.declared.error.SearchError.TheVariants as search
 use Rattle.automata_hybrid.specs.Cache.Caches.{CacheView, with_store}
 use Rattle.automata_hybrid.specs.Cache.Growth.{ClearedNothing, IsGrown}

@@ -1,8 +1,10 @@
 -- What contracts see of a cache, and which DFA it belongs to.
-use Rattle.std.specs.Prelude.{◌≡◌, ℕ, ◌+◌, ◌⊎◌}
+use Rattle.std.specs.Prelude.{◌≡◌, ℕ, ◌+◌, ◌≤◌, ◌⊎◌, length}
 use Rattle.automata_hybrid.specs.Cache.Ids.{dead_id, quit_id}
-use Rattle.automata_hybrid.specs.Machines.Machine.{Machine, table_stride}
-use Rattle.automata_hybrid.specs.Cache.Table.{IsRowId}
+use Rattle.automata_hybrid.specs.Machines.Machine.{Machine, slot_count, table_stride}
+use Rattle.automata_hybrid.specs.Cache.Table.{AreRows, IsRowId}
+use Rattle.automata_hybrid.specs.Cache.Clears.{AllStarts}
+use Rattle.automata_hybrid.specs.Cache.Usage.{usage}
 use Rattle.automata_hybrid.specs.Cache.Stores.{Stored, fresh_store}
 
 -- what contracts see of a cache: its states, and how often it determinized
@@ -13,6 +15,15 @@ pub record CacheView : Type 0 where
 -- the cache belongs to this machine
 abbrev pub IsCacheOf : CacheView → Machine → Type 0
 IsCacheOf c m = c.store.table.of ≡ m
+
+-- a cache of this DFA: its rows fit together, each start slot has its own start or none yet, and its accounted bytes
+-- are within the settings
+pub record IsStoreOf (c : Stored) (m : Machine) : Type 0 where
+  pub of : c.table.of ≡ m
+  pub rows : AreRows c.table
+  pub starts : AllStarts c.table c.starts
+  pub slots : length c.starts ≡ slot_count m
+  pub within : usage c ≤ m.capacity
 
 -- a cache that nothing was done to
 abbrev pub fresh_cache : Machine → CacheView

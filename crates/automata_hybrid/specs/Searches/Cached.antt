@@ -3,7 +3,7 @@ use Rattle.std.specs.Prelude.{ℕ, ◌≡◌, ◌+◌, ◌<◌, ◌≤◌}
 use Rattle.automata_base.specs.Answers.Answers.{IsInput, Tries, later}
 use Rattle.automata_base.specs.Haystacks.Input.{Input}
 use Rattle.automata_base.specs.Paths.Paths.{next}
-use Rattle.automata_base.specs.Haystacks.Tapes.{Direction}
+use Rattle.automata_base.specs.declared.util.search.Direction.{Direction}
 use Rattle.automata_base.specs.declared.util.search.MatchErrorKind.TheVariants.{GaveUp}
 use Rattle.automata_config.specs.declared.error.SearchError.{SearchError}
 use Rattle.automata_config.specs.declared.error.SearchError.TheVariants as search

@@ -1,5 +1,5 @@
 -- What a search answers by its DFA and its input alone, whatever the cache, and what it makes of its cache.
-use Rattle.std.specs.Prelude.{ℕ, ◌≡◌, ◌<◌, ◌≤◌, length, true, false, Option, None, option_map, Result, Ok, Err, IfOk}
+use Rattle.std.specs.Prelude.{ℕ, ◌≡◌, ◌<◌, ◌≤◌, true, false, Option, None, option_map, Result, Ok, Err, IfOk}
 use Rattle.std.specs.Prelude.{IfErr, IfSome, OnOk}
 use Rattle.automata_base.specs.Answers.Answers.{Half, IsAnswer}
 use Rattle.automata_base.specs.Nfas.Engines.{engine_of}
@@ -7,36 +7,24 @@ use Rattle.automata_base.specs.Haystacks.Input.{Input}
 use Rattle.automata_base.specs.Haystacks.Matches.{HalfMatch}
 use Rattle.automata_base.specs.Nfas.Nodes.{nfa_of}
 use Rattle.automata_base.specs.Paths.Paths.{KeepsCycles}
-use Rattle.automata_base.specs.Haystacks.Tapes.{Direction, Forward}
+use Rattle.automata_base.specs.declared.util.search.Direction.{Direction}
+use Rattle.automata_base.specs.declared.util.search.Direction.TheVariants.{Forward}
 use Rattle.automata_base.specs.Answers.OfPasses.{IsNearestAnswer, IsFarthestAnswer}
 use Rattle.automata_base.specs.declared.util.search.MatchErrorKind.TheVariants.{UnsupportedAnchored as UnsupportedMode}
 use Rattle.automata_base.specs.declared.util.search.MatchKind.TheVariants.{All as KindAll}
 use Rattle.automata_config.specs.declared.error.SearchError.{SearchError}
 use Rattle.automata_config.specs.declared.error.SearchError.TheVariants as search
-use Rattle.automata_hybrid.specs.Cache.Stores.{Stored}
-use Rattle.automata_hybrid.specs.Cache.Usage.{usage}
 use Rattle.automata_hybrid.specs.Cache.Caches.{CacheView}
 use Rattle.automata_hybrid.specs.Searches.Costs.{IsCostOfSearch}
 use Rattle.automata_hybrid.specs.Cache.Growth.{ClearedNothing, IsGrown, IsStill}
 use Rattle.automata_hybrid.specs.Searches.Cached.{IsOfInput, Knows}
-use Rattle.automata_hybrid.specs.Cache.Clears.{AllStarts}
-use Rattle.automata_hybrid.specs.Machines.Machine.{Machine, slot_count}
-use Rattle.automata_hybrid.specs.Cache.Table.{AreRows}
+use Rattle.automata_hybrid.specs.Machines.Machine.{Machine}
 use Rattle.automata_hybrid.specs.Searches.Progress.{EndsProgress, LeavesProgress}
-use Rattle.automata_hybrid.specs.Searches.Passes.{IsFound, IsRefused, NoQuitInReach, WithoutBase, tape_in, with_base}
+use Rattle.automata_hybrid.specs.Searches.Passes.{NoQuitInReach, WithoutBase, tape_in, with_base}
 use Rattle.automata_hybrid.specs.Machines.StartSlots.{supports}
 use Rattle.automata_hybrid.specs.Steps.Starts.{quit_behind}
 use Rattle.automata_hybrid.specs.Searches.Bounds.{LiesIn, LiesPast}
 use Rattle.automata_config.specs.Options.{match_kind_of, minimum_cache_clear_count_of}
-
--- a cache of this DFA: its rows fit together, each start slot has its own start or none yet, and its accounted bytes
--- are within the settings
-pub record IsStoreOf (c : Stored) (m : Machine) : Type 0 where
-  pub of : c.table.of ≡ m
-  pub rows : AreRows c.table
-  pub starts : AllStarts c.table c.starts
-  pub slots : length c.starts ≡ slot_count m
-  pub within : usage c ≤ m.capacity
 
 -- the error is out of memory
 abbrev pub IsMemory : SearchError → Type 0
@@ -59,10 +47,6 @@ pub record IsUnsupported (way : Direction) (m : Machine) (input : Input) : Type 
 abbrev pub unsupported_error : Input → SearchError
 unsupported_error input = search.Match (UnsupportedMode input.anchored)
 
--- over some cache of the DFA, within its settings, the search may fail so
-abbrev pub MayRefuse : Direction → Machine → Input → SearchError → Type 0
-MayRefuse way m input e = (c : Stored) × IsStoreOf c m × IsRefused way m c input e
-
 -- what a search in a direction returns: an option, seen as an answer by `Is`, which lies where `Lies` says
 pub record IsAnswered {A : Type 0} (Is : (Option Half → Type 0) → Option A → Type 0) (Lies : Option A → Type 0)
     (way : Direction) (m : Machine) (input : Input) (result : Result (Option A) SearchError) : Type 0 where
@@ -83,10 +67,6 @@ pub record IsAnswered {A : Type 0} (Is : (Option Half → Type 0) → Option A �
   pub unsupported : IsUnsupported way m input → result ≡ Err (unsupported_error input)
   -- If nothing else can prevent an answer, the only error is out of memory.
   pub free : IsUnhindered m input → IfErr result IsMemory
-  -- By the powerset states too: for every NFA, what the passes report;
-  pub found : IfOk result (Is (IsFound way m input))
-  -- and an error is one that some cache may give.
-  pub errors : IfErr result (MayRefuse way m input)
 
 -- what a search in a direction returns: a match's pattern and end, or none
 abbrev pub IsHalf : Direction → Machine → Input → Result (Option HalfMatch) SearchError → Type 0

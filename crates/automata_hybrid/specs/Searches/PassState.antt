@@ -6,7 +6,7 @@ use Rattle.automata_base.specs.Haystacks.Input.{Input}
 use Rattle.automata_base.specs.Haystacks.Matches.{HalfMatch}
 use Rattle.automata_base.specs.Paths.Paths.{next}
 use Rattle.automata_base.specs.Paths.Selections.{Pair}
-use Rattle.automata_base.specs.Haystacks.Tapes.{Direction}
+use Rattle.automata_base.specs.declared.util.search.Direction.{Direction}
 use Rattle.automata_base.specs.Answers.OfPasses.{reported_over}
 use Rattle.automata_base.specs.declared.util.search.MatchErrorKind.TheVariants.{GaveUp}
 use Rattle.automata_config.specs.declared.error.StepError.{StepError}

@@ -9,7 +9,9 @@ use Rattle.automata_base.specs.Haystacks.Matches.{HalfMatch}
 use Rattle.automata_base.specs.Paths.Paths.{Tape, next}
 use Rattle.automata_base.specs.Powersets.Powerset.{Powerset, dead}
 use Rattle.automata_base.specs.Paths.Selections.{Pair}
-use Rattle.automata_base.specs.Haystacks.Tapes.{Direction, Forward, Backward, tape_of}
+use Rattle.automata_base.specs.Haystacks.Tapes.{tape_of}
+use Rattle.automata_base.specs.declared.util.search.Direction.{Direction}
+use Rattle.automata_base.specs.declared.util.search.Direction.TheVariants.{Forward, Backward}
 use Rattle.automata_base.specs.Retraced.Passes.{state_after, reported_upto}
 use Rattle.automata_base.specs.Answers.OfPasses.{reported_over}
 use Rattle.automata_base.specs.Retraced.Steps.{successor}

@@ -4,7 +4,8 @@ use Rattle.automata_base.specs.Nfas.Engines.{engine_of}
 use Rattle.automata_base.specs.Haystacks.Input.{Input}
 use Rattle.automata_base.specs.Haystacks.Matches.{HalfMatch}
 use Rattle.automata_base.specs.Powersets.Powerset.{Powerset}
-use Rattle.automata_base.specs.Haystacks.Tapes.{Forward, IsHaystack}
+use Rattle.automata_base.specs.Haystacks.Tapes.{IsHaystack}
+use Rattle.automata_base.specs.declared.util.search.Direction.TheVariants.{Forward}
 use Rattle.automata_base.specs.Answers.OfPasses.{IsNearestAnswer}
 use Rattle.automata_config.specs.Options.{match_kind_of}
 use Rattle.automata_hybrid.specs.Cache.Caches.{CacheView, HoldsRow}

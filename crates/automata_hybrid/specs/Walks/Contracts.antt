@@ -10,9 +10,9 @@ use Rattle.automata_base.specs.Paths.Paths.{KeepsCycles}
 use Rattle.automata_base.specs.Haystacks.PatternSet.{members}
 use Rattle.automata_base.specs.Powersets.Powerset.{Powerset}
 use Rattle.automata_base.specs.Paths.Selections.{Pair}
-use Rattle.automata_base.specs.Haystacks.Tapes.{Direction, Forward}
+use Rattle.automata_base.specs.declared.util.search.Direction.{Direction}
+use Rattle.automata_base.specs.declared.util.search.Direction.TheVariants.{Forward}
 use Rattle.automata_config.specs.declared.error.SearchError.{SearchError}
-use Rattle.automata_hybrid.specs.Cache.Stores.{Stored}
 use Rattle.automata_hybrid.specs.Cache.Caches.{CacheView, counted}
 use Rattle.automata_hybrid.specs.Cache.Growth.{ClearedNothing, HasRoom, IsGrown, IsStill}
 use Rattle.automata_hybrid.specs.Searches.Cached.{IsOfInput, KnowsItsStart}
@@ -20,22 +20,17 @@ use Rattle.automata_hybrid.specs.Walks.Cached.{KnowsItsState, KnowsWalk, KnowsWh
 use Rattle.automata_hybrid.specs.Cache.Changes.{IsStateAdded}
 use Rattle.automata_hybrid.specs.Cache.Usage.{cleared}
 use Rattle.automata_hybrid.specs.Machines.Machine.{Machine}
-use Rattle.automata_hybrid.specs.Searches.Contracts.{IsMemory, IsStoreOf, IsUnhindered, IsUnsupported}
+use Rattle.automata_hybrid.specs.Searches.Contracts.{IsMemory, IsUnhindered, IsUnsupported}
 use Rattle.automata_hybrid.specs.Searches.Contracts.{unsupported_error}
 use Rattle.automata_hybrid.specs.Walks.Progress.{EndsCall, EndsSet, LeavesCall, LeavesSet, ReadsNoUnit}
-use Rattle.automata_hybrid.specs.Walks.Answers.{AreWalked, HasItsState, HasReported, IsUnheld, IsWalkRefusal}
+use Rattle.automata_hybrid.specs.Walks.Answers.{AreWalked, HasItsState, HasReported, IsUnheld}
 use Rattle.automata_hybrid.specs.Walks.Answers.{ReportsNext}
 use Rattle.automata_hybrid.specs.Walks.Answers.{half_nth}
 use Rattle.automata_hybrid.specs.Walks.Answers.{start_count}
 use Rattle.automata_hybrid.specs.Walks.State.{At, Ended, Fresh, Ids, Keeping, States, Walk, without_match}
-use Rattle.automata_hybrid.specs.Walks.Sets.{IsWhichRefusal}
 use Rattle.automata_hybrid.specs.Cache.Table.{IsKnownState}
 use Rattle.automata_hybrid.specs.Searches.Bounds.{LiesIn}
 use Rattle.automata_config.specs.Options.{match_kind_of}
-
--- over some cache of the DFA, within its settings, a call of this walk, which has reported so many pairs, may fail so
-abbrev pub MayRefuseCall : Direction → Machine → Input → Walk → (reported : ℕ) → SearchError → Type 0
-MayRefuseCall way m input w reported e = (c : Stored) × IsStoreOf c m × IsWalkRefusal States way m c input w reported e
 
 -- what a call of a walk answers, and what it makes of the walk
 pub record IsWalkCall (way : Direction) (m : Machine) (input : Input) (old new : Walk)
@@ -53,8 +48,6 @@ pub record IsWalkCall (way : Direction) (m : Machine) (input : Input) (old new :
   pub ended : new.stage ≡ Ended → new.found ≡ None
   -- a walk whose call fails is unchanged, except that it has no match
   pub refused : OnErr result (new ≡ without_match old)
-  -- an error is one that some cache may give
-  pub errors : (k : ℕ) → HasReported way m input old k → IfErr result (MayRefuseCall way m input old k)
   -- of a walk that has not begun, an anchored mode that is not supported is reported
   pub unsupported : old.stage ≡ Fresh → IsUnsupported way m input → result ≡ Err (unsupported_error input)
   -- if nothing else can prevent an answer, the only error is out of memory
@@ -109,16 +102,15 @@ pub record IsCallEffect {T : Type 0} (keeping : Keeping) (way : Direction) (m : 
   -- one that reads no unit changes nothing at all
   pub ready : ReadsNoUnit input walk → new ≡ old
 
--- over some cache of the DFA, within its settings, a walk may fail so after it reported what the set was joined with
-abbrev pub MayRefuseWhich : Machine → Input → (old new : List Bool) → SearchError → Type 0
-MayRefuseWhich m input old new e = (c : Stored) × IsStoreOf c m × IsWhichRefusal m c input old new e
+-- for every NFA, a set is joined with the patterns below its capacity that the walk reports
+abbrev pub JoinsReported : Machine → Input → (old new : List Bool) → Type 0
+JoinsReported m input old new =
+    ArePatterns (AreWalked Forward m input) input (length old) (members old) (members new)
 
--- what a set is joined with
+-- what a set is joined with, by passes and by paths
 pub record IsSetReported (m : Machine) (input : Input) (old new : List Bool)
     (result : Result (Unit {0}) SearchError) : Type 0 where
-  -- for every NFA, the patterns below its capacity that the walk reports
-  pub found :
-      OnOk result (ArePatterns (AreWalked Forward m input) input (length old) (members old) (members new))
+  pub found : OnOk result (JoinsReported m input old new)
   -- if the NFA keeps its cycles, those of the ordered paths
   pub paths :
       KeepsCycles (nfa_of m.nfa)
@@ -133,10 +125,16 @@ pub record IsSetReported (m : Machine) (input : Input) (old new : List Bool)
 -- what a call that joins a set returns
 pub record IsWhich (m : Machine) (input : Input) (old new : List Bool)
     (result : Result (Unit {0}) SearchError) : Type 0 where
-  -- the set is joined with what the walk reports
-  pub reported : IsSetReported m input old new result
-  -- an error is one that some cache may give
-  pub errors : IfErr result (MayRefuseWhich m input old new)
+  -- if no cycle passes a look, the set is joined with the patterns below its capacity that the ordered paths report
+  pub paths :
+      IsLookAcyclic (nfa_of m.nfa)
+      → OnOk result (ArePatternsFound (engine_of m.nfa (match_kind_of m.config)) input (length old) (members old)
+      (members new))
+  pub capacity : length new ≡ length old
+  -- an anchored mode that is not supported is reported, and the set is unchanged
+  pub unsupported : IsUnsupported Forward m input → (result ≡ Err (unsupported_error input)) × (new ≡ old)
+  -- if the span is done, the set is unchanged too, and the call returns Ok
+  pub done : input.end < input.start → IsOk result × (new ≡ old)
   -- if nothing else can prevent an answer, the only error is out of memory
   pub free : IsUnhindered m input → IfErr result IsMemory
 

@@ -1,16 +1,16 @@
 -- Which patterns a set has after a search for all matches: those of which some path through the span ends in a match.
-use Rattle.std.specs.Prelude.{ℕ, ◌≡◌, ◌<◌, ◌≤◌, ◌⊎◌, ◌↔◌, Bool, List, false, length, Some, Ok}
+use Rattle.std.specs.Prelude.{ℕ, ◌≡◌, ◌<◌, ◌≤◌, ◌⊎◌, ◌↔◌, Bool, List, false, length, Some}
 use Rattle.automata_base.specs.Answers.Answers.{IsInput}
 use Rattle.automata_base.specs.Haystacks.Input.{Input}
 use Rattle.automata_base.specs.Lists.{In}
 use Rattle.automata_base.specs.Haystacks.PatternSet.{members}
 use Rattle.automata_base.specs.Paths.Starts.{mode_start}
-use Rattle.automata_base.specs.Haystacks.Tapes.{Forward}
+use Rattle.automata_base.specs.declared.util.search.Direction.TheVariants.{Forward}
 use Rattle.automata_base.specs.Laws.Walks.{IsAccepted}
 use Rattle.automata_base.specs.declared.util.search.MatchKind.TheVariants.{All as KindAll}
 use Rattle.automata_config.specs.Options.{match_kind_of}
 use Rattle.automata_hybrid.specs.Machines.Machine.{Machine}
-use Rattle.automata_hybrid.specs.Walks.Contracts.{IsWhich}
+use Rattle.automata_hybrid.specs.Walks.Contracts.{JoinsReported}
 
 -- some path of the pattern from the start, through the span of an input, ends in a match, at some offset
 pub record MatchesIn (m : Machine) (input : Input) (start pattern : ℕ) : Type 0 where
@@ -23,7 +23,7 @@ pub record SetsHaveMatching (m : Machine) : Type 0 where
   pub sets :
       (input : Input) (start : ℕ) (old new : List Bool)
       → match_kind_of m.config ≡ KindAll → mode_start m.nfa input.anchored ≡ Some start → input.earliest ≡ false
-      → IsInput input → input.start ≤ input.end → IsWhich m input old new (Ok tt)
+      → IsInput input → input.start ≤ input.end → JoinsReported m input old new
       → (p : ℕ) → In p (members new) ↔ (In p (members old) ⊎ ((p < length old) × MatchesIn m input start p))
   -- A pattern that matches in a span is one of the NFA's.
   pub own :

@@ -1,14 +1,14 @@
 //! Searches for one end of a match: one span after another, as long as offsets inside a character are skipped.
 ghost use Rattle.std.specs.Prelude.{◌≡◌, ◌<◌, IfOk, IfErr, IfSome};
 ghost use Rattle.std.specs.Prelude.{None, Err, Ok};
-ghost use Rattle.automata_base.specs.Haystacks.Tapes.{Forward, Backward};
+ghost use Rattle.automata_base.specs.declared.util.search.Direction.TheVariants.{Forward, Backward};
 ghost use Rattle.automata_hybrid.specs.Cache.Caches.{IsCacheOf};
 ghost use Rattle.automata_hybrid.specs.Searches.Costs.{IsCostUpto};
 ghost use Rattle.automata_hybrid.specs.Searches.Contracts.{IsBased, IsHalf, IsSearchEffect, IsUnsupported, based_half};
 ghost use Rattle.automata_hybrid.specs.Searches.Contracts.{halves};
 ghost use Rattle.automata_hybrid.specs.Searches.Contracts.{unsupported_error};
 ghost use Rattle.automata_hybrid.specs.Searches.PassContracts.{MayBegin, input_at};
-ghost use Rattle.automata_hybrid.specs.Searches.Passes.{IsFound, IsRefused};
+ghost use Rattle.automata_hybrid.specs.Searches.Passes.{IsFound, IsRefused, WithoutBase};
 
 use crate::dfa::DFA;
 use crate::dfa::cache::Cache;
@@ -54,8 +54,9 @@ impl DFA {
         requires { IsCacheOf cache.old self.now }
         ensures of { IsCacheOf cache.new self.now }
 
-        // What it returns, whatever the cache; and why it fails.
+        // What it returns by paths, and by passes, whatever the cache; and why it fails.
         ensures half { IsHalf Forward self.now input.now result }
+        ensures found { IfOk result (WithoutBase (IsFound Forward self.now input.now)) }
         ensures refusal { IfErr result (IsRefused Forward self.now cache.new.store input.now) }
 
         // What it does to the cache.
@@ -78,8 +79,9 @@ impl DFA {
         requires { IsCacheOf cache.old self.now }
         ensures of { IsCacheOf cache.new self.now }
 
-        // What it returns, whatever the cache; and why it fails.
+        // What it returns by paths, and by passes, whatever the cache; and why it fails.
         ensures based { IsBased self.now input.now result }
+        ensures found { IfOk result (λ o. IsFound Forward self.now input.now (based_half o)) }
         ensures refusal { IfErr result (IsRefused Forward self.now cache.new.store input.now) }
 
         // What it does to the cache; with an answer it makes no pass after the one over the span that gave it.
@@ -88,9 +90,7 @@ impl DFA {
     {
         reported_is_right(self.get_nfa());
         let _haystack = input.haystack();
-        let found = self.search(cache, input, Direction::Forward);
-        cache.see_bounds();
-        found
+        self.search(cache, input, Direction::Forward)
     }
 
     /// The pattern and the start of the match that a search from the span's end to its start finds: of the longest one
@@ -113,8 +113,9 @@ impl DFA {
         requires { IsCacheOf cache.old self.now }
         ensures of { IsCacheOf cache.new self.now }
 
-        // What it returns, whatever the cache; and why it fails.
+        // What it returns by paths, and by passes, whatever the cache; and why it fails.
         ensures half { IsHalf Backward self.now input.now result }
+        ensures found { IfOk result (WithoutBase (IsFound Backward self.now input.now)) }
         ensures refusal { IfErr result (IsRefused Backward self.now cache.new.store input.now) }
 
         // What it does to the cache.
@@ -123,7 +124,6 @@ impl DFA {
         reported_is_right(self.get_nfa());
         let _haystack = input.haystack();
         let found = self.search(cache, input, Direction::Backward);
-        cache.see_bounds();
         without_base(found)
     }
 

@@ -2,7 +2,7 @@
 ghost use Rattle.std.specs.Prelude.{ℕ, ◌≡◌, ◌+◌, ◌-◌, ◌<◌, ◌≤◌, ◌^◌, IfOk, IfErr, IfNone, IfSome, OnOk, OnErr};
 ghost use Rattle.std.specs.Prelude.{length, slice_index};
 ghost use Rattle.automata_base.specs.Powersets.Powerset.{Powerset};
-ghost use Rattle.automata_base.specs.Haystacks.Tapes.{Forward, Backward};
+ghost use Rattle.automata_base.specs.declared.util.search.Direction.TheVariants.{Forward, Backward};
 ghost use Rattle.automata_hybrid.specs.Cache.Growth.{IsAddRefused};
 ghost use Rattle.automata_hybrid.specs.Cache.Caches.{IsCacheOf};
 ghost use Rattle.automata_hybrid.specs.Walks.Contracts.{IsCallEffect, IsWalkCall};
@@ -255,10 +255,7 @@ impl DFA {
                 held.release(walk);
                 Ok(())
             }
-            Err(error) => {
-                cache.see_bounds();
-                Err(error)
-            }
+            Err(error) => Err(error),
         }
     }
 

@@ -19,8 +19,7 @@ use crate::dfa::DFA;
 use crate::dfa::cache::Cache;
 use crate::id::LazyStateID;
 use crate::search::direction::{
-    Direction, byte_at, byte_offset, bytes_read, end_before_last, keeps_none, last_place, place_offset,
-    span_offset, unit_at, unit_offset,
+    byte_at, byte_offset, bytes_read, end_before_last, keeps_none, last_place, place_offset, span_offset, unit_at, unit_offset,
 };
 use automata_base::util::search::{Anchored, Direction, HalfMatch, Input, Span};
 use automata_config::error::SearchError;

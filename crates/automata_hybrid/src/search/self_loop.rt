@@ -1,6 +1,7 @@
 //! Following a self-loop: eight bytes at once, and 32 at once if they are in a range on which the row is known to lead
 //! back to itself.
 ghost use Rattle.std.specs.Prelude.{◌≡◌, ◌+◌, ◌<◌, ◌≤◌, IsTrue, length};
+ghost use Rattle.automata_base.specs.declared.util.search.Direction.TheVariants.{Backward, Forward};
 ghost use Rattle.automata_hybrid.specs.Cache.Caches.{IsCacheOf};
 ghost use Rattle.automata_hybrid.specs.Cache.Ids.{fixed_from};
 ghost use Rattle.automata_hybrid.specs.Searches.SelfLoops.{IsKnownLoop, IsLoopRun, LoopsOn, LoopsOver, byte_in};

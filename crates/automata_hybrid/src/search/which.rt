@@ -1,7 +1,7 @@
 //! The set of the patterns that match, found by one overlapping search forward.
-ghost use Rattle.std.specs.Prelude.{◌≤◌, IfErr, length};
+ghost use Rattle.std.specs.Prelude.{◌≤◌, IfErr, OnOk, length};
 ghost use Rattle.automata_hybrid.specs.Cache.Caches.{IsCacheOf};
-ghost use Rattle.automata_hybrid.specs.Walks.Contracts.{IsSetReported, IsWhich, IsWhichEffect};
+ghost use Rattle.automata_hybrid.specs.Walks.Contracts.{IsSetReported, IsWhich, IsWhichEffect, JoinsReported};
 ghost use Rattle.automata_hybrid.specs.Walks.Sets.{IsWhichRefusal};
 
 use crate::dfa::DFA;
@@ -32,16 +32,15 @@ impl DFA {
         requires { IsCacheOf cache.old self.now }
         ensures of { IsCacheOf cache.new self.now }
 
-        // What the set is joined with, whatever the cache; and why the call fails.
+        // What the set is joined with by paths, and by passes, whatever the cache; and why the call fails.
         ensures which { IsWhich self.now input.now patset.old patset.new result }
+        ensures found { OnOk result (JoinsReported self.now input.now patset.old patset.new) }
         ensures refusal { IfErr result (IsWhichRefusal self.now cache.new.store input.now patset.old patset.new) }
 
         // What it does to the cache.
         ensures effect { IsWhichEffect self.now input.now patset.old cache.old cache.new result }
     {
-        let reported = self.collect(cache, input, patset);
-        cache.see_bounds();
-        reported
+        self.collect(cache, input, patset)
     }
 
     /// Takes one match after another, until there is none, the set is full, or an earliest search has one.

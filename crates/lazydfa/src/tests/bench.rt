@@ -378,12 +378,7 @@ pub fn search(
 }
 
 fn keeps_utf8(nfa: &NFA) -> Reported {
-    let keeps = if nfa.is_reverse() {
-        nfa.keeps_utf8_reverse()
-    } else {
-        nfa.keeps_utf8()
-    };
-    match keeps {
+    match nfa.keeps_utf8() {
         Ok(keeps) => Reported::of_flag(keeps),
         Err(_) => Reported::Refused(BuildError::OutOfMemory),
     }

@@ -38,8 +38,6 @@ const AMPLE: &[Row] = &[
     ("Cache::reset", AB, "", &[ReplaceByNew, Find("ab"), Brief, ResetByCache, Brief], "-, half 0 2, 678, -, 335"),
     ("keeps_utf8, whose bytes are UTF-8", Forward(Entry::Snow), "", &[KeepsUtf8], "true"),
     ("and any bytes", Forward(Entry::Any), "", &[KeepsUtf8], "false"),
-    ("keeps_utf8_reverse, whose bytes are UTF-8", Reverse(Entry::Snow), "", &[KeepsUtf8], "true"),
-    ("and any bytes", Reverse(Entry::Any), "", &[KeepsUtf8], "false"),
     ("start_state", AB, "", &[Start(None), State, Counts], "-, state 0, 0 421 0"),
     ("start_state_forward", AB, "", &[StartOn(Every, "ab"), Counts], "false, 0 421 0"),
     ("start_state_reverse", AB_BACK, "", &[StartOn(Every, "ab"), Counts], "false, 0 421 0"),

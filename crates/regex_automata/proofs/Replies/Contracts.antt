@@ -1,24 +1,25 @@
 -- What calls return whatever the cache, from their clauses.
 use Rattle.std.proofs.Common.{◌≡◌, ◌<◌, ◌≤◌, Option, None, Result, Ok, Err, IfErr, IfOk, Bool, true, false, inl, inr}
-use Rattle.std.proofs.Common.{ap}
+use Rattle.std.proofs.Common.{ap, subst, sym, ◌∙◌, Some, List, slice_get}
 use Rattle.automata_base.specs.Haystacks.Input.{Input}
 use Rattle.automata_base.specs.Haystacks.Matches.{Match}
 use Rattle.automata_base.specs.Nfas.Nodes.{nfa_of}
 use Rattle.automata_base.specs.Paths.Paths.{IsLookAcyclic}
 use Rattle.automata_base.specs.Answers.Spans.{IsMatch, IsSpan, TryFinds}
-use Rattle.automata_base.specs.Haystacks.Tapes.{Forward}
+use Rattle.automata_base.specs.declared.util.search.Direction.TheVariants.{Forward}
 use Rattle.automata_config.specs.declared.error.SearchError.{SearchError}
-use Rattle.automata_hybrid.specs.Cache.Caches.{CacheView}
-use Rattle.automata_hybrid.specs.Machines.Machine.{Machine}
-use Rattle.automata_hybrid.specs.Searches.Contracts.{IsMemory, IsStoreOf, MayRefuse, unsupported_error}
+use Rattle.automata_hybrid.specs.Cache.Caches.{CacheView, IsStoreOf}
+use Rattle.automata_hybrid.specs.Searches.Contracts.{IsMemory, unsupported_error}
 use Rattle.automata_hybrid.specs.Searches.Passes.{NoQuitInReach, Skips, tape_in}
 use Rattle.automata_hybrid.specs.Machines.StartSlots.{supports}
 use Rattle.automata_hybrid.specs.Steps.Starts.{quit_behind}
 use Rattle.automata_hybrid.proofs.Searches.Contracts.{is_store}
-use Rattle.regex_automata.specs.Spans.IsMatch.{IsAsked, IsMatchReported, IsNearestThere, IsTruthFound}
-use Rattle.regex_automata.specs.Spans.Contracts.{AreStoresOf, IsSpanOf, IsSpanReported, IsTruthOf, MayRefuseSpan}
-use Rattle.regex_automata.specs.Spans.Contracts.{MayRefuseTruth}
-use Rattle.regex_automata.specs.Regexes.Caches.{AreCachesOf, AreFresh}
+use Rattle.regex_automata.specs.Spans.IsMatch.{IsNearestThere}
+use Rattle.regex_automata.specs.Spans.Contracts.{IsSpanOf, IsSpanReported, IsTruthOf}
+use Rattle.regex_automata.specs.Regexes.Caches.{AreCachesOf, AreFresh, AreStoresOf}
+use Rattle.regex_automata.specs.Replay.Caches.{AreOfCurrent}
+use Rattle.regex_automata.specs.Replay.Histories.{History}
+use Rattle.automata_base.proofs.Paths.Orders.{some_inj}
 use Rattle.regex_automata.specs.Spans.Errors.{IsFree, IsOfMemory, IsRegexRefusal}
 use Rattle.regex_automata.specs.Regexes.SoundPairs.{AreLookAcyclic, IsSoundPair, forward_engine, reverse_engine}
 use Rattle.regex_automata.specs.declared.hybrid.regex.Regex.{Regex}
@@ -31,17 +32,13 @@ pub are_stores :
 are_stores c p of forward reverse =
     (is_store c.forward.store p.forward of.0 forward, is_store c.reverse.store p.reverse of.1 reverse)
 
--- an error over some caches
-pub may_refuse_span :
-    {T : Type 0} (r : Result T SearchError) (p : Regex) (c : Cache) (input : Input)
-    → AreStoresOf c p → IfErr r (IsRegexRefusal p c input) → IfErr r (MayRefuseSpan p input)
-may_refuse_span (Ok x) p c input of h = h
-may_refuse_span (Err e) p c input of h = (c, of, h)
-
-pub may_refuse_truth :
-    (m : Machine) (input asked : Input) (e : SearchError)
-    → IsAsked m input asked → MayRefuse Forward m asked e → MayRefuseTruth m input e
-may_refuse_truth m input asked e is h = (h.0, h.1, (asked, is, h.2))
+-- caches of the current regex, within the settings of its DFAs
+pub of_current :
+    (regexes : List Regex) (h : History) (c : Cache) (p : Regex)
+    → slice_get regexes h.current ≡ Some p → AreCachesOf c p → IsStoreOf c.forward.store c.forward.store.table.of
+    → IsStoreOf c.reverse.store c.reverse.store.table.of → AreOfCurrent regexes h c
+of_current regexes h c p at of forward reverse = λ r is.
+    subst (λ (q : Regex). AreStoresOf c q) (some_inj (sym at ∙ is)) (are_stores c p of forward reverse)
 
 pub memory_of_sound :
     (p : Regex) (c : Cache) (input : Input) (e : SearchError)
@@ -59,40 +56,36 @@ refused_sound (Err e) p c input sound free h = memory_of_sound p c input e sound
 
 -- a search for a span
 pub span_returned :
-    (p : Regex) (input : Input) (r : Result (Option Match) SearchError) (c : Cache) → AreStoresOf c p
+    (p : Regex) (input : Input) (r : Result (Option Match) SearchError) (c : Cache)
     → IsSpanReported p input r
     → (AreLookAcyclic p → IfOk r (TryFinds (forward_engine p) (reverse_engine p) input))
     → (IsSoundPair p → IfOk r (IsSpan (forward_engine p) input))
     → IfErr r (IsRegexRefusal p c input)
     → IsSpanOf p input r
-span_returned p input r c of reported answer span errors = record {
-  reported = reported;
+span_returned p input r c reported answer span errors = record {
   answer = answer;
   span = span;
-  errors = may_refuse_span r p c input of errors;
-  free = λ sound free. refused_sound r p c input sound free errors;
+  within = reported.within;
+  unsupported = reported.unsupported;
+  free = reported.free;
+  paired = λ sound free. refused_sound r p c input sound free errors;
+  done = reported.done;
 }
 
 -- a search for whether there is a match
 pub truth_returned :
     (p : Regex) (input : Input) (r : Result Bool SearchError)
-    → IfOk r (IsTruthFound p.forward input)
-    → IfOk r (IsMatchReported p.forward input)
     → (IsLookAcyclic (nfa_of p.forward.nfa) → IfOk r (IsMatch (forward_engine p) input))
     → ((Skips p.forward → ⊥) → IfOk r (IsNearestThere p.forward input))
-    → IfErr r (MayRefuseTruth p.forward input)
     → (input.start ≤ input.end → quit_behind p.forward (tape_in Forward input).before ≡ None
     → supports p.forward input.anchored ≡ false → r ≡ Err (unsupported_error input))
     → (NoQuitInReach p.forward input → supports p.forward input.anchored ≡ true → minimum_cache_clear_count_of p.forward.config ≡ None
     → IfErr r IsMemory)
     → (input.end < input.start → r ≡ Ok false)
     → IsTruthOf p input r
-truth_returned p input r found reported answer nearest errors unsupported answers done = record {
-  found = found;
-  reported = reported;
+truth_returned p input r answer nearest unsupported answers done = record {
   answer = answer;
   nearest = nearest;
-  errors = errors;
   unsupported = λ u. unsupported u.undone u.behind u.mode;
   free = λ f. answers f.reach f.supported f.clears;
   done = done;

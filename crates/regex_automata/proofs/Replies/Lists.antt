@@ -3,7 +3,7 @@ use Rattle.std.proofs.Common.{◌≡◌, ◌∙◌, ℕ, zero, suc, ◌+◌, ◌
 use Rattle.std.proofs.Common.{append_assoc, append-nil, add-one, ap, arith, drop-cons, refl, subst, sym}
 use Rattle.std.proofs.Math.ListN.{drop_of_length-le}
 use Rattle.regex_automata.specs.Replay.Histories.{History, start, after}
-use Rattle.regex_automata.specs.Replay.Caches.{AreAnsweredAfter, IsRequestEffect}
+use Rattle.regex_automata.specs.Replay.Caches.{AreAnsweredAfter, AreOfCurrent, IsRequestEffect}
 use Rattle.regex_automata.specs.Replay.Replies.{IsReply, AreReplies, AreRepliesAfter}
 use Rattle.regex_automata.specs.declared.hybrid.regex.caches.Cache.{Cache}
 use Rattle.regex_automata.specs.declared.hybrid.regex.Regex.{Regex}
@@ -53,14 +53,15 @@ module _ (regexes : List Regex) (script : List Request) (first : Cache) where
 
   pub continues_turn :
       (done new : List Reply) (h : History) (at next : Cache) (i : ℕ) (q : Request) (r : Reply)
-      → i < length script → q ≡ get_or script i q → Continues done h at (drop i script) → IsRequestEffect regexes h q r at next
+      → i < length script → q ≡ get_or script i q → Continues done h at (drop i script)
+      → AreOfCurrent regexes (after h q r) next → IsRequestEffect regexes h q r at next
       → new ≡ done ++ r ∷ [] → Continues new (after h q r) next (drop (i + 1) script)
-  continues_turn done new h at next i q r lt is all made e = λ rest more.
+  continues_turn done new h at next i q r lt is all of made e = λ rest more.
       let cut : drop i script ≡ q ∷ drop (i + 1) script =
       rw add-one (drop-cons script i q lt ∙ ap (λ (x : Request). x ∷ drop (suc i) script) (sym is)) in
       subst (λ (xs : List Reply). AreAnsweredAfter regexes start first script (xs ++ rest)) (sym e)
       (subst (λ (xs : List Reply). AreAnsweredAfter regexes start first script xs) (sym (append_assoc done (r ∷ []) rest))
-      (subst (λ (left : List Request). Continues done h at left) cut all (r ∷ rest) (next, made, more)))
+      (subst (λ (left : List Request). Continues done h at left) cut all (r ∷ rest) (next, of, made, more)))
 
   pub continues_end :
       (done : List Reply) (h : History) (at : Cache) (i : ℕ)

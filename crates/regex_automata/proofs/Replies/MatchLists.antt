@@ -4,12 +4,12 @@ use Rattle.std.proofs.Common.{Some, None, Err, IfSome, inl, inr, ap, subst, sym}
 use Rattle.automata_base.specs.Haystacks.Input.{Input}
 use Rattle.automata_base.specs.Haystacks.Matches.{Match}
 use Rattle.automata_base.specs.Answers.Spans.{from}
-use Rattle.automata_base.specs.Haystacks.Tapes.{Forward}
+use Rattle.automata_base.specs.declared.util.search.Direction.TheVariants.{Forward}
 use Rattle.automata_config.specs.declared.error.SearchError.{SearchError}
 use Rattle.automata_hybrid.specs.Searches.Contracts.{IsMemory, IsUnsupported, unsupported_error}
 use Rattle.regex_automata.specs.Spans.Iteration.{GivesItem, IsNextRefusal}
 use Rattle.regex_automata.specs.Spans.Outcomes.{FindsMatch}
-use Rattle.regex_automata.specs.Spans.Contracts.{AreStoresOf, IsRefusedAfter, MayRefuseNext, ReportsUnsupported}
+use Rattle.regex_automata.specs.Spans.Contracts.{IsRefusedAfter, ReportsUnsupported}
 use Rattle.regex_automata.specs.Spans.Contracts.{end_after, place_after}
 use Rattle.regex_automata.specs.Spans.Errors.{IsFree}
 use Rattle.regex_automata.specs.Regexes.SoundPairs.{IsSoundPair}
@@ -82,30 +82,22 @@ free_from p input start le free = record {
 
 -- so over a sound pair the error is out of memory
 pub memory_after :
-    (p : Regex) (input : Input) (ms : List Match) (error : Option SearchError) → input.start ≤ place_after input.start ms
-    → IfSome error (MayRefuseNext p input ms) → IsSoundPair p → IsFree p input → IfSome error IsMemory
-memory_after p input ms None le refused sound free = tt
-memory_after p input ms (Some e) le refused sound free = go refused where
+    (p : Regex) (c : Cache) (input : Input) (ms : List Match) (error : Option SearchError)
+    → input.start ≤ place_after input.start ms
+    → IfSome error (λ e. IsMemory e ⊎ IsRefusedAfter p c input ms e) → IsSoundPair p → IsFree p input → IfSome error IsMemory
+memory_after p c input ms None le refused sound free = tt
+memory_after p c input ms (Some e) le refused sound free = go refused where
   place : ℕ
   place = place_after input.start ms
 
   here : IsFree p (from place input)
   here = free_from p input place le free
 
-  go : MayRefuseNext p input ms e → IsMemory e
+  go : IsMemory e ⊎ IsRefusedAfter p c input ms e → IsMemory e
   go (inl memory) = memory
-  go (inr r) = next r.2 where
-    next : IsRefusedAfter p r.0 input ms e → IsMemory e
-    next (inl first) = memory_of_sound p r.0 (from place input) e sound here first
+  go (inr refused) = next refused where
+    next : IsRefusedAfter p c input ms e → IsMemory e
+    next (inl first) = memory_of_sound p c (from place input) e sound here first
     next (inr later) =
-        memory_of_sound p r.0 (from (suc place) (from place input)) e sound
+        memory_of_sound p c (from (suc place) (from place input)) e sound
         (free_from p (from place input) (suc place) (omega arith) here) later.3
-
--- some caches give this error
-pub may_refuse_next :
-    (p : Regex) (c : Cache) (input : Input) (ms : List Match) (error : Option SearchError) → AreStoresOf c p
-    → IfSome error (λ e. IsMemory e ⊎ IsRefusedAfter p c input ms e)
-    → IfSome error (MayRefuseNext p input ms)
-may_refuse_next p c input ms None of h = h
-may_refuse_next p c input ms (Some e) of (inl memory) = inl memory
-may_refuse_next p c input ms (Some e) of (inr refused) = inr (c, of, refused)

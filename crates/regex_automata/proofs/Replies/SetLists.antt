@@ -8,19 +8,18 @@ use Rattle.automata_base.specs.Answers.Answers.{ArePatterns}
 use Rattle.automata_base.specs.Haystacks.Input.{Input}
 use Rattle.automata_base.specs.Haystacks.PatternSet.{members, members_from}
 use Rattle.automata_base.specs.Paths.Selections.{Pair}
-use Rattle.automata_base.specs.Haystacks.Tapes.{Forward}
+use Rattle.automata_base.specs.declared.util.search.Direction.TheVariants.{Forward}
 use Rattle.automata_config.specs.declared.error.SearchError.{SearchError}
 use Rattle.automata_config.specs.declared.error.SearchError.TheVariants as search
 use Rattle.automata_hybrid.specs.Machines.Machine.{Machine}
 use Rattle.automata_hybrid.specs.Searches.Contracts.{IsMemory}
-use Rattle.automata_hybrid.specs.Walks.Contracts.{MayRefuseWhich}
 use Rattle.automata_hybrid.specs.Walks.Progress.{EndsSet, HaveCalled, IsOpenAfter}
 use Rattle.automata_hybrid.specs.Cache.Stores.{Stored}
 use Rattle.automata_hybrid.specs.Walks.Answers.{HasReported}
 use Rattle.automata_hybrid.specs.Walks.State.{Walk}
 use Rattle.automata_hybrid.proofs.Searches.PassState.{false_true}
 use Rattle.automata_base.proofs.Paths.Orders.{some_none}
-use Rattle.regex_automata.specs.Spans.Contracts.{AreRising, ArePatternsUpto, HasReportedSet, MayRefusePatterns, empty_set}
+use Rattle.regex_automata.specs.Spans.Contracts.{AreRising, ArePatternsUpto, HasReportedSet, empty_set}
 use Rattle.std.proofs.lemmas.Bool.{cases_lt}
 
 -- what rises from a number rises from a lower one
@@ -51,14 +50,6 @@ pub reported_where :
     {E : Type 0} (r : Result (Unit {0}) E) (P : Type 0) → OnOk r P → result_err r ≡ None → P
 reported_where (Ok x) P h none = h
 reported_where (Err e) P h none = absurd (some_none none)
-
-pub refused_where :
-    (r : Result (Unit {0}) SearchError) (m : Machine) (input : Input) (capacity : ℕ) (old new : List Bool) (found : List ℕ)
-    → old ≡ empty_set capacity → found ≡ members new → IfErr r (MayRefuseWhich m input old new)
-    → IfSome (result_err r) (MayRefusePatterns m input capacity found)
-refused_where (Ok x) m input capacity old new found fresh is h = tt
-refused_where (Err e) m input capacity old new found fresh is h =
-    inr (new, is, subst (λ (set : List Bool). MayRefuseWhich m input set new e) fresh h)
 
 pub memory_where : (r : Result (Unit {0}) SearchError) → IfErr r IsMemory → IfSome (result_err r) IsMemory
 memory_where (Ok x) h = h
@@ -99,10 +90,7 @@ pub no_patterns :
     → ArePatternsUpto m input capacity found (Some search.OutOfMemory)
 no_patterns m input capacity found none = record {
   rise = subst (λ (ks : List ℕ). AreRising 0 ks) (sym none) tt;
-  reported = λ e. absurd (some_none e);
   paths = λ acyclic e. absurd (some_none e);
-  clean = λ e. absurd (some_none e);
-  errors = inl (refl, none);
   unsupported = λ u. (none, inr refl);
   free = λ f. refl;
   done = λ past. (none, refl);

@@ -8,12 +8,11 @@ use Rattle.automata_base.specs.Haystacks.Matches.{HalfMatch}
 use Rattle.automata_base.specs.Nfas.Nodes.{nfa_of}
 use Rattle.automata_base.specs.Paths.Paths.{IsLookAcyclic}
 use Rattle.automata_base.specs.Paths.Selections.{Pair}
-use Rattle.automata_base.specs.Haystacks.Tapes.{Direction}
+use Rattle.automata_base.specs.declared.util.search.Direction.{Direction}
 use Rattle.automata_base.specs.declared.util.search.Anchored.{Anchored}
 use Rattle.automata_config.specs.declared.error.SearchError.{SearchError}
 use Rattle.automata_hybrid.specs.Machines.Machine.{Machine}
 use Rattle.automata_hybrid.specs.Searches.Contracts.{IsMemory, IsUnhindered, IsUnsupported, unsupported_error}
-use Rattle.automata_hybrid.specs.Walks.Contracts.{MayRefuseCall}
 use Rattle.automata_hybrid.specs.Machines.StartSlots.{supports}
 use Rattle.automata_hybrid.specs.Steps.Starts.{MayStart}
 use Rattle.automata_hybrid.specs.Walks.Answers.{AreWalked, HasReported, HasReportedAt, ReportsNext, half_nth}
@@ -49,7 +48,6 @@ module _ (way : Direction) (m : Machine) (input : Input) (old : Walk) (k : ℕ) 
     paths = λ acyclic pairs all. is ∙ paths acyclic k pairs h.reported all;
     clean = (new, (reports k h.reported).0);
     within = subst (λ (o : Option HalfMatch). IfSome o (LiesIn m input)) (sym is) within;
-    errors = tt;
     ended = λ pairs all lt. tt;
     unsupported = λ u. absurd (supported (still_fresh way m input old.stage old.units old.reported k h.reported u) u);
     free = λ f. tt;
@@ -73,17 +71,15 @@ module _ (way : Direction) (m : Machine) (input : Input) (old : Walk) (k : ℕ) 
   -- one that fails
   pub step_refused :
       (e : SearchError)
-      → ((j : ℕ) → HasReported way m input old j → MayRefuseCall way m input old j e)
       → (old.stage ≡ Ended → ⊥)
       → (old.stage ≡ Fresh → IsUnsupported way m input → e ≡ unsupported_error input)
       → (IsUnhindered m input → IsMemory e)
       → IsStep way m input k (Err e)
-  step_refused e errors goes_on unsupported free = record {
+  step_refused e goes_on unsupported free = record {
     pair = tt;
     paths = λ acyclic. tt;
     clean = tt;
     within = tt;
-    errors = (old, h.reported, errors k h.reported);
     ended = λ pairs all lt. goes_on ((h.ended pairs all).1 lt);
     unsupported = λ u. ap Err (unsupported (still_fresh way m input old.stage old.units old.reported k h.reported u) u);
     free = free;

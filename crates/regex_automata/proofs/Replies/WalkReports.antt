@@ -1,6 +1,6 @@
 -- The Ok replies to the steps of a walk, in their order, are the pairs of its list, and then none.
 use Rattle.std.proofs.Common.{◌≡◌, ◌==◌, ℕ, zero, suc, Bool, true, false, List, [], ◌∷◌, ◌++◌, Option, Some, None}
-use Rattle.automata_base.specs.Haystacks.Tapes.{Direction}
+use Rattle.automata_base.specs.declared.util.search.Direction.{Direction}
 use Rattle.std.proofs.Common.{Result, Ok, Err, IfOk, MatchOption, if◌then◌else◌, ap, refl, sym, subst, ◌∙◌, add-one}
 use Rattle.std.proofs.lemmas.Bool.{eqb-true, eqb-false}
 use Rattle.automata_base.specs.Haystacks.Input.{Input}

@@ -8,7 +8,7 @@ use Rattle.automata_base.specs.Haystacks.Input.{Input}
 use Rattle.automata_base.specs.Haystacks.Matches.{Match}
 use Rattle.automata_base.specs.Nfas.Nodes.{Automaton}
 use Rattle.automata_base.specs.Answers.Spans.{FindsStartBy, back, in_full}
-use Rattle.automata_base.specs.Haystacks.Tapes.{Backward, Forward}
+use Rattle.automata_base.specs.declared.util.search.Direction.TheVariants.{Backward, Forward}
 use Rattle.automata_base.specs.Answers.OfPasses.{IsReported, ReportedIsOne}
 use Rattle.automata_base.specs.declared.util.search.MatchKind.{MatchKind}
 use Rattle.automata_hybrid.specs.Searches.Agreement.{AnswersAgree}

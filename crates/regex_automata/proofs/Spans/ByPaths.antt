@@ -9,7 +9,7 @@ use Rattle.automata_base.specs.Paths.Paths.{IsLookAcyclic}
 use Rattle.automata_base.specs.Answers.Spans.{FindsSpan, Found, IsFarSearch, IsSpan, IsTrySearch, NotAPair, Outcome}
 use Rattle.automata_base.specs.Answers.Spans.{back}
 use Rattle.automata_base.specs.Laws.StartIsRight.{BackMeetsNone, StartsAreRight}
-use Rattle.automata_base.specs.Haystacks.Tapes.{Forward, Backward}
+use Rattle.automata_base.specs.declared.util.search.Direction.TheVariants.{Forward, Backward}
 use Rattle.automata_base.specs.Answers.OfPasses.{IsFarthestAnswer, ReportedEndsAreRight, ReportedIsRight}
 use Rattle.automata_base.proofs.Answers.Turning.{turn_outcome}
 use Rattle.automata_base.specs.declared.util.search.MatchErrorKind.TheVariants.{Quit as QuitAt}

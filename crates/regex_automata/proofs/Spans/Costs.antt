@@ -6,7 +6,8 @@ use Rattle.automata_base.specs.Answers.Answers.{Half}
 use Rattle.automata_base.specs.Haystacks.Input.{Input}
 use Rattle.automata_base.specs.Haystacks.Matches.{HalfMatch, Match}
 use Rattle.automata_base.specs.Answers.Spans.{IsShort, back}
-use Rattle.automata_base.specs.Haystacks.Tapes.{Backward, Direction, Forward}
+use Rattle.automata_base.specs.declared.util.search.Direction.{Direction}
+use Rattle.automata_base.specs.declared.util.search.Direction.TheVariants.{Backward, Forward}
 use Rattle.automata_base.specs.declared.util.search.Anchored.TheVariants.{No, Yes}
 use Rattle.automata_hybrid.specs.Searches.Agreement.{AnswersAgree}
 use Rattle.automata_hybrid.specs.Cache.Caches.{CacheView}

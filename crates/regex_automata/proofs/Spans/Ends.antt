@@ -4,7 +4,7 @@ use Rattle.std.proofs.Common.{arith}
 use Rattle.automata_base.specs.Haystacks.Input.{Input}
 use Rattle.automata_base.specs.Haystacks.Matches.{Match}
 use Rattle.automata_base.specs.Answers.Spans.{AreFirst}
-use Rattle.automata_base.specs.Haystacks.Tapes.{Forward}
+use Rattle.automata_base.specs.declared.util.search.Direction.TheVariants.{Forward}
 use Rattle.automata_config.specs.declared.error.SearchError.{SearchError}
 use Rattle.automata_base.proofs.Answers.Rising.{all_first, next_inside}
 use Rattle.automata_hybrid.proofs.Searches.Bounds.{found_within}

@@ -6,7 +6,9 @@ use Rattle.automata_base.specs.ByteClasses.Classes.{is_quit}
 use Rattle.automata_base.specs.Haystacks.Input.{Input}
 use Rattle.automata_base.specs.Answers.Spans.{back}
 use Rattle.automata_base.specs.Laws.StartIsRight.{BackMeetsNone}
-use Rattle.automata_base.specs.Haystacks.Tapes.{Direction, Forward, Backward, MeetsNone, forward_tape, reverse_tape}
+use Rattle.automata_base.specs.Haystacks.Tapes.{MeetsNone, forward_tape, reverse_tape}
+use Rattle.automata_base.specs.declared.util.search.Direction.{Direction}
+use Rattle.automata_base.specs.declared.util.search.Direction.TheVariants.{Forward, Backward}
 use Rattle.automata_base.specs.declared.util.search.Anchored.{Anchored}
 use Rattle.automata_base.specs.declared.util.search.Anchored.TheVariants.{No, Yes}
 use Rattle.automata_base.specs.declared.util.search.MatchErrorKind.TheVariants.{Quit as QuitAt}

@@ -8,7 +8,7 @@ use Rattle.automata_base.specs.Nfas.Nodes.{Automaton}
 use Rattle.automata_base.specs.Paths.Paths.{Tape}
 use Rattle.automata_base.specs.Powersets.Powerset.{Powerset, dead}
 use Rattle.automata_base.specs.Paths.Selections.{Pair}
-use Rattle.automata_base.specs.Haystacks.Tapes.{Direction}
+use Rattle.automata_base.specs.declared.util.search.Direction.{Direction}
 use Rattle.automata_base.specs.Retraced.Passes.{first_reported, reported_at, reported_upto}
 use Rattle.automata_base.specs.Answers.OfPasses.{reported_over}
 use Rattle.automata_base.specs.declared.util.search.MatchKind.{MatchKind}

@@ -11,7 +11,8 @@ use Rattle.automata_base.specs.Nfas.Nodes.{Automaton, nfa_of}
 use Rattle.automata_base.specs.Paths.Paths.{IsLookAcyclic, Tape}
 use Rattle.automata_base.specs.Paths.Selections.{Pair}
 use Rattle.automata_base.specs.Answers.Spans.{IsMatch, in_full}
-use Rattle.automata_base.specs.Haystacks.Tapes.{Forward, forward_tape}
+use Rattle.automata_base.specs.Haystacks.Tapes.{forward_tape}
+use Rattle.automata_base.specs.declared.util.search.Direction.TheVariants.{Forward}
 use Rattle.automata_base.specs.Retraced.Passes.{first_reported, last_reported, reported_at, earlier_or, pair_at}
 use Rattle.automata_base.specs.Answers.OfPasses.{IsNearestAnswer, IsReported, ReportsOver, ReportedIsRight, reported_over}
 use Rattle.automata_base.specs.declared.util.search.Anchored.{Anchored}

@@ -7,15 +7,15 @@ use Rattle.std.proofs.lemmas.Bool.{ltb-true, ltb-false}
 use Rattle.std.proofs.lemmas.List.{drop-drop}
 use Rattle.automata_base.specs.Haystacks.Input.{Input}
 use Rattle.automata_base.specs.Haystacks.Matches.{HalfMatch, Match}
-use Rattle.automata_base.specs.Haystacks.Tapes.{Forward}
+use Rattle.automata_base.specs.declared.util.search.Direction.TheVariants.{Forward}
 use Rattle.automata_config.specs.declared.error.SearchError.{SearchError}
 use Rattle.automata_hybrid.specs.Machines.Machine.{Machine}
-use Rattle.automata_hybrid.specs.Searches.Contracts.{IsHalf, IsUnhindered}
+use Rattle.automata_hybrid.specs.Searches.Contracts.{IsUnhindered}
 use Rattle.automata_hybrid.specs.Searches.Passes.{IsRefused}
 use Rattle.automata_hybrid.specs.Cache.Stores.{Stored}
 use Rattle.automata_hybrid.specs.Searches.Bounds.{LiesIn}
 use Rattle.regex_automata.specs.Tokens.{AreFoundBy, AreGiven, IsBeginningOf, IsGivenAt, IsItemAt, IsNoTokenOrMemory}
-use Rattle.regex_automata.specs.Tokens.{IsTokenAt, asked, match_bytes, item_of, joined, match_of}
+use Rattle.regex_automata.specs.Tokens.{IsTokenAt, SearchReturns, asked, match_bytes, item_of, joined, match_of}
 use Rattle.regex_automata.specs.declared.tokens.error.TokenError.{TokenError}
 use Rattle.regex_automata.specs.declared.tokens.error.TokenError.TheVariants.{NoToken, Search}
 use Rattle.regex_automata.specs.declared.tokens.token.Token.{Token}
@@ -26,20 +26,17 @@ same_place : (a b : ℕ) → NoToken a ≡ NoToken b → a ≡ b
 same_place a b h = cc
 
 module _ (m : Machine) (h : List ℕ) (end : ℕ) (few : end ≤ length h) where
-  abbrev IsHalfAt : ℕ → Result (Option HalfMatch) SearchError → Type 0
-  IsHalfAt offset r = IsHalf Forward m (asked h end offset) r
-
-  half_in : (offset : ℕ) (half : HalfMatch) → IsHalfAt offset (Ok (Some half)) → LiesIn m (asked h end offset) half
-  half_in offset half returned = returned.within
+  half_in : (offset : ℕ) (half : HalfMatch) → SearchReturns m h end offset (Ok (Some half)) → LiesIn m (asked h end offset) half
+  half_in offset half returned = returned.0.within
 
   -- a token is an answer past its offset
   abbrev pub Reports : ℕ → Match → Type 0
   Reports offset t =
-      IsHalfAt offset (Ok (Some (record { pattern = t.pattern; offset = t.end })))
+      SearchReturns m h end offset (Ok (Some (record { pattern = t.pattern; offset = t.end })))
       × (t.start ≡ offset) × (offset < t.end) × (t.end ≤ end)
 
   past_place :
-      (offset : ℕ) (half : HalfMatch) (t : Match) → offset < half.offset → IsHalfAt offset (Ok (Some half))
+      (offset : ℕ) (half : HalfMatch) (t : Match) → offset < half.offset → SearchReturns m h end offset (Ok (Some half))
       → t ≡ record { pattern = half.pattern; start = offset; end = half.offset } → Reports offset t
   past_place offset half t past returned is =
       subst (λ (n : Match). Reports offset n) (sym is) (returned, refl, past, (half_in offset half returned).upto)
@@ -57,25 +54,25 @@ module _ (m : Machine) (h : List ℕ) (end : ℕ) (few : end ≤ length h) where
 
   -- with its bytes it is returned
   pub token_is_given :
-      (offset : ℕ) (t : Token) (answer : Result (Option HalfMatch) SearchError) → offset < end → IsHalfAt offset answer
+      (offset : ℕ) (t : Token) (answer : Result (Option HalfMatch) SearchError) → offset < end → SearchReturns m h end offset answer
       → ◌≡◌ {A = Result Match TokenError} (Ok (match_of t)) (item_of offset answer)
       → t.bytes.now ≡ match_bytes h (match_of t) → IsTokenAt m h end offset t
   token_is_given offset t answer ahead returned is bytes =
       let item : IsItemAt m h end offset (Ok (match_of t)) = (ahead, (answer, returned, is)) in
       let reports = token_is offset (match_of t) item in
-      record { item = item; bytes = bytes; start = reports.1; past = reports.2; within = reports.3; pattern = reports.0.within.pattern }
+      record { item = item; bytes = bytes; start = reports.1; past = reports.2; within = reports.3; pattern = reports.0.0.within.pattern }
 
   -- no token is no answer, or one at its offset
   abbrev pub ReportsNone : ℕ → Type 0
   ReportsNone offset =
-      IsHalfAt offset (Ok None)
-      ⊎ ((pattern : ℕ) × IsHalfAt offset (Ok (Some (record { pattern = pattern; offset = offset }))))
+      SearchReturns m h end offset (Ok None)
+      ⊎ ((pattern : ℕ) × SearchReturns m h end offset (Ok (Some (record { pattern = pattern; offset = offset }))))
 
-  at_place : (offset : ℕ) (half : HalfMatch) → half.offset ≤ offset → IsHalfAt offset (Ok (Some half)) → ReportsNone offset
+  at_place : (offset : ℕ) (half : HalfMatch) → half.offset ≤ offset → SearchReturns m h end offset (Ok (Some half)) → ReportsNone offset
   at_place offset half upto returned =
       let low = (half_in offset half returned).from in
       let same : half.offset ≡ offset = omega (arith, low, upto) in
-      inr (half.pattern, subst (λ n. IsHalfAt offset (Ok (Some (record { pattern = half.pattern; offset = n })))) same returned)
+      inr (half.pattern, subst (λ n. SearchReturns m h end offset (Ok (Some (record { pattern = half.pattern; offset = n })))) same returned)
 
   no_token_is :
       (offset at : ℕ) → IsItemAt m h end offset (Err (NoToken at)) → (at ≡ offset) × (offset < end) × ReportsNone offset
@@ -94,7 +91,7 @@ module _ (m : Machine) (h : List ℕ) (end : ℕ) (few : end ≤ length h) where
   -- if what an answer makes is no token, it is the error that is returned
   pub error_is_given :
       (c : Stored) (offset : ℕ) (answer : Result (Option HalfMatch) SearchError) (e : TokenError) → offset < end
-      → IsHalfAt offset answer → IfErr answer (IsRefused Forward m c (asked h end offset))
+      → SearchReturns m h end offset answer → IfErr answer (IsRefused Forward m c (asked h end offset))
       → ◌≡◌ {A = Result Match TokenError} (Err e) (item_of offset answer) → IsGivenAt m c h end offset (Err e)
   error_is_given c offset answer (NoToken at) ahead returned refused is =
       let item : IsItemAt m h end offset (Err (NoToken at)) = (ahead, (answer, returned, is)) in
@@ -107,20 +104,20 @@ module _ (m : Machine) (h : List ℕ) (end : ℕ) (few : end ≤ length h) where
   )
 
   -- and an error is the search's own
-  refused_is : (offset : ℕ) (e : SearchError) → IsItemAt m h end offset (Err (Search e)) → IsHalfAt offset (Err e)
+  refused_is : (offset : ℕ) (e : SearchError) → IsItemAt m h end offset (Err (Search e)) → SearchReturns m h end offset (Err e)
   refused_is offset e (ahead, (Ok (Some half), returned, is)) = go (nat_lt offset half.offset) refl where
-    go : (past : Bool) → nat_lt offset half.offset ≡ past → IsHalfAt offset (Err e)
+    go : (past : Bool) → nat_lt offset half.offset ≡ past → SearchReturns m h end offset (Err e)
     go true k =
         absurd (err_ok (is ∙ ap (λ (b : Bool). if b then Ok (record { pattern = half.pattern; start = offset; end = half.offset }) else Err (NoToken offset)) k))
     go false k =
         absurd (no_search offset e (sym (same_err (is ∙ ap (λ (b : Bool). if b then Ok (record { pattern = half.pattern; start = offset; end = half.offset }) else Err (NoToken offset)) k))))
   refused_is offset e (ahead, (Ok None, returned, is)) = absurd (no_search offset e (sym (same_err is)))
   refused_is offset e (ahead, (Err d, returned, is)) =
-      subst (λ (x : SearchError). IsHalfAt offset (Err x)) (sym (same_search e d (same_err is))) returned
+      subst (λ (x : SearchError). SearchReturns m h end offset (Err x)) (sym (same_search e d (same_err is))) returned
 
   -- so the tokens are those that searches find, by whatever such an answer is
   module _ (P : Input → Option HalfMatch → Type 0)
-      (right : (offset : ℕ) (o : Option HalfMatch) → IsHalfAt offset (Ok o) → P (asked h end offset) o) where
+      (right : (offset : ℕ) (o : Option HalfMatch) → SearchReturns m h end offset (Ok o) → P (asked h end offset) o) where
     none_by :
         (offset : ℕ) → ReportsNone offset
         → P (asked h end offset) None
@@ -195,6 +192,6 @@ module _ (m : Machine) (h : List ℕ) (end : ℕ) (few : end ≤ length h) where
   free_of start offset [] (Some (NoToken at)) later free g = tt
   free_of start offset [] (Some (Search e)) later free (inl memory) = same_search e _ memory
   free_of start offset [] (Some (Search e)) later free (inr item) =
-      (refused_is offset e item).free (unhindered_later start offset later free)
+      (refused_is offset e item).0.free (unhindered_later start offset later free)
   free_of start offset (t ∷ ts) error later free g =
       let n = token_is offset t g.0 in free_of start t.end ts error (omega (arith, n.2, later)) free g.1

@@ -6,7 +6,7 @@ use Rattle.automata_base.specs.Nfas.Mirrors.{BeginsAlike, IsReversed}
 use Rattle.automata_base.specs.Nfas.Nodes.{Automaton, nfa_of}
 use Rattle.automata_base.specs.Paths.Paths.{IsLookAcyclic}
 use Rattle.automata_base.specs.Nfas.ReversedSizes.{MayBeTooLarge}
-use Rattle.automata_base.specs.Haystacks.Tapes.{Forward}
+use Rattle.automata_base.specs.declared.util.search.Direction.TheVariants.{Forward}
 use Rattle.automata_base.specs.Nfas.Utf8.{ReadsUtf8}
 use Rattle.automata_base.specs.declared.nfa.thompson.ReverseError.{ReverseError}
 use Rattle.automata_base.specs.declared.nfa.thompson.ReverseError.TheVariants as reverse

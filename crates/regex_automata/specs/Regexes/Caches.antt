@@ -3,9 +3,9 @@ use Rattle.std.specs.Prelude.{◌≡◌, Some}
 use Rattle.automata_base.specs.Answers.Answers.{Half}
 use Rattle.automata_base.specs.Haystacks.Input.{Input}
 use Rattle.automata_base.specs.Answers.Spans.{IsShort, back}
-use Rattle.automata_base.specs.Haystacks.Tapes.{Forward, Backward}
+use Rattle.automata_base.specs.declared.util.search.Direction.TheVariants.{Forward, Backward}
 use Rattle.automata_hybrid.specs.Cache.Stores.{Stored}
-use Rattle.automata_hybrid.specs.Cache.Caches.{IsCacheOf, fresh_cache}
+use Rattle.automata_hybrid.specs.Cache.Caches.{IsCacheOf, IsStoreOf, fresh_cache}
 use Rattle.automata_hybrid.specs.Cache.Growth.{ClearedNothing, IsGrown, IsStill}
 use Rattle.automata_hybrid.specs.Searches.Cached.{Knows}
 use Rattle.automata_hybrid.specs.Searches.Passes.{IsFound}
@@ -43,3 +43,7 @@ abbrev pub KnowsBoth : Regex → Cache → Input → Type 0
 KnowsBoth p c input =
     Knows Forward p.forward c.forward.store input
     × ((half : Half) → IsFound Forward p.forward input (Some half) → KnowsBack p c.reverse.store input half)
+
+-- each of the two is a cache of its DFA, within its settings
+abbrev pub AreStoresOf : Cache → Regex → Type 0
+AreStoresOf c p = IsStoreOf c.forward.store p.forward × IsStoreOf c.reverse.store p.reverse

@@ -2,7 +2,7 @@
 use Rattle.automata_base.specs.Nfas.Engines.{Engine, engine_of}
 use Rattle.automata_base.specs.Nfas.Nodes.{nfa_of}
 use Rattle.automata_base.specs.Paths.Paths.{IsLookAcyclic}
-use Rattle.automata_base.specs.Haystacks.Tapes.{Forward}
+use Rattle.automata_base.specs.declared.util.search.Direction.TheVariants.{Forward}
 use Rattle.automata_base.specs.Answers.TruePairs.{IsTruePair, KeepsUtf8}
 use Rattle.regex_automata.specs.declared.hybrid.regex.Regex.{Regex}
 use Rattle.automata_config.specs.Options.{match_kind_of}

@@ -1,32 +1,35 @@
 -- What the requests of a replay do to its caches, one after another, and how calls over these fail.
 use Rattle.std.specs.Prelude.{ℕ, ◌≡◌, ◌⊎◌, ◌↔◌, ◌<◌, Bool, false, List, [], ◌∷◌, length, Option, Some, None}
-use Rattle.std.specs.Prelude.{Result, Ok, Err, IfErr, OnOk, slice_get}
+use Rattle.std.specs.Prelude.{Result, Ok, Err, IfErr, IfOk, OnOk, slice_get}
 use Rattle.std.specs.Result.{result_err}
 use Rattle.automata_base.specs.Haystacks.Input.{Input}
 use Rattle.automata_base.specs.Haystacks.Matches.{HalfMatch, Match}
 use Rattle.automata_base.specs.Haystacks.PatternSet.{members}
 use Rattle.automata_base.specs.Answers.Spans.{from}
 use Rattle.automata_base.specs.Paths.Selections.{Pair}
-use Rattle.automata_base.specs.Haystacks.Tapes.{Backward, Direction, Forward}
+use Rattle.automata_base.specs.declared.util.search.Direction.{Direction}
+use Rattle.automata_base.specs.declared.util.search.Direction.TheVariants.{Backward, Forward}
 use Rattle.automata_config.specs.declared.error.SearchError.{SearchError}
 use Rattle.automata_config.specs.declared.error.SearchError.TheVariants as search
 use Rattle.automata_hybrid.specs.Cache.Caches.{CacheView}
 use Rattle.automata_hybrid.specs.Machines.Machine.{Machine}
 use Rattle.automata_hybrid.specs.Searches.Contracts.{IsSearchEffect}
 use Rattle.automata_hybrid.specs.Walks.Contracts.{IsCallEffect, IsWhichEffect}
-use Rattle.automata_hybrid.specs.Searches.Passes.{IsRefused}
+use Rattle.automata_hybrid.specs.Searches.Passes.{IsFound, IsRefused, WithoutBase}
 use Rattle.automata_hybrid.specs.Walks.Answers.{AreWalked, HasReported, IsWalkRefusal, ReportsNext}
 use Rattle.automata_hybrid.specs.Walks.State.{Ended, States, Walk}
 use Rattle.automata_hybrid.specs.Walks.Sets.{IsWhichRefusal}
 use Rattle.regex_automata.specs.Replay.Histories.{Begun, History, after, start}
-use Rattle.regex_automata.specs.Spans.Iteration.{IsNextRefusal}
+use Rattle.regex_automata.specs.Spans.Iteration.{AreCollected, IsNextRefusal}
+use Rattle.regex_automata.specs.Spans.Outcomes.{FindsMatch}
 use Rattle.regex_automata.specs.Spans.IsMatch.{IsMatchRefused}
-use Rattle.regex_automata.specs.Spans.Contracts.{empty_set}
+use Rattle.regex_automata.specs.Regexes.Caches.{AreStoresOf}
+use Rattle.regex_automata.specs.Spans.Contracts.{ArePatternsReported, IsTruthReported, empty_set}
 use Rattle.regex_automata.specs.Regexes.Caches.{AreFresh}
 use Rattle.regex_automata.specs.Spans.Effects.{IsItemEffect, IsSpanEffect, IsTruthEffect}
 use Rattle.regex_automata.specs.Spans.Errors.{IsRegexRefusal}
 use Rattle.regex_automata.specs.Replay.Replies.{OnHalf, OnPatterns, OnSpan, OnSpans, OnTokens, OnTruth, dfa_of}
-use Rattle.regex_automata.specs.Tokens.{IsRefusedAt, IsTokenEffect, match_of}
+use Rattle.regex_automata.specs.Tokens.{AreTokensReported, IsRefusedAt, IsTokenEffect, match_of}
 use Rattle.regex_automata.specs.declared.hybrid.regex.Regex.{Regex}
 use Rattle.regex_automata.specs.declared.hybrid.regex.caches.Cache.{Cache}
 use Rattle.regex_automata.specs.declared.replay.requests.Reply.{Reply}
@@ -37,20 +40,22 @@ use Rattle.regex_automata.specs.declared.tokens.error.TokenError.{TokenError}
 use Rattle.regex_automata.specs.declared.tokens.error.TokenError.TheVariants.{Search}
 use Rattle.regex_automata.specs.declared.tokens.token.Token.{Token}
 
--- a search of one DFA over a cache: what it does to it, and why it fails
+-- a search of one DFA over a cache: what its passes report, what it does to the cache, and why it fails
 abbrev pub IsSearched :
     Direction → Machine → Input → (old new : CacheView) → Result (Option HalfMatch) SearchError → Type 0
 IsSearched way m input old new result =
-    IsSearchEffect way m input old new result × IfErr result (IsRefused way m new.store input)
+    IfOk result (WithoutBase (IsFound way m input)) × IsSearchEffect way m input old new result
+    × IfErr result (IsRefused way m new.store input)
 
 -- the same of a search for a span, and of one for whether there is a match
 abbrev pub IsSpanSearched : Regex → Input → (old new : Cache) → Result (Option Match) SearchError → Type 0
 IsSpanSearched p input old new result =
-    IsSpanEffect p input old new result × IfErr result (IsRegexRefusal p new input)
+    IfOk result (FindsMatch p input) × IsSpanEffect p input old new result × IfErr result (IsRegexRefusal p new input)
 
 abbrev pub IsTruthSearched : Regex → Input → (old new : Cache) → Result Bool SearchError → Type 0
 IsTruthSearched p input old new result =
-    IsTruthEffect p input old new result × IfErr result (IsMatchRefused p.forward new.forward.store input)
+    IfOk result (IsTruthReported p.forward input) × IsTruthEffect p input old new result
+    × IfErr result (IsMatchRefused p.forward new.forward.store input)
 
 -- the search after the last match of a list, and why that match is the last: there is no further one, the search fails
 -- over these caches, or there is no memory for the list
@@ -125,11 +130,11 @@ IsWalkStepped r (Some w) old new result =
 abbrev pub ArePatternsSearched :
     Machine → Input → (capacity : ℕ) → (old new : CacheView) → List ℕ → Option SearchError → Type 0
 ArePatternsSearched m input capacity old new found error =
-    ((new ≡ old) × (error ≡ Some search.OutOfMemory))
+    ((new ≡ old) × (found ≡ []) × (error ≡ Some search.OutOfMemory))
     ⊎ ((set : List Bool) × (result : Result (Unit {0}) SearchError)
     × IsWhichEffect m input (empty_set capacity) old new result
     × IfErr result (IsWhichRefusal m new.store input (empty_set capacity) set)
-    × (((found ≡ members set) × (error ≡ result_err result)) ⊎ (error ≡ Some search.OutOfMemory)))
+    × (((found ≡ members set) × (error ≡ result_err result)) ⊎ ((found ≡ []) × (error ≡ Some search.OutOfMemory))))
 
 -- what a request does to the caches of the current regex; one that uses one cache alone leaves the other unchanged
 abbrev pub IsMadeBy : Regex → List Begun → Request → (old new : Cache) → Reply → Type 0
@@ -139,13 +144,18 @@ IsMadeBy r walks (request.SearchRev input) old new answer =
     OnHalf (IsSearched Backward r.reverse input old.reverse new.reverse) answer × (new.forward ≡ old.forward)
 IsMadeBy r walks (request.Find input) old new answer = OnSpan (IsSpanSearched r input old new) answer
 IsMadeBy r walks (request.IsMatch input) old new answer = OnTruth (IsTruthSearched r input old new) answer
-IsMadeBy r walks (request.Iterate input) old new answer = OnSpans (AreSearched r old new input None) answer
+IsMadeBy r walks (request.Iterate input) old new answer = 
+    OnSpans (λ ms error. AreCollected (FindsMatch r) input ms error × AreSearched r old new input None ms error) answer
 IsMadeBy r walks (request.Tokenise input) old new answer =
-    OnTokens (AreTokensSearched r.forward input.haystack input.end input.start old new) answer
+    OnTokens (λ ts error.
+    AreTokensReported r.forward input ts error
+    × AreTokensSearched r.forward input.haystack input.end input.start old new ts error) answer
 IsMadeBy r walks (request.BeginWalk way input) old new answer = new ≡ old
 IsMadeBy r walks (request.StepWalk k) old new answer = OnHalf (IsWalkStepped r (slice_get walks k) old new) answer
 IsMadeBy r walks (request.Which capacity input) old new answer =
-    OnPatterns (ArePatternsSearched r.forward input capacity old.forward new.forward) answer
+    OnPatterns (λ found error.
+    (error ≡ None → ArePatternsReported r.forward input capacity found)
+    × ArePatternsSearched r.forward input capacity old.forward new.forward found error) answer
     × (new.reverse ≡ old.reverse)
 IsMadeBy r walks (request.Reset k) old new answer = new ≡ old
 
@@ -164,12 +174,17 @@ IsRequestEffect regexes h q (reply.Bad why) old new = new ≡ old
 IsRequestEffect regexes h (request.Reset k) (reply.Done (Ok done)) old new = AreFreshOf (slice_get regexes k) new
 IsRequestEffect regexes h q answer old new = IsMadeByOf (slice_get regexes h.current) h.walks q old new answer
 
--- the requests are answered over these caches, one after another
+-- these are caches of the current regex, within the settings of its DFAs
+abbrev pub AreOfCurrent : List Regex → History → Cache → Type 0
+AreOfCurrent regexes h c = (r : Regex) → slice_get regexes h.current ≡ Some r → AreStoresOf c r
+
+-- the requests are answered over such caches, one after another; so the error of a reply is one that these caches give
 abbrev pub AreAnsweredAfter : List Regex → History → Cache → List Request → List Reply → Type 0
 AreAnsweredAfter regexes h c [] replies = Unit {0}
 AreAnsweredAfter regexes h c (q ∷ qs) [] = Unit {0}
 AreAnsweredAfter regexes h c (q ∷ qs) (r ∷ rs) =
-    (next : Cache) × IsRequestEffect regexes h q r c next × AreAnsweredAfter regexes (after h q r) next qs rs
+    (next : Cache) × AreOfCurrent regexes (after h q r) next × IsRequestEffect regexes h q r c next
+    × AreAnsweredAfter regexes (after h q r) next qs rs
 
 -- starting with fresh ones of regex 0, if there is one
 abbrev pub AreAnswered : List Regex → List Request → List Reply → Type 0

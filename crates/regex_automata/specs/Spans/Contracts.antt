@@ -7,40 +7,29 @@ use Rattle.automata_base.specs.Haystacks.Input.{Input}
 use Rattle.automata_base.specs.Haystacks.Matches.{HalfMatch, Match}
 use Rattle.automata_base.specs.Nfas.Nodes.{nfa_of}
 use Rattle.automata_base.specs.Paths.Paths.{IsLookAcyclic}
-use Rattle.automata_base.specs.Haystacks.PatternSet.{members}
 use Rattle.automata_base.specs.Paths.Selections.{Pair}
 use Rattle.automata_base.specs.Answers.Spans.{AreSpans, IsMatch, IsSpan, Rise, TryFinds, from}
-use Rattle.automata_base.specs.Haystacks.Tapes.{Direction, Forward}
+use Rattle.automata_base.specs.declared.util.search.Direction.{Direction}
+use Rattle.automata_base.specs.declared.util.search.Direction.TheVariants.{Forward}
 use Rattle.automata_config.specs.declared.error.SearchError.{SearchError}
 use Rattle.automata_config.specs.declared.error.SearchError.TheVariants as search
 use Rattle.automata_hybrid.specs.Walks.Cached.{IsOpen}
-use Rattle.automata_hybrid.specs.Cache.Stores.{Stored}
 use Rattle.automata_hybrid.specs.Machines.Machine.{Machine}
-use Rattle.automata_hybrid.specs.Searches.Contracts.{IsMemory, IsStoreOf, IsUnhindered, IsUnsupported}
+use Rattle.automata_hybrid.specs.Searches.Contracts.{IsMemory, IsUnhindered, IsUnsupported}
 use Rattle.automata_hybrid.specs.Searches.Contracts.{unsupported_error}
-use Rattle.automata_hybrid.specs.Walks.Contracts.{MayRefuseCall, MayRefuseWhich}
 use Rattle.automata_hybrid.specs.Walks.Progress.{IsOpenAfter}
 use Rattle.automata_hybrid.specs.Walks.Answers.{AreWalked, HasReported, half_nth}
 use Rattle.automata_hybrid.specs.Walks.State.{Ended, Walk}
 use Rattle.automata_hybrid.specs.Searches.Bounds.{LiesIn}
 use Rattle.regex_automata.specs.Spans.Iteration.{AreCollected, IsBeginning, IsNextRefusal}
 use Rattle.automata_hybrid.specs.Searches.Passes.{Skips}
-use Rattle.regex_automata.specs.Spans.IsMatch.{IsMatchRefused, IsMatchReported, IsNearestThere, IsTruthFound}
+use Rattle.regex_automata.specs.Spans.IsMatch.{IsMatchReported, IsNearestThere, IsTruthFound}
 use Rattle.regex_automata.specs.Spans.Outcomes.{FindsMatch, MatchLiesIn}
-use Rattle.regex_automata.specs.Spans.Errors.{IsFree, IsOfMemory, IsRegexRefusal}
+use Rattle.regex_automata.specs.Spans.Errors.{IsFree, IsOfMemory}
 use Rattle.regex_automata.specs.Regexes.SoundPairs.{AreLookAcyclic, IsSoundPair, forward_engine, reverse_engine}
 use Rattle.regex_automata.specs.declared.hybrid.regex.Regex.{Regex}
 use Rattle.regex_automata.specs.declared.hybrid.regex.caches.Cache.{Cache}
 use Rattle.automata_config.specs.Options.{match_kind_of}
-
--- each of the two is a cache of its DFA, within its settings
-abbrev pub AreStoresOf : Cache → Regex → Type 0
-AreStoresOf c p = IsStoreOf c.forward.store p.forward × IsStoreOf c.reverse.store p.reverse
-
--- some cache of the DFA, within its settings, gives this error to a call of a walk that has reported so many pairs
-abbrev pub MayRefuseStep : Direction → Machine → Input → (reported : ℕ) → SearchError → Type 0
-MayRefuseStep way m input reported e =
-    (w : Walk) × HasReported way m input w reported × MayRefuseCall way m input w reported e
 
 -- what a call of a walk returns after so many that returned Ok
 pub record IsStep (way : Direction) (m : Machine) (input : Input) (reported : ℕ)
@@ -58,8 +47,6 @@ pub record IsStep (way : Direction) (m : Machine) (input : Input) (reported : �
   pub clean : IfOk result (λ found. (w : Walk) × HasReported way m input w (suc reported))
   -- it lies in the input's span, and its pattern is one of the NFA's
   pub within : IfOk result (λ found. IfSome found (LiesIn m input))
-  -- an error is one that some cache may give
-  pub errors : IfErr result (MayRefuseStep way m input reported)
   -- a call after the end does not fail
   pub ended : (pairs : List Pair) → AreWalked way m input pairs → length pairs < reported → IfErr result (λ e. ⊥)
   -- an anchored mode that is not supported is reported
@@ -67,11 +54,7 @@ pub record IsStep (way : Direction) (m : Machine) (input : Input) (reported : �
   -- if nothing prevents it, the only error is out of memory
   pub free : IsUnhindered m input → IfErr result IsMemory
 
--- some caches of the regex, within the settings of its DFAs, give this error to a search for a span
-abbrev pub MayRefuseSpan : Regex → Input → SearchError → Type 0
-MayRefuseSpan p input e = (c : Cache) × AreStoresOf c p × IsRegexRefusal p c input e
-
--- what a search for a span returns by the passes of its two DFAs
+-- what a search for a span returns by the passes of its two DFAs, and by its input
 pub record IsSpanReported (p : Regex) (input : Input) (result : Result (Option Match) SearchError) : Type 0 where
   -- what the passes of both report
   pub found : IfOk result (FindsMatch p input)
@@ -86,33 +69,34 @@ pub record IsSpanReported (p : Regex) (input : Input) (result : Result (Option M
 
 -- what a search for a span returns
 pub record IsSpanOf (p : Regex) (input : Input) (result : Result (Option Match) SearchError) : Type 0 where
-  -- for every two NFAs, what the passes of both report
-  pub reported : IsSpanReported p input result
   -- without a look cycle, what the ordered paths through both define
   pub answer : AreLookAcyclic p → IfOk result (TryFinds (forward_engine p) (reverse_engine p) input)
   -- over a sound pair, the span of the path that the forward search chose
   pub span : IsSoundPair p → IfOk result (IsSpan (forward_engine p) input)
-  -- an error is one that some caches may give
-  pub errors : IfErr result (MayRefuseSpan p input)
-  -- and over a sound pair, if nothing prevents a search of either DFA, the only error is out of memory
-  pub free : IsSoundPair p → IsFree p input → IfErr result IsMemory
+  -- it lies in the input's span, and its pattern is one of the NFAs'
+  pub within : IfOk result (λ o. IfSome o (MatchLiesIn p input))
+  -- an anchored mode that is not supported is reported
+  pub unsupported : IsUnsupported Forward p.forward input → result ≡ Err (unsupported_error input)
+  -- if nothing prevents a search of either DFA, the only errors are out of memory, and that the two are no pair
+  pub free : IsFree p input → IfErr result IsOfMemory
+  -- and over a sound pair out of memory alone
+  pub paired : IsSoundPair p → IsFree p input → IfErr result IsMemory
+  -- in a span that is done there is no match
+  pub done : input.end < input.start → result ≡ Ok None
 
--- some cache of the forward DFA gives this error to the search for whether there is a match
-abbrev pub MayRefuseTruth : Machine → Input → SearchError → Type 0
-MayRefuseTruth m input e = (c : Stored) × IsStoreOf c m × IsMatchRefused m c input e
+-- whether there is a match by the passes of the forward DFA, for every NFA
+pub record IsTruthReported (m : Machine) (input : Input) (truth : Bool) : Type 0 where
+  -- it is whether its search finds a match, whose passes met no quit byte
+  pub found : IsTruthFound m input truth
+  -- and whether the passes over an input that is not earliest report one
+  pub reported : IsMatchReported m input truth
 
 -- what the search for whether there is a match returns
 pub record IsTruthOf (p : Regex) (input : Input) (result : Result Bool SearchError) : Type 0 where
-  -- for every NFA, whether its search finds a match, whose passes met no quit byte; and whether the passes over an
-  -- input that is not earliest report one
-  pub found : IfOk result (IsTruthFound p.forward input)
-  pub reported : IfOk result (IsMatchReported p.forward input)
   -- without a look cycle, whether the ordered paths have an answer
   pub answer : IsLookAcyclic (nfa_of p.forward.nfa) → IfOk result (IsMatch (forward_engine p) input)
   -- for every NFA too, if no place is skipped: whether an earliest search has a nearest end
   pub nearest : (Skips p.forward → ⊥) → IfOk result (IsNearestThere p.forward input)
-  -- an error is one that some cache may give
-  pub errors : IfErr result (MayRefuseTruth p.forward input)
   -- an anchored mode that is not supported is reported
   pub unsupported : IsUnsupported Forward p.forward input → result ≡ Err (unsupported_error input)
   -- if nothing prevents it, the only error is out of memory
@@ -138,14 +122,8 @@ end_after last (m ∷ ms) = end_after (Some m.end) ms
 abbrev pub IsRefusedAfter : Regex → Cache → Input → List Match → SearchError → Type 0
 IsRefusedAfter p c input ms e = IsNextRefusal p c (from (place_after input.start ms) input) (end_after None ms) e
 
--- some caches of the regex give this error; or it is out of memory, there or for the list
-abbrev pub MayRefuseNext : Regex → Input → List Match → SearchError → Type 0
-MayRefuseNext p input ms e = IsMemory e ⊎ ((c : Cache) × AreStoresOf c p × IsRefusedAfter p c input ms e)
-
 -- the matches of an input, one after another; or the first ones, and the error that ended them
 pub record AreMatchesUpto (p : Regex) (input : Input) (ms : List Match) (error : Option SearchError) : Type 0 where
-  -- for every two NFAs, what the passes of both report
-  pub found : AreCollected (FindsMatch p) input ms error
   -- without a look cycle, what the ordered paths through both define
   pub answers : AreLookAcyclic p → AreCollected (TryFinds (forward_engine p) (reverse_engine p)) input ms error
   -- over a sound pair, the spans of the paths; and if there is an error, a beginning of them
@@ -155,8 +133,6 @@ pub record AreMatchesUpto (p : Regex) (input : Input) (ms : List Match) (error :
   -- their ends rise, so there is at most one more than the span has bytes
   pub rise : Rise input.end None ms
   pub few : length ms ≤ input.end - input.start + 1
-  -- an error is one that some caches may give after these
-  pub errors : IfSome error (MayRefuseNext p input ms)
   -- an anchored mode that is not supported is reported, and no match
   pub unsupported :
       IsUnsupported Forward p.forward input → (ms ≡ []) × (error ≡ Some (unsupported_error input))
@@ -172,13 +148,6 @@ AreRising low (k ∷ ks) = (low ≤ k) × AreRising (suc k) ks
 abbrev pub empty_set : (capacity : ℕ) → List Bool
 empty_set capacity = replicate capacity false
 
--- some cache of the DFA gives this error to a walk that had reported just these patterns; or it is out of memory for
--- the set or the list, and there are no patterns
-abbrev pub MayRefusePatterns : Machine → Input → (capacity : ℕ) → List ℕ → SearchError → Type 0
-MayRefusePatterns m input capacity found e =
-    (IsMemory e × (found ≡ []))
-    ⊎ ((set : List Bool) × (found ≡ members set) × MayRefuseWhich m input (empty_set capacity) set e)
-
 -- the walk of a set has made calls as long as the set could take more, until it ended or the set takes no more; no unit
 -- that it read is a quit byte
 abbrev pub HasReportedSet : Machine → Input → (set : List Bool) → Type 0
@@ -188,22 +157,23 @@ HasReportedSet m input set =
     × ((walk.stage ≡ Ended)
     ⊎ ((pairs : List Pair) → AreWalked Forward m input pairs → IsOpen input set (take calls pairs) → ⊥))
 
+-- the patterns below a capacity that the passes report, for every NFA
+pub record ArePatternsReported (m : Machine) (input : Input) (capacity : ℕ) (found : List ℕ) : Type 0 where
+  -- they are those of the walk
+  pub reported : ArePatterns (AreWalked Forward m input) input capacity [] found
+  -- no unit that was read up to the last one is a quit byte
+  pub clean : HasReportedSet m input (empty_set capacity)
+
 -- the patterns below a capacity of all overlapping matches, in an earliest search of the first one; or those reported
 -- before the error
 pub record ArePatternsUpto (m : Machine) (input : Input) (capacity : ℕ) (found : List ℕ)
     (error : Option SearchError) : Type 0 where
   -- in increasing order
   pub rise : AreRising 0 found
-  -- for every NFA, those that the walk reports
-  pub reported : error ≡ None → ArePatterns (AreWalked Forward m input) input capacity [] found
   -- without a look cycle, those of the ordered paths
   pub paths :
       IsLookAcyclic (nfa_of m.nfa) → error ≡ None
       → ArePatternsFound (engine_of m.nfa (match_kind_of m.config)) input capacity [] found
-  -- no unit that was read up to the last one is a quit byte
-  pub clean : error ≡ None → HasReportedSet m input (empty_set capacity)
-  -- an error is one that some cache may give
-  pub errors : IfSome error (MayRefusePatterns m input capacity found)
   -- if the anchored mode is not supported there are none, and that is reported, or out of memory for the set or the
   -- list
   pub unsupported :

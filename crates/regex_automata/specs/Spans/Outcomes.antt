@@ -4,7 +4,7 @@ use Rattle.automata_base.specs.Answers.Answers.{Half}
 use Rattle.automata_base.specs.Haystacks.Input.{Input}
 use Rattle.automata_base.specs.Haystacks.Matches.{Match}
 use Rattle.automata_base.specs.Answers.Spans.{FindsStartBy, Outcome, Found, ReportsBy}
-use Rattle.automata_base.specs.Haystacks.Tapes.{Forward, Backward}
+use Rattle.automata_base.specs.declared.util.search.Direction.TheVariants.{Forward, Backward}
 use Rattle.automata_hybrid.specs.Searches.Passes.{IsFound}
 use Rattle.regex_automata.specs.declared.hybrid.regex.Regex.{Regex}
 use Rattle.regex_automata.specs.Regexes.SoundPairs.{forward_engine}

@@ -1,6 +1,6 @@
 //! The matches of an input, one after another, as a list.
 ghost use Rattle.std.specs.Prelude.{◌≡◌, ◌⊎◌, [], IfSome, None, Some};
-ghost use Rattle.automata_base.specs.Haystacks.Tapes.{Forward};
+ghost use Rattle.automata_base.specs.declared.util.search.Direction.TheVariants.{Forward};
 ghost use Rattle.automata_hybrid.specs.Cache.Caches.{IsCacheOf};
 ghost use Rattle.automata_hybrid.specs.Searches.Contracts.{IsMemory, IsUnsupported, unsupported_error};
 ghost use Rattle.regex_automata.specs.Spans.Iteration.{AreCollected};
@@ -25,18 +25,17 @@ pub fn matches_upto(
     requires { AreCachesOf cache.old regex.now }
     ensures of { AreCachesOf cache.new regex.now }
     ensures returned { AreMatchesUpto regex.now input.entry result.0.items result.1 }
+    ensures found { AreCollected (FindsMatch regex.now) input.entry result.0.items result.1 }
     ensures made { AreSearched regex.now cache.old cache.new input.entry None result.0.items result.1 }
 {
     reported_is_right(regex.forward().get_nfa());
     reported_is_right(regex.reverse().get_nfa());
     start_is_right();
     let _haystack = input.haystack();
-    let all = take_matches(alloc, regex, cache, input);
-    cache.see_bounds();
-    all
+    take_matches(alloc, regex, cache, input)
 }
 
-/// The same, by what the passes report.
+/// The matches up to an error, by what the passes report.
 fn take_matches(
     alloc: Global,
     regex: &Regex,

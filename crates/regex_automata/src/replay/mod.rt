@@ -27,15 +27,15 @@ pub fn replay(
     regexes: &[Regex],
     script: &[Request<'_>],
 ) -> Result<Vec<Reply>, AllocError>
-    // Each reply is its request's own value, or an error that the request's own call may return. A bad request has the
-    // reply `Bad`, and changes nothing.
+    // Each reply is its request's own value, or an error of the request's own call. A bad request has the reply `Bad`,
+    // and changes nothing.
     ensures replies { IfOk result (λ replies. AreReplies regexes.now script.now replies.items) }
 
     // The Ok replies to the steps of a walk are, in order, the matches of its list, and then none.
     ensures walks { IfOk result (λ replies. ReportWalks regexes.now script.now replies.items) }
 
-    // One cache serves all requests. It is fresh at first and after an Ok reset. An error is that of a call on the
-    // cache as the request before left it.
+    // One cache serves all requests, within the settings of the current regex. It is fresh at first and after an Ok
+    // reset. An error is that of a call on the cache as the request before left it.
     ensures made { IfOk result (λ replies. AreAnswered regexes.now script.now replies.items) }
 {
     match regexes.first() {
@@ -58,6 +58,9 @@ fn answer_all<'h>(
     let mut replies = Vec::new(alloc);
     for request in script {
         let reply = player.answer(request);
+        let (forward, reverse) = player.cache.as_parts();
+        forward.see_bounds();
+        reverse.see_bounds();
         replies.push(reply)?;
     }
     Ok(replies)

@@ -1,8 +1,8 @@
 //! The patterns of all overlapping matches, as a list.
-ghost use Rattle.std.specs.Prelude.{◌≡◌, IfOk};
+ghost use Rattle.std.specs.Prelude.{◌≡◌, IfOk, None};
 ghost use Rattle.automata_base.specs.Haystacks.PatternSet.{members};
 ghost use Rattle.automata_hybrid.specs.Cache.Caches.{IsCacheOf};
-ghost use Rattle.regex_automata.specs.Spans.Contracts.{ArePatternsUpto};
+ghost use Rattle.regex_automata.specs.Spans.Contracts.{ArePatternsReported, ArePatternsUpto};
 ghost use Rattle.regex_automata.specs.Replay.Caches.{ArePatternsSearched};
 
 use crate::hybrid::dfa;
@@ -24,6 +24,7 @@ pub fn patterns_below(
     requires { IsCacheOf cache.old dfa.now }
     ensures of { IsCacheOf cache.new dfa.now }
     ensures returned { ArePatternsUpto dfa.now input.now capacity result.0.items result.1 }
+    ensures found { result.1 ≡ None → ArePatternsReported dfa.now input.now capacity result.0.items }
     ensures made { ArePatternsSearched dfa.now input.now capacity cache.old cache.new result.0.items result.1 }
 {
     let Ok(mut set) = PatternSet::new(alloc, capacity) else {
@@ -36,6 +37,7 @@ pub fn patterns_below(
     }
 }
 
+/// The patterns of a set, in increasing order.
 fn list_members(alloc: Global, set: &PatternSet) -> Result<Vec<PatternID>, AllocError>
     ensures { IfOk result (λ list. list.items ≡ members set.now) }
 {

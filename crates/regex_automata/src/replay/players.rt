@@ -22,7 +22,7 @@ pub struct Player<'r, 'h> {
     regexes: &'r [Regex],
     regex: &'r Regex,
     current: usize,
-    cache: Cache,
+    pub(super) cache: Cache,
     walks: Vec<KeptWalk<'h>>,
 }
 

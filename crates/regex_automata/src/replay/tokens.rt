@@ -2,7 +2,7 @@
 ghost use Rattle.automata_hybrid.specs.Cache.Caches.{IsCacheOf};
 ghost use Rattle.regex_automata.specs.Regexes.Caches.{AreCachesOf};
 ghost use Rattle.regex_automata.specs.Replay.Caches.{AreTokensSearched};
-ghost use Rattle.regex_automata.specs.Tokens.{AreGiven, AreTokensUpto};
+ghost use Rattle.regex_automata.specs.Tokens.{AreGiven, AreTokensReported, AreTokensUpto};
 
 use crate::hybrid::regex::{Cache, Regex};
 use crate::tokens::TokenError;
@@ -20,6 +20,7 @@ pub fn tokens_upto(
     requires { AreCachesOf cache.old regex.now }
     ensures of { AreCachesOf cache.new regex.now }
     ensures returned { AreTokensUpto regex.now.forward input.entry result.0.items result.1 }
+    ensures found { AreTokensReported regex.now.forward input.entry result.0.items result.1 }
     ensures made { AreTokensSearched regex.now.forward input.entry.haystack input.entry.end input.entry.start
         cache.old cache.new result.0.items result.1 }
 {
@@ -27,7 +28,7 @@ pub fn tokens_upto(
     take_tokens(alloc, regex, cache, input)
 }
 
-/// The same, by what each search returns.
+/// The tokens up to an error, by what each search returns.
 fn take_tokens(
     alloc: Global,
     regex: &Regex,

@@ -1,8 +1,11 @@
-use Rattle.std.proofs.Common.{List, subst, ◌∙◌}
+use Rattle.std.proofs.Common.{◌≡◌, List, Some, subst, ◌∙◌}
+use Rattle.std.specs.Prelude.{slice_get}
+use Rattle.automata_hybrid.specs.Cache.Caches.{CacheView, IsStoreOf}
 use Rattle.regex_automata.specs.declared.hybrid.regex.Regex.{Regex}
 use Rattle.regex_automata.specs.Replay.Histories.{after}
 use Rattle.regex_automata.specs.Replay.Caches.{IsRequestEffect}
 use Rattle.regex_automata.specs.Replay.Replies.{IsReply}
+use Rattle.regex_automata.proofs.Replies.Contracts.{of_current}
 use Rattle.regex_automata.proofs.Replies.Lists.{completes_turn, completes_end, continues_turn, continues_end}
 use Rattle.regex_automata.proofs.replay.answer_all.Goals as goal
 
@@ -13,16 +16,23 @@ loop-request-preserved c =
     let regexes = c.args.player.regexes.now in
     let q = c.request-item.result in
     let r = c.answer-reply.result in
+    let after_it = c.answer-reply.new.self in
+    let next = after_it.cache in
+    let same = c.answer-reply.ensures.regexes ∙ inv.regexes in
+    let played = c.answer-reply.ensures.at h a in
     record {
-      regexes = c.answer-reply.ensures.regexes ∙ inv.regexes;
+      regexes = same;
       so_far = (
         after h q r,
-        c.answer-reply.ensures.at h a,
+        played,
         completes_turn regexes c.args.script.now c.loop-request.replies.items c.push.new.self.items h c.loop-request.request-index q r
             c.loop-request-test.true c.request-item.is all
             (subst (λ (rs : List Regex). IsReply rs h q r) inv.regexes (c.answer-reply.ensures.reply h a)) c.in_ok-push.ensures.items,
         continues_turn regexes c.args.script.now c.args.player.cache c.loop-request.replies.items c.push.new.self.items h c.loop-request.player.cache c.answer-reply.new.self.cache c.loop-request.request-index q r
             c.loop-request-test.true c.request-item.is made
+            (of_current regexes (after h q r) next after_it.regex.now (subst (λ (rs : List Regex). slice_get rs (after h q r).current ≡ Some after_it.regex.now) same played.regex) played.of
+            (subst (λ (v : CacheView). IsStoreOf v.store v.store.table.of) c.as_parts.ensures.forward c.see_bounds.ensures.bounds)
+            (subst (λ (v : CacheView). IsStoreOf v.store v.store.table.of) c.as_parts.ensures.reverse c.see_bounds-2.ensures.bounds))
             (subst (λ (rs : List Regex). IsRequestEffect rs h q r c.loop-request.player.cache c.answer-reply.new.self.cache) inv.regexes (c.answer-reply.ensures.made h a)) c.in_ok-push.ensures.items,
       );
     }

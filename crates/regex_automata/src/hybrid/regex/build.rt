@@ -3,7 +3,7 @@ ghost use Rattle.automata_base.specs.Nfas.Engines.{engine_of};
 ghost use Rattle.automata_base.specs.Nfas.Mirrors.{IsReversed};
 ghost use Rattle.automata_base.specs.Nfas.Nodes.{Automaton, nfa_of};
 ghost use Rattle.automata_base.specs.Paths.Paths.{IsLookAcyclic};
-ghost use Rattle.automata_base.specs.Haystacks.Tapes.{Forward};
+ghost use Rattle.automata_base.specs.declared.util.search.Direction.TheVariants.{Forward};
 ghost use Rattle.automata_base.specs.Answers.TruePairs.{IsTruePair, KeepsUtf8};
 ghost use Rattle.automata_config.specs.Options.{Options, unset, overwritten};
 ghost use Rattle.regex_automata.specs.Regexes.Builds.{BuildsPair, IsUtf8, PassesTwo, PassesAll, IsRefusal};

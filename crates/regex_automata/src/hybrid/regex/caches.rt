@@ -1,7 +1,6 @@
 ghost use Rattle.std.specs.Prelude.{◌≡◌, ◌+◌, ◌^◌, ◌-◌, IfOk, OnOk, OnErr, min};
 ghost use Rattle.std.specs.Borrow.{sem};
 ghost use Rattle.automata_hybrid.specs.Cache.Usage.{usage};
-ghost use Rattle.automata_hybrid.specs.Searches.Contracts.{IsStoreOf};
 ghost use Rattle.regex_automata.specs.Regexes.Caches.{AreFresh};
 ghost use Rattle.regex_automata.specs.Regexes.LentCaches.{LendsBothParts, LendsForward, LendsReverse, StaysSame};
 
@@ -104,15 +103,6 @@ impl Cache {
         ensures reverse { result.1.now ≡ self.old.reverse }
     {
         (&mut self.forward, &mut self.reverse)
-    }
-
-    /// States a fact for proofs, and does nothing: each part is within the settings of the DFA that it belongs to.
-    pub fn see_bounds(&self)
-        ensures forward { IsStoreOf self.now.forward.store self.now.forward.store.table.of }
-        ensures reverse { IsStoreOf self.now.reverse.store self.now.reverse.store.table.of }
-    {
-        self.forward.see_bounds();
-        self.reverse.see_bounds();
     }
 
     /// The accounted bytes of both. If the sum is above the greatest `usize`, it is that number.

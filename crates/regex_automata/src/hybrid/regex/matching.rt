@@ -1,6 +1,6 @@
-ghost use Rattle.std.specs.Prelude.{IfErr};
+ghost use Rattle.std.specs.Prelude.{IfErr, IfOk};
 ghost use Rattle.regex_automata.specs.Spans.IsMatch.{IsAsked, IsMatchRefused};
-ghost use Rattle.regex_automata.specs.Spans.Contracts.{IsTruthOf};
+ghost use Rattle.regex_automata.specs.Spans.Contracts.{IsTruthOf, IsTruthReported};
 ghost use Rattle.regex_automata.specs.Spans.Effects.{IsTruthEffect};
 ghost use Rattle.regex_automata.specs.Regexes.Caches.{AreCachesOf};
 
@@ -24,8 +24,9 @@ impl Regex {
         requires { AreCachesOf cache.old self.now }
         ensures of { AreCachesOf cache.new self.now }
 
-        // What it returns, whatever the caches; and why it fails.
+        // What it returns by paths, and by passes, whatever the caches; and why it fails.
         ensures returned { IsTruthOf self.now input.now result }
+        ensures found { IfOk result (IsTruthReported self.now.forward input.now) }
         ensures refusal { IfErr result (IsMatchRefused self.now.forward cache.new.forward.store input.now) }
 
         // What it does to the caches.

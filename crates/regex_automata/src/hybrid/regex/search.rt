@@ -5,7 +5,7 @@ ghost use Rattle.automata_hybrid.specs.Searches.Contracts.{IsMemory};
 ghost use Rattle.automata_hybrid.specs.Searches.Passes.{NoQuitInReach, with_base};
 ghost use Rattle.automata_hybrid.specs.Searches.Bounds.{LiesPast};
 ghost use Rattle.regex_automata.specs.Regexes.SoundPairs.{forward_engine};
-ghost use Rattle.regex_automata.specs.Spans.Outcomes.{IsStartFound};
+ghost use Rattle.regex_automata.specs.Spans.Outcomes.{FindsMatch, IsStartFound};
 ghost use Rattle.regex_automata.specs.Spans.Contracts.{IsSpanOf, IsSpanReported};
 ghost use Rattle.regex_automata.specs.Spans.Effects.{IsBackEffect, IsSpanEffect};
 ghost use Rattle.regex_automata.specs.Regexes.Caches.{AreCachesOf};
@@ -46,8 +46,9 @@ impl Regex {
         requires { AreCachesOf cache.old self.now }
         ensures of { AreCachesOf cache.new self.now }
 
-        // What it returns, whatever the caches; and why it fails.
+        // What it returns by paths, and by passes, whatever the caches; and why it fails.
         ensures returned { IsSpanOf self.now input.now result }
+        ensures found { IfOk result (FindsMatch self.now input.now) }
         ensures refusal { IfErr result (IsRegexRefusal self.now cache.new input.now) }
 
         // What it does to the caches.
@@ -57,18 +58,17 @@ impl Regex {
         reported_is_right(self.reverse.get_nfa());
         start_is_right();
         let _haystack = input.haystack();
-        let found = self.search(cache, input);
-        cache.see_bounds();
-        found
+        self.search(cache, input)
     }
 
-    /// The same as `try_search`.
+    /// The first match, found as by `try_search`, which has the same contract.
     pub fn find(&self, cache: &mut Cache, input: &Input<'_>) -> Result<Option<Match>, SearchError>
         requires { AreCachesOf cache.old self.now }
         ensures of { AreCachesOf cache.new self.now }
 
-        // What it returns, whatever the caches; and why it fails.
+        // What it returns by paths, and by passes, whatever the caches; and why it fails.
         ensures returned { IsSpanOf self.now input.now result }
+        ensures found { IfOk result (FindsMatch self.now input.now) }
         ensures refusal { IfErr result (IsRegexRefusal self.now cache.new input.now) }
 
         // What it does to the caches.

@@ -1,6 +1,6 @@
 use Rattle.std.proofs.Common.{suc, ◌∙◌, ap, inl, inr, subst, sym}
 use Rattle.std.specs.Prelude.{Err, Ok, Result}
-use Rattle.automata_base.specs.Haystacks.Tapes.{Direction}
+use Rattle.automata_base.specs.declared.util.search.Direction.{Direction}
 use Rattle.automata_base.specs.Laws.Walks.{OverlappingIsReported, WalksAreReported}
 use Rattle.automata_base.specs.Answers.Within.{WalkLiesWithin}
 use Rattle.automata_config.specs.Options.{match_kind_of}
@@ -9,7 +9,6 @@ use Rattle.automata_hybrid.specs.Walks.State.{IsHeldItself, States, Walk}
 use Rattle.automata_hybrid.specs.Walks.Contracts.{IsCallEffect}
 use Rattle.automata_hybrid.specs.Walks.Parts.{IsCallRefused}
 use Rattle.automata_hybrid.specs.declared.search.walk.Held.{Held}
-use Rattle.automata_hybrid.proofs.Searches.Contracts.{is_store}
 use Rattle.automata_hybrid.proofs.Walks.Parts.{held_itself, itself_held, supported_call}
 use Rattle.automata_hybrid.proofs.Walks.Reach.{walk_memory}
 use Rattle.automata_hybrid.proofs.Walks.Calls.{still_walk}
@@ -49,7 +48,6 @@ returns-in-Ok-clause-call c =
           c.args.walk.now c.go_on.new.walk answered c.requires.walk.reported reports tt;
       ended = λ over. elim c.in-Ok.ensures.answer.goes_on [ inl none ↦ none | inr on ↦ absurd (on.0 over) ];
       refused = tt;
-      errors = λ k reported. tt;
       unsupported = λ fresh u. absurd (supported_call d m input c.args.walk.now c.go_on.new.walk c.requires.walk.reported reports u);
       free = λ f. tt;
       ready = λ none. tt;
@@ -101,7 +99,6 @@ returns-in-Err-clause-call c =
           c.args.walk.now c.go_on.new.walk refused c.requires.walk.reported tt c.in-Err.ensures.err.0;
       ended = λ over. ap (λ (w : Walk). w.found) c.in-Err.ensures.err.0;
       refused = c.in-Err.ensures.err.0;
-      errors = λ k reported. (cache, is_store cache m c.in-Err.ensures.of c.see_bounds.ensures.bounds, r.why k reported);
       unsupported = λ fresh u. ap Err (r.unsupported fresh u);
       free = λ f.
           walk_memory d m cache input haystack.within.1 c.in-Err.ensures.of f.reach f.supported f.clears States c.args.walk.now

@@ -3,7 +3,7 @@ use Rattle.automata_hybrid.specs.Cache.Caches.{IsCacheOf}
 use Rattle.automata_hybrid.specs.Cache.Growth.{ClearedNothing, IsGrown}
 use Rattle.automata_hybrid.specs.Searches.Cached.{KnowsItsStart}
 use Rattle.automata_hybrid.specs.Walks.Cached.{KnowsWhich}
-use Rattle.automata_base.specs.Haystacks.Tapes.{Forward}
+use Rattle.automata_base.specs.declared.util.search.Direction.TheVariants.{Forward}
 use Rattle.automata_hybrid.specs.Searches.Contracts.{IsUnsupported}
 use Rattle.automata_hybrid.specs.Walks.Progress.{HaveCalled}
 use Rattle.automata_hybrid.specs.Searches.Passes.{tape_in}

@@ -1,5 +1,5 @@
 use Rattle.std.proofs.Common.{refl, subst}
-use Rattle.automata_base.specs.Haystacks.Tapes.{Direction}
+use Rattle.automata_base.specs.declared.util.search.Direction.{Direction}
 use Rattle.automata_hybrid.specs.Searches.SelfLoops.{LoopsOver}
 use Rattle.automata_hybrid.proofs.dfa.DFA.follow_self_loop.Goals as goal
 

@@ -4,7 +4,7 @@ use Rattle.std.specs.Prelude.{Err, Ok}
 use Rattle.automata_hybrid.specs.Searches.Passes.{IsPassRefusal}
 use Rattle.automata_base.specs.Haystacks.Input.{Allows, Input}
 use Rattle.automata_base.specs.Haystacks.Matches.{HalfMatch}
-use Rattle.automata_base.specs.Haystacks.Tapes.{Direction}
+use Rattle.automata_base.specs.declared.util.search.Direction.{Direction}
 use Rattle.automata_hybrid.specs.Cache.Caches.{CacheView, with_store}
 use Rattle.automata_hybrid.specs.Cache.Progress.{saturated, progress_started, total_len}
 use Rattle.automata_hybrid.specs.Cache.Stores.{Stored, with_searched}

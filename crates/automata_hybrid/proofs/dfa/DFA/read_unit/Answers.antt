@@ -1,7 +1,7 @@
 use Rattle.std.proofs.Common.{◌∙◌, refl, sym, ap, subst}
 use Rattle.std.proofs.lemmas.Result.{IfErr-weaker, IfOk-weaker}
 use Rattle.automata_base.specs.Retraced.Steps.{successor}
-use Rattle.automata_base.specs.Haystacks.Tapes.{Direction}
+use Rattle.automata_base.specs.declared.util.search.Direction.{Direction}
 use Rattle.automata_hybrid.specs.Searches.Passes.{state_in}
 use Rattle.automata_hybrid.specs.Cache.Table.{Leads}
 use Rattle.automata_hybrid.proofs.Walks.Parts.{unit_effect}

@@ -1,5 +1,6 @@
 use Rattle.std.proofs.Common.{subst, sym}
-use Rattle.automata_base.specs.Haystacks.Tapes.{Direction, Forward, Backward}
+use Rattle.automata_base.specs.declared.util.search.Direction.{Direction}
+use Rattle.automata_base.specs.declared.util.search.Direction.TheVariants.{Forward, Backward}
 use Rattle.std.specs.Prelude.{IfOk}
 use Rattle.automata_base.specs.Haystacks.Input.{Input}
 use Rattle.automata_hybrid.specs.Searches.Contracts.{based_half}

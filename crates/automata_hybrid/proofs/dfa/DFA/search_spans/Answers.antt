@@ -4,7 +4,9 @@ use Rattle.std.proofs.lemmas.Grind.{common_steps}
 use Rattle.automata_base.specs.Answers.Answers.{later, Tries}
 use Rattle.automata_base.specs.Haystacks.Input.{Input}
 use Rattle.automata_base.specs.declared.util.search.Anchored.TheVariants.{No}
-use Rattle.automata_base.specs.Haystacks.Tapes.{Direction, Forward, is_split}
+use Rattle.automata_base.specs.Haystacks.Tapes.{is_split}
+use Rattle.automata_base.specs.declared.util.search.Direction.{Direction}
+use Rattle.automata_base.specs.declared.util.search.Direction.TheVariants.{Forward}
 use Rattle.automata_hybrid.specs.Searches.Passes.{Finds, IsFound, Skips, with_base}
 use Rattle.automata_hybrid.specs.Machines.StartSlots.{supports}
 use Rattle.automata_hybrid.specs.Cache.Growth.{ClearedNothing}

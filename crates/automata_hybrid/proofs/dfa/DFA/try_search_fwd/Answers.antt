@@ -1,9 +1,11 @@
 use Rattle.std.proofs.Common.{Some, rules, subst}
 use Rattle.std.specs.Prelude.{Ok}
 use Rattle.automata_base.specs.Haystacks.Matches.{HalfMatch}
-use Rattle.automata_base.specs.Haystacks.Tapes.{Forward}
+use Rattle.automata_base.specs.declared.util.search.Direction.TheVariants.{Forward}
 use Rattle.automata_hybrid.specs.Searches.Contracts.{IsHalf}
-use Rattle.automata_hybrid.proofs.Searches.Contracts.{effect_err, effect_ok, half_err, half_none, half_some}
+use Rattle.automata_hybrid.specs.Searches.Passes.{IsFound, WithoutBase}
+use Rattle.automata_hybrid.proofs.Searches.Contracts.{effect_err, effect_ok, found_err, found_none, found_some}
+use Rattle.automata_hybrid.proofs.Searches.Contracts.{half_err, half_none, half_some}
 use Rattle.automata_hybrid.proofs.dfa.DFA.try_search_fwd.Goals as goal
 
 pub returns-in_err-half-clause-half : goal.returns-in_err-half-clause-half
@@ -30,3 +32,16 @@ returns-in-None-clause-half c =
 pub returns-in-None-clause-effect : goal.returns-in-None-clause-effect
 returns-in-None-clause-effect c =
     effect_ok Forward c.args.self.now c.args.input.now _ _ _ _ c.in_ok-half.ensures.effect
+
+pub returns-in_err-half-clause-found : goal.returns-in_err-half-clause-found
+returns-in_err-half-clause-found c =
+    found_err (WithoutBase (IsFound Forward c.args.self.now c.args.input.now)) c.from_residual.result _ c.from_residual.ensures.1
+
+pub returns-in-Some-clause-found : goal.returns-in-Some-clause-found
+returns-in-Some-clause-found c =
+    subst (λ (half : HalfMatch). WithoutBase (IsFound Forward c.args.self.now c.args.input.now) (Some half)) (search rules)
+    (found_some (IsFound Forward c.args.self.now c.args.input.now) _ _ c.in-Some.is c.in_ok-half.ensures.found)
+
+pub returns-in-None-clause-found : goal.returns-in-None-clause-found
+returns-in-None-clause-found c =
+    found_none (IsFound Forward c.args.self.now c.args.input.now) _ c.in-None.is c.in_ok-half.ensures.found

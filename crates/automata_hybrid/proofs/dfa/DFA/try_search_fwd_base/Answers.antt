@@ -1,11 +1,10 @@
 use Rattle.std.proofs.Common.{refl, subst}
 use Rattle.std.proofs.lemmas.Result.{IfErr-weaker, IfOk-weaker}
 use Rattle.automata_base.specs.Nfas.Nodes.{Automaton}
-use Rattle.automata_base.specs.Haystacks.Tapes.{Forward}
+use Rattle.automata_base.specs.declared.util.search.Direction.TheVariants.{Forward}
 use Rattle.automata_base.specs.Answers.OfPasses.{ReportedEndsAreRight, ReportedIsRight}
 use Rattle.automata_base.specs.Answers.Within.{ReportedLiesWithin}
 use Rattle.automata_hybrid.proofs.Searches.Reach.{refused_memory}
-use Rattle.automata_hybrid.proofs.Searches.Contracts.{is_store, may_refuse}
 use Rattle.automata_hybrid.proofs.Searches.Skips.{found_reported}
 use Rattle.automata_hybrid.proofs.Searches.Bounds.{lies_past}
 use Rattle.automata_hybrid.proofs.dfa.DFA.try_search_fwd_base.Goals as goal
@@ -15,15 +14,14 @@ pub returns-clause-based : goal.returns-clause-based
 returns-clause-based c =
     let m = c.args.self.now in
     let input = c.args.input.now in
-    let s = c.search-found.ensures in
-    let r = c.search-found.result in
-    let cache = c.search-found.new.cache.store in
+    let s = c.search.ensures in
+    let r = c.search.result in
+    let cache = c.search.new.cache.store in
     let haystack = c.haystack-haystack.ensures in
     let reported = subst (λ (a : Automaton). ReportedIsRight a) c.get_nfa.ensures c.reported_is_right.ensures.answer in
     let ends = subst (λ (a : Automaton). ReportedEndsAreRight a) c.get_nfa.ensures c.reported_is_right.ensures.ends in
     let lies = subst ReportedLiesWithin c.get_nfa.ensures c.reported_is_right.ensures.within in
     record {
-      found = s.found;
       answer = λ cycles.
           IfOk-weaker r _ _
           (λ o found. reported Forward (match_kind_of m.config) input _ cycles (haystack.bytes, haystack.within.1) (found_reported Forward m input _ found))
@@ -37,7 +35,6 @@ returns-clause-based c =
           (λ o found. (ends Forward (match_kind_of m.config) input _ (haystack.bytes, haystack.within.1) (found_reported Forward m input _ found)).1 late all)
           s.found;
       within = lies_past m input lies haystack.within.1 r s.found;
-      errors = may_refuse r Forward m cache input (is_store cache m s.of c.see_bounds.ensures.bounds) s.refusal;
       unsupported = s.unsupported;
       free = λ f.
           IfErr-weaker r _ _ (λ e x. refused_memory Forward m cache input e haystack.within.1 s.of f.reach f.supported f.clears x)
@@ -46,4 +43,4 @@ returns-clause-based c =
     }
 
 pub returns-clause-upto : goal.returns-clause-upto
-returns-clause-upto c = c.search-found.ensures.upto refl
+returns-clause-upto c = c.search.ensures.upto refl

@@ -1,15 +1,15 @@
 use Rattle.std.proofs.Common.{sym, ap, subst}
-use Rattle.std.specs.Prelude.{IfErr}
+use Rattle.std.specs.Prelude.{IfErr, IfOk}
 use Rattle.std.proofs.lemmas.Result.{IfErr-weaker, IfOk-weaker}
 use Rattle.automata_base.specs.Nfas.Nodes.{Automaton}
-use Rattle.automata_base.specs.Haystacks.Tapes.{Backward}
+use Rattle.automata_base.specs.declared.util.search.Direction.TheVariants.{Backward}
 use Rattle.automata_base.specs.Answers.OfPasses.{ReportedEndsAreRight, ReportedIsRight}
 use Rattle.automata_base.specs.Answers.Within.{ReportedLiesWithin}
 use Rattle.automata_config.specs.Options.{match_kind_of}
 use Rattle.automata_hybrid.specs.Searches.Contracts.{IsHalf, IsSearchEffect, halves}
-use Rattle.automata_hybrid.specs.Searches.Passes.{IsFound, IsRefused}
+use Rattle.automata_hybrid.specs.Searches.Passes.{IsFound, IsRefused, WithoutBase}
 use Rattle.automata_hybrid.proofs.Searches.Reach.{refused_memory}
-use Rattle.automata_hybrid.proofs.Searches.Contracts.{halves_effect, halves_err, halves_ok, is_store, may_refuse}
+use Rattle.automata_hybrid.proofs.Searches.Contracts.{halves_effect, halves_err, halves_ok}
 use Rattle.automata_hybrid.proofs.Searches.Skips.{found_reported}
 use Rattle.automata_hybrid.proofs.Searches.Bounds.{lies_in}
 use Rattle.automata_hybrid.proofs.dfa.DFA.try_search_rev.Goals as goal
@@ -28,7 +28,6 @@ returns-clause-half c =
     let found = halves_ok (IsFound Backward m input) r s.found in
     subst (λ v. IsHalf Backward m input v) (sym c.without_base.ensures)
     (record {
-      found = found;
       answer = λ cycles.
           halves_ok _ r (IfOk-weaker r _ _
           (λ o found. reported Backward (match_kind_of m.config) input _ cycles (haystack.bytes, haystack.within.1) (found_reported Backward m input _ found))
@@ -42,7 +41,6 @@ returns-clause-half c =
           (λ o found. (ends Backward (match_kind_of m.config) input _ (haystack.bytes, haystack.within.1) (found_reported Backward m input _ found)).1 late all)
           s.found);
       within = lies_in m input lies haystack.within.1 Backward (halves r) found;
-      errors = halves_err _ r (may_refuse r Backward m cache input (is_store cache m s.of c.see_bounds.ensures.bounds) s.refusal);
       unsupported = λ u. ap halves (s.unsupported u);
       free = λ f.
           halves_err _ r
@@ -60,3 +58,8 @@ pub returns-clause-effect : goal.returns-clause-effect
 returns-clause-effect c =
     subst (λ v. IsSearchEffect Backward c.args.self.now c.args.input.now c.args.cache.now c.search-found.new.cache v) (sym c.without_base.ensures)
     (halves_effect Backward c.args.self.now c.args.input.now c.args.cache.now c.search-found.new.cache c.search-found.result c.search-found.ensures.effect)
+
+pub returns-clause-found : goal.returns-clause-found
+returns-clause-found c =
+    subst (λ v. IfOk v (WithoutBase (IsFound Backward c.args.self.now c.args.input.now))) (sym c.without_base.ensures)
+    (halves_ok (IsFound Backward c.args.self.now c.args.input.now) c.search-found.result c.search-found.ensures.found)

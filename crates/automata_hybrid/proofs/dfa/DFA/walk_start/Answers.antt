@@ -1,7 +1,8 @@
 use Rattle.std.proofs.Common.{ℕ, ◌≡◌, ◌+◌, ◌-◌, arith, sym, subst}
 use Rattle.std.specs.Prelude.{IfErr, IfOk, slice_get}
 use Rattle.automata_base.specs.Answers.Answers.{offset_in}
-use Rattle.automata_base.specs.Haystacks.Tapes.{Direction, byte_before}
+use Rattle.automata_base.specs.Haystacks.Tapes.{byte_before}
+use Rattle.automata_base.specs.declared.util.search.Direction.{Direction}
 use Rattle.automata_hybrid.specs.Searches.Passes.{behind_offset, tape_in}
 use Rattle.automata_hybrid.specs.Steps.Starts.{IsStartAnswer, IsStartEffect, IsStartRefusedAt}
 use Rattle.automata_hybrid.proofs.dfa.DFA.walk_start.Goals as goal

@@ -1,5 +1,5 @@
 use Rattle.std.proofs.Common.{◌≡◌, subst, sym, arith}
-use Rattle.automata_base.specs.Haystacks.Tapes.{Direction}
+use Rattle.automata_base.specs.declared.util.search.Direction.{Direction}
 use Rattle.std.specs.Int.{bit_at}
 use Rattle.automata_hybrid.specs.Searches.SelfLoops.{HasEither, lane_of}
 use Rattle.automata_hybrid.proofs.Searches.Lanes.{all_near, leading_clear, near_upto, trailing_clear, trailing_few}

@@ -1,7 +1,6 @@
 use Rattle.std.proofs.Common.{◌≡◌, ◌∙◌, ◌<◌, ◌⊎◌, arith, ℕ, Bool, false, List, [], length, inl, inr, refl, ap, subst, sym}
-use Rattle.std.specs.Prelude.{Ok}
 use Rattle.std.proofs.lemmas.List.{length-replicate}
-use Rattle.regex_automata.specs.Promises.{In, Input, IsHaystack, IsWhich, KindAll, Machine, SetsHaveMatching, match_kind_of, members}
+use Rattle.regex_automata.specs.Promises.{In, Input, IsHaystack, JoinsReported, KindAll, Machine, SetsHaveMatching, match_kind_of, members}
 use Rattle.example_rules.specs.Rules.{IsNamed, Matches, record_input}
 use Rattle.example_rules.proofs.rules.RuleMatcher.rules_of.Goals as goal
 
@@ -9,7 +8,7 @@ use Rattle.example_rules.proofs.rules.RuleMatcher.rules_of.Goals as goal
 names :
     (m : Machine) (bytes : List ℕ) (old new : List Bool)
     → SetsHaveMatching m → match_kind_of m.config ≡ KindAll → IsHaystack bytes → members old ≡ []
-    → length old ≡ length m.nfa.start_pattern → IsWhich m (record_input bytes) old new (Ok tt) → IsNamed m bytes new
+    → length old ≡ length m.nfa.start_pattern → JoinsReported m (record_input bytes) old new → IsNamed m bytes new
 names m bytes old new law kind haystack empty room which = record {
   rules = λ rule. (
       let said = law.sets (record_input bytes) m.nfa.start_unanchored old new kind refl refl (haystack, omega arith) (omega arith) which rule in
@@ -26,5 +25,5 @@ returns-clause-named c =
     names c.args.self.now.dfa c.args.bytes.now c.in_ok-found.found c.try_which_overlapping_matches.new.patset c.sets_have_matching.ensures
     c.args.self.now.all (subst (λ (i : Input). IsHaystack i.haystack) same c.haystack-haystack.ensures.bytes) c.in_ok-found.ensures.empty
     (ap length c.in_ok-found.ensures.capacity ∙ (length-replicate c.pattern_len.result false ∙ c.pattern_len.ensures))
-    (subst (λ i. IsWhich c.args.self.now.dfa i c.in_ok-found.found c.try_which_overlapping_matches.new.patset (Ok tt)) same
-    c.in_ok-try_which_overlapping_matches.ensures.which)
+    (subst (λ i. JoinsReported c.args.self.now.dfa i c.in_ok-found.found c.try_which_overlapping_matches.new.patset) same
+    c.in_ok-try_which_overlapping_matches.ensures.found)

@@ -1,16 +1,17 @@
 use Rattle.std.proofs.Common.{◌≡◌, ◌∙◌, ℕ, true, false, List, Option, arith, ap, subst, sym, refl}
 use Rattle.std.specs.Prelude.{Err, IfOk, Ok, Result, option_map}
 use Rattle.regex_automata.specs.declared.hybrid.SearchError.{SearchError}
-use Rattle.regex_automata.specs.Promises.{AnswersAgree, FirstMatchIsFound, Forward, HalfMatch, Input, IsFirstMatch, IsHalf, IsHaystack, IsNearestAnswer, Machine, WithoutBase, engine_of, match_kind_of, without_base}
+use Rattle.regex_automata.specs.Promises.{AnswersAgree, FirstMatchIsFound, Forward, HalfMatch, Input, IsFirstMatch, IsFound, IsHalf, IsHaystack, IsNearestAnswer, Machine, WithoutBase, engine_of, match_kind_of, without_base}
 use Rattle.example_steps.specs.Steps.{IsEarliest, earliest}
 use Rattle.example_steps.proofs.steps.Finder.find.Goals as goal
 
 -- what a search answers is the first match
 searched :
-    (m : Machine) (text : List ℕ) (found : Option HalfMatch) → AnswersAgree → IsHalf Forward m (earliest text) (Ok found) → IsEarliest m text found
-searched m text found agree half = record {
+    (m : Machine) (text : List ℕ) (found : Option HalfMatch) → AnswersAgree → IsHalf Forward m (earliest text) (Ok found)
+    → WithoutBase (IsFound Forward m (earliest text)) found → IsEarliest m text found
+searched m text found agree half first = record {
   same = λ answer other.
-      half.found.2 ∙ (ap (option_map without_base) (agree Forward m m (earliest text) half.found.0 other.found.0 refl refl half.found.1 other.found.1) ∙ sym other.found.2);
+      first.2 ∙ (ap (option_map without_base) (agree Forward m m (earliest text) first.0 other.0 refl refl first.1 other.1) ∙ sym other.2);
   nearest = half.nearest refl;
 }
 
@@ -23,7 +24,7 @@ stepped fast sure text found agree law nfa kind bytes haystack first =
     let reported = law (earliest text) found (λ skips. false_true (sym bytes ∙ skips.0)) haystack (omega arith) (omega arith) first in
     record {
       same = λ answer other.
-          reported.0.2 ∙ (ap (option_map without_base) (agree Forward fast sure (earliest text) reported.0.0 other.found.0 nfa kind reported.0.1 other.found.1) ∙ sym other.found.2);
+          reported.0.2 ∙ (ap (option_map without_base) (agree Forward fast sure (earliest text) reported.0.0 other.0 nfa kind reported.0.1 other.1) ∙ sym other.2);
       nearest =
           subst (λ k. WithoutBase (IsNearestAnswer Forward (engine_of sure.nfa k) (earliest text)) found) kind
           (subst (λ n. WithoutBase (IsNearestAnswer Forward (engine_of n (match_kind_of fast.config)) (earliest text)) found) nfa (reported.1 refl));
@@ -33,9 +34,12 @@ stepped fast sure text found agree law nfa kind bytes haystack first =
 
 either :
     (m : Machine) (text : List ℕ) (input : Input) (result : Result (Option HalfMatch) SearchError)
-    → AnswersAgree → input ≡ earliest text → IsHalf Forward m input result → IfOk result (IsEarliest m text)
-either m text input (Ok found) agree same half = searched m text found agree (subst (λ i. IsHalf Forward m i (Ok found)) same half)
-either m text input (Err e) agree same half = tt
+    → AnswersAgree → input ≡ earliest text → IsHalf Forward m input result
+    → IfOk result (WithoutBase (IsFound Forward m input)) → IfOk result (IsEarliest m text)
+either m text input (Ok found) agree same half first =
+    searched m text found agree (subst (λ i. IsHalf Forward m i (Ok found)) same half)
+    (subst (λ i. WithoutBase (IsFound Forward m i) found) same first)
+either m text input (Err e) agree same half first = tt
 
 pub returns-in-Some : goal.returns-in-Some
 returns-in-Some c =
@@ -47,4 +51,4 @@ returns-in-Some c =
 pub returns-in-None : goal.returns-in-None
 returns-in-None c =
     let same : c.earliest-input.result ≡ earliest c.args.text.now = c.earliest-input.ensures ∙ ap (λ (i : Input). record i { earliest = true }) c.new.ensures in
-    either c.args.self.now.sure c.args.text.now c.earliest-input.result c.try_search_fwd.result c.answers_agree.ensures same c.try_search_fwd.ensures.half
+    either c.args.self.now.sure c.args.text.now c.earliest-input.result c.try_search_fwd.result c.answers_agree.ensures same c.try_search_fwd.ensures.half c.try_search_fwd.ensures.found

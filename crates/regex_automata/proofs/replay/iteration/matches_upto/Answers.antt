@@ -6,24 +6,23 @@ use Rattle.automata_hybrid.specs.Machines.Machine.{Machine}
 use Rattle.regex_automata.specs.Spans.Outcomes.{FindsMatch}
 use Rattle.regex_automata.specs.Regexes.SoundPairs.{IsSoundPair, forward_engine, reverse_engine}
 use Rattle.regex_automata.proofs.Spans.Lists.{collected_begins, collected_right}
-use Rattle.regex_automata.proofs.Replies.MatchLists.{may_refuse_next, memory_after}
-use Rattle.regex_automata.proofs.Replies.Contracts.{are_stores}
+use Rattle.regex_automata.proofs.Replies.MatchLists.{memory_after}
 use Rattle.regex_automata.proofs.Spans.ByPaths.{match_right, outcome_right}
 use Rattle.automata_base.proofs.Answers.Rising.{first_few, first_rise}
 use Rattle.regex_automata.proofs.Spans.Ends.{collected_first, find_lies, first_place}
 use Rattle.regex_automata.proofs.replay.iteration.matches_upto.Goals as goal
 
 pub returns-clause-of : goal.returns-clause-of
-returns-clause-of c = (c.take_matches-all.ensures.forward, c.take_matches-all.ensures.reverse)
+returns-clause-of c = (c.take_matches.ensures.forward, c.take_matches.ensures.reverse)
 
 pub returns-clause-returned : goal.returns-clause-returned
 returns-clause-returned c =
     let p = c.args.regex.now in
     let input = c.args.input in
-    let s = c.take_matches-all.ensures in
-    let ms = c.take_matches-all.result.0.items in
-    let error = c.take_matches-all.result.1 in
-    let cache = c.take_matches-all.new.cache in
+    let s = c.take_matches.ensures in
+    let ms = c.take_matches.result.0.items in
+    let error = c.take_matches.result.1 in
+    let cache = c.take_matches.new.cache in
     let within = c.haystack-haystack.ensures.within.1 in
     let front = subst (λ (a : Automaton). ReportedIsRight a) (c.get_nfa.ensures ∙ ap (λ (m : Machine). m.nfa) c.forward.ensures) c.reported_is_right.ensures.answer in
     let rear = subst (λ (a : Automaton). ReportedIsRight a) (c.get_nfa-2.ensures ∙ ap (λ (m : Machine). m.nfa) c.reverse.ensures) c.reported_is_right-2.ensures.answer in
@@ -32,9 +31,7 @@ returns-clause-returned c =
     (λ start o f. match_right p front ends c.start_is_right.ensures.starts sound (from start input) (c.haystack-haystack.ensures.bytes, within) o f)
     ms error s.found in
     let first = collected_first p input within ms error s.found in
-    let of = are_stores cache p (s.forward, s.reverse) c.see_bounds.ensures.forward c.see_bounds.ensures.reverse in
     record {
-      found = s.found;
       answers = λ acyclic. collected_right (FindsMatch p) (TryFinds (forward_engine p) (reverse_engine p)) input
           (λ start o f. outcome_right p front rear (from start input) (Found o) acyclic (c.haystack-haystack.ensures.bytes, within) f)
           ms error s.found;
@@ -42,7 +39,9 @@ returns-clause-returned c =
       beginning = λ sound whole spans. collected_begins (IsSpan (forward_engine p)) (c.start_is_right.ensures.one.span (forward_engine p)) input ms whole error (right sound) spans;
       rise = first_rise (FindsMatch p) input (find_lies p) within ms first;
       few = let k = first_few (FindsMatch p) input (find_lies p) within ms first in omega (arith, k);
-      errors = may_refuse_next p cache input ms error of s.refusal;
       unsupported = s.unsupported;
-      free = memory_after p input ms error (first_place p input within ms first) (may_refuse_next p cache input ms error of s.refusal);
+      free = memory_after p cache input ms error (first_place p input within ms first) s.refusal;
     }
+
+pub returns-clause-found : goal.returns-clause-found
+returns-clause-found c = c.take_matches.ensures.found

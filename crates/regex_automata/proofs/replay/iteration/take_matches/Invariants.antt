@@ -2,7 +2,7 @@ use Rattle.std.proofs.Common.{◌≡◌, [], None, false}
 use Rattle.automata_base.specs.Answers.Spans.{from}
 use Rattle.automata_hybrid.specs.Searches.Contracts.{IsUnsupported}
 use Rattle.regex_automata.specs.Spans.Iteration.{input_over}
-use Rattle.automata_base.specs.Haystacks.Tapes.{Forward}
+use Rattle.automata_base.specs.declared.util.search.Direction.TheVariants.{Forward}
 use Rattle.regex_automata.specs.Spans.Outcomes.{FindsMatch}
 use Rattle.regex_automata.proofs.Spans.Lists.{ComesTo}
 use Rattle.regex_automata.proofs.Spans.Effects.{Searches}

@@ -1,6 +1,6 @@
 use Rattle.automata_base.specs.Answers.Answers.{IsAnswer}
 use Rattle.automata_base.specs.Nfas.Engines.{engine_of}
-use Rattle.automata_base.specs.Haystacks.Tapes.{Forward}
+use Rattle.automata_base.specs.declared.util.search.Direction.TheVariants.{Forward}
 use Rattle.automata_hybrid.specs.Searches.Passes.{IsFound, WithoutBase}
 use Rattle.regex_automata.proofs.TokenLists.Tiling.{begins, found_by, free_of, tiles}
 use Rattle.std.proofs.Common.{Option, subst, arith}
@@ -21,13 +21,20 @@ returns-clause-returned c =
     let few = c.haystack-haystack.ensures.within.1 in
     let given = c.take_tokens.ensures.given in
     record {
-      given = given;
-      found = found_by m input.haystack input.end few (λ i. WithoutBase (IsFound Forward m i)) (λ offset o returned. returned.found)
-          input.start ts error given;
       paths = λ acyclic. found_by m input.haystack input.end few (λ i. WithoutBase (IsAnswer Forward (engine_of m.nfa (match_kind_of m.config)) i))
-          (λ offset o returned. returned.answer acyclic) input.start ts error given;
+          (λ offset o returned. returned.0.answer acyclic) input.start ts error given;
       beginning = begins m input.haystack input.end few input.start ts error given;
       whole = λ none. tiles m input.haystack input.end few input.start ts
           (subst (λ (e : Option TokenError). AreGiven m input.haystack input.end input.start ts e) none given);
       free = λ free. free_of m input.haystack input.end few input.start input.start ts error (omega arith) free given;
+    }
+
+pub returns-clause-found : goal.returns-clause-found
+returns-clause-found c =
+    let m = c.args.regex.now.forward in
+    let input = c.args.input in
+    record {
+      given = c.take_tokens.ensures.given;
+      found = found_by m input.haystack input.end c.haystack-haystack.ensures.within.1 (λ i. WithoutBase (IsFound Forward m i)) (λ offset o returned. returned.1)
+          input.start c.take_tokens.result.0.items c.take_tokens.result.1 c.take_tokens.ensures.given;
     }

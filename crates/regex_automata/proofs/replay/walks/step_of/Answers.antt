@@ -25,7 +25,7 @@ returns-in-Err-clause-call c =
     let old = c.args.state.now in
     let new = c.try_search_overlapping.new.walk in
     record {
-      step = λ k h. step_refused c.args.way m input old k h c.in-Err.error s.errors (λ ended. s.ready (inl ended))
+      step = λ k h. step_refused c.args.way m input old k h c.in-Err.error (λ ended. s.ready (inl ended))
           (λ fresh u. same_err (s.unsupported fresh u)) s.free;
       reported = λ k h. tt;
       kept = λ k h. stayed c.args.way m input old k h new s.refused;

@@ -1,12 +1,12 @@
 use Rattle.std.proofs.Common.{◌≡◌, ◌∙◌, refl, sym, ap, subst}
-use Rattle.std.specs.Prelude.{IfErr, Ok}
+use Rattle.std.specs.Prelude.{IfErr, IfOk, Ok}
 use Rattle.automata_base.specs.Haystacks.Input.{Input}
 use Rattle.automata_base.specs.Haystacks.Matches.{Match}
-use Rattle.automata_base.specs.Haystacks.Tapes.{Forward}
+use Rattle.automata_base.specs.declared.util.search.Direction.TheVariants.{Forward}
 use Rattle.automata_hybrid.specs.Cache.Caches.{CacheView}
 use Rattle.automata_hybrid.specs.Machines.Machine.{Machine}
 use Rattle.automata_hybrid.specs.Searches.Contracts.{IsHalf, IsSearchEffect}
-use Rattle.automata_hybrid.specs.Searches.Passes.{IsRefused}
+use Rattle.automata_hybrid.specs.Searches.Passes.{IsFound, IsRefused, WithoutBase}
 use Rattle.regex_automata.specs.Tokens.{HasLearnedAt, IsGivenAt, LeavesAt, asked, match_of}
 use Rattle.automata_hybrid.proofs.Searches.PassState.{if_err}
 use Rattle.regex_automata.proofs.Spans.Costs.{cost_anchored}
@@ -24,8 +24,9 @@ returns-in_err-token-clause-item c =
     let offset = c.args.offset in
     let found = c.try_search_fwd-found.result in
     let returned =
-    subst (λ i. IsHalf Forward m i found) c.asked-input.ensures
-    (subst (λ n. IsHalf Forward n c.asked-input.result found) c.forward-dfa.ensures c.try_search_fwd-found.ensures.half) in
+    subst (λ i. IsHalf Forward m i found × IfOk found (WithoutBase (IsFound Forward m i))) c.asked-input.ensures
+    (subst (λ n. IsHalf Forward n c.asked-input.result found × IfOk found (WithoutBase (IsFound Forward n c.asked-input.result))) c.forward-dfa.ensures
+    (c.try_search_fwd-found.ensures.half, c.try_search_fwd-found.ensures.found)) in
     let errors =
     subst (λ i. IfErr found (IsRefused Forward m store i)) c.asked-input.ensures
     (subst (λ n. IfErr found (IsRefused Forward n store c.asked-input.result)) c.forward-dfa.ensures c.try_search_fwd-found.ensures.refusal) in
@@ -40,8 +41,9 @@ returns-clause-item c =
     let found = c.try_search_fwd-found.result in
     let token = c.in_ok-token.token in
     let returned =
-    subst (λ i. IsHalf Forward m i found) c.asked-input.ensures
-    (subst (λ n. IsHalf Forward n c.asked-input.result found) c.forward-dfa.ensures c.try_search_fwd-found.ensures.half) in
+    subst (λ i. IsHalf Forward m i found × IfOk found (WithoutBase (IsFound Forward m i))) c.asked-input.ensures
+    (subst (λ n. IsHalf Forward n c.asked-input.result found × IfOk found (WithoutBase (IsFound Forward n c.asked-input.result))) c.forward-dfa.ensures
+    (c.try_search_fwd-found.ensures.half, c.try_search_fwd-found.ensures.found)) in
     let same : match_of c.new.result ≡ token =
     c.new.ensures.found
     ∙ match_is _ token c.pattern.ensures c.span.ensures.start c.span.ensures.end in

@@ -1,6 +1,6 @@
 use Rattle.std.proofs.Common.{rules, ◌≡◌, ◌∙◌, Some, None, inl, inr, refl, sym, ap, subst, arith}
 use Rattle.automata_base.specs.Haystacks.Input.{Input}
-use Rattle.automata_base.specs.Haystacks.Tapes.{Backward}
+use Rattle.automata_base.specs.declared.util.search.Direction.TheVariants.{Backward}
 use Rattle.automata_hybrid.specs.Searches.Cached.{Knows}
 use Rattle.automata_hybrid.specs.Machines.StartSlots.{supports}
 use Rattle.automata_hybrid.specs.Searches.Progress.{EndsProgress, LeavesProgress}
@@ -83,7 +83,7 @@ returns-in-Some-clause-of c = c.try_search_rev.ensures.of
 
 pub returns-in-Some-clause-found : goal.returns-in-Some-clause-found
 returns-in-Some-clause-found c =
-    let s = back_some c.args.self.now.reverse c.backward-rest.result c.in_ok-found.field-0 c.in-Some.found c.in_ok-found.ensures.half.found c.in-Some.is in
+    let s = back_some c.args.self.now.reverse c.backward-rest.result c.in_ok-found.field-0 c.in-Some.found c.in_ok-found.ensures.found c.in-Some.is in
     inr (
       c.is_short-short.ensures.no c.if-short.false,
       (s.0, subst (λ (i : Input). IsFound Backward c.args.self.now.reverse i (Some s.0)) c.backward-rest.ensures s.1, c.offset.ensures ∙ s.2),
@@ -120,7 +120,7 @@ pub returns-in-None-clause-found : goal.returns-in-None-clause-found
 returns-in-None-clause-found c = (
   c.is_short-short.ensures.no c.if-short.false,
   subst (λ (i : Input). IsFound Backward c.args.self.now.reverse i None) c.backward-rest.ensures
-      (back_none c.args.self.now.reverse c.backward-rest.result c.in_ok-found.field-0 c.in_ok-found.ensures.half.found c.in-None.is),
+      (back_none c.args.self.now.reverse c.backward-rest.result c.in_ok-found.field-0 c.in_ok-found.ensures.found c.in-None.is),
 )
 
 pub returns-in-None-clause-effect : goal.returns-in-None-clause-effect

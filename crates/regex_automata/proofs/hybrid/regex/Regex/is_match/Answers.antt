@@ -3,7 +3,8 @@ use Rattle.std.specs.Prelude.{Result, Ok, Err, is_some}
 use Rattle.automata_base.specs.Haystacks.Input.{Input}
 use Rattle.automata_base.specs.Haystacks.Matches.{HalfMatch}
 use Rattle.automata_base.specs.Nfas.Nodes.{Automaton}
-use Rattle.automata_base.specs.Haystacks.Tapes.{Forward, byte_before}
+use Rattle.automata_base.specs.Haystacks.Tapes.{byte_before}
+use Rattle.automata_base.specs.declared.util.search.Direction.TheVariants.{Forward}
 use Rattle.automata_base.specs.declared.util.search.MatchErrorKind.TheVariants.{UnsupportedAnchored as UnsupportedMode}
 use Rattle.automata_base.specs.Answers.OfPasses.{ReportedIsRight}
 use Rattle.automata_config.specs.declared.error.SearchError.{SearchError}
@@ -17,7 +18,7 @@ use Rattle.automata_hybrid.proofs.Searches.PassState.{if_err}
 use Rattle.regex_automata.proofs.Spans.Costs.{cache_of}
 use Rattle.regex_automata.proofs.Spans.Truths.{asked_from, asked_to, match_right, same_asked, truth_found, truth_nearest}
 use Rattle.regex_automata.proofs.Spans.Truths.{truth_reported}
-use Rattle.regex_automata.proofs.Replies.Contracts.{may_refuse_truth, truth_returned}
+use Rattle.regex_automata.proofs.Replies.Contracts.{truth_returned}
 use Rattle.regex_automata.proofs.Results.{err_ok, if_ok, is_err, ok_err, on_ok, same_err, same_ok}
 use Rattle.regex_automata.proofs.hybrid.regex.Regex.is_match.Goals as goal
 
@@ -32,12 +33,8 @@ returns-in_err-found-clause-refusal c =
 pub returns-in_err-found-clause-returned : goal.returns-in_err-found-clause-returned
 returns-in_err-found-clause-returned c =
     truth_returned c.args.self.now c.args.input.now c.from_residual.result
-    (if_ok c.from_residual.result _ _ c.from_residual.ensures.1)
-    (if_ok c.from_residual.result _ _ c.from_residual.ensures.1)
     (λ acyclic. if_ok c.from_residual.result _ _ c.from_residual.ensures.1)
     (λ whole. if_ok c.from_residual.result _ _ c.from_residual.ensures.1)
-    (if_err c.from_residual.result _ _ c.from_residual.ensures.1
-    (may_refuse_truth c.args.self.now.forward c.args.input.now c.asked-asked.result _ c.asked-asked.ensures c.in_err-found.ensures.half.errors))
     (λ ahead behind mode. is_err c.from_residual.result _ c.from_residual.ensures.1 ∙ ap (λ (e : SearchError). Err e) (same_err
     (asked_to (λ (i : Input). i.start ≤ i.end → quit_behind c.args.self.now.forward (byte_before i.haystack i.start) ≡ None → supports c.args.self.now.forward i.anchored ≡ false → ◌≡◌ {A = Result (Option HalfMatch) SearchError} (Err c.in_err-found.field-0.0) (Err (search.Match (UnsupportedMode i.anchored))))
     c.args.self.now.forward c.args.input.now c.asked-asked.result c.asked-asked.ensures (λ x. x) (λ x. x) (λ undone clear mode. c.in_err-found.ensures.half.unsupported (record { undone = undone; behind = clear; mode = mode })) ahead behind mode)))
@@ -68,13 +65,10 @@ returns-clause-of c =
 
 pub returns-clause-returned : goal.returns-clause-returned
 returns-clause-returned c =
-    let reported = truth_reported c.args.self.now.forward c.args.input.now c.asked-asked.result c.asked-asked.ensures c.in_ok-found.found c.is_some.result c.in_ok-found.ensures.half.found c.is_some.ensures in
+    let reported = truth_reported c.args.self.now.forward c.args.input.now c.asked-asked.result c.asked-asked.ensures c.in_ok-found.found c.is_some.result c.in_ok-found.ensures.found c.is_some.ensures in
     truth_returned c.args.self.now c.args.input.now (Ok c.is_some.result)
-    (truth_found c.args.self.now.forward c.args.input.now c.asked-asked.result c.asked-asked.ensures c.in_ok-found.found c.is_some.result c.in_ok-found.ensures.half.found c.is_some.ensures)
-    reported
-    (λ acyclic. match_right c.args.self.now.forward (subst (λ (a : Automaton). ReportedIsRight a) c.get_nfa.ensures c.reported_is_right.ensures.answer) c.args.input.now c.is_some.result acyclic (c.haystack-haystack.ensures.bytes, c.haystack-haystack.ensures.within.1) (truth_reported c.args.self.now.forward c.args.input.now c.asked-asked.result c.asked-asked.ensures c.in_ok-found.found c.is_some.result c.in_ok-found.ensures.half.found c.is_some.ensures))
+    (λ acyclic. match_right c.args.self.now.forward (subst (λ (a : Automaton). ReportedIsRight a) c.get_nfa.ensures c.reported_is_right.ensures.answer) c.args.input.now c.is_some.result acyclic (c.haystack-haystack.ensures.bytes, c.haystack-haystack.ensures.within.1) (truth_reported c.args.self.now.forward c.args.input.now c.asked-asked.result c.asked-asked.ensures c.in_ok-found.found c.is_some.result c.in_ok-found.ensures.found c.is_some.ensures))
     (truth_nearest c.args.self.now.forward c.args.input.now c.asked-asked.result c.asked-asked.ensures c.in_ok-found.found c.is_some.result c.in_ok-found.ensures.half.nearest c.is_some.ensures)
-    tt
     (λ ahead behind mode. absurd (ok_err
     (asked_to (λ (i : Input). i.start ≤ i.end → quit_behind c.args.self.now.forward (byte_before i.haystack i.start) ≡ None → supports c.args.self.now.forward i.anchored ≡ false → ◌≡◌ {A = Result (Option HalfMatch) SearchError} (Ok c.in_ok-found.found) (Err (search.Match (UnsupportedMode i.anchored))))
     c.args.self.now.forward c.args.input.now c.asked-asked.result c.asked-asked.ensures (λ x. x) (λ x. x) (λ undone clear mode. c.in_ok-found.ensures.half.unsupported (record { undone = undone; behind = clear; mode = mode })) ahead behind mode)))
@@ -82,6 +76,16 @@ returns-clause-returned c =
     (λ past.
     let past' = asked_from (λ (i : Input). i.end < i.start) c.args.self.now.forward c.args.input.now c.asked-asked.result c.asked-asked.ensures past past in
     ap (λ (b : Bool). Ok b) (c.is_some.ensures ∙ ap is_some (same_ok (c.in_ok-found.ensures.half.done past'))))
+
+pub returns-in_err-found-clause-found : goal.returns-in_err-found-clause-found
+returns-in_err-found-clause-found c =
+    if_ok c.from_residual.result _ _ c.from_residual.ensures.1
+
+pub returns-clause-found : goal.returns-clause-found
+returns-clause-found c = record {
+  found = truth_found c.args.self.now.forward c.args.input.now c.asked-asked.result c.asked-asked.ensures c.in_ok-found.found c.is_some.result c.in_ok-found.ensures.found c.is_some.ensures;
+  reported = truth_reported c.args.self.now.forward c.args.input.now c.asked-asked.result c.asked-asked.ensures c.in_ok-found.found c.is_some.result c.in_ok-found.ensures.found c.is_some.ensures;
+}
 
 pub returns-clause-effect : goal.returns-clause-effect
 returns-clause-effect c =

@@ -28,7 +28,7 @@ pub returns-in_err-found-clause-ahead : goal.returns-in_err-found-clause-ahead
 returns-in_err-found-clause-ahead c =
     on_err c.from_residual.result _
     (ahead_of c.try_search.result c.in_err-found.field-0.0 None c.args.input.now.start c.args.input.now.end
-    c.try_search.ensures.returned.reported.done c.in_err-found.was)
+    c.try_search.ensures.returned.done c.in_err-found.was)
 
 pub returns-in_err-found-clause-effect : goal.returns-in_err-found-clause-effect
 returns-in_err-found-clause-effect c = record {
@@ -42,7 +42,7 @@ returns-in_err-found-clause-effect c = record {
 
 pub returns-in_default-clause-next : goal.returns-in_default-clause-next
 returns-in_default-clause-next c =
-    inl (subst (FindsMatch c.args.self.now c.args.input.now) c.in_default.is c.in_ok-found.ensures.returned.reported.found)
+    inl (subst (FindsMatch c.args.self.now c.args.input.now) c.in_default.is c.in_ok-found.ensures.found)
 
 pub returns-in_default-clause-effect : goal.returns-in_default-clause-effect
 returns-in_default-clause-effect c = record {
@@ -50,11 +50,11 @@ returns-in_default-clause-effect c = record {
   grown = search rules;
   learned = λ nothing. alone c.args.self.now c.args.input.now c.args.last c.try_search.new.cache (c.in_ok-found.ensures.effect.learned nothing)
       (stands_none c.matches_agree.ensures c.args.self.now c.args.input.now c.args.last
-      (subst (FindsMatch c.args.self.now c.args.input.now) c.in_default.is c.in_ok-found.ensures.returned.reported.found));
+      (subst (FindsMatch c.args.self.now c.args.input.now) c.in_default.is c.in_ok-found.ensures.found));
   known = λ knows. ((c.in_ok-found.ensures.effect.known knows.0).0, tt);
   ended = inl (
     stands_none c.matches_agree.ensures c.args.self.now c.args.input.now c.args.last
-        (subst (FindsMatch c.args.self.now c.args.input.now) c.in_default.is c.in_ok-found.ensures.returned.reported.found),
+        (subst (FindsMatch c.args.self.now c.args.input.now) c.in_default.is c.in_ok-found.ensures.found),
     subst (EndsSpan c.args.self.now c.args.input.now c.args.cache.now c.try_search.new.cache) c.in_default.is c.in_ok-found.ensures.effect.ended,
   );
   left = search rules;
@@ -62,12 +62,12 @@ returns-in_default-clause-effect c = record {
 
 pub returns-then-not-is_empty_at-clause-next : goal.returns-then-not-is_empty_at-clause-next
 returns-then-not-is_empty_at-clause-next c =
-    inl (subst (FindsMatch c.args.self.now c.args.input.now) c.in-Some.is c.in_ok-found.ensures.returned.reported.found, c.if-not-is_empty_at.ensures.no refl)
+    inl (subst (FindsMatch c.args.self.now c.args.input.now) c.in-Some.is c.in_ok-found.ensures.found, c.if-not-is_empty_at.ensures.no refl)
 
 pub returns-then-not-is_empty_at-clause-goes_on : goal.returns-then-not-is_empty_at-clause-goes_on
 returns-then-not-is_empty_at-clause-goes_on c =
     goes_first c.args.self.now c.args.input.now c.args.last c.in-Some.found
-    (some_of c.in_ok-found.field-0 c.in-Some.found (MatchLiesIn c.args.self.now c.args.input.now) c.in_ok-found.ensures.returned.reported.within c.in-Some.is) (c.if-not-is_empty_at.ensures.no refl)
+    (some_of c.in_ok-found.field-0 c.in-Some.found (MatchLiesIn c.args.self.now c.args.input.now) c.in_ok-found.ensures.returned.within c.in-Some.is) (c.if-not-is_empty_at.ensures.no refl)
 
 pub returns-then-not-is_empty_at-clause-effect : goal.returns-then-not-is_empty_at-clause-effect
 returns-then-not-is_empty_at-clause-effect c = record {
@@ -75,11 +75,11 @@ returns-then-not-is_empty_at-clause-effect c = record {
   grown = search rules;
   learned = λ nothing. alone c.args.self.now c.args.input.now c.args.last c.try_search.new.cache (c.in_ok-found.ensures.effect.learned nothing)
       (stands_some c.matches_agree.ensures c.args.self.now c.args.input.now c.args.last c.in-Some.found
-      (subst (FindsMatch c.args.self.now c.args.input.now) c.in-Some.is c.in_ok-found.ensures.returned.reported.found) (c.if-not-is_empty_at.ensures.no refl));
+      (subst (FindsMatch c.args.self.now c.args.input.now) c.in-Some.is c.in_ok-found.ensures.found) (c.if-not-is_empty_at.ensures.no refl));
   known = λ knows. ((c.in_ok-found.ensures.effect.known knows.0).0, tt);
   ended = inl (
     stands_some c.matches_agree.ensures c.args.self.now c.args.input.now c.args.last c.in-Some.found
-        (subst (FindsMatch c.args.self.now c.args.input.now) c.in-Some.is c.in_ok-found.ensures.returned.reported.found) (c.if-not-is_empty_at.ensures.no refl),
+        (subst (FindsMatch c.args.self.now c.args.input.now) c.in-Some.is c.in_ok-found.ensures.found) (c.if-not-is_empty_at.ensures.no refl),
     subst (EndsSpan c.args.self.now c.args.input.now c.args.cache.now c.try_search.new.cache) c.in-Some.is c.in_ok-found.ensures.effect.ended,
   );
   left = search rules;
@@ -87,34 +87,34 @@ returns-then-not-is_empty_at-clause-effect c = record {
 
 pub overflow_add-start : goal.overflow_add-start
 overflow_add-start c =
-    let lies = some_of c.in_ok-found.field-0 c.in-Some.found (MatchLiesIn c.args.self.now c.args.input.now) c.in_ok-found.ensures.returned.reported.within c.in-Some.is in
+    let lies = some_of c.in_ok-found.field-0 c.in-Some.found (MatchLiesIn c.args.self.now c.args.input.now) c.in_ok-found.ensures.returned.within c.in-Some.is in
     let few = c.haystack-haystack.ensures.within.1 in
     omega (arith, lies.0, lies.1, lies.2, few, c.haystack-haystack.ensures.bound, c.start.ensures.start)
 
 pub from-rest-requires : goal.from-rest-requires
 from-rest-requires c =
-    let lies = some_of c.in_ok-found.field-0 c.in-Some.found (MatchLiesIn c.args.self.now c.args.input.now) c.in_ok-found.ensures.returned.reported.within c.in-Some.is in
+    let lies = some_of c.in_ok-found.field-0 c.in-Some.found (MatchLiesIn c.args.self.now c.args.input.now) c.in_ok-found.ensures.returned.within c.in-Some.is in
     let few = c.haystack-haystack.ensures.within.1 in
     (omega (arith, lies.0, lies.1, lies.2, c.start.ensures.start), few)
 
 pub returns-clause-next : goal.returns-clause-next
 returns-clause-next c =
-    let found = subst (FindsMatch c.args.self.now c.args.input.now) c.in-Some.is c.in_ok-found.ensures.returned.reported.found in
+    let found = subst (FindsMatch c.args.self.now c.args.input.now) c.in-Some.is c.in_ok-found.ensures.found in
     let place : c.start.result + 1 ≡ suc c.args.input.now.start = omega (arith, c.start.ensures.start) in
     let rest : c.from-rest.result ≡ from (suc c.args.input.now.start) c.args.input.now = c.from-rest.ensures ∙ ap (λ n. from n c.args.input.now) place in
     next_later c.args.self.now c.args.input.now c.args.last c.in-Some.found found (c.if-not-is_empty_at.ensures.yes refl) c.try_search-2.result
-    (subst (λ (i : Input). IfOk c.try_search-2.result (FindsMatch c.args.self.now i)) rest c.try_search-2.ensures.returned.reported.found)
+    (subst (λ (i : Input). IfOk c.try_search-2.result (FindsMatch c.args.self.now i)) rest c.try_search-2.ensures.found)
 
 pub returns-clause-goes_on : goal.returns-clause-goes_on
 returns-clause-goes_on c =
     let place : c.start.result + 1 ≡ suc c.args.input.now.start = omega (arith, c.start.ensures.start) in
     let rest : c.from-rest.result ≡ from (suc c.args.input.now.start) c.args.input.now = c.from-rest.ensures ∙ ap (λ n. from n c.args.input.now) place in
     goes_later c.args.self.now c.args.input.now c.args.last c.try_search-2.result
-    (subst (λ (i : Input). IfOk c.try_search-2.result (λ o. IfSome o (MatchLiesIn c.args.self.now i))) rest c.try_search-2.ensures.returned.reported.within)
+    (subst (λ (i : Input). IfOk c.try_search-2.result (λ o. IfSome o (MatchLiesIn c.args.self.now i))) rest c.try_search-2.ensures.returned.within)
 
 pub returns-clause-refusal : goal.returns-clause-refusal
 returns-clause-refusal c =
-    let found = subst (FindsMatch c.args.self.now c.args.input.now) c.in-Some.is c.in_ok-found.ensures.returned.reported.found in
+    let found = subst (FindsMatch c.args.self.now c.args.input.now) c.in-Some.is c.in_ok-found.ensures.found in
     let place : c.start.result + 1 ≡ suc c.args.input.now.start = omega (arith, c.start.ensures.start) in
     let rest : c.from-rest.result ≡ from (suc c.args.input.now.start) c.args.input.now = c.from-rest.ensures ∙ ap (λ n. from n c.args.input.now) place in
     refused_later c.args.self.now c.args.input.now c.args.last c.in-Some.found found (c.if-not-is_empty_at.ensures.yes refl) c.try_search-2.new.cache c.try_search-2.result
@@ -122,14 +122,14 @@ returns-clause-refusal c =
 
 pub returns-clause-ahead : goal.returns-clause-ahead
 returns-clause-ahead c =
-    let lies = some_of c.in_ok-found.field-0 c.in-Some.found (MatchLiesIn c.args.self.now c.args.input.now) c.in_ok-found.ensures.returned.reported.within c.in-Some.is in
+    let lies = some_of c.in_ok-found.field-0 c.in-Some.found (MatchLiesIn c.args.self.now c.args.input.now) c.in_ok-found.ensures.returned.within c.in-Some.is in
     on_err c.try_search-2.result _ (omega (arith, lies.0, lies.1, lies.2))
 
 pub returns-clause-effect : goal.returns-clause-effect
 returns-clause-effect c = record {
   cost = let place : c.start.result + 1 ≡ suc c.args.input.now.start = omega (arith, c.start.ensures.start) in
       let rest : c.from-rest.result ≡ from (suc c.args.input.now.start) c.args.input.now = c.from-rest.ensures ∙ ap (λ n. from n c.args.input.now) place in
-      let found = subst (FindsMatch c.args.self.now c.args.input.now) c.in-Some.is c.in_ok-found.ensures.returned.reported.found in
+      let found = subst (FindsMatch c.args.self.now c.args.input.now) c.in-Some.is c.in_ok-found.ensures.found in
       costs_twice c.args.self.now c.args.input.now c.from-rest.result c.args.last c.args.cache.now c.try_search.new.cache c.try_search-2.new.cache rest
       (c.in-Some.found, found, c.if-not-is_empty_at.ensures.yes refl) c.try_search.ensures.effect.cost c.try_search-2.ensures.effect.cost;
   grown = grown_twice c.args.cache.now c.try_search.new.cache c.try_search-2.new.cache c.try_search.ensures.effect.grown c.try_search-2.ensures.effect.grown;
@@ -145,12 +145,12 @@ returns-clause-effect c = record {
       (c.try_search-2.ensures.effect.learned second));
   known = let place : c.start.result + 1 ≡ suc c.args.input.now.start = omega (arith, c.start.ensures.start) in
       let rest : c.from-rest.result ≡ from (suc c.args.input.now.start) c.args.input.now = c.from-rest.ensures ∙ ap (λ n. from n c.args.input.now) place in
-      let found = subst (FindsMatch c.args.self.now c.args.input.now) c.in-Some.is c.in_ok-found.ensures.returned.reported.found in
+      let found = subst (FindsMatch c.args.self.now c.args.input.now) c.in-Some.is c.in_ok-found.ensures.found in
       λ knows. next_known c.args.self.now c.args.input.now c.from-rest.result c.args.last c.args.cache.now c.try_search.new.cache c.try_search-2.new.cache c.try_search-2.result
       c.in-Some.found rest found (c.if-not-is_empty_at.ensures.yes refl) knows (c.in_ok-found.ensures.effect.known knows.0).0 c.try_search-2.ensures.effect.known;
   ended = let place : c.start.result + 1 ≡ suc c.args.input.now.start = omega (arith, c.start.ensures.start) in
       let rest : c.from-rest.result ≡ from (suc c.args.input.now.start) c.args.input.now = c.from-rest.ensures ∙ ap (λ n. from n c.args.input.now) place in
-      let found = subst (FindsMatch c.args.self.now c.args.input.now) c.in-Some.is c.in_ok-found.ensures.returned.reported.found in
+      let found = subst (FindsMatch c.args.self.now c.args.input.now) c.in-Some.is c.in_ok-found.ensures.found in
       ends_later c.args.self.now c.args.input.now c.from-rest.result c.args.last c.args.cache.now c.try_search.new.cache c.try_search-2.new.cache rest (
         c.in-Some.found,
         found,
@@ -160,7 +160,7 @@ returns-clause-effect c = record {
       c.try_search-2.result c.try_search-2.ensures.effect.ended;
   left = let place : c.start.result + 1 ≡ suc c.args.input.now.start = omega (arith, c.start.ensures.start) in
       let rest : c.from-rest.result ≡ from (suc c.args.input.now.start) c.args.input.now = c.from-rest.ensures ∙ ap (λ n. from n c.args.input.now) place in
-      let found = subst (FindsMatch c.args.self.now c.args.input.now) c.in-Some.is c.in_ok-found.ensures.returned.reported.found in
+      let found = subst (FindsMatch c.args.self.now c.args.input.now) c.in-Some.is c.in_ok-found.ensures.found in
       leaves_later c.args.self.now c.args.input.now c.from-rest.result c.args.last c.args.cache.now c.try_search.new.cache c.try_search-2.new.cache rest (
         c.in-Some.found,
         found,
@@ -173,13 +173,13 @@ returns-clause-effect c = record {
 pub returns-in_err-found-clause-unsupported : goal.returns-in_err-found-clause-unsupported
 returns-in_err-found-clause-unsupported c =
     λ u. is_err c.from_residual.result _ c.from_residual.ensures.1
-    ∙ ap (λ (e : SearchError). Err e) (same_err (c.in_err-found.ensures.returned.reported.unsupported u))
+    ∙ ap (λ (e : SearchError). Err e) (same_err (c.in_err-found.ensures.returned.unsupported u))
 
 pub returns-in_default-clause-unsupported : goal.returns-in_default-clause-unsupported
-returns-in_default-clause-unsupported c = λ u. absurd (ok_err (c.in_ok-found.ensures.returned.reported.unsupported u))
+returns-in_default-clause-unsupported c = λ u. absurd (ok_err (c.in_ok-found.ensures.returned.unsupported u))
 
 pub returns-then-not-is_empty_at-clause-unsupported : goal.returns-then-not-is_empty_at-clause-unsupported
-returns-then-not-is_empty_at-clause-unsupported c = λ u. absurd (ok_err (c.in_ok-found.ensures.returned.reported.unsupported u))
+returns-then-not-is_empty_at-clause-unsupported c = λ u. absurd (ok_err (c.in_ok-found.ensures.returned.unsupported u))
 
 pub returns-clause-unsupported : goal.returns-clause-unsupported
-returns-clause-unsupported c = λ u. absurd (ok_err (c.in_ok-found.ensures.returned.reported.unsupported u))
+returns-clause-unsupported c = λ u. absurd (ok_err (c.in_ok-found.ensures.returned.unsupported u))

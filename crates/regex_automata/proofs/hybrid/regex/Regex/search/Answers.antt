@@ -51,7 +51,7 @@ returns-in_default-clause-of c =
 
 pub returns-in_default-clause-reported : goal.returns-in_default-clause-reported
 returns-in_default-clause-reported c = record {
-  found = front_none c.args.self.now.forward c.args.input.now c.in_ok-front.field-0 c.in_ok-front.ensures.based.found c.in_default.is;
+  found = front_none c.args.self.now.forward c.args.input.now c.in_ok-front.field-0 c.in_ok-front.ensures.found c.in_default.is;
   within = search rules;
   unsupported = λ u. absurd (ok_err (c.in_ok-front.ensures.based.unsupported u));
   free = search rules;
@@ -62,7 +62,7 @@ pub returns-in_default-clause-effect : goal.returns-in_default-clause-effect
 returns-in_default-clause-effect c = record {
   cost = (c.try_search_fwd_base.ensures.effect.cost, inl refl);
   grown = (c.try_search_fwd_base.ensures.effect.grown, grown_same c.args.cache.now.reverse c.args.cache.now.reverse refl);
-  learned = λ nothing. knows_front c.answers_agree.ensures c.args.self.now c.args.input.now (record { forward = c.try_search_fwd_base.new.cache; reverse = c.args.cache.now.reverse }) (c.in_ok-front.ensures.effect.learned nothing.0) (front_none c.args.self.now.forward c.args.input.now c.in_ok-front.field-0 c.in_ok-front.ensures.based.found c.in_default.is);
+  learned = λ nothing. knows_front c.answers_agree.ensures c.args.self.now c.args.input.now (record { forward = c.try_search_fwd_base.new.cache; reverse = c.args.cache.now.reverse }) (c.in_ok-front.ensures.effect.learned nothing.0) (front_none c.args.self.now.forward c.args.input.now c.in_ok-front.field-0 c.in_ok-front.ensures.found c.in_default.is);
   known = λ knows. (let known = c.in_ok-front.ensures.effect.known knows.0 in ((known.0, (refl, refl)), tt));
   ended = (c.in_ok-front.ensures.effect.ended, refl);
   left = search rules;
@@ -92,7 +92,7 @@ returns-in_err-start-clause-reported c = record {
 
 pub returns-in_err-start-clause-refusal : goal.returns-in_err-start-clause-refusal
 returns-in_err-start-clause-refusal c =
-    if_err c.from_residual-in_err-start.result _ _ c.from_residual-in_err-start.ensures.1 (inr (inl ((with_base c.in-Some.front.0 c.in-Some.front.1), (front_some c.args.self.now.forward c.args.input.now c.in_ok-front.field-0 c.in-Some.front.0 c.in-Some.front.1 c.in_ok-front.ensures.based.found c.in-Some.is), c.in_err-start.ensures.refusal)))
+    if_err c.from_residual-in_err-start.result _ _ c.from_residual-in_err-start.ensures.1 (inr (inl ((with_base c.in-Some.front.0 c.in-Some.front.1), (front_some c.args.self.now.forward c.args.input.now c.in_ok-front.field-0 c.in-Some.front.0 c.in-Some.front.1 c.in_ok-front.ensures.found c.in-Some.is), c.in_err-start.ensures.refusal)))
 
 pub returns-in_err-start-clause-effect : goal.returns-in_err-start-clause-effect
 returns-in_err-start-clause-effect c = record {
@@ -100,16 +100,16 @@ returns-in_err-start-clause-effect c = record {
     c.try_search_fwd_base.ensures.effect.cost,
     inr (
       with_base c.in-Some.front.0 c.in-Some.front.1,
-      front_some c.args.self.now.forward c.args.input.now c.in_ok-front.field-0 c.in-Some.front.0 c.in-Some.front.1 c.in_ok-front.ensures.based.found c.in-Some.is,
+      front_some c.args.self.now.forward c.args.input.now c.in_ok-front.field-0 c.in-Some.front.0 c.in-Some.front.1 c.in_ok-front.ensures.found c.in-Some.is,
       c.find_start.ensures.effect.cost,
     ),
   );
   grown = (c.try_search_fwd_base.ensures.effect.grown, c.find_start.ensures.effect.grown);
   learned = λ nothing. on_ok c.from_residual-in_err-start.result _ _ c.from_residual-in_err-start.ensures.1;
-  known = λ knows. (let first = c.in_ok-front.ensures.effect.known knows.0 in let second = c.in_err-start.ensures.effect.known (knows.1 (with_base c.in-Some.front.0 c.in-Some.front.1) (front_some c.args.self.now.forward c.args.input.now c.in_ok-front.field-0 c.in-Some.front.0 c.in-Some.front.1 c.in_ok-front.ensures.based.found c.in-Some.is)) in ((first.0, second.0), if_err c.from_residual-in_err-start.result _ _ c.from_residual-in_err-start.ensures.1 (inl second.1)));
+  known = λ knows. (let first = c.in_ok-front.ensures.effect.known knows.0 in let second = c.in_err-start.ensures.effect.known (knows.1 (with_base c.in-Some.front.0 c.in-Some.front.1) (front_some c.args.self.now.forward c.args.input.now c.in_ok-front.field-0 c.in-Some.front.0 c.in-Some.front.1 c.in_ok-front.ensures.found c.in-Some.is)) in ((first.0, second.0), if_err c.from_residual-in_err-start.result _ _ c.from_residual-in_err-start.ensures.1 (inl second.1)));
   ended = if_ok c.from_residual-in_err-start.result _ _ c.from_residual-in_err-start.ensures.1;
   left = if_err c.from_residual-in_err-start.result _ _ c.from_residual-in_err-start.ensures.1
-      (inr (c.in_ok-front.ensures.effect.ended, ((with_base c.in-Some.front.0 c.in-Some.front.1), (front_some c.args.self.now.forward c.args.input.now c.in_ok-front.field-0 c.in-Some.front.0 c.in-Some.front.1 c.in_ok-front.ensures.based.found c.in-Some.is), inl c.in_err-start.ensures.effect.left)));
+      (inr (c.in_ok-front.ensures.effect.ended, ((with_base c.in-Some.front.0 c.in-Some.front.1), (front_some c.args.self.now.forward c.args.input.now c.in_ok-front.field-0 c.in-Some.front.0 c.in-Some.front.1 c.in_ok-front.ensures.found c.in-Some.is), inl c.in_err-start.ensures.effect.left)));
   done = λ past. absurd (some_none (sym c.in-Some.is ∙ same_ok (c.in_ok-front.ensures.based.done past)));
 }
 
@@ -119,7 +119,7 @@ returns-in_default-2-clause-of c =
 
 pub returns-in_default-2-clause-refusal : goal.returns-in_default-2-clause-refusal
 returns-in_default-2-clause-refusal c =
-    inr (inr (refl, ((with_base c.in-Some.front.0 c.in-Some.front.1), (front_some c.args.self.now.forward c.args.input.now c.in_ok-front.field-0 c.in-Some.front.0 c.in-Some.front.1 c.in_ok-front.ensures.based.found c.in-Some.is), subst (IsStartFound c.args.self.now c.args.input.now (with_base c.in-Some.front.0 c.in-Some.front.1)) c.in_default-2.is c.in_ok-start.ensures.found)))
+    inr (inr (refl, ((with_base c.in-Some.front.0 c.in-Some.front.1), (front_some c.args.self.now.forward c.args.input.now c.in_ok-front.field-0 c.in-Some.front.0 c.in-Some.front.1 c.in_ok-front.ensures.found c.in-Some.is), subst (IsStartFound c.args.self.now c.args.input.now (with_base c.in-Some.front.0 c.in-Some.front.1)) c.in_default-2.is c.in_ok-start.ensures.found)))
 
 pub returns-in_default-2-clause-reported : goal.returns-in_default-2-clause-reported
 returns-in_default-2-clause-reported c = record {
@@ -136,15 +136,15 @@ returns-in_default-2-clause-effect c = record {
     c.try_search_fwd_base.ensures.effect.cost,
     inr (
       with_base c.in-Some.front.0 c.in-Some.front.1,
-      front_some c.args.self.now.forward c.args.input.now c.in_ok-front.field-0 c.in-Some.front.0 c.in-Some.front.1 c.in_ok-front.ensures.based.found c.in-Some.is,
+      front_some c.args.self.now.forward c.args.input.now c.in_ok-front.field-0 c.in-Some.front.0 c.in-Some.front.1 c.in_ok-front.ensures.found c.in-Some.is,
       c.find_start.ensures.effect.cost,
     ),
   );
   grown = (c.try_search_fwd_base.ensures.effect.grown, c.find_start.ensures.effect.grown);
   learned = search rules;
-  known = λ knows. (let first = c.in_ok-front.ensures.effect.known knows.0 in let second = c.in_ok-start.ensures.effect.known (knows.1 (with_base c.in-Some.front.0 c.in-Some.front.1) (front_some c.args.self.now.forward c.args.input.now c.in_ok-front.field-0 c.in-Some.front.0 c.in-Some.front.1 c.in_ok-front.ensures.based.found c.in-Some.is)) in ((first.0, second.0), inr refl));
+  known = λ knows. (let first = c.in_ok-front.ensures.effect.known knows.0 in let second = c.in_ok-start.ensures.effect.known (knows.1 (with_base c.in-Some.front.0 c.in-Some.front.1) (front_some c.args.self.now.forward c.args.input.now c.in_ok-front.field-0 c.in-Some.front.0 c.in-Some.front.1 c.in_ok-front.ensures.found c.in-Some.is)) in ((first.0, second.0), inr refl));
   ended = search rules;
-  left = inr (c.in_ok-front.ensures.effect.ended, ((with_base c.in-Some.front.0 c.in-Some.front.1), (front_some c.args.self.now.forward c.args.input.now c.in_ok-front.field-0 c.in-Some.front.0 c.in-Some.front.1 c.in_ok-front.ensures.based.found c.in-Some.is), inr (refl, c.in_ok-start.ensures.effect.ended)));
+  left = inr (c.in_ok-front.ensures.effect.ended, ((with_base c.in-Some.front.0 c.in-Some.front.1), (front_some c.args.self.now.forward c.args.input.now c.in_ok-front.field-0 c.in-Some.front.0 c.in-Some.front.1 c.in_ok-front.ensures.found c.in-Some.is), inr (refl, c.in_ok-start.ensures.effect.ended)));
   done = λ past. absurd (some_none (sym c.in-Some.is ∙ same_ok (c.in_ok-front.ensures.based.done past)));
 }
 
@@ -158,7 +158,7 @@ returns-clause-of c =
 
 pub returns-clause-reported : goal.returns-clause-reported
 returns-clause-reported c = record {
-  found = match_of c.args.self.now c.args.input.now (with_base c.in-Some.front.0 c.in-Some.front.1) c.in-Some-2.start c.offset.result c.pattern.result c.new.result (front_some c.args.self.now.forward c.args.input.now c.in_ok-front.field-0 c.in-Some.front.0 c.in-Some.front.1 c.in_ok-front.ensures.based.found c.in-Some.is) (subst (IsStartFound c.args.self.now c.args.input.now (with_base c.in-Some.front.0 c.in-Some.front.1)) c.in-Some-2.is c.in_ok-start.ensures.found) c.pattern.ensures c.offset.ensures c.new.ensures;
+  found = match_of c.args.self.now c.args.input.now (with_base c.in-Some.front.0 c.in-Some.front.1) c.in-Some-2.start c.offset.result c.pattern.result c.new.result (front_some c.args.self.now.forward c.args.input.now c.in_ok-front.field-0 c.in-Some.front.0 c.in-Some.front.1 c.in_ok-front.ensures.found c.in-Some.is) (subst (IsStartFound c.args.self.now c.args.input.now (with_base c.in-Some.front.0 c.in-Some.front.1)) c.in-Some-2.is c.in_ok-start.ensures.found) c.pattern.ensures c.offset.ensures c.new.ensures;
   within = match_within c.args.self.now c.args.input.now c.in-Some.front.0 c.in-Some.front.1 c.in-Some-2.start c.offset.result c.pattern.result c.new.result (some_of c.in_ok-front.field-0 c.in-Some.front (λ p. LiesPast c.args.self.now.forward c.args.input.now p.0 p.1) c.in_ok-front.ensures.based.within c.in-Some.is)
       (start_within (c.in-Some.front.1) (c.in-Some.front.0.offset) c.in_ok-start.field-0 c.in-Some-2.start c.in_ok-start.ensures.within c.in-Some-2.is) c.pattern.ensures c.offset.ensures c.new.ensures;
   unsupported = λ u. absurd (ok_err (c.in_ok-front.ensures.based.unsupported u));
@@ -172,14 +172,14 @@ returns-clause-effect c = record {
     c.try_search_fwd_base.ensures.effect.cost,
     inr (
       with_base c.in-Some.front.0 c.in-Some.front.1,
-      front_some c.args.self.now.forward c.args.input.now c.in_ok-front.field-0 c.in-Some.front.0 c.in-Some.front.1 c.in_ok-front.ensures.based.found c.in-Some.is,
+      front_some c.args.self.now.forward c.args.input.now c.in_ok-front.field-0 c.in-Some.front.0 c.in-Some.front.1 c.in_ok-front.ensures.found c.in-Some.is,
       c.find_start.ensures.effect.cost,
     ),
   );
   grown = (c.try_search_fwd_base.ensures.effect.grown, c.find_start.ensures.effect.grown);
-  learned = λ nothing. knows_both c.answers_agree.ensures c.args.self.now c.args.input.now (cache_of c.try_search_fwd_base.new.cache c.find_start.new.cache) (with_base c.in-Some.front.0 c.in-Some.front.1) (c.in_ok-front.ensures.effect.learned nothing.0) (front_some c.args.self.now.forward c.args.input.now c.in_ok-front.field-0 c.in-Some.front.0 c.in-Some.front.1 c.in_ok-front.ensures.based.found c.in-Some.is) (c.in_ok-start.ensures.effect.learned nothing.1);
-  known = λ knows. (let first = c.in_ok-front.ensures.effect.known knows.0 in let second = c.in_ok-start.ensures.effect.known (knows.1 (with_base c.in-Some.front.0 c.in-Some.front.1) (front_some c.args.self.now.forward c.args.input.now c.in_ok-front.field-0 c.in-Some.front.0 c.in-Some.front.1 c.in_ok-front.ensures.based.found c.in-Some.is)) in ((first.0, second.0), tt));
-  ended = (c.in_ok-front.ensures.effect.ended, ((with_base c.in-Some.front.0 c.in-Some.front.1), (front_some c.args.self.now.forward c.args.input.now c.in_ok-front.field-0 c.in-Some.front.0 c.in-Some.front.1 c.in_ok-front.ensures.based.found c.in-Some.is), c.in_ok-start.ensures.effect.ended));
+  learned = λ nothing. knows_both c.answers_agree.ensures c.args.self.now c.args.input.now (cache_of c.try_search_fwd_base.new.cache c.find_start.new.cache) (with_base c.in-Some.front.0 c.in-Some.front.1) (c.in_ok-front.ensures.effect.learned nothing.0) (front_some c.args.self.now.forward c.args.input.now c.in_ok-front.field-0 c.in-Some.front.0 c.in-Some.front.1 c.in_ok-front.ensures.found c.in-Some.is) (c.in_ok-start.ensures.effect.learned nothing.1);
+  known = λ knows. (let first = c.in_ok-front.ensures.effect.known knows.0 in let second = c.in_ok-start.ensures.effect.known (knows.1 (with_base c.in-Some.front.0 c.in-Some.front.1) (front_some c.args.self.now.forward c.args.input.now c.in_ok-front.field-0 c.in-Some.front.0 c.in-Some.front.1 c.in_ok-front.ensures.found c.in-Some.is)) in ((first.0, second.0), tt));
+  ended = (c.in_ok-front.ensures.effect.ended, ((with_base c.in-Some.front.0 c.in-Some.front.1), (front_some c.args.self.now.forward c.args.input.now c.in_ok-front.field-0 c.in-Some.front.0 c.in-Some.front.1 c.in_ok-front.ensures.found c.in-Some.is), c.in_ok-start.ensures.effect.ended));
   left = search rules;
   done = λ past. absurd (some_none (sym c.in-Some.is ∙ same_ok (c.in_ok-front.ensures.based.done past)));
 }

@@ -3,34 +3,36 @@ use Rattle.std.proofs.lemmas.Result.{IfOk-weaker}
 use Rattle.automata_base.specs.Nfas.Nodes.{Automaton}
 use Rattle.automata_base.specs.Answers.Spans.{Found}
 use Rattle.automata_base.specs.Answers.OfPasses.{ReportedEndsAreRight, ReportedIsRight}
-use Rattle.regex_automata.proofs.Replies.Contracts.{are_stores, span_returned}
+use Rattle.regex_automata.proofs.Replies.Contracts.{span_returned}
 use Rattle.regex_automata.proofs.Spans.ByPaths.{match_right, outcome_right, refusals}
 use Rattle.regex_automata.proofs.hybrid.regex.Regex.try_search.Goals as goal
 
 pub returns-clause-of : goal.returns-clause-of
-returns-clause-of c = c.search-found.ensures.of
+returns-clause-of c = c.search.ensures.of
 
 pub returns-clause-refusal : goal.returns-clause-refusal
 returns-clause-refusal c =
     let front = subst (λ (a : Automaton). ReportedIsRight a) c.get_nfa.ensures c.reported_is_right.ensures.answer in
     let rear = subst (λ (a : Automaton). ReportedIsRight a) c.get_nfa-2.ensures c.reported_is_right-2.ensures.answer in
     let ends = subst (λ (a : Automaton). ReportedEndsAreRight a) c.get_nfa-2.ensures c.reported_is_right-2.ensures.ends in
-    refusals c.args.self.now front rear ends c.start_is_right.ensures.starts c.start_is_right.ensures.quits c.search-found.new.cache c.args.input.now
-    (c.haystack-haystack.ensures.bytes, c.haystack-haystack.ensures.within.1) c.search-found.result c.search-found.ensures.refusal c.search-found.ensures.reported.free
+    refusals c.args.self.now front rear ends c.start_is_right.ensures.starts c.start_is_right.ensures.quits c.search.new.cache c.args.input.now
+    (c.haystack-haystack.ensures.bytes, c.haystack-haystack.ensures.within.1) c.search.result c.search.ensures.refusal c.search.ensures.reported.free
 
 pub returns-clause-returned : goal.returns-clause-returned
 returns-clause-returned c =
-    let s = c.search-found.ensures in
+    let s = c.search.ensures in
     let front = subst (λ (a : Automaton). ReportedIsRight a) c.get_nfa.ensures c.reported_is_right.ensures.answer in
     let rear = subst (λ (a : Automaton). ReportedIsRight a) c.get_nfa-2.ensures c.reported_is_right-2.ensures.answer in
     let ends = subst (λ (a : Automaton). ReportedEndsAreRight a) c.get_nfa-2.ensures c.reported_is_right-2.ensures.ends in
-    span_returned c.args.self.now c.args.input.now c.search-found.result c.search-found.new.cache
-    (are_stores c.search-found.new.cache c.args.self.now s.of c.see_bounds.ensures.forward c.see_bounds.ensures.reverse)
+    span_returned c.args.self.now c.args.input.now c.search.result c.search.new.cache
     s.reported
-    (λ acyclic. IfOk-weaker c.search-found.result _ _
+    (λ acyclic. IfOk-weaker c.search.result _ _
     (λ o found. outcome_right c.args.self.now front rear c.args.input.now (Found o) acyclic (c.haystack-haystack.ensures.bytes, c.haystack-haystack.ensures.within.1) found)
     s.reported.found)
-    (λ sound. IfOk-weaker c.search-found.result _ _
+    (λ sound. IfOk-weaker c.search.result _ _
     (match_right c.args.self.now front ends c.start_is_right.ensures.starts sound c.args.input.now (c.haystack-haystack.ensures.bytes, c.haystack-haystack.ensures.within.1))
     s.reported.found)
     (returns-clause-refusal c)
+
+pub returns-clause-found : goal.returns-clause-found
+returns-clause-found c = c.search.ensures.reported.found

@@ -1,7 +1,7 @@
 use Rattle.std.proofs.Common.{refl, sym, subst}
 use Rattle.automata_hybrid.specs.Cache.Caches.{CacheView}
 use Rattle.automata_hybrid.specs.Machines.Machine.{Machine}
-use Rattle.regex_automata.specs.Spans.Contracts.{ArePatternsUpto}
+use Rattle.regex_automata.specs.Spans.Contracts.{ArePatternsReported, ArePatternsUpto}
 use Rattle.regex_automata.specs.Replay.Caches.{IsRequestEffect, ArePatternsSearched}
 use Rattle.regex_automata.specs.Replay.Replies.{IsReply}
 use Rattle.regex_automata.specs.declared.hybrid.regex.caches.Cache.{Cache}
@@ -42,8 +42,12 @@ returns-in-Which-clause-made c = λ h a.
     let new : Cache = record { forward = next; reverse = s.cache.reverse } in
     subst (λ (q : Request). IsRequestEffect s.regexes.now h q answer s.cache new) (sym c.in-Which.is)
     (is_made s.regexes.now h (request.Which c.in-Which.capacity c.in-Which.input) s.cache new answer s.regex.now a.regex (
-      subst (λ (m : Machine). ArePatternsSearched m c.in-Which.input c.in-Which.capacity s.cache.forward next found.0.items found.1) c.forward-in-Which.ensures
-          (subst (λ (v : CacheView). ArePatternsSearched c.forward-in-Which.result.now c.in-Which.input c.in-Which.capacity v next found.0.items found.1) c.forward_mut-in-Which.ensures.value c.patterns_below-found.ensures.made),
+      (
+        λ none. subst (λ (m : Machine). ArePatternsReported m c.in-Which.input c.in-Which.capacity found.0.items) c.forward-in-Which.ensures
+            (c.patterns_below-found.ensures.found none),
+        subst (λ (m : Machine). ArePatternsSearched m c.in-Which.input c.in-Which.capacity s.cache.forward next found.0.items found.1) c.forward-in-Which.ensures
+            (subst (λ (v : CacheView). ArePatternsSearched c.forward-in-Which.result.now c.in-Which.input c.in-Which.capacity v next found.0.items found.1) c.forward_mut-in-Which.ensures.value c.patterns_below-found.ensures.made),
+      ),
       refl,
     ))
 
@@ -52,11 +56,11 @@ returns-in-Find-clause-made c = λ h a.
     let s = c.args.self.now in
     let answer = reply.Span c.find.result in
     subst (λ (q : Request). IsRequestEffect s.regexes.now h q answer s.cache c.find.new.cache) (sym c.in-Find.is)
-    (is_made s.regexes.now h (request.Find c.in-Find.input) s.cache c.find.new.cache answer s.regex.now a.regex (c.find.ensures.effect, c.find.ensures.refusal))
+    (is_made s.regexes.now h (request.Find c.in-Find.input) s.cache c.find.new.cache answer s.regex.now a.regex (c.find.ensures.found, c.find.ensures.effect, c.find.ensures.refusal))
 
 pub returns-in-IsMatch-clause-made : goal.returns-in-IsMatch-clause-made
 returns-in-IsMatch-clause-made c = λ h a.
     let s = c.args.self.now in
     let answer = reply.Truth c.is_match.result in
     subst (λ (q : Request). IsRequestEffect s.regexes.now h q answer s.cache c.is_match.new.cache) (sym c.in-IsMatch.is)
-    (is_made s.regexes.now h (request.IsMatch c.in-IsMatch.input) s.cache c.is_match.new.cache answer s.regex.now a.regex (c.is_match.ensures.effect, c.is_match.ensures.refusal))
+    (is_made s.regexes.now h (request.IsMatch c.in-IsMatch.input) s.cache c.is_match.new.cache answer s.regex.now a.regex (c.is_match.ensures.found, c.is_match.ensures.effect, c.is_match.ensures.refusal))
