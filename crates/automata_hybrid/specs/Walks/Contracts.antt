@@ -125,9 +125,9 @@ pub record IsSetReported (m : Machine) (input : Input) (old new : List Bool)
 -- what a call that joins a set returns
 pub record IsWhich (m : Machine) (input : Input) (old new : List Bool)
     (result : Result (Unit {0}) SearchError) : Type 0 where
-  -- if no cycle passes a look, the set is joined with the patterns below its capacity that the ordered paths report
+  -- if the NFA keeps its cycles, the set is joined with the patterns below its capacity that the ordered paths report
   pub paths :
-      IsLookAcyclic (nfa_of m.nfa)
+      KeepsCycles (nfa_of m.nfa)
       → OnOk result (ArePatternsFound (engine_of m.nfa (match_kind_of m.config)) input (length old) (members old)
       (members new))
   pub capacity : length new ≡ length old
