@@ -79,7 +79,7 @@ pub record Finds (found : Found) (input : Input) (s t : Searcher) (status : Stat
   pub result : Result (Option Match) SearchError
   pub told : IsTold (match_of found) result status
   pub returned : IsSpanOf (regex_of s) input result
-  pub found : IfOk result (FindsMatch (regex_of s) input)
+  pub passes : IfOk result (FindsMatch (regex_of s) input)
   pub refusal : IfErr result (IsRegexRefusal (regex_of s) t.cache input)
   pub effect : IsSpanEffect (regex_of s) input s.cache t.cache result
   pub same : t.shared ≡ s.shared
@@ -89,7 +89,7 @@ pub record Tests (input : Input) (s t : Searcher) (status : Status) : Type 0 whe
   pub result : Result Bool SearchError
   pub told : IsTruthTold result status
   pub returned : IsTruthOf (regex_of s) input result
-  pub found : IfOk result (IsTruthReported (regex_of s).forward input)
+  pub passes : IfOk result (IsTruthReported (regex_of s).forward input)
   pub refusal : IfErr result (IsMatchRefused (regex_of s).forward t.cache.forward.store input)
   pub effect : IsTruthEffect (regex_of s) input s.cache t.cache result
   pub same : t.shared ≡ s.shared
@@ -99,7 +99,7 @@ pub record FindsEnd (found : FoundHalf) (input : Input) (s t : Searcher) (status
   pub result : Result (Option HalfMatch) SearchError
   pub told : IsTold (half_of found) result status
   pub returned : IsHalf Forward (regex_of s).forward input result
-  pub found : IfOk result (WithoutBase (IsFound Forward (regex_of s).forward input))
+  pub passes : IfOk result (WithoutBase (IsFound Forward (regex_of s).forward input))
   pub refusal : IfErr result (IsRefused Forward (regex_of s).forward t.cache.forward.store input)
   pub effect : IsSearchEffect Forward (regex_of s).forward input s.cache.forward t.cache.forward result
   pub reverse : t.cache.reverse ≡ s.cache.reverse
@@ -110,7 +110,7 @@ pub record FindsStart (found : FoundHalf) (input : Input) (s t : Searcher) (stat
   pub result : Result (Option HalfMatch) SearchError
   pub told : IsTold (half_of found) result status
   pub returned : IsHalf Backward (regex_of s).reverse input result
-  pub found : IfOk result (WithoutBase (IsFound Backward (regex_of s).reverse input))
+  pub passes : IfOk result (WithoutBase (IsFound Backward (regex_of s).reverse input))
   pub refusal : IfErr result (IsRefused Backward (regex_of s).reverse t.cache.reverse.store input)
   pub effect : IsSearchEffect Backward (regex_of s).reverse input s.cache.reverse t.cache.reverse result
   pub forward : t.cache.forward ≡ s.cache.forward
@@ -179,7 +179,7 @@ pub record Joins (set : List Bool) (input : Input) (s t : Searcher) (status : St
   pub result : Result (Unit {0}) SearchError
   pub told : IsDoneTold result status
   pub returned : IsWhich (regex_of s).forward input set t.patterns result
-  pub found : OnOk result (JoinsReported (regex_of s).forward input set t.patterns)
+  pub passes : OnOk result (JoinsReported (regex_of s).forward input set t.patterns)
   pub refusal :
       IfErr result (IsWhichRefusal (regex_of s).forward t.cache.forward.store input set t.patterns)
   pub effect : IsWhichEffect (regex_of s).forward input set s.cache.forward t.cache.forward result

@@ -248,7 +248,7 @@ impl Cache {
         self.cell_in_row(id, id.offset() as usize, class)
     }
 
-    /// The same, of an ID whose row's offset is known.
+    /// The cell of a row at a class, by the offset of the row; it may not be computed yet.
     #[inline(always)]
     pub(crate) fn cell_in_row(&self, id: LazyStateID, row: usize, class: usize) -> LazyStateID
         requires row { IsRowId self.now.store.table id }
@@ -299,7 +299,8 @@ impl Cache {
         self.clear_and_add_next(dfa, from, state, bytes)
     }
 
-    /// The same where the state does not fit. What a clear needs on the stack is prepared here alone.
+    /// Adds the state that comes next where it does not fit: clears first, and keeps the row that the step is from. What
+    /// a clear needs on the stack is prepared here alone.
     #[inline(never)]
     fn clear_and_add_next(
         &mut self,
@@ -384,7 +385,7 @@ impl Cache {
         self.clear_and_add_start(dfa, state, started, bytes)
     }
 
-    /// The same where the state does not fit.
+    /// Adds a start state where it does not fit: clears first. An error changes nothing.
     #[inline(never)]
     fn clear_and_add_start(
         &mut self,
@@ -407,6 +408,7 @@ impl Cache {
         Ok(id)
     }
 
+    /// The ID of the dead state.
     pub(crate) fn dead(&self) -> LazyStateID
         ensures { result ≡ dead_id (table_stride self.now.store.table.of) }
     {
@@ -436,6 +438,7 @@ impl Cache {
         self.self_loop.get()
     }
 
+    /// Keeps what was found of a self-loop, for the next run over it.
     pub(crate) fn set_self_loop(&self, found: KnownLoop) {
         self.self_loop.set(found);
     }

@@ -254,6 +254,7 @@ impl DFA {
         Ok(store)
     }
 
+    /// What its caches are bounded by.
     fn settings(&self) -> Settings
         ensures { result ≡ settings_of self.now }
     {

@@ -217,6 +217,7 @@ impl DFA {
         self.quits.contains(byte)
     }
 
+    /// The look-behind byte, if a search stops at it.
     #[inline(always)]
     fn quits_behind(&self, prev: Option<u8>) -> Option<u8>
         ensures { result ≡ quit_behind self.now prev }

@@ -160,7 +160,7 @@ impl DFA {
         cache.cell_in_row(id, id.untagged() as usize, self.class_of(byte))
     }
 
-    /// The same, of an ID that may have a tag.
+    /// The ID of the state after a byte, from an ID that may have a tag; unknown if the transition is not cached.
     #[inline(always)]
     pub(crate) fn next_state_known(&self, cache: &Cache, id: LazyStateID, byte: u8) -> LazyStateID
         requires of { IsCacheOf cache.now self.now }
@@ -177,7 +177,8 @@ impl DFA {
         cache.cell(id, self.class_of(byte))
     }
 
-    /// The same, of an ID whose row's offset is known.
+    /// The ID of the state after a byte, from an ID whose row's offset is known; unknown if the transition is not
+    /// cached.
     #[inline(always)]
     pub(crate) fn next_state_in_row(
         &self,

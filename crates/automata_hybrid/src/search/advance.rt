@@ -9,9 +9,8 @@ ghost use Rattle.automata_base.specs.Haystacks.Tapes.{is_split};
 ghost use Rattle.automata_hybrid.specs.Cache.Caches.{IsCacheOf};
 ghost use Rattle.automata_hybrid.specs.Searches.PassState.{IsFollowed};
 ghost use Rattle.automata_hybrid.specs.Walks.Parts.{IsAdvanceEffect, IsUnitEffect, StandsAfterUnits};
-ghost use Rattle.automata_hybrid.specs.Searches.Passes.{HasReadNoQuit, IsUnitRefusal, Skips, behind_offset};
+ghost use Rattle.automata_hybrid.specs.Searches.Passes.{HasReadNoQuit, IsUnitRefusal, Skips};
 ghost use Rattle.automata_hybrid.specs.Searches.Passes.{state_in, tape_in, unit_offset};
-ghost use Rattle.automata_hybrid.specs.Steps.Starts.{IsStartAnswer, IsStartEffect, IsStartRefusedAt};
 ghost use Rattle.automata_hybrid.specs.Cache.Table.{IsRowId, Leads, Names};
 ghost use Rattle.automata_hybrid.specs.Walks.Answers.{IsAdvanceRefusal, IsArrival, WalkReads};
 
@@ -31,30 +30,6 @@ pub(crate) struct Arrival {
 }
 
 impl DFA {
-    /// The start state of a search in a direction.
-    #[inline(always)]
-    pub(crate) fn walk_start(
-        &self,
-        cache: &mut Cache,
-        input: &Input<'_>,
-        way: Direction,
-    ) -> Result<LazyStateID, SearchError>
-        requires { IsCacheOf cache.old self.now }
-        ensures of { IsCacheOf cache.new self.now }
-        ensures answer { IfOk result (IsStartAnswer self.now input.now.anchored (tape_in way input.now).before
-            cache.old cache.new) }
-        ensures refusal { IfErr result
-            (IsStartRefusedAt self.now input.now.anchored (tape_in way input.now).before
-            (behind_offset way input.now) (offset_in way input.now 0) cache.old cache.new) }
-        ensures effect { IsStartEffect self.now input.now.anchored (tape_in way input.now).before
-            cache.old cache.new }
-    {
-        match way {
-            Direction::Forward => self.start_state_forward(cache, input),
-            Direction::Backward => self.start_state_reverse(cache, input),
-        }
-    }
-
     /// The state after what a walk reads at a place, to which the search moves.
     fn read_unit(
         &self,

@@ -1,18 +1,22 @@
 //! All in which the directions of a search differ. A place is counted from where the search begins; an offset is one of
 //! the haystack.
-ghost use Rattle.std.specs.Prelude.{ℕ, ◌≡◌, ◌+◌, ◌-◌, ◌^◌, ◌<◌, ◌≤◌, Some, true, false, length};
+ghost use Rattle.std.specs.Prelude.{ℕ, ◌≡◌, ◌+◌, ◌-◌, ◌^◌, ◌<◌, ◌≤◌, IfErr, IfOk, Some, true, false, length};
 ghost use Rattle.automata_base.specs.Answers.Answers.{later, offset_in};
 ghost use Rattle.automata_base.specs.Paths.Paths.{next};
-ghost use Rattle.automata_hybrid.specs.Cache.Caches.{with_store};
+ghost use Rattle.automata_hybrid.specs.Cache.Caches.{IsCacheOf, with_store};
 ghost use Rattle.automata_hybrid.specs.Cache.Progress.{distance};
 ghost use Rattle.automata_hybrid.specs.Searches.Progress.{KeepsNone, before_last};
-ghost use Rattle.automata_hybrid.specs.Searches.Passes.{given_up_offset, tape_in, unit_offset};
+ghost use Rattle.automata_hybrid.specs.Searches.Passes.{behind_offset, given_up_offset, tape_in, unit_offset};
+ghost use Rattle.automata_hybrid.specs.Steps.Starts.{IsStartAnswer, IsStartEffect, IsStartRefusedAt};
 ghost use Rattle.automata_hybrid.specs.Cache.Stores.{with_searched};
 ghost use Rattle.automata_hybrid.specs.Searches.SelfLoops.{byte_in};
 
+use crate::dfa::DFA;
 use crate::dfa::cache::Cache;
+use crate::id::LazyStateID;
 use automata_base::util::search::{Direction, Input};
 use automata_base::util::start;
+use automata_config::error::SearchError;
 
 /// The last place of a search: after the bytes of its span.
 pub(crate) fn last_place(input: &Input<'_>) -> usize
@@ -116,7 +120,7 @@ pub(crate) fn unit_offset(input: &Input<'_>, way: Direction, place: usize) -> us
     }
 }
 
-/// The same, or where that is before the span, the span's start.
+/// The offset of the unit at a place, or the span's start if the unit is before the span.
 pub(crate) fn span_offset(input: &Input<'_>, way: Direction, place: usize) -> usize
     requires open { input.now.start ≤ input.now.end }
     requires within { place ≤ input.now.end - input.now.start }
@@ -203,6 +207,32 @@ pub(crate) fn begin_later(input: &mut Input<'_>, way: Direction) -> bool
             }
             input.set_end(input.end() - 1);
             true
+        }
+    }
+}
+
+impl DFA {
+    /// The start state of a search in a direction.
+    #[inline(always)]
+    pub(crate) fn walk_start(
+        &self,
+        cache: &mut Cache,
+        input: &Input<'_>,
+        way: Direction,
+    ) -> Result<LazyStateID, SearchError>
+        requires { IsCacheOf cache.old self.now }
+        ensures of { IsCacheOf cache.new self.now }
+        ensures answer { IfOk result (IsStartAnswer self.now input.now.anchored (tape_in way input.now).before
+            cache.old cache.new) }
+        ensures refusal { IfErr result
+            (IsStartRefusedAt self.now input.now.anchored (tape_in way input.now).before
+            (behind_offset way input.now) (offset_in way input.now 0) cache.old cache.new) }
+        ensures effect { IsStartEffect self.now input.now.anchored (tape_in way input.now).before
+            cache.old cache.new }
+    {
+        match way {
+            Direction::Forward => self.start_state_forward(cache, input),
+            Direction::Backward => self.start_state_reverse(cache, input),
         }
     }
 }

@@ -169,7 +169,8 @@ impl DFA {
         }
     }
 
-    /// The same where offsets inside a character are skipped. It is given the parts of the input, as `begin_of`.
+    /// What a search finds where offsets inside a character are skipped, by one pass after another. It is given the
+    /// parts of the input, as `begin_of`.
     #[inline(never)]
     fn search_skipping(
         &self,

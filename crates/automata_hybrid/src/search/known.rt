@@ -30,6 +30,7 @@ pub(super) struct Known {
 }
 
 impl Known {
+    /// A pass has ended with the unit at a place.
     fn ended(at: usize, id: LazyStateID, found: Option<HalfMatch>) -> Known
         ensures { result ≡ record { ended = true; at = at; id = id; found = found } }
     {
@@ -41,6 +42,7 @@ impl Known {
         }
     }
 
+    /// A pass is left at a place, where it does not go on by a cached transition.
     fn left(at: usize, id: LazyStateID, found: Option<HalfMatch>) -> Known
         ensures { result ≡ record { ended = false; at = at; id = id; found = found } }
     {
@@ -56,7 +58,12 @@ impl Known {
 impl DFA {
     /// The start state of a search, if it may start and that is cached, and else the unknown ID.
     #[inline(always)]
-    pub(super) fn known_start(&self, cache: &Cache, input: &Input<'_>, way: Direction) -> LazyStateID
+    pub(super) fn known_start(
+        &self,
+        cache: &Cache,
+        input: &Input<'_>,
+        way: Direction,
+    ) -> LazyStateID
         requires { IsCacheOf cache.now self.now }
         ensures answer { result < unknown_id → IsStartAnswer self.now input.now.anchored
             (tape_in way input.now).before cache.now cache.now result }

@@ -22,7 +22,8 @@ fn outside(low: u8, size: u8, bytes: &[u8], from: usize) -> u64
     above.simd_ge(u8x32::splat(size)).to_bitmask()
 }
 
-/// The same for the 32 bytes from a place on, of a slice that is read from its front or from its back.
+/// A bit for each of the 32 bytes from a place on, of a slice that is read from its front or from its back: 0 only if
+/// the byte is in a range.
 #[inline(always)]
 fn outside_at(way: Direction, range: LoopRange, bytes: &[u8], at: usize) -> u64
     requires { at + 32 ≤ length bytes.now }

@@ -19,6 +19,7 @@ pub(crate) struct LoopRange {
 }
 
 impl LoopRange {
+    /// A range of no byte.
     pub(super) fn none() -> LoopRange
         ensures { result.size ≡ 0 }
     {
@@ -29,6 +30,7 @@ impl LoopRange {
         }
     }
 
+    /// Whether it has no byte.
     pub(super) fn is_empty(&self) -> bool {
         self.size == 0
     }

@@ -269,7 +269,7 @@ impl DFA {
         self.first_of_many(cache, id)
     }
 
-    /// The same, looked up.
+    /// The first pattern of a match state of an NFA of several patterns, looked up in its row.
     #[inline(never)]
     fn first_of_many(&self, cache: &Cache, id: LazyStateID) -> PatternID
         requires of { IsCacheOf cache.now self.now }

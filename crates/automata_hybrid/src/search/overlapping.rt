@@ -63,7 +63,8 @@ impl DFA {
         self.try_search_overlapping(cache, input, Direction::Forward, state)
     }
 
-    /// The same from the span's end to its start: the DFA reads the span backward, so build it of a reversed NFA.
+    /// Goes on to the next of all overlapping matches from the span's end to its start, as `try_search_overlapping_fwd`
+    /// does to its end: the DFA reads the span backward, so build it of a reversed NFA.
     pub fn try_search_overlapping_rev(
         &self,
         cache: &mut Cache,
@@ -207,8 +208,8 @@ impl DFA {
         walk.report(half);
     }
 
-    /// One call of an overlapping search in a direction, as `try_search_overlapping_fwd` and `try_search_overlapping_rev`
-    /// make it in theirs.
+    /// One call of an overlapping search in a direction, as `try_search_overlapping_fwd` makes it forward and
+    /// `try_search_overlapping_rev` backward.
     pub fn try_search_overlapping(
         &self,
         cache: &mut Cache,

@@ -19,7 +19,8 @@ use crate::dfa::DFA;
 use crate::dfa::cache::Cache;
 use crate::id::LazyStateID;
 use crate::search::direction::{
-    byte_at, byte_offset, bytes_read, end_before_last, keeps_none, last_place, place_offset, span_offset, unit_at, unit_offset,
+    byte_at, byte_offset, bytes_read, end_before_last, keeps_none, last_place, place_offset,
+    span_offset, unit_at, unit_offset,
 };
 use automata_base::util::search::{Anchored, Direction, HalfMatch, Input, Span};
 use automata_config::error::SearchError;
@@ -283,7 +284,8 @@ impl DFA {
         }
     }
 
-    /// The same, in a direction that is known where it is inlined.
+    /// What the rest of a pass finds, from a place that it has reached, in a direction that is known where this is
+    /// inlined.
     #[inline(always)]
     fn find(
         &self,
@@ -369,7 +371,7 @@ impl DFA {
         Ok(self.found_at(cache, next, place_offset(input, way, last), found))
     }
 
-    /// The same over an empty span of which no progress is kept.
+    /// What a pass finds by its last step, over an empty span of which no progress is kept.
     #[inline(always)]
     fn find_still(
         &self,

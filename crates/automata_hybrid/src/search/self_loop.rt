@@ -157,7 +157,7 @@ impl DFA {
         }
     }
 
-    /// And a second one, around a byte that is outside the first.
+    /// A row's self-loop, of which a second range is looked for, around a byte that is outside the first.
     fn find_second(&self, cache: &Cache, id: LazyStateID, known: KnownLoop, byte: u8) -> KnownLoop
         requires of { IsCacheOf cache.now self.now }
         requires valid { IsRowId cache.now.store.table id }
@@ -280,6 +280,7 @@ impl DFA {
         self.follow_eights(cache, id, way, bytes, many, end)
     }
 
+    /// The place up to which a long self-loop goes, over a slice that is read from its front.
     #[inline(never)]
     fn follow_many_fwd(&self, cache: &Cache, id: LazyStateID, bytes: &[u8]) -> usize
         requires of { IsCacheOf cache.now self.now }
@@ -292,6 +293,7 @@ impl DFA {
         self.follow_many(cache, id, Direction::Forward, bytes)
     }
 
+    /// The place up to which a long self-loop goes, over a slice that is read from its back.
     #[inline(never)]
     fn follow_many_rev(&self, cache: &Cache, id: LazyStateID, bytes: &[u8]) -> usize
         requires of { IsCacheOf cache.now self.now }

@@ -43,7 +43,7 @@ pub(crate) enum Held {
 }
 
 impl Held {
-    /// The same once more.
+    /// Holds once more what is held: the state is shared, and an ID is copied.
     fn share(&self) -> Result<Held, AllocError>
         ensures keeping { IfOk result (λ held. keeping_of held ≡ keeping_of self.now) }
         ensures none { IfOk result (λ held. HoldsNone self.now → HoldsNone held) }
@@ -152,6 +152,7 @@ impl Cursor {
         self.reported
     }
 
+    /// Whether the walk has not begun.
     pub(crate) fn is_fresh(&self) -> bool
         ensures yes { result ≡ true → self.now.stage ≡ Fresh }
         ensures no { result ≡ false → self.now.stage ≡ Fresh → ⊥ }
@@ -162,6 +163,7 @@ impl Cursor {
         }
     }
 
+    /// Whether the walk has ended.
     pub(crate) fn has_ended(&self) -> bool
         ensures yes { result ≡ true → self.now.stage ≡ Ended }
         ensures no { result ≡ false → self.now.stage ≡ Ended → ⊥ }

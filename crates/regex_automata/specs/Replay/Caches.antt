@@ -144,7 +144,7 @@ IsMadeBy r walks (request.SearchRev input) old new answer =
     OnHalf (IsSearched Backward r.reverse input old.reverse new.reverse) answer × (new.forward ≡ old.forward)
 IsMadeBy r walks (request.Find input) old new answer = OnSpan (IsSpanSearched r input old new) answer
 IsMadeBy r walks (request.IsMatch input) old new answer = OnTruth (IsTruthSearched r input old new) answer
-IsMadeBy r walks (request.Iterate input) old new answer = 
+IsMadeBy r walks (request.Iterate input) old new answer =
     OnSpans (λ ms error. AreCollected (FindsMatch r) input ms error × AreSearched r old new input None ms error) answer
 IsMadeBy r walks (request.Tokenise input) old new answer =
     OnTokens (λ ts error.

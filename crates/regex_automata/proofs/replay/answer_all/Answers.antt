@@ -32,7 +32,7 @@ loop-request-preserved c =
             c.loop-request-test.true c.request-item.is made
             (of_current regexes (after h q r) next after_it.regex.now (subst (λ (rs : List Regex). slice_get rs (after h q r).current ≡ Some after_it.regex.now) same played.regex) played.of
             (subst (λ (v : CacheView). IsStoreOf v.store v.store.table.of) c.as_parts.ensures.forward c.see_bounds.ensures.bounds)
-            (subst (λ (v : CacheView). IsStoreOf v.store v.store.table.of) c.as_parts.ensures.reverse c.see_bounds-2.ensures.bounds))
+            (subst (λ (v : CacheView). IsStoreOf v.store v.store.table.of) c.as_parts.ensures.reverse c.see_bounds-in-loop-request.ensures.bounds))
             (subst (λ (rs : List Regex). IsRequestEffect rs h q r c.loop-request.player.cache c.answer-reply.new.self.cache) inv.regexes (c.answer-reply.ensures.made h a)) c.in_ok-push.ensures.items,
       );
     }

@@ -105,7 +105,7 @@ fn tested_reverse(forward: &NFA) -> Result<NFA, RegexBuildError>
     }
 }
 
-// Reverses an NFA, by the answer of the test for UTF-8. If it fails, no memory is asked for.
+/// Reverses an NFA, by the answer of the test for UTF-8. If it fails, no memory is asked for.
 fn reverse_if(forward: &NFA, keeps: bool) -> Result<NFA, RegexBuildError>
     requires two { PassesTwo forward.now }
     requires keeps { IsTrue keeps ↔ IsUtf8 forward.now }

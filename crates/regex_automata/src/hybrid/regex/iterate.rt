@@ -17,7 +17,7 @@ use automata_config::error::SearchError;
 use automata_hybrid::laws::known_stays;
 use std::fmt;
 
-/// The same input, from a later offset on.
+/// The input from a later offset on.
 fn from<'h>(input: &Input<'h>, start: usize) -> Input<'h>
     requires { Allows input.now.haystack start input.now.end }
     ensures { result ≡ from start input.now }
