@@ -18,5 +18,6 @@
 pub mod Machines
 pub mod Cache
 pub mod Steps
+pub mod Calls
 pub mod Searches
 pub mod Walks

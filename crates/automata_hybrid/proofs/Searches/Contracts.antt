@@ -8,10 +8,10 @@ use Rattle.automata_base.specs.Haystacks.Matches.{HalfMatch}
 use Rattle.automata_base.specs.Haystacks.Tapes.{Direction, Forward}
 use Rattle.automata_config.specs.declared.error.SearchError.{SearchError}
 use Rattle.automata_hybrid.specs.Cache.Stores.{Stored}
-use Rattle.automata_hybrid.specs.Cache.Caches.{CacheView}
+use Rattle.automata_hybrid.specs.Cache.Caches.{CacheView, IsStoreOf}
 use Rattle.automata_hybrid.specs.Searches.Cached.{IsOfInput}
 use Rattle.automata_hybrid.specs.Machines.Machine.{Machine}
-use Rattle.automata_hybrid.specs.Searches.Contracts.{IsBased, IsHalf, IsSearchEffect, IsStoreOf, MayRefuse, based_half}
+use Rattle.automata_hybrid.specs.Searches.Contracts.{IsBased, IsHalf, IsSearchEffect, MayRefuse, based_half}
 use Rattle.automata_hybrid.specs.Searches.Contracts.{halves}
 use Rattle.automata_hybrid.specs.Searches.Progress.{LeavesProgress}
 use Rattle.automata_hybrid.specs.Searches.Passes.{IsRefused, WithoutBase, with_base}
@@ -113,7 +113,7 @@ module _ {T U : Type 0} (way : Direction) (m : Machine) (input : Input) (old new
     learned = λ nothing. tt;
     known = λ knows. ((s.known knows).0, subst IsOfInput (sym is) (s.known knows).1);
     ended = tt;
-    left = subst (LeavesProgress way m input old.store new.store) (sym is) s.left;
+    left = subst (LeavesProgress way m input old new) (sym is) s.left;
     done = s.done;
   }
 

@@ -5,7 +5,7 @@ use Rattle.automata_base.specs.Haystacks.Input.{Input}
 use Rattle.automata_config.specs.declared.error.SearchError.{SearchError}
 use Rattle.automata_hybrid.specs.Cache.Stores.{Stored}
 use Rattle.automata_hybrid.specs.Machines.Machine.{Machine}
-use Rattle.automata_hybrid.specs.Searches.Contracts.{IsStoreOf}
+use Rattle.automata_hybrid.specs.Cache.Caches.{IsStoreOf}
 use Rattle.automata_hybrid.specs.Walks.Contracts.{MayRefuseWhich}
 use Rattle.automata_hybrid.specs.Walks.Sets.{IsWhichRefusal}
 

@@ -1,9 +1,11 @@
 -- What contracts see of a cache, and which DFA it belongs to.
-use Rattle.std.specs.Prelude.{◌≡◌, ℕ, ◌+◌, ◌⊎◌}
+use Rattle.std.specs.Prelude.{◌≡◌, ℕ, ◌+◌, ◌≤◌, ◌⊎◌, length}
 use Rattle.automata_hybrid.specs.Cache.Ids.{dead_id, quit_id}
-use Rattle.automata_hybrid.specs.Machines.Machine.{Machine, table_stride}
-use Rattle.automata_hybrid.specs.Cache.Table.{IsRowId}
-use Rattle.automata_hybrid.specs.Cache.Stores.{Stored, fresh_store}
+use Rattle.automata_hybrid.specs.Machines.Machine.{Machine, slot_count, table_stride}
+use Rattle.automata_hybrid.specs.Cache.Clears.{AllStarts}
+use Rattle.automata_hybrid.specs.Cache.Table.{AreRows, IsRowId}
+use Rattle.automata_hybrid.specs.Cache.Stores.{IsSoundStore, Stored, fresh_store}
+use Rattle.automata_hybrid.specs.Cache.Usage.{usage}
 
 -- what contracts see of a cache: its states, and how often it determinized
 pub record CacheView : Type 0 where
@@ -31,3 +33,16 @@ abbrev pub HoldsRow : CacheView → (id : ℕ) → Type 0
 HoldsRow c id =
     (id ≡ dead_id (table_stride c.store.table.of))
     ⊎ ((id ≡ quit_id (table_stride c.store.table.of)) ⊎ IsRowId c.store.table id)
+
+-- a cache of this DFA: its rows fit together, each start slot has its own start or none yet, and its accounted bytes
+-- are within the settings
+pub record IsStoreOf (c : Stored) (m : Machine) : Type 0 where
+  pub of : c.table.of ≡ m
+  pub rows : AreRows c.table
+  pub starts : AllStarts c.table c.starts
+  pub slots : length c.starts ≡ slot_count m
+  pub within : usage c ≤ m.capacity
+
+-- and what is true of each cache
+abbrev pub IsSoundOf : Stored → Machine → Type 0
+IsSoundOf c m = IsStoreOf c m × IsSoundStore c

@@ -14,29 +14,17 @@ use Rattle.automata_base.specs.declared.util.search.MatchKind.TheVariants.{All a
 use Rattle.automata_config.specs.declared.error.SearchError.{SearchError}
 use Rattle.automata_config.specs.declared.error.SearchError.TheVariants as search
 use Rattle.automata_hybrid.specs.Cache.Stores.{Stored}
-use Rattle.automata_hybrid.specs.Cache.Usage.{usage}
-use Rattle.automata_hybrid.specs.Cache.Caches.{CacheView}
+use Rattle.automata_hybrid.specs.Cache.Caches.{CacheView, IsStoreOf}
 use Rattle.automata_hybrid.specs.Searches.Costs.{IsCostOfSearch}
 use Rattle.automata_hybrid.specs.Cache.Growth.{ClearedNothing, IsGrown, IsStill}
 use Rattle.automata_hybrid.specs.Searches.Cached.{IsOfInput, Knows}
-use Rattle.automata_hybrid.specs.Cache.Clears.{AllStarts}
-use Rattle.automata_hybrid.specs.Machines.Machine.{Machine, slot_count}
-use Rattle.automata_hybrid.specs.Cache.Table.{AreRows}
+use Rattle.automata_hybrid.specs.Machines.Machine.{Machine}
 use Rattle.automata_hybrid.specs.Searches.Progress.{EndsProgress, LeavesProgress}
 use Rattle.automata_hybrid.specs.Searches.Passes.{IsFound, IsRefused, NoQuitInReach, WithoutBase, tape_in, with_base}
 use Rattle.automata_hybrid.specs.Machines.StartSlots.{supports}
 use Rattle.automata_hybrid.specs.Steps.Starts.{quit_behind}
 use Rattle.automata_hybrid.specs.Searches.Bounds.{LiesIn, LiesPast}
 use Rattle.automata_config.specs.Options.{match_kind_of, minimum_cache_clear_count_of}
-
--- a cache of this DFA: its rows fit together, each start slot has its own start or none yet, and its accounted bytes
--- are within the settings
-pub record IsStoreOf (c : Stored) (m : Machine) : Type 0 where
-  pub of : c.table.of ≡ m
-  pub rows : AreRows c.table
-  pub starts : AllStarts c.table c.starts
-  pub slots : length c.starts ≡ slot_count m
-  pub within : usage c ≤ m.capacity
 
 -- the error is out of memory
 abbrev pub IsMemory : SearchError → Type 0
@@ -119,7 +107,7 @@ pub record IsSearchEffect {T : Type 0} (way : Direction) (m : Machine) (input : 
   -- with all that cached, it fails because of its input alone, and changes nothing but the progress
   pub known : Knows way m old.store input → IsStill old new × IfErr result IsOfInput
   -- the searched bytes, and the search that is open: what its passes leave one after another
-  pub ended : OnOk result (EndsProgress way m input old.store new.store)
-  pub left : IfErr result (LeavesProgress way m input old.store new.store)
+  pub ended : OnOk result (EndsProgress way m input old new)
+  pub left : IfErr result (LeavesProgress way m input old new)
   -- with a span that is done, nothing at all
   pub done : input.end < input.start → new ≡ old

@@ -13,14 +13,14 @@ use Rattle.automata_base.specs.Paths.Selections.{Pair}
 use Rattle.automata_base.specs.Haystacks.Tapes.{Direction, Forward}
 use Rattle.automata_config.specs.declared.error.SearchError.{SearchError}
 use Rattle.automata_hybrid.specs.Cache.Stores.{Stored}
-use Rattle.automata_hybrid.specs.Cache.Caches.{CacheView, counted}
+use Rattle.automata_hybrid.specs.Cache.Caches.{CacheView, IsStoreOf, counted}
 use Rattle.automata_hybrid.specs.Cache.Growth.{ClearedNothing, HasRoom, IsGrown, IsStill}
 use Rattle.automata_hybrid.specs.Searches.Cached.{IsOfInput, KnowsItsStart}
 use Rattle.automata_hybrid.specs.Walks.Cached.{KnowsItsState, KnowsWalk, KnowsWhich}
 use Rattle.automata_hybrid.specs.Cache.Changes.{IsStateAdded}
 use Rattle.automata_hybrid.specs.Cache.Usage.{cleared}
 use Rattle.automata_hybrid.specs.Machines.Machine.{Machine}
-use Rattle.automata_hybrid.specs.Searches.Contracts.{IsMemory, IsStoreOf, IsUnhindered, IsUnsupported}
+use Rattle.automata_hybrid.specs.Searches.Contracts.{IsMemory, IsUnhindered, IsUnsupported}
 use Rattle.automata_hybrid.specs.Searches.Contracts.{unsupported_error}
 use Rattle.automata_hybrid.specs.Walks.Progress.{EndsCall, EndsSet, LeavesCall, LeavesSet, ReadsNoUnit}
 use Rattle.automata_hybrid.specs.Walks.Answers.{AreWalked, HasItsState, HasReported, IsUnheld, IsWalkRefusal}
@@ -104,8 +104,8 @@ pub record IsCallEffect {T : Type 0} (keeping : Keeping) (way : Direction) (m : 
       KnowsWalk way m old.store input walk
       → IsStill old new × IfErr result (IsKnownRefusal keeping way m input walk)
   -- the searched bytes, and the search that is open
-  pub ended : OnOk result (EndsCall way m input walk next old.store new.store)
-  pub left : IfErr result (LeavesCall keeping way m input walk old.store new.store)
+  pub ended : OnOk result (EndsCall way m input walk next old new)
+  pub left : IfErr result (LeavesCall keeping way m input walk old new)
   -- one that reads no unit changes nothing at all
   pub ready : ReadsNoUnit input walk → new ≡ old
 
@@ -155,7 +155,7 @@ pub record IsWhichEffect (m : Machine) (input : Input) (set : List Bool) (old ne
   -- with all that cached, it fails because of its input alone, and changes nothing but the progress
   pub known : KnowsWhich m old.store input set → IsStill old new × IfErr result IsOfInput
   -- the searched bytes, and the search that is open: what the calls of its walk leave one after another
-  pub ended : OnOk result (EndsSet m input set old.store new.store)
-  pub left : IfErr result (LeavesSet m input set old.store new.store)
+  pub ended : OnOk result (EndsSet m input set old new)
+  pub left : IfErr result (LeavesSet m input set old new)
   -- with a span that is done, nothing at all
   pub done : input.end < input.start → new ≡ old

@@ -1,8 +1,6 @@
-use Rattle.std.proofs.Common.{◌≡◌, ◌≤◌, ◌+◌, ◌-◌}
+use Rattle.std.proofs.Common.{◌≤◌, ◌-◌}
 use Rattle.automata_hybrid.specs.Cache.Caches.{IsCacheOf}
-use Rattle.automata_hybrid.specs.Cache.Growth.{IsGrown, ClearedNothing}
-use Rattle.automata_hybrid.specs.Searches.Cached.{KnowsItsStart, KnowsPass}
-use Rattle.automata_hybrid.specs.Searches.PassState.{HasLearned, IsAt}
+use Rattle.automata_hybrid.specs.Searches.PassState.{IsAt}
 use Rattle.automata_hybrid.specs.Walks.State.{way_of}
 use Rattle.automata_hybrid.proofs.Searches.UnitsRead.{AreReadBehind}
 use Rattle.automata_hybrid.proofs.dfa.DFA.find.Given as goal
@@ -10,13 +8,9 @@ use Rattle.automata_hybrid.proofs.dfa.DFA.find.Given as goal
 abbrev pub invariant-loop-at : goal.invariant-loop-at
 invariant-loop-at l = record {
   of : IsCacheOf l.cache l.self;
-  counted : l.cache.count ≤ l.fn.cache.count + l.at;
   within : l.at ≤ l.last;
-  grown : IsGrown l.fn.cache l.cache;
-  idle : KnowsPass (way_of l.way) l.self l.fn.cache.store l.input → l.cache.count ≡ l.fn.cache.count;
-  learned : KnowsItsStart (way_of l.way) l.self l.fn.cache.store l.input → ClearedNothing l.fn.cache.store l.cache.store → KnowsItsStart (way_of l.way) l.self l.cache.store l.input × HasLearned (way_of l.way) l.self l.cache.store l.input l.at;
   at : IsAt (way_of l.way) l.self l.cache.store.table l.input l.at l.id l.found;
-  progress : AreReadBehind (way_of l.way) l.self l.input 0 l.at l.fn.cache.store l.cache.store;
+  progress : AreReadBehind (way_of l.way) l.self l.input 0 l.at l.fn.cache l.cache;
 }
 
 abbrev pub decreases-loop-at : goal.decreases-loop-at
