@@ -11,6 +11,7 @@ pub mod Directions
 pub mod Runs
 pub mod Bounds
 pub mod Contracts
+pub mod SpanRuns
 pub mod Follows
 pub mod Reads
 pub mod PassContracts

@@ -3,7 +3,8 @@ use Rattle.std.proofs.Common.{ℕ, zero, suc, ◌≡◌, ◌∙◌, ◌+◌, ◌
 use Rattle.std.proofs.Common.{None, Some, inl, inr, refl, sym, ap, subst, arith, take, drop}
 use Rattle.std.proofs.lemmas.Bool.{cases_lt}
 use Rattle.std.proofs.lemmas.List.{length-reverse, length-take}
-use Rattle.std.specs.Prelude.{Result, Ok, Err, IfErr, OnOk}
+use Rattle.std.specs.Prelude.{Result, Ok, Err, IfErr, IfOk, IfSome, OnOk}
+use Rattle.automata_base.specs.Haystacks.Matches.{HalfMatch}
 use Rattle.automata_base.specs.Answers.Answers.{Tries, later}
 use Rattle.automata_base.specs.Haystacks.Input.{Input}
 use Rattle.automata_base.specs.Haystacks.Tapes.{Direction, Forward, Backward, between}
@@ -23,10 +24,10 @@ use Rattle.automata_hybrid.specs.Machines.Machine.{Machine, table_stride}
 use Rattle.automata_hybrid.specs.Machines.StartSlots.{supports}
 use Rattle.automata_hybrid.specs.Searches.Cached.{IsOfInput, Knows, KnowsItsStart, KnowsPass, KnowsUnit}
 use Rattle.automata_hybrid.specs.Searches.Contracts.{IsSearchEffect}
-use Rattle.automata_hybrid.specs.Searches.Costs.{IsCostOfPasses, passes_most}
+use Rattle.automata_hybrid.specs.Searches.Costs.{IsCostOfPasses, IsCostUpto, passes_most}
 use Rattle.automata_hybrid.specs.Searches.PassState.{HasLearnedUnit}
 use Rattle.automata_hybrid.specs.Searches.Passes.{Finds, HasReadNoQuit, IsUnitRefusal, Reads, Skips, given_up_offset, state_in, tape_in}
-use Rattle.automata_hybrid.specs.Searches.Progress.{EndsAtLast, EndsProgress, HasEnded, HasNoStart, HaveEnded, IsLeft, IsPassLeftAt}
+use Rattle.automata_hybrid.specs.Searches.Progress.{EndsAtLast, EndsProgress, HasEnded, HasNoStart, HaveEnded, HaveTried, IsLeft, IsLeftAt, IsPassLeftAt}
 use Rattle.automata_hybrid.specs.Searches.Progress.{IsPassRun, IsSearchRun, IsStoppedAt, KeepsNone, LeavesProgress, TriesSpan, TriesSpans}
 use Rattle.automata_hybrid.specs.Searches.Progress.{start_event, unit_event, unit_events, with_search_begun, with_search_ended, with_search_moved}
 use Rattle.automata_hybrid.specs.Steps.Starts.{IsStartRefusal, IsStartRefusalAt, MayStart, quit_behind, search_refusal}
@@ -224,7 +225,7 @@ module _ (way : Direction) (m : Machine) (input : Input) (old new : CacheView) (
       ends_at_last answer begun (do_one m (start_event way input) old begun starts) last
 
 -- an error at a quit byte is one of the input
-quit_of_input :
+pub quit_of_input :
     (way : Direction) (m : Machine) (c : Stored) (input : Input) (k : ℕ) (e : SearchError) → IsUnitRefusal way m c input k e
     → quits_on m (next (tape_in way input) k) ≡ true → IsOfInput e
 quit_of_input way m c input k (search.Match (QuitAt byte offset)) why quits = tt
@@ -270,6 +271,14 @@ module _ (way : Direction) (m : Machine) (input : Input) (k : ℕ) (mid new : Ca
         (quit.0, ap (λ (v : CacheView). v.count) quit.1 ∙ b)),
   )
 
+  pub moved_left :
+      IsLeftAt way m input k mid new
+      → IsGrown mid new × (new.count ≤ mid.count + 1)
+      × (KnowsUnit way m mid.store input k → (quits_on m (next (tape_in way input) k) ≡ true) × (new.count ≡ mid.count))
+  moved_left left =
+      unit_left (with_search_moved way input k mid) (with_search_ended way input k mid)
+      (grown_moved mid (with_search_moved way input k mid) refl) (grown_moved mid (with_search_ended way input k mid) refl) refl refl (λ h. h) left
+
   pub left_at :
       IsPassLeftAt way m input k mid new
       → IsGrown mid new × (new.count ≤ mid.count + 1)
@@ -277,9 +286,7 @@ module _ (way : Direction) (m : Machine) (input : Input) (k : ℕ) (mid new : Ca
   left_at (inl (behind, left)) =
       unit_left (with_search_ended way input k mid) (with_search_ended way input k mid)
       (grown_moved mid (with_search_ended way input k mid) refl) (grown_moved mid (with_search_ended way input k mid) refl) refl refl (λ h. h) left
-  left_at (inr (inner, left)) =
-      unit_left (with_search_moved way input k mid) (with_search_ended way input k mid)
-      (grown_moved mid (with_search_moved way input k mid) refl) (grown_moved mid (with_search_ended way input k mid) refl) refl refl (λ h. h) left
+  left_at (inr (inner, left)) = moved_left left
 
   pub still_left :
       IsStepLeft m (state_in way m input k) (next (tape_in way input) k) mid mid new
@@ -500,3 +507,12 @@ module _ (way : Direction) (m : Machine) (input : Input) where
       → IsSearchRun way m input old new result → IsSearchEffect way m input old new result
   search_follows old new (Ok answer) sound run = search_ended answer old new sound run.ended
   search_follows old new (Err e) sound run = search_left e old new sound run.left
+
+-- a forward search with an answer costs its passes up to the span that gave it
+pub cost_upto :
+    (m : Machine) (input : Input) (old new : CacheView) → IsSoundOf old.store m → (result : Result (Option (HalfMatch × ℕ)) SearchError)
+    → IfOk result (λ o. IfSome o (λ p. HaveTried Forward m input (p.1 - input.start + 1) old new))
+    → IfOk result (λ o. IfSome o (λ p. IsCostUpto m input p.1 old new))
+cost_upto m input old new sound (Ok None) tried = tt
+cost_upto m input old new sound (Ok (Some p)) tried = cost_ended Forward m input (p.1 - input.start + 1) old new sound tried.0 tried.1
+cost_upto m input old new sound (Err e) tried = tt

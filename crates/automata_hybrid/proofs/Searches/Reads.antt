@@ -1,17 +1,21 @@
 -- Units that a search reads from an ID, from what the step on each answers and changes.
 use Rattle.std.proofs.Common.{ℕ, ◌≡◌, ◌∙◌, ◌<◌, ◌≤◌, ◌⊎◌, true, false, inl, inr, None, Option, Some, sym, ap, subst}
 use Rattle.std.proofs.Common.{arith}
-use Rattle.std.specs.Prelude.{Result, Ok, Err}
+use Rattle.std.specs.Prelude.{Result, Ok, Err, IfErr}
 use Rattle.std.specs.Result.{IsErrAnd}
 use Rattle.automata_base.specs.ByteClasses.Classes.{class_in, is_quit}
 use Rattle.automata_base.specs.Powersets.Powerset.{Powerset, dead}
+use Rattle.automata_base.specs.declared.util.search.MatchErrorKind.TheVariants.{Quit as QuitAt, GaveUp}
+use Rattle.automata_base.specs.declared.util.search.MatchErrorKind.TheVariants.{UnsupportedAnchored as UnsupportedMode}
+use Rattle.automata_base.proofs.Paths.Orders.{none_some}
 use Rattle.automata_config.specs.declared.error.SearchError.{SearchError}
+use Rattle.automata_config.specs.declared.error.SearchError.TheVariants as search
 use Rattle.automata_hybrid.specs.declared.dfa.progress.Searched.{Searched}
 use Rattle.automata_hybrid.specs.Cache.Caches.{CacheView, IsSoundOf, with_store}
 use Rattle.automata_hybrid.specs.Cache.Ids.{fixed_from, unknown_id}
 use Rattle.automata_hybrid.specs.Cache.Progress.{progress_finished, progress_updated}
 use Rattle.automata_hybrid.specs.Cache.Stores.{with_searched}
-use Rattle.automata_hybrid.specs.Cache.Table.{Names}
+use Rattle.automata_hybrid.specs.Cache.Table.{Names, Rows}
 use Rattle.automata_hybrid.specs.Calls.Events.{Does, End, Fails, IsStepLeft, Move, Step, with_progress}
 use Rattle.automata_hybrid.specs.Machines.Machine.{IsClassOf, IsMachine, Machine, table_stride}
 use Rattle.automata_hybrid.specs.Searches.Units.{IsReadEffect, IsReadRefusal, IsStepRefusedAt}
@@ -154,3 +158,16 @@ moved_end m id at old mid new moved (Err error) e = record {
   go : (q : Powerset) → IsStepLeft m q None mid mid new → IsStepLeft m q None mid (with_progress (End at) old) new
   go q (inl (quits, same)) = absurd (false_true quits)
   go q (inr failed) = inr failed
+
+-- why reading the end fails: never at a quit byte
+pub end_refusal :
+    {T : Type 0} (m : Machine) (id quit_at at : ℕ) (old mid new : CacheView) → mid.store.table ≡ old.store.table → (r : Result T SearchError)
+    → IfErr r (IsReadRefusal m id None at at mid new) → IfErr r (IsReadRefusal m id None quit_at at old new)
+end_refusal m id quit_at at old mid new table (Ok answer) h = tt
+end_refusal m id quit_at at old mid new table (Err e) h = λ q n. go q e (h q (subst (λ (t : Rows). Names t id q) (sym table) n)) where
+  go : (q : Powerset) (e : SearchError) → IsStepRefusal m new.store q None at at e → IsStepRefusal m new.store q None quit_at at e
+  go q (search.Match (QuitAt byte offset)) why = absurd (none_some why.0)
+  go q (search.Match (GaveUp offset)) why = why
+  go q (search.Match (UnsupportedMode mode)) why = why
+  go q search.OutOfMemory why = why
+  go q search.NotAPair why = why

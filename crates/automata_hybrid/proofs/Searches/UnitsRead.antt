@@ -31,7 +31,7 @@ use Rattle.automata_hybrid.specs.Searches.Passes.{HasReadNoQuit, IsUnitRefusal, 
 use Rattle.automata_hybrid.specs.Searches.Passes.{tape_in}
 use Rattle.automata_hybrid.specs.Steps.Starts.{IsStartAnswer, IsStartEffect, IsStartRefusedAt, known_start}
 use Rattle.automata_hybrid.specs.Steps.Steps.{quits_on, unit_class}
-use Rattle.automata_hybrid.proofs.Calls.Laws.{all_sound, do_join, do_one, moved_sound, searched_sound}
+use Rattle.automata_hybrid.proofs.Calls.Laws.{all_sound, do_join, do_one, do_split, moved_sound, searched_sound}
 use Rattle.automata_hybrid.proofs.Searches.PassState.{reads_before}
 use Rattle.automata_hybrid.proofs.Steps.Steps.{unit_no_quit}
 use Rattle.std.proofs.lemmas.Bool.{cases_lt}
@@ -218,6 +218,31 @@ read_some way m input from k old new more reads =
       reads.units - 1,
       omega (arith, upto, more),
       subst (λ n. AreUnitsRead way m input from n old new) one reads.read,
+    )
+
+-- the last one of some
+pub read_last :
+    (way : Direction) (m : Machine) (input : Input) (from n : ℕ) (old new : CacheView) → AreUnitsRead way m input from (suc n) old new
+    → (mid : CacheView) × AreUnitsRead way m input from n old mid
+    × IsUnitRead way m input (from + n) (with_search_moved way input (from + n) mid) new
+read_last way m input from n old new all =
+    let parts = do_split m (unit_events way m input from n) (Move (given_up_offset way input (from + n)) ∷ unit_event way m input (from + n) ∷ []) old new all in
+    go parts.0 parts.1 parts.2
+  where
+    moved_to : (mid moved : CacheView) → Does m (Move (given_up_offset way input (from + n))) mid moved → moved ≡ with_search_moved way input (from + n) mid
+    moved_to mid moved (asked, sound, inl (cached, same)) = same
+    moved_to mid moved (asked, sound, inr (not, made)) = absurd made
+
+    go :
+        (mid : CacheView) → AreUnitsRead way m input from n old mid
+        → DoAll m (Move (given_up_offset way input (from + n)) ∷ unit_event way m input (from + n) ∷ []) mid new
+        → (mid : CacheView) × AreUnitsRead way m input from n old mid
+        × IsUnitRead way m input (from + n) (with_search_moved way input (from + n) mid) new
+    go mid first (moved, moves, (read, reads, same)) = (
+      mid,
+      first,
+      subst (λ (v : CacheView). IsUnitRead way m input (from + n) v new) (moved_to mid moved moves)
+          (subst (λ (v : CacheView). IsUnitRead way m input (from + n) moved v) (sym same) reads),
     )
 
 -- units were read, and then the search ended at the last of them

@@ -159,6 +159,10 @@ HaveEnded way m input zero old new = new ≡ old
 HaveEnded way m input (suc passes) old new =
     (mid : CacheView) × HaveEnded way m input passes old mid × HasEnded way m (later way passes input) mid new
 
+-- over as many spans that it tries
+abbrev pub HaveTried : Direction → Machine → Input → (passes : ℕ) → (old new : CacheView) → Type 0
+HaveTried way m input passes old new = TriesSpans way m input passes × HaveEnded way m input passes old new
+
 -- a search that answers has ended the passes over all the spans that it tries
 abbrev pub EndsProgress : Direction → Machine → Input → (old new : CacheView) → Type 0
 EndsProgress way m input old new =

@@ -89,3 +89,23 @@ returns-clause-left c =
     subst (λ (r : Known). r.ended ≡ false → IsKnownUpto d c.args.self.now c.args.cache.now.store c.args.input.now r.at r.id r.found) (sym c.left-2.ensures)
     (λ _. subst (λ n. IsKnownUpto d c.args.self.now c.args.cache.now.store c.args.input.now n c.known_next-next.result c.found_at-found.result) more
     (known_more d c.args.self.now c.args.input.now k c.run-run.result.id c.args.cache.now c.run-run.result.found c.known_next-next.result c.requires.of c.see_bounds.ensures.sound upto few (subst (λ n. n < 2 ^ 31) (c.known_next-next.ensures.value low) low) (c.known_next-next.ensures.answer low) (c.known_next-next.ensures.below low) (λ b. false_true (c.if-is_quit.ensures.1 b)) c.found_at-found.result c.place_offset.result c.place_offset.ensures.value c.found_at-found.ensures (λ b. false_true (c.if-is_dead.ensures.1 b)) first less))
+
+pub returns-then-is_unknown-clause-left : goal.returns-then-is_unknown-clause-left
+returns-then-is_unknown-clause-left c =
+    let d : Direction = way_of c.args.way in
+    let upto : IsKnownUpto d c.args.self.now c.args.cache.now.store c.args.input.now c.run-run.result.at c.run-run.result.id c.run-run.result.found = record {
+      within = c.run-run.ensures.run.within;
+      at = record { undone = c.requires.at.undone; may = c.requires.at.may; at = c.run-run.ensures.at };
+      known = λ j below. c.run-run.ensures.run.known j (omega arith) below;
+    } in
+    subst (λ (r : Known). r.ended ≡ false → IsKnownUpto d c.args.self.now c.args.cache.now.store c.args.input.now r.at r.id r.found) (sym c.left.ensures) (λ _. upto)
+
+pub returns-then-is_quit-clause-left : goal.returns-then-is_quit-clause-left
+returns-then-is_quit-clause-left c =
+    let d : Direction = way_of c.args.way in
+    let upto : IsKnownUpto d c.args.self.now c.args.cache.now.store c.args.input.now c.run-run.result.at c.run-run.result.id c.run-run.result.found = record {
+      within = c.run-run.ensures.run.within;
+      at = record { undone = c.requires.at.undone; may = c.requires.at.may; at = c.run-run.ensures.at };
+      known = λ j below. c.run-run.ensures.run.known j (omega arith) below;
+    } in
+    subst (λ (r : Known). r.ended ≡ false → IsKnownUpto d c.args.self.now c.args.cache.now.store c.args.input.now r.at r.id r.found) (sym c.left-then-is_quit.ensures) (λ _. upto)

@@ -1,10 +1,10 @@
 use Rattle.std.proofs.Common.{◌≡◌, false, true, Some, inl, refl, sym, subst, arith}
-use Rattle.std.specs.Prelude.{Err, Ok}
+use Rattle.std.specs.Prelude.{Err, IfErr, Ok}
 use Rattle.automata_base.specs.ByteClasses.Classes.{is_quit}
-use Rattle.automata_hybrid.specs.Searches.Units.{IsReadAnswer, IsReadEffect}
+use Rattle.automata_hybrid.specs.Searches.Units.{IsReadAnswer, IsReadEffect, IsReadRefusal}
 use Rattle.automata_hybrid.specs.Searches.Passes.{IsStepRefusal}
 use Rattle.automata_hybrid.proofs.Searches.Contracts.{is_store}
-use Rattle.automata_hybrid.proofs.Searches.Reads.{at_err, byte_class, step_does, step_fails}
+use Rattle.automata_hybrid.proofs.Searches.Reads.{at_err, byte_class, end_refusal, step_does, step_fails}
 use Rattle.automata_hybrid.proofs.Searches.PassState.{false_true}
 use Rattle.automata_hybrid.proofs.Steps.Ids.{quits, unquit}
 use Rattle.automata_hybrid.proofs.dfa.DFA.read_still.Goals as goal
@@ -68,3 +68,8 @@ returns-then-is_quit-clause-effect c =
       taken = tt;
       left = λ q named. inl (on, c.in_ok-next-in-Some.ensures.effect.quit on);
     })
+
+pub returns-in-None-clause-refusal : goal.returns-in-None-clause-refusal
+returns-in-None-clause-refusal c =
+    subst (λ u. IfErr c.read_end.result (IsReadRefusal c.args.self.now c.args.id u c.args.quit_at c.args.at c.args.cache.now c.read_end.new.cache)) (sym c.in-None.is)
+    (end_refusal c.args.self.now c.args.id c.args.quit_at c.args.at c.args.cache.now c.args.cache.now c.read_end.new.cache refl c.read_end.result c.read_end.ensures.refusal)

@@ -4,6 +4,7 @@ use Rattle.automata_base.specs.Haystacks.Input.{Input}
 use Rattle.automata_hybrid.specs.Searches.Contracts.{based_half}
 use Rattle.automata_hybrid.specs.Searches.PassContracts.{input_at}
 use Rattle.automata_hybrid.specs.Searches.Passes.{IsFound}
+use Rattle.automata_hybrid.specs.Searches.Progress.{IsSearchRun}
 use Rattle.automata_hybrid.specs.Walks.State.{way_of}
 use Rattle.automata_hybrid.specs.declared.search.direction.Way.{Way}
 use Rattle.automata_hybrid.proofs.dfa.DFA.search_skipping.Goals as goal
@@ -17,3 +18,13 @@ pub returns-in-Backward-clause-found : goal.returns-in-Backward-clause-found
 returns-in-Backward-clause-found c =
     subst (λ (w : Way). IfOk c.search_spans-in-Backward.result (λ o. IsFound (way_of w) c.args.self.now (input_at c.args.haystack.now c.args.span c.args.anchored c.args.earliest) (based_half o))) (sym c.in-Backward.is)
     (subst (λ (i : Input). IfOk c.search_spans-in-Backward.result (λ o. IsFound (way_of Way.Backward) c.args.self.now i (based_half o))) c.input_of-own.ensures c.search_spans-in-Backward.ensures.found)
+
+pub returns-in-Forward-clause-effect : goal.returns-in-Forward-clause-effect
+returns-in-Forward-clause-effect c =
+    subst (λ (w : Way). IsSearchRun (way_of w) c.args.self.now (input_at c.args.haystack.now c.args.span c.args.anchored c.args.earliest) c.args.cache.now c.search_spans.new.cache c.search_spans.result) (sym c.in-Forward.is)
+    (subst (λ (i : Input). IsSearchRun (way_of Way.Forward) c.args.self.now i c.args.cache.now c.search_spans.new.cache c.search_spans.result) c.input_of-own.ensures c.search_spans.ensures.effect)
+
+pub returns-in-Backward-clause-effect : goal.returns-in-Backward-clause-effect
+returns-in-Backward-clause-effect c =
+    subst (λ (w : Way). IsSearchRun (way_of w) c.args.self.now (input_at c.args.haystack.now c.args.span c.args.anchored c.args.earliest) c.args.cache.now c.search_spans-in-Backward.new.cache c.search_spans-in-Backward.result) (sym c.in-Backward.is)
+    (subst (λ (i : Input). IsSearchRun (way_of Way.Backward) c.args.self.now i c.args.cache.now c.search_spans-in-Backward.new.cache c.search_spans-in-Backward.result) c.input_of-own.ensures c.search_spans-in-Backward.ensures.effect)

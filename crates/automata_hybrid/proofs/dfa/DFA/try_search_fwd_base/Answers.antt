@@ -4,6 +4,7 @@ use Rattle.automata_base.specs.Nfas.Nodes.{Automaton}
 use Rattle.automata_base.specs.Haystacks.Tapes.{Forward}
 use Rattle.automata_base.specs.Answers.OfPasses.{ReportedEndsAreRight, ReportedIsRight}
 use Rattle.automata_base.specs.Answers.Within.{ReportedLiesWithin}
+use Rattle.automata_hybrid.proofs.Searches.Follows.{cost_upto, search_follows}
 use Rattle.automata_hybrid.proofs.Searches.Reach.{refused_memory}
 use Rattle.automata_hybrid.proofs.Searches.Contracts.{is_store, may_refuse}
 use Rattle.automata_hybrid.proofs.Searches.Skips.{found_reported}
@@ -37,7 +38,7 @@ returns-clause-based c =
           (λ o found. (ends Forward (match_kind_of m.config) input _ (haystack.bytes, haystack.within.1) (found_reported Forward m input _ found)).1 late all)
           s.found;
       within = lies_past m input lies haystack.within.1 r s.found;
-      errors = may_refuse r Forward m cache input (is_store cache m s.of c.see_bounds.ensures.bounds) s.refusal;
+      errors = may_refuse r Forward m cache input (is_store cache m s.of c.see_bounds-2.ensures.bounds) s.refusal;
       unsupported = s.unsupported;
       free = λ f.
           IfErr-weaker r _ _ (λ e x. refused_memory Forward m cache input e haystack.within.1 s.of f.reach f.supported f.clears x)
@@ -45,5 +46,13 @@ returns-clause-based c =
       done = s.done;
     }
 
+pub returns-clause-effect : goal.returns-clause-effect
+returns-clause-effect c =
+    search_follows Forward c.args.self.now c.args.input.now c.args.cache.now c.search-found.new.cache c.search-found.result
+    (is_store c.args.cache.now.store c.args.self.now c.requires c.see_bounds.ensures.bounds, c.see_bounds.ensures.sound) c.search-found.ensures.effect
+
 pub returns-clause-upto : goal.returns-clause-upto
-returns-clause-upto c = c.search-found.ensures.upto refl
+returns-clause-upto c =
+    cost_upto c.args.self.now c.args.input.now c.args.cache.now c.search-found.new.cache
+    (is_store c.args.cache.now.store c.args.self.now c.requires c.see_bounds.ensures.bounds, c.see_bounds.ensures.sound) c.search-found.result
+    (c.search-found.ensures.upto refl)

@@ -8,6 +8,7 @@ use Rattle.automata_base.specs.Answers.Within.{ReportedLiesWithin}
 use Rattle.automata_config.specs.Options.{match_kind_of}
 use Rattle.automata_hybrid.specs.Searches.Contracts.{IsHalf, IsSearchEffect, halves}
 use Rattle.automata_hybrid.specs.Searches.Passes.{IsFound, IsRefused}
+use Rattle.automata_hybrid.proofs.Searches.Follows.{search_follows}
 use Rattle.automata_hybrid.proofs.Searches.Reach.{refused_memory}
 use Rattle.automata_hybrid.proofs.Searches.Contracts.{halves_effect, halves_err, halves_ok, is_store, may_refuse}
 use Rattle.automata_hybrid.proofs.Searches.Skips.{found_reported}
@@ -42,7 +43,7 @@ returns-clause-half c =
           (λ o found. (ends Backward (match_kind_of m.config) input _ (haystack.bytes, haystack.within.1) (found_reported Backward m input _ found)).1 late all)
           s.found);
       within = lies_in m input lies haystack.within.1 Backward (halves r) found;
-      errors = halves_err _ r (may_refuse r Backward m cache input (is_store cache m s.of c.see_bounds.ensures.bounds) s.refusal);
+      errors = halves_err _ r (may_refuse r Backward m cache input (is_store cache m s.of c.see_bounds-2.ensures.bounds) s.refusal);
       unsupported = λ u. ap halves (s.unsupported u);
       free = λ f.
           halves_err _ r
@@ -59,4 +60,6 @@ returns-clause-refusal c =
 pub returns-clause-effect : goal.returns-clause-effect
 returns-clause-effect c =
     subst (λ v. IsSearchEffect Backward c.args.self.now c.args.input.now c.args.cache.now c.search-found.new.cache v) (sym c.without_base.ensures)
-    (halves_effect Backward c.args.self.now c.args.input.now c.args.cache.now c.search-found.new.cache c.search-found.result c.search-found.ensures.effect)
+    (halves_effect Backward c.args.self.now c.args.input.now c.args.cache.now c.search-found.new.cache c.search-found.result
+    (search_follows Backward c.args.self.now c.args.input.now c.args.cache.now c.search-found.new.cache c.search-found.result
+    (is_store c.args.cache.now.store c.args.self.now c.requires c.see_bounds.ensures.bounds, c.see_bounds.ensures.sound) c.search-found.ensures.effect))
