@@ -1,6 +1,6 @@
 -- What follows from the events of a call: how often it determinizes, how the cache grows, and what is cached after it.
-use Rattle.std.proofs.Common.{ℕ, zero, suc, ◌≡◌, ◌∙◌, ◌+◌, ◌*◌, ◌<◌, ◌≤◌, ◌⊎◌, List, [], ◌∷◌, ◌++◌, Option, None, Some, inl, inr, refl}
-use Rattle.std.proofs.Common.{false, sym, ap, subst, arith, slice_get, true}
+use Rattle.std.proofs.Common.{ℕ, ◌≡◌, ◌∙◌, ◌+◌, ◌*◌, ◌<◌, ◌≤◌, ◌⊎◌, List, [], ◌∷◌, ◌++◌, Option, None, Some, inl, inr, refl}
+use Rattle.std.proofs.Common.{sym, ap, subst, arith, true}
 use Rattle.std.proofs.lemmas.Bool.{cases_lt}
 use Rattle.automata_base.specs.Powersets.Powerset.{Powerset, cost}
 use Rattle.automata_base.specs.Retraced.Steps.{successor, start_state_of}
@@ -8,11 +8,11 @@ use Rattle.automata_base.specs.declared.util.search.Anchored.{Anchored}
 use Rattle.automata_base.proofs.Paths.Orders.{none_some}
 use Rattle.automata_config.specs.Options.{match_kind_of, specialize_start_states_of}
 use Rattle.automata_hybrid.specs.declared.dfa.row.Row.{Row}
-use Rattle.automata_hybrid.specs.Cache.Caches.{CacheView, IsSoundOf, IsStoreOf, counted}
+use Rattle.automata_hybrid.specs.Cache.Caches.{CacheView, IsSoundOf, counted}
 use Rattle.automata_hybrid.specs.Cache.Changes.{IsComputed, IsStarted}
 use Rattle.automata_hybrid.specs.Cache.Growth.{ClearedNothing, IsGrown, Keeps}
 use Rattle.automata_hybrid.specs.Cache.Ids.{unknown_id}
-use Rattle.automata_hybrid.specs.Cache.Stores.{IsKnownStart, IsSoundStore, Stored, with_searched, with_start}
+use Rattle.automata_hybrid.specs.Cache.Stores.{IsSoundStore, Stored, with_searched, with_start}
 use Rattle.automata_hybrid.specs.Cache.Table.{AreRows, IsKnownState, Lacks, Leads, Names, Rows, TagsNewStates, id_of, row_id}
 use Rattle.automata_hybrid.specs.Cache.Usage.{cleared}
 use Rattle.automata_hybrid.specs.Calls.Events.{AreCached, Begin, DoAll, Does, End, Event, Fails, IsCached, IsStepLeft, MayAsk}
@@ -333,12 +333,6 @@ pub do_one : (m : Machine) (e : Event) (a b : CacheView) → Does m e a b → Do
 do_one m e a b does = (b, does, refl)
 
 -- what fails changes nothing but the count
-pub failed_store : (m : Machine) (e : Event) (old new : CacheView) → Fails m e old new → new.store ≡ old.store
-failed_store m e old new fails = go fails.unchanged where
-  go : (new ≡ old) ⊎ (new ≡ counted old) → new.store ≡ old.store
-  go (inl same) = ap (λ (v : CacheView). v.store) same
-  go (inr same) = ap (λ (v : CacheView). v.store) same
-
 pub failed_grown : (m : Machine) (e : Event) (old new : CacheView) → Fails m e old new → IsGrown old new
 failed_grown m e old new fails = go fails.unchanged where
   go : (new ≡ old) ⊎ (new ≡ counted old) → IsGrown old new

@@ -5,19 +5,16 @@ use Rattle.std.specs.Prelude.{Result, IfErr}
 use Rattle.std.proofs.lemmas.Result.{IfErr-weaker}
 use Rattle.automata_base.specs.Answers.Answers.{Tries, later}
 use Rattle.automata_base.specs.Haystacks.Input.{Input}
-use Rattle.automata_base.specs.Haystacks.Matches.{HalfMatch}
 use Rattle.automata_base.specs.Paths.Paths.{next}
-use Rattle.automata_base.specs.Powersets.Powerset.{Powerset, dead}
 use Rattle.automata_base.specs.Haystacks.Tapes.{Direction}
 use Rattle.automata_base.specs.declared.util.search.Anchored.{Anchored}
 use Rattle.automata_base.proofs.Paths.Orders.{none_some}
 use Rattle.automata_config.specs.declared.error.StartError.{StartError}
 use Rattle.automata_config.specs.declared.error.StartError.TheVariants as start
 use Rattle.automata_config.specs.declared.error.SearchError.{SearchError}
-use Rattle.automata_hybrid.specs.declared.dfa.progress.Searched.{Searched}
-use Rattle.automata_hybrid.specs.Cache.Stores.{Stored, IsKnownStart, IsKnownTransition, with_searched}
-use Rattle.automata_hybrid.specs.Cache.Caches.{CacheView, with_store}
-use Rattle.automata_hybrid.specs.Cache.Growth.{IsGrown, ClearedNothing, Keeps}
+use Rattle.automata_hybrid.specs.Cache.Stores.{Stored, IsKnownStart}
+use Rattle.automata_hybrid.specs.Cache.Caches.{CacheView}
+use Rattle.automata_hybrid.specs.Cache.Growth.{IsGrown, Keeps}
 use Rattle.automata_hybrid.specs.Searches.Cached.{IsOfInput, Knows, KnowsItsStart, KnowsPass, KnowsUnit}
 use Rattle.automata_hybrid.specs.Steps.Steps.{unit_class}
 use Rattle.automata_hybrid.specs.Machines.Machine.{Machine, table_stride, slot_count}
@@ -27,9 +24,8 @@ use Rattle.automata_hybrid.specs.Machines.StartSlots.{slot_behind, supports}
 use Rattle.automata_hybrid.specs.Steps.Starts.{HasSlot, IsStartEffect, IsStartRefusal, IsStartRefusedAt, KnowsStart}
 use Rattle.automata_hybrid.specs.Steps.Starts.{MayStart, quit_behind, search_refusal}
 use Rattle.automata_hybrid.specs.Cache.Table.{Names}
-use Rattle.automata_hybrid.proofs.Searches.PassState.{at_reads, false_true}
+use Rattle.automata_hybrid.proofs.Searches.PassState.{false_true}
 use Rattle.std.proofs.lemmas.Bool.{cases_lt}
-use Rattle.automata_hybrid.proofs.Steps.Effects.{one_id}
 
 -- all that a pass used is cached: its start state, and each transition that it took
 abbrev pub HasLearnedAll : Direction → Machine → Stored → Input → Type 0

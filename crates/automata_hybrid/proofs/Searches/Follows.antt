@@ -1,11 +1,11 @@
 -- What follows of the runs of passes and searches: what they cost a cache, how it grows, and what is cached.
 use Rattle.std.proofs.Common.{ℕ, zero, suc, ◌≡◌, ◌∙◌, ◌+◌, ◌-◌, ◌<◌, ◌≤◌, ◌⊎◌, List, [], ◌∷◌, ◌++◌, Bool, true, false, length, Option}
-use Rattle.std.proofs.Common.{None, Some, inl, inr, refl, sym, ap, subst, arith, take, drop}
+use Rattle.std.proofs.Common.{None, Some, inl, inr, refl, sym, ap, subst, arith, drop}
 use Rattle.std.proofs.lemmas.Bool.{cases_lt}
 use Rattle.std.proofs.lemmas.List.{length-reverse, length-take}
 use Rattle.std.specs.Prelude.{Result, Ok, Err, IfErr, IfOk, IfSome, OnOk}
 use Rattle.automata_base.specs.Haystacks.Matches.{HalfMatch}
-use Rattle.automata_base.specs.Answers.Answers.{Tries, later}
+use Rattle.automata_base.specs.Answers.Answers.{later}
 use Rattle.automata_base.specs.Haystacks.Input.{Input}
 use Rattle.automata_base.specs.Haystacks.Tapes.{Direction, Forward, Backward, between}
 use Rattle.automata_base.specs.Paths.Paths.{next}
@@ -19,7 +19,7 @@ use Rattle.automata_config.specs.declared.error.SearchError.TheVariants as searc
 use Rattle.automata_hybrid.specs.Cache.Caches.{CacheView, IsSoundOf}
 use Rattle.automata_hybrid.specs.Cache.Growth.{ClearedNothing, IsGrown, IsStill}
 use Rattle.automata_hybrid.specs.Cache.Stores.{Stored}
-use Rattle.automata_hybrid.specs.Calls.Events.{AreCached, Begin, DoAll, End, Event, IsStepLeft, MayAsk, Move, makings, with_progress}
+use Rattle.automata_hybrid.specs.Calls.Events.{AreCached, Begin, DoAll, End, Event, IsStepLeft, MayAsk, Move, makings}
 use Rattle.automata_hybrid.specs.Machines.Machine.{Machine, table_stride}
 use Rattle.automata_hybrid.specs.Machines.StartSlots.{supports}
 use Rattle.automata_hybrid.specs.Searches.Cached.{IsOfInput, Knows, KnowsItsStart, KnowsPass, KnowsUnit}
@@ -28,12 +28,12 @@ use Rattle.automata_hybrid.specs.Searches.Costs.{IsCostOfPasses, IsCostUpto, pas
 use Rattle.automata_hybrid.specs.Searches.PassState.{HasLearnedUnit}
 use Rattle.automata_hybrid.specs.Searches.Passes.{Finds, HasReadNoQuit, IsUnitRefusal, Reads, Skips, given_up_offset, state_in, tape_in}
 use Rattle.automata_hybrid.specs.Searches.Progress.{EndsAtLast, EndsProgress, HasEnded, HasNoStart, HaveEnded, HaveTried, IsLeft, IsLeftAt, IsPassLeftAt}
-use Rattle.automata_hybrid.specs.Searches.Progress.{IsPassRun, IsSearchRun, IsStoppedAt, KeepsNone, LeavesProgress, TriesSpan, TriesSpans}
+use Rattle.automata_hybrid.specs.Searches.Progress.{IsSearchRun, LeavesProgress, TriesSpan, TriesSpans}
 use Rattle.automata_hybrid.specs.Searches.Progress.{start_event, unit_event, unit_events, with_search_begun, with_search_ended, with_search_moved}
 use Rattle.automata_hybrid.specs.Steps.Starts.{IsStartRefusal, IsStartRefusalAt, MayStart, quit_behind, search_refusal}
 use Rattle.automata_hybrid.specs.Steps.Steps.{quits_on, unit_class}
 use Rattle.automata_hybrid.proofs.Cache.Growth.{clears_none, grown_moved, grown_same, grown_trans, nothing_first, nothing_second}
-use Rattle.automata_hybrid.proofs.Calls.Laws.{Follows, all_sound, cached_idle, cached_join, cached_split, do_join, do_one, do_split}
+use Rattle.automata_hybrid.proofs.Calls.Laws.{Follows, all_sound, cached_idle, cached_join, cached_split, do_one, do_split}
 use Rattle.automata_hybrid.proofs.Calls.Laws.{failed_count, failed_grown, first_cached, follows_all, left_count, left_grown, left_known}
 use Rattle.automata_hybrid.proofs.Calls.Laws.{makings_join, moved_sound}
 use Rattle.automata_hybrid.proofs.Searches.Cached.{HasLearnedAll, LearnedSpans, search_still, spans_all, spans_more, spans_still}
@@ -120,6 +120,11 @@ pub record PassFollows {T : Type 0} (way : Direction) (m : Machine) (input : Inp
   pub learned : ClearedNothing old.store new.store → OnOk result (HasLearnedAll way m new.store input)
   pub sound : OnOk result (IsSoundOf new.store m)
 
+-- what a pass that reads so many units does after its start
+abbrev after_start : Direction → Machine → Input → (units : ℕ) → List Event
+after_start way m input units =
+    Begin (given_up_offset way input 0) ∷ (unit_events way m input 0 units ++ (End (given_up_offset way input (0 + (units - 1))) ∷ []))
+
 module _ (way : Direction) (m : Machine) (input : Input) (old new : CacheView) (sound : IsSoundOf old.store m) where
   -- a pass asked for its start state, and then did the rest
   module _ (es : List Event) (all : DoAll m (start_event way input ∷ es) old new) where
@@ -154,10 +159,7 @@ module _ (way : Direction) (m : Machine) (input : Input) (old new : CacheView) (
       let parts = do_split m (unit_events way m input 0 units) (End (given_up_offset way input (0 + (units - 1))) ∷ []) (with_search_begun way input 0 begun) new all in
       go begins parts.0 parts.1
     where
-      abbrev rest : List Event
-      rest = Begin (given_up_offset way input 0) ∷ (unit_events way m input 0 units ++ (End (given_up_offset way input (0 + (units - 1))) ∷ []))
-
-      whole : first ≡ begun → DoAll m (start_event way input ∷ rest) old new
+      whole : first ≡ begun → DoAll m (start_event way input ∷ (after_start way m input units)) old new
       whole begins = (
         first,
         starts,
@@ -168,12 +170,12 @@ module _ (way : Direction) (m : Machine) (input : Input) (old new : CacheView) (
         ),
       )
 
-      few : makings rest ≤ input.end - input.start + 1
+      few : makings (after_start way m input units) ≤ input.end - input.start + 1
       few = count units refl where
-        made : makings rest ≡ makings (unit_events way m input 0 units) + 0
+        made : makings (after_start way m input units) ≡ makings (unit_events way m input 0 units) + 0
         made = makings_join (unit_events way m input 0 units) (End (given_up_offset way input (0 + (units - 1))) ∷ [])
 
-        count : (n : ℕ) → n ≡ units → makings rest ≤ input.end - input.start + 1
+        count : (n : ℕ) → n ≡ units → makings (after_start way m input units) ≤ input.end - input.start + 1
         count zero is = omega (arith, made, units_makings way m input 0 units, is)
         count (suc n) is =
             let last : n ≤ length (tape_in way input).bytes = (reads.0 n (omega (arith, is))).0 in
@@ -186,8 +188,8 @@ module _ (way : Direction) (m : Machine) (input : Input) (old new : CacheView) (
           let all_of = whole begins in
           let asked = units_asked way m input 0 units (with_search_begun way input 0 begun) mid before in
           let clean = units_clean way m input units (with_search_begun way input 0 begun) mid before in
-          let after = all_sound m (start_event way input ∷ rest) old new sound all_of in
-          pass_follows rest all_of answer few
+          let after = all_sound m (start_event way input ∷ (after_start way m input units)) old new sound all_of in
+          pass_follows (after_start way m input units) all_of answer few
           (λ knows. (
             tt,
             cached_join m old.store (unit_events way m input 0 units) (End (given_up_offset way input (0 + (units - 1))) ∷ [])

@@ -12,7 +12,7 @@ use Rattle.automata_hybrid.specs.declared.dfa.progress.Searched.{Searched}
 use Rattle.automata_hybrid.specs.Cache.Caches.{CacheView, IsCacheOf, IsSoundOf, with_store}
 use Rattle.automata_hybrid.specs.Calls.Events.{Begin, Move}
 use Rattle.automata_hybrid.specs.Cache.Progress.{distance, saturated, progress_started, total_len}
-use Rattle.automata_hybrid.specs.Cache.Stores.{IsSoundStore, Stored, with_searched}
+use Rattle.automata_hybrid.specs.Cache.Stores.{IsSoundStore, with_searched}
 use Rattle.automata_hybrid.specs.Cache.Ids.{HasDeadTag, HasQuitTag, quit_id}
 use Rattle.automata_hybrid.specs.Cache.Table.{Leads, Rows}
 use Rattle.automata_hybrid.specs.Machines.Machine.{Machine, table_stride}

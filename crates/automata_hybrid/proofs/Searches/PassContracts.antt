@@ -1,7 +1,6 @@
 -- What a pass answers and makes of its cache, from what its parts do.
-use Rattle.std.proofs.Common.{ℕ, suc, ◌≡◌, ◌∙◌, ◌+◌, ◌-◌, ◌≤◌, length, Option, Some, None, true, false, inl, sym, ap}
-use Rattle.std.proofs.Common.{List, Bool, subst, arith}
-use Rattle.std.specs.Prelude.{Result, Ok, Err, IfErr, OnOk}
+use Rattle.std.proofs.Common.{ℕ, suc, ◌≡◌, ◌∙◌, ◌+◌, ◌-◌, ◌≤◌, length, Option, Some, None, true, false, sym}
+use Rattle.std.proofs.Common.{List, Bool, subst}
 use Rattle.automata_base.specs.Answers.Answers.{offset_in}
 use Rattle.automata_base.specs.ByteClasses.Classes.{is_quit}
 use Rattle.automata_base.specs.Haystacks.Input.{Input}
@@ -13,25 +12,17 @@ use Rattle.automata_base.specs.Powersets.Powerset.{Powerset, dead}
 use Rattle.automata_base.specs.Retraced.Steps.{successor}
 use Rattle.automata_base.specs.Haystacks.Tapes.{Direction}
 use Rattle.automata_config.specs.Options.{match_kind_of}
-use Rattle.automata_config.specs.declared.error.SearchError.{SearchError}
 use Rattle.automata_hybrid.specs.declared.dfa.progress.Searched.{Searched}
 use Rattle.automata_hybrid.specs.Cache.Caches.{CacheView, with_store}
-use Rattle.automata_hybrid.specs.Cache.Growth.{ClearedNothing, IsGrown}
-use Rattle.automata_hybrid.specs.Searches.Cached.{KnowsItsStart, KnowsPass}
-use Rattle.automata_hybrid.specs.Machines.Machine.{Machine, slot_count}
+use Rattle.automata_hybrid.specs.Machines.Machine.{Machine}
 use Rattle.automata_hybrid.specs.Searches.PassContracts.{IsPassAnswer, IsUnderway, input_at}
 use Rattle.automata_hybrid.specs.Searches.PassState.{half_at}
 use Rattle.automata_hybrid.specs.Searches.Units.{IsReadAnswer}
-use Rattle.automata_hybrid.specs.Searches.Progress.{HasEnded, IsLeft}
-use Rattle.automata_hybrid.specs.Searches.Passes.{Reads, behind_offset, state_in, tape_in}
-use Rattle.automata_hybrid.specs.Machines.StartSlots.{slot_behind}
-use Rattle.automata_hybrid.specs.Steps.Starts.{IsStartAnswer, IsStartEffect, IsStartRefusalAt, IsStartRefusedAt}
-use Rattle.automata_hybrid.specs.Steps.Steps.{KnowsStep}
-use Rattle.automata_hybrid.specs.Cache.Stores.{IsKnownStart, with_searched}
+use Rattle.automata_hybrid.specs.Searches.Passes.{Reads, state_in, tape_in}
+use Rattle.automata_hybrid.specs.Cache.Stores.{with_searched}
 use Rattle.automata_hybrid.specs.Cache.Table.{Leads, Names}
 use Rattle.automata_hybrid.proofs.Searches.PassState.{clean_dead, clean_ends, clean_last, more_dead, more_ends, more_last}
-use Rattle.automata_hybrid.proofs.Searches.PassState.{stops_dead, stops_ends, stops_start}
-use Rattle.automata_hybrid.proofs.Steps.Starts.{refusal_at}
+use Rattle.automata_hybrid.proofs.Searches.PassState.{stops_dead, stops_ends}
 use Rattle.automata_hybrid.proofs.Steps.Steps.{no_quit_unit}
 
 -- the parts of an input make it again

@@ -16,7 +16,7 @@ use Rattle.automata_hybrid.specs.Cache.Ids.{fixed_from, unknown_id}
 use Rattle.automata_hybrid.specs.Cache.Progress.{progress_finished, progress_updated}
 use Rattle.automata_hybrid.specs.Cache.Stores.{with_searched}
 use Rattle.automata_hybrid.specs.Cache.Table.{Names, Rows}
-use Rattle.automata_hybrid.specs.Calls.Events.{Does, End, Fails, IsStepLeft, Move, Step, with_progress}
+use Rattle.automata_hybrid.specs.Calls.Events.{Does, End, IsStepLeft, Move, Step, with_progress}
 use Rattle.automata_hybrid.specs.Machines.Machine.{IsClassOf, IsMachine, Machine, table_stride}
 use Rattle.automata_hybrid.specs.Searches.Units.{IsReadEffect, IsReadRefusal, IsStepRefusedAt}
 use Rattle.automata_hybrid.specs.Searches.Passes.{IsStepRefusal}

@@ -14,7 +14,6 @@ use Rattle.automata_hybrid.specs.Cache.Stores.{IsKnownTransition, Stored, cell_o
 use Rattle.automata_hybrid.specs.Cache.Ids.{HasOnly, IsRunTag, quit_id}
 use Rattle.automata_hybrid.specs.Steps.Steps.{known_step, unit_class}
 use Rattle.automata_hybrid.specs.Machines.Machine.{Machine, table_stride}
-use Rattle.automata_hybrid.specs.Searches.Cached.{KnowsUnit}
 use Rattle.automata_hybrid.specs.Searches.PassState.{HasLearnedUnit, IsAt, IsFollowed, IsMet, IsRun, IsTagAt}
 use Rattle.automata_hybrid.specs.Searches.PassState.{IsTaken, half_at, half_of}
 use Rattle.automata_hybrid.specs.Searches.Passes.{HasReadNoQuit, state_in, tape_in, reported_in}

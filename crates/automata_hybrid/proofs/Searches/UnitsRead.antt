@@ -1,5 +1,5 @@
 -- Units that are read one after another, and what the search under way is moved to on the way.
-use Rattle.std.proofs.Common.{ℕ, zero, suc, ◌≡◌, ◌∙◌, ◌+◌, ◌-◌, ◌<◌, ◌≤◌, ◌⊎◌, List, [], ◌∷◌, true, false, length, Option, None}
+use Rattle.std.proofs.Common.{ℕ, zero, suc, ◌≡◌, ◌∙◌, ◌+◌, ◌-◌, ◌<◌, ◌≤◌, ◌⊎◌, [], ◌∷◌, false, length, Option, None}
 use Rattle.std.proofs.Common.{Some, inl, inr, refl, sym, ap, subst, arith, cond, nat_lt, eq-or-lt_of_le}
 use Rattle.automata_base.specs.Haystacks.Input.{Input}
 use Rattle.automata_base.specs.Paths.Paths.{next}

@@ -20,7 +20,7 @@ use Rattle.automata_config.specs.declared.error.SearchError.TheVariants as searc
 use Rattle.automata_hybrid.specs.Cache.Stores.{Stored}
 use Rattle.automata_hybrid.specs.Cache.Caches.{CacheView, IsSoundOf, counted}
 use Rattle.automata_hybrid.specs.Walks.Cached.{IsToRead, KnowsItsState}
-use Rattle.automata_hybrid.specs.Cache.Growth.{IsAddRefused, IsGrown}
+use Rattle.automata_hybrid.specs.Cache.Growth.{IsAddRefused}
 use Rattle.automata_hybrid.specs.Cache.Usage.{GivesUp}
 use Rattle.automata_hybrid.specs.Searches.Cached.{IsOfInput}
 use Rattle.automata_hybrid.specs.Machines.Machine.{Machine, slot_count, table_stride}

@@ -1,5 +1,5 @@
 -- What a search answers by its DFA and its input alone, whatever the cache, and what it makes of its cache.
-use Rattle.std.specs.Prelude.{ℕ, ◌≡◌, ◌<◌, ◌≤◌, length, true, false, Option, None, option_map, Result, Ok, Err, IfOk}
+use Rattle.std.specs.Prelude.{ℕ, ◌≡◌, ◌<◌, ◌≤◌, true, false, Option, None, option_map, Result, Ok, Err, IfOk}
 use Rattle.std.specs.Prelude.{IfErr, IfSome, OnOk}
 use Rattle.automata_base.specs.Answers.Answers.{Half, IsAnswer}
 use Rattle.automata_base.specs.Nfas.Engines.{engine_of}

@@ -15,9 +15,9 @@ use Rattle.automata_config.specs.declared.error.SearchError.{SearchError}
 use Rattle.automata_config.specs.declared.error.SearchError.TheVariants as search
 use Rattle.automata_hybrid.specs.Machines.Machine.{Machine, table_stride}
 use Rattle.automata_hybrid.specs.Cache.Table.{Rows, Names}
-use Rattle.automata_hybrid.specs.Searches.Passes.{HasReadNoQuit, Reads, tape_in, state_in, reported_in}
+use Rattle.automata_hybrid.specs.Searches.Passes.{HasReadNoQuit, tape_in, state_in, reported_in}
 use Rattle.automata_hybrid.specs.Cache.Stores.{Stored}
-use Rattle.automata_hybrid.specs.Searches.Cached.{KnowsItsStart, KnowsUnit}
+use Rattle.automata_hybrid.specs.Searches.Cached.{KnowsUnit}
 use Rattle.automata_hybrid.specs.Cache.Ids.{HasMatchTag, HasOnly, IsRunTag, unknown_id}
 use Rattle.automata_hybrid.specs.Steps.Steps.{known_step, unit_class}
 use Rattle.automata_config.specs.Options.{match_kind_of}

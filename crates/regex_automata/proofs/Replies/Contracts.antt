@@ -8,9 +8,9 @@ use Rattle.automata_base.specs.Paths.Paths.{IsLookAcyclic}
 use Rattle.automata_base.specs.Answers.Spans.{IsMatch, IsSpan, TryFinds}
 use Rattle.automata_base.specs.Haystacks.Tapes.{Forward}
 use Rattle.automata_config.specs.declared.error.SearchError.{SearchError}
-use Rattle.automata_hybrid.specs.Cache.Caches.{CacheView}
+use Rattle.automata_hybrid.specs.Cache.Caches.{CacheView, IsStoreOf}
 use Rattle.automata_hybrid.specs.Machines.Machine.{Machine}
-use Rattle.automata_hybrid.specs.Searches.Contracts.{IsMemory, IsStoreOf, MayRefuse, unsupported_error}
+use Rattle.automata_hybrid.specs.Searches.Contracts.{IsMemory, MayRefuse, unsupported_error}
 use Rattle.automata_hybrid.specs.Searches.Passes.{NoQuitInReach, Skips, tape_in}
 use Rattle.automata_hybrid.specs.Machines.StartSlots.{supports}
 use Rattle.automata_hybrid.specs.Steps.Starts.{quit_behind}

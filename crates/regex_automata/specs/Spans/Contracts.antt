@@ -16,7 +16,8 @@ use Rattle.automata_config.specs.declared.error.SearchError.TheVariants as searc
 use Rattle.automata_hybrid.specs.Walks.Cached.{IsOpen}
 use Rattle.automata_hybrid.specs.Cache.Stores.{Stored}
 use Rattle.automata_hybrid.specs.Machines.Machine.{Machine}
-use Rattle.automata_hybrid.specs.Searches.Contracts.{IsMemory, IsStoreOf, IsUnhindered, IsUnsupported}
+use Rattle.automata_hybrid.specs.Searches.Contracts.{IsMemory, IsUnhindered, IsUnsupported}
+use Rattle.automata_hybrid.specs.Cache.Caches.{IsStoreOf}
 use Rattle.automata_hybrid.specs.Searches.Contracts.{unsupported_error}
 use Rattle.automata_hybrid.specs.Walks.Contracts.{MayRefuseCall, MayRefuseWhich}
 use Rattle.automata_hybrid.specs.Walks.Progress.{IsOpenAfter}

@@ -1,7 +1,7 @@
 ghost use Rattle.std.specs.Prelude.{◌≡◌, ◌+◌, ◌^◌, ◌-◌, IfOk, OnOk, OnErr, min};
 ghost use Rattle.std.specs.Borrow.{sem};
 ghost use Rattle.automata_hybrid.specs.Cache.Usage.{usage};
-ghost use Rattle.automata_hybrid.specs.Searches.Contracts.{IsStoreOf};
+ghost use Rattle.automata_hybrid.specs.Cache.Caches.{IsStoreOf};
 ghost use Rattle.regex_automata.specs.Regexes.Caches.{AreFresh};
 ghost use Rattle.regex_automata.specs.Regexes.LentCaches.{LendsBothParts, LendsForward, LendsReverse, StaysSame};
 

@@ -1,5 +1,5 @@
 use Rattle.std.proofs.Common.{◌≡◌, ◌∙◌, ap, None, refl, sym, subst, inl, inr, arith}
-use Rattle.std.specs.Prelude.{Err, IfErr, Ok}
+use Rattle.std.specs.Prelude.{IfErr}
 use Rattle.automata_base.specs.Haystacks.Input.{Allows, Input}
 use Rattle.std.proofs.lemmas.Result.{IfErr-weaker, IfOk-weaker}
 use Rattle.automata_base.specs.Powersets.Powerset.{dead}

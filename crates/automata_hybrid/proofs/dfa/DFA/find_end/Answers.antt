@@ -1,4 +1,4 @@
-use Rattle.std.proofs.Common.{ℕ, ◌≡◌, ◌∙◌, ◌-◌, length, refl, sym, ap, subst, arith}
+use Rattle.std.proofs.Common.{ℕ, ◌≡◌, ◌∙◌, ◌-◌, length, sym, ap, subst}
 use Rattle.automata_base.specs.Answers.Answers.{offset_in}
 use Rattle.automata_base.specs.Paths.Paths.{next}
 use Rattle.automata_base.specs.Powersets.Powerset.{Powerset}
@@ -16,7 +16,7 @@ use Rattle.automata_hybrid.proofs.Searches.Contracts.{is_store}
 use Rattle.automata_hybrid.proofs.Searches.Directions.{units_in}
 use Rattle.automata_hybrid.proofs.Searches.PassContracts.{last_answer}
 use Rattle.automata_hybrid.proofs.Searches.UnitsRead.{ended_here, last_left, last_read, refused_here, taken_here}
-use Rattle.automata_hybrid.proofs.Searches.PassState.{unit_refuses, stops_last}
+use Rattle.automata_hybrid.proofs.Searches.PassState.{unit_refuses}
 use Rattle.automata_hybrid.proofs.dfa.DFA.find_end.Goals as goal
 
 pub read-requires-clause-valid : goal.read-requires-clause-valid

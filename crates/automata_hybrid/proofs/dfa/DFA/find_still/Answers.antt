@@ -6,7 +6,7 @@ use Rattle.automata_hybrid.specs.Walks.State.{way_of}
 use Rattle.automata_hybrid.proofs.Searches.Directions.{none_empty, units_in}
 use Rattle.automata_hybrid.proofs.Searches.PassContracts.{last_answer}
 use Rattle.automata_hybrid.proofs.Searches.Reads.{at_err}
-use Rattle.automata_hybrid.proofs.Searches.PassState.{unit_refuses, stops_last, if_err}
+use Rattle.automata_hybrid.proofs.Searches.PassState.{unit_refuses, if_err}
 use Rattle.automata_hybrid.proofs.Searches.UnitsRead.{step_left, step_reads}
 use Rattle.automata_hybrid.proofs.dfa.DFA.find_still.Goals as goal
 

@@ -1,5 +1,4 @@
-use Rattle.std.proofs.Common.{◌∙◌, ◌<◌, ◌^◌, ap, subst, refl}
-use Rattle.automata_hybrid.specs.Cache.Stores.{cell_of}
+use Rattle.std.proofs.Common.{◌∙◌, ◌<◌, ◌^◌, subst}
 use Rattle.automata_hybrid.specs.Machines.Machine.{Machine, table_stride}
 use Rattle.automata_hybrid.specs.Machines.OwnStates.{IsOwn}
 use Rattle.automata_hybrid.proofs.Steps.Steps.{known_answer}

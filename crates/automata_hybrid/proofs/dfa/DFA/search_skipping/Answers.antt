@@ -1,10 +1,11 @@
-use Rattle.std.proofs.Common.{subst, sym}
-use Rattle.std.specs.Prelude.{IfOk}
+use Rattle.std.proofs.Common.{◌+◌, ◌-◌, refl, subst, sym}
+use Rattle.std.specs.Prelude.{IfOk, IfSome}
+use Rattle.automata_base.specs.Haystacks.Tapes.{Forward}
 use Rattle.automata_base.specs.Haystacks.Input.{Input}
 use Rattle.automata_hybrid.specs.Searches.Contracts.{based_half}
 use Rattle.automata_hybrid.specs.Searches.PassContracts.{input_at}
 use Rattle.automata_hybrid.specs.Searches.Passes.{IsFound}
-use Rattle.automata_hybrid.specs.Searches.Progress.{IsSearchRun}
+use Rattle.automata_hybrid.specs.Searches.Progress.{HaveTried, IsSearchRun}
 use Rattle.automata_hybrid.specs.Walks.State.{way_of}
 use Rattle.automata_hybrid.specs.declared.search.direction.Way.{Way}
 use Rattle.automata_hybrid.proofs.dfa.DFA.search_skipping.Goals as goal
@@ -28,3 +29,8 @@ pub returns-in-Backward-clause-effect : goal.returns-in-Backward-clause-effect
 returns-in-Backward-clause-effect c =
     subst (λ (w : Way). IsSearchRun (way_of w) c.args.self.now (input_at c.args.haystack.now c.args.span c.args.anchored c.args.earliest) c.args.cache.now c.search_spans-in-Backward.new.cache c.search_spans-in-Backward.result) (sym c.in-Backward.is)
     (subst (λ (i : Input). IsSearchRun (way_of Way.Backward) c.args.self.now i c.args.cache.now c.search_spans-in-Backward.new.cache c.search_spans-in-Backward.result) c.input_of-own.ensures c.search_spans-in-Backward.ensures.effect)
+
+pub returns-in-Forward-clause-upto : goal.returns-in-Forward-clause-upto
+returns-in-Forward-clause-upto c = λ forward.
+    subst (λ (i : Input). IfOk c.search_spans.result (λ o. IfSome o (λ p. HaveTried Forward c.args.self.now i (p.1 - i.start + 1) c.args.cache.now c.search_spans.new.cache))) c.input_of-own.ensures
+    (c.search_spans.ensures.upto refl)

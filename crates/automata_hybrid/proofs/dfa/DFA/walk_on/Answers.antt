@@ -16,7 +16,7 @@ use Rattle.automata_hybrid.specs.Calls.Events.{Begin, with_progress}
 use Rattle.automata_hybrid.proofs.Searches.Contracts.{is_store}
 use Rattle.automata_hybrid.specs.Walks.Progress.{IsCallStopped}
 use Rattle.automata_hybrid.specs.Searches.Passes.{HasReadNoQuit, given_up_offset, state_in, tape_in}
-use Rattle.automata_hybrid.specs.Cache.Stores.{Stored, with_searched}
+use Rattle.automata_hybrid.specs.Cache.Stores.{with_searched}
 use Rattle.automata_hybrid.specs.Cache.Table.{Rows, Leads, Names}
 use Rattle.automata_hybrid.specs.Walks.Answers.{Arrives, Finishes, HasItsState, HasReportedBy, IsAdvanceRefusal, IsArrival}
 use Rattle.automata_hybrid.specs.Walks.State.{Holds, Ids, IsHeldAt, Stage, Walk, ended_walk, keeping_of, way_of}

@@ -38,8 +38,8 @@ returns-in-Ok-list_members-clause-returned c =
       paths = λ acyclic none. patterns_reported (IsOverlapping Forward (engine_of m.nfa (match_kind_of m.config)) input) input c.args.capacity old new found c.in-Ok.ensures.capacity c.in-Ok.ensures.empty c.in-Ok-list_members.ensures
           (reported_where reported (ArePatternsFound (engine_of m.nfa (match_kind_of m.config)) input _ _ _) (s.reported.paths acyclic) (sym error ∙ none));
       clean = λ none. subst (λ (set : List Bool). HasReportedSet m input set) c.in-Ok.ensures.capacity
-          (reported_set m input old c.args.cache.now.store c.try_which_overlapping_matches-reported.new.cache.store
-          (reported_where reported (EndsSet m input old c.args.cache.now.store c.try_which_overlapping_matches-reported.new.cache.store)
+          (reported_set m input old c.args.cache.now c.try_which_overlapping_matches-reported.new.cache
+          (reported_where reported (EndsSet m input old c.args.cache.now c.try_which_overlapping_matches-reported.new.cache)
           c.try_which_overlapping_matches-reported.ensures.effect.ended (sym error ∙ none)));
       errors = subst (λ (e : Option SearchError). IfSome e (MayRefusePatterns m input c.args.capacity found)) (sym error)
           (refused_where reported m input c.args.capacity old new found c.in-Ok.ensures.capacity c.in-Ok-list_members.ensures s.errors);
