@@ -74,13 +74,13 @@ module _ (way : Direction) (m : Machine) (input : Input) where
       (c : Stored) (from n : ℕ) → AreCached m c (unit_events way m input from n)
       → (j : ℕ) → from ≤ j → j < from + n → KnowsUnit way m c input j
   units_known c from zero all j more less = absurd (omega (arith, more, less))
-  units_known c from (suc n) all j more less = go (cases_lt j (from + n)) where
+  units_known c from (suc n) all j more less = go (λ before. units_known c from n parts.0 j more before) (cases_lt j (from + n)) where
     parts : AreCached m c (unit_events way m input from n) × AreCached m c (Move (given_up_offset way input (from + n)) ∷ unit_event way m input (from + n) ∷ [])
     parts = cached_split m c (unit_events way m input from n) (Move (given_up_offset way input (from + n)) ∷ unit_event way m input (from + n) ∷ []) all
 
-    go : (j < from + n) ⊎ (from + n ≤ j) → KnowsUnit way m c input j
-    go (inl before) = units_known c from n parts.0 j more before
-    go (inr behind) =
+    go : (j < from + n → KnowsUnit way m c input j) → (j < from + n) ⊎ (from + n ≤ j) → KnowsUnit way m c input j
+    go earlier (inl before) = earlier before
+    go earlier (inr behind) =
         let same : from + n ≡ j = omega (arith, behind, less) in
         subst (KnowsUnit way m c input) same parts.1.1.0
 
@@ -91,14 +91,13 @@ module _ (way : Direction) (m : Machine) (input : Input) where
   units_asked from zero old new all j more less = absurd (omega (arith, more, less))
   units_asked from (suc n) old new all j more less =
       let parts = do_split m (unit_events way m input from n) (Move (given_up_offset way input (from + n)) ∷ unit_event way m input (from + n) ∷ []) old new all in
-      go parts.0 parts.1 parts.2 (cases_lt j (from + n))
+      go parts.0 parts.2 (λ before. units_asked from n old parts.0 parts.1 j more before) (cases_lt j (from + n))
     where
       go :
-          (mid : CacheView) → DoAll m (unit_events way m input from n) old mid
-          → DoAll m (Move (given_up_offset way input (from + n)) ∷ unit_event way m input (from + n) ∷ []) mid new
-          → (j < from + n) ⊎ (from + n ≤ j) → MayAsk m (unit_event way m input j)
-      go mid first last (inl before) = units_asked from n old mid first j more before
-      go mid first (moved, moves, (read, reads, same)) (inr behind) =
+          (mid : CacheView) → DoAll m (Move (given_up_offset way input (from + n)) ∷ unit_event way m input (from + n) ∷ []) mid new
+          → (j < from + n → MayAsk m (unit_event way m input j)) → (j < from + n) ⊎ (from + n ≤ j) → MayAsk m (unit_event way m input j)
+      go mid last earlier (inl before) = earlier before
+      go mid (moved, moves, (read, reads, same)) earlier (inr behind) =
           let here : from + n ≡ j = omega (arith, behind, less) in
           subst (λ i. MayAsk m (unit_event way m input i)) here reads.0
 
@@ -181,6 +180,10 @@ module _ (way : Direction) (m : Machine) (input : Input) (old new : CacheView) (
             let last : n ≤ length (tape_in way input).bytes = (reads.0 n (omega (arith, is))).0 in
             omega (arith, made, units_makings way m input 0 units, is, last, tape_few way input)
 
+      some_before : (k : ℕ) → Reads way m input k → (k < units) ⊎ (units ≤ k) → k < units
+      some_before k read (inl less) = less
+      some_before k read (inr more) = absurd (reads.1 (reads_before way m input units k more read))
+
       go :
           first ≡ begun → (mid : CacheView) → DoAll m (unit_events way m input 0 units) (with_search_begun way input 0 begun) mid
           → PassFollows way m input old new (Ok answer)
@@ -198,17 +201,12 @@ module _ (way : Direction) (m : Machine) (input : Input) (old new : CacheView) (
                 (tt, tt),
           ))
           (λ cached k read. (
-              let less : k < units = (some_before k read (cases_lt k units)) in
-              (
-                units_known way m input new.store 0 units
-                    (cached_split m new.store (unit_events way m input 0 units) (End (given_up_offset way input (0 + (units - 1))) ∷ []) cached.1).0
-                    k (omega arith) (omega (arith, less)),
-                below k after (asked k (omega arith) (omega (arith, less))),
-              )))
-
-      some_before : (k : ℕ) → Reads way m input k → (k < units) ⊎ (units ≤ k) → k < units
-      some_before k read (inl less) = less
-      some_before k read (inr more) = absurd (reads.1 (reads_before way m input units k more read))
+          let less : k < units = (some_before k read (cases_lt k units)) in (
+            units_known way m input new.store 0 units
+                (cached_split m new.store (unit_events way m input 0 units) (End (given_up_offset way input (0 + (units - 1))) ∷ []) cached.1).0
+                k (omega arith) (omega (arith, less)),
+            below k after (asked k (omega arith) (omega (arith, less))),
+          )))
 
   -- a pass has ended
   pub pass_ended : {T : Type 0} (answer : T) → HasEnded way m input old new → PassFollows way m input old new (Ok answer)
@@ -217,8 +215,8 @@ module _ (way : Direction) (m : Machine) (input : Input) (old new : CacheView) (
       pass_follows (unit_event way m input 0 ∷ []) all answer (omega arith)
       (λ knows. ((knows starts.0).1 0 reads (λ j byte l unit. absurd (omega (arith, l))), tt))
       (λ cached k more. (
-          let none : k ≡ 0 = omega (arith, more.0, tape_few way input, none_empty way input keeps) in
-          subst (HasLearnedUnit way m new.store input) (sym none) (cached.0, below 0 read.1 read.0)))
+      let none : k ≡ 0 = omega (arith, more.0, tape_few way input, none_empty way input keeps) in
+      subst (HasLearnedUnit way m new.store input) (sym none) (cached.0, below 0 read.1 read.0)))
   pass_ended answer (begun, starts, inl (keeps, inr (none, same))) =
       let all : DoAll m (start_event way input ∷ []) old new = (begun, starts, same) in
       pass_follows [] all answer (omega arith) (λ knows. tt)
@@ -329,18 +327,18 @@ module _ (way : Direction) (m : Machine) (input : Input) (old new : CacheView) (
       {T : Type 0} (e : SearchError) (behind_at start_at : ℕ)
       → IsStartRefusalAt m new.store input.anchored (tape_in way input).before behind_at start_at e → HasNoStart way m input old new
       → PassFollows {T = T} way m input old new (Err e)
-  unstarted e behind_at start_at why none = go (may_or_not m input (tape_in way input).before) where
+  unstarted {T} e behind_at start_at why none = go (may_or_not m input (tape_in way input).before) where
     go :
         MayStart m input.anchored (tape_in way input).before ⊎ (MayStart m input.anchored (tape_in way input).before → ⊥)
-        → PassFollows way m input old new (Err e)
-    go (inl may) =
-        let fails = none.0 may in
+        → PassFollows {T = T} way m input old new (Err e)
+    go (inl starts) =
+        let fails = none.0 starts in
         let once = failed_count m (start_event way input) old new fails in
         record {
           counted = omega (arith, once);
           started = λ begins. absurd (fails.unknown begins);
           grown = failed_grown m (start_event way input) old new fails;
-          known = λ knows. absurd (fails.unknown (knows may).0);
+          known = λ knows. absurd (fails.unknown (knows starts).0);
           learned = λ nothing. tt;
           sound = tt;
         }
@@ -438,7 +436,8 @@ module _ (way : Direction) (m : Machine) (input : Input) where
     count = ap (λ (v : CacheView). v.count) same
   spans_follow (suc passes) old new sound tries (mid, before, pass) =
       let first = spans_follow passes old mid sound (λ k less. tries k (omega (arith, less))) before in
-      one_more passes old mid new (tries passes (omega arith)) first tt (pass_ended way m (later way passes input) mid new first.sound tt pass)
+      one_more passes old mid new (tries passes (omega arith)) first {T = Unit {0}} (tt {0})
+      (pass_ended way m (later way passes input) mid new first.sound {T = Unit {0}} (tt {0}) pass)
 
   -- what they cost
   cost_of :

@@ -11,7 +11,7 @@ use Rattle.automata_config.specs.declared.error.SearchError.{SearchError}
 use Rattle.automata_hybrid.specs.declared.dfa.progress.Progress.{Progress}
 use Rattle.automata_hybrid.specs.declared.dfa.progress.Searched.{Searched}
 use Rattle.automata_hybrid.specs.declared.dfa.row.Row.{Row}
-use Rattle.automata_hybrid.specs.Cache.Caches.{CacheView, IsSoundOf, counted, with_store}
+use Rattle.automata_hybrid.specs.Cache.Caches.{CacheView, IsSoundOf, with_store}
 use Rattle.automata_hybrid.specs.Cache.Changes.{IsComputed, cleared_saving, grown}
 use Rattle.automata_hybrid.specs.Cache.Ids.{unknown_id}
 use Rattle.automata_hybrid.specs.Cache.Progress.{progress_finished, progress_cleared, saturated, total_len}
@@ -443,16 +443,19 @@ module _ (way : Direction) (m : Machine) (input : Input) (k : ℕ) (old : CacheV
         (
           class,
           subst (λ (s : Stored). IsSoundOf s m) (sym alike.same) (searched_sound m mid.store other.searched there),
-          inr (free, record {
-            id = made.id;
-            named = made.named;
-            class = made.class;
-            next = made.next;
-            computed = computed;
-            leads = subst (λ (s : Stored). Leads s.table made.next target) (sym alike.same) made.leads;
-            starts = subst (λ (s : Stored). KeepsStarts old.store.starts s.starts) (sym alike.same) made.starts;
-            counted = made.counted;
-          }),
+          inr (
+            free,
+            record {
+              id = made.id;
+              named = made.named;
+              class = made.class;
+              next = made.next;
+              computed = computed;
+              leads = subst (λ (s : Stored). Leads s.table made.next target) (sym alike.same) made.leads;
+              starts = subst (λ (s : Stored). KeepsStarts old.store.starts s.starts) (sym alike.same) made.starts;
+              counted = made.counted;
+            },
+          ),
         ),
         ended
             ∙ (ap (λ (s : Searched). with_store mid (with_searched mid.store s)) (closes alike.progress)
@@ -520,22 +523,21 @@ start_had way m input old new id slots sound effect a =
         → HasItsStart way m input old new
     go (inr past) _ = (a.may, sound, inl (λ within. absurd (omega (arith, past, within)), effect.past a.may past))
     go (inl within) (inl known) = (a.may, sound, inl (λ _. known, effect.known (a.may, (omega (arith, within, slots), known))))
-    go (inl within) (inr free) =
-        (
-          a.may,
-          sound,
-          inr (
-            λ knows. (let known : IsKnownStart old.store (slot_behind m input.anchored (tape_in way input).before) = knows within in
-                absurd (omega (arith, known, free))),
-            record {
-              id = id;
-              started = a.computed within (λ k. absurd (omega (arith, free, k.1.1)));
-              cached = (a.learned within).1.1;
-              starts = effect.grown.starts;
-              counted = effect.computed a.may within (λ k. absurd (omega (arith, free, k.1.1)));
-            },
-          ),
-        )
+    go (inl within) (inr free) = (
+      a.may,
+      sound,
+      inr (
+        λ knows. (let known : IsKnownStart old.store (slot_behind m input.anchored (tape_in way input).before) = knows within in
+            absurd (omega (arith, known, free))),
+        record {
+          id = id;
+          started = a.computed within (λ k. absurd (omega (arith, free, k.1.1)));
+          cached = (a.learned within).1.1;
+          starts = effect.grown.starts;
+          counted = effect.computed a.may within (λ k. absurd (omega (arith, free, k.1.1)));
+        },
+      ),
+    )
 
 -- a start that failed
 pub unstarted :

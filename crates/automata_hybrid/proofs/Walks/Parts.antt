@@ -317,7 +317,7 @@ back_effect {T} {E} way m input t w h handle old new id (k, reported) fresh on a
         inl (has, (back.there has).0)
     look None none =
         let lacks : IsKnownState old.store.table q → ⊥ = λ had. none_some (sym none ∙ had.named) in
-        inr (lacks, back.again lacks)
+        inr (lacks, (back.again lacks).0, (back.again lacks).1)
 
   go :
       (s : Stage) → HasReportedAt way m input s w.units w.reported k → (s ≡ Fresh → ⊥) → (s ≡ Ended → ⊥) → IsHeldAt t s h

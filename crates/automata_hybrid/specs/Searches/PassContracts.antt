@@ -1,5 +1,5 @@
 -- What a pass answers, and what it makes of its cache: the whole of it, or from some unit on.
-use Rattle.std.specs.Prelude.{ℕ, List, Bool, suc, ◌≡◌, ◌+◌, ◌-◌, ◌<◌, ◌≤◌, true, Option}
+use Rattle.std.specs.Prelude.{ℕ, List, Bool, suc, ◌≡◌, ◌-◌, ◌<◌, ◌≤◌, true, Option}
 use Rattle.automata_base.specs.Haystacks.Input.{Input, IsAllowed}
 use Rattle.automata_base.specs.Haystacks.Matches.{HalfMatch}
 use Rattle.automata_base.specs.Haystacks.Tapes.{Direction}

@@ -71,7 +71,7 @@ impl Drop for Cache {
 impl Model for Cache {
     ghost use Rattle.std.specs.Prelude.{◌≡◌};
     ghost use Rattle.automata_hybrid.specs.Cache.Caches.{CacheView};
-    
+
     ghost Value = { CacheView };
 
     ghost view = { λ c. record { store = c.store; count = c.scratch.count } };

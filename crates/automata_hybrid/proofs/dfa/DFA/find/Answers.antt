@@ -163,7 +163,7 @@ returns-then-is_dead-clause-ended c =
     pass_last d c.args.self.now c.args.input.now k c.args.cache.now c.read_met.new.cache c.end_search.new.self (is_store c.args.cache.now.store c.args.self.now c.requires.of c.see_bounds.ensures.bounds, c.see_bounds.ensures.sound)
     (at_reads d c.args.self.now c.loop-at.cache.store.table c.args.input.now k c.run-run.result.id c.run-run.result.found at few c.in-Ok.ensures.effect.alive) stops
     (read_then d c.args.self.now c.args.input.now 0 c.args.cache.now (is_store c.args.cache.now.store c.args.self.now c.requires.of c.see_bounds.ensures.bounds, c.see_bounds.ensures.sound) c.loop-at.at k c.loop-at.cache c.loop-at.invariant.of c.loop-at.invariant.progress c.run-run.ensures.run.more at.clean c.run-run.ensures.run.known c.read_met.new.cache
-          (taken_here d c.args.self.now c.args.input.now k c.run-run.result.id (Some _) read c.byte_offset-offset.result c.loop-at.cache at.named given c.read_met.new.cache c.in-Ok.ensures.effect.taken))
+    (taken_here d c.args.self.now c.args.input.now k c.run-run.result.id (Some _) read c.byte_offset-offset.result c.loop-at.cache at.named given c.read_met.new.cache c.in-Ok.ensures.effect.taken))
     (ended_here d c.args.input.now k c.byte_offset-offset.result c.read_met.new.cache c.end_search.new.self given c.end_search.ensures.value)
 
 pub returns-then-is_some-clause-ended : goal.returns-then-is_some-clause-ended
@@ -179,7 +179,7 @@ returns-then-is_some-clause-ended c =
     pass_last d c.args.self.now c.args.input.now k c.args.cache.now c.read_met.new.cache c.end_search-then-is_some.new.self (is_store c.args.cache.now.store c.args.self.now c.requires.of c.see_bounds.ensures.bounds, c.see_bounds.ensures.sound)
     (at_reads d c.args.self.now c.loop-at.cache.store.table c.args.input.now k c.run-run.result.id c.run-run.result.found at few c.in-Ok.ensures.effect.alive) stops
     (read_then d c.args.self.now c.args.input.now 0 c.args.cache.now (is_store c.args.cache.now.store c.args.self.now c.requires.of c.see_bounds.ensures.bounds, c.see_bounds.ensures.sound) c.loop-at.at k c.loop-at.cache c.loop-at.invariant.of c.loop-at.invariant.progress c.run-run.ensures.run.more at.clean c.run-run.ensures.run.known c.read_met.new.cache
-          (taken_here d c.args.self.now c.args.input.now k c.run-run.result.id (Some _) read c.byte_offset-offset.result c.loop-at.cache at.named given c.read_met.new.cache c.in-Ok.ensures.effect.taken))
+    (taken_here d c.args.self.now c.args.input.now k c.run-run.result.id (Some _) read c.byte_offset-offset.result c.loop-at.cache at.named given c.read_met.new.cache c.in-Ok.ensures.effect.taken))
     (ended_here d c.args.input.now k c.byte_offset-offset.result c.read_met.new.cache c.end_search-then-is_some.new.self given c.end_search-then-is_some.ensures.value)
 
 pub returns-then-run-last-clause-ended : goal.returns-then-run-last-clause-ended

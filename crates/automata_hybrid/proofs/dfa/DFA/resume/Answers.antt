@@ -23,7 +23,7 @@ pub returns-then-is_fresh-clause-effect : goal.returns-then-is_fresh-clause-effe
 returns-then-is_fresh-clause-effect c =
     start_effect (way_of c.args.way) c.args.self.now c.args.input.now c.args.walk.now c.args.cache.now c.walk_start-start.new.cache c.walk_start-start.result
     (c.is_fresh.ensures.yes c.if-is_fresh.true) c.requires.walk.reported c.walk_start-start.ensures.answer (c.see_bounds.ensures.bounds.slots ∙ ap (λ (m : Machine). slot_count m) c.requires.of)
-    (is_store c.walk_start-start.new.cache.store c.args.self.now c.walk_start-start.ensures.of c.see_bounds-2.ensures.bounds, c.see_bounds-2.ensures.sound) c.walk_start-start.ensures.refusal c.walk_start-start.ensures.effect
+    (is_store c.walk_start-start.new.cache.store c.args.self.now c.walk_start-start.ensures.of c.see_bounds-then-is_fresh.ensures.bounds, c.see_bounds-then-is_fresh.ensures.sound) c.walk_start-start.ensures.refusal c.walk_start-start.ensures.effect
 
 pub returns-in-Ok-clause-effect : goal.returns-in-Ok-clause-effect
 returns-in-Ok-clause-effect c =
