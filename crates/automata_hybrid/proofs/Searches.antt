@@ -11,7 +11,8 @@ pub mod Directions
 pub mod Runs
 pub mod Bounds
 pub mod Contracts
-pub mod SpanEffects
+pub mod SpanRuns
+pub mod Follows
 pub mod Reads
 pub mod PassContracts
 pub mod SelfLoops

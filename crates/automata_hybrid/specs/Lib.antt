@@ -9,7 +9,7 @@
 --     a search by steps                                    Steps.BySteps: StandsAt, IsStepAt; Cache.Caches: HoldsRow
 --     how much memory, and when a clear is allowed         Cache.Usage: usage, Fits, refuses_to_clear
 --     what every call keeps of a cache                     Cache.Growth: IsGrown
---     which progress is left                               Searches.Progress, Walks.Progress
+--     what a call does to its cache, event by event        Calls.Events; Searches.Progress, Walks.Progress
 --
 -- What a DFA is stands in Machines; what its cache is, in Cache.Table and Cache.Stores. Searches.PassState,
 -- Searches.PassContracts, Searches.Units, Searches.SelfLoops and Walks.Parts are for the functions below the public
@@ -18,5 +18,6 @@
 pub mod Machines
 pub mod Cache
 pub mod Steps
+pub mod Calls
 pub mod Searches
 pub mod Walks

@@ -106,7 +106,7 @@ GivesToken m c h end (Some (Err e)) offset offset' failed failed' =
 
 -- the search at an offset has ended, or was left where it failed; if none is made nothing changes
 abbrev pub LeavesAt :
-    Machine → List ℕ → (end offset : ℕ) → (old new : Stored) → Result Token TokenError → Type 0
+    Machine → List ℕ → (end offset : ℕ) → (old new : CacheView) → Result Token TokenError → Type 0
 LeavesAt m h end offset old new (Ok t) = EndsProgress Forward m (asked h end offset) old new
 LeavesAt m h end offset old new (Err (NoToken at)) = EndsProgress Forward m (asked h end offset) old new
 LeavesAt m h end offset old new (Err (Search e)) = LeavesProgress Forward m (asked h end offset) old new e
@@ -114,7 +114,7 @@ LeavesAt m h end offset old new (Err (Search e)) = LeavesProgress Forward m (ask
 abbrev pub LeavesToken :
     Machine → List ℕ → (end offset : ℕ) → (old new : CacheView) → Option (Result Token TokenError) → Type 0
 LeavesToken m h end offset old new None = new ≡ old
-LeavesToken m h end offset old new (Some r) = LeavesAt m h end offset old.store new.store r
+LeavesToken m h end offset old new (Some r) = LeavesAt m h end offset old new r
 
 -- no token, or a search that fails by what it was given, and not for lack of room
 abbrev pub IsTokenOfInput : TokenError → Type 0

@@ -5,7 +5,6 @@ use Rattle.std.specs.Prelude.{Result, IfErr}
 use Rattle.std.proofs.lemmas.Result.{IfErr-weaker}
 use Rattle.automata_base.specs.Answers.Answers.{Tries, later}
 use Rattle.automata_base.specs.Haystacks.Input.{Input}
-use Rattle.automata_base.specs.Haystacks.Matches.{HalfMatch}
 use Rattle.automata_base.specs.Paths.Paths.{next}
 use Rattle.automata_base.specs.Powersets.Powerset.{Powerset, dead}
 use Rattle.automata_base.specs.declared.util.search.Direction.{Direction}
@@ -14,45 +13,25 @@ use Rattle.automata_base.proofs.Paths.Orders.{none_some}
 use Rattle.automata_config.specs.declared.error.StartError.{StartError}
 use Rattle.automata_config.specs.declared.error.StartError.TheVariants as start
 use Rattle.automata_config.specs.declared.error.SearchError.{SearchError}
-use Rattle.automata_hybrid.specs.declared.dfa.progress.Searched.{Searched}
-use Rattle.automata_hybrid.specs.Cache.Stores.{Stored, IsKnownStart, IsKnownTransition, with_searched}
-use Rattle.automata_hybrid.specs.Cache.Caches.{CacheView, with_store}
-use Rattle.automata_hybrid.specs.Cache.Growth.{IsGrown, ClearedNothing, Keeps}
+use Rattle.automata_hybrid.specs.Cache.Stores.{Stored, IsKnownStart}
+use Rattle.automata_hybrid.specs.Cache.Caches.{CacheView}
+use Rattle.automata_hybrid.specs.Cache.Growth.{IsGrown, Keeps}
 use Rattle.automata_hybrid.specs.Searches.Cached.{IsOfInput, Knows, KnowsItsStart, KnowsPass, KnowsUnit}
 use Rattle.automata_hybrid.specs.Steps.Steps.{unit_class}
 use Rattle.automata_hybrid.specs.Machines.Machine.{Machine, table_stride, slot_count}
-use Rattle.automata_hybrid.specs.Searches.PassState.{HasLearned, HasLearnedAll, HasLearnedUnit, IsAt}
+use Rattle.automata_hybrid.specs.Searches.PassState.{HasLearnedUnit}
 use Rattle.automata_hybrid.specs.Searches.Passes.{Finds, Reads, Skips, state_in, tape_in}
 use Rattle.automata_hybrid.specs.Machines.StartSlots.{slot_behind, supports}
 use Rattle.automata_hybrid.specs.Steps.Starts.{HasSlot, IsStartEffect, IsStartRefusal, IsStartRefusedAt, KnowsStart}
 use Rattle.automata_hybrid.specs.Steps.Starts.{MayStart, quit_behind, search_refusal}
 use Rattle.automata_hybrid.specs.Cache.Table.{Names}
-use Rattle.automata_hybrid.proofs.Searches.PassState.{at_reads, false_true}
+use Rattle.automata_hybrid.proofs.Searches.PassState.{false_true}
 use Rattle.std.proofs.lemmas.Bool.{cases_lt}
-use Rattle.automata_hybrid.proofs.Steps.Effects.{one_id}
 
--- where nothing is determinized, what a pass has cached it still has cached
-pub knows_still :
-    (way : Direction) (m : Machine) (input : Input) (old new : CacheView)
-    → IsGrown old new → new.count ≡ old.count → KnowsPass way m old.store input → KnowsPass way m new.store input
-knows_still way m input old new g same h = subst (λ (c : Stored). KnowsPass way m c input) (sym (g.idle same).1) h
-
--- the transition that a pass takes where it stands is cached
-pub knows_here :
-    (way : Direction) (m : Machine) (c : Stored) (input : Input) (k id : ℕ) (found : Option HalfMatch) (u : Option ℕ)
-    → KnowsPass way m c input → MayStart m input.anchored (tape_in way input).before
-    → IsAt way m c.table input k id found → k ≤ length (tape_in way input).bytes
-    → ((q : Powerset) → Names c.table id q → q ≡ dead → ⊥)
-    → next (tape_in way input) k ≡ u → IsKnownTransition c id (unit_class m u)
-knows_here way m c input k id found u knows may at few alive unit =
-    let here : KnowsUnit way m c input k = (knows may).1 k (at_reads way m c.table input k id found at few alive) at.clean in
-    let same : here.0 ≡ id = one_id c.table here.0 id (state_in way m input k) here.1 at.named in
-    subst (λ v. IsKnownTransition c id (unit_class m v)) unit
-    (subst (λ i. IsKnownTransition c i (unit_class m (next (tape_in way input) k))) same here.2)
-
--- at its start a pass has taken no transition
-pub learned_none : (way : Direction) (m : Machine) (c : Stored) (input : Input) → HasLearned way m c input 0
-learned_none way m c input = λ j l. absurd (omega (arith, l))
+-- all that a pass used is cached: its start state, and each transition that it took
+abbrev pub HasLearnedAll : Direction → Machine → Stored → Input → Type 0
+HasLearnedAll way m c input =
+    KnowsItsStart way m c input × ((k : ℕ) → Reads way m input k → HasLearnedUnit way m c input k)
 
 -- where nothing is lost, what was learned is cached
 module _ (way : Direction) (m : Machine) (old new : Stored) (input : Input) (of : new.table.of ≡ old.table.of) (keeps : Keeps old new) where
@@ -64,86 +43,15 @@ module _ (way : Direction) (m : Machine) (old new : Stored) (input : Input) (of 
       let cell = keeps.cells unit.0 (unit_class m (next (tape_in way input) j)) (state_in way m input j, unit.1) below unit.2 in
       ((unit.0, row, subst (λ n. n < 2 ^ 31) (sym cell) unit.2), subst (λ (n : Machine). unit_class m (next (tape_in way input) j) < table_stride n) (sym of) below)
 
-  pub learned_still : (k : ℕ) → HasLearned way m old input k → HasLearned way m new input k
-  learned_still k learned = λ j l reads. unit_still j (learned j l reads)
-
   pub begin_still : KnowsItsStart way m old input → KnowsItsStart way m new input
   begin_still begin = λ l. subst (λ n. n < 2 ^ 31) (sym (keeps.starts _ (begin l))) (begin l)
 
   pub all_still : HasLearnedAll way m old input → HasLearnedAll way m new input
   all_still all = (begin_still all.0, λ j reads. unit_still j (all.1 j reads))
 
--- one unit more
-pub learned_more :
-    (way : Direction) (m : Machine) (c : Stored) (input : Input) (k id : ℕ) (u : Option ℕ)
-    → HasLearned way m c input k → Names c.table id (state_in way m input k) → next (tape_in way input) k ≡ u
-    → IsKnownTransition c id (unit_class m u) → unit_class m u < table_stride c.table.of → HasLearned way m c input (suc k)
-learned_more way m c input k id u learned named unit known below = λ j l reads. go j reads (cases_lt j k) l where
-  go : (j : ℕ) → Reads way m input j → (j < k) ⊎ (k ≤ j) → j < suc k → HasLearnedUnit way m c input j
-  go j reads (inl less) l = learned j less reads
-  go j reads (inr more) l =
-      let same : k ≡ j = omega (arith, more, l) in
-      subst (HasLearnedUnit way m c input) same
-      ((id, named, subst (λ v. IsKnownTransition c id (unit_class m v)) (sym unit) known), subst (λ v. unit_class m v < table_stride c.table.of) (sym unit) below)
-
--- a pass that reads nothing more has learned all
-pub learned_all :
-    (way : Direction) (m : Machine) (c : Stored) (input : Input) (k : ℕ)
-    → KnowsItsStart way m c input → HasLearned way m c input k → ((j : ℕ) → k ≤ j → Reads way m input j → ⊥) → HasLearnedAll way m c input
-learned_all way m c input k begin learned stops = (begin, λ j reads. go j reads (cases_lt j k)) where
-  go : (j : ℕ) → Reads way m input j → (j < k) ⊎ (k ≤ j) → HasLearnedUnit way m c input j
-  go j reads (inl less) = learned j less reads
-  go j reads (inr more) = absurd (stops j more reads)
-
 -- what a pass has learned it has cached
 pub learned_knows : (way : Direction) (m : Machine) (c : Stored) (input : Input) → HasLearnedAll way m c input → KnowsPass way m c input
 learned_knows way m c input all = λ may. (all.0, λ k reads clean. (all.1 k reads).0)
-
--- a pass that steps on learns the transition that it takes
-pub learned_step :
-    (way : Direction) (m : Machine) (old new : CacheView) (input : Input) (k id : ℕ) (u : Option ℕ)
-    → IsGrown old new → new.store.table.of ≡ m → ClearedNothing old.store new.store
-    → KnowsItsStart way m old.store input → HasLearned way m old.store input k
-    → Names old.store.table id (state_in way m input k) → next (tape_in way input) k ≡ u
-    → IsKnownTransition new.store id (unit_class m u) → unit_class m u < table_stride m
-    → KnowsItsStart way m new.store input × HasLearned way m new.store input (suc k)
-learned_step way m old new input k id u g of nothing begin learned named unit known below =
-    let keeps : Keeps old.store new.store = g.kept nothing in (
-      begin_still way m old.store new.store input g.of keeps begin,
-      learned_more way m new.store input k id u (learned_still way m old.store new.store input g.of keeps k learned)
-          (keeps.rows id (state_in way m input k) named) unit known (subst (λ (n : Machine). unit_class m u < table_stride n) (sym of) below),
-    )
-
--- a pass that reads nothing after this unit has learned all
-pub learned_ends :
-    (way : Direction) (m : Machine) (old new : CacheView) (input : Input) (k id : ℕ) (u : Option ℕ)
-    → IsGrown old new → new.store.table.of ≡ m
-    → Names old.store.table id (state_in way m input k) → next (tape_in way input) k ≡ u
-    → (ClearedNothing old.store new.store → IsKnownTransition new.store id (unit_class m u)) → unit_class m u < table_stride m
-    → ((j : ℕ) → suc k ≤ j → Reads way m input j → ⊥)
-    → KnowsItsStart way m old.store input → HasLearned way m old.store input k → ClearedNothing old.store new.store
-    → HasLearnedAll way m new.store input
-learned_ends way m old new input k id u g of named unit known below stops begin learned nothing =
-    let step : KnowsItsStart way m new.store input × HasLearned way m new.store input (suc k) =
-    learned_step way m old new input k id u g of nothing begin learned named unit (known nothing) below in
-    learned_all way m new.store input (suc k) step.0 step.1 stops
-
--- what was learned stays where a search moves on
-pub learned_moved :
-    (way : Direction) (m : Machine) (input : Input) (old between new : CacheView) {s : Searched}
-    → new ≡ with_store between (with_searched between.store s)
-    → (ClearedNothing old.store between.store → HasLearnedAll way m between.store input)
-    → ClearedNothing old.store new.store → HasLearnedAll way m new.store input
-learned_moved way m input old between new e f =
-    subst (λ (c : CacheView). ClearedNothing old.store c.store → HasLearnedAll way m c.store input) (sym e) f
-
-pub begun_moved :
-    (way : Direction) (m : Machine) (input : Input) (old between new : CacheView) (k : ℕ) {s : Searched}
-    → new ≡ with_store between (with_searched between.store s)
-    → (ClearedNothing old.store between.store → KnowsItsStart way m between.store input × HasLearned way m between.store input k)
-    → ClearedNothing old.store new.store → KnowsItsStart way m new.store input × HasLearned way m new.store input k
-begun_moved way m input old between new k e f =
-    subst (λ (c : CacheView). ClearedNothing old.store c.store → KnowsItsStart way m c.store input × HasLearned way m c.store input k) (sym e) f
 
 -- a start state that is cached, where it may be asked for, changes nothing and does not fail for lack of room
 module _ (m : Machine) (old new : CacheView) (mode : Anchored) (behind : Option ℕ) (r : Result ℕ SearchError) (behind_at start_at : ℕ)

@@ -9,11 +9,10 @@ use Rattle.automata_base.specs.declared.util.search.Direction.{Direction}
 use Rattle.automata_base.specs.declared.util.search.Direction.TheVariants.{Forward}
 use Rattle.automata_config.specs.declared.error.SearchError.{SearchError}
 use Rattle.automata_hybrid.specs.Cache.Stores.{Stored}
-use Rattle.automata_hybrid.specs.Cache.Caches.{CacheView}
+use Rattle.automata_hybrid.specs.Cache.Caches.{CacheView, IsStoreOf}
 use Rattle.automata_hybrid.specs.Searches.Cached.{IsOfInput}
 use Rattle.automata_hybrid.specs.Machines.Machine.{Machine}
-use Rattle.automata_hybrid.specs.Cache.Caches.{IsStoreOf}
-use Rattle.automata_hybrid.specs.Searches.Contracts.{IsBased, IsHalf, IsSearchEffect, based_half}
+use Rattle.automata_hybrid.specs.Searches.Contracts.{IsBased, IsHalf, IsSearchEffect, based_half, MayRefuse}
 use Rattle.automata_hybrid.specs.Searches.Contracts.{halves}
 use Rattle.automata_hybrid.specs.Searches.Progress.{LeavesProgress}
 use Rattle.automata_hybrid.specs.Searches.Passes.{WithoutBase, with_base}
@@ -117,7 +116,7 @@ module _ {T U : Type 0} (way : Direction) (m : Machine) (input : Input) (old new
     learned = λ nothing. tt;
     known = λ knows. ((s.known knows).0, subst IsOfInput (sym is) (s.known knows).1);
     ended = tt;
-    left = subst (LeavesProgress way m input old.store new.store) (sym is) s.left;
+    left = subst (LeavesProgress way m input old new) (sym is) s.left;
     done = s.done;
   }
 

@@ -13,8 +13,8 @@ use Rattle.automata_hybrid.specs.Searches.Costs.{SearchesCostFew, passes_most}
 use Rattle.automata_hybrid.specs.Cache.Growth.{IsGrown}
 use Rattle.automata_hybrid.specs.Searches.Cached.{KnowsItsStart}
 use Rattle.automata_hybrid.specs.Machines.Machine.{Machine}
-use Rattle.automata_hybrid.specs.Searches.Passes.{Finds, Skips}
-use Rattle.automata_hybrid.proofs.Cache.Growth.{clears_none, grown_trans}
+use Rattle.automata_hybrid.specs.Searches.Passes.{Skips}
+use Rattle.automata_hybrid.proofs.Cache.Growth.{clears_none}
 
 -- one pass more
 pub most_more :
@@ -108,34 +108,6 @@ counted_more way m input now passes units old between new before grown same cost
 }
 
 module _ (way : Direction) (m : Machine) (input : Input) (old new : CacheView) where
-  -- the passes before a span that the spans tried come to
-  pub cost_before :
-      (k : ℕ) → Tries (Finds way m) (Skips m) way input k → IsGrown old new
-      → AreCounted way m input k old new → IsCostOfPasses way m input k old new
-  cost_before k tries grown counted =
-      record {
-        tried = λ j less. (tries_before (Finds way m) (Skips m) way input j k (omega (arith, less)) tries, (tries.1 j less).0);
-        each = counted.each;
-        counted = counted.most;
-        started = counted.started;
-        room = λ room. clears_none old new (passes_most k (input.end - input.start)) grown counted.most room;
-      }
-
-  -- and the one over it
-  pub cost_more :
-      (between : CacheView) (k : ℕ) → Tries (Finds way m) (Skips m) way input k → input.start + k ≤ input.end
-      → IsGrown old between → IsGrown between new → AreCounted way m input (suc k) old new
-      → IsCostOfPasses way m input (suc k) old new
-  cost_more between k tries within first second counted =
-      record {
-        tried = λ j less. (tries_before (Finds way m) (Skips m) way input j k (omega (arith, less)) tries, omega (arith, less, within));
-        each = counted.each;
-        counted = counted.most;
-        started = counted.started;
-        room = λ room.
-            clears_none old new (passes_most (suc k) (input.end - input.start)) (grown_trans old between new first second) counted.most room;
-      }
-
   -- where no place is skipped, or the search is anchored, there is no second pass
   no_second : (k : ℕ) → IsCostOfPasses way m input (suc (suc k)) old new → (Skips m × (input.anchored ≡ No) → ⊥) → ⊥
   no_second k cost whole = go (cost.tried (suc k) (omega arith)).0.0 where

@@ -2,7 +2,6 @@
 use Rattle.std.proofs.Common.{ℕ, suc, ◌≡◌, ◌∙◌, ◌+◌, ◌-◌, ◌<◌, ◌≤◌, ◌⊎◌, inl, inr, length, Option, None, Some, true, false}
 use Rattle.std.proofs.Common.{refl, sym, ap, subst, arith}
 use Rattle.std.proofs.lemmas.Bool.{cases_lt}
-use Rattle.std.specs.Prelude.{Ok}
 use Rattle.automata_base.specs.Haystacks.Input.{Input}
 use Rattle.automata_base.specs.Haystacks.Matches.{HalfMatch}
 use Rattle.automata_base.specs.declared.util.search.Direction.{Direction}
@@ -10,25 +9,23 @@ use Rattle.automata_base.specs.Answers.Answers.{offset_in}
 use Rattle.automata_base.specs.Paths.Paths.{next}
 use Rattle.automata_base.specs.Powersets.Powerset.{Powerset, dead}
 use Rattle.automata_hybrid.specs.declared.dfa.progress.Searched.{Searched}
-use Rattle.automata_hybrid.specs.Cache.Caches.{CacheView, IsCacheOf, with_store}
+use Rattle.automata_hybrid.specs.Cache.Caches.{CacheView, IsCacheOf, IsSoundOf, with_store}
+use Rattle.automata_hybrid.specs.Calls.Events.{Begin, Move}
 use Rattle.automata_hybrid.specs.Cache.Progress.{distance, saturated, progress_started, total_len}
-use Rattle.automata_hybrid.specs.Cache.Stores.{IsSoundStore, Stored, with_searched}
+use Rattle.automata_hybrid.specs.Cache.Stores.{IsSoundStore, with_searched}
 use Rattle.automata_hybrid.specs.Cache.Ids.{HasDeadTag, HasQuitTag, quit_id}
 use Rattle.automata_hybrid.specs.Cache.Table.{Leads, Rows}
 use Rattle.automata_hybrid.specs.Machines.Machine.{Machine, table_stride}
-use Rattle.automata_hybrid.specs.Searches.PassContracts.{IsKnownEnd, IsKnownUpto, IsPassAnswer, IsRestEffect}
-use Rattle.automata_hybrid.specs.Searches.Cached.{KnowsUnit}
-use Rattle.automata_hybrid.specs.Searches.PassState.{half_at}
+use Rattle.automata_hybrid.specs.Searches.PassContracts.{IsKnownEnd, IsKnownUpto, IsPassAnswer}
+use Rattle.automata_hybrid.specs.Searches.PassState.{HasLearnedUnit, half_at}
 use Rattle.automata_hybrid.specs.Searches.Passes.{Reads, given_up_offset, state_in, tape_in}
 use Rattle.automata_hybrid.specs.Searches.Progress.{EndsAtLast, with_search_begun, with_search_moved}
-use Rattle.automata_hybrid.specs.Searches.Units.{IsReadAnswer, IsReadEffect}
+use Rattle.automata_hybrid.specs.Searches.Units.{IsReadAnswer}
 use Rattle.automata_hybrid.specs.Steps.Steps.{IsStepAnswer, KnowsStep, quits_on, unit_class}
-use Rattle.automata_hybrid.proofs.Cache.Growth.{grown_same}
-use Rattle.automata_hybrid.proofs.Searches.Cached.{learned_more}
-use Rattle.automata_hybrid.proofs.Searches.PassContracts.{dead_answer, dead_stops, first_answer, first_stops, last_answer, rest_read}
-use Rattle.automata_hybrid.proofs.Searches.PassContracts.{rest_then}
+use Rattle.automata_hybrid.proofs.Searches.PassContracts.{dead_answer, dead_stops, first_answer, first_stops, last_answer}
 use Rattle.automata_hybrid.proofs.Searches.PassState.{at_reads, more_at, more_leads, stops_last}
-use Rattle.automata_hybrid.proofs.Steps.Steps.{no_quit_unit}
+use Rattle.automata_hybrid.proofs.Steps.Steps.{no_quit_unit, unit_no_quit}
+use Rattle.automata_hybrid.proofs.Calls.Laws.{moved_sound}
 use Rattle.automata_hybrid.proofs.Steps.Ids.{dead_tagged, unquit}
 use Rattle.automata_hybrid.proofs.Searches.UnitsRead.{finished_moved, pass_last, read_exactly, read_none, read_then}
 
@@ -40,48 +37,32 @@ clean_unit m t to None of small clear quit = refl
 clean_unit m t to (Some byte) of small clear quit = unquit m t to byte of small clear quit
 
 module _ (way : Direction) (m : Machine) (input : Input) (k id : ℕ) (c : CacheView) where
-  -- a pass ends with a unit that it reads by a cached transition
-  pub ends_known :
-      (before half : Option HalfMatch) (to : ℕ) → IsKnownUpto way m c.store input k id before
-      → k ≤ length (tape_in way input).bytes → IsReadEffect m id (next (tape_in way input) k) c c (Ok to)
-      → KnowsStep m c.store id (next (tape_in way input) k)
-      → ((j : ℕ) → suc k ≤ j → Reads way m input j → ⊥) → IsPassAnswer way m input half
-      → IsKnownEnd way m c input k id half
-  ends_known before half to upto few effect knows stops answer = record {
-    before = before;
-    upto = upto;
-    answer = answer;
-    reads = at_reads way m c.store.table input k id before upto.at.at few effect.alive;
-    stops = stops;
-    known = (id, upto.at.at.named, knows);
-    to = to;
-    effect = effect;
-  }
-
   -- what such a pass makes of its cache, once its bytes are counted
   module _ (half : Option HalfMatch) (new : CacheView) (end : IsKnownEnd way m c input k id half)
+      (sound : IsSoundOf c.store m)
       (counted : new ≡ with_store c (with_searched c.store (record {
         bytes =
             saturated (total_len c.store.searched
             + distance (record { start = given_up_offset way input 0; place = given_up_offset way input k }));
         running = None;
       }))) where
-    pub known_rest :
-        c.store.table.of ≡ m → k ≤ length (tape_in way input).bytes → IsRestEffect way m input 0 c new (Ok half)
-    known_rest of few =
-        rest_then way m input k c c c new {s = c.store.searched} (Ok half) refl end.upto.within (grown_same c c refl) (omega arith)
-        (λ knows. refl) (λ begin nothing. (begin, end.upto.learned))
-        (rest_read way m input k id (next (tape_in way input) k) end.before c c c new {s = c.store.searched} refl counted end.upto.at refl
-        end.to half end.effect of end.upto.within few end.stops)
+    quiet : quits_on m (next (tape_in way input) k) ≡ false
+    quiet = unit_no_quit m (next (tape_in way input) k) (λ byte unit. end.answer.clean.1 k byte end.reads unit)
 
-    pub known_ended : EndsAtLast way m input (with_search_begun way input 0 c.store) new.store
+    class : unit_class m (next (tape_in way input) k) < table_stride m
+    class = subst (λ (d : Machine). unit_class m (next (tape_in way input) k) < table_stride d) sound.0.of end.known.1
+
+    pub known_ended : EndsAtLast way m input (with_search_begun way input 0 c) new
     known_ended =
-        let begun : Stored = with_search_begun way input 0 c.store in
-        pass_last way m input k begun (with_search_moved way input k begun) new.store end.reads (end.stops (suc k) (omega arith))
-        (read_then way m input 0 begun 0 k begun (read_exactly way m input 0 begun 0 begun (read_none way m input 0 begun begun refl))
-        (omega arith) (λ j from below. end.upto.known j below) (with_search_moved way input k begun) (inl (end.known, refl)))
-        (ap (λ (v : CacheView). v.store) counted
-        ∙ ap (λ (s : Searched). with_searched c.store s)
+        let begun : CacheView = with_search_begun way input 0 c in
+        let there : IsSoundOf begun.store m = moved_sound m (Begin (given_up_offset way input 0)) c sound in
+        pass_last way m input k begun (with_search_moved way input k begun) new there end.reads (end.stops (suc k) (omega arith))
+        (read_then way m input 0 begun there 0 k begun sound.0.of
+        (read_exactly way m input 0 begun 0 begun (read_none way m input 0 begun begun refl))
+        (omega arith) end.upto.at.at.clean (λ j from below. end.upto.known j below) (with_search_moved way input k begun)
+        ((quiet, class), moved_sound m (Move (given_up_offset way input k)) begun there, inl (end.known.0, refl)))
+        (counted
+        ∙ ap (λ (s : Searched). with_store c (with_searched c.store s))
         (sym (finished_moved (progress_started c.store.searched (given_up_offset way input 0)) (given_up_offset way input k) (given_up_offset way input k))))
 
 -- a pass stands at a place up to which all was cached, and so is the transition on its unit there, which is no quit byte
@@ -89,7 +70,7 @@ module _ (way : Direction) (m : Machine) (input : Input) (k id : ℕ) (c : Cache
     (of : IsCacheOf c m) (sound : IsSoundStore c.store) (upto : IsKnownUpto way m c.store input k id before)
     (few : k ≤ length (tape_in way input).bytes) (knows : KnowsStep m c.store id (next (tape_in way input) k))
     (step : IsStepAnswer m id (next (tape_in way input) k) c c to)
-    (effect : IsReadEffect m id (next (tape_in way input) k) c c (Ok to)) (clear : HasQuitTag to → ⊥) where
+    (below : unit_class m (next (tape_in way input) k) < table_stride m) (clear : HasQuitTag to → ⊥) where
   answer : IsReadAnswer m id (next (tape_in way input) k) c c to
   answer =
       let clean : quits_on m (next (tape_in way input) k) ≡ false =
@@ -102,12 +83,31 @@ module _ (way : Direction) (m : Machine) (input : Input) (k id : ℕ) (c : Cache
       more_leads way m c.store.table c.store.table input k id to (next (tape_in way input) k) before None upto.at.at refl answer.named
       (no_quit_unit m (next (tape_in way input) k) answer.clean)
 
+  here : HasLearnedUnit way m c.store input k
+  here = (
+    (id, upto.at.at.named, knows),
+    subst (λ (d : Machine). unit_class m (next (tape_in way input) k) < table_stride d) (sym of) below,
+  )
+
+  -- a pass ends with this unit
+  ends_known :
+      (half : Option HalfMatch) → ((j : ℕ) → suc k ≤ j → Reads way m input j → ⊥) → IsPassAnswer way m input half
+      → IsKnownEnd way m c input k id half
+  ends_known half stops answer = record {
+    before = before;
+    upto = upto;
+    answer = answer;
+    reads = at_reads way m c.store.table input k id before upto.at.at few (sound.alive id);
+    stops = stops;
+    known = here;
+  }
+
   -- it ends where the state after the unit is dead
   pub known_dead : HasDeadTag to → IsKnownEnd way m c input k id before
   known_dead dead_to =
-      ends_known way m input k id c before before to upto few effect knows
-      (dead_stops way m input k id (next (tape_in way input) k) before c c c c {s = c.store.searched} {s' = c.store.searched} refl refl upto.at refl to None answer dies)
-      (dead_answer way m input k id (next (tape_in way input) k) before c c c c {s = c.store.searched} {s' = c.store.searched} refl refl upto.at refl to None answer dies few)
+      ends_known before
+      (dead_stops way m input k id (next (tape_in way input) k) before c c c {s = c.store.searched} refl upto.at refl to None answer dies)
+      (dead_answer way m input k id (next (tape_in way input) k) before c c c {s = c.store.searched} refl upto.at refl to None answer dies few)
     where
       dies : Leads c.store.table to (state_in way m input (suc k)) → state_in way m input (suc k) ≡ dead
       dies l = (dead_tagged c.store.table to (sound.low to) sound.small (state_in way m input (suc k)) l).0 dead_to
@@ -117,22 +117,22 @@ module _ (way : Direction) (m : Machine) (input : Input) (k id : ℕ) (c : Cache
     -- and with the last unit
     pub known_last : k ≡ length (tape_in way input).bytes → IsKnownEnd way m c input k id half
     known_last last =
-        ends_known way m input k id c before half to upto few effect knows (stops_last way m input k last)
-        (last_answer way m input k id (next (tape_in way input) k) before c c c c {s = c.store.searched} {s' = c.store.searched} refl refl upto.at refl to half answer at place reports last)
+        ends_known half (stops_last way m input k last)
+        (last_answer way m input k id (next (tape_in way input) k) before c c c {s = c.store.searched} refl upto.at refl to half answer at place reports last)
 
     -- and where it is earliest, and found something
     pub known_first : input.earliest ≡ true → (half ≡ None → ⊥) → IsKnownEnd way m c input k id half
     known_first early some =
-        ends_known way m input k id c before half to upto few effect knows
-        (first_stops way m input k id (next (tape_in way input) k) before c c c c {s = c.store.searched} {s' = c.store.searched} refl refl upto.at refl to half answer at place reports early some)
-        (first_answer way m input k id (next (tape_in way input) k) before c c c c {s = c.store.searched} {s' = c.store.searched} refl refl upto.at refl to half answer at place reports early some few)
+        ends_known half
+        (first_stops way m input k id (next (tape_in way input) k) before c c c {s = c.store.searched} refl upto.at refl to half answer at place reports early some)
+        (first_answer way m input k id (next (tape_in way input) k) before c c c {s = c.store.searched} refl upto.at refl to half answer at place reports early some few)
 
     -- and else it goes on
     pub known_more :
         (HasDeadTag to → ⊥) → (input.earliest ≡ true → half ≡ None) → k < input.end - input.start
         → IsKnownUpto way m c.store input (suc k) to half
-    known_more alive first less = record {
-      within = omega (arith, less);
+    known_more alive first inner = record {
+      within = omega (arith, inner);
       at = record {
         undone = upto.at.undone;
         may = upto.at.may;
@@ -141,13 +141,10 @@ module _ (way : Direction) (m : Machine) (input : Input) (k id : ℕ) (c : Cache
             (no_quit_unit m (next (tape_in way input) k) answer.clean) (at, place, reports) first
             (λ l. (dead_tagged c.store.table to (sound.low to) sound.small (state_in way m input (suc k)) l).1 alive);
       };
-      learned =
-          learned_more way m c.store input k id (next (tape_in way input) k) upto.learned upto.at.at.named refl knows
-          (subst (λ (n : Machine). unit_class m (next (tape_in way input) k) < table_stride n) (sym of) effect.below);
-      known = λ j below. go j (cases_lt j k) below;
+      known = λ j less. go j (cases_lt j k) less;
     } where
-      go : (j : ℕ) → (j < k) ⊎ (k ≤ j) → j < suc k → KnowsUnit way m c.store input j
-      go j (inl less_) below = upto.known j less_
-      go j (inr more) below =
-          let same : k ≡ j = omega (arith, more, below) in
-          subst (KnowsUnit way m c.store input) same (id, upto.at.at.named, knows)
+      go : (j : ℕ) → (j < k) ⊎ (k ≤ j) → j < suc k → HasLearnedUnit way m c.store input j
+      go j (inl less_) less = upto.known j less_
+      go j (inr more) less =
+          let same : k ≡ j = omega (arith, more, less) in
+          subst (HasLearnedUnit way m c.store input) same here

@@ -14,8 +14,7 @@ use Rattle.automata_hybrid.specs.Cache.Stores.{IsKnownTransition, Stored, cell_o
 use Rattle.automata_hybrid.specs.Cache.Ids.{HasOnly, IsRunTag, quit_id}
 use Rattle.automata_hybrid.specs.Steps.Steps.{known_step, unit_class}
 use Rattle.automata_hybrid.specs.Machines.Machine.{Machine, table_stride}
-use Rattle.automata_hybrid.specs.Searches.Cached.{KnowsUnit}
-use Rattle.automata_hybrid.specs.Searches.PassState.{HasLearned, HasLearnedUnit, IsAt, IsFollowed, IsMet, IsRun, IsTagAt}
+use Rattle.automata_hybrid.specs.Searches.PassState.{HasLearnedUnit, IsAt, IsFollowed, IsMet, IsRun, IsTagAt}
 use Rattle.automata_hybrid.specs.Searches.PassState.{IsTaken, half_at, half_of}
 use Rattle.automata_hybrid.specs.Searches.Passes.{HasReadNoQuit, state_in, tape_in, reported_in}
 use Rattle.automata_hybrid.specs.Cache.Table.{Leads, Names}
@@ -150,15 +149,9 @@ module _ {way : Direction} {m : Machine} {c : Stored} {input : Input} {tag from 
     go (inl less) = clean j byte less e
     go (inr more) = (f.taken j more l).clean byte e
 
-  -- and has learned all that it took
-  pub followed_learned : HasLearned way m c input from → HasLearned way m c input to
-  followed_learned learned j l reads = go (cases_lt j from) where
-    go : (j < from) ⊎ (from ≤ j) → HasLearnedUnit way m c input j
-    go (inl less) = learned j less reads
-    go (inr more) = (f.taken j more l).known
-
-  pub followed_known : (k : ℕ) → from ≤ k → k < to → KnowsUnit way m c input k
-  followed_known k more less = (f.taken k more less).known.0
+  -- and all that it took is cached
+  pub followed_known : (k : ℕ) → from ≤ k → k < to → HasLearnedUnit way m c input k
+  followed_known k more less = (f.taken k more less).known
 
   -- a pass that was there is here, and has found what the state here reports, if that has patterns and the search is not an earliest one
   pub matched_at :
@@ -222,8 +215,8 @@ module _ {way : Direction} {m : Machine} {c : Stored} {input : Input} {from to i
 pub known_after :
     {way : Direction} {m : Machine} {c : Stored} {input : Input} {tag tag' from mid to id id' : ℕ}
     → IsFollowed way m c input tag from mid id → IsFollowed way m c input tag' mid to id'
-    → (k : ℕ) → from ≤ k → k < to → KnowsUnit way m c input k
+    → (k : ℕ) → from ≤ k → k < to → HasLearnedUnit way m c input k
 known_after {way} {m} {c} {input} {tag} {tag'} {from} {mid} f g k more less = go (cases_lt k mid) where
-  go : (k < mid) ⊎ (mid ≤ k) → KnowsUnit way m c input k
+  go : (k < mid) ⊎ (mid ≤ k) → HasLearnedUnit way m c input k
   go (inl before) = followed_known f k more before
   go (inr behind) = followed_known g k behind less

@@ -8,7 +8,7 @@ use Rattle.std.proofs.lemmas.List.Sums.{sum_by_push}
 use Rattle.automata_base.specs.Powersets.Powerset.{Powerset, cost}
 use Rattle.automata_hybrid.specs.declared.dfa.row.Row.{Row}
 use Rattle.automata_hybrid.specs.Machines.Machine.{Machine, greatest, template_of, table_stride}
-use Rattle.automata_hybrid.specs.Cache.Table.{id_of, Rows, Names, HasCells, row_cost, cell_at, with_row, IsKnownState}
+use Rattle.automata_hybrid.specs.Cache.Table.{id_of, Rows, Lacks, Names, HasCells, row_cost, cell_at, with_row, IsKnownState}
 use Rattle.automata_hybrid.specs.Cache.Stores.{Stored, cell_of, with_next, with_start, IsKnownTransition, IsKnownStart}
 use Rattle.automata_hybrid.specs.Cache.Usage.{row_usage, usage, Fits}
 use Rattle.automata_hybrid.specs.Cache.Changes.{grown, IsComputed, IsStarted}
@@ -132,15 +132,16 @@ HasRoom-start c slot id states room =
     record { capacity = omega (arith, n, room.capacity); offsets = room.offsets }
 
 pub roomy-computed :
-    (old new : Stored) (id class next : ℕ) (q target : Powerset) (states : ℕ) → length (template_of old.table.of) ≡ table_stride old.table.of → cost target ≤ greatest old.table.of
+    (old new : Stored) (id class next : ℕ) (q target : Powerset) (states : ℕ) → length (template_of old.table.of) ≡ table_stride old.table.of
+    → (Lacks old.table target → cost target ≤ greatest old.table.of)
     → IsComputed old id class q target new next → HasRoom old (states + 1) → HasRoom new states × (new.clears ≡ old.clears)
 roomy-computed old new id class next q target states wide little (inl (leads, e)) room =
     (subst (λ (s : Stored). HasRoom s states) (sym e) (HasRoom-next old id class next states (HasRoom-less old states room)), ap (λ (s : Stored). s.clears) e)
 roomy-computed old new id class next q target states wide little (inr (lacks, from, between, inl (fits, g), n, to, e)) room =
     let r : Row = record { state = target; started = false } in
     let same : new ≡ with_next (grown old r) from class next = e ∙ ap (λ (s : Stored). with_next s from class next) g in
-    (subst (λ (s : Stored). HasRoom s states) (sym same) (HasRoom-next (grown old r) from class next states (HasRoom-grown old r states wide little room)), ap (λ (s : Stored). s.clears) same)
-roomy-computed old new id class next q target states wide little (inr (lacks, from, between, inr (full, may, g), n, to, e)) room = absurd (full (HasRoom-Fits old states (cost target) little room))
+    (subst (λ (s : Stored). HasRoom s states) (sym same) (HasRoom-next (grown old r) from class next states (HasRoom-grown old r states wide (little lacks) room)), ap (λ (s : Stored). s.clears) same)
+roomy-computed old new id class next q target states wide little (inr (lacks, from, between, inr (full, may, g), n, to, e)) room = absurd (full (HasRoom-Fits old states (cost target) (little lacks) room))
 
 module _ (old new : Stored) (slot id : ℕ) (r : Row) (done : IsStarted old slot r new id) where
   pub Keeps-started : HasCells old.table → (IsKnownStart old slot → ⊥) → ClearedNothing old new → Keeps old new
@@ -155,7 +156,8 @@ module _ (old new : Stored) (slot id : ℕ) (r : Row) (done : IsStarted old slot
         absurd (counts_up old.clears new.clears count nothing.0 nothing.1)
 
   pub roomy-started :
-      (states : ℕ) → length (template_of old.table.of) ≡ table_stride old.table.of → cost r.state ≤ greatest old.table.of
+      (states : ℕ) → length (template_of old.table.of) ≡ table_stride old.table.of
+      → (Lacks old.table r.state → cost r.state ≤ greatest old.table.of)
       → HasRoom old (states + 1) → HasRoom new states × (new.clears ≡ old.clears)
   roomy-started states wide little room = go done where
     go : IsStarted old slot r new id → HasRoom new states × (new.clears ≡ old.clears)
@@ -163,8 +165,8 @@ module _ (old new : Stored) (slot id : ℕ) (r : Row) (done : IsStarted old slot
         (subst (λ (s : Stored). HasRoom s states) (sym e) (HasRoom-start old slot id states (HasRoom-less old states room)), ap (λ (s : Stored). s.clears) e)
     go (inr (lacks, between, inl (fits, g), to, e)) =
         let same : new ≡ with_start (grown old r) slot id = e ∙ ap (λ (s : Stored). with_start s slot id) g in
-        (subst (λ (s : Stored). HasRoom s states) (sym same) (HasRoom-start (grown old r) slot id states (HasRoom-grown old r states wide little room)), ap (λ (s : Stored). s.clears) same)
-    go (inr (lacks, between, inr (full, may, g), to, e)) = absurd (full (HasRoom-Fits old states (cost r.state) little room))
+        (subst (λ (s : Stored). HasRoom s states) (sym same) (HasRoom-start (grown old r) slot id states (HasRoom-grown old r states wide (little lacks) room)), ap (λ (s : Stored). s.clears) same)
+    go (inr (lacks, between, inr (full, may, g), to, e)) = absurd (full (HasRoom-Fits old states (cost r.state) (little lacks) room))
 
 -- the rows of a table that another has, and one more
 pub only-grown :

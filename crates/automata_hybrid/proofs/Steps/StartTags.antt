@@ -47,7 +47,7 @@ abbrev pub AllFromOr : Rows → Rows → Bool → Type 0
 AllFromOr old new started = (k : ℕ) (r : Row) → slice_get new.rows k ≡ Some r → IsIn old r ⊎ ((id_of old r.state ≡ None) × (r.started ≡ started))
 
 -- the row of a state
-row_named : (t : Rows) (id : ℕ) (q : Powerset) → Names t id q → Found (table_stride t.of) (3 * table_stride t.of) q t.rows id
+pub row_named : (t : Rows) (id : ℕ) (q : Powerset) → Names t id q → Found (table_stride t.of) (3 * table_stride t.of) q t.rows id
 row_named t id q h = find_id-Found (table_stride t.of) (3 * table_stride t.of) q t.rows id h
 
 module _ (old new : Rows) (started : Bool) (ids_old : HasRowIds old) (ids_new : HasRowIds new) (all : AllFromOr old new started) where
@@ -114,7 +114,7 @@ from_slots old k [] all = all
 from_slots old k (id ∷ ids) all = from_slots old (keep_slot old k id) ids (from_slot old k id all)
 
 -- a clear brings no row that was not there, and changes no mark
-from_cleared : (c : Stored) → AllFrom c.table (cleared c).table
+pub from_cleared : (c : Stored) → AllFrom c.table (cleared c).table
 from_cleared c = from_slots c.table (record { table = fresh c.table.of; starts = [] }) c.starts (λ k r h. cc)
 
 from_saving : (c : Stored) (id : ℕ) → AllFrom c.table (cleared_saving c id).table

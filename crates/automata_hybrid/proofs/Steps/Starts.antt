@@ -221,7 +221,7 @@ computes_new m mode behind old mid between new slot id state key started was add
       subst (λ (r : Row). AddsRow old.store (cleared old.store) between.store r id) row
       (subst (λ (s : Stored). AddsRow s (cleared s) between.store (record { state = state; started = started }) id) before adds)
 
-started_clears :
+pub started_clears :
     (old new : Stored) (slot id : ℕ) (r : Row) → old.clears < 2 ^ 64 → IsStarted old slot r new id → old.clears ≤ new.clears
 started_clears old new slot id r small (inl (leads, e)) =
     let c : new.clears ≡ old.clears = ap (λ (s : Stored). s.clears) e in omega (arith, c)
@@ -281,7 +281,7 @@ module _ (m : Machine) (mode : Anchored) (behind : Option ℕ) (old new : CacheV
         grown_one old new made.of made.counted
         (started_clears old.store new.store slot id (start_row m mode behind) small made.done) (change of) made.starts tagged
         (λ nothing. Keeps-started old.store new.store slot id (start_row m mode behind) made.done cells not_known nothing)
-        (λ states room. roomy-started old.store new.store slot id (start_row m mode behind) made.done states wide cheap room);
+        (λ states room. roomy-started old.store new.store slot id (start_row m mode behind) made.done states wide (λ lacks. cheap) room);
     counted = omega (arith, made.counted);
     computed = λ _ _ _. made.counted;
     barred = λ not. absurd (not at.may);

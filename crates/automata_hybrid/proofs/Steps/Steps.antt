@@ -223,7 +223,7 @@ computes_new m id unit old mid between new class from next state key was adds co
     added : AddsNext old.store between.store id state from next
     added = subst (λ (s : Stored). AddsNext s between.store id state from next) before adds
 
-computed_clears :
+pub computed_clears :
     (old new : Stored) (id class next : ℕ) (q target : Powerset)
     → old.clears < 2 ^ 64 → IsComputed old id class q target new next → old.clears ≤ new.clears
 computed_clears old new id class next q target small (inl (leads, e)) =
@@ -308,7 +308,7 @@ module _ (m : Machine) (id : ℕ) (unit : Option ℕ) (old new : CacheView) (cla
         (computed_clears old.store new.store id class next valid.0 target small done) (change same) step.starts
         (λ q t. inl (tagged_none old.store.table new.store.table (computed_keeps old.store new.store id class next valid.0 target ids_old ids_new done) (computed_adds old.store new.store id class next valid.0 target ids_old ids_new done) q t))
         (λ nothing. Keeps-computed old.store new.store id class next valid.0 target cells valid.1 within not_known done nothing)
-        (λ states room. roomy-computed old.store new.store id class next valid.0 target states wide cheap done room);
+        (λ states room. roomy-computed old.store new.store id class next valid.0 target states wide (λ lacks. cheap) done room);
     counted = omega (arith, step.counted);
     computed = λ _ _. step.counted;
     fixed = λ high. absurd (omega (arith, low, high));

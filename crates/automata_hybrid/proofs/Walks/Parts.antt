@@ -1,9 +1,9 @@
 -- Going on with a walk: what the functions under its calls answer, and what they make of their cache.
 use Rattle.automata_hybrid.specs.declared.search.walk.Handle.{Handle}
-use Rattle.std.proofs.Common.{ℕ, suc, ◌≡◌, ◌∙◌, ◌<◌, inl, inr, false, length, Option, None, refl, sym, ap, subst, arith}
+use Rattle.std.proofs.Common.{ℕ, suc, ◌⊎◌, [], ◌∷◌, ◌≡◌, ◌∙◌, ◌<◌, inl, inr, false, length, Option, None, refl, sym, ap, subst, arith}
 use Rattle.std.proofs.Common.{Some}
 use Rattle.std.specs.Prelude.{Err, IfErr, IfOk, Ok, OnErr, OnOk, Result}
-use Rattle.std.proofs.lemmas.Result.{IfErr-weaker, IfOk-weaker, on_ok_weaker}
+use Rattle.std.proofs.lemmas.Result.{IfErr-weaker, IfOk-weaker}
 use Rattle.automata_base.specs.Answers.Answers.{offset_in}
 use Rattle.automata_base.specs.Haystacks.Input.{Input}
 use Rattle.automata_base.specs.Paths.Paths.{next}
@@ -17,22 +17,21 @@ use Rattle.automata_config.specs.declared.error.StepError.{StepError}
 use Rattle.automata_config.specs.declared.error.StepError.TheVariants as step
 use Rattle.automata_config.specs.declared.error.SearchError.{SearchError}
 use Rattle.automata_config.specs.declared.error.SearchError.TheVariants as search
-use Rattle.automata_hybrid.specs.Cache.Stores.{IsKnownTransition, Stored, with_searched}
-use Rattle.automata_hybrid.specs.declared.dfa.progress.Searched.{Searched}
-use Rattle.automata_hybrid.specs.Cache.Caches.{CacheView, with_store}
+use Rattle.automata_hybrid.specs.Cache.Stores.{Stored}
+use Rattle.automata_hybrid.specs.Cache.Caches.{CacheView, IsSoundOf, counted}
 use Rattle.automata_hybrid.specs.Walks.Cached.{IsToRead, KnowsItsState}
-use Rattle.automata_hybrid.specs.Cache.Growth.{IsAddRefused, IsGrown}
+use Rattle.automata_hybrid.specs.Cache.Growth.{IsAddRefused}
 use Rattle.automata_hybrid.specs.Cache.Usage.{GivesUp}
 use Rattle.automata_hybrid.specs.Searches.Cached.{IsOfInput}
 use Rattle.automata_hybrid.specs.Machines.Machine.{Machine, slot_count, table_stride}
 use Rattle.automata_hybrid.specs.Searches.Contracts.{IsUnsupported, unsupported_error}
 use Rattle.automata_hybrid.specs.Walks.Contracts.{IsCallEffect, IsKnownRefusal, IsPutBack}
-use Rattle.automata_hybrid.specs.Searches.Units.{IsReadEffect}
+use Rattle.automata_hybrid.specs.Calls.Events.{Move}
 use Rattle.automata_hybrid.specs.Walks.Parts.{IsCallAnswer, IsCallRefused, IsResumeAnswer, IsResumeEffect, IsUnitEffect}
 use Rattle.automata_hybrid.specs.Walks.Parts.{IsPutBackEffect}
-use Rattle.automata_hybrid.specs.Searches.Progress.{IsLeftAt, IsUnitRead, with_search_moved}
+use Rattle.automata_hybrid.specs.Searches.Progress.{IsLeftAt, IsUnitRead, unit_event, with_search_moved}
 use Rattle.automata_hybrid.specs.Walks.Progress.{IsResumed, LeavesCall, ReadsNoUnit}
-use Rattle.automata_hybrid.specs.Searches.Passes.{behind_offset, given_up_offset, state_in, tape_in}
+use Rattle.automata_hybrid.specs.Searches.Passes.{IsUnitRefusal, behind_offset, given_up_offset, state_in, tape_in}
 use Rattle.automata_hybrid.specs.Searches.PassState.{step_refusal}
 use Rattle.automata_hybrid.specs.Machines.StartSlots.{supports}
 use Rattle.automata_hybrid.specs.Steps.Starts.{IsStartAnswer, IsStartEffect, IsStartRefusal, IsStartRefusalAt}
@@ -46,11 +45,13 @@ use Rattle.automata_hybrid.specs.Walks.State.{At, Ended, Fresh, HoldsNone, Ids, 
 use Rattle.automata_hybrid.specs.Walks.State.{States, Walk, keeping_of, without_match, Holds}
 use Rattle.automata_hybrid.specs.declared.search.walk.Held.{Held}
 use Rattle.automata_hybrid.specs.declared.search.walk.Held.TheVariants as held
-use Rattle.automata_hybrid.proofs.Cache.Growth.{grown_less, grown_moved, grown_same, grown_trans, nothing_second}
+use Rattle.automata_hybrid.proofs.Cache.Growth.{grown_less, grown_same}
 use Rattle.automata_hybrid.proofs.Searches.Cached.{start_idle}
 use Rattle.automata_hybrid.proofs.Walks.Cached.{still_same}
 use Rattle.automata_hybrid.proofs.Walks.Progress.{reads_some}
-use Rattle.automata_hybrid.proofs.Searches.UnitsRead.{start_had, unstarted}
+use Rattle.automata_hybrid.proofs.Searches.UnitsRead.{moved_and_read, start_had}
+use Rattle.automata_hybrid.proofs.Searches.Follows.{moved_left, quit_of_input}
+use Rattle.automata_hybrid.proofs.Calls.Laws.{Follows, follows_all}
 use Rattle.automata_hybrid.proofs.Walks.Calls.{fresh_at}
 use Rattle.automata_hybrid.proofs.Searches.PassState.{false_true, state_first}
 use Rattle.automata_hybrid.proofs.Steps.Starts.{refusal_at}
@@ -161,7 +162,7 @@ module _ (keeping : Keeping) (way : Direction) (m : Machine) (input : Input) (w 
       go Ids r = r
       go States r = r
 
-    left_matched : (x : SearchError) → LeavesCall keeping way m input (without_match w) old.store new.store x → LeavesCall keeping way m input w old.store new.store x
+    left_matched : (x : SearchError) → LeavesCall keeping way m input (without_match w) old new x → LeavesCall keeping way m input w old new x
     left_matched x l = l
 
 -- what is held by itself is held whatever the cache
@@ -209,6 +210,15 @@ effect_none keeping way m input w next c none same = record {
   ready = λ _. refl;
 }
 
+-- a failed start changes no state
+start_kept :
+    (m : Machine) (mode : Anchored) (behind : Option ℕ) (behind_at start_at : ℕ) (old new : CacheView) (e : SearchError)
+    → IsStartRefusedAt m mode behind behind_at start_at old new e → new.store ≡ old.store
+start_kept m mode behind behind_at start_at old new e h = go h.refused.unchanged where
+  go : (new ≡ old) ⊎ (new ≡ counted old) → new.store ≡ old.store
+  go (inl u) = ap (λ (v : CacheView). v.store) u
+  go (inr u) = ap (λ (v : CacheView). v.store) u
+
 -- a walk that has not begun goes on from its start
 module _ (way : Direction) (m : Machine) (input : Input) (w : Walk) (old new : CacheView) (r : Result ℕ SearchError)
     (fresh : w.stage ≡ Fresh) where
@@ -234,11 +244,11 @@ module _ (way : Direction) (m : Machine) (input : Input) (w : Walk) (old new : C
 
   pub start_effect :
       IsWalkOf way m input w → IfOk r (IsStartAnswer m input.anchored (tape_in way input).before old new)
-      → length old.store.starts ≡ slot_count m
+      → length old.store.starts ≡ slot_count m → IsSoundOf new.store m
       → IfErr r (IsStartRefusedAt m input.anchored (tape_in way input).before (behind_offset way input) (offset_in way input 0) old new)
       → IsStartEffect m input.anchored (tape_in way input).before old new
       → IsResumeEffect way m input w.stage old new r
-  start_effect (k, reported) answer slots refusal effect = subst (λ (s : Stage). IsResumeEffect way m input s old new r) (sym fresh) (record {
+  start_effect (k, reported) answer slots sound refusal effect = subst (λ (s : Stage). IsResumeEffect way m input s old new r) (sym fresh) (record {
     cost = effect.counted;
     grown = grown_less old new effect.grown;
     there = λ _. effect.grown;
@@ -246,53 +256,44 @@ module _ (way : Direction) (m : Machine) (input : Input) (w : Walk) (old new : C
     known = λ knows.
         start_idle m old new input.anchored (tape_in way input).before r (behind_offset way input) (offset_in way input 0)
         slots refusal effect knows;
-    resumed = IfOk-weaker r _ _ (λ id a. start_had way m input old new id slots effect a) answer;
+    resumed = IfOk-weaker r _ _ (λ id a. start_had way m input old new id slots sound effect a) answer;
     err =
         IfErr-weaker r _ _
-        (λ e h. unstarted m input.anchored (tape_in way input).before (behind_offset way input) (offset_in way input 0) old new e h)
+        (λ e h. start_kept m input.anchored (tape_in way input).before (behind_offset way input) (offset_in way input 0) old new e h)
         refusal;
   })
 
--- what reading a unit makes of the cache, in a walk's words: the search moved, and the unit was read from its ID
+-- what reading a unit makes of the cache, in a walk's words
 pub unit_effect :
-    {T : Type 0} (way : Direction) (m : Machine) (input : Input) (place id : ℕ) (unit : Option ℕ)
-    (old mid new : CacheView) {s : Searched} (r : Result T SearchError)
-    → next (tape_in way input) place ≡ unit → mid ≡ with_store old (with_searched old.store s)
-    → Names old.store.table id (state_in way m input place) → new.store.table.of ≡ m
-    → IsReadEffect m id unit mid new r
-    → OnOk r (IsUnitRead way m input place (with_search_moved way input place old.store) new.store)
-    → OnErr r (IsLeftAt way m input place old.store new.store) → IsUnitEffect way m input place old new r
-unit_effect way m input place id unit old mid new r same moved named of e read left = record {
-  counted = omega (arith, e.counted, count);
-  grown = grown;
-  known = λ (other, names, known). (
-      let one : other ≡ id = cc in
-      let here : IsKnownTransition old.store id (unit_class m unit) =
-      subst (λ u. IsKnownTransition old.store id (unit_class m u)) same
-      (subst (λ n. IsKnownTransition old.store n (unit_class m (next (tape_in way input) place))) one known) in
-      let still = e.known (subst (λ (v : CacheView). IsKnownTransition v.store id (unit_class m unit)) (sym moved) here) in
-      (still.0.0 ∙ count, still.1));
-  learned = λ nothing.
-      on_ok_weaker r (λ known. (
-        (
-          id,
-          (grown.kept nothing).rows id _ named,
-          subst (λ u. IsKnownTransition new.store id (unit_class m u)) (sym same) known,
-        ),
-        subst (λ u. unit_class m u < table_stride new.store.table.of) (sym same)
-            (subst (λ (d : Machine). unit_class m unit < table_stride d) (sym of) e.below),
-      )) (e.learned (nothing_second old mid new first e.grown nothing));
+    {T : Type 0} (way : Direction) (m : Machine) (input : Input) (place : ℕ) (old new : CacheView) (r : Result T SearchError)
+    → IsSoundOf old.store m → OnOk r (IsUnitRead way m input place (with_search_moved way input place old) new)
+    → OnErr r (IsLeftAt way m input place old new) → IfErr r (IsUnitRefusal way m new.store input place)
+    → IsUnitEffect way m input place old new r
+unit_effect way m input place old new (Ok n) sound read left refused = record {
+  counted = f.counted;
+  grown = f.grown;
+  known = λ here. (f.known (tt, (here, tt)), tt);
+  learned = λ nothing. (
+    (f.learned nothing).1.0,
+    subst (λ (d : Machine). unit_class m (next (tape_in way input) place) < table_stride d) (sym read.1.0.of) read.0.1,
+  );
   read = read;
-  left = left;
+  left = tt;
 } where
-  first : IsGrown old mid
-  first = grown_moved old mid moved
-
-  grown : IsGrown old new
-  grown = grown_trans old mid new first e.grown
-
-  count : mid.count ≡ old.count
-  count = ap (λ (v : CacheView). v.count) moved
+  f : Follows m (Move (given_up_offset way input place) ∷ unit_event way m input place ∷ []) old new
+  f =
+      follows_all m (Move (given_up_offset way input place) ∷ unit_event way m input place ∷ []) old new sound
+      (moved_and_read way m input place old new sound read)
+unit_effect way m input place old new (Err e) sound read left refused =
+    let s = moved_left way m input place old new left in
+    record {
+      counted = s.1;
+      grown = s.0;
+      known = λ here. ((s.2 here).1, quit_of_input way m new.store input place e refused (s.2 here).0);
+      learned = λ nothing. tt;
+      read = tt;
+      left = left;
+    }
 
 abbrev at_state : Powerset → Stage → Powerset
 at_state q Fresh = q
@@ -308,15 +309,15 @@ pub back_effect :
     → IsPutBackEffect {T = T} {E = E} handle.state old new (Ok id)
     → IsResumeEffect {T = T} way m input w.stage old new (Ok id)
 back_effect {T} {E} way m input t w h handle old new id (k, reported) fresh on at is has e = go w.stage reported fresh on at where
-  resumed : (q : Powerset) → IsPutBackEffect {T = T} {E = E} q old new (Ok id) → IsResumed way m input (At q) old.store new.store
+  resumed : (q : Powerset) → IsPutBackEffect {T = T} {E = E} q old new (Ok id) → IsResumed way m input (At q) old new
   resumed q back = look (id_of old.store.table q) refl where
-    look : (o : Option ℕ) → id_of old.store.table q ≡ o → IsResumed way m input (At q) old.store new.store
+    look : (o : Option ℕ) → id_of old.store.table q ≡ o → IsResumed way m input (At q) old new
     look (Some n) named =
         let has : IsKnownState old.store.table q = record { id = n; named = named } in
-        inl (has, ap (λ (v : CacheView). v.store) (back.there has).0)
+        inl (has, (back.there has).0)
     look None none =
         let lacks : IsKnownState old.store.table q → ⊥ = λ had. none_some (sym none ∙ had.named) in
-        inr (lacks, (back.again lacks).1)
+        inr (lacks, (back.again lacks).0, (back.again lacks).1)
 
   go :
       (s : Stage) → HasReportedAt way m input s w.units w.reported k → (s ≡ Fresh → ⊥) → (s ≡ Ended → ⊥) → IsHeldAt t s h
@@ -389,7 +390,7 @@ row_effect way m input c w h id fresh on holds row = record {
   named : (q : Powerset) → w.stage ≡ At q → Names c.store.table id q
   named q at = subst (λ (x : Held). Holds c.store.table x q) row (subst (λ (s : Stage). IsHeldAt c.store.table s h) at holds)
 
-  resumed : (s : Stage) → w.stage ≡ s → IsResumed way m input s c.store c.store
+  resumed : (s : Stage) → w.stage ≡ s → IsResumed way m input s c c
   resumed Fresh e = absurd (fresh e)
   resumed (At q) e = inl (record { id = id; named = named q e }, refl)
   resumed Ended e = absurd (on e)

@@ -3,6 +3,7 @@ use Rattle.std.proofs.Common.{ℕ, suc, ◌≡◌, ◌+◌, ◌≤◌, length, i
 use Rattle.automata_base.specs.Haystacks.Input.{Input}
 use Rattle.automata_base.specs.declared.util.search.Direction.{Direction}
 use Rattle.automata_config.specs.declared.error.SearchError.{SearchError}
+use Rattle.automata_hybrid.specs.Cache.Caches.{CacheView}
 use Rattle.automata_hybrid.specs.Cache.Stores.{Stored}
 use Rattle.automata_hybrid.specs.Walks.Cached.{IsToRead}
 use Rattle.automata_hybrid.specs.Machines.Machine.{Machine}
@@ -22,7 +23,7 @@ walk_reads_before way m input j k l reads =
 
 -- a walk has read units up to where it is
 pub arrived_read :
-    (way : Direction) (m : Machine) (input : Input) (from k units : ℕ) (old new : Stored) → from ≤ k → suc k ≡ units
+    (way : Direction) (m : Machine) (input : Input) (from k units : ℕ) (old new : CacheView) → from ≤ k → suc k ≡ units
     → WalkReads way m input k → AreReadTo way m input from (suc k) old new
     → (n : ℕ) × (units ≡ suc (from + n)) × WalkReads way m input (from + n) × AreUnitsRead way m input from (suc n) old new
 arrived_read way m input from k units old new more same reads all = go (read_some way m input from k old new more all) where
@@ -34,10 +35,10 @@ arrived_read way m input from k units old new more same reads all = go (read_som
 
 -- a call that failed at a unit
 pub call_stopped :
-    (way : Direction) (m : Machine) (input : Input) (from k : ℕ) (old new : Stored) (e : SearchError)
+    (way : Direction) (m : Machine) (input : Input) (from k : ℕ) (old new : CacheView) (e : SearchError)
     → WalkReads way m input k → HasReadNoQuit way m input k → IsSilent way m input from k
-    → IsUnitRefusal way m new input k e
-    → ((run : Stored) × AreReadTo way m input from k old run × IsLeftAt way m input k run new)
+    → IsUnitRefusal way m new.store input k e
+    → ((run : CacheView) × AreReadTo way m input from k old run × IsLeftAt way m input k run new)
     → IsCallStopped Ids way m input from old new e
 call_stopped way m input from k old new e reads clean silent refused (run, all, left) = (
   all.units,
@@ -46,7 +47,7 @@ call_stopped way m input from k old new e reads clean silent refused (run, all, 
   subst (HasReadNoQuit way m input) (sym all.upto) clean,
   subst (IsSilent way m input from) (sym all.upto) silent,
   all.read,
-  subst (λ j. IsUnitRefusal way m new input j e × IsLeftAt way m input j run new) (sym all.upto) (refused, left),
+  subst (λ j. IsUnitRefusal way m new.store input j e × IsLeftAt way m input j run new) (sym all.upto) (refused, left),
 )
 
 -- a call that is to read units reads some
@@ -64,13 +65,13 @@ step_refuses Ids way m c input j e r = r
 step_refuses States way m c input j e r = inl r
 
 step_leaves :
-    (keeping : Keeping) (way : Direction) (m : Machine) (input : Input) (k : ℕ) (old new : Stored) (e : SearchError)
-    → IsUnitRefusal way m new input k e × IsLeftAt way m input k old new → IsCallLeftAt keeping way m input k old new e
+    (keeping : Keeping) (way : Direction) (m : Machine) (input : Input) (k : ℕ) (old new : CacheView) (e : SearchError)
+    → IsUnitRefusal way m new.store input k e × IsLeftAt way m input k old new → IsCallLeftAt keeping way m input k old new e
 step_leaves Ids way m input k old new e left = left
 step_leaves States way m input k old new e left = inl left
 
 pub call_leaves :
-    (keeping : Keeping) (way : Direction) (m : Machine) (input : Input) (from : ℕ) (old new : Stored) (e : SearchError)
+    (keeping : Keeping) (way : Direction) (m : Machine) (input : Input) (from : ℕ) (old new : CacheView) (e : SearchError)
     → IsCallStopped Ids way m input from old new e → IsCallStopped keeping way m input from old new e
 call_leaves keeping way m input from old new e (n, mid, reads, clean, silent, all, left) =
     (n, mid, reads, clean, silent, all, step_leaves keeping way m input (from + n) mid new e left)

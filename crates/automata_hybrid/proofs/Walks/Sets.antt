@@ -291,14 +291,14 @@ module _ (m : Machine) (input : Input) (old : List Bool) where
 
       -- by one call more
       pub calls_more :
-          (e : input.earliest ≡ false) (lacks : IsLacking (set new half.pattern true)) (cache last : Stored)
+          (e : input.earliest ≡ false) (lacks : IsLacking (set new half.pattern true)) (cache last : CacheView)
           → HaveCalled m input old (suc j.k) cache next last → HaveCalled m input old (joins_more e lacks).k cache next last
       unfolding joins_more
       calls_more e lacks cache last called = called
 
 -- a walk that has not begun has made no call
 pub joins_begin :
-    (m : Machine) (input : Input) (walk : Walk) (set : List Bool) (c : Stored) → walk ≡ fresh_walk
+    (m : Machine) (input : Input) (walk : Walk) (set : List Bool) (c : CacheView) → walk ≡ fresh_walk
     → (j : Joins m input walk set set) × HaveCalled m input set j.k c walk c
 joins_begin m input walk set c fresh = (
   record {

@@ -7,17 +7,17 @@ use Rattle.automata_base.specs.Haystacks.Input.{Input}
 use Rattle.automata_base.specs.Haystacks.Tapes.{is_split}
 use Rattle.automata_base.specs.declared.util.search.Direction.{Direction}
 use Rattle.automata_config.specs.declared.error.SearchError.TheVariants as search
-use Rattle.automata_hybrid.specs.Cache.Caches.{CacheView, with_store}
+use Rattle.automata_hybrid.specs.Cache.Caches.{CacheView, IsSoundOf, with_store}
 use Rattle.automata_hybrid.specs.Cache.Growth.{ClearedNothing, IsGrown}
 use Rattle.automata_hybrid.specs.Walks.Cached.{HasLearnedUnits, IsToRead, KnowsItsState, KnowsUnits, KnowsWalk}
 use Rattle.automata_hybrid.specs.Machines.Machine.{Machine}
 use Rattle.automata_hybrid.specs.Walks.Contracts.{IsCallEffect}
 use Rattle.automata_hybrid.specs.Cache.Progress.{progress_finished, progress_started}
 use Rattle.automata_hybrid.specs.Walks.Parts.{IsAdvanceEffect, IsCallRefused, IsResumeAnswer, IsResumeEffect}
-use Rattle.automata_hybrid.specs.Searches.Progress.{AreUnitsRead, HasEndedAfter, with_search_begun}
+use Rattle.automata_hybrid.specs.Searches.Progress.{AreUnitsRead, HasEndedAfter, IsUnitRead, with_search_begun, with_search_moved}
 use Rattle.automata_hybrid.specs.Walks.Progress.{IsCallStopped}
 use Rattle.automata_hybrid.specs.Searches.Passes.{HasReadNoQuit, Skips, given_up_offset, state_in, tape_in}
-use Rattle.automata_hybrid.specs.Cache.Stores.{Stored, with_searched}
+use Rattle.automata_hybrid.specs.Cache.Stores.{with_searched}
 use Rattle.automata_hybrid.specs.Walks.Answers.{Arrives, HasItsState, HasReported, HasReportedBy, IsArrival, IsSilent, IsUnheld}
 use Rattle.automata_hybrid.specs.Walks.Answers.{IsWalkOf, WalkReads, start_count}
 use Rattle.automata_hybrid.specs.Walks.State.{Ended, Keeping, States, Walk}
@@ -28,7 +28,7 @@ use Rattle.automata_hybrid.proofs.Walks.Cached.{has_state, nothing_after, state_
 use Rattle.automata_hybrid.proofs.Walks.Cached.{units_moved}
 use Rattle.automata_hybrid.proofs.Walks.Parts.{refused_on}
 use Rattle.automata_hybrid.proofs.Walks.Progress.{reads_some, walk_reads_before}
-use Rattle.automata_hybrid.proofs.Searches.UnitsRead.{ended_here}
+use Rattle.automata_hybrid.proofs.Searches.UnitsRead.{ended_after, ended_here, read_last}
 use Rattle.automata_hybrid.proofs.Walks.Calls.{reported_here, walk_clears_none}
 use Rattle.automata_hybrid.proofs.Steps.Steps.{unit_no_quit}
 use Rattle.automata_base.specs.Paths.Paths.{next as unit_at}
@@ -39,7 +39,7 @@ module _ (way : Direction) (m : Machine) (input : Input) (w : Walk) (from : ℕ)
     (e : IsResumeEffect {T = ℕ} way m input w.stage old between (Ok from))
     (resumes : IsResumeAnswer way m input w between.store from)
     (begins : begun ≡ with_store between (with_searched between.store (progress_started between.store.searched (given_up_offset way input w.units))))
-    (arrival : Arrival) (a : IsAdvanceEffect way m input w.units begun mid (Ok arrival))
+    (sound : IsSoundOf begun.store m) (arrival : Arrival) (a : IsAdvanceEffect way m input w.units begun mid (Ok arrival))
     (arrives : IsArrival way m mid.store.table input w.units arrival.id arrival.units) where
   counts : begun.count ≡ between.count
   counts = ap (λ (v : CacheView). v.count) begins
@@ -59,13 +59,10 @@ module _ (way : Direction) (m : Machine) (input : Input) (w : Walk) (from : ℕ)
   abbrev Last : Type 0
   Last =
       (n : ℕ) × (arrival.units ≡ suc (w.units + n)) × WalkReads way m input (w.units + n)
-      × AreUnitsRead way m input w.units (suc n) begun.store mid.store
+      × AreUnitsRead way m input w.units (suc n) begun mid
 
   last : Last
   last = a.read
-
-  starts : begun.store ≡ with_search_begun way input w.units between.store
-  starts = ap (λ (v : CacheView). v.store) begins
 
   still : KnowsItsState way m old.store input w.stage → between.count ≡ old.count
   still knows = ap (λ (v : CacheView). v.count) (e.known (λ may. knows)).0
@@ -111,13 +108,12 @@ module _ (way : Direction) (m : Machine) (input : Input) (w : Walk) (from : ℕ)
     ended_there : HasItsState old.store.table w.stage → IsGrown old new
     ended_there has = grown_trans old between new (e.there has) after
 
-    ends_at : HasEndedAfter way m input w.units (suc last.0) (with_search_begun way input w.units between.store) new.store
+    ends_at : HasEndedAfter way m input w.units (suc last.0) (with_search_begun way input w.units between) new
     ends_at =
-        let k : w.units + (suc last.0 - 1) ≡ arrival.units - 1 = omega (arith, last.1) in (
-          mid.store,
-          subst (λ (c : Stored). AreUnitsRead way m input w.units (suc last.0) c mid.store) starts last.3,
-          ended_here way input (w.units + (suc last.0 - 1)) at mid new (ap (given_up_offset way input) k ∙ sym place) ends,
-        )
+        let k : w.units + (suc last.0 - 1) ≡ arrival.units - 1 = omega (arith, last.1) in
+        subst (λ (c : CacheView). HasEndedAfter way m input w.units (suc last.0) c new) begins
+        (ended_after way m input w.units (suc last.0) begun mid new sound last.3
+        (ended_here way input (w.units + (suc last.0 - 1)) at mid new (ap (given_up_offset way input) k ∙ sym place) ends))
 
     pub effect_on : IsCallEffect {T = Unit {0}} keeping way m input w next old new (Ok tt)
     effect_on = record {
@@ -139,7 +135,7 @@ module _ (way : Direction) (m : Machine) (input : Input) (w : Walk) (from : ℕ)
       known = λ knows. ((ended_there (has_known knows)).idle (ended_count ∙ knows_count knows), tt);
       ended = inr (
         reads_some input w r,
-        between.store,
+        between,
         suc last.0,
         e.resumed,
         omega (arith, units, last.1),
@@ -174,20 +170,24 @@ module _ (way : Direction) (m : Machine) (input : Input) (w : Walk) (from : ℕ)
       memory = refl;
     }
 
-    left_unheld : IsCallStopped States way m input w.units (with_search_begun way input w.units between.store) mid.store search.OutOfMemory
-    left_unheld = go (subst (λ (c : Stored). AreUnitsRead way m input w.units (suc last.0) c mid.store) starts last.3) where
-      go :
-          AreUnitsRead way m input w.units (suc last.0) (with_search_begun way input w.units between.store) mid.store
-          → IsCallStopped States way m input w.units (with_search_begun way input w.units between.store) mid.store search.OutOfMemory
-      go (before, reads, unit) = (
-        last.0,
-        before,
-        last.2,
-        clean_before,
-        subst (IsSilent way m input w.units) same_place arrived.silent,
-        reads,
-        inr (unheld_on, unit),
-      )
+    left_unheld : IsCallStopped States way m input w.units (with_search_begun way input w.units between) mid search.OutOfMemory
+    left_unheld =
+        subst (λ (c : CacheView). IsCallStopped States way m input w.units c mid search.OutOfMemory) begins
+        (go (read_last way m input w.units last.0 begun mid last.3))
+      where
+        go :
+            ((before : CacheView) × AreUnitsRead way m input w.units last.0 begun before
+            × IsUnitRead way m input (w.units + last.0) (with_search_moved way input (w.units + last.0) before) mid)
+            → IsCallStopped States way m input w.units begun mid search.OutOfMemory
+        go (before, reads, unit) = (
+          last.0,
+          before,
+          last.2,
+          clean_before,
+          subst (IsSilent way m input w.units) same_place arrived.silent,
+          reads,
+          inr (unheld_on, unit),
+        )
 
     pub refused_unheld : IsCallRefused States way m input w mid.store search.OutOfMemory
     refused_unheld = refused_on States way m input w mid.store search.OutOfMemory reported r (λ k t. (
@@ -211,6 +211,6 @@ module _ (way : Direction) (m : Machine) (input : Input) (w : Walk) (from : ℕ)
       learned = λ nothing. tt;
       known = λ knows. ((there (has_known knows)).idle (knows_count knows), inr (w.units + last.0, omega arith, unheld_on));
       ended = tt;
-      left = inr (between.store, e.resumed, left_unheld);
+      left = inr (between, e.resumed, left_unheld);
       ready = λ none. absurd (reads_some input w r none);
     }

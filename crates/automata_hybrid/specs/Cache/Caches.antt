@@ -5,7 +5,7 @@ use Rattle.automata_hybrid.specs.Machines.Machine.{Machine, slot_count, table_st
 use Rattle.automata_hybrid.specs.Cache.Table.{AreRows, IsRowId}
 use Rattle.automata_hybrid.specs.Cache.Clears.{AllStarts}
 use Rattle.automata_hybrid.specs.Cache.Usage.{usage}
-use Rattle.automata_hybrid.specs.Cache.Stores.{Stored, fresh_store}
+use Rattle.automata_hybrid.specs.Cache.Stores.{Stored, fresh_store, IsSoundStore}
 
 -- what contracts see of a cache: its states, and how often it determinized
 pub record CacheView : Type 0 where
@@ -24,6 +24,10 @@ pub record IsStoreOf (c : Stored) (m : Machine) : Type 0 where
   pub starts : AllStarts c.table c.starts
   pub slots : length c.starts ≡ slot_count m
   pub within : usage c ≤ m.capacity
+
+-- such a cache, with what is true of every cache
+abbrev pub IsSoundOf : Stored → Machine → Type 0
+IsSoundOf c m = IsStoreOf c m × IsSoundStore c
 
 -- a cache that nothing was done to
 abbrev pub fresh_cache : Machine → CacheView

@@ -14,7 +14,8 @@ use Rattle.automata_base.specs.declared.util.search.MatchErrorKind.TheVariants.{
 use Rattle.automata_base.specs.declared.util.search.MatchKind.TheVariants.{All as KindAll}
 use Rattle.automata_config.specs.declared.error.SearchError.{SearchError}
 use Rattle.automata_config.specs.declared.error.SearchError.TheVariants as search
-use Rattle.automata_hybrid.specs.Cache.Caches.{CacheView}
+use Rattle.automata_hybrid.specs.Cache.Caches.{CacheView, IsStoreOf}
+use Rattle.automata_hybrid.specs.Cache.Stores.{Stored}
 use Rattle.automata_hybrid.specs.Searches.Costs.{IsCostOfSearch}
 use Rattle.automata_hybrid.specs.Cache.Growth.{ClearedNothing, IsGrown, IsStill}
 use Rattle.automata_hybrid.specs.Searches.Cached.{IsOfInput, Knows}
@@ -99,7 +100,7 @@ pub record IsSearchEffect {T : Type 0} (way : Direction) (m : Machine) (input : 
   -- with all that cached, it fails because of its input alone, and changes nothing but the progress
   pub known : Knows way m old.store input → IsStill old new × IfErr result IsOfInput
   -- the searched bytes, and the search that is open: what its passes leave one after another
-  pub ended : OnOk result (EndsProgress way m input old.store new.store)
-  pub left : IfErr result (LeavesProgress way m input old.store new.store)
+  pub ended : OnOk result (EndsProgress way m input old new)
+  pub left : IfErr result (LeavesProgress way m input old new)
   -- with a span that is done, nothing at all
   pub done : input.end < input.start → new ≡ old

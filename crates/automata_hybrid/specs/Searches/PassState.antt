@@ -15,9 +15,9 @@ use Rattle.automata_config.specs.declared.error.SearchError.{SearchError}
 use Rattle.automata_config.specs.declared.error.SearchError.TheVariants as search
 use Rattle.automata_hybrid.specs.Machines.Machine.{Machine, table_stride}
 use Rattle.automata_hybrid.specs.Cache.Table.{Rows, Names}
-use Rattle.automata_hybrid.specs.Searches.Passes.{HasReadNoQuit, Reads, tape_in, state_in, reported_in}
+use Rattle.automata_hybrid.specs.Searches.Passes.{HasReadNoQuit, tape_in, state_in, reported_in}
 use Rattle.automata_hybrid.specs.Cache.Stores.{Stored}
-use Rattle.automata_hybrid.specs.Searches.Cached.{KnowsItsStart, KnowsUnit}
+use Rattle.automata_hybrid.specs.Searches.Cached.{KnowsUnit}
 use Rattle.automata_hybrid.specs.Cache.Ids.{HasMatchTag, HasOnly, IsRunTag, unknown_id}
 use Rattle.automata_hybrid.specs.Steps.Steps.{known_step, unit_class}
 use Rattle.automata_config.specs.Options.{match_kind_of}
@@ -101,18 +101,8 @@ pub record IsMatchRun (way : Direction) (m : Machine) (c : Stored) (input : Inpu
   pub followed : IsFollowed way m c input (2 ^ 27) from to id
   pub reports : HasMatchTag id
 
--- each transition that a pass took on its first `k` units is cached, at a class that rows have
-abbrev pub HasLearned : Direction → Machine → Stored → Input → ℕ → Type 0
-HasLearned way m c input k = (j : ℕ) → j < k → Reads way m input j → HasLearnedUnit way m c input j
-
 -- cached transitions led a pass from one place to another
 pub record HasRun (way : Direction) (m : Machine) (c : Stored) (input : Input) (from to : ℕ) : Type 0 where
   pub more : from ≤ to
   pub within : to ≤ input.end - input.start
-  pub known : (k : ℕ) → from ≤ k → k < to → KnowsUnit way m c input k
-  pub learned : HasLearned way m c input from → HasLearned way m c input to
-
--- all that a pass used is cached: its start state, and each transition that it took
-abbrev pub HasLearnedAll : Direction → Machine → Stored → Input → Type 0
-HasLearnedAll way m c input =
-    KnowsItsStart way m c input × ((k : ℕ) → Reads way m input k → HasLearnedUnit way m c input k)
+  pub known : (k : ℕ) → from ≤ k → k < to → HasLearnedUnit way m c input k

@@ -1,5 +1,6 @@
--- What the passes of a search make of their cache and of the progress, unit by unit.
-use Rattle.std.specs.Prelude.{ℕ, zero, suc, ◌≡◌, ◌<◌, ◌≤◌, ◌+◌, ◌-◌, ◌⊎◌, length, true, false}
+-- What the passes of a search make of their cache: their events, unit by unit, up to one that fails.
+use Rattle.std.specs.Prelude.{ℕ, zero, suc, ◌≡◌, ◌<◌, ◌≤◌, ◌+◌, ◌-◌, ◌⊎◌, List, [], ◌∷◌, ◌++◌, length}
+use Rattle.std.specs.Prelude.{Result, IfErr, OnOk}
 use Rattle.automata_base.specs.Answers.Answers.{Tries, later, offset_in}
 use Rattle.automata_base.specs.Haystacks.Input.{Input}
 use Rattle.automata_base.specs.Paths.Paths.{next}
@@ -7,17 +8,14 @@ use Rattle.automata_base.specs.declared.util.search.Direction.{Direction}
 use Rattle.automata_base.specs.declared.util.search.Direction.TheVariants.{Forward, Backward}
 use Rattle.automata_config.specs.declared.error.SearchError.{SearchError}
 use Rattle.automata_hybrid.specs.declared.dfa.progress.Searched.{Searched}
-use Rattle.automata_hybrid.specs.Cache.Stores.{Stored, with_searched}
-use Rattle.automata_hybrid.specs.Cache.Changes.{IsComputed, IsStarted}
-use Rattle.automata_hybrid.specs.Searches.Cached.{KnowsItsStart, KnowsUnit}
+use Rattle.automata_hybrid.specs.Cache.Caches.{CacheView}
+use Rattle.automata_hybrid.specs.Cache.Progress.{progress_finished}
+use Rattle.automata_hybrid.specs.Calls.Events.{Begin, DoAll, Does, End, Event, Fails, IsStepLeft, Move, Start, Step}
+use Rattle.automata_hybrid.specs.Calls.Events.{with_progress}
 use Rattle.automata_hybrid.specs.Machines.Machine.{Machine}
-use Rattle.automata_hybrid.specs.Cache.Progress.{progress_finished, progress_started, progress_updated}
 use Rattle.automata_hybrid.specs.Searches.Passes.{Finds, HasReadNoQuit, IsUnitRefusal, Reads, Skips}
 use Rattle.automata_hybrid.specs.Searches.Passes.{behind_offset, given_up_offset, state_in, tape_in}
-use Rattle.automata_hybrid.specs.Machines.StartSlots.{slot_behind}
-use Rattle.automata_hybrid.specs.Steps.Starts.{IsStartRefusalAt, start_row}
-use Rattle.automata_hybrid.specs.Steps.Steps.{quits_on, unit_class}
-use Rattle.automata_hybrid.specs.Cache.Table.{Names}
+use Rattle.automata_hybrid.specs.Steps.Starts.{IsStartRefusalAt, MayStart}
 
 -- what a pass makes of the progress before its last step, which is at an offset: backward it has ended there
 abbrev pub before_last : Direction → Searched → (at : ℕ) → Searched
@@ -25,52 +23,58 @@ before_last Forward s at = s
 before_last Backward s at = progress_finished s at
 
 -- with the search begun at the unit at a place
-abbrev pub with_search_begun : Direction → Input → (k : ℕ) → Stored → Stored
-with_search_begun way input k c = with_searched c (progress_started c.searched (given_up_offset way input k))
+abbrev pub with_search_begun : Direction → Input → (k : ℕ) → CacheView → CacheView
+with_search_begun way input k = with_progress (Begin (given_up_offset way input k))
 
 -- with the search come to that unit
-abbrev pub with_search_moved : Direction → Input → (k : ℕ) → Stored → Stored
-with_search_moved way input k c = with_searched c (progress_updated c.searched (given_up_offset way input k))
+abbrev pub with_search_moved : Direction → Input → (k : ℕ) → CacheView → CacheView
+with_search_moved way input k = with_progress (Move (given_up_offset way input k))
 
 -- with the search ended at that unit
-abbrev pub with_search_ended : Direction → Input → (k : ℕ) → Stored → Stored
-with_search_ended way input k c = with_searched c (progress_finished c.searched (given_up_offset way input k))
+abbrev pub with_search_ended : Direction → Input → (k : ℕ) → CacheView → CacheView
+with_search_ended way input k = with_progress (End (given_up_offset way input k))
 
--- the unit at place `k` is read: if its transition is cached nothing changes, and if not, that transition is computed
-abbrev pub IsUnitRead : Direction → Machine → Input → (k : ℕ) → (old new : Stored) → Type 0
-IsUnitRead way m input k old new =
-    (KnowsUnit way m old input k × (new ≡ old))
-    ⊎ ((KnowsUnit way m old input k → ⊥) × (id : ℕ) × (to : ℕ) × Names old.table id (state_in way m input k)
-    × IsComputed old id (unit_class m (next (tape_in way input) k)) (state_in way m input k)
-    (state_in way m input (suc k)) new to)
+-- a pass asks for its start state
+abbrev pub start_event : Direction → Input → Event
+start_event way input = Start input.anchored (tape_in way input).before
 
--- so many units from a place on are read, one after another: the search moves to each
-abbrev pub AreUnitsRead : Direction → Machine → Input → (from units : ℕ) → (old new : Stored) → Type 0
-AreUnitsRead way m input from zero old new = new ≡ old
-AreUnitsRead way m input from (suc units) old new =
-    (mid : Stored) × AreUnitsRead way m input from units old mid
-    × IsUnitRead way m input (from + units) (with_search_moved way input (from + units) mid) new
+-- it steps over the unit at place `k`
+abbrev pub unit_event : Direction → Machine → Input → (k : ℕ) → Event
+unit_event way m input k = Step (state_in way m input k) (next (tape_in way input) k)
 
--- so many units from a place on are read, and then the search has ended: at the last of them, or if there is none, at
--- the place
-abbrev pub HasEndedAfter : Direction → Machine → Input → (from units : ℕ) → (old new : Stored) → Type 0
+-- it reads so many units from a place on: it moves to each, and steps over it
+abbrev pub unit_events : Direction → Machine → Input → (from units : ℕ) → List Event
+unit_events way m input from zero = []
+unit_events way m input from (suc units) =
+    unit_events way m input from units
+    ++ (Move (given_up_offset way input (from + units)) ∷ unit_event way m input (from + units) ∷ [])
+
+-- the unit at place `k` is read
+abbrev pub IsUnitRead : Direction → Machine → Input → (k : ℕ) → (old new : CacheView) → Type 0
+IsUnitRead way m input k old new = Does m (unit_event way m input k) old new
+
+-- so many units from a place on are read, one after another
+abbrev pub AreUnitsRead : Direction → Machine → Input → (from units : ℕ) → (old new : CacheView) → Type 0
+AreUnitsRead way m input from units old new = DoAll m (unit_events way m input from units) old new
+
+-- and then the search ends: at the last of them, or if there is none, at the place
+abbrev pub HasEndedAfter : Direction → Machine → Input → (from units : ℕ) → (old new : CacheView) → Type 0
 HasEndedAfter way m input from units old new =
-    (mid : Stored) × AreUnitsRead way m input from units old mid
-    × (new ≡ with_search_ended way input (from + (units - 1)) mid)
+    DoAll m (unit_events way m input from units ++ (End (given_up_offset way input (from + (units - 1))) ∷ [])) old new
 
--- the search failed at the unit at place `k`: at a quit byte it has ended there, and else it has only moved there
-abbrev pub IsLeftAt : Direction → Machine → Input → (k : ℕ) → (old new : Stored) → Type 0
+-- the search failed at the unit at place `k`, to which it moved
+abbrev pub IsLeftAt : Direction → Machine → Input → (k : ℕ) → (old new : CacheView) → Type 0
 IsLeftAt way m input k old new =
-    ((quits_on m (next (tape_in way input) k) ≡ true) × (new ≡ with_search_ended way input k old))
-    ⊎ ((quits_on m (next (tape_in way input) k) ≡ false) × (new ≡ with_search_moved way input k old))
+    IsStepLeft m (state_in way m input k) (next (tape_in way input) k) (with_search_moved way input k old)
+    (with_search_ended way input k old) new
 
 -- a pass reads its first so many units, and no more: none, if its start state is dead
 abbrev pub ReadsUnits : Direction → Machine → Input → (units : ℕ) → Type 0
 ReadsUnits way m input units =
     ((k : ℕ) → k < units → Reads way m input k) × (Reads way m input units → ⊥)
 
--- a pass that has begun has ended at the last unit that it reads
-abbrev pub EndsAtLast : Direction → Machine → Input → (begun new : Stored) → Type 0
+-- a pass that has begun reads its units, and ends at the last of them
+abbrev pub EndsAtLast : Direction → Machine → Input → (begun new : CacheView) → Type 0
 EndsAtLast way m input begun new =
     (units : ℕ) × ReadsUnits way m input units × HasEndedAfter way m input 0 units begun new
 
@@ -79,16 +83,19 @@ abbrev pub IsAfterEnd : Direction → Input → ℕ → Type 0
 IsAfterEnd Forward input k = ⊥
 IsAfterEnd Backward input k = k ≡ length (tape_in Backward input).bytes
 
--- a pass is left so at a unit; but backward, at its last one, it has ended
-abbrev pub IsPassLeftAt : Direction → Machine → Input → (k : ℕ) → (old new : Stored) → Type 0
+-- a pass failed so at a unit; but backward, at its last one, it had ended
+abbrev pub IsPassLeftAt : Direction → Machine → Input → (k : ℕ) → (old new : CacheView) → Type 0
 IsPassLeftAt way m input k old new =
-    (IsAfterEnd way input k × (new ≡ with_search_ended way input k old))
+    (IsAfterEnd way input k
+    × IsStepLeft m (state_in way m input k) (next (tape_in way input) k) (with_search_ended way input k old)
+    (with_search_ended way input k old) new)
     ⊎ ((IsAfterEnd way input k → ⊥) × IsLeftAt way m input k old new)
 
--- a pass that has begun failed at a unit that it reads
-abbrev pub IsStoppedAt : Direction → Machine → Input → (begun new : Stored) → SearchError → Type 0
+-- a pass that has begun reads some units, and fails at the next one
+abbrev pub IsStoppedAt : Direction → Machine → Input → (begun new : CacheView) → SearchError → Type 0
 IsStoppedAt way m input begun new e =
-    (k : ℕ) × (mid : Stored) × Reads way m input k × HasReadNoQuit way m input k × IsUnitRefusal way m new input k e
+    (k : ℕ) × (mid : CacheView) × Reads way m input k × HasReadNoQuit way m input k
+    × IsUnitRefusal way m new.store input k e
     × AreUnitsRead way m input 0 k begun mid × IsPassLeftAt way m input k mid new
 
 -- a pass backward over an empty span keeps no progress
@@ -97,33 +104,47 @@ KeepsNone Forward input = ⊥
 KeepsNone Backward input = input.start ≡ input.end
 
 -- its one unit was read, unless its start state is dead
-abbrev pub EndsStill : Direction → Machine → Input → (begun new : Stored) → Type 0
+abbrev pub EndsStill : Direction → Machine → Input → (begun new : CacheView) → Type 0
 EndsStill way m input begun new =
     (Reads way m input 0 × IsUnitRead way m input 0 begun new) ⊎ ((Reads way m input 0 → ⊥) × (new ≡ begun))
 
--- a pass has its start state: if that is cached nothing changes, and if not, it is computed
-abbrev pub HasItsStart : Direction → Machine → Input → (old new : Stored) → Type 0
-HasItsStart way m input old new =
-    (KnowsItsStart way m old input × (new ≡ old))
-    ⊎ ((KnowsItsStart way m old input → ⊥) × (id : ℕ)
-    × IsStarted old (slot_behind m input.anchored (tape_in way input).before)
-    (start_row m input.anchored (tape_in way input).before) new id)
+-- or it failed at that unit
+abbrev pub IsStillLeft : Direction → Machine → Input → (begun new : CacheView) → Type 0
+IsStillLeft way m input begun new =
+    IsStepLeft m (state_in way m input 0) (next (tape_in way input) 0) begun begun new
+
+-- a pass has its start state
+abbrev pub HasItsStart : Direction → Machine → Input → (old new : CacheView) → Type 0
+HasItsStart way m input old new = Does m (start_event way input) old new
+
+-- it has none: if a search may not start, nothing has changed at all
+abbrev pub HasNoStart : Direction → Machine → Input → (old new : CacheView) → Type 0
+HasNoStart way m input old new =
+    (MayStart m input.anchored (tape_in way input).before → Fails m (start_event way input) old new)
+    × ((MayStart m input.anchored (tape_in way input).before → ⊥) → new ≡ old)
 
 -- a pass has ended
-abbrev pub HasEnded : Direction → Machine → Input → (old new : Stored) → Type 0
+abbrev pub HasEnded : Direction → Machine → Input → (old new : CacheView) → Type 0
 HasEnded way m input old new =
-    (begun : Stored) × HasItsStart way m input old begun
+    (begun : CacheView) × HasItsStart way m input old begun
     × ((KeepsNone way input × EndsStill way m input begun new)
     ⊎ ((KeepsNone way input → ⊥) × EndsAtLast way m input (with_search_begun way input 0 begun) new))
 
--- a pass failed: at its start, which is not cached, and which changes nothing; or at a unit
-abbrev pub IsLeft : Direction → Machine → Input → (old new : Stored) → SearchError → Type 0
+-- a pass failed: at its start, or at a unit
+abbrev pub IsLeft : Direction → Machine → Input → (old new : CacheView) → SearchError → Type 0
 IsLeft way m input old new e =
-    (IsStartRefusalAt m new input.anchored (tape_in way input).before
-    (behind_offset way input) (offset_in way input 0) e × (new ≡ old))
-    ⊎ ((begun : Stored) × HasItsStart way m input old begun
-    × ((KeepsNone way input × Reads way m input 0 × IsUnitRefusal way m new input 0 e × (new ≡ begun))
+    (IsStartRefusalAt m new.store input.anchored (tape_in way input).before
+    (behind_offset way input) (offset_in way input 0) e × HasNoStart way m input old new)
+    ⊎ ((begun : CacheView) × HasItsStart way m input old begun
+    × ((KeepsNone way input × Reads way m input 0 × IsUnitRefusal way m new.store input 0 e
+    × IsStillLeft way m input begun new)
     ⊎ ((KeepsNone way input → ⊥) × IsStoppedAt way m input (with_search_begun way input 0 begun) new e)))
+
+-- what a pass makes of its cache, by what it returns
+pub record IsPassRun {T : Type 0} (way : Direction) (m : Machine) (input : Input) (old new : CacheView)
+    (result : Result T SearchError) : Type 0 where
+  pub ended : OnOk result (HasEnded way m input old new)
+  pub left : IfErr result (IsLeft way m input old new)
 
 -- a search tries the span that begins so many places later, which is not done
 abbrev pub TriesSpan : Direction → Machine → Input → (k : ℕ) → Type 0
@@ -134,19 +155,29 @@ abbrev pub TriesSpans : Direction → Machine → Input → (passes : ℕ) → T
 TriesSpans way m input passes = (k : ℕ) → k < passes → TriesSpan way m input k
 
 -- so many passes of a search have ended, one after another
-abbrev pub HaveEnded : Direction → Machine → Input → (passes : ℕ) → (old new : Stored) → Type 0
+abbrev pub HaveEnded : Direction → Machine → Input → (passes : ℕ) → (old new : CacheView) → Type 0
 HaveEnded way m input zero old new = new ≡ old
 HaveEnded way m input (suc passes) old new =
-    (mid : Stored) × HaveEnded way m input passes old mid × HasEnded way m (later way passes input) mid new
+    (mid : CacheView) × HaveEnded way m input passes old mid × HasEnded way m (later way passes input) mid new
+
+-- over as many spans that it tries
+abbrev pub HaveTried : Direction → Machine → Input → (passes : ℕ) → (old new : CacheView) → Type 0
+HaveTried way m input passes old new = TriesSpans way m input passes × HaveEnded way m input passes old new
 
 -- a search that answers has ended the passes over all the spans that it tries
-abbrev pub EndsProgress : Direction → Machine → Input → (old new : Stored) → Type 0
+abbrev pub EndsProgress : Direction → Machine → Input → (old new : CacheView) → Type 0
 EndsProgress way m input old new =
     (passes : ℕ) × TriesSpans way m input passes × (TriesSpan way m input passes → ⊥)
     × HaveEnded way m input passes old new
 
 -- a search that fails has ended some passes, and the next one failed
-abbrev pub LeavesProgress : Direction → Machine → Input → (old new : Stored) → SearchError → Type 0
+abbrev pub LeavesProgress : Direction → Machine → Input → (old new : CacheView) → SearchError → Type 0
 LeavesProgress way m input old new e =
-    (passes : ℕ) × (mid : Stored) × TriesSpans way m input (suc passes) × HaveEnded way m input passes old mid
+    (passes : ℕ) × (mid : CacheView) × TriesSpans way m input (suc passes) × HaveEnded way m input passes old mid
     × IsLeft way m (later way passes input) mid new e
+
+-- what a search makes of its cache, by what it returns
+pub record IsSearchRun {T : Type 0} (way : Direction) (m : Machine) (input : Input) (old new : CacheView)
+    (result : Result T SearchError) : Type 0 where
+  pub ended : OnOk result (EndsProgress way m input old new)
+  pub left : IfErr result (LeavesProgress way m input old new)

@@ -13,7 +13,8 @@ use Rattle.automata_base.specs.Paths.Selections.{Pair}
 use Rattle.automata_base.specs.declared.util.search.Direction.{Direction}
 use Rattle.automata_base.specs.declared.util.search.Direction.TheVariants.{Forward}
 use Rattle.automata_config.specs.declared.error.SearchError.{SearchError}
-use Rattle.automata_hybrid.specs.Cache.Caches.{CacheView, counted}
+use Rattle.automata_hybrid.specs.Cache.Caches.{CacheView, counted, IsStoreOf}
+use Rattle.automata_hybrid.specs.Cache.Stores.{Stored}
 use Rattle.automata_hybrid.specs.Cache.Growth.{ClearedNothing, HasRoom, IsGrown, IsStill}
 use Rattle.automata_hybrid.specs.Searches.Cached.{IsOfInput, KnowsItsStart}
 use Rattle.automata_hybrid.specs.Walks.Cached.{KnowsItsState, KnowsWalk, KnowsWhich}
@@ -97,8 +98,8 @@ pub record IsCallEffect {T : Type 0} (keeping : Keeping) (way : Direction) (m : 
       KnowsWalk way m old.store input walk
       → IsStill old new × IfErr result (IsKnownRefusal keeping way m input walk)
   -- the searched bytes, and the search that is open
-  pub ended : OnOk result (EndsCall way m input walk next old.store new.store)
-  pub left : IfErr result (LeavesCall keeping way m input walk old.store new.store)
+  pub ended : OnOk result (EndsCall way m input walk next old new)
+  pub left : IfErr result (LeavesCall keeping way m input walk old new)
   -- one that reads no unit changes nothing at all
   pub ready : ReadsNoUnit input walk → new ≡ old
 
@@ -153,7 +154,7 @@ pub record IsWhichEffect (m : Machine) (input : Input) (set : List Bool) (old ne
   -- with all that cached, it fails because of its input alone, and changes nothing but the progress
   pub known : KnowsWhich m old.store input set → IsStill old new × IfErr result IsOfInput
   -- the searched bytes, and the search that is open: what the calls of its walk leave one after another
-  pub ended : OnOk result (EndsSet m input set old.store new.store)
-  pub left : IfErr result (LeavesSet m input set old.store new.store)
+  pub ended : OnOk result (EndsSet m input set old new)
+  pub left : IfErr result (LeavesSet m input set old new)
   -- with a span that is done, nothing at all
   pub done : input.end < input.start → new ≡ old

@@ -102,7 +102,7 @@ pub record IsResumeEffect {T : Type 0} (way : Direction) (m : Machine) (input : 
       (q : Powerset) → stage ≡ At q → (IsKnownState old.store.table q → ⊥)
       → OnOk result (IsPutBack q old new) × OnErr result (new ≡ old)
   -- the state is its start, or was put back; if that fails, nothing has changed
-  pub resumed : OnOk result (IsResumed way m input stage old.store new.store)
+  pub resumed : OnOk result (IsResumed way m input stage old new)
   pub err : OnErr result (new.store ≡ old.store)
 
 -- what putting the state of a walk back makes of the cache
@@ -134,8 +134,8 @@ pub record IsUnitEffect {T : Type 0} (way : Direction) (m : Machine) (input : In
   pub learned : ClearedNothing old.store new.store → OnOk result (HasLearnedUnit way m new.store input place)
   -- the search moved to the unit, and it was read; or is left there
   pub read :
-      OnOk result (IsUnitRead way m input place (with_search_moved way input place old.store) new.store)
-  pub left : OnErr result (IsLeftAt way m input place old.store new.store)
+      OnOk result (IsUnitRead way m input place (with_search_moved way input place old) new)
+  pub left : OnErr result (IsLeftAt way m input place old new)
 
 -- what going on over the units of a walk from there makes of the cache
 pub record IsAdvanceEffect (way : Direction) (m : Machine) (input : Input) (units : ℕ) (old new : CacheView)
@@ -155,6 +155,6 @@ pub record IsAdvanceEffect (way : Direction) (m : Machine) (input : Input) (unit
   -- it read these units, one after another
   pub read :
       IfOk result (λ a. (n : ℕ) × (a.units ≡ suc (units + n)) × WalkReads way m input (units + n)
-      × AreUnitsRead way m input units (suc n) old.store new.store)
+      × AreUnitsRead way m input units (suc n) old new)
   -- or failed at one
-  pub left : IfErr result (IsCallStopped Ids way m input units old.store new.store)
+  pub left : IfErr result (IsCallStopped Ids way m input units old new)

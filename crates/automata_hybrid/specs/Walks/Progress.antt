@@ -6,7 +6,7 @@ use Rattle.automata_base.specs.Paths.Selections.{Pair}
 use Rattle.automata_base.specs.declared.util.search.Direction.{Direction}
 use Rattle.automata_base.specs.declared.util.search.Direction.TheVariants.{Forward}
 use Rattle.automata_config.specs.declared.error.SearchError.{SearchError}
-use Rattle.automata_hybrid.specs.Cache.Stores.{Stored}
+use Rattle.automata_hybrid.specs.Cache.Caches.{CacheView}
 use Rattle.automata_hybrid.specs.Walks.Cached.{IsOpen}
 use Rattle.automata_hybrid.specs.Machines.Machine.{Machine}
 use Rattle.automata_hybrid.specs.Cache.Changes.{IsStateAdded}
@@ -26,11 +26,12 @@ ReadsNoUnit input w =
 
 -- a walk has the state that it goes on from: its start; or the state where it stands, which is put back if the cache
 -- lacks it
-abbrev pub IsResumed : Direction → Machine → Input → Stage → (old new : Stored) → Type 0
+abbrev pub IsResumed : Direction → Machine → Input → Stage → (old new : CacheView) → Type 0
 IsResumed way m input Fresh old new = HasItsStart way m input old new
 IsResumed way m input (At q) old new =
-    (IsKnownState old.table q × (new ≡ old))
-    ⊎ ((IsKnownState old.table q → ⊥) × IsStateAdded old (cleared old) (record { state = q; started = false }) new)
+    (IsKnownState old.store.table q × (new ≡ old))
+    ⊎ ((IsKnownState old.store.table q → ⊥) × (new.count ≡ old.count)
+    × IsStateAdded old.store (cleared old.store) (record { state = q; started = false }) new.store)
 IsResumed way m input Ended old new = ⊥
 
 -- a call reads the units after those of the walk: up to the one after which the next match is reported, or if there is
@@ -41,33 +42,33 @@ ReadsItsUnits way m input walk next =
     × (next.stage ≡ Ended → (next.found ≡ None) × (WalkReads way m input next.units → ⊥))
 
 -- a call that answers has read its units, and ended at the last of them; one that reads none has changed nothing
-abbrev pub EndsCall : Direction → Machine → Input → (walk next : Walk) → (old new : Stored) → Type 0
+abbrev pub EndsCall : Direction → Machine → Input → (walk next : Walk) → (old new : CacheView) → Type 0
 EndsCall way m input walk next old new =
     (ReadsNoUnit input walk × (new ≡ old))
-    ⊎ ((ReadsNoUnit input walk → ⊥) × (begun : Stored) × (units : ℕ) × IsResumed way m input walk.stage old begun
+    ⊎ ((ReadsNoUnit input walk → ⊥) × (begun : CacheView) × (units : ℕ) × IsResumed way m input walk.stage old begun
     × (next.units ≡ walk.units + units) × ReadsItsUnits way m input walk next
     × HasEndedAfter way m input walk.units units (with_search_begun way input walk.units begun) new)
 
 -- a call fails at the unit at place `k`; or the unit was read, and the state after it cannot be held
-abbrev pub IsCallLeftAt : Keeping → Direction → Machine → Input → (k : ℕ) → (old new : Stored) → SearchError → Type 0
-IsCallLeftAt Ids way m input k old new e = IsUnitRefusal way m new input k e × IsLeftAt way m input k old new
+abbrev pub IsCallLeftAt : Keeping → Direction → Machine → Input → (k : ℕ) → (old new : CacheView) → SearchError → Type 0
+IsCallLeftAt Ids way m input k old new e = IsUnitRefusal way m new.store input k e × IsLeftAt way m input k old new
 IsCallLeftAt States way m input k old new e =
-    (IsUnitRefusal way m new input k e × IsLeftAt way m input k old new)
+    (IsUnitRefusal way m new.store input k e × IsLeftAt way m input k old new)
     ⊎ (IsUnheld way m input k e × IsUnitRead way m input k (with_search_moved way input k old) new)
 
 -- a call that has begun at a place failed after the first so many units from there, which report nothing
 abbrev pub IsCallStopped :
-    Keeping → Direction → Machine → Input → (from : ℕ) → (begun new : Stored) → SearchError → Type 0
+    Keeping → Direction → Machine → Input → (from : ℕ) → (begun new : CacheView) → SearchError → Type 0
 IsCallStopped keeping way m input from begun new e =
-    (units : ℕ) × (mid : Stored) × WalkReads way m input (from + units) × HasReadNoQuit way m input (from + units)
+    (units : ℕ) × (mid : CacheView) × WalkReads way m input (from + units) × HasReadNoQuit way m input (from + units)
     × IsSilent way m input from (from + units) × AreUnitsRead way m input from units begun mid
     × IsCallLeftAt keeping way m input (from + units) mid new e
 
 -- a call failed: the walk could not go on, and nothing changed; or it failed at a unit
-abbrev pub LeavesCall : Keeping → Direction → Machine → Input → Walk → (old new : Stored) → SearchError → Type 0
+abbrev pub LeavesCall : Keeping → Direction → Machine → Input → Walk → (old new : CacheView) → SearchError → Type 0
 LeavesCall keeping way m input walk old new e =
-    (IsResumeRefusal way m new input walk.stage walk.units e × (new ≡ old))
-    ⊎ ((begun : Stored) × IsResumed way m input walk.stage old begun
+    (IsResumeRefusal way m new.store input walk.stage walk.units e × (new.store ≡ old.store))
+    ⊎ ((begun : CacheView) × IsResumed way m input walk.stage old begun
     × IsCallStopped keeping way m input walk.units (with_search_begun way input walk.units begun) new e)
 
 -- a set is still open once its walk has reported its first pairs
@@ -76,21 +77,21 @@ IsOpenAfter m input set reported =
     (pairs : List Pair) → AreWalked Forward m input pairs → IsOpen input set (take reported pairs)
 
 -- so many calls of the walk of a set have ended, one after another, each while the set was open
-abbrev pub HaveCalled : Machine → Input → (set : List Bool) → (calls : ℕ) → Stored → Walk → Stored → Type 0
+abbrev pub HaveCalled : Machine → Input → (set : List Bool) → (calls : ℕ) → CacheView → Walk → CacheView → Type 0
 HaveCalled m input set zero old walk new = (walk ≡ fresh_walk) × (new ≡ old)
 HaveCalled m input set (suc calls) old walk new =
-    (before : Walk) × (mid : Stored) × HaveCalled m input set calls old before mid × IsOpenAfter m input set calls
+    (before : Walk) × (mid : CacheView) × HaveCalled m input set calls old before mid × IsOpenAfter m input set calls
     × ReportsNext Forward m input before walk × EndsCall Forward m input before walk mid new
 
 -- a search for a set that returns Ok has made calls of its walk, up to one that finds no match or leaves the set closed
-abbrev pub EndsSet : Machine → Input → (set : List Bool) → (old new : Stored) → Type 0
+abbrev pub EndsSet : Machine → Input → (set : List Bool) → (old new : CacheView) → Type 0
 EndsSet m input set old new =
     (calls : ℕ) × (walk : Walk) × HaveCalled m input set calls old walk new
     × ((walk.stage ≡ Ended)
     ⊎ ((pairs : List Pair) → AreWalked Forward m input pairs → IsOpen input set (take calls pairs) → ⊥))
 
 -- one that fails has made calls of its walk, and the next one failed
-abbrev pub LeavesSet : Machine → Input → (set : List Bool) → (old new : Stored) → SearchError → Type 0
+abbrev pub LeavesSet : Machine → Input → (set : List Bool) → (old new : CacheView) → SearchError → Type 0
 LeavesSet m input set old new e =
-    (calls : ℕ) × (walk : Walk) × (mid : Stored) × HaveCalled m input set calls old walk mid
+    (calls : ℕ) × (walk : Walk) × (mid : CacheView) × HaveCalled m input set calls old walk mid
     × IsOpenAfter m input set calls × LeavesCall Ids Forward m input walk mid new e

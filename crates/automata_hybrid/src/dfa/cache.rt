@@ -16,9 +16,8 @@ ghost use Rattle.automata_hybrid.specs.Cache.Stores.{IsSoundStore, cell_of, with
 ghost use Rattle.automata_hybrid.specs.Cache.Stores.{with_searched};
 ghost use Rattle.automata_hybrid.specs.Cache.Usage.{cleared, usage, Fits};
 ghost use Rattle.automata_hybrid.specs.Cache.Changes.{AddsNext, AddsRow, IsStateAdded};
-ghost use Rattle.automata_hybrid.specs.Cache.Caches.{HoldsRow, IsCacheOf, fresh_cache, counted, with_store};
+ghost use Rattle.automata_hybrid.specs.Cache.Caches.{HoldsRow, IsCacheOf, IsStoreOf, counted, fresh_cache, with_store};
 ghost use Rattle.automata_hybrid.specs.Cache.Growth.{IsAddRefused, IsAgainEffect};
-ghost use Rattle.automata_hybrid.specs.Cache.Caches.{IsStoreOf};
 ghost use Rattle.automata_hybrid.specs.Steps.Starts.{IsStartSlot};
 ghost use Rattle.automata_hybrid.specs.Walks.State.{IsHandle};
 ghost use Rattle.automata_hybrid.specs.Cache.Progress.{progress_finished, progress_started, progress_updated};

@@ -50,6 +50,7 @@ impl DFA {
         ensures refusal { IfErr result (IsUnitRefusal way self.now cache.new.store input.now place) }
         ensures effect { IsUnitEffect way self.now input.now place cache.old cache.new result }
     {
+        cache.see_bounds();
         let at = span_offset(input, way, place);
         let quit_at = unit_offset(input, way, place);
         self.read(cache, id, unit_at(input, way, place), quit_at, at)
@@ -124,6 +125,7 @@ impl DFA {
         ensures effect { IsAdvanceEffect way self.now input.now units cache.old cache.new result }
     {
         let _haystack = input.haystack();
+        cache.see_bounds();
         let last = last_place(input);
         let mut id = from;
         let mut read = units;

@@ -1,5 +1,5 @@
 //! Searches for one end of a match: one span after another, as long as offsets inside a character are skipped.
-ghost use Rattle.std.specs.Prelude.{◌≡◌, ◌<◌, IfOk, IfErr, IfSome};
+ghost use Rattle.std.specs.Prelude.{◌≡◌, ◌+◌, ◌-◌, ◌<◌, IfOk, IfErr, IfSome};
 ghost use Rattle.std.specs.Prelude.{None, Err, Ok};
 ghost use Rattle.automata_base.specs.declared.util.search.Direction.TheVariants.{Forward, Backward};
 ghost use Rattle.automata_hybrid.specs.Cache.Caches.{IsCacheOf};
@@ -9,6 +9,7 @@ ghost use Rattle.automata_hybrid.specs.Searches.Contracts.{halves};
 ghost use Rattle.automata_hybrid.specs.Searches.Contracts.{unsupported_error};
 ghost use Rattle.automata_hybrid.specs.Searches.PassContracts.{MayBegin, input_at};
 ghost use Rattle.automata_hybrid.specs.Searches.Passes.{IsFound, IsRefused, WithoutBase};
+ghost use Rattle.automata_hybrid.specs.Searches.Progress.{HaveTried, IsSearchRun};
 
 use crate::dfa::DFA;
 use crate::dfa::cache::Cache;
@@ -90,6 +91,7 @@ impl DFA {
     {
         reported_is_right(self.get_nfa());
         let _haystack = input.haystack();
+        cache.see_bounds();
         self.search(cache, input, Direction::Forward)
     }
 
@@ -123,6 +125,7 @@ impl DFA {
     {
         reported_is_right(self.get_nfa());
         let _haystack = input.haystack();
+        cache.see_bounds();
         let found = self.search(cache, input, Direction::Backward);
         without_base(found)
     }
@@ -139,9 +142,10 @@ impl DFA {
         ensures of { IsCacheOf cache.new self.now }
         ensures found { IfOk result (λ o. IsFound way self.now input.now (based_half o)) }
         ensures refusal { IfErr result (IsRefused way self.now cache.new.store input.now) }
-        ensures effect { IsSearchEffect way self.now input.now cache.old cache.new result }
+        ensures effect { IsSearchRun way self.now input.now cache.old cache.new result }
         ensures upto { way ≡ Forward
-            → IfOk result (λ o. IfSome o (λ p. IsCostUpto self.now input.now p.1 cache.old cache.new)) }
+            → IfOk result (λ o. IfSome o (λ p. HaveTried Forward self.now input.now (p.1 - input.now.start + 1)
+            cache.old cache.new)) }
         ensures unsupported { IsUnsupported way self.now input.now
             → result ≡ Err (unsupported_error input.now) }
         ensures done { input.now.end < input.now.start → result ≡ Ok None }
@@ -187,11 +191,11 @@ impl DFA {
             (input_at haystack.now span anchored earliest) (based_half o)) }
         ensures refusal { IfErr result (IsRefused way self.now cache.new.store
             (input_at haystack.now span anchored earliest)) }
-        ensures effect { IsSearchEffect way self.now
+        ensures effect { IsSearchRun way self.now
             (input_at haystack.now span anchored earliest) cache.old cache.new result }
         ensures upto { way ≡ Forward
-            → IfOk result (λ o. IfSome o (λ p. IsCostUpto self.now
-            (input_at haystack.now span anchored earliest) p.1 cache.old cache.new)) }
+            → IfOk result (λ o. IfSome o (λ p. HaveTried Forward self.now
+            (input_at haystack.now span anchored earliest) (p.1 - span.start + 1) cache.old cache.new)) }
         ensures unsupported { let input = input_at haystack.now span anchored earliest in
             IsUnsupported way self.now input → result ≡ Err (unsupported_error input) }
         ensures done { span.end < span.start → result ≡ Ok None }
@@ -215,9 +219,10 @@ impl DFA {
         ensures of { IsCacheOf cache.new self.now }
         ensures found { IfOk result (λ o. IsFound way self.now input.now (based_half o)) }
         ensures refusal { IfErr result (IsRefused way self.now cache.new.store input.now) }
-        ensures effect { IsSearchEffect way self.now input.now cache.old cache.new result }
+        ensures effect { IsSearchRun way self.now input.now cache.old cache.new result }
         ensures upto { way ≡ Forward
-            → IfOk result (λ o. IfSome o (λ p. IsCostUpto self.now input.now p.1 cache.old cache.new)) }
+            → IfOk result (λ o. IfSome o (λ p. HaveTried Forward self.now input.now (p.1 - input.now.start + 1)
+            cache.old cache.new)) }
         ensures unsupported { IsUnsupported way self.now input.now
             → result ≡ Err (unsupported_error input.now) }
         ensures done { input.now.end < input.now.start → result ≡ Ok None }

@@ -1,5 +1,5 @@
 //! A run over cached transitions alone: it only reads the cache.
-ghost use Rattle.std.specs.Prelude.{◌≡◌, ◌-◌, ◌<◌, ◌≤◌, None, Ok, true, false};
+ghost use Rattle.std.specs.Prelude.{◌≡◌, ◌-◌, ◌<◌, ◌≤◌, None, true, false};
 ghost use Rattle.automata_base.specs.Paths.Paths.{next};
 ghost use Rattle.automata_hybrid.specs.Cache.Caches.{IsCacheOf};
 ghost use Rattle.automata_hybrid.specs.Cache.Ids.{unknown_id};
@@ -7,9 +7,9 @@ ghost use Rattle.automata_hybrid.specs.Cache.Table.{IsRowId, Names};
 ghost use Rattle.automata_hybrid.specs.Searches.PassContracts.{IsKnownEnd, IsKnownUpto, IsUnderway};
 ghost use Rattle.automata_hybrid.specs.Searches.PassState.{IsMet};
 ghost use Rattle.automata_hybrid.specs.Searches.Passes.{state_in, tape_in};
-ghost use Rattle.automata_hybrid.specs.Searches.Units.{IsReadEffect};
+ghost use Rattle.automata_hybrid.specs.Machines.Machine.{table_stride};
 ghost use Rattle.automata_hybrid.specs.Steps.Starts.{IsStartAnswer, IsStartEffect};
-ghost use Rattle.automata_hybrid.specs.Steps.Steps.{IsStepAnswer, known_step};
+ghost use Rattle.automata_hybrid.specs.Steps.Steps.{IsStepAnswer, known_step, unit_class};
 
 use crate::dfa::DFA;
 use crate::dfa::cache::Cache;
@@ -80,7 +80,7 @@ impl DFA {
         requires valid { IsRowId cache.now.store.table id }
         ensures value { result ≡ known_step self.now cache.now.store id unit }
         ensures answer { result < unknown_id → IsStepAnswer self.now id unit cache.now cache.now result }
-        ensures effect { result < unknown_id → IsReadEffect self.now id unit cache.now cache.now (Ok result) }
+        ensures below { unit_class self.now unit < table_stride self.now }
     {
         cache.see_bounds();
         cache.cell(id, self.unit_class(unit))
@@ -107,8 +107,8 @@ impl DFA {
             → result ≡ known_step self.now cache.now.store id (next (tape_in way input.now) at) }
         ensures answer { result < unknown_id → IsStepAnswer self.now id
             (next (tape_in way input.now) at) cache.now cache.now result }
-        ensures effect { result < unknown_id → IsReadEffect self.now id
-            (next (tape_in way input.now) at) cache.now cache.now (Ok result) }
+        ensures below { result < unknown_id
+            → unit_class self.now (next (tape_in way input.now) at) < table_stride self.now }
     {
         if met.is_unknown() {
             if at < last_place(input) {

@@ -4,14 +4,15 @@
 //! pass after another: the public searches for one end of a match. A `walk` is an overlapping search between its
 //! calls; `advance` takes it to the next match, `overlapping` is one call, and `which` collects the patterns of all.
 //! `direction` has all in which the two directions differ.
-ghost use Rattle.std.specs.Prelude.{◌≡◌, slice_index, ◌<◌, IfOk, IfErr, OnErr};
+ghost use Rattle.std.specs.Prelude.{◌≡◌, slice_index, ◌<◌, IfOk, IfErr};
 ghost use Rattle.std.specs.Prelude.{Some, None, true, false};
 ghost use Rattle.automata_base.specs.Powersets.Powerset.{Powerset};
 ghost use Rattle.automata_hybrid.specs.Cache.Caches.{IsCacheOf};
 ghost use Rattle.automata_base.specs.Haystacks.Tapes.{is_split};
 ghost use Rattle.automata_hybrid.specs.Searches.PassState.{half_at, step_refusal};
 ghost use Rattle.automata_hybrid.specs.Searches.Units.{IsReadAnswer, IsReadEffect, IsReadRefusal};
-ghost use Rattle.automata_hybrid.specs.Searches.Units.{IsReadStep, IsStepRefusedAt, IsStepTaken};
+ghost use Rattle.automata_hybrid.specs.Searches.Units.{IsStepRefusedAt};
+ghost use Rattle.automata_hybrid.specs.Calls.Events.{End, Move, with_progress};
 ghost use Rattle.automata_hybrid.specs.Searches.Passes.{Skips};
 ghost use Rattle.automata_base.specs.declared.util.search.MatchErrorKind.TheVariants.{Quit as QuitAt};
 ghost use Rattle.automata_hybrid.specs.Cache.Ids.{unknown_id, HasMatchTag};
@@ -155,8 +156,8 @@ impl DFA {
         ensures of { IsCacheOf cache.new self.now }
         ensures answer { IfOk result (IsReadAnswer self.now id (Some byte) cache.old cache.new) }
         ensures refusal { IfErr result (IsReadRefusal self.now id (Some byte) quit_at at cache.old cache.new) }
-        ensures effect { IsReadEffect self.now id (Some byte) cache.old cache.new result }
-        ensures step { IsReadStep self.now id (Some byte) at cache.old.store cache.new.store result }
+        ensures effect { IsReadEffect self.now id (Some byte) (with_progress (Move at) cache.old)
+            (with_progress (End at) cache.old) cache.new result }
     {
         self.see_machine();
         cache.see_bounds();
@@ -185,8 +186,8 @@ impl DFA {
         ensures of { IsCacheOf cache.new self.now }
         ensures answer { IfOk result (IsReadAnswer self.now id unit cache.old cache.new) }
         ensures refusal { IfErr result (IsReadRefusal self.now id unit quit_at at cache.old cache.new) }
-        ensures effect { IsReadEffect self.now id unit cache.old cache.new result }
-        ensures step { IsReadStep self.now id unit at cache.old.store cache.new.store result }
+        ensures effect { IsReadEffect self.now id unit (with_progress (Move at) cache.old)
+            (with_progress (End at) cache.old) cache.new result }
     {
         match unit {
             Some(byte) => self.read_met(cache, id, LazyStateID::UNKNOWN, byte, quit_at, at),
@@ -211,9 +212,7 @@ impl DFA {
         ensures of { IsCacheOf cache.new self.now }
         ensures answer { IfOk result (IsReadAnswer self.now id unit cache.old cache.new) }
         ensures refusal { IfErr result (IsReadRefusal self.now id unit quit_at at cache.old cache.new) }
-        ensures effect { IsReadEffect self.now id unit cache.old cache.new result }
-        ensures taken { IfOk result (IsStepTaken self.now id unit cache.old.store cache.new.store) }
-        ensures kept { OnErr result (cache.new.store ≡ cache.old.store) }
+        ensures effect { IsReadEffect self.now id unit cache.old cache.old cache.new result }
     {
         self.see_machine();
         cache.see_bounds();
@@ -242,14 +241,15 @@ impl DFA {
         ensures of { IsCacheOf cache.new self.now }
         ensures answer { IfOk result (IsReadAnswer self.now id None cache.old cache.new) }
         ensures refusal { IfErr result (IsReadRefusal self.now id None at at cache.old cache.new) }
-        ensures effect { IsReadEffect self.now id None cache.old cache.new result }
-        ensures taken { IfOk result (IsStepTaken self.now id None cache.old.store cache.new.store) }
-        ensures kept { OnErr result (cache.new.store ≡ cache.old.store) }
+        ensures effect { IsReadEffect self.now id None cache.old cache.old cache.new result }
     {
         self.see_machine();
         cache.see_bounds();
         match self.next_eoi_state(cache, id) {
-            Ok(next) => Ok(next),
+            Ok(next) => {
+                cache.see_bounds();
+                Ok(next)
+            }
             Err(error) => Err(refusal(error, at)),
         }
     }

@@ -125,7 +125,9 @@ impl DFA {
     {
         if walk.is_fresh() {
             cache.see_bounds();
-            return self.walk_start(cache, input, way);
+            let start = self.walk_start(cache, input, way);
+            cache.see_bounds();
+            return start;
         }
         match held {
             Held::Row(Some(id)) => Ok(*id),

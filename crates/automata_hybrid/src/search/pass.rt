@@ -6,12 +6,12 @@ ghost use Rattle.automata_base.specs.Paths.Paths.{next};
 ghost use Rattle.automata_base.specs.Powersets.Powerset.{Powerset, dead};
 ghost use Rattle.automata_hybrid.specs.Cache.Caches.{IsCacheOf};
 ghost use Rattle.automata_hybrid.specs.Searches.Contracts.{IsUnsupported, unsupported_error};
-ghost use Rattle.automata_hybrid.specs.Searches.PassContracts.{IsKnownUpto, IsPassAnswer, IsPassEffect};
+ghost use Rattle.automata_hybrid.specs.Searches.PassContracts.{IsKnownUpto, IsPassAnswer};
 ghost use Rattle.automata_hybrid.specs.Searches.PassContracts.{IsTakenUp};
-ghost use Rattle.automata_hybrid.specs.Searches.PassContracts.{IsRestEffect, IsUnderway, input_at};
+ghost use Rattle.automata_hybrid.specs.Searches.PassContracts.{IsUnderway, input_at};
 ghost use Rattle.automata_hybrid.specs.Searches.PassState.{HasRun, IsAt, IsMet};
 ghost use Rattle.automata_hybrid.specs.Searches.Units.{IsEndProgress, IsStillProgress};
-ghost use Rattle.automata_hybrid.specs.Searches.Progress.{EndsAtLast, IsStoppedAt, KeepsNone};
+ghost use Rattle.automata_hybrid.specs.Searches.Progress.{EndsAtLast, IsPassRun, IsStoppedAt, KeepsNone};
 ghost use Rattle.automata_hybrid.specs.Searches.Passes.{IsPassRefusal, IsUnitRefusal};
 ghost use Rattle.automata_hybrid.specs.Cache.Table.{Names};
 
@@ -82,7 +82,7 @@ impl DFA {
         ensures refusal { IfErr result (IsPassRefusal way self.now cache.new.store input.now) }
         ensures unsupported { IsUnsupported way self.now input.now
             → result ≡ Err (unsupported_error input.now) }
-        ensures effect { IsPassEffect way self.now input.now cache.old cache.new result }
+        ensures effect { IsPassRun way self.now input.now cache.old cache.new result }
     {
         cache.see_bounds();
         let start = self.known_start(cache, input, way);
@@ -143,7 +143,7 @@ impl DFA {
             (input_at haystack.now span anchored earliest)) }
         ensures unsupported { let input = input_at haystack.now span anchored earliest in
             IsUnsupported way self.now input → result ≡ Err (unsupported_error input) }
-        ensures effect { IsPassEffect way self.now
+        ensures effect { IsPassRun way self.now
             (input_at haystack.now span anchored earliest) cache.old cache.new result }
     {
         let own = input_of(haystack, span, anchored, earliest);
@@ -165,7 +165,7 @@ impl DFA {
         ensures refusal { IfErr result (IsPassRefusal way self.now cache.new.store input.now) }
         ensures unsupported { IsUnsupported way self.now input.now
             → result ≡ Err (unsupported_error input.now) }
-        ensures effect { IsPassEffect way self.now input.now cache.old cache.new result }
+        ensures effect { IsPassRun way self.now input.now cache.old cache.new result }
     {
         cache.see_bounds();
         let start = match self.walk_start(cache, input, way) {
@@ -270,12 +270,10 @@ impl DFA {
             (input_at haystack.now span anchored earliest)) }
         ensures refusal { IfErr result (IsPassRefusal way self.now cache.new.store
             (input_at haystack.now span anchored earliest)) }
-        ensures effect { IsRestEffect way self.now
-            (input_at haystack.now span anchored earliest) 0 cache.old cache.new result }
         ensures ended { OnOk result (EndsAtLast way self.now
-            (input_at haystack.now span anchored earliest) cache.old.store cache.new.store) }
+            (input_at haystack.now span anchored earliest) cache.old cache.new) }
         ensures left { IfErr result (IsStoppedAt way self.now
-            (input_at haystack.now span anchored earliest) cache.old.store cache.new.store) }
+            (input_at haystack.now span anchored earliest) cache.old cache.new) }
     {
         let own = input_of(haystack, span, anchored, earliest);
         match way {
@@ -301,10 +299,10 @@ impl DFA {
         ensures of { IsCacheOf cache.new self.now }
         ensures answer { IfOk result (IsPassAnswer way self.now input.now) }
         ensures refusal { IfErr result (IsPassRefusal way self.now cache.new.store input.now) }
-        ensures effect { IsRestEffect way self.now input.now 0 cache.old cache.new result }
-        ensures ended { OnOk result (EndsAtLast way self.now input.now cache.old.store cache.new.store) }
-        ensures left { IfErr result (IsStoppedAt way self.now input.now cache.old.store cache.new.store) }
+        ensures ended { OnOk result (EndsAtLast way self.now input.now cache.old cache.new) }
+        ensures left { IfErr result (IsStoppedAt way self.now input.now cache.old cache.new) }
     {
+        cache.see_bounds();
         let last = last_place(input);
         let mut at = from;
         let mut id = start;
@@ -353,12 +351,11 @@ impl DFA {
         ensures answer { IfOk result (IsPassAnswer way self.now input.now) }
         ensures refusal { IfErr result
             (IsUnitRefusal way self.now cache.new.store input.now (input.now.end - input.now.start)) }
-        ensures effect { IsRestEffect way self.now input.now (input.now.end - input.now.start)
-            cache.old cache.new result }
         ensures alive { (q : Powerset) → Names cache.old.store.table id q → q ≡ dead → ⊥ }
         ensures progress { IsEndProgress way self.now input.now (input.now.end - input.now.start)
-            cache.old.store cache.new.store result }
+            cache.old cache.new result }
     {
+        cache.see_bounds();
         let last = last_place(input);
         let at = span_offset(input, way, last);
         end_before_last(cache, way, at);
@@ -386,8 +383,7 @@ impl DFA {
         ensures of { IsCacheOf cache.new self.now }
         ensures answer { IfOk result (IsPassAnswer way self.now input.now) }
         ensures refusal { IfErr result (IsUnitRefusal way self.now cache.new.store input.now 0) }
-        ensures effect { IsRestEffect way self.now input.now 0 cache.old cache.new result }
-        ensures progress { IsStillProgress way self.now input.now cache.old.store cache.new.store result }
+        ensures progress { IsStillProgress way self.now input.now cache.old cache.new result }
     {
         let at = span_offset(input, way, 0);
         let unit = unit_at(input, way, 0);

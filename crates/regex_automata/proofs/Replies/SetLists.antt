@@ -14,7 +14,7 @@ use Rattle.automata_config.specs.declared.error.SearchError.TheVariants as searc
 use Rattle.automata_hybrid.specs.Machines.Machine.{Machine}
 use Rattle.automata_hybrid.specs.Searches.Contracts.{IsMemory}
 use Rattle.automata_hybrid.specs.Walks.Progress.{EndsSet, HaveCalled, IsOpenAfter}
-use Rattle.automata_hybrid.specs.Cache.Stores.{Stored}
+use Rattle.automata_hybrid.specs.Cache.Caches.{CacheView}
 use Rattle.automata_hybrid.specs.Walks.Answers.{HasReported}
 use Rattle.automata_hybrid.specs.Walks.State.{Walk}
 use Rattle.automata_hybrid.proofs.Searches.PassState.{false_true}
@@ -64,7 +64,7 @@ up_to P n below here k l = go (cases_lt k n) where
 
 -- the calls that the walk of a set has made, one after another, have reported as many pairs, each if the set went on
 called_reported :
-    (m : Machine) (input : Input) (set : List Bool) (calls : ℕ) (old : Stored) (walk : Walk) (new : Stored)
+    (m : Machine) (input : Input) (set : List Bool) (calls : ℕ) (old : CacheView) (walk : Walk) (new : CacheView)
     → HaveCalled m input set calls old walk new
     → HasReported Forward m input walk calls × ((k : ℕ) → k < calls → IsOpenAfter m input set k)
 called_reported m input set zero old walk new (fresh, same) =
@@ -74,7 +74,7 @@ called_reported m input set (suc calls) old walk new (before, mid, called, is_op
     ((reports calls reported.0).0, up_to (IsOpenAfter m input set) calls reported.1 is_open)
 
 pub reported_set :
-    (m : Machine) (input : Input) (set : List Bool) (old new : Stored) → EndsSet m input set old new → HasReportedSet m input set
+    (m : Machine) (input : Input) (set : List Bool) (old new : CacheView) → EndsSet m input set old new → HasReportedSet m input set
 reported_set m input set old new (calls, walk, called, last) =
     let reported = called_reported m input set calls old walk new called in
     (calls, walk, reported.0, reported.1, last)

@@ -4,6 +4,7 @@ use Rattle.std.specs.Prelude.{Result, Ok, Err, IfErr, OnOk, if◌then◌else◌,
 use Rattle.automata_base.specs.Haystacks.Matches.{HalfMatch, Match}
 use Rattle.automata_base.specs.declared.util.search.Direction.TheVariants.{Forward}
 use Rattle.automata_config.specs.declared.error.SearchError.{SearchError}
+use Rattle.automata_hybrid.specs.Cache.Caches.{CacheView}
 use Rattle.automata_hybrid.specs.Cache.Stores.{Stored}
 use Rattle.automata_hybrid.specs.Searches.Cached.{IsOfInput, Knows}
 use Rattle.automata_hybrid.specs.Machines.Machine.{Machine}
@@ -30,7 +31,7 @@ answer_is_no_refusal offset (Some half) e is = go (nat_lt offset half.offset) is
   go false h = no_search offset e (sym (same_err h))
 
 -- what progress the search at an offset leaves, by what its answer makes
-module _ (m : Machine) (h : List ℕ) (end offset : ℕ) (old new : Stored) where
+module _ (m : Machine) (h : List ℕ) (end offset : ℕ) (old new : CacheView) where
   pub error_leaves :
       (answer : Result (Option HalfMatch) SearchError) (e : TokenError)
       → OnOk answer (EndsProgress Forward m (asked h end offset) old new)

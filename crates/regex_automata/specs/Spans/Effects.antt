@@ -69,8 +69,8 @@ pub record IsTruthEffect (p : Regex) (input : Input) (old new : Cache)
   pub learned :
       ClearedNothing old.forward.store new.forward.store → OnOk result (KnowsMatch p.forward new.forward.store input)
   pub known : KnowsMatch p.forward old.forward.store input → AreStill old new × IfErr result IsOfInput
-  pub ended : OnOk result (EndsMatch p.forward input old.forward.store new.forward.store)
-  pub left : IfErr result (LeavesMatch p.forward input old.forward.store new.forward.store)
+  pub ended : OnOk result (EndsMatch p.forward input old.forward new.forward)
+  pub left : IfErr result (LeavesMatch p.forward input old.forward new.forward)
   pub done : input.end < input.start → new ≡ old
 
 -- an item of an iteration, which searches so

@@ -52,8 +52,8 @@ KnowsMatch m c input = (asked : Input) → IsAsked m input asked → Knows Forwa
 abbrev pub IsMatchCost : Machine → Input → (old new : CacheView) → Type 0
 IsMatchCost m input old new = (asked : Input) × IsAsked m input asked × IsCostOfSearch Forward m asked old new
 
-abbrev pub EndsMatch : Machine → Input → (old new : Stored) → Type 0
+abbrev pub EndsMatch : Machine → Input → (old new : CacheView) → Type 0
 EndsMatch m input old new = (asked : Input) × IsAsked m input asked × EndsProgress Forward m asked old new
 
-abbrev pub LeavesMatch : Machine → Input → (old new : Stored) → SearchError → Type 0
+abbrev pub LeavesMatch : Machine → Input → (old new : CacheView) → SearchError → Type 0
 LeavesMatch m input old new e = (asked : Input) × IsAsked m input asked × LeavesProgress Forward m asked old new e

@@ -18,23 +18,23 @@ use Rattle.regex_automata.specs.declared.hybrid.regex.caches.Cache.{Cache}
 
 -- the forward search has ended, or was left where it failed
 abbrev pub EndsFront : Regex → Input → (old new : Cache) → Type 0
-EndsFront p input old new = EndsProgress Forward p.forward input old.forward.store new.forward.store
+EndsFront p input old new = EndsProgress Forward p.forward input old.forward new.forward
 
 abbrev pub LeavesFront : Regex → Input → (old new : Cache) → SearchError → Type 0
-LeavesFront p input old new e = LeavesProgress Forward p.forward input old.forward.store new.forward.store e
+LeavesFront p input old new e = LeavesProgress Forward p.forward input old.forward new.forward e
 
 -- the search back from a forward answer has ended, if it is made; otherwise its cache is unchanged
 abbrev pub EndsBack : Regex → Input → Half → (old new : CacheView) → Type 0
 EndsBack p input half old new =
     (IsShort (forward_engine p) input half × (new ≡ old))
     ⊎ ((IsShort (forward_engine p) input half → ⊥)
-    × EndsProgress Backward p.reverse (back input half) old.store new.store)
+    × EndsProgress Backward p.reverse (back input half) old new)
 
 -- it was made, and left where it failed
 abbrev pub LeavesBack : Regex → Input → Half → (old new : CacheView) → SearchError → Type 0
 LeavesBack p input half old new e =
     (IsShort (forward_engine p) input half → ⊥)
-    × LeavesProgress Backward p.reverse (back input half) old.store new.store e
+    × LeavesProgress Backward p.reverse (back input half) old new e
 
 -- after an answer both have ended; with no match there was no search back
 abbrev pub EndsSpan : Regex → Input → (old new : Cache) → Option Match → Type 0

@@ -20,6 +20,7 @@ use Rattle.automata_hybrid.proofs.Searches.UnitsRead.{AreReadTo, left_then, read
 use Rattle.automata_hybrid.proofs.Searches.PassState.{false_true, if_err}
 use Rattle.automata_hybrid.proofs.Steps.Ids.{dead_tagged}
 use Rattle.automata_hybrid.proofs.Walks.Reports.{clean_more, finish_dead, finish_read, silent_same, silent_step}
+use Rattle.automata_hybrid.proofs.Searches.Contracts.{is_store}
 use Rattle.automata_hybrid.proofs.Searches.Directions.{units_in}
 use Rattle.automata_hybrid.proofs.dfa.DFA.advance.Goals as goal
 
@@ -37,7 +38,7 @@ loop-read-init c =
       idle = λ n reported knows. refl;
       learned = λ nothing. units_none d c.args.self.now c.args.cache.now.store c.args.input.now c.args.units;
       silent = silent_same d c.args.self.now c.args.input.now c.args.units;
-      progress = read_none d c.args.self.now c.args.input.now c.args.units c.args.cache.now.store c.args.cache.now.store refl;
+      progress = read_none d c.args.self.now c.args.input.now c.args.units c.args.cache.now c.args.cache.now refl;
       reads = λ less. absurd (omega (arith, less));
     }
 
@@ -47,7 +48,7 @@ loop-read-preserved c =
     let k : ℕ = c.follow_walk-stop.result.at in
     let f : IsFollowed d c.args.self.now c.loop-read.cache.store c.args.input.now 0 c.loop-read.read k c.follow_walk-stop.result.id = c.follow_walk-stop.ensures.followed in
     let more : suc k ≡ k + 1 = omega arith in
-    let named : Names c.read_unit.new.cache.store.table c.in_ok-next.next (state_in d c.args.self.now c.args.input.now (suc k)) = (dead_tagged c.read_unit.new.cache.store.table c.in_ok-next.next (c.see_bounds.ensures.sound.low c.in_ok-next.next) c.see_bounds.ensures.sound.small _ c.in_ok-next.ensures.leads).1 (λ b. false_true (c.if-is_dead.ensures.1 b)) in
+    let named : Names c.read_unit.new.cache.store.table c.in_ok-next.next (state_in d c.args.self.now c.args.input.now (suc k)) = (dead_tagged c.read_unit.new.cache.store.table c.in_ok-next.next (c.see_bounds-in-loop-read.ensures.sound.low c.in_ok-next.next) c.see_bounds-in-loop-read.ensures.sound.small _ c.in_ok-next.ensures.leads).1 (λ b. false_true (c.if-is_dead.ensures.1 b)) in
     let clean : HasReadNoQuit d c.args.self.now c.args.input.now (suc k) = clean_more d c.args.self.now c.args.input.now k (followed_clean f c.loop-read.invariant.clean) c.in_ok-next.ensures.clean in
     let silent : IsSilent d c.args.self.now c.args.input.now c.args.units (suc k) =
     silent_step d c.args.self.now c.args.input.now c.args.units k (followed_silent f c.loop-read.invariant.silent)
@@ -72,8 +73,8 @@ loop-read-preserved c =
           (units_more d c.args.self.now c.loop-read.cache c.read_unit.new.cache c.args.input.now c.args.units c.loop-read.read k c.follow_walk-stop.result.id c.in_ok-next.ensures.effect.grown second
           (c.loop-read.invariant.learned first) f (c.in_ok-next.ensures.effect.learned second)));
       silent = subst (IsSilent d c.args.self.now c.args.input.now c.args.units) more silent;
-      progress = subst (λ n. AreReadTo d c.args.self.now c.args.input.now c.args.units n c.args.cache.now.store c.read_unit.new.cache.store) more
-          (read_then d c.args.self.now c.args.input.now c.args.units c.args.cache.now.store c.loop-read.read k c.loop-read.cache.store (read_exactly d c.args.self.now c.args.input.now c.args.units c.args.cache.now.store c.loop-read.read c.loop-read.cache.store c.loop-read.invariant.progress) f.more (λ j l h. (f.taken j l h).known.0) c.read_unit.new.cache.store c.in_ok-next.ensures.effect.read);
+      progress = subst (λ n. AreReadTo d c.args.self.now c.args.input.now c.args.units n c.args.cache.now c.read_unit.new.cache) more
+          (read_then d c.args.self.now c.args.input.now c.args.units c.args.cache.now (is_store c.args.cache.now.store c.args.self.now c.requires.of c.see_bounds.ensures.bounds, c.see_bounds.ensures.sound) c.loop-read.read k c.loop-read.cache c.loop-read.invariant.of (read_exactly d c.args.self.now c.args.input.now c.args.units c.args.cache.now c.loop-read.read c.loop-read.cache c.loop-read.invariant.progress) f.more (followed_clean f c.loop-read.invariant.clean) (λ j l h. (f.taken j l h).known) c.read_unit.new.cache c.in_ok-next.ensures.effect.read);
       reads = λ less. (k, sym more, c.in_ok-next.ensures.reads);
     }
 
@@ -91,7 +92,7 @@ returns-then-is_dead-clause-arrives c =
     let k : ℕ = c.follow_walk-stop.result.at in
     let f : IsFollowed d c.args.self.now c.loop-read.cache.store c.args.input.now 0 c.loop-read.read k c.follow_walk-stop.result.id = c.follow_walk-stop.ensures.followed in
     let units : c.args.input.now.end - c.args.input.now.start ≡ length (tape_in d c.args.input.now).bytes = units_in d c.args.input.now c.requires.from.undone c.last_place-last.ensures.inside in
-    let dies : state_in d c.args.self.now c.args.input.now (suc k) ≡ dead = (dead_tagged c.read_unit.new.cache.store.table c.in_ok-next.next (c.see_bounds.ensures.sound.low c.in_ok-next.next) c.see_bounds.ensures.sound.small _ c.in_ok-next.ensures.leads).0 (c.if-is_dead.ensures.0 refl) in
+    let dies : state_in d c.args.self.now c.args.input.now (suc k) ≡ dead = (dead_tagged c.read_unit.new.cache.store.table c.in_ok-next.next (c.see_bounds-in-loop-read.ensures.sound.low c.in_ok-next.next) c.see_bounds-in-loop-read.ensures.sound.small _ c.in_ok-next.ensures.leads).0 (c.if-is_dead.ensures.0 refl) in
     finish_dead d c.args.self.now c.args.input.now c.args.units k _ (omega (arith, c.loop-read.invariant.from, f.more)) (omega (arith, units, c.follow_walk-stop.ensures.within)) (omega arith)
     (clean_more d c.args.self.now c.args.input.now k (followed_clean f c.loop-read.invariant.clean) c.in_ok-next.ensures.clean) dies (followed_silent f c.loop-read.invariant.silent)
 
@@ -102,7 +103,7 @@ returns-then-reports-clause-arrives c =
     let f : IsFollowed d c.args.self.now c.loop-read.cache.store c.args.input.now 0 c.loop-read.read k c.follow_walk-stop.result.id = c.follow_walk-stop.ensures.followed in
     let units : c.args.input.now.end - c.args.input.now.start ≡ length (tape_in d c.args.input.now).bytes = units_in d c.args.input.now c.requires.from.undone c.last_place-last.ensures.inside in
     let more : suc k ≡ k + 1 = omega arith in
-    let named : Names c.read_unit.new.cache.store.table c.in_ok-next.next (state_in d c.args.self.now c.args.input.now (suc k)) = (dead_tagged c.read_unit.new.cache.store.table c.in_ok-next.next (c.see_bounds.ensures.sound.low c.in_ok-next.next) c.see_bounds.ensures.sound.small _ c.in_ok-next.ensures.leads).1 (λ b. false_true (c.if-is_dead.ensures.1 b)) in
+    let named : Names c.read_unit.new.cache.store.table c.in_ok-next.next (state_in d c.args.self.now c.args.input.now (suc k)) = (dead_tagged c.read_unit.new.cache.store.table c.in_ok-next.next (c.see_bounds-in-loop-read.ensures.sound.low c.in_ok-next.next) c.see_bounds-in-loop-read.ensures.sound.small _ c.in_ok-next.ensures.leads).1 (λ b. false_true (c.if-is_dead.ensures.1 b)) in
     let yes = c.reports.ensures.yes c.if-reports.true in
     record {
       place = k;
@@ -141,9 +142,9 @@ returns-in_err-next-clause-effect c =
       learned = λ nothing. tt;
       read = tt;
       left =
-          call_stopped d c.args.self.now c.args.input.now c.args.units k c.args.cache.now.store c.read_unit.new.cache.store c.in_err-next.field-0.0 c.in_err-next.ensures.reads
+          call_stopped d c.args.self.now c.args.input.now c.args.units k c.args.cache.now c.read_unit.new.cache c.in_err-next.field-0.0 c.in_err-next.ensures.reads
           (followed_clean f c.loop-read.invariant.clean) (followed_silent f c.loop-read.invariant.silent) c.in_err-next.ensures.refusal
-          (left_then d c.args.self.now c.args.input.now c.args.units c.args.cache.now.store c.loop-read.read k c.loop-read.cache.store (read_exactly d c.args.self.now c.args.input.now c.args.units c.args.cache.now.store c.loop-read.read c.loop-read.cache.store c.loop-read.invariant.progress) f.more (λ j l h. (f.taken j l h).known.0) c.read_unit.new.cache.store c.in_err-next.ensures.effect.left);
+          (left_then d c.args.self.now c.args.input.now c.args.units c.args.cache.now (is_store c.args.cache.now.store c.args.self.now c.requires.of c.see_bounds.ensures.bounds, c.see_bounds.ensures.sound) c.loop-read.read k c.loop-read.cache c.loop-read.invariant.of (read_exactly d c.args.self.now c.args.input.now c.args.units c.args.cache.now c.loop-read.read c.loop-read.cache c.loop-read.invariant.progress) f.more (followed_clean f c.loop-read.invariant.clean) (λ j l h. (f.taken j l h).known) c.read_unit.new.cache c.in_err-next.ensures.effect.left);
     })
 
 pub returns-then-is_dead-clause-effect : goal.returns-then-is_dead-clause-effect
@@ -168,8 +169,8 @@ returns-then-is_dead-clause-effect c =
           (units_more d c.args.self.now c.loop-read.cache c.read_unit.new.cache c.args.input.now c.args.units c.loop-read.read k c.follow_walk-stop.result.id c.in_ok-next.ensures.effect.grown second
           (c.loop-read.invariant.learned first) f (c.in_ok-next.ensures.effect.learned second)));
       read =
-          arrived_read d c.args.self.now c.args.input.now c.args.units k (k + 1) c.args.cache.now.store c.read_unit.new.cache.store from more c.in_ok-next.ensures.reads
-          (read_then d c.args.self.now c.args.input.now c.args.units c.args.cache.now.store c.loop-read.read k c.loop-read.cache.store (read_exactly d c.args.self.now c.args.input.now c.args.units c.args.cache.now.store c.loop-read.read c.loop-read.cache.store c.loop-read.invariant.progress) f.more (λ j l h. (f.taken j l h).known.0) c.read_unit.new.cache.store c.in_ok-next.ensures.effect.read);
+          arrived_read d c.args.self.now c.args.input.now c.args.units k (k + 1) c.args.cache.now c.read_unit.new.cache from more c.in_ok-next.ensures.reads
+          (read_then d c.args.self.now c.args.input.now c.args.units c.args.cache.now (is_store c.args.cache.now.store c.args.self.now c.requires.of c.see_bounds.ensures.bounds, c.see_bounds.ensures.sound) c.loop-read.read k c.loop-read.cache c.loop-read.invariant.of (read_exactly d c.args.self.now c.args.input.now c.args.units c.args.cache.now c.loop-read.read c.loop-read.cache c.loop-read.invariant.progress) f.more (followed_clean f c.loop-read.invariant.clean) (λ j l h. (f.taken j l h).known) c.read_unit.new.cache c.in_ok-next.ensures.effect.read);
       left = tt;
     }
 
@@ -195,8 +196,8 @@ returns-then-reports-clause-effect c =
           (units_more d c.args.self.now c.loop-read.cache c.read_unit.new.cache c.args.input.now c.args.units c.loop-read.read k c.follow_walk-stop.result.id c.in_ok-next.ensures.effect.grown second
           (c.loop-read.invariant.learned first) f (c.in_ok-next.ensures.effect.learned second)));
       read =
-          arrived_read d c.args.self.now c.args.input.now c.args.units k (k + 1) c.args.cache.now.store c.read_unit.new.cache.store from more c.in_ok-next.ensures.reads
-          (read_then d c.args.self.now c.args.input.now c.args.units c.args.cache.now.store c.loop-read.read k c.loop-read.cache.store (read_exactly d c.args.self.now c.args.input.now c.args.units c.args.cache.now.store c.loop-read.read c.loop-read.cache.store c.loop-read.invariant.progress) f.more (λ j l h. (f.taken j l h).known.0) c.read_unit.new.cache.store c.in_ok-next.ensures.effect.read);
+          arrived_read d c.args.self.now c.args.input.now c.args.units k (k + 1) c.args.cache.now c.read_unit.new.cache from more c.in_ok-next.ensures.reads
+          (read_then d c.args.self.now c.args.input.now c.args.units c.args.cache.now (is_store c.args.cache.now.store c.args.self.now c.requires.of c.see_bounds.ensures.bounds, c.see_bounds.ensures.sound) c.loop-read.read k c.loop-read.cache c.loop-read.invariant.of (read_exactly d c.args.self.now c.args.input.now c.args.units c.args.cache.now c.loop-read.read c.loop-read.cache c.loop-read.invariant.progress) f.more (followed_clean f c.loop-read.invariant.clean) (λ j l h. (f.taken j l h).known) c.read_unit.new.cache c.in_ok-next.ensures.effect.read);
       left = tt;
     }
 
@@ -212,7 +213,7 @@ returns-clause-effect c =
       known = λ n reported knows. (c.loop-read.invariant.idle n reported knows, tt);
       learned = c.loop-read.invariant.learned;
       read =
-          arrived_read d c.args.self.now c.args.input.now c.args.units last.0 c.loop-read.read c.args.cache.now.store c.loop-read.cache.store (omega (arith, less, last.1)) (sym last.1) last.2
-          (subst (λ n. AreReadTo d c.args.self.now c.args.input.now c.args.units n c.args.cache.now.store c.loop-read.cache.store) last.1 c.loop-read.invariant.progress);
+          arrived_read d c.args.self.now c.args.input.now c.args.units last.0 c.loop-read.read c.args.cache.now c.loop-read.cache (omega (arith, less, last.1)) (sym last.1) last.2
+          (subst (λ n. AreReadTo d c.args.self.now c.args.input.now c.args.units n c.args.cache.now c.loop-read.cache) last.1 c.loop-read.invariant.progress);
       left = tt;
     }

@@ -20,7 +20,7 @@ invariant-loop-read l = record {
   idle : (k : ℕ) → HasReportedBy l.way l.self l.input l.units k → KnowsUnits l.way l.self l.fn.cache.store l.input l.units k → l.cache.count ≡ l.fn.cache.count;
   learned : ClearedNothing l.fn.cache.store l.cache.store → HasLearnedUnits l.way l.self l.cache.store l.input l.units l.read;
   silent : IsSilent l.way l.self l.input l.units l.read;
-  progress : AreReadTo l.way l.self l.input l.units l.read l.fn.cache.store l.cache.store;
+  progress : AreReadTo l.way l.self l.input l.units l.read l.fn.cache l.cache;
   reads : l.units < l.read → (k : ℕ) × (l.read ≡ suc k) × WalkReads l.way l.self l.input k;
 }
 

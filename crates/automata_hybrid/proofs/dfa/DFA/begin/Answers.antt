@@ -1,5 +1,5 @@
 use Rattle.std.proofs.Common.{◌≡◌, ◌∙◌, ap, None, refl, sym, subst, inl, inr, arith}
-use Rattle.std.specs.Prelude.{Err, IfErr, Ok}
+use Rattle.std.specs.Prelude.{IfErr}
 use Rattle.automata_base.specs.Haystacks.Input.{Allows, Input}
 use Rattle.std.proofs.lemmas.Result.{IfErr-weaker, IfOk-weaker}
 use Rattle.automata_base.specs.Powersets.Powerset.{dead}
@@ -7,16 +7,19 @@ use Rattle.automata_base.specs.declared.util.search.Direction.{Direction}
 use Rattle.automata_hybrid.specs.Cache.Stores.{Stored, with_searched}
 use Rattle.automata_hybrid.specs.Cache.Caches.{CacheView}
 use Rattle.automata_hybrid.specs.Machines.Machine.{Machine, slot_count}
-use Rattle.automata_hybrid.specs.Searches.PassContracts.{IsKnownUpto, IsPassEffect, IsRestEffect}
-use Rattle.automata_hybrid.specs.Cache.Progress.{progress_started}
-use Rattle.automata_hybrid.specs.Searches.Progress.{EndsAtLast, IsStoppedAt, with_search_begun, with_search_ended}
-use Rattle.automata_hybrid.specs.Searches.Passes.{IsPassRefusal, Reads, state_in}
+use Rattle.automata_hybrid.specs.Searches.PassContracts.{IsKnownUpto}
+use Rattle.automata_hybrid.specs.Calls.Events.{Begin, with_progress}
+use Rattle.automata_hybrid.specs.Searches.Progress.{EndsAtLast, IsPassRun, IsStoppedAt, with_search_begun, with_search_ended}
+use Rattle.automata_hybrid.specs.Searches.Passes.{IsPassRefusal, Reads, behind_offset, given_up_offset, state_in, tape_in}
 use Rattle.automata_hybrid.specs.Cache.Table.{Rows, Names}
 use Rattle.automata_hybrid.proofs.Searches.Directions.{begins_alive, begins_dead}
-use Rattle.automata_hybrid.proofs.Searches.Cached.{learned_none}
-use Rattle.automata_hybrid.proofs.Searches.PassContracts.{pass_rest, pass_unstarted, rest_dead, same_input}
+use Rattle.automata_hybrid.proofs.Searches.PassContracts.{same_input}
+use Rattle.automata_hybrid.proofs.Searches.Contracts.{is_store}
+use Rattle.automata_hybrid.proofs.Calls.Laws.{moved_sound}
+use Rattle.automata_hybrid.proofs.Steps.Starts.{refusal_at}
+use Rattle.automata_base.specs.Answers.Answers.{offset_in}
 use Rattle.automata_hybrid.proofs.Searches.Reads.{at_err}
-use Rattle.automata_hybrid.proofs.Searches.UnitsRead.{ended_here, pass_dies, start_had}
+use Rattle.automata_hybrid.proofs.Searches.UnitsRead.{ended_here, pass_dies, start_had, unstarted}
 use Rattle.automata_hybrid.proofs.Searches.PassState.{at_reads, clean_start, false_true, if_both, place_refuses, starts_at}
 use Rattle.automata_hybrid.proofs.Searches.PassState.{starts_dead, stops_start}
 use Rattle.automata_hybrid.proofs.dfa.DFA.begin.Goals as goal
@@ -38,7 +41,6 @@ rest-requires-clause-at c =
     let d : Direction = c.args.way in
     let at : IsKnownUpto d c.args.self.now c.search_start.new.self.store c.args.input.now 0 c.in-Ok.start None = record {
       within = omega arith;
-      learned = learned_none d c.args.self.now c.search_start.new.self.store c.args.input.now;
       known = λ j below. absurd (omega (arith, below));
       at = record {
         undone = c.requires.«open»;
@@ -66,42 +68,48 @@ find_still-requires-clause-at c =
 pub returns-in-Err-clause-effect : goal.returns-in-Err-clause-effect
 returns-in-Err-clause-effect c =
     let d : Direction = c.args.way in
-    (pass_unstarted d c.args.self.now c.args.input.now _ _ c.args.cache.now c.walk_start.new.cache c.in-Err.error (c.see_bounds.ensures.bounds.slots ∙ ap (λ (d : Machine). slot_count d) c.requires.of)
-    c.in-Err.ensures.refusal c.in-Err.ensures.effect refl refl)
+    record {
+      ended = tt;
+      left = inl (
+        refusal_at c.args.self.now c.args.input.now.anchored (tape_in d c.args.input.now).before (behind_offset d c.args.input.now) (offset_in d c.args.input.now 0) c.args.cache.now c.walk_start.new.cache c.in-Err.error c.in-Err.ensures.refusal,
+        unstarted d c.args.self.now c.args.input.now (behind_offset d c.args.input.now) (offset_in d c.args.input.now 0) c.args.cache.now c.walk_start.new.cache c.in-Err.error (c.see_bounds.ensures.bounds.slots ∙ ap (λ (d : Machine). slot_count d) c.requires.of) c.in-Err.ensures.refusal c.in-Err.ensures.effect,
+      );
+    }
 
 pub returns-then-is_dead-clause-effect : goal.returns-then-is_dead-clause-effect
 returns-then-is_dead-clause-effect c =
     let d : Direction = c.args.way in
     let dies : state_in d c.args.self.now c.args.input.now 0 ≡ dead = begins_dead d c.args.self.now c.walk_start.new.cache.store.table c.args.input.now c.in-Ok.start c.in-Ok.ensures.answer.named (c.see_bounds-2.ensures.sound.low c.in-Ok.start) c.see_bounds-2.ensures.sound.small (c.if-is_dead.ensures.0 refl) in
-    pass_rest d c.args.self.now c.args.input.now c.in-Ok.start c.args.cache.now c.walk_start.new.cache c.walk_start.new.cache c.walk_start.new.cache {s = c.walk_start.new.cache.store.searched} _ (c.see_bounds.ensures.bounds.slots ∙ ap (λ (d : Machine). slot_count d) c.requires.of)
-    c.in-Ok.ensures.answer c.in-Ok.ensures.effect refl
-    (rest_dead d c.args.self.now c.args.input.now c.walk_start.new.cache c.walk_start.new.cache {s = c.walk_start.new.cache.store.searched} _ refl dies) (
-      c.walk_start.new.cache.store,
-      (start_had d c.args.self.now c.args.input.now c.args.cache.now c.walk_start.new.cache c.in-Ok.start (c.see_bounds.ensures.bounds.slots ∙ ap (λ (d : Machine). slot_count d) c.requires.of) c.in-Ok.ensures.effect c.in-Ok.ensures.answer),
-      inl (c.if-keeps_none.ensures.yes refl, inr (stops_start d c.args.self.now c.args.input.now dies 0 (omega arith), refl)),
-    )
-    tt
+    record {
+      ended = (
+        c.walk_start.new.cache,
+        (start_had d c.args.self.now c.args.input.now c.args.cache.now c.walk_start.new.cache c.in-Ok.start (c.see_bounds.ensures.bounds.slots ∙ ap (λ (d : Machine). slot_count d) c.requires.of) (is_store c.walk_start.new.cache.store c.args.self.now c.in-Ok.ensures.of c.see_bounds-2.ensures.bounds, c.see_bounds-2.ensures.sound) c.in-Ok.ensures.effect c.in-Ok.ensures.answer),
+        inl (c.if-keeps_none.ensures.yes refl, inr (stops_start d c.args.self.now c.args.input.now dies 0 (omega arith), refl)),
+      );
+      left = tt;
+    }
 
 pub returns-then-is_dead-2-clause-effect : goal.returns-then-is_dead-2-clause-effect
 returns-then-is_dead-2-clause-effect c =
     let d : Direction = c.args.way in
-    let begins : c.search_start.new.self.store ≡ with_search_begun d c.args.input.now 0 c.walk_start.new.cache.store =
-    subst (λ at. c.search_start.new.self.store ≡ with_searched c.walk_start.new.cache.store (progress_started c.walk_start.new.cache.store.searched at)) c.span_offset-first.ensures.value (ap (λ (v : CacheView). v.store) c.search_start.ensures.value) in
+    let begins : c.search_start.new.self ≡ with_search_begun d c.args.input.now 0 c.walk_start.new.cache =
+    subst (λ at. c.search_start.new.self ≡ with_progress (Begin at) c.walk_start.new.cache) c.span_offset-first.ensures.value c.search_start.ensures.value in
     let dies : state_in d c.args.self.now c.args.input.now 0 ≡ dead = begins_dead d c.args.self.now c.walk_start.new.cache.store.table c.args.input.now c.in-Ok.start c.in-Ok.ensures.answer.named (c.see_bounds-2.ensures.sound.low c.in-Ok.start) c.see_bounds-2.ensures.sound.small (c.if-is_dead-2.ensures.0 refl) in
-    pass_rest d c.args.self.now c.args.input.now c.in-Ok.start c.args.cache.now c.walk_start.new.cache c.search_start.new.self c.end_search.new.self _ (c.see_bounds.ensures.bounds.slots ∙ ap (λ (d : Machine). slot_count d) c.requires.of)
-    c.in-Ok.ensures.answer c.in-Ok.ensures.effect c.search_start.ensures.value
-    (rest_dead d c.args.self.now c.args.input.now c.search_start.new.self c.end_search.new.self _ c.end_search.ensures.value dies) (
-      c.walk_start.new.cache.store,
-      (start_had d c.args.self.now c.args.input.now c.args.cache.now c.walk_start.new.cache c.in-Ok.start (c.see_bounds.ensures.bounds.slots ∙ ap (λ (d : Machine). slot_count d) c.requires.of) c.in-Ok.ensures.effect c.in-Ok.ensures.answer),
-      inr (
-        c.if-keeps_none.ensures.no refl,
-        pass_dies d c.args.self.now c.args.input.now (with_search_begun d c.args.input.now 0 c.walk_start.new.cache.store) c.end_search.new.self.store
-            (stops_start d c.args.self.now c.args.input.now dies)
-            (ended_here d c.args.input.now 0 c.span_offset-first.result c.search_start.new.self c.end_search.new.self (sym c.span_offset-first.ensures.value) c.end_search.ensures.value
-            ∙ ap (λ (v : Stored). with_search_ended d c.args.input.now 0 v) begins),
-      ),
-    )
-    tt
+    record {
+      ended = (
+        c.walk_start.new.cache,
+        (start_had d c.args.self.now c.args.input.now c.args.cache.now c.walk_start.new.cache c.in-Ok.start (c.see_bounds.ensures.bounds.slots ∙ ap (λ (d : Machine). slot_count d) c.requires.of) (is_store c.walk_start.new.cache.store c.args.self.now c.in-Ok.ensures.of c.see_bounds-2.ensures.bounds, c.see_bounds-2.ensures.sound) c.in-Ok.ensures.effect c.in-Ok.ensures.answer),
+        inr (
+          c.if-keeps_none.ensures.no refl,
+          pass_dies d c.args.self.now c.args.input.now (with_search_begun d c.args.input.now 0 c.walk_start.new.cache) c.end_search.new.self
+              (moved_sound c.args.self.now (Begin (given_up_offset d c.args.input.now 0)) c.walk_start.new.cache (is_store c.walk_start.new.cache.store c.args.self.now c.in-Ok.ensures.of c.see_bounds-2.ensures.bounds, c.see_bounds-2.ensures.sound))
+              (stops_start d c.args.self.now c.args.input.now dies)
+              (ended_here d c.args.input.now 0 c.span_offset-first.result c.search_start.new.self c.end_search.new.self (sym c.span_offset-first.ensures.value) c.end_search.ensures.value
+              ∙ ap (λ (v : CacheView). with_search_ended d c.args.input.now 0 v) begins),
+        ),
+      );
+      left = tt;
+    }
 
 pub returns-then-keeps_none-clause-effect : goal.returns-then-keeps_none-clause-effect
 returns-then-keeps_none-clause-effect c =
@@ -111,23 +119,24 @@ returns-then-keeps_none-clause-effect c =
     (starts_at d c.args.self.now c.walk_start.new.cache.store.table c.args.input.now c.in-Ok.start
     (begins_alive d c.args.self.now c.walk_start.new.cache.store.table c.args.input.now c.in-Ok.start c.in-Ok.ensures.answer.named (c.see_bounds-2.ensures.sound.low c.in-Ok.start) c.see_bounds-2.ensures.sound.small (λ b. false_true (c.if-is_dead.ensures.1 b))))
     (omega arith) (c.see_bounds-2.ensures.sound.alive c.in-Ok.start) in
-    pass_rest d c.args.self.now c.args.input.now c.in-Ok.start c.args.cache.now c.walk_start.new.cache c.walk_start.new.cache c.find_still.new.cache {s = c.walk_start.new.cache.store.searched} c.find_still.result (c.see_bounds.ensures.bounds.slots ∙ ap (λ (d : Machine). slot_count d) c.requires.of)
-    c.in-Ok.ensures.answer c.in-Ok.ensures.effect refl
-    c.find_still.ensures.effect
-    (IfOk-weaker c.find_still.result _ _
-    (λ _ read. (
-      c.walk_start.new.cache.store,
-      (start_had d c.args.self.now c.args.input.now c.args.cache.now c.walk_start.new.cache c.in-Ok.start (c.see_bounds.ensures.bounds.slots ∙ ap (λ (d : Machine). slot_count d) c.requires.of) c.in-Ok.ensures.effect c.in-Ok.ensures.answer),
-      inl (c.if-keeps_none.ensures.yes refl, inl (reads, read)),
-    ))
-    c.find_still.ensures.progress.read)
-    (if_both c.find_still.result _ _ _
-    (λ error refused kept. inr (
-      c.walk_start.new.cache.store,
-      (start_had d c.args.self.now c.args.input.now c.args.cache.now c.walk_start.new.cache c.in-Ok.start (c.see_bounds.ensures.bounds.slots ∙ ap (λ (d : Machine). slot_count d) c.requires.of) c.in-Ok.ensures.effect c.in-Ok.ensures.answer),
-      inl (c.if-keeps_none.ensures.yes refl, reads, refused, kept),
-    ))
-    c.find_still.ensures.refusal c.find_still.ensures.progress.kept)
+    record {
+      ended =
+          IfOk-weaker c.find_still.result _ _
+          (λ _ read. (
+            c.walk_start.new.cache,
+            (start_had d c.args.self.now c.args.input.now c.args.cache.now c.walk_start.new.cache c.in-Ok.start (c.see_bounds.ensures.bounds.slots ∙ ap (λ (d : Machine). slot_count d) c.requires.of) (is_store c.walk_start.new.cache.store c.args.self.now c.in-Ok.ensures.of c.see_bounds-2.ensures.bounds, c.see_bounds-2.ensures.sound) c.in-Ok.ensures.effect c.in-Ok.ensures.answer),
+            inl (c.if-keeps_none.ensures.yes refl, inl (reads, read)),
+          ))
+          c.find_still.ensures.progress.read;
+      left =
+          if_both c.find_still.result _ _ _
+          (λ error refused left. inr (
+            c.walk_start.new.cache,
+            (start_had d c.args.self.now c.args.input.now c.args.cache.now c.walk_start.new.cache c.in-Ok.start (c.see_bounds.ensures.bounds.slots ∙ ap (λ (d : Machine). slot_count d) c.requires.of) (is_store c.walk_start.new.cache.store c.args.self.now c.in-Ok.ensures.of c.see_bounds-2.ensures.bounds, c.see_bounds-2.ensures.sound) c.in-Ok.ensures.effect c.in-Ok.ensures.answer),
+            inl (c.if-keeps_none.ensures.yes refl, reads, refused, left),
+          ))
+          c.find_still.ensures.refusal c.find_still.ensures.progress.left;
+    }
 
 pub returns-then-keeps_none-clause-refusal : goal.returns-then-keeps_none-clause-refusal
 returns-then-keeps_none-clause-refusal c =
@@ -142,40 +151,39 @@ returns-then-keeps_none-clause-refusal c =
 pub returns-clause-effect : goal.returns-clause-effect
 returns-clause-effect c =
     let d : Direction = c.args.way in
-    let begins : c.search_start.new.self.store ≡ with_search_begun d c.args.input.now 0 c.walk_start.new.cache.store =
-    subst (λ at. c.search_start.new.self.store ≡ with_searched c.walk_start.new.cache.store (progress_started c.walk_start.new.cache.store.searched at)) c.span_offset-first.ensures.value (ap (λ (v : CacheView). v.store) c.search_start.ensures.value) in
-    pass_rest d c.args.self.now c.args.input.now c.in-Ok.start c.args.cache.now c.walk_start.new.cache c.search_start.new.self c.rest.new.cache _ (c.see_bounds.ensures.bounds.slots ∙ ap (λ (d : Machine). slot_count d) c.requires.of)
-    c.in-Ok.ensures.answer c.in-Ok.ensures.effect c.search_start.ensures.value
-    (subst (λ (i : Input). IsRestEffect d c.args.self.now i 0 c.search_start.new.self c.rest.new.cache (Ok c.in_ok-found.found)) (same_input c.args.input.now c.haystack.result.now c.get_span.result c.get_anchored.result c.get_earliest.result c.haystack.ensures.same c.get_span.ensures.start c.get_span.ensures.end c.get_anchored.ensures c.get_earliest.ensures) c.in_ok-found.ensures.effect) (
-      c.walk_start.new.cache.store,
-      (start_had d c.args.self.now c.args.input.now c.args.cache.now c.walk_start.new.cache c.in-Ok.start (c.see_bounds.ensures.bounds.slots ∙ ap (λ (d : Machine). slot_count d) c.requires.of) c.in-Ok.ensures.effect c.in-Ok.ensures.answer),
-      inr (
-        c.if-keeps_none.ensures.no refl,
-        subst (λ (v : Stored). EndsAtLast d c.args.self.now c.args.input.now v c.rest.new.cache.store) begins
-            (subst (λ (i : Input). EndsAtLast d c.args.self.now i c.search_start.new.self.store c.rest.new.cache.store) (same_input c.args.input.now c.haystack.result.now c.get_span.result c.get_anchored.result c.get_earliest.result c.haystack.ensures.same c.get_span.ensures.start c.get_span.ensures.end c.get_anchored.ensures c.get_earliest.ensures) c.in_ok-found.ensures.ended),
-      ),
-    )
-    tt
+    let begins : c.search_start.new.self ≡ with_search_begun d c.args.input.now 0 c.walk_start.new.cache =
+    subst (λ at. c.search_start.new.self ≡ with_progress (Begin at) c.walk_start.new.cache) c.span_offset-first.ensures.value c.search_start.ensures.value in
+    record {
+      ended = (
+        c.walk_start.new.cache,
+        (start_had d c.args.self.now c.args.input.now c.args.cache.now c.walk_start.new.cache c.in-Ok.start (c.see_bounds.ensures.bounds.slots ∙ ap (λ (d : Machine). slot_count d) c.requires.of) (is_store c.walk_start.new.cache.store c.args.self.now c.in-Ok.ensures.of c.see_bounds-2.ensures.bounds, c.see_bounds-2.ensures.sound) c.in-Ok.ensures.effect c.in-Ok.ensures.answer),
+        inr (
+          c.if-keeps_none.ensures.no refl,
+          subst (λ (v : CacheView). EndsAtLast d c.args.self.now c.args.input.now v c.rest.new.cache) begins
+              (subst (λ (i : Input). EndsAtLast d c.args.self.now i c.search_start.new.self c.rest.new.cache) (same_input c.args.input.now c.haystack.result.now c.get_span.result c.get_anchored.result c.get_earliest.result c.haystack.ensures.same c.get_span.ensures.start c.get_span.ensures.end c.get_anchored.ensures c.get_earliest.ensures) c.in_ok-found.ensures.ended),
+        ),
+      );
+      left = tt;
+    }
 
 pub returns-in_err-found-clause-effect : goal.returns-in_err-found-clause-effect
 returns-in_err-found-clause-effect c =
     let d : Direction = c.args.way in
-    let begins : c.search_start.new.self.store ≡ with_search_begun d c.args.input.now 0 c.walk_start.new.cache.store =
-    subst (λ at. c.search_start.new.self.store ≡ with_searched c.walk_start.new.cache.store (progress_started c.walk_start.new.cache.store.searched at)) c.span_offset-first.ensures.value (ap (λ (v : CacheView). v.store) c.search_start.ensures.value) in
-    at_err c.from_residual.result _ (IsPassEffect d c.args.self.now c.args.input.now c.args.cache.now c.rest.new.cache) c.from_residual.ensures.1
-    (pass_rest d c.args.self.now c.args.input.now c.in-Ok.start c.args.cache.now c.walk_start.new.cache c.search_start.new.self c.rest.new.cache (Err c.in_err-found.field-0.0) (c.see_bounds.ensures.bounds.slots ∙ ap (λ (d : Machine). slot_count d) c.requires.of)
-    c.in-Ok.ensures.answer c.in-Ok.ensures.effect c.search_start.ensures.value
-    (subst (λ (i : Input). IsRestEffect d c.args.self.now i 0 c.search_start.new.self c.rest.new.cache (Err c.in_err-found.field-0.0)) (same_input c.args.input.now c.haystack.result.now c.get_span.result c.get_anchored.result c.get_earliest.result c.haystack.ensures.same c.get_span.ensures.start c.get_span.ensures.end c.get_anchored.ensures c.get_earliest.ensures) c.in_err-found.ensures.effect)
-    tt
-    (inr (
-      c.walk_start.new.cache.store,
-      (start_had d c.args.self.now c.args.input.now c.args.cache.now c.walk_start.new.cache c.in-Ok.start (c.see_bounds.ensures.bounds.slots ∙ ap (λ (d : Machine). slot_count d) c.requires.of) c.in-Ok.ensures.effect c.in-Ok.ensures.answer),
-      inr (
-        c.if-keeps_none.ensures.no refl,
-        subst (λ (v : Stored). IsStoppedAt d c.args.self.now c.args.input.now v c.rest.new.cache.store c.in_err-found.field-0.0) begins
-            (subst (λ (i : Input). IsStoppedAt d c.args.self.now i c.search_start.new.self.store c.rest.new.cache.store c.in_err-found.field-0.0) (same_input c.args.input.now c.haystack.result.now c.get_span.result c.get_anchored.result c.get_earliest.result c.haystack.ensures.same c.get_span.ensures.start c.get_span.ensures.end c.get_anchored.ensures c.get_earliest.ensures) c.in_err-found.ensures.left),
-      ),
-    )))
+    let begins : c.search_start.new.self ≡ with_search_begun d c.args.input.now 0 c.walk_start.new.cache =
+    subst (λ at. c.search_start.new.self ≡ with_progress (Begin at) c.walk_start.new.cache) c.span_offset-first.ensures.value c.search_start.ensures.value in
+    at_err c.from_residual.result _ (IsPassRun d c.args.self.now c.args.input.now c.args.cache.now c.rest.new.cache) c.from_residual.ensures.1
+    (record {
+      ended = tt;
+      left = inr (
+        c.walk_start.new.cache,
+        (start_had d c.args.self.now c.args.input.now c.args.cache.now c.walk_start.new.cache c.in-Ok.start (c.see_bounds.ensures.bounds.slots ∙ ap (λ (d : Machine). slot_count d) c.requires.of) (is_store c.walk_start.new.cache.store c.args.self.now c.in-Ok.ensures.of c.see_bounds-2.ensures.bounds, c.see_bounds-2.ensures.sound) c.in-Ok.ensures.effect c.in-Ok.ensures.answer),
+        inr (
+          c.if-keeps_none.ensures.no refl,
+          subst (λ (v : CacheView). IsStoppedAt d c.args.self.now c.args.input.now v c.rest.new.cache c.in_err-found.field-0.0) begins
+              (subst (λ (i : Input). IsStoppedAt d c.args.self.now i c.search_start.new.self c.rest.new.cache c.in_err-found.field-0.0) (same_input c.args.input.now c.haystack.result.now c.get_span.result c.get_anchored.result c.get_earliest.result c.haystack.ensures.same c.get_span.ensures.start c.get_span.ensures.end c.get_anchored.ensures c.get_earliest.ensures) c.in_err-found.ensures.left),
+        ),
+      );
+    })
 
 pub returns-in_err-found-clause-refusal : goal.returns-in_err-found-clause-refusal
 returns-in_err-found-clause-refusal c =

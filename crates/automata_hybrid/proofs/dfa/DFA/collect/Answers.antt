@@ -89,7 +89,7 @@ returns-in_err-go_on-clause-effect c =
           (which_still m input c.args.patset.now old mid v.grown count knows)) in
           (grown.idle (here.0.0 ∙ count), here.1));
       ended = tt;
-      left = (j.k, walk, mid.store, v.joins.1, open_after m input walk c.args.patset.now c.walk.patset j, e.left);
+      left = (j.k, walk, mid, v.joins.1, open_after m input walk c.args.patset.now c.walk.patset j, e.left);
       done = λ past. e.ready (inr (inr (omega (arith, past)))) ∙ (v.done past).0;
     })
 
@@ -155,7 +155,7 @@ returns-in_default-clause-effect c =
       ended = (
         suc j.k,
         next,
-        (walk, mid.store, v.joins.1, open_after m input walk c.args.patset.now c.walk.patset j, a.reports, e.ended),
+        (walk, mid, v.joins.1, open_after m input walk c.args.patset.now c.walk.patset j, a.reports, e.ended),
         inl last,
       );
       left = tt;
@@ -236,7 +236,7 @@ returns-then-is_full-clause-effect c =
       ended = (
         suc j.k,
         next,
-        (walk, mid.store, v.joins.1, open_after m input walk c.args.patset.now c.walk.patset j, a.reports, e.ended),
+        (walk, mid, v.joins.1, open_after m input walk c.args.patset.now c.walk.patset j, a.reports, e.ended),
         inr (λ pairs walked.
             closes input c.args.patset.now (set c.walk.patset c.in-Some.half.pattern true) pairs j.k c.in-Some.half
             (sym ((a.reports j.k j.reported).1 pairs walked).0 ∙ found) capacity
@@ -320,7 +320,7 @@ returns-then-get_earliest-clause-effect c =
       ended = (
         suc j.k,
         next,
-        (walk, mid.store, v.joins.1, open_after m input walk c.args.patset.now c.walk.patset j, a.reports, e.ended),
+        (walk, mid, v.joins.1, open_after m input walk c.args.patset.now c.walk.patset j, a.reports, e.ended),
         inr (λ pairs walked.
             closes input c.args.patset.now (set c.walk.patset c.in-Some.half.pattern true) pairs j.k c.in-Some.half
             (sym ((a.reports j.k j.reported).1 pairs walked).0 ∙ found) capacity
@@ -355,7 +355,7 @@ walk-init c = record {
   holds = search rules;
   keeping = search rules;
   learned = search rules;
-  joins = joins_begin c.args.self.now c.args.input.now c.start-walk.result c.args.patset.now c.args.cache.now.store c.start-walk.ensures;
+  joins = joins_begin c.args.self.now c.args.input.now c.start-walk.result c.args.patset.now c.args.cache.now c.start-walk.ensures;
 }
 
 pub walk-preserved : goal.walk-preserved
@@ -401,9 +401,9 @@ walk-preserved c =
           absurd (omega (arith, past, undone)));
       begins = λ u. absurd (supported_call Forward c.args.self.now c.args.input.now c.walk.walk c.go_on.new.walk (j.k, j.reported) c.in_ok-go_on.ensures.answer.reports u);
       joins =
-          subst (λ (s : List Bool). (i : Joins c.args.self.now c.args.input.now c.go_on.new.walk c.args.patset.now s) × HaveCalled c.args.self.now c.args.input.now c.args.patset.now i.k c.args.cache.now.store c.go_on.new.walk c.go_on.new.cache.store) (sym put) (
+          subst (λ (s : List Bool). (i : Joins c.args.self.now c.args.input.now c.go_on.new.walk c.args.patset.now s) × HaveCalled c.args.self.now c.args.input.now c.args.patset.now i.k c.args.cache.now c.go_on.new.walk c.go_on.new.cache) (sym put) (
             joins_more c.args.self.now c.args.input.now c.args.patset.now c.walk.walk c.go_on.new.walk c.walk.patset c.walk.invariant.joins.0 c.in_ok-go_on.ensures.answer.reports list c.in-Some.half found (sym c.get_earliest.ensures ∙ c.if-get_earliest.false) lacks,
-            calls_more c.args.self.now c.args.input.now c.args.patset.now c.walk.walk c.go_on.new.walk c.walk.patset c.walk.invariant.joins.0 c.in_ok-go_on.ensures.answer.reports list c.in-Some.half found (sym c.get_earliest.ensures ∙ c.if-get_earliest.false) lacks c.args.cache.now.store c.go_on.new.cache.store
-                (c.walk.walk, c.walk.cache.store, c.walk.invariant.joins.1, open_after c.args.self.now c.args.input.now c.walk.walk c.args.patset.now c.walk.patset j, c.in_ok-go_on.ensures.answer.reports, c.in_ok-go_on.ensures.effect.ended),
+            calls_more c.args.self.now c.args.input.now c.args.patset.now c.walk.walk c.go_on.new.walk c.walk.patset c.walk.invariant.joins.0 c.in_ok-go_on.ensures.answer.reports list c.in-Some.half found (sym c.get_earliest.ensures ∙ c.if-get_earliest.false) lacks c.args.cache.now c.go_on.new.cache
+                (c.walk.walk, c.walk.cache, c.walk.invariant.joins.1, open_after c.args.self.now c.args.input.now c.walk.walk c.args.patset.now c.walk.patset j, c.in_ok-go_on.ensures.answer.reports, c.in_ok-go_on.ensures.effect.ended),
           );
     }

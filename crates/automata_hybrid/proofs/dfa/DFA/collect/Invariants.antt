@@ -29,7 +29,7 @@ invariant-walk l = record {
   holds : IsHeldAt l.cache.store.table l.walk.stage l.held;
   keeping : keeping_of l.held ≡ Ids;
   learned : ClearedNothing l.fn.cache.store l.cache.store → l.input.start ≤ l.input.end → MayStart l.self l.input.anchored (tape_in Forward l.input).before → HasLearnedWalk l.self l.cache.store l.input l.walk;
-  joins : (j : Joins l.self l.input l.walk l.fn.patset l.patset) × HaveCalled l.self l.input l.fn.patset j.k l.fn.cache.store l.walk l.cache.store;
+  joins : (j : Joins l.self l.input l.walk l.fn.patset l.patset) × HaveCalled l.self l.input l.fn.patset j.k l.fn.cache l.walk l.cache;
 }
 
 abbrev pub decreases-walk : goal.decreases-walk

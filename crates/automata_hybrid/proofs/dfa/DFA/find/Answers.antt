@@ -1,4 +1,4 @@
-use Rattle.std.specs.Prelude.{Err}
+use Rattle.automata_hybrid.proofs.Searches.Contracts.{is_store}
 use Rattle.std.proofs.Common.{ℕ, suc, ◌≡◌, ◌∙◌, ◌+◌, ◌-◌, ◌<◌, ◌≤◌, true, length, Some, None, inr, refl, sym, ap, subst}
 use Rattle.std.proofs.Common.{arith}
 use Rattle.automata_base.specs.Paths.Paths.{next}
@@ -8,11 +8,8 @@ use Rattle.automata_hybrid.specs.Searches.Cached.{KnowsPass}
 use Rattle.automata_hybrid.specs.Searches.PassState.{HasLearned, IsAt}
 use Rattle.automata_hybrid.specs.Steps.Steps.{known_step}
 use Rattle.automata_hybrid.specs.Searches.Passes.{Reads, given_up_offset, tape_in}
-use Rattle.automata_hybrid.proofs.Cache.Growth.{grown_same, grown_trans, nothing_first, nothing_second}
-use Rattle.automata_hybrid.proofs.Searches.Cached.{knows_here, knows_still, learned_step}
 use Rattle.std.proofs.lemmas.Result.{IfErr-weaker, IfOk-weaker}
-use Rattle.automata_hybrid.proofs.Searches.PassContracts.{dead_answer, dead_stops, first_answer, first_stops, rest_read, rest_refused}
-use Rattle.automata_hybrid.proofs.Searches.PassContracts.{rest_then}
+use Rattle.automata_hybrid.proofs.Searches.PassContracts.{dead_answer, first_answer}
 use Rattle.automata_hybrid.proofs.Searches.UnitsRead.{AreReadTo, ended_here, pass_last, pass_left_then, pass_stopped, read_exactly}
 use Rattle.automata_hybrid.proofs.Searches.UnitsRead.{read_known, read_none, read_then, refused_here, taken_here}
 use Rattle.automata_hybrid.proofs.Searches.PassState.{at_reads, stops_dead, stops_ends, stops_last, more_leads, more_at}
@@ -29,17 +26,13 @@ loop-at-init c =
     let d : Direction = c.args.way in
     record {
       of = c.requires.of;
-      counted = omega arith;
-      grown = grown_same c.args.cache.now c.args.cache.now refl;
-      idle = λ knows. refl;
-      learned = λ begin nothing. (begin, c.requires.at.learned);
       within = omega (arith, c.requires.at.within, c.last_place-last.ensures.place);
       at = c.requires.at.at.at;
       progress =
-          read_known d c.args.self.now c.args.input.now 0 c.args.cache.now.store 0 c.args.from c.args.cache.now.store
-          (read_exactly d c.args.self.now c.args.input.now 0 c.args.cache.now.store 0 c.args.cache.now.store
-          (read_none d c.args.self.now c.args.input.now 0 c.args.cache.now.store c.args.cache.now.store refl))
-          (omega arith) (λ j from below. c.requires.at.known j below);
+          read_known d c.args.self.now c.args.input.now 0 c.args.cache.now (is_store c.args.cache.now.store c.args.self.now c.requires.of c.see_bounds.ensures.bounds, c.see_bounds.ensures.sound) 0 c.args.from c.args.cache.now c.requires.of
+          (read_exactly d c.args.self.now c.args.input.now 0 c.args.cache.now 0 c.args.cache.now
+          (read_none d c.args.self.now c.args.input.now 0 c.args.cache.now c.args.cache.now refl))
+          (omega arith) c.requires.at.at.at.clean (λ j from below. c.requires.at.known j below);
     }
 
 pub read_met-requires-clause-met : goal.read_met-requires-clause-met
@@ -86,20 +79,7 @@ returns-then-is_dead-clause-answer c =
     let at : IsAt d c.args.self.now c.loop-at.cache.store.table c.args.input.now k c.run-run.result.id c.run-run.result.found = c.run-run.ensures.at in
     let read : next (tape_in d c.args.input.now) k ≡ Some c.byte_at-byte.result = c.byte_at-byte.ensures in
     let few : k ≤ length (tape_in d c.args.input.now).bytes = (let u = units_in d c.args.input.now c.requires.at.at.undone c.last_place-last.ensures.inside in omega (arith, u, inside)) in
-    dead_answer d c.args.self.now c.args.input.now k c.run-run.result.id _ c.run-run.result.found c.loop-at.cache c.loop-at.cache c.read_met.new.cache c.end_search.new.self {s = c.loop-at.cache.store.searched} refl c.end_search.ensures.value (record { undone = c.requires.at.at.undone; may = c.requires.at.at.may; at = at }) read c.in-Ok.next None c.in-Ok.ensures.answer (λ l. (dead_tagged c.read_met.new.cache.store.table c.in-Ok.next (c.see_bounds.ensures.sound.low c.in-Ok.next) c.see_bounds.ensures.sound.small _ l).0 (c.if-is_dead.ensures.0 refl)) few
-
-pub returns-then-is_dead-clause-effect : goal.returns-then-is_dead-clause-effect
-returns-then-is_dead-clause-effect c =
-    let d : Direction = c.args.way in
-    let k : ℕ = c.run-run.result.at in
-    let inside : k < c.args.input.now.end - c.args.input.now.start = omega (arith, c.if-run-last.false, c.last_place-last.ensures.place) in
-    let at : IsAt d c.args.self.now c.loop-at.cache.store.table c.args.input.now k c.run-run.result.id c.run-run.result.found = c.run-run.ensures.at in
-    let read : next (tape_in d c.args.input.now) k ≡ Some c.byte_at-byte.result = c.byte_at-byte.ensures in
-    let few : k ≤ length (tape_in d c.args.input.now).bytes = (let u = units_in d c.args.input.now c.requires.at.at.undone c.last_place-last.ensures.inside in omega (arith, u, inside)) in
-    rest_then d c.args.self.now c.args.input.now k c.args.cache.now c.loop-at.cache c.loop-at.cache c.end_search.new.self {s = c.loop-at.cache.store.searched} _ refl (omega (arith, inside))
-    c.loop-at.invariant.grown (omega (arith, c.loop-at.invariant.counted, c.run-run.ensures.run.more)) c.loop-at.invariant.idle (λ begin nothing. (let had = c.loop-at.invariant.learned begin nothing in (had.0, c.run-run.ensures.run.learned had.1)))
-    (rest_read d c.args.self.now c.args.input.now k c.run-run.result.id _ c.run-run.result.found c.loop-at.cache c.loop-at.cache c.read_met.new.cache c.end_search.new.self {s = c.loop-at.cache.store.searched} refl c.end_search.ensures.value (record { undone = c.requires.at.at.undone; may = c.requires.at.at.may; at = at }) read c.in-Ok.next _ c.in-Ok.ensures.effect c.in-Ok.ensures.of (omega (arith, inside)) few
-    (dead_stops d c.args.self.now c.args.input.now k c.run-run.result.id _ c.run-run.result.found c.loop-at.cache c.loop-at.cache c.read_met.new.cache c.end_search.new.self {s = c.loop-at.cache.store.searched} refl c.end_search.ensures.value (record { undone = c.requires.at.at.undone; may = c.requires.at.at.may; at = at }) read c.in-Ok.next None c.in-Ok.ensures.answer (λ l. (dead_tagged c.read_met.new.cache.store.table c.in-Ok.next (c.see_bounds.ensures.sound.low c.in-Ok.next) c.see_bounds.ensures.sound.small _ l).0 (c.if-is_dead.ensures.0 refl))))
+    dead_answer d c.args.self.now c.args.input.now k c.run-run.result.id _ c.run-run.result.found c.loop-at.cache c.loop-at.cache c.read_met.new.cache {s = c.loop-at.cache.store.searched} refl (record { undone = c.requires.at.at.undone; may = c.requires.at.at.may; at = at }) read c.in-Ok.next None c.in-Ok.ensures.answer (λ l. (dead_tagged c.read_met.new.cache.store.table c.in-Ok.next (c.see_bounds-in-loop-at.ensures.sound.low c.in-Ok.next) c.see_bounds-in-loop-at.ensures.sound.small _ l).0 (c.if-is_dead.ensures.0 refl)) few
 
 pub found_at-found-requires-clause-leads : goal.found_at-found-requires-clause-leads
 found_at-found-requires-clause-leads c =
@@ -119,20 +99,7 @@ returns-then-is_some-clause-answer c =
     let at : IsAt d c.args.self.now c.loop-at.cache.store.table c.args.input.now k c.run-run.result.id c.run-run.result.found = c.run-run.ensures.at in
     let read : next (tape_in d c.args.input.now) k ≡ Some c.byte_at-byte.result = c.byte_at-byte.ensures in
     let few : k ≤ length (tape_in d c.args.input.now).bytes = (let u = units_in d c.args.input.now c.requires.at.at.undone c.last_place-last.ensures.inside in omega (arith, u, inside)) in
-    first_answer d c.args.self.now c.args.input.now k c.run-run.result.id _ c.run-run.result.found c.loop-at.cache c.loop-at.cache c.read_met.new.cache c.end_search-then-is_some.new.self {s = c.loop-at.cache.store.searched} refl c.end_search-then-is_some.ensures.value (record { undone = c.requires.at.at.undone; may = c.requires.at.at.may; at = at }) read c.in-Ok.next c.found_at-found.result c.in-Ok.ensures.answer c.place_offset.result c.place_offset.ensures.value c.found_at-found.ensures (sym c.get_earliest.ensures ∙ c.if-get_earliest.true) (some_is c.found_at-found.result c.if-is_some.ensures) few
-
-pub returns-then-is_some-clause-effect : goal.returns-then-is_some-clause-effect
-returns-then-is_some-clause-effect c =
-    let d : Direction = c.args.way in
-    let k : ℕ = c.run-run.result.at in
-    let inside : k < c.args.input.now.end - c.args.input.now.start = omega (arith, c.if-run-last.false, c.last_place-last.ensures.place) in
-    let at : IsAt d c.args.self.now c.loop-at.cache.store.table c.args.input.now k c.run-run.result.id c.run-run.result.found = c.run-run.ensures.at in
-    let read : next (tape_in d c.args.input.now) k ≡ Some c.byte_at-byte.result = c.byte_at-byte.ensures in
-    let few : k ≤ length (tape_in d c.args.input.now).bytes = (let u = units_in d c.args.input.now c.requires.at.at.undone c.last_place-last.ensures.inside in omega (arith, u, inside)) in
-    rest_then d c.args.self.now c.args.input.now k c.args.cache.now c.loop-at.cache c.loop-at.cache c.end_search-then-is_some.new.self {s = c.loop-at.cache.store.searched} _ refl (omega (arith, inside))
-    c.loop-at.invariant.grown (omega (arith, c.loop-at.invariant.counted, c.run-run.ensures.run.more)) c.loop-at.invariant.idle (λ begin nothing. (let had = c.loop-at.invariant.learned begin nothing in (had.0, c.run-run.ensures.run.learned had.1)))
-    (rest_read d c.args.self.now c.args.input.now k c.run-run.result.id _ c.run-run.result.found c.loop-at.cache c.loop-at.cache c.read_met.new.cache c.end_search-then-is_some.new.self {s = c.loop-at.cache.store.searched} refl c.end_search-then-is_some.ensures.value (record { undone = c.requires.at.at.undone; may = c.requires.at.at.may; at = at }) read c.in-Ok.next _ c.in-Ok.ensures.effect c.in-Ok.ensures.of (omega (arith, inside)) few
-    (first_stops d c.args.self.now c.args.input.now k c.run-run.result.id _ c.run-run.result.found c.loop-at.cache c.loop-at.cache c.read_met.new.cache c.end_search-then-is_some.new.self {s = c.loop-at.cache.store.searched} refl c.end_search-then-is_some.ensures.value (record { undone = c.requires.at.at.undone; may = c.requires.at.at.may; at = at }) read c.in-Ok.next c.found_at-found.result c.in-Ok.ensures.answer c.place_offset.result c.place_offset.ensures.value c.found_at-found.ensures (sym c.get_earliest.ensures ∙ c.if-get_earliest.true) (some_is c.found_at-found.result c.if-is_some.ensures)))
+    first_answer d c.args.self.now c.args.input.now k c.run-run.result.id _ c.run-run.result.found c.loop-at.cache c.loop-at.cache c.read_met.new.cache {s = c.loop-at.cache.store.searched} refl (record { undone = c.requires.at.at.undone; may = c.requires.at.at.may; at = at }) read c.in-Ok.next c.found_at-found.result c.in-Ok.ensures.answer c.place_offset.result c.place_offset.ensures.value c.found_at-found.ensures (sym c.get_earliest.ensures ∙ c.if-get_earliest.true) (some_is c.found_at-found.result c.if-is_some.ensures) few
 
 pub loop-at-preserved : goal.loop-at-preserved
 loop-at-preserved c =
@@ -151,61 +118,19 @@ loop-at-preserved c =
     let more : suc k ≡ c.run-run.result.at + 1 = omega arith in
     record {
       of = c.in-Ok.ensures.of;
-      counted = omega (arith, c.in-Ok.ensures.effect.counted, c.loop-at.invariant.counted, c.run-run.ensures.run.more);
-      grown = grown_trans c.args.cache.now c.loop-at.cache c.read_met.new.cache c.loop-at.invariant.grown c.in-Ok.ensures.effect.grown;
-      idle = λ knows. (
-          let still : KnowsPass d c.args.self.now c.loop-at.cache.store c.args.input.now = knows_still d c.args.self.now c.args.input.now c.args.cache.now c.loop-at.cache c.loop-at.invariant.grown (c.loop-at.invariant.idle knows) knows in
-          let idle = c.in-Ok.ensures.effect.known (knows_here d c.args.self.now c.loop-at.cache.store c.args.input.now k c.run-run.result.id c.run-run.result.found (Some _) still c.requires.at.at.may at few c.in-Ok.ensures.effect.alive read) in
-          idle.0.0 ∙ c.loop-at.invariant.idle knows);
-      learned = λ begin nothing. (
-          let before = c.loop-at.invariant.learned begin (nothing_first c.args.cache.now c.loop-at.cache c.read_met.new.cache c.loop-at.invariant.grown c.in-Ok.ensures.effect.grown nothing) in
-          let after : ClearedNothing c.loop-at.cache.store c.read_met.new.cache.store = nothing_second c.args.cache.now c.loop-at.cache c.read_met.new.cache c.loop-at.invariant.grown c.in-Ok.ensures.effect.grown nothing in
-          let step = learned_step d c.args.self.now c.loop-at.cache c.read_met.new.cache c.args.input.now k c.run-run.result.id (Some _) c.in-Ok.ensures.effect.grown c.in-Ok.ensures.of after before.0
-          (c.run-run.ensures.run.learned before.1) at.named read (c.in-Ok.ensures.effect.learned after) c.in-Ok.ensures.effect.below in
-          (step.0, subst (HasLearned d c.args.self.now c.read_met.new.cache.store c.args.input.now) more step.1));
       within = omega (arith, inside);
-      at = subst (λ n. IsAt d c.args.self.now c.read_met.new.cache.store.table c.args.input.now n c.in-Ok.next c.found_at-found.result) more (more_at d c.args.self.now c.loop-at.cache.store.table c.read_met.new.cache.store.table c.args.input.now k c.run-run.result.id c.in-Ok.next _ c.run-run.result.found c.found_at-found.result at read c.in-Ok.ensures.answer.named (quit_free c.args.self.now _ c.in-Ok.ensures.answer.clean) (c.place_offset.result, c.place_offset.ensures.value, c.found_at-found.ensures) first (λ l. (dead_tagged c.read_met.new.cache.store.table c.in-Ok.next (c.see_bounds.ensures.sound.low c.in-Ok.next) c.see_bounds.ensures.sound.small _ l).1 (λ b. false_true (c.if-is_dead.ensures.1 b))));
-      progress = read_exactly d c.args.self.now c.args.input.now 0 c.args.cache.now.store (c.run-run.result.at + 1) c.read_met.new.cache.store
-          (subst (λ n. AreReadTo d c.args.self.now c.args.input.now 0 n c.args.cache.now.store c.read_met.new.cache.store) more
-          (read_then d c.args.self.now c.args.input.now 0 c.args.cache.now.store c.loop-at.at k c.loop-at.cache.store c.loop-at.invariant.progress c.run-run.ensures.run.more c.run-run.ensures.run.known c.read_met.new.cache.store
-          (taken_here d c.args.self.now c.args.input.now k c.run-run.result.id c.byte_offset-offset.result (Some _) c.loop-at.cache.store at.named read given c.read_met.new.cache.store c.in-Ok.next c.in-Ok.ensures.step.taken)));
+      at = subst (λ n. IsAt d c.args.self.now c.read_met.new.cache.store.table c.args.input.now n c.in-Ok.next c.found_at-found.result) more (more_at d c.args.self.now c.loop-at.cache.store.table c.read_met.new.cache.store.table c.args.input.now k c.run-run.result.id c.in-Ok.next _ c.run-run.result.found c.found_at-found.result at read c.in-Ok.ensures.answer.named (quit_free c.args.self.now _ c.in-Ok.ensures.answer.clean) (c.place_offset.result, c.place_offset.ensures.value, c.found_at-found.ensures) first (λ l. (dead_tagged c.read_met.new.cache.store.table c.in-Ok.next (c.see_bounds-in-loop-at.ensures.sound.low c.in-Ok.next) c.see_bounds-in-loop-at.ensures.sound.small _ l).1 (λ b. false_true (c.if-is_dead.ensures.1 b))));
+      progress = read_exactly d c.args.self.now c.args.input.now 0 c.args.cache.now (c.run-run.result.at + 1) c.read_met.new.cache
+          (subst (λ n. AreReadTo d c.args.self.now c.args.input.now 0 n c.args.cache.now c.read_met.new.cache) more
+          (read_then d c.args.self.now c.args.input.now 0 c.args.cache.now (is_store c.args.cache.now.store c.args.self.now c.requires.of c.see_bounds.ensures.bounds, c.see_bounds.ensures.sound) c.loop-at.at k c.loop-at.cache c.loop-at.invariant.of c.loop-at.invariant.progress c.run-run.ensures.run.more at.clean c.run-run.ensures.run.known c.read_met.new.cache
+          (taken_here d c.args.self.now c.args.input.now k c.run-run.result.id (Some _) read c.byte_offset-offset.result c.loop-at.cache at.named given c.read_met.new.cache c.in-Ok.ensures.effect.taken)));
     }
-
-pub returns-in-Err-clause-effect : goal.returns-in-Err-clause-effect
-returns-in-Err-clause-effect c =
-    let d : Direction = c.args.way in
-    let k : ℕ = c.run-run.result.at in
-    let inside : k < c.args.input.now.end - c.args.input.now.start = omega (arith, c.if-run-last.false, c.last_place-last.ensures.place) in
-    let at : IsAt d c.args.self.now c.loop-at.cache.store.table c.args.input.now k c.run-run.result.id c.run-run.result.found = c.run-run.ensures.at in
-    let read : next (tape_in d c.args.input.now) k ≡ Some c.byte_at-byte.result = c.byte_at-byte.ensures in
-    let few : k ≤ length (tape_in d c.args.input.now).bytes = (let u = units_in d c.args.input.now c.requires.at.at.undone c.last_place-last.ensures.inside in omega (arith, u, inside)) in
-    rest_then d c.args.self.now c.args.input.now k c.args.cache.now c.loop-at.cache c.loop-at.cache c.read_met.new.cache {s = c.loop-at.cache.store.searched} (Err c.in-Err.error) refl (omega (arith, inside))
-    c.loop-at.invariant.grown (omega (arith, c.loop-at.invariant.counted, c.run-run.ensures.run.more)) c.loop-at.invariant.idle (λ begin nothing. (let had = c.loop-at.invariant.learned begin nothing in (had.0, c.run-run.ensures.run.learned had.1)))
-    ((rest_refused d c.args.self.now c.args.input.now k c.run-run.result.id _ c.run-run.result.found c.loop-at.cache c.loop-at.cache c.read_met.new.cache c.read_met.new.cache {s = c.loop-at.cache.store.searched} {s' = c.read_met.new.cache.store.searched} refl refl (record { undone = c.requires.at.at.undone; may = c.requires.at.at.may; at = at }) read c.in-Err.error c.in-Err.ensures.effect (omega (arith, inside)) few))
 
 pub read_met-requires-clause-valid : goal.read_met-requires-clause-valid
 read_met-requires-clause-valid c =
     let d : Direction = c.args.way in
     let at : IsAt d c.args.self.now c.loop-at.cache.store.table c.args.input.now c.run-run.result.at c.run-run.result.id c.run-run.result.found = c.run-run.ensures.at in
     (_, at.named)
-
-pub returns-then-run-last-clause-effect : goal.returns-then-run-last-clause-effect
-returns-then-run-last-clause-effect c =
-    let d : Direction = c.args.way in
-    let same : c.run-run.result.at ≡ c.args.input.now.end - c.args.input.now.start = omega (arith, c.if-run-last.true, c.run-run.ensures.run.within, c.last_place-last.ensures.place) in
-    let k : ℕ = c.args.input.now.end - c.args.input.now.start in
-    rest_then d c.args.self.now c.args.input.now k c.args.cache.now c.loop-at.cache c.loop-at.cache c.find_end.new.cache {s = c.loop-at.cache.store.searched} c.find_end.result refl (omega arith)
-    c.loop-at.invariant.grown (omega (arith, c.loop-at.invariant.counted, c.loop-at.invariant.within)) c.loop-at.invariant.idle (λ begin nothing. (let had = c.loop-at.invariant.learned begin nothing in (had.0, subst (HasLearned d c.args.self.now c.loop-at.cache.store c.args.input.now) same (c.run-run.ensures.run.learned had.1))))
-    c.find_end.ensures.effect
-
-pub returns-clause-effect : goal.returns-clause-effect
-returns-clause-effect c =
-    let d : Direction = c.args.way in
-    let same : c.loop-at.at ≡ c.args.input.now.end - c.args.input.now.start = omega (arith, c.loop-at-test.false, c.loop-at.invariant.within, c.last_place-last.ensures.place) in
-    let k : ℕ = c.args.input.now.end - c.args.input.now.start in
-    rest_then d c.args.self.now c.args.input.now k c.args.cache.now c.loop-at.cache c.loop-at.cache c.find_end-2.new.cache {s = c.loop-at.cache.store.searched} c.find_end-2.result refl (omega arith)
-    c.loop-at.invariant.grown (omega (arith, c.loop-at.invariant.counted, c.loop-at.invariant.within)) c.loop-at.invariant.idle (λ begin nothing. (let had = c.loop-at.invariant.learned begin nothing in (had.0, subst (HasLearned d c.args.self.now c.loop-at.cache.store c.args.input.now) same had.1)))
-    c.find_end-2.ensures.effect
 
 pub returns-in-Err-clause-left : goal.returns-in-Err-clause-left
 returns-in-Err-clause-left c =
@@ -216,14 +141,14 @@ returns-in-Err-clause-left c =
     let given : given_up_offset d c.args.input.now k ≡ c.byte_offset-offset.result = span_unit d c.args.input.now k inside ∙ sym c.byte_offset-offset.ensures.unit in
     let read : next (tape_in d c.args.input.now) k ≡ Some c.byte_at-byte.result = c.byte_at-byte.ensures in
     let few : k ≤ length (tape_in d c.args.input.now).bytes = (let u = units_in d c.args.input.now c.requires.at.at.undone c.last_place-last.ensures.inside in omega (arith, u, inside)) in
-    (pass_stopped d c.args.self.now c.args.input.now k c.args.cache.now.store c.read_met.new.cache.store c.in-Err.error
+    (pass_stopped d c.args.self.now c.args.input.now k c.args.cache.now c.read_met.new.cache c.in-Err.error
     (at_reads d c.args.self.now c.loop-at.cache.store.table c.args.input.now k c.run-run.result.id c.run-run.result.found at few c.in-Err.ensures.effect.alive) at.clean
     (unit_refuses d c.args.self.now c.loop-at.cache.store.table c.read_met.new.cache.store c.args.input.now k c.run-run.result.id c.byte_offset-offset.result c.byte_offset-offset.result _ c.run-run.result.found c.in-Err.error
     at read (sym c.byte_offset-offset.ensures.unit) given c.in-Err.ensures.refusal)
-    (pass_left_then d c.args.self.now c.args.input.now 0 c.args.cache.now.store c.loop-at.at k c.loop-at.cache.store c.loop-at.invariant.progress c.run-run.ensures.run.more c.run-run.ensures.run.known c.read_met.new.cache.store
+    (pass_left_then d c.args.self.now c.args.input.now 0 c.args.cache.now (is_store c.args.cache.now.store c.args.self.now c.requires.of c.see_bounds.ensures.bounds, c.see_bounds.ensures.sound) c.loop-at.at k c.loop-at.cache c.loop-at.invariant.of c.loop-at.invariant.progress c.run-run.ensures.run.more at.clean c.run-run.ensures.run.known c.read_met.new.cache
     (inr (
       not_behind d c.args.input.now k inside (units_in d c.args.input.now c.requires.at.at.undone c.last_place-last.ensures.inside),
-      refused_here d c.args.self.now c.args.input.now k c.run-run.result.id c.byte_offset-offset.result (Some _) c.loop-at.cache.store at.named read given c.read_met.new.cache.store c.in-Err.ensures.step.left,
+      refused_here d c.args.self.now c.args.input.now k c.run-run.result.id (Some _) read c.byte_offset-offset.result c.loop-at.cache at.named given c.read_met.new.cache c.in-Err.ensures.effect.left,
     ))))
 
 pub returns-then-is_dead-clause-ended : goal.returns-then-is_dead-clause-ended
@@ -235,11 +160,11 @@ returns-then-is_dead-clause-ended c =
     let given : given_up_offset d c.args.input.now k ≡ c.byte_offset-offset.result = span_unit d c.args.input.now k inside ∙ sym c.byte_offset-offset.ensures.unit in
     let read : next (tape_in d c.args.input.now) k ≡ Some c.byte_at-byte.result = c.byte_at-byte.ensures in
     let few : k ≤ length (tape_in d c.args.input.now).bytes = (let u = units_in d c.args.input.now c.requires.at.at.undone c.last_place-last.ensures.inside in omega (arith, u, inside)) in
-    let stops : Reads d c.args.self.now c.args.input.now (suc k) → ⊥ = stops_dead d c.args.self.now c.loop-at.cache.store.table c.read_met.new.cache.store.table c.args.input.now k c.run-run.result.id c.in-Ok.next _ c.run-run.result.found None at read c.in-Ok.ensures.answer.named (quit_free c.args.self.now _ c.in-Ok.ensures.answer.clean) (λ l. (dead_tagged c.read_met.new.cache.store.table c.in-Ok.next (c.see_bounds.ensures.sound.low c.in-Ok.next) c.see_bounds.ensures.sound.small _ l).0 (c.if-is_dead.ensures.0 refl)) (suc k) (omega arith) in
-    pass_last d c.args.self.now c.args.input.now k c.args.cache.now.store c.read_met.new.cache.store c.end_search.new.self.store
+    let stops : Reads d c.args.self.now c.args.input.now (suc k) → ⊥ = stops_dead d c.args.self.now c.loop-at.cache.store.table c.read_met.new.cache.store.table c.args.input.now k c.run-run.result.id c.in-Ok.next _ c.run-run.result.found None at read c.in-Ok.ensures.answer.named (quit_free c.args.self.now _ c.in-Ok.ensures.answer.clean) (λ l. (dead_tagged c.read_met.new.cache.store.table c.in-Ok.next (c.see_bounds-in-loop-at.ensures.sound.low c.in-Ok.next) c.see_bounds-in-loop-at.ensures.sound.small _ l).0 (c.if-is_dead.ensures.0 refl)) (suc k) (omega arith) in
+    pass_last d c.args.self.now c.args.input.now k c.args.cache.now c.read_met.new.cache c.end_search.new.self (is_store c.args.cache.now.store c.args.self.now c.requires.of c.see_bounds.ensures.bounds, c.see_bounds.ensures.sound)
     (at_reads d c.args.self.now c.loop-at.cache.store.table c.args.input.now k c.run-run.result.id c.run-run.result.found at few c.in-Ok.ensures.effect.alive) stops
-    (read_then d c.args.self.now c.args.input.now 0 c.args.cache.now.store c.loop-at.at k c.loop-at.cache.store c.loop-at.invariant.progress c.run-run.ensures.run.more c.run-run.ensures.run.known c.read_met.new.cache.store
-    (taken_here d c.args.self.now c.args.input.now k c.run-run.result.id c.byte_offset-offset.result (Some _) c.loop-at.cache.store at.named read given c.read_met.new.cache.store c.in-Ok.next c.in-Ok.ensures.step.taken))
+    (read_then d c.args.self.now c.args.input.now 0 c.args.cache.now (is_store c.args.cache.now.store c.args.self.now c.requires.of c.see_bounds.ensures.bounds, c.see_bounds.ensures.sound) c.loop-at.at k c.loop-at.cache c.loop-at.invariant.of c.loop-at.invariant.progress c.run-run.ensures.run.more at.clean c.run-run.ensures.run.known c.read_met.new.cache
+    (taken_here d c.args.self.now c.args.input.now k c.run-run.result.id (Some _) read c.byte_offset-offset.result c.loop-at.cache at.named given c.read_met.new.cache c.in-Ok.ensures.effect.taken))
     (ended_here d c.args.input.now k c.byte_offset-offset.result c.read_met.new.cache c.end_search.new.self given c.end_search.ensures.value)
 
 pub returns-then-is_some-clause-ended : goal.returns-then-is_some-clause-ended
@@ -252,10 +177,10 @@ returns-then-is_some-clause-ended c =
     let read : next (tape_in d c.args.input.now) k ≡ Some c.byte_at-byte.result = c.byte_at-byte.ensures in
     let few : k ≤ length (tape_in d c.args.input.now).bytes = (let u = units_in d c.args.input.now c.requires.at.at.undone c.last_place-last.ensures.inside in omega (arith, u, inside)) in
     let stops : Reads d c.args.self.now c.args.input.now (suc k) → ⊥ = stops_ends d c.args.self.now c.loop-at.cache.store.table c.read_met.new.cache.store.table c.args.input.now k c.run-run.result.id c.in-Ok.next _ c.run-run.result.found c.found_at-found.result at read c.in-Ok.ensures.answer.named (quit_free c.args.self.now _ c.in-Ok.ensures.answer.clean) (c.place_offset.result, c.place_offset.ensures.value, c.found_at-found.ensures) (sym c.get_earliest.ensures ∙ c.if-get_earliest.true) (some_is c.found_at-found.result c.if-is_some.ensures) (suc k) (omega arith) in
-    pass_last d c.args.self.now c.args.input.now k c.args.cache.now.store c.read_met.new.cache.store c.end_search-then-is_some.new.self.store
+    pass_last d c.args.self.now c.args.input.now k c.args.cache.now c.read_met.new.cache c.end_search-then-is_some.new.self (is_store c.args.cache.now.store c.args.self.now c.requires.of c.see_bounds.ensures.bounds, c.see_bounds.ensures.sound)
     (at_reads d c.args.self.now c.loop-at.cache.store.table c.args.input.now k c.run-run.result.id c.run-run.result.found at few c.in-Ok.ensures.effect.alive) stops
-    (read_then d c.args.self.now c.args.input.now 0 c.args.cache.now.store c.loop-at.at k c.loop-at.cache.store c.loop-at.invariant.progress c.run-run.ensures.run.more c.run-run.ensures.run.known c.read_met.new.cache.store
-    (taken_here d c.args.self.now c.args.input.now k c.run-run.result.id c.byte_offset-offset.result (Some _) c.loop-at.cache.store at.named read given c.read_met.new.cache.store c.in-Ok.next c.in-Ok.ensures.step.taken))
+    (read_then d c.args.self.now c.args.input.now 0 c.args.cache.now (is_store c.args.cache.now.store c.args.self.now c.requires.of c.see_bounds.ensures.bounds, c.see_bounds.ensures.sound) c.loop-at.at k c.loop-at.cache c.loop-at.invariant.of c.loop-at.invariant.progress c.run-run.ensures.run.more at.clean c.run-run.ensures.run.known c.read_met.new.cache
+    (taken_here d c.args.self.now c.args.input.now k c.run-run.result.id (Some _) read c.byte_offset-offset.result c.loop-at.cache at.named given c.read_met.new.cache c.in-Ok.ensures.effect.taken))
     (ended_here d c.args.input.now k c.byte_offset-offset.result c.read_met.new.cache c.end_search-then-is_some.new.self given c.end_search-then-is_some.ensures.value)
 
 pub returns-then-run-last-clause-ended : goal.returns-then-run-last-clause-ended
@@ -266,9 +191,9 @@ returns-then-run-last-clause-ended c =
     let at : IsAt d c.args.self.now c.loop-at.cache.store.table c.args.input.now k c.run-run.result.id c.run-run.result.found = subst (λ k. IsAt d c.args.self.now c.loop-at.cache.store.table c.args.input.now k c.run-run.result.id c.run-run.result.found) same c.run-run.ensures.at in
     let units : k ≡ length (tape_in d c.args.input.now).bytes = units_in d c.args.input.now c.requires.at.at.undone c.last_place-last.ensures.inside in
     IfOk-weaker c.find_end.result _ _
-    (λ _ ended. pass_last d c.args.self.now c.args.input.now k c.args.cache.now.store ended.0 c.find_end.new.cache.store
+    (λ _ ended. pass_last d c.args.self.now c.args.input.now k c.args.cache.now ended.0 c.find_end.new.cache (is_store c.args.cache.now.store c.args.self.now c.requires.of c.see_bounds.ensures.bounds, c.see_bounds.ensures.sound)
     (at_reads d c.args.self.now c.loop-at.cache.store.table c.args.input.now k c.run-run.result.id c.run-run.result.found at (omega (arith, units)) c.find_end.ensures.alive) (λ r. stops_last d c.args.self.now c.args.input.now k units (suc k) (omega arith) r)
-    (read_then d c.args.self.now c.args.input.now 0 c.args.cache.now.store c.loop-at.at k c.loop-at.cache.store c.loop-at.invariant.progress (omega (arith, c.run-run.ensures.run.more, same)) (λ j from below. c.run-run.ensures.run.known j from (omega (arith, below, same))) ended.0 ended.1) ended.2)
+    (read_then d c.args.self.now c.args.input.now 0 c.args.cache.now (is_store c.args.cache.now.store c.args.self.now c.requires.of c.see_bounds.ensures.bounds, c.see_bounds.ensures.sound) c.loop-at.at k c.loop-at.cache c.loop-at.invariant.of c.loop-at.invariant.progress (omega (arith, c.run-run.ensures.run.more, same)) at.clean (λ j from below. c.run-run.ensures.run.known j from (omega (arith, below, same))) ended.0 ended.1) ended.2)
     c.find_end.ensures.progress.ended
 
 pub returns-then-run-last-clause-left : goal.returns-then-run-last-clause-left
@@ -279,9 +204,9 @@ returns-then-run-last-clause-left c =
     let at : IsAt d c.args.self.now c.loop-at.cache.store.table c.args.input.now k c.run-run.result.id c.run-run.result.found = subst (λ k. IsAt d c.args.self.now c.loop-at.cache.store.table c.args.input.now k c.run-run.result.id c.run-run.result.found) same c.run-run.ensures.at in
     let units : k ≡ length (tape_in d c.args.input.now).bytes = units_in d c.args.input.now c.requires.at.at.undone c.last_place-last.ensures.inside in
     if_both c.find_end.result _ _ _
-    (λ error refused left. pass_stopped d c.args.self.now c.args.input.now k c.args.cache.now.store c.find_end.new.cache.store error
+    (λ error refused left. pass_stopped d c.args.self.now c.args.input.now k c.args.cache.now c.find_end.new.cache error
     (at_reads d c.args.self.now c.loop-at.cache.store.table c.args.input.now k c.run-run.result.id c.run-run.result.found at (omega (arith, units)) c.find_end.ensures.alive) at.clean refused
-    (pass_left_then d c.args.self.now c.args.input.now 0 c.args.cache.now.store c.loop-at.at k c.loop-at.cache.store c.loop-at.invariant.progress (omega (arith, c.run-run.ensures.run.more, same)) (λ j from below. c.run-run.ensures.run.known j from (omega (arith, below, same))) c.find_end.new.cache.store left))
+    (pass_left_then d c.args.self.now c.args.input.now 0 c.args.cache.now (is_store c.args.cache.now.store c.args.self.now c.requires.of c.see_bounds.ensures.bounds, c.see_bounds.ensures.sound) c.loop-at.at k c.loop-at.cache c.loop-at.invariant.of c.loop-at.invariant.progress (omega (arith, c.run-run.ensures.run.more, same)) at.clean (λ j from below. c.run-run.ensures.run.known j from (omega (arith, below, same))) c.find_end.new.cache left))
     c.find_end.ensures.refusal c.find_end.ensures.progress.left
 
 pub returns-clause-ended : goal.returns-clause-ended
@@ -292,9 +217,9 @@ returns-clause-ended c =
     let at : IsAt d c.args.self.now c.loop-at.cache.store.table c.args.input.now k c.loop-at.id c.loop-at.found = subst (λ k. IsAt d c.args.self.now c.loop-at.cache.store.table c.args.input.now k c.loop-at.id c.loop-at.found) same c.loop-at.invariant.at in
     let units : k ≡ length (tape_in d c.args.input.now).bytes = units_in d c.args.input.now c.requires.at.at.undone c.last_place-last.ensures.inside in
     IfOk-weaker c.find_end-2.result _ _
-    (λ _ ended. pass_last d c.args.self.now c.args.input.now k c.args.cache.now.store ended.0 c.find_end-2.new.cache.store
+    (λ _ ended. pass_last d c.args.self.now c.args.input.now k c.args.cache.now ended.0 c.find_end-2.new.cache (is_store c.args.cache.now.store c.args.self.now c.requires.of c.see_bounds.ensures.bounds, c.see_bounds.ensures.sound)
     (at_reads d c.args.self.now c.loop-at.cache.store.table c.args.input.now k c.loop-at.id c.loop-at.found at (omega (arith, units)) c.find_end-2.ensures.alive) (λ r. stops_last d c.args.self.now c.args.input.now k units (suc k) (omega arith) r)
-    (read_then d c.args.self.now c.args.input.now 0 c.args.cache.now.store c.loop-at.at k c.loop-at.cache.store c.loop-at.invariant.progress (omega (arith, same)) (λ j from below. absurd (omega (arith, from, below, same))) ended.0 ended.1) ended.2)
+    (read_then d c.args.self.now c.args.input.now 0 c.args.cache.now (is_store c.args.cache.now.store c.args.self.now c.requires.of c.see_bounds.ensures.bounds, c.see_bounds.ensures.sound) c.loop-at.at k c.loop-at.cache c.loop-at.invariant.of c.loop-at.invariant.progress (omega (arith, same)) at.clean (λ j from below. absurd (omega (arith, from, below, same))) ended.0 ended.1) ended.2)
     c.find_end-2.ensures.progress.ended
 
 pub returns-clause-left : goal.returns-clause-left
@@ -305,9 +230,9 @@ returns-clause-left c =
     let at : IsAt d c.args.self.now c.loop-at.cache.store.table c.args.input.now k c.loop-at.id c.loop-at.found = subst (λ k. IsAt d c.args.self.now c.loop-at.cache.store.table c.args.input.now k c.loop-at.id c.loop-at.found) same c.loop-at.invariant.at in
     let units : k ≡ length (tape_in d c.args.input.now).bytes = units_in d c.args.input.now c.requires.at.at.undone c.last_place-last.ensures.inside in
     if_both c.find_end-2.result _ _ _
-    (λ error refused left. pass_stopped d c.args.self.now c.args.input.now k c.args.cache.now.store c.find_end-2.new.cache.store error
+    (λ error refused left. pass_stopped d c.args.self.now c.args.input.now k c.args.cache.now c.find_end-2.new.cache error
     (at_reads d c.args.self.now c.loop-at.cache.store.table c.args.input.now k c.loop-at.id c.loop-at.found at (omega (arith, units)) c.find_end-2.ensures.alive) at.clean refused
-    (pass_left_then d c.args.self.now c.args.input.now 0 c.args.cache.now.store c.loop-at.at k c.loop-at.cache.store c.loop-at.invariant.progress (omega (arith, same)) (λ j from below. absurd (omega (arith, from, below, same))) c.find_end-2.new.cache.store left))
+    (pass_left_then d c.args.self.now c.args.input.now 0 c.args.cache.now (is_store c.args.cache.now.store c.args.self.now c.requires.of c.see_bounds.ensures.bounds, c.see_bounds.ensures.sound) c.loop-at.at k c.loop-at.cache c.loop-at.invariant.of c.loop-at.invariant.progress (omega (arith, same)) at.clean (λ j from below. absurd (omega (arith, from, below, same))) c.find_end-2.new.cache left))
     c.find_end-2.ensures.refusal c.find_end-2.ensures.progress.left
 
 pub returns-then-run-last-clause-refusal : goal.returns-then-run-last-clause-refusal

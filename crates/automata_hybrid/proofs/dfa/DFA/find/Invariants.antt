@@ -1,4 +1,4 @@
-use Rattle.std.proofs.Common.{◌≡◌, ◌≤◌, ◌+◌, ◌-◌}
+use Rattle.std.proofs.Common.{◌≤◌, ◌-◌}
 use Rattle.automata_hybrid.specs.Cache.Caches.{IsCacheOf}
 use Rattle.automata_hybrid.specs.Cache.Growth.{IsGrown, ClearedNothing}
 use Rattle.automata_hybrid.specs.Searches.Cached.{KnowsItsStart, KnowsPass}
@@ -9,13 +9,9 @@ use Rattle.automata_hybrid.proofs.dfa.DFA.find.Given as goal
 abbrev pub invariant-loop-at : goal.invariant-loop-at
 invariant-loop-at l = record {
   of : IsCacheOf l.cache l.self;
-  counted : l.cache.count ≤ l.fn.cache.count + l.at;
   within : l.at ≤ l.last;
-  grown : IsGrown l.fn.cache l.cache;
-  idle : KnowsPass l.way l.self l.fn.cache.store l.input → l.cache.count ≡ l.fn.cache.count;
-  learned : KnowsItsStart l.way l.self l.fn.cache.store l.input → ClearedNothing l.fn.cache.store l.cache.store → KnowsItsStart l.way l.self l.cache.store l.input × HasLearned l.way l.self l.cache.store l.input l.at;
   at : IsAt l.way l.self l.cache.store.table l.input l.at l.id l.found;
-  progress : AreReadBehind l.way l.self l.input 0 l.at l.fn.cache.store l.cache.store;
+  progress : AreReadBehind l.way l.self l.input 0 l.at l.fn.cache l.cache;
 }
 
 abbrev pub decreases-loop-at : goal.decreases-loop-at

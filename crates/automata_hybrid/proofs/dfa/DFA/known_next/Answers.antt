@@ -1,7 +1,6 @@
 use Rattle.std.proofs.Common.{ℕ, ◌≡◌, ◌∙◌, ◌<◌, ◌^◌, Option, Some, ap, subst, sym}
-use Rattle.std.specs.Prelude.{Ok}
-use Rattle.automata_hybrid.specs.Searches.Units.{IsReadEffect}
-use Rattle.automata_hybrid.specs.Steps.Steps.{IsStepAnswer, known_step}
+use Rattle.automata_hybrid.specs.Machines.Machine.{table_stride}
+use Rattle.automata_hybrid.specs.Steps.Steps.{IsStepAnswer, known_step, unit_class}
 use Rattle.automata_hybrid.proofs.dfa.DFA.known_next.Goals as goal
 
 pub returns-clause-value : goal.returns-clause-value
@@ -15,13 +14,9 @@ returns-clause-answer c = λ low.
     (subst (IsStepAnswer c.args.self.now c.args.id (Some c.byte_at.result) c.args.cache.now c.args.cache.now) same
     (c.known_step-next.ensures.answer (subst (λ n. n < 2 ^ 31) (sym same) low)))
 
-pub returns-clause-effect : goal.returns-clause-effect
-returns-clause-effect c = λ low.
-    let same : c.known_step-next.result ≡ c.args.met =
-    c.known_step-next.ensures.value ∙ (ap (known_step c.args.self.now c.args.cache.now.store c.args.id) (sym c.byte_at.ensures) ∙ sym (c.requires.met low).cached) in
-    subst (λ (u : Option ℕ). IsReadEffect c.args.self.now c.args.id u c.args.cache.now c.args.cache.now (Ok c.args.met)) (sym c.byte_at.ensures)
-    (subst (λ n. IsReadEffect c.args.self.now c.args.id (Some c.byte_at.result) c.args.cache.now c.args.cache.now (Ok n)) same
-    (c.known_step-next.ensures.effect (subst (λ n. n < 2 ^ 31) (sym same) low)))
+pub returns-clause-below : goal.returns-clause-below
+returns-clause-below c = λ low.
+    subst (λ (u : Option ℕ). unit_class c.args.self.now u < table_stride c.args.self.now) (sym c.byte_at.ensures) c.known_step-next.ensures.below
 
 pub returns-then-is_unknown-clause-value : goal.returns-then-is_unknown-clause-value
 returns-then-is_unknown-clause-value c = λ low.
@@ -32,7 +27,6 @@ returns-then-is_unknown-clause-answer c = λ low.
     subst (λ (u : Option ℕ). IsStepAnswer c.args.self.now c.args.id u c.args.cache.now c.args.cache.now c.known_step.result) c.unit_at.ensures
     (c.known_step.ensures.answer low)
 
-pub returns-then-is_unknown-clause-effect : goal.returns-then-is_unknown-clause-effect
-returns-then-is_unknown-clause-effect c = λ low.
-    subst (λ (u : Option ℕ). IsReadEffect c.args.self.now c.args.id u c.args.cache.now c.args.cache.now (Ok c.known_step.result)) c.unit_at.ensures
-    (c.known_step.ensures.effect low)
+pub returns-then-is_unknown-clause-below : goal.returns-then-is_unknown-clause-below
+returns-then-is_unknown-clause-below c = λ low.
+    subst (λ (u : Option ℕ). unit_class c.args.self.now u < table_stride c.args.self.now) c.unit_at.ensures c.known_step.ensures.below

@@ -5,7 +5,6 @@ use Rattle.automata_hybrid.specs.Searches.PassContracts.{IsKnownEnd, IsKnownUpto
 use Rattle.automata_hybrid.specs.Searches.Passes.{tape_in}
 use Rattle.automata_hybrid.specs.declared.search.known.Known.{Known}
 use Rattle.automata_hybrid.proofs.Searches.Directions.{units_in}
-use Rattle.automata_hybrid.proofs.Searches.Cached.{learned_none}
 use Rattle.automata_hybrid.proofs.Searches.KnownPasses.{known_dead, known_first, known_last, known_leads, known_more}
 use Rattle.automata_hybrid.proofs.Searches.PassState.{false_true, none_is, some_is}
 use Rattle.automata_hybrid.proofs.Steps.Ids.{dead_clear}
@@ -21,11 +20,10 @@ found_at-found-requires-clause-leads c =
     let upto : IsKnownUpto d c.args.self.now c.args.cache.now.store c.args.input.now k c.run-run.result.id c.run-run.result.found = record {
       within = c.run-run.ensures.run.within;
       at = record { undone = c.requires.at.undone; may = c.requires.at.may; at = c.run-run.ensures.at };
-      learned = c.run-run.ensures.run.learned (learned_none d c.args.self.now c.args.cache.now.store c.args.input.now);
       known = λ j below. c.run-run.ensures.run.known j (omega arith) below;
     } in
     let few : k ≤ length (tape_in d c.args.input.now).bytes = (let u = units_in d c.args.input.now c.requires.at.undone c.last_place-last.ensures.inside in omega (arith, u, upto.within)) in
-    (_, known_leads d c.args.self.now c.args.input.now k c.run-run.result.id c.args.cache.now c.run-run.result.found c.known_next-next.result c.requires.of c.see_bounds.ensures.sound upto few (subst (λ n. n < 2 ^ 31) (c.known_next-next.ensures.value low) low) (c.known_next-next.ensures.answer low) (c.known_next-next.ensures.effect low) (λ b. false_true (c.if-is_quit.ensures.1 b)))
+    (_, known_leads d c.args.self.now c.args.input.now k c.run-run.result.id c.args.cache.now c.run-run.result.found c.known_next-next.result c.requires.of c.see_bounds.ensures.sound upto few (subst (λ n. n < 2 ^ 31) (c.known_next-next.ensures.value low) low) (c.known_next-next.ensures.answer low) (c.known_next-next.ensures.below low) (λ b. false_true (c.if-is_quit.ensures.1 b)))
 
 pub returns-then-is_dead-clause-ended : goal.returns-then-is_dead-clause-ended
 returns-then-is_dead-clause-ended c =
@@ -35,12 +33,11 @@ returns-then-is_dead-clause-ended c =
     let upto : IsKnownUpto d c.args.self.now c.args.cache.now.store c.args.input.now k c.run-run.result.id c.run-run.result.found = record {
       within = c.run-run.ensures.run.within;
       at = record { undone = c.requires.at.undone; may = c.requires.at.may; at = c.run-run.ensures.at };
-      learned = c.run-run.ensures.run.learned (learned_none d c.args.self.now c.args.cache.now.store c.args.input.now);
       known = λ j below. c.run-run.ensures.run.known j (omega arith) below;
     } in
     let few : k ≤ length (tape_in d c.args.input.now).bytes = (let u = units_in d c.args.input.now c.requires.at.undone c.last_place-last.ensures.inside in omega (arith, u, upto.within)) in
     subst (λ (r : Known). r.ended ≡ true → IsKnownEnd d c.args.self.now c.args.cache.now c.args.input.now r.at r.id r.found) (sym c.ended.ensures)
-    (λ _. known_dead d c.args.self.now c.args.input.now k c.run-run.result.id c.args.cache.now c.run-run.result.found c.known_next-next.result c.requires.of c.see_bounds.ensures.sound upto few (subst (λ n. n < 2 ^ 31) (c.known_next-next.ensures.value low) low) (c.known_next-next.ensures.answer low) (c.known_next-next.ensures.effect low) (dead_clear c.args.cache.now c.known_next-next.result (c.known_next-next.ensures.answer low).row (c.see_bounds.ensures.sound.low c.known_next-next.result) c.see_bounds.ensures.sound.small (c.if-is_dead.ensures.0 refl)) (c.if-is_dead.ensures.0 refl))
+    (λ _. known_dead d c.args.self.now c.args.input.now k c.run-run.result.id c.args.cache.now c.run-run.result.found c.known_next-next.result c.requires.of c.see_bounds.ensures.sound upto few (subst (λ n. n < 2 ^ 31) (c.known_next-next.ensures.value low) low) (c.known_next-next.ensures.answer low) (c.known_next-next.ensures.below low) (dead_clear c.args.cache.now c.known_next-next.result (c.known_next-next.ensures.answer low).row (c.see_bounds.ensures.sound.low c.known_next-next.result) c.see_bounds.ensures.sound.small (c.if-is_dead.ensures.0 refl)) (c.if-is_dead.ensures.0 refl))
 
 pub returns-then-run-last-clause-ended : goal.returns-then-run-last-clause-ended
 returns-then-run-last-clause-ended c =
@@ -50,12 +47,11 @@ returns-then-run-last-clause-ended c =
     let upto : IsKnownUpto d c.args.self.now c.args.cache.now.store c.args.input.now k c.run-run.result.id c.run-run.result.found = record {
       within = c.run-run.ensures.run.within;
       at = record { undone = c.requires.at.undone; may = c.requires.at.may; at = c.run-run.ensures.at };
-      learned = c.run-run.ensures.run.learned (learned_none d c.args.self.now c.args.cache.now.store c.args.input.now);
       known = λ j below. c.run-run.ensures.run.known j (omega arith) below;
     } in
     let few : k ≤ length (tape_in d c.args.input.now).bytes = (let u = units_in d c.args.input.now c.requires.at.undone c.last_place-last.ensures.inside in omega (arith, u, upto.within)) in
     subst (λ (r : Known). r.ended ≡ true → IsKnownEnd d c.args.self.now c.args.cache.now c.args.input.now r.at r.id r.found) (sym c.ended-then-run-last.ensures)
-    (λ _. known_last d c.args.self.now c.args.input.now k c.run-run.result.id c.args.cache.now c.run-run.result.found c.known_next-next.result c.requires.of c.see_bounds.ensures.sound upto few (subst (λ n. n < 2 ^ 31) (c.known_next-next.ensures.value low) low) (c.known_next-next.ensures.answer low) (c.known_next-next.ensures.effect low) (λ b. false_true (c.if-is_quit.ensures.1 b)) c.found_at-found.result c.place_offset.result c.place_offset.ensures.value c.found_at-found.ensures (let u = units_in d c.args.input.now c.requires.at.undone c.last_place-last.ensures.inside in omega (arith, u, upto.within, c.if-run-last.true, c.last_place-last.ensures.place)))
+    (λ _. known_last d c.args.self.now c.args.input.now k c.run-run.result.id c.args.cache.now c.run-run.result.found c.known_next-next.result c.requires.of c.see_bounds.ensures.sound upto few (subst (λ n. n < 2 ^ 31) (c.known_next-next.ensures.value low) low) (c.known_next-next.ensures.answer low) (c.known_next-next.ensures.below low) (λ b. false_true (c.if-is_quit.ensures.1 b)) c.found_at-found.result c.place_offset.result c.place_offset.ensures.value c.found_at-found.ensures (let u = units_in d c.args.input.now c.requires.at.undone c.last_place-last.ensures.inside in omega (arith, u, upto.within, c.if-run-last.true, c.last_place-last.ensures.place)))
 
 pub returns-then-is_some-clause-ended : goal.returns-then-is_some-clause-ended
 returns-then-is_some-clause-ended c =
@@ -65,12 +61,11 @@ returns-then-is_some-clause-ended c =
     let upto : IsKnownUpto d c.args.self.now c.args.cache.now.store c.args.input.now k c.run-run.result.id c.run-run.result.found = record {
       within = c.run-run.ensures.run.within;
       at = record { undone = c.requires.at.undone; may = c.requires.at.may; at = c.run-run.ensures.at };
-      learned = c.run-run.ensures.run.learned (learned_none d c.args.self.now c.args.cache.now.store c.args.input.now);
       known = λ j below. c.run-run.ensures.run.known j (omega arith) below;
     } in
     let few : k ≤ length (tape_in d c.args.input.now).bytes = (let u = units_in d c.args.input.now c.requires.at.undone c.last_place-last.ensures.inside in omega (arith, u, upto.within)) in
     subst (λ (r : Known). r.ended ≡ true → IsKnownEnd d c.args.self.now c.args.cache.now c.args.input.now r.at r.id r.found) (sym c.ended-then-is_some.ensures)
-    (λ _. known_first d c.args.self.now c.args.input.now k c.run-run.result.id c.args.cache.now c.run-run.result.found c.known_next-next.result c.requires.of c.see_bounds.ensures.sound upto few (subst (λ n. n < 2 ^ 31) (c.known_next-next.ensures.value low) low) (c.known_next-next.ensures.answer low) (c.known_next-next.ensures.effect low) (λ b. false_true (c.if-is_quit.ensures.1 b)) c.found_at-found.result c.place_offset.result c.place_offset.ensures.value c.found_at-found.ensures (sym c.get_earliest.ensures ∙ c.if-get_earliest.true) (some_is c.found_at-found.result c.if-is_some.ensures))
+    (λ _. known_first d c.args.self.now c.args.input.now k c.run-run.result.id c.args.cache.now c.run-run.result.found c.known_next-next.result c.requires.of c.see_bounds.ensures.sound upto few (subst (λ n. n < 2 ^ 31) (c.known_next-next.ensures.value low) low) (c.known_next-next.ensures.answer low) (c.known_next-next.ensures.below low) (λ b. false_true (c.if-is_quit.ensures.1 b)) c.found_at-found.result c.place_offset.result c.place_offset.ensures.value c.found_at-found.ensures (sym c.get_earliest.ensures ∙ c.if-get_earliest.true) (some_is c.found_at-found.result c.if-is_some.ensures))
 
 pub returns-clause-left : goal.returns-clause-left
 returns-clause-left c =
@@ -80,7 +75,6 @@ returns-clause-left c =
     let upto : IsKnownUpto d c.args.self.now c.args.cache.now.store c.args.input.now k c.run-run.result.id c.run-run.result.found = record {
       within = c.run-run.ensures.run.within;
       at = record { undone = c.requires.at.undone; may = c.requires.at.may; at = c.run-run.ensures.at };
-      learned = c.run-run.ensures.run.learned (learned_none d c.args.self.now c.args.cache.now.store c.args.input.now);
       known = λ j below. c.run-run.ensures.run.known j (omega arith) below;
     } in
     let few : k ≤ length (tape_in d c.args.input.now).bytes = (let u = units_in d c.args.input.now c.requires.at.undone c.last_place-last.ensures.inside in omega (arith, u, upto.within)) in
@@ -93,4 +87,24 @@ returns-clause-left c =
     ] in
     subst (λ (r : Known). r.ended ≡ false → IsKnownUpto d c.args.self.now c.args.cache.now.store c.args.input.now r.at r.id r.found) (sym c.left-2.ensures)
     (λ _. subst (λ n. IsKnownUpto d c.args.self.now c.args.cache.now.store c.args.input.now n c.known_next-next.result c.found_at-found.result) more
-    (known_more d c.args.self.now c.args.input.now k c.run-run.result.id c.args.cache.now c.run-run.result.found c.known_next-next.result c.requires.of c.see_bounds.ensures.sound upto few (subst (λ n. n < 2 ^ 31) (c.known_next-next.ensures.value low) low) (c.known_next-next.ensures.answer low) (c.known_next-next.ensures.effect low) (λ b. false_true (c.if-is_quit.ensures.1 b)) c.found_at-found.result c.place_offset.result c.place_offset.ensures.value c.found_at-found.ensures (λ b. false_true (c.if-is_dead.ensures.1 b)) first less))
+    (known_more d c.args.self.now c.args.input.now k c.run-run.result.id c.args.cache.now c.run-run.result.found c.known_next-next.result c.requires.of c.see_bounds.ensures.sound upto few (subst (λ n. n < 2 ^ 31) (c.known_next-next.ensures.value low) low) (c.known_next-next.ensures.answer low) (c.known_next-next.ensures.below low) (λ b. false_true (c.if-is_quit.ensures.1 b)) c.found_at-found.result c.place_offset.result c.place_offset.ensures.value c.found_at-found.ensures (λ b. false_true (c.if-is_dead.ensures.1 b)) first less))
+
+pub returns-then-is_unknown-clause-left : goal.returns-then-is_unknown-clause-left
+returns-then-is_unknown-clause-left c =
+    let d : Direction = c.args.way in
+    let upto : IsKnownUpto d c.args.self.now c.args.cache.now.store c.args.input.now c.run-run.result.at c.run-run.result.id c.run-run.result.found = record {
+      within = c.run-run.ensures.run.within;
+      at = record { undone = c.requires.at.undone; may = c.requires.at.may; at = c.run-run.ensures.at };
+      known = λ j below. c.run-run.ensures.run.known j (omega arith) below;
+    } in
+    subst (λ (r : Known). r.ended ≡ false → IsKnownUpto d c.args.self.now c.args.cache.now.store c.args.input.now r.at r.id r.found) (sym c.left.ensures) (λ _. upto)
+
+pub returns-then-is_quit-clause-left : goal.returns-then-is_quit-clause-left
+returns-then-is_quit-clause-left c =
+    let d : Direction = c.args.way in
+    let upto : IsKnownUpto d c.args.self.now c.args.cache.now.store c.args.input.now c.run-run.result.at c.run-run.result.id c.run-run.result.found = record {
+      within = c.run-run.ensures.run.within;
+      at = record { undone = c.requires.at.undone; may = c.requires.at.may; at = c.run-run.ensures.at };
+      known = λ j below. c.run-run.ensures.run.known j (omega arith) below;
+    } in
+    subst (λ (r : Known). r.ended ≡ false → IsKnownUpto d c.args.self.now c.args.cache.now.store c.args.input.now r.at r.id r.found) (sym c.left-then-is_quit.ensures) (λ _. upto)

@@ -1,9 +1,7 @@
-use Rattle.std.proofs.Common.{◌∙◌, ◌<◌, ◌^◌, ap, subst, refl}
-use Rattle.automata_hybrid.specs.Cache.Stores.{cell_of}
+use Rattle.std.proofs.Common.{◌<◌, subst}
 use Rattle.automata_hybrid.specs.Machines.Machine.{Machine, table_stride}
 use Rattle.automata_hybrid.specs.Machines.OwnStates.{IsOwn}
-use Rattle.automata_hybrid.proofs.Searches.Reads.{read_answered}
-use Rattle.automata_hybrid.proofs.Steps.Steps.{known_answer, same_effect}
+use Rattle.automata_hybrid.proofs.Steps.Steps.{known_answer}
 use Rattle.automata_hybrid.proofs.dfa.DFA.known_step.Goals as goal
 
 pub returns-clause-answer : goal.returns-clause-answer
@@ -13,9 +11,5 @@ returns-clause-answer c = λ low.
     c.cell.ensures.value c.cell.ensures.named (c.see_bounds.ensures.sound.low c.args.id c.requires.valid.0 c.requires.valid.1) low c.cell.ensures.tag
     (λ q n. c.unit_class.ensures.alike q (subst (λ (d : Machine). IsOwn d.nfa q) c.requires.of (c.see_bounds.ensures.sound.own c.args.id q n)))
 
-pub returns-clause-effect : goal.returns-clause-effect
-returns-clause-effect c = λ low.
-    read_answered c.args.self.now c.args.id c.args.unit c.args.cache.now c.args.cache.now c.args.cache.now {s = c.args.cache.now.store.searched} refl
-    (c.see_bounds.ensures.sound.alive c.args.id) (subst (λ n. n < table_stride c.args.self.now) c.unit_class.ensures.value c.unit_class.ensures.below)
-    (same_effect c.args.self.now c.args.id c.args.unit c.args.cache.now (λ _. subst (λ n. n < 2 ^ 31) (c.cell.ensures.value ∙ ap (cell_of c.args.cache.now.store c.args.id) c.unit_class.ensures.value) low))
-    c.cell.result c.cell.result (c.see_bounds.ensures.sound.low c.args.id c.requires.valid.0 c.requires.valid.1) (returns-clause-answer c low)
+pub returns-clause-below : goal.returns-clause-below
+returns-clause-below c = subst (λ n. n < table_stride c.args.self.now) c.unit_class.ensures.value c.unit_class.ensures.below

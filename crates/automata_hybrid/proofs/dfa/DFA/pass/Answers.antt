@@ -1,20 +1,22 @@
-use Rattle.std.proofs.Common.{Option, ◌≡◌, ◌∙◌, ◌+◌, ◌<◌, ◌≤◌, ◌^◌, None, inr, length, ap, subst, sym, refl, arith}
+use Rattle.std.proofs.Common.{Option, ◌≡◌, ◌∙◌, ◌+◌, ◌<◌, ◌^◌, None, inr, length, ap, subst, sym, refl, arith}
 use Rattle.std.proofs.lemmas.Grind.{common_steps}
 use Rattle.std.specs.Prelude.{Err, Ok}
 use Rattle.automata_hybrid.specs.Searches.Passes.{IsPassRefusal}
 use Rattle.automata_base.specs.Haystacks.Input.{Allows, Input}
 use Rattle.automata_base.specs.Haystacks.Matches.{HalfMatch}
 use Rattle.automata_base.specs.declared.util.search.Direction.{Direction}
-use Rattle.automata_hybrid.specs.Cache.Caches.{CacheView, with_store}
+use Rattle.automata_hybrid.specs.Cache.Caches.{CacheView, with_store, IsSoundOf}
 use Rattle.automata_hybrid.specs.Cache.Progress.{saturated, progress_started, total_len}
 use Rattle.automata_hybrid.specs.Cache.Stores.{Stored, with_searched}
 use Rattle.automata_hybrid.specs.Machines.Machine.{Machine, slot_count}
 use Rattle.automata_hybrid.specs.Searches.PassContracts.{IsKnownUpto, IsPassEffect, IsRestEffect}
-use Rattle.automata_hybrid.specs.Searches.Progress.{EndsAtLast, IsStoppedAt, with_search_begun}
+use Rattle.automata_hybrid.specs.Searches.Progress.{EndsAtLast, IsStoppedAt, with_search_begun, IsPassRun}
 use Rattle.automata_hybrid.specs.Searches.Passes.{tape_in}
+use Rattle.automata_hybrid.specs.Calls.Events.{Begin, with_progress}
 use Rattle.automata_hybrid.proofs.Searches.Directions.{begins_alive}
-use Rattle.automata_hybrid.proofs.Searches.KnownPasses.{known_ended, known_rest}
-use Rattle.automata_hybrid.proofs.Searches.PassContracts.{pass_rest, same_input}
+use Rattle.automata_hybrid.proofs.Searches.KnownPasses.{known_ended}
+use Rattle.automata_hybrid.proofs.Searches.PassContracts.{same_input}
+use Rattle.automata_hybrid.proofs.Searches.Contracts.{is_store}
 use Rattle.automata_hybrid.proofs.Searches.PassState.{starts_at}
 use Rattle.automata_hybrid.proofs.Searches.UnitsRead.{start_had}
 use Rattle.automata_hybrid.proofs.Steps.Ids.{low_bit}
@@ -38,20 +40,18 @@ returns-then-known-clause-effect c =
     let d : Direction = c.args.way in
     let low : c.known_start-start.result < 2 ^ 31 = grind (arith, common_steps, c.if-is_fixed.ensures) in
     let slots : length c.args.cache.now.store.starts ≡ slot_count c.args.self.now = c.see_bounds.ensures.bounds.slots ∙ ap (λ (d : Machine). slot_count d) c.requires.of in
-    let a = c.known_start-start.ensures.answer low in
-    let e = c.known_start-start.ensures.effect low in
-    let had = start_had d c.args.self.now c.args.input.now c.args.cache.now c.args.cache.now c.known_start-start.result slots e a in
+    let sound : IsSoundOf c.args.cache.now.store c.args.self.now = (is_store c.args.cache.now.store c.args.self.now c.requires.of c.see_bounds.ensures.bounds, c.see_bounds.ensures.sound) in
     let end = c.known_pass-known.ensures.ended c.if-known.true in
-    let few : c.known_pass-known.result.at ≤ length (tape_in d c.args.input.now).bytes = end.reads.0 in
     let counted = subst (λ n. c.count_search.new.self ≡ with_store c.args.cache.now (with_searched c.args.cache.now.store (record { bytes = saturated (total_len c.args.cache.now.store.searched + n); running = None })))
     c.bytes_read.ensures c.count_search.ensures.value in
-    pass_rest d c.args.self.now c.args.input.now c.known_start-start.result c.args.cache.now c.args.cache.now c.args.cache.now c.count_search.new.self {s = c.args.cache.now.store.searched} _ slots a e refl
-    (known_rest d c.args.self.now c.args.input.now c.known_pass-known.result.at c.known_pass-known.result.id c.args.cache.now c.known_pass-known.result.found c.count_search.new.self end counted c.requires.of few) (
-      c.args.cache.now.store,
-      had,
-      inr (c.if-keeps_none.ensures.no refl, known_ended d c.args.self.now c.args.input.now c.known_pass-known.result.at c.known_pass-known.result.id c.args.cache.now c.known_pass-known.result.found c.count_search.new.self end counted),
-    )
-    tt
+    record {
+      ended = (
+        c.args.cache.now,
+        start_had d c.args.self.now c.args.input.now c.args.cache.now c.args.cache.now c.known_start-start.result slots sound (c.known_start-start.ensures.effect low) (c.known_start-start.ensures.answer low),
+        inr (c.if-keeps_none.ensures.no refl, known_ended d c.args.self.now c.args.input.now c.known_pass-known.result.at c.known_pass-known.result.id c.args.cache.now c.known_pass-known.result.found c.count_search.new.self end sound counted),
+      );
+      left = tt;
+    }
 
 pub rest-requires-clause-at : goal.rest-requires-clause-at
 rest-requires-clause-at c =
@@ -61,7 +61,7 @@ rest-requires-clause-at c =
     let upto =
     subst (λ (o : Option HalfMatch). IsKnownUpto d c.args.self.now c.search_start.new.self.store c.args.input.now c.known_pass-known.result.at c.known_pass-known.result.id o) (sym c.again-before.ensures)
     (subst (λ (v : CacheView). IsKnownUpto d c.args.self.now v.store c.args.input.now c.known_pass-known.result.at c.known_pass-known.result.id c.known_pass-known.result.found) (sym c.search_start.ensures.value)
-    (record { within = k.within; at = k.at; learned = k.learned; known = k.known })) in record {
+    (record { within = k.within; at = k.at; known = k.known })) in record {
       allowed = subst (λ (i : Input). Allows i.haystack i.start i.end) (sym same) c.get_span-2.ensures.within;
       upto = subst (λ (i : Input). IsKnownUpto d c.args.self.now c.search_start.new.self.store i c.known_pass-known.result.at c.known_pass-known.result.id c.again-before.result) (sym same) upto;
     }
@@ -79,50 +79,49 @@ returns-in-Ok-rest-clause-effect c =
     let d : Direction = c.args.way in
     let low : c.known_start-start.result < 2 ^ 31 = grind (arith, common_steps, c.if-is_fixed.ensures) in
     let slots : length c.args.cache.now.store.starts ≡ slot_count c.args.self.now = c.see_bounds.ensures.bounds.slots ∙ ap (λ (d : Machine). slot_count d) c.requires.of in
-    let a = c.known_start-start.ensures.answer low in
-    let e = c.known_start-start.ensures.effect low in
-    let had = start_had d c.args.self.now c.args.input.now c.args.cache.now c.args.cache.now c.known_start-start.result slots e a in
-    let begins : c.search_start.new.self.store ≡ with_search_begun d c.args.input.now 0 c.args.cache.now.store =
-    subst (λ at. c.search_start.new.self.store ≡ with_searched c.args.cache.now.store (progress_started c.args.cache.now.store.searched at)) c.span_offset.ensures.value (ap (λ (v : CacheView). v.store) c.search_start.ensures.value) in
-    pass_rest d c.args.self.now c.args.input.now c.known_start-start.result c.args.cache.now c.args.cache.now c.search_start.new.self c.rest.new.cache (Ok c.in-Ok-rest.found) slots a e c.search_start.ensures.value
-    (subst (λ (i : Input). IsRestEffect d c.args.self.now i 0 c.search_start.new.self c.rest.new.cache (Ok c.in-Ok-rest.found)) (same_input c.args.input.now c.haystack-2.result.now c.get_span-2.result c.get_anchored-2.result c.get_earliest-2.result c.haystack-2.ensures.same c.get_span-2.ensures.start c.get_span-2.ensures.end c.get_anchored-2.ensures c.get_earliest-2.ensures) c.in-Ok-rest.ensures.effect) (
-      c.args.cache.now.store,
-      had,
-      inr (
-        c.if-keeps_none.ensures.no refl,
-        subst (λ (v : Stored). EndsAtLast d c.args.self.now c.args.input.now v c.rest.new.cache.store) begins
-            (subst (λ (i : Input). EndsAtLast d c.args.self.now i c.search_start.new.self.store c.rest.new.cache.store) (same_input c.args.input.now c.haystack-2.result.now c.get_span-2.result c.get_anchored-2.result c.get_earliest-2.result c.haystack-2.ensures.same c.get_span-2.ensures.start c.get_span-2.ensures.end c.get_anchored-2.ensures c.get_earliest-2.ensures) c.in-Ok-rest.ensures.ended),
-      ),
-    )
-    tt
+    let sound : IsSoundOf c.args.cache.now.store c.args.self.now = (is_store c.args.cache.now.store c.args.self.now c.requires.of c.see_bounds.ensures.bounds, c.see_bounds.ensures.sound) in
+    let had = start_had d c.args.self.now c.args.input.now c.args.cache.now c.args.cache.now c.known_start-start.result slots sound (c.known_start-start.ensures.effect low) (c.known_start-start.ensures.answer low) in
+    let begins : c.search_start.new.self ≡ with_search_begun d c.args.input.now 0 c.args.cache.now =
+    subst (λ at. c.search_start.new.self ≡ with_progress (Begin at) c.args.cache.now) c.span_offset.ensures.value c.search_start.ensures.value in
+    record {
+      ended = (
+        c.args.cache.now,
+        had,
+        inr (
+          c.if-keeps_none.ensures.no refl,
+          subst (λ (v : CacheView). EndsAtLast d c.args.self.now c.args.input.now v c.rest.new.cache) begins
+              (subst (λ (i : Input). EndsAtLast d c.args.self.now i c.search_start.new.self c.rest.new.cache) (same_input c.args.input.now c.haystack-2.result.now c.get_span-2.result c.get_anchored-2.result c.get_earliest-2.result c.haystack-2.ensures.same c.get_span-2.ensures.start c.get_span-2.ensures.end c.get_anchored-2.ensures c.get_earliest-2.ensures) c.in-Ok-rest.ensures.ended),
+        ),
+      );
+      left = tt;
+    }
 
 pub returns-in-Err-rest-clause-effect : goal.returns-in-Err-rest-clause-effect
 returns-in-Err-rest-clause-effect c =
     let d : Direction = c.args.way in
     let low : c.known_start-start.result < 2 ^ 31 = grind (arith, common_steps, c.if-is_fixed.ensures) in
     let slots : length c.args.cache.now.store.starts ≡ slot_count c.args.self.now = c.see_bounds.ensures.bounds.slots ∙ ap (λ (d : Machine). slot_count d) c.requires.of in
-    let a = c.known_start-start.ensures.answer low in
-    let e = c.known_start-start.ensures.effect low in
-    let had = start_had d c.args.self.now c.args.input.now c.args.cache.now c.args.cache.now c.known_start-start.result slots e a in
-    let begins : c.search_start.new.self.store ≡ with_search_begun d c.args.input.now 0 c.args.cache.now.store =
-    subst (λ at. c.search_start.new.self.store ≡ with_searched c.args.cache.now.store (progress_started c.args.cache.now.store.searched at)) c.span_offset.ensures.value (ap (λ (v : CacheView). v.store) c.search_start.ensures.value) in
-    pass_rest d c.args.self.now c.args.input.now c.known_start-start.result c.args.cache.now c.args.cache.now c.search_start.new.self c.rest.new.cache (Err c.in-Err-rest.error) slots a e c.search_start.ensures.value
-    (subst (λ (i : Input). IsRestEffect {T = Option HalfMatch} d c.args.self.now i 0 c.search_start.new.self c.rest.new.cache (Err c.in-Err-rest.error)) (same_input c.args.input.now c.haystack-2.result.now c.get_span-2.result c.get_anchored-2.result c.get_earliest-2.result c.haystack-2.ensures.same c.get_span-2.ensures.start c.get_span-2.ensures.end c.get_anchored-2.ensures c.get_earliest-2.ensures) c.in-Err-rest.ensures.effect)
-    tt
-    (inr (
-      c.args.cache.now.store,
-      had,
-      inr (
-        c.if-keeps_none.ensures.no refl,
-        subst (λ (v : Stored). IsStoppedAt d c.args.self.now c.args.input.now v c.rest.new.cache.store c.in-Err-rest.error) begins
-            (subst (λ (i : Input). IsStoppedAt d c.args.self.now i c.search_start.new.self.store c.rest.new.cache.store c.in-Err-rest.error) (same_input c.args.input.now c.haystack-2.result.now c.get_span-2.result c.get_anchored-2.result c.get_earliest-2.result c.haystack-2.ensures.same c.get_span-2.ensures.start c.get_span-2.ensures.end c.get_anchored-2.ensures c.get_earliest-2.ensures) c.in-Err-rest.ensures.left),
-      ),
-    ))
+    let sound : IsSoundOf c.args.cache.now.store c.args.self.now = (is_store c.args.cache.now.store c.args.self.now c.requires.of c.see_bounds.ensures.bounds, c.see_bounds.ensures.sound) in
+    let had = start_had d c.args.self.now c.args.input.now c.args.cache.now c.args.cache.now c.known_start-start.result slots sound (c.known_start-start.ensures.effect low) (c.known_start-start.ensures.answer low) in
+    let begins : c.search_start.new.self ≡ with_search_begun d c.args.input.now 0 c.args.cache.now =
+    subst (λ at. c.search_start.new.self ≡ with_progress (Begin at) c.args.cache.now) c.span_offset.ensures.value c.search_start.ensures.value in
+    record {
+      ended = tt;
+      left = inr (
+        c.args.cache.now,
+        had,
+        inr (
+          c.if-keeps_none.ensures.no refl,
+          subst (λ (v : CacheView). IsStoppedAt d c.args.self.now c.args.input.now v c.rest.new.cache c.in-Err-rest.error) begins
+              (subst (λ (i : Input). IsStoppedAt d c.args.self.now i c.search_start.new.self c.rest.new.cache c.in-Err-rest.error) (same_input c.args.input.now c.haystack-2.result.now c.get_span-2.result c.get_anchored-2.result c.get_earliest-2.result c.haystack-2.ensures.same c.get_span-2.ensures.start c.get_span-2.ensures.end c.get_anchored-2.ensures c.get_earliest-2.ensures) c.in-Err-rest.ensures.left),
+        ),
+      );
+    }
 
 pub returns-in-Ok-clause-effect : goal.returns-in-Ok-clause-effect
 returns-in-Ok-clause-effect c =
-    subst (λ (i : Input). IsPassEffect {T = Option HalfMatch} c.args.way c.args.self.now i c.args.cache.now c.begin_of.new.cache (Ok c.in-Ok.found)) (same_input c.args.input.now c.haystack.result.now c.get_span.result c.get_anchored.result c.get_earliest.result c.haystack.ensures.same c.get_span.ensures.start c.get_span.ensures.end c.get_anchored.ensures c.get_earliest.ensures) c.in-Ok.ensures.effect
+    subst (λ (i : Input). IsPassRun {T = Option HalfMatch} c.args.way c.args.self.now i c.args.cache.now c.begin_of.new.cache (Ok c.in-Ok.found)) (same_input c.args.input.now c.haystack.result.now c.get_span.result c.get_anchored.result c.get_earliest.result c.haystack.ensures.same c.get_span.ensures.start c.get_span.ensures.end c.get_anchored.ensures c.get_earliest.ensures) c.in-Ok.ensures.effect
 
 pub returns-in-Err-clause-effect : goal.returns-in-Err-clause-effect
 returns-in-Err-clause-effect c =
-    subst (λ (i : Input). IsPassEffect {T = Option HalfMatch} c.args.way c.args.self.now i c.args.cache.now c.begin_of.new.cache (Err c.in-Err.error)) (same_input c.args.input.now c.haystack.result.now c.get_span.result c.get_anchored.result c.get_earliest.result c.haystack.ensures.same c.get_span.ensures.start c.get_span.ensures.end c.get_anchored.ensures c.get_earliest.ensures) c.in-Err.ensures.effect
+    subst (λ (i : Input). IsPassRun {T = Option HalfMatch} c.args.way c.args.self.now i c.args.cache.now c.begin_of.new.cache (Err c.in-Err.error)) (same_input c.args.input.now c.haystack.result.now c.get_span.result c.get_anchored.result c.get_earliest.result c.haystack.ensures.same c.get_span.ensures.start c.get_span.ensures.end c.get_anchored.ensures c.get_earliest.ensures) c.in-Err.ensures.effect

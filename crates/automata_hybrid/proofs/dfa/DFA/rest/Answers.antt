@@ -3,7 +3,7 @@ use Rattle.automata_base.specs.declared.util.search.Direction.{Direction}
 use Rattle.automata_base.specs.declared.util.search.Direction.TheVariants.{Forward, Backward}
 use Rattle.std.specs.Prelude.{IfErr, IfOk, OnOk}
 use Rattle.automata_base.specs.Haystacks.Input.{Input}
-use Rattle.automata_hybrid.specs.Searches.PassContracts.{IsPassAnswer, IsRestEffect, input_at}
+use Rattle.automata_hybrid.specs.Searches.PassContracts.{IsPassAnswer, input_at}
 use Rattle.automata_hybrid.specs.Searches.Passes.{IsPassRefusal}
 use Rattle.automata_hybrid.specs.Searches.Progress.{EndsAtLast, IsStoppedAt}
 use Rattle.automata_hybrid.proofs.dfa.DFA.rest.Goals as goal
@@ -18,20 +18,15 @@ returns-in-Forward-clause-refusal c =
     subst (λ (w : Direction). IfErr c.find.result (IsPassRefusal w c.args.self.now c.find.new.cache.store (input_at c.args.haystack.now c.args.span c.args.anchored c.args.earliest))) (sym c.in-Forward.is)
     (subst (λ (i : Input). IfErr c.find.result (IsPassRefusal Forward c.args.self.now c.find.new.cache.store i)) c.input_of-own.ensures c.find.ensures.refusal)
 
-pub returns-in-Forward-clause-effect : goal.returns-in-Forward-clause-effect
-returns-in-Forward-clause-effect c =
-    subst (λ (w : Direction). IsRestEffect w c.args.self.now (input_at c.args.haystack.now c.args.span c.args.anchored c.args.earliest) 0 c.args.cache.now c.find.new.cache c.find.result) (sym c.in-Forward.is)
-    (subst (λ (i : Input). IsRestEffect Forward c.args.self.now i 0 c.args.cache.now c.find.new.cache c.find.result) c.input_of-own.ensures c.find.ensures.effect)
-
 pub returns-in-Forward-clause-ended : goal.returns-in-Forward-clause-ended
 returns-in-Forward-clause-ended c =
-    subst (λ (w : Direction). OnOk c.find.result (EndsAtLast w c.args.self.now (input_at c.args.haystack.now c.args.span c.args.anchored c.args.earliest) c.args.cache.now.store c.find.new.cache.store)) (sym c.in-Forward.is)
-    (subst (λ (i : Input). OnOk c.find.result (EndsAtLast Forward c.args.self.now i c.args.cache.now.store c.find.new.cache.store)) c.input_of-own.ensures c.find.ensures.ended)
+    subst (λ (w : Direction). OnOk c.find.result (EndsAtLast w c.args.self.now (input_at c.args.haystack.now c.args.span c.args.anchored c.args.earliest) c.args.cache.now c.find.new.cache)) (sym c.in-Forward.is)
+    (subst (λ (i : Input). OnOk c.find.result (EndsAtLast Forward c.args.self.now i c.args.cache.now c.find.new.cache)) c.input_of-own.ensures c.find.ensures.ended)
 
 pub returns-in-Forward-clause-left : goal.returns-in-Forward-clause-left
 returns-in-Forward-clause-left c =
-    subst (λ (w : Direction). IfErr c.find.result (IsStoppedAt w c.args.self.now (input_at c.args.haystack.now c.args.span c.args.anchored c.args.earliest) c.args.cache.now.store c.find.new.cache.store)) (sym c.in-Forward.is)
-    (subst (λ (i : Input). IfErr c.find.result (IsStoppedAt Forward c.args.self.now i c.args.cache.now.store c.find.new.cache.store)) c.input_of-own.ensures c.find.ensures.left)
+    subst (λ (w : Direction). IfErr c.find.result (IsStoppedAt w c.args.self.now (input_at c.args.haystack.now c.args.span c.args.anchored c.args.earliest) c.args.cache.now c.find.new.cache)) (sym c.in-Forward.is)
+    (subst (λ (i : Input). IfErr c.find.result (IsStoppedAt Forward c.args.self.now i c.args.cache.now c.find.new.cache)) c.input_of-own.ensures c.find.ensures.left)
 
 pub returns-in-Backward-clause-answer : goal.returns-in-Backward-clause-answer
 returns-in-Backward-clause-answer c =
@@ -43,17 +38,12 @@ returns-in-Backward-clause-refusal c =
     subst (λ (w : Direction). IfErr c.find-in-Backward.result (IsPassRefusal w c.args.self.now c.find-in-Backward.new.cache.store (input_at c.args.haystack.now c.args.span c.args.anchored c.args.earliest))) (sym c.in-Backward.is)
     (subst (λ (i : Input). IfErr c.find-in-Backward.result (IsPassRefusal Backward c.args.self.now c.find-in-Backward.new.cache.store i)) c.input_of-own.ensures c.find-in-Backward.ensures.refusal)
 
-pub returns-in-Backward-clause-effect : goal.returns-in-Backward-clause-effect
-returns-in-Backward-clause-effect c =
-    subst (λ (w : Direction). IsRestEffect w c.args.self.now (input_at c.args.haystack.now c.args.span c.args.anchored c.args.earliest) 0 c.args.cache.now c.find-in-Backward.new.cache c.find-in-Backward.result) (sym c.in-Backward.is)
-    (subst (λ (i : Input). IsRestEffect Backward c.args.self.now i 0 c.args.cache.now c.find-in-Backward.new.cache c.find-in-Backward.result) c.input_of-own.ensures c.find-in-Backward.ensures.effect)
-
 pub returns-in-Backward-clause-ended : goal.returns-in-Backward-clause-ended
 returns-in-Backward-clause-ended c =
-    subst (λ (w : Direction). OnOk c.find-in-Backward.result (EndsAtLast w c.args.self.now (input_at c.args.haystack.now c.args.span c.args.anchored c.args.earliest) c.args.cache.now.store c.find-in-Backward.new.cache.store)) (sym c.in-Backward.is)
-    (subst (λ (i : Input). OnOk c.find-in-Backward.result (EndsAtLast Backward c.args.self.now i c.args.cache.now.store c.find-in-Backward.new.cache.store)) c.input_of-own.ensures c.find-in-Backward.ensures.ended)
+    subst (λ (w : Direction). OnOk c.find-in-Backward.result (EndsAtLast w c.args.self.now (input_at c.args.haystack.now c.args.span c.args.anchored c.args.earliest) c.args.cache.now c.find-in-Backward.new.cache)) (sym c.in-Backward.is)
+    (subst (λ (i : Input). OnOk c.find-in-Backward.result (EndsAtLast Backward c.args.self.now i c.args.cache.now c.find-in-Backward.new.cache)) c.input_of-own.ensures c.find-in-Backward.ensures.ended)
 
 pub returns-in-Backward-clause-left : goal.returns-in-Backward-clause-left
 returns-in-Backward-clause-left c =
-    subst (λ (w : Direction). IfErr c.find-in-Backward.result (IsStoppedAt w c.args.self.now (input_at c.args.haystack.now c.args.span c.args.anchored c.args.earliest) c.args.cache.now.store c.find-in-Backward.new.cache.store)) (sym c.in-Backward.is)
-    (subst (λ (i : Input). IfErr c.find-in-Backward.result (IsStoppedAt Backward c.args.self.now i c.args.cache.now.store c.find-in-Backward.new.cache.store)) c.input_of-own.ensures c.find-in-Backward.ensures.left)
+    subst (λ (w : Direction). IfErr c.find-in-Backward.result (IsStoppedAt w c.args.self.now (input_at c.args.haystack.now c.args.span c.args.anchored c.args.earliest) c.args.cache.now c.find-in-Backward.new.cache)) (sym c.in-Backward.is)
+    (subst (λ (i : Input). IfErr c.find-in-Backward.result (IsStoppedAt Backward c.args.self.now i c.args.cache.now c.find-in-Backward.new.cache)) c.input_of-own.ensures c.find-in-Backward.ensures.left)

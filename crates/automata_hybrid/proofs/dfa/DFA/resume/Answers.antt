@@ -1,5 +1,6 @@
 use Rattle.std.proofs.Common.{ℕ, ◌≡◌, ◌∙◌, Option, Some, ap}
 use Rattle.automata_hybrid.specs.Machines.Machine.{Machine, slot_count}
+use Rattle.automata_hybrid.proofs.Searches.Contracts.{is_store}
 use Rattle.automata_hybrid.proofs.Walks.Parts.{back_effect, back_refusal, row_effect, start_answer, start_effect, start_refusal}
 use Rattle.automata_hybrid.specs.Searches.Passes.{given_up_offset}
 use Rattle.automata_hybrid.specs.Searches.PassState.{step_refusal}
@@ -9,18 +10,19 @@ use Rattle.automata_hybrid.proofs.dfa.DFA.resume.Goals as goal
 
 pub returns-then-is_fresh-clause-answer : goal.returns-then-is_fresh-clause-answer
 returns-then-is_fresh-clause-answer c =
-    start_answer c.args.way c.args.self.now c.args.input.now c.args.walk.now c.args.cache.now c.walk_start.new.cache c.walk_start.result
-    (c.is_fresh.ensures.yes c.if-is_fresh.true) c.requires.walk.reported c.walk_start.ensures.answer
+    start_answer c.args.way c.args.self.now c.args.input.now c.args.walk.now c.args.cache.now c.walk_start-start.new.cache c.walk_start-start.result
+    (c.is_fresh.ensures.yes c.if-is_fresh.true) c.requires.walk.reported c.walk_start-start.ensures.answer
 
 pub returns-then-is_fresh-clause-refusal : goal.returns-then-is_fresh-clause-refusal
 returns-then-is_fresh-clause-refusal c =
-    start_refusal c.args.way c.args.self.now c.args.input.now c.args.walk.now c.args.cache.now c.walk_start.new.cache c.walk_start.result
-    (c.is_fresh.ensures.yes c.if-is_fresh.true) c.walk_start.ensures.refusal
+    start_refusal c.args.way c.args.self.now c.args.input.now c.args.walk.now c.args.cache.now c.walk_start-start.new.cache c.walk_start-start.result
+    (c.is_fresh.ensures.yes c.if-is_fresh.true) c.walk_start-start.ensures.refusal
 
 pub returns-then-is_fresh-clause-effect : goal.returns-then-is_fresh-clause-effect
 returns-then-is_fresh-clause-effect c =
-    start_effect c.args.way c.args.self.now c.args.input.now c.args.walk.now c.args.cache.now c.walk_start.new.cache c.walk_start.result
-    (c.is_fresh.ensures.yes c.if-is_fresh.true) c.requires.walk.reported c.walk_start.ensures.answer (c.see_bounds.ensures.bounds.slots ∙ ap (λ (m : Machine). slot_count m) c.requires.of) c.walk_start.ensures.refusal c.walk_start.ensures.effect
+    start_effect c.args.way c.args.self.now c.args.input.now c.args.walk.now c.args.cache.now c.walk_start-start.new.cache c.walk_start-start.result
+    (c.is_fresh.ensures.yes c.if-is_fresh.true) c.requires.walk.reported c.walk_start-start.ensures.answer (c.see_bounds.ensures.bounds.slots ∙ ap (λ (m : Machine). slot_count m) c.requires.of)
+    (is_store c.walk_start-start.new.cache.store c.args.self.now c.walk_start-start.ensures.of c.see_bounds-then-is_fresh.ensures.bounds, c.see_bounds-then-is_fresh.ensures.sound) c.walk_start-start.ensures.refusal c.walk_start-start.ensures.effect
 
 pub returns-in-Ok-clause-effect : goal.returns-in-Ok-clause-effect
 returns-in-Ok-clause-effect c =

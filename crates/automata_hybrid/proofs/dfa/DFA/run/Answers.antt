@@ -1,7 +1,7 @@
 use Rattle.std.proofs.Common.{suc, ◌≡◌, ◌∙◌, ◌-◌, Some, ap, sym, arith}
 use Rattle.automata_base.specs.Haystacks.Matches.{HalfMatch}
 use Rattle.automata_hybrid.specs.Cache.Table.{Rows}
-use Rattle.automata_hybrid.proofs.Searches.Runs.{first_half, followed_at, followed_known, followed_learned, known_after}
+use Rattle.automata_hybrid.proofs.Searches.Runs.{first_half, followed_at, followed_known, known_after}
 use Rattle.automata_hybrid.proofs.Searches.Runs.{matched_at}
 use Rattle.automata_hybrid.proofs.Steps.Ids.{Leads-Names}
 use Rattle.automata_hybrid.proofs.dfa.DFA.run.Goals as goal
@@ -16,7 +16,6 @@ returns-then-get_earliest-clause-run c =
       more = followed.more;
       within = c.follow-quiet.ensures.within;
       known = followed_known followed;
-      learned = followed_learned followed;
     }
 
 pub returns-then-not-has_only-clause-at : goal.returns-then-not-has_only-clause-at
@@ -29,7 +28,6 @@ returns-then-not-has_only-clause-run c =
       more = followed.more;
       within = c.follow-quiet.ensures.within;
       known = followed_known followed;
-      learned = followed_learned followed;
     }
 
 pub returns-clause-at : goal.returns-clause-at
@@ -51,5 +49,4 @@ returns-clause-run c =
       more = omega (arith, followed.more, matches.more);
       within = c.follow_matches-stop.ensures.run.within;
       known = known_after followed matches;
-      learned = λ learned. followed_learned matches (followed_learned followed learned);
     }

@@ -11,10 +11,12 @@ use Rattle.automata_hybrid.specs.Searches.Contracts.{IsSearchEffect, based_half}
 use Rattle.automata_hybrid.specs.Searches.Costs.{IsCostOfPasses, IsCostUpto}
 use Rattle.automata_hybrid.specs.Searches.Passes.{Finds, IsFound, IsRefused, Skips, with_base}
 use Rattle.automata_hybrid.proofs.Cache.Growth.{grown_same}
+use Rattle.automata_hybrid.specs.Searches.PassContracts.{input_at}
+use Rattle.automata_hybrid.specs.Searches.Progress.{HaveTried, IsSearchRun}
 use Rattle.automata_hybrid.proofs.Searches.Directions.{later_none}
 use Rattle.automata_hybrid.proofs.Searches.PassContracts.{same_input}
 use Rattle.automata_hybrid.proofs.Searches.Skips.{finds_none, finds_some, none_stops, refuses, some_stops}
-use Rattle.automata_hybrid.proofs.Searches.SpanEffects.{effect_after, effect_refused, spans_cost}
+use Rattle.automata_hybrid.proofs.Searches.SpanRuns.{run_after, run_refused, spans_run}
 use Rattle.automata_hybrid.proofs.dfa.DFA.search.Goals as goal
 
 pub returns-in-Ok-clause-found : goal.returns-in-Ok-clause-found
@@ -23,11 +25,14 @@ returns-in-Ok-clause-found c =
 
 pub returns-in-Ok-clause-effect : goal.returns-in-Ok-clause-effect
 returns-in-Ok-clause-effect c =
-    subst (λ (i : Input). IsSearchEffect {T = Option (HalfMatch × ℕ)} c.args.way c.args.self.now i c.args.cache.now c.search_skipping.new.cache (Ok c.in-Ok.found)) (same_input c.args.input.now c.haystack.result.now c.get_span.result c.get_anchored.result c.get_earliest.result c.haystack.ensures.same c.get_span.ensures.start c.get_span.ensures.end c.get_anchored.ensures c.get_earliest.ensures) c.in-Ok.ensures.effect
+    subst (λ (i : Input). IsSearchRun {T = Option (HalfMatch × ℕ)} c.args.way c.args.self.now i c.args.cache.now c.search_skipping.new.cache (Ok c.in-Ok.found)) (same_input c.args.input.now c.haystack.result.now c.get_span.result c.get_anchored.result c.get_earliest.result c.haystack.ensures.same c.get_span.ensures.start c.get_span.ensures.end c.get_anchored.ensures c.get_earliest.ensures) c.in-Ok.ensures.effect
 
 pub returns-in-Ok-clause-upto : goal.returns-in-Ok-clause-upto
 returns-in-Ok-clause-upto c = λ forward.
-    subst (λ (i : Input). IfSome c.in-Ok.found (λ p. IsCostUpto c.args.self.now i p.1 c.args.cache.now c.search_skipping.new.cache)) (same_input c.args.input.now c.haystack.result.now c.get_span.result c.get_anchored.result c.get_earliest.result c.haystack.ensures.same c.get_span.ensures.start c.get_span.ensures.end c.get_anchored.ensures c.get_earliest.ensures) (c.in-Ok.ensures.upto forward)
+    let base : c.get_span.result.start ≡ c.args.input.now.start = c.get_span.ensures.start in
+    subst (λ (i : Input). IfSome c.in-Ok.found (λ p. HaveTried Forward c.args.self.now i (p.1 - c.args.input.now.start + 1) c.args.cache.now c.search_skipping.new.cache)) (same_input c.args.input.now c.haystack.result.now c.get_span.result c.get_anchored.result c.get_earliest.result c.haystack.ensures.same c.get_span.ensures.start c.get_span.ensures.end c.get_anchored.ensures c.get_earliest.ensures)
+    (subst (λ n. IfSome c.in-Ok.found (λ p. HaveTried Forward c.args.self.now (input_at c.haystack.result.now c.get_span.result c.get_anchored.result c.get_earliest.result) (p.1 - n + 1) c.args.cache.now c.search_skipping.new.cache)) base
+    (c.in-Ok.ensures.upto forward))
 
 pub returns-in-Err-clause-refusal : goal.returns-in-Err-clause-refusal
 returns-in-Err-clause-refusal c =
@@ -35,7 +40,7 @@ returns-in-Err-clause-refusal c =
 
 pub returns-in-Err-clause-effect : goal.returns-in-Err-clause-effect
 returns-in-Err-clause-effect c =
-    subst (λ (i : Input). IsSearchEffect {T = Option (HalfMatch × ℕ)} c.args.way c.args.self.now i c.args.cache.now c.search_skipping.new.cache (Err c.in-Err.error)) (same_input c.args.input.now c.haystack.result.now c.get_span.result c.get_anchored.result c.get_earliest.result c.haystack.ensures.same c.get_span.ensures.start c.get_span.ensures.end c.get_anchored.ensures c.get_earliest.ensures) c.in-Err.ensures.effect
+    subst (λ (i : Input). IsSearchRun {T = Option (HalfMatch × ℕ)} c.args.way c.args.self.now i c.args.cache.now c.search_skipping.new.cache (Err c.in-Err.error)) (same_input c.args.input.now c.haystack.result.now c.get_span.result c.get_anchored.result c.get_earliest.result c.haystack.ensures.same c.get_span.ensures.start c.get_span.ensures.end c.get_anchored.ensures c.get_earliest.ensures) c.in-Err.ensures.effect
 
 pub returns-in-Ok-Some-clause-found : goal.returns-in-Ok-Some-clause-found
 returns-in-Ok-Some-clause-found c =
@@ -55,8 +60,8 @@ returns-in-Ok-Some-clause-effect c =
     let ahead : c.args.input.now.start ≤ c.args.input.now.end = grind (arith, common_steps, c.if-is_done.ensures) in
     let within : c.args.input.now.start + 0 ≤ c.args.input.now.end = omega (arith, ahead) in
     let tries : Tries (Finds d c.args.self.now) (Skips c.args.self.now) d c.args.input.now 0 = (inl refl, λ j less. absurd (omega (arith, less))) in
-    effect_after d c.args.self.now c.args.input.now 0 tries c.args.cache.now c.args.cache.now (grown_same c.args.cache.now c.args.cache.now refl) (λ knows. refl) (λ nothing j less. absurd (omega (arith, less))) (record { each = refl; most = omega arith; started = λ begins. omega arith }) refl
-    c.args.input.now same within c.pass.new.cache _ c.in-Ok-Some.ensures.effect _
+    run_after d c.args.self.now c.args.input.now 0 tries c.args.cache.now c.args.cache.now refl
+    c.args.input.now same within c.pass.new.cache _ c.in-Ok-Some.ensures.effect.ended
     (λ j less tried past. some_stops d c.args.self.now c.args.input.now c.args.input.now 0 same tries within c.in-Ok-Some.half (sym c.in-Ok-Some.field-0-is ∙ c.in-Ok-Some.ensures.answer.found) (λ skips. absurd (c.if-skips.ensures.no refl skips)) j less tried)
 
 pub returns-in-Ok-Some-clause-upto : goal.returns-in-Ok-Some-clause-upto
@@ -67,10 +72,10 @@ returns-in-Ok-Some-clause-upto c = λ forward.
     let within : c.args.input.now.start + 0 ≤ c.args.input.now.end = omega (arith, ahead) in
     let tries : Tries (Finds d c.args.self.now) (Skips c.args.self.now) d c.args.input.now 0 = (inl refl, λ j less. absurd (omega (arith, less))) in
     let base : 1 ≡ c.start.result - c.args.input.now.start + 1 = omega (arith, c.start.ensures.start) in
-    subst (λ n. IsCostOfPasses Forward c.args.self.now c.args.input.now n c.args.cache.now c.pass.new.cache) base
-    (subst (λ (e : Direction). IsCostOfPasses e c.args.self.now c.args.input.now 1 c.args.cache.now c.pass.new.cache) forward
-    (spans_cost d c.args.self.now c.args.input.now 0 tries c.args.cache.now c.args.cache.now (grown_same c.args.cache.now c.args.cache.now refl) (λ knows. refl) (λ nothing j less. absurd (omega (arith, less))) (record { each = refl; most = omega arith; started = λ begins. omega arith }) refl
-    c.args.input.now same within c.pass.new.cache _ c.in-Ok-Some.ensures.effect))
+    subst (λ n. HaveTried Forward c.args.self.now c.args.input.now n c.args.cache.now c.pass.new.cache) base
+    (subst (λ (e : Direction). HaveTried e c.args.self.now c.args.input.now 1 c.args.cache.now c.pass.new.cache) forward
+    (spans_run d c.args.self.now c.args.input.now 0 tries c.args.cache.now c.args.cache.now refl
+    c.args.input.now same within c.pass.new.cache c.in-Ok-Some.ensures.effect.ended))
 
 pub returns-in-Ok-None-clause-found : goal.returns-in-Ok-None-clause-found
 returns-in-Ok-None-clause-found c =
@@ -88,8 +93,8 @@ returns-in-Ok-None-clause-effect c =
     let ahead : c.args.input.now.start ≤ c.args.input.now.end = grind (arith, common_steps, c.if-is_done.ensures) in
     let within : c.args.input.now.start + 0 ≤ c.args.input.now.end = omega (arith, ahead) in
     let tries : Tries (Finds d c.args.self.now) (Skips c.args.self.now) d c.args.input.now 0 = (inl refl, λ j less. absurd (omega (arith, less))) in
-    effect_after d c.args.self.now c.args.input.now 0 tries c.args.cache.now c.args.cache.now (grown_same c.args.cache.now c.args.cache.now refl) (λ knows. refl) (λ nothing j less. absurd (omega (arith, less))) (record { each = refl; most = omega arith; started = λ begins. omega arith }) refl
-    c.args.input.now same within c.pass.new.cache _ c.in-Ok-None.ensures.effect _
+    run_after d c.args.self.now c.args.input.now 0 tries c.args.cache.now c.args.cache.now refl
+    c.args.input.now same within c.pass.new.cache _ c.in-Ok-None.ensures.effect.ended
     (λ j less tried past. none_stops d c.args.self.now c.args.input.now c.args.input.now 0 same tries within (sym c.in-Ok-None.field-0-is ∙ c.in-Ok-None.ensures.answer.found) j less tried)
 
 pub returns-in-Err-pass-clause-refusal : goal.returns-in-Err-pass-clause-refusal
@@ -108,5 +113,5 @@ returns-in-Err-pass-clause-effect c =
     let ahead : c.args.input.now.start ≤ c.args.input.now.end = grind (arith, common_steps, c.if-is_done.ensures) in
     let within : c.args.input.now.start + 0 ≤ c.args.input.now.end = omega (arith, ahead) in
     let tries : Tries (Finds d c.args.self.now) (Skips c.args.self.now) d c.args.input.now 0 = (inl refl, λ j less. absurd (omega (arith, less))) in
-    effect_refused d c.args.self.now c.args.input.now 0 tries c.args.cache.now c.args.cache.now (grown_same c.args.cache.now c.args.cache.now refl) (λ knows. refl) (λ nothing j less. absurd (omega (arith, less))) (record { each = refl; most = omega arith; started = λ begins. omega arith }) refl
-    c.args.input.now same within c.pass.new.cache c.in-Err-pass.error c.in-Err-pass.ensures.effect
+    run_refused d c.args.self.now c.args.input.now 0 tries c.args.cache.now c.args.cache.now refl
+    c.args.input.now same within c.pass.new.cache c.in-Err-pass.error c.in-Err-pass.ensures.effect.left

@@ -1,14 +1,11 @@
 use Rattle.std.proofs.Common.{false, ◌≡◌, ◌≤◌, ◌+◌, ◌-◌}
 use Rattle.automata_base.specs.Answers.Answers.{Tries, later}
 use Rattle.automata_hybrid.specs.Cache.Caches.{IsCacheOf}
-use Rattle.automata_hybrid.specs.Cache.Growth.{IsGrown, ClearedNothing}
-use Rattle.automata_hybrid.specs.Searches.Cached.{Knows}
 use Rattle.automata_hybrid.specs.Searches.Progress.{HaveEnded}
 use Rattle.automata_hybrid.specs.Searches.Passes.{Finds, Skips}
 use Rattle.automata_hybrid.specs.Machines.StartSlots.{supports}
 use Rattle.automata_hybrid.proofs.Searches.Costs.{AreCounted}
 use Rattle.automata_hybrid.proofs.Searches.Directions.{skipped}
-use Rattle.automata_hybrid.proofs.Searches.Cached.{LearnedSpans}
 use Rattle.automata_hybrid.proofs.dfa.DFA.search_spans.Given as goal
 
 abbrev pub invariant-loop-later : goal.invariant-loop-later
@@ -17,12 +14,7 @@ invariant-loop-later l = record {
   few : l.later.end + 1 - l.later.start ≤ l.input.end + 1 - l.input.start;
   same : l.later ≡ later l.way (skipped l.input l.later) l.input;
   first : supports l.self l.input.anchored ≡ false → skipped l.input l.later ≡ 0;
-  grown : IsGrown l.fn.cache l.cache;
-  known : Knows l.way l.self l.fn.cache.store l.input → l.cache.count ≡ l.fn.cache.count;
-  learned : ClearedNothing l.fn.cache.store l.cache.store → LearnedSpans l.way l.self l.cache.store l.input (skipped l.input l.later);
-  bounded : AreCounted l.way l.self l.input (skipped l.input l.later) l.fn.cache l.cache;
-  done : skipped l.input l.later ≡ 0 → l.cache ≡ l.fn.cache;
-  progress : HaveEnded l.way l.self l.input (skipped l.input l.later) l.fn.cache.store l.cache.store;
+  progress : HaveEnded l.way l.self l.input (skipped l.input l.later) l.fn.cache l.cache;
   tries : Tries (Finds l.way l.self) (Skips l.self) l.way l.input (skipped l.input l.later);
 }
 

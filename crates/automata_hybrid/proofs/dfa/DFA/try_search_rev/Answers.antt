@@ -8,8 +8,9 @@ use Rattle.automata_base.specs.Answers.Within.{ReportedLiesWithin}
 use Rattle.automata_config.specs.Options.{match_kind_of}
 use Rattle.automata_hybrid.specs.Searches.Contracts.{IsHalf, IsSearchEffect, halves}
 use Rattle.automata_hybrid.specs.Searches.Passes.{IsFound, IsRefused, WithoutBase}
+use Rattle.automata_hybrid.proofs.Searches.Follows.{search_follows}
 use Rattle.automata_hybrid.proofs.Searches.Reach.{refused_memory}
-use Rattle.automata_hybrid.proofs.Searches.Contracts.{halves_effect, halves_err, halves_ok}
+use Rattle.automata_hybrid.proofs.Searches.Contracts.{halves_effect, halves_err, halves_ok, is_store}
 use Rattle.automata_hybrid.proofs.Searches.Skips.{found_reported}
 use Rattle.automata_hybrid.proofs.Searches.Bounds.{lies_in}
 use Rattle.automata_hybrid.proofs.dfa.DFA.try_search_rev.Goals as goal
@@ -57,9 +58,6 @@ returns-clause-refusal c =
 pub returns-clause-effect : goal.returns-clause-effect
 returns-clause-effect c =
     subst (λ v. IsSearchEffect Backward c.args.self.now c.args.input.now c.args.cache.now c.search-found.new.cache v) (sym c.without_base.ensures)
-    (halves_effect Backward c.args.self.now c.args.input.now c.args.cache.now c.search-found.new.cache c.search-found.result c.search-found.ensures.effect)
-
-pub returns-clause-found : goal.returns-clause-found
-returns-clause-found c =
-    subst (λ v. IfOk v (WithoutBase (IsFound Backward c.args.self.now c.args.input.now))) (sym c.without_base.ensures)
-    (halves_ok (IsFound Backward c.args.self.now c.args.input.now) c.search-found.result c.search-found.ensures.found)
+    (halves_effect Backward c.args.self.now c.args.input.now c.args.cache.now c.search-found.new.cache c.search-found.result
+    (search_follows Backward c.args.self.now c.args.input.now c.args.cache.now c.search-found.new.cache c.search-found.result
+    (is_store c.args.cache.now.store c.args.self.now c.requires c.see_bounds.ensures.bounds, c.see_bounds.ensures.sound) c.search-found.ensures.effect))

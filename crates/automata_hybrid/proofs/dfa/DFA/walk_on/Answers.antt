@@ -11,10 +11,12 @@ use Rattle.automata_hybrid.specs.Machines.Machine.{Machine}
 use Rattle.automata_hybrid.specs.Walks.Contracts.{IsCallEffect}
 use Rattle.automata_hybrid.specs.Cache.Progress.{progress_started}
 use Rattle.automata_hybrid.specs.Walks.Parts.{IsAdvanceEffect, IsCallAnswer, IsCallRefused}
-use Rattle.automata_hybrid.specs.Searches.Progress.{with_search_begun}
+use Rattle.automata_hybrid.specs.Searches.Progress.{HasEndedAfter, with_search_begun}
+use Rattle.automata_hybrid.specs.Calls.Events.{Begin, with_progress}
+use Rattle.automata_hybrid.proofs.Searches.Contracts.{is_store}
 use Rattle.automata_hybrid.specs.Walks.Progress.{IsCallStopped}
 use Rattle.automata_hybrid.specs.Searches.Passes.{HasReadNoQuit, given_up_offset, state_in, tape_in}
-use Rattle.automata_hybrid.specs.Cache.Stores.{Stored, with_searched}
+use Rattle.automata_hybrid.specs.Cache.Stores.{with_searched}
 use Rattle.automata_hybrid.specs.Cache.Table.{Rows, Leads, Names}
 use Rattle.automata_hybrid.specs.Walks.Answers.{Arrives, Finishes, HasItsState, HasReportedBy, IsAdvanceRefusal, IsArrival}
 use Rattle.automata_hybrid.specs.Walks.State.{Holds, Ids, IsHeldAt, Stage, Walk, ended_walk, keeping_of}
@@ -25,7 +27,7 @@ use Rattle.automata_hybrid.proofs.Searches.Reads.{at_err}
 use Rattle.automata_hybrid.proofs.Searches.Skips.{skips_or_not}
 use Rattle.automata_hybrid.proofs.Walks.Parts.{known_refusal, refused_on}
 use Rattle.automata_hybrid.proofs.Walks.Progress.{call_leaves, reads_some, step_refuses}
-use Rattle.automata_hybrid.proofs.Searches.UnitsRead.{ended_here}
+use Rattle.automata_hybrid.proofs.Searches.UnitsRead.{ended_after, ended_here}
 use Rattle.automata_hybrid.proofs.Searches.PassState.{dead_more, if_err}
 use Rattle.automata_hybrid.proofs.Steps.Ids.{dead_tagged}
 use Rattle.automata_hybrid.proofs.Walks.Calls.{clean_here, ended_at, next_finishes, reported_here, walk_clears_none}
@@ -109,8 +111,8 @@ returns-then-is_dead-clause-effect c =
     let same : c.end.new.self ≡ ended_walk w w.units = c.end.ensures ∙ ap (ended_walk w) c.units-then-is_dead.ensures in
     let leads : Leads c.search_start.new.self.store.table c.in_ok-from.from (state_in d m input w.units) = subst (λ (t : Rows). Leads t c.in_ok-from.from (state_in d m input w.units)) (sym c.search_start.ensures.table) c.in_ok-from.ensures.answer.leads in
     let dies : state_in d m input w.units ≡ dead = (dead_tagged c.search_start.new.self.store.table c.in_ok-from.from (c.see_bounds.ensures.sound.low c.in_ok-from.from) c.see_bounds.ensures.sound.small _ leads).0 (c.if-is_dead.ensures.0 refl) in
-    let begins : c.search_start.new.self.store ≡ with_search_begun d input w.units between.store =
-    subst (λ at. c.search_start.new.self.store ≡ with_searched between.store (progress_started between.store.searched at)) first (ap (λ (v : CacheView). v.store) c.search_start.ensures.value) in
+    let begins : c.search_start.new.self ≡ with_search_begun d input w.units between =
+    subst (λ at. c.search_start.new.self ≡ with_progress (Begin at) between) first c.search_start.ensures.value in
     let moved : IsGrown between new = grown_trans between c.search_start.new.self new
     (grown_moved between c.search_start.new.self c.search_start.ensures.value)
     (grown_moved c.search_start.new.self new c.end_search.ensures.value) in
@@ -139,17 +141,16 @@ returns-then-is_dead-clause-effect c =
           ((there (has_state d m old.store input w.stage all.0)).idle (count ∙ ap (λ (v : CacheView). v.count) still.0), tt));
       ended = inr (
         reads_some input w r,
-        between.store,
+        between,
         0,
         e.resumed,
         omega arith,
         (λ k more less. absurd (omega (arith, more, less)), λ ended. (refl, λ reads. reads.1 dies)),
-        (
-          c.search_start.new.self.store,
-          begins,
-          ended_here d input (w.units + (0 - 1)) c.span_offset-place.result c.search_start.new.self new
-              (ap (given_up_offset d input) (omega arith) ∙ sym first) c.end_search.ensures.value,
-        ),
+        subst (λ (v : CacheView). HasEndedAfter d m input w.units 0 v new) begins
+            (ended_after d m input w.units 0 c.search_start.new.self c.search_start.new.self new
+            (is_store c.search_start.new.self.store c.args.self.now (ap (λ (t : Rows). t.of) c.search_start.ensures.table ∙ c.in_ok-from.ensures.of) c.see_bounds.ensures.bounds, c.see_bounds.ensures.sound) refl
+            (ended_here d input (w.units + (0 - 1)) c.span_offset-place.result c.search_start.new.self new
+            (ap (given_up_offset d input) (omega arith) ∙ sym first) c.end_search.ensures.value)),
       );
       left = tt;
       ready = λ none. absurd (reads_some input w r none);
@@ -179,15 +180,15 @@ returns-in_err-arrival-clause-effect c =
     let begun : CacheView = c.search_start.new.self in
     let new : CacheView = c.advance.new.cache in
     let first : c.span_offset-place.result ≡ given_up_offset d input w.units = c.span_offset-place.ensures.value ∙ ap (given_up_offset d input) c.units.ensures in
-    let begins : begun.store ≡ with_search_begun d input w.units between.store =
-    subst (λ at. begun.store ≡ with_searched between.store (progress_started between.store.searched at)) first (ap (λ (v : CacheView). v.store) c.search_start.ensures.value) in
+    let begins : begun ≡ with_search_begun d input w.units between =
+    subst (λ at. begun ≡ with_progress (Begin at) between) first c.search_start.ensures.value in
     let began : IsGrown between begun = grown_moved between begun c.search_start.ensures.value in
     let moved : IsGrown between new = grown_trans between begun new began a.grown in
     let grown = grown_after old between new e.grown moved in
     let there : HasItsState old.store.table w.stage → IsGrown old new = (λ there. grown_trans old between new (e.there there) moved) in
-    let left : IsCallStopped Ids d m input w.units (with_search_begun d input w.units between.store) new.store c.in_err-arrival.field-0.0 =
-    subst (λ (b : Stored). IsCallStopped Ids d m input w.units b new.store c.in_err-arrival.field-0.0) begins
-    (subst (λ n. IsCallStopped Ids d m input n begun.store new.store c.in_err-arrival.field-0.0) c.units-2.ensures a.left) in
+    let left : IsCallStopped Ids d m input w.units (with_search_begun d input w.units between) new c.in_err-arrival.field-0.0 =
+    subst (λ (b : CacheView). IsCallStopped Ids d m input w.units b new c.in_err-arrival.field-0.0) begins
+    (subst (λ n. IsCallStopped Ids d m input n begun new c.in_err-arrival.field-0.0) c.units-2.ensures a.left) in
     at_err c.from_residual-in_err-arrival.result _ (λ (x : Result (Unit {0}) SearchError). IsCallEffect (keeping_of c.args.held.now) d m input w w old new x) c.from_residual-in_err-arrival.ensures.1
     (record {
       rises = tt;
@@ -214,9 +215,9 @@ returns-in_err-arrival-clause-effect c =
       ended = tt;
       left =
           inr (
-            between.store,
+            between,
             e.resumed,
-            call_leaves (keeping_of c.args.held.now) d m input w.units (with_search_begun d input w.units between.store) new.store c.in_err-arrival.field-0.0 left,
+            call_leaves (keeping_of c.args.held.now) d m input w.units (with_search_begun d input w.units between) new c.in_err-arrival.field-0.0 left,
           );
       ready = λ none. absurd (reads_some input w r none);
     })
@@ -246,7 +247,7 @@ returns-in_default-clause-answer c =
       there = λ there. tt;
       learned =
           learned_on d m input w c.in_ok-from.from c.args.cache.now c.resume.new.cache c.search_start.new.self c.advance.new.cache
-          c.span_offset-place.ensures.inside (skips_or_not c.skips-skips.result c.skips-skips.ensures.yes c.skips-skips.ensures.no) c.requires.walk.reported r c.in_ok-from.ensures.effect c.in_ok-from.ensures.answer begins arrival advanced arrives
+          c.span_offset-place.ensures.inside (skips_or_not c.skips-skips.result c.skips-skips.ensures.yes c.skips-skips.ensures.no) c.requires.walk.reported r c.in_ok-from.ensures.effect c.in_ok-from.ensures.answer begins (is_store c.search_start.new.self.store c.args.self.now (ap (λ (t : Rows). t.of) c.search_start.ensures.table ∙ c.in_ok-from.ensures.of) c.see_bounds.ensures.bounds, c.see_bounds.ensures.sound) arrival advanced arrives
           arrival.units c.end_search-in_default.new.self refl c.end_search-in_default.ensures.value;
     })
 
@@ -269,7 +270,7 @@ returns-in_default-clause-effect c =
     let finish : Finishes d m input w.units arrival.units = subst (λ (o : Option ℕ). IsArrival d m c.advance.new.cache.store.table input w.units o arrival.units) c.in_default.«is» arrives in
     subst (λ (x : Walk). IsCallEffect {T = Unit {0}} (keeping_of c.args.held.now) d m input w x c.args.cache.now c.end_search-in_default.new.self (Ok tt)) (sym ended)
     (effect_on d m input w c.in_ok-from.from c.args.cache.now c.resume.new.cache c.search_start.new.self c.advance.new.cache
-    c.span_offset-place.ensures.inside (skips_or_not c.skips-skips.result c.skips-skips.ensures.yes c.skips-skips.ensures.no) c.requires.walk.reported r c.in_ok-from.ensures.effect c.in_ok-from.ensures.answer begins arrival advanced arrives
+    c.span_offset-place.ensures.inside (skips_or_not c.skips-skips.result c.skips-skips.ensures.yes c.skips-skips.ensures.no) c.requires.walk.reported r c.in_ok-from.ensures.effect c.in_ok-from.ensures.answer begins (is_store c.search_start.new.self.store c.args.self.now (ap (λ (t : Rows). t.of) c.search_start.ensures.table ∙ c.in_ok-from.ensures.of) c.see_bounds.ensures.bounds, c.see_bounds.ensures.sound) arrival advanced arrives
     (keeping_of c.args.held.now) (ended_walk w arrival.units) c.end_search-in_default.new.self c.span_offset-last.result refl c.span_offset-last.ensures.value c.end_search-in_default.ensures.value
     (λ e. (
       refl,
@@ -295,7 +296,7 @@ returns-in_err-move_to-clause-refusal c =
     if_err c.from_residual-in_err-move_to.result search.OutOfMemory _ c.from_residual-in_err-move_to.ensures.1
     (subst (λ k. IsCallRefused k d m input w c.advance.new.cache.store search.OutOfMemory) (sym c.in_err-move_to.ensures.refused)
     (refused_unheld d m input w c.in_ok-from.from c.args.cache.now c.resume.new.cache c.search_start.new.self c.advance.new.cache
-    c.span_offset-place.ensures.inside (skips_or_not c.skips-skips.result c.skips-skips.ensures.yes c.skips-skips.ensures.no) c.requires.walk.reported r c.in_ok-from.ensures.effect c.in_ok-from.ensures.answer begins arrival advanced arrives c.in-Some.id arrived))
+    c.span_offset-place.ensures.inside (skips_or_not c.skips-skips.result c.skips-skips.ensures.yes c.skips-skips.ensures.no) c.requires.walk.reported r c.in_ok-from.ensures.effect c.in_ok-from.ensures.answer begins (is_store c.search_start.new.self.store c.args.self.now (ap (λ (t : Rows). t.of) c.search_start.ensures.table ∙ c.in_ok-from.ensures.of) c.see_bounds.ensures.bounds, c.see_bounds.ensures.sound) arrival advanced arrives c.in-Some.id arrived))
 
 pub returns-in_err-move_to-clause-effect : goal.returns-in_err-move_to-clause-effect
 returns-in_err-move_to-clause-effect c =
@@ -316,7 +317,7 @@ returns-in_err-move_to-clause-effect c =
     at_err c.from_residual-in_err-move_to.result search.OutOfMemory (λ (x : Result (Unit {0}) SearchError). IsCallEffect (keeping_of c.args.held.now) d m input w w c.args.cache.now c.advance.new.cache x) c.from_residual-in_err-move_to.ensures.1
     (subst (λ k. IsCallEffect {T = Unit {0}} k d m input w w c.args.cache.now c.advance.new.cache (Err search.OutOfMemory)) (sym c.in_err-move_to.ensures.refused)
     (effect_unheld d m input w c.in_ok-from.from c.args.cache.now c.resume.new.cache c.search_start.new.self c.advance.new.cache
-    c.span_offset-place.ensures.inside (skips_or_not c.skips-skips.result c.skips-skips.ensures.yes c.skips-skips.ensures.no) c.requires.walk.reported r c.in_ok-from.ensures.effect c.in_ok-from.ensures.answer begins arrival advanced arrives c.in-Some.id arrived w))
+    c.span_offset-place.ensures.inside (skips_or_not c.skips-skips.result c.skips-skips.ensures.yes c.skips-skips.ensures.no) c.requires.walk.reported r c.in_ok-from.ensures.effect c.in_ok-from.ensures.answer begins (is_store c.search_start.new.self.store c.args.self.now (ap (λ (t : Rows). t.of) c.search_start.ensures.table ∙ c.in_ok-from.ensures.of) c.see_bounds.ensures.bounds, c.see_bounds.ensures.sound) arrival advanced arrives c.in-Some.id arrived w))
 
 pub stand-requires-clause-here : goal.stand-requires-clause-here
 stand-requires-clause-here c = λ k t.
@@ -364,7 +365,7 @@ returns-clause-answer c =
       there = λ there. subst (λ (x : Stage). HasItsState c.end_search-2.new.self.store.table x) (sym s.at.1) (record { id = c.in-Some.id; named = s.at.2 });
       learned =
           learned_on d m input w c.in_ok-from.from c.args.cache.now c.resume.new.cache c.search_start.new.self c.advance.new.cache
-          c.span_offset-place.ensures.inside (skips_or_not c.skips-skips.result c.skips-skips.ensures.yes c.skips-skips.ensures.no) c.requires.walk.reported r c.in_ok-from.ensures.effect c.in_ok-from.ensures.answer begins arrival advanced arrives
+          c.span_offset-place.ensures.inside (skips_or_not c.skips-skips.result c.skips-skips.ensures.yes c.skips-skips.ensures.no) c.requires.walk.reported r c.in_ok-from.ensures.effect c.in_ok-from.ensures.answer begins (is_store c.search_start.new.self.store c.args.self.now (ap (λ (t : Rows). t.of) c.search_start.ensures.table ∙ c.in_ok-from.ensures.of) c.see_bounds.ensures.bounds, c.see_bounds.ensures.sound) arrival advanced arrives
           c.stand.new.walk.units c.end_search-2.new.self s.units c.end_search-2.ensures.value;
     }
 
@@ -385,7 +386,7 @@ returns-clause-effect c =
     subst (λ n. IsArrival d m c.advance.new.cache.store.table input n arrival.id arrival.units) c.units-2.ensures c.in_ok-arrival.ensures.arrives in
     let s = c.stand.ensures in
     effect_on d m input w c.in_ok-from.from c.args.cache.now c.resume.new.cache c.search_start.new.self c.advance.new.cache
-    c.span_offset-place.ensures.inside (skips_or_not c.skips-skips.result c.skips-skips.ensures.yes c.skips-skips.ensures.no) c.requires.walk.reported r c.in_ok-from.ensures.effect c.in_ok-from.ensures.answer begins arrival advanced arrives
+    c.span_offset-place.ensures.inside (skips_or_not c.skips-skips.result c.skips-skips.ensures.yes c.skips-skips.ensures.no) c.requires.walk.reported r c.in_ok-from.ensures.effect c.in_ok-from.ensures.answer begins (is_store c.search_start.new.self.store c.args.self.now (ap (λ (t : Rows). t.of) c.search_start.ensures.table ∙ c.in_ok-from.ensures.of) c.see_bounds.ensures.bounds, c.see_bounds.ensures.sound) arrival advanced arrives
     (keeping_of c.args.held.now) c.stand.new.walk c.end_search-2.new.self c.span_offset-last.result s.units c.span_offset-last.ensures.value c.end_search-2.ensures.value
     (λ ended. absurd (ended_at s.at.0 (sym ended ∙ s.at.1)))
 

@@ -90,7 +90,7 @@ returns-in-Ok-list_members-clause-found c = λ none.
       reported = patterns_reported (AreWalked Forward m input) input c.args.capacity old new found c.in-Ok.ensures.capacity c.in-Ok.ensures.empty c.in-Ok-list_members.ensures
           (reported_where reported (ArePatterns (AreWalked Forward m input) input _ _ _) c.try_which_overlapping_matches-reported.ensures.found (sym error ∙ none));
       clean = subst (λ (set : List Bool). HasReportedSet m input set) c.in-Ok.ensures.capacity
-          (reported_set m input old c.args.cache.now.store c.try_which_overlapping_matches-reported.new.cache.store
-          (reported_where reported (EndsSet m input old c.args.cache.now.store c.try_which_overlapping_matches-reported.new.cache.store)
+          (reported_set m input old c.args.cache.now c.try_which_overlapping_matches-reported.new.cache
+          (reported_where reported (EndsSet m input old c.args.cache.now c.try_which_overlapping_matches-reported.new.cache)
           c.try_which_overlapping_matches-reported.ensures.effect.ended (sym error ∙ none)));
     }

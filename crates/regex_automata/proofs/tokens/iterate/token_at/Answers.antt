@@ -72,9 +72,9 @@ returns-in_err-token-clause-effect c =
             if_err c.from_residual.result _ _ c.from_residual.ensures.1
                 (error_of_input c.args.offset found c.in_err-token.field-0.0 still.1 (sym c.in_err-token.was ∙ c.item.ensures)),
           ));
-      progress = subst (LeavesAt c.args.regex.now.forward c.args.haystack.now c.args.end c.args.offset c.args.cache.now.forward.store new.store)
+      progress = subst (LeavesAt c.args.regex.now.forward c.args.haystack.now c.args.end c.args.offset c.args.cache.now.forward new)
           (sym (is_err c.from_residual.result _ c.from_residual.ensures.1))
-          (error_leaves c.args.regex.now.forward c.args.haystack.now c.args.end c.args.offset c.args.cache.now.forward.store new.store found c.in_err-token.field-0.0
+          (error_leaves c.args.regex.now.forward c.args.haystack.now c.args.end c.args.offset c.args.cache.now.forward new found c.in_err-token.field-0.0
           s.ended s.left (sym c.in_err-token.was ∙ c.item.ensures));
     }
 
@@ -93,6 +93,6 @@ returns-clause-effect c =
           token_learns c.args.regex.now.forward new.store c.args.haystack.now c.args.end c.args.offset found c.new.result c.in_ok-token.token
           (s.learned nothing) (sym c.in_ok-token.was ∙ c.item.ensures);
       known = λ knows. ((s.known knows).0, tt);
-      progress = token_leaves c.args.regex.now.forward c.args.haystack.now c.args.end c.args.offset c.args.cache.now.forward.store new.store found c.new.result c.in_ok-token.token
+      progress = token_leaves c.args.regex.now.forward c.args.haystack.now c.args.end c.args.offset c.args.cache.now.forward new found c.new.result c.in_ok-token.token
           s.ended (sym c.in_ok-token.was ∙ c.item.ensures);
     }

@@ -1,8 +1,7 @@
 use Rattle.std.proofs.Common.{refl, subst, arith}
-use Rattle.automata_hybrid.specs.Cache.Caches.{CacheView}
+use Rattle.automata_hybrid.specs.Cache.Caches.{CacheView, IsStoreOf}
 use Rattle.automata_hybrid.specs.Cache.Stores.{IsSoundStore}
 use Rattle.automata_hybrid.specs.declared.dfa.cache.Cache.TheInside.{Inside}
-use Rattle.automata_hybrid.specs.Cache.Caches.{IsStoreOf}
 use Rattle.automata_hybrid.proofs.dfa.cache.Cache.see_bounds.Goals as goal
 
 pub returns-clause-bounds : goal.returns-clause-bounds

@@ -74,7 +74,7 @@ returns-in_err-found-clause-effect c = record {
   ended = on_ok c.from_residual.result _ _ c.from_residual.ensures.1;
   left = if_err c.from_residual.result _ _ c.from_residual.ensures.1 (
     c.is_short-short.ensures.no c.if-short.false,
-    subst (λ (i : Input). LeavesProgress Backward c.args.self.now.reverse i c.args.cache.now.store c.try_search_rev.new.cache.store c.in_err-found.field-0.0) c.backward-rest.ensures c.in_err-found.ensures.effect.left,
+    subst (λ (i : Input). LeavesProgress Backward c.args.self.now.reverse i c.args.cache.now c.try_search_rev.new.cache c.in_err-found.field-0.0) c.backward-rest.ensures c.in_err-found.ensures.effect.left,
   );
 }
 
@@ -108,7 +108,7 @@ returns-in-Some-clause-effect c = record {
       c.in_ok-found.ensures.effect.known (subst (Knows Backward c.args.self.now.reverse c.args.cache.now.store) (sym c.backward-rest.ensures) (knows long));
   ended = inr (
     c.is_short-short.ensures.no c.if-short.false,
-    subst (λ (i : Input). EndsProgress Backward c.args.self.now.reverse i c.args.cache.now.store c.try_search_rev.new.cache.store) c.backward-rest.ensures c.in_ok-found.ensures.effect.ended,
+    subst (λ (i : Input). EndsProgress Backward c.args.self.now.reverse i c.args.cache.now c.try_search_rev.new.cache) c.backward-rest.ensures c.in_ok-found.ensures.effect.ended,
   );
   left = search rules;
 }
@@ -135,7 +135,7 @@ returns-in-None-clause-effect c = record {
       c.in_ok-found.ensures.effect.known (subst (Knows Backward c.args.self.now.reverse c.args.cache.now.store) (sym c.backward-rest.ensures) (knows long));
   ended = inr (
     c.is_short-short.ensures.no c.if-short.false,
-    subst (λ (i : Input). EndsProgress Backward c.args.self.now.reverse i c.args.cache.now.store c.try_search_rev.new.cache.store) c.backward-rest.ensures c.in_ok-found.ensures.effect.ended,
+    subst (λ (i : Input). EndsProgress Backward c.args.self.now.reverse i c.args.cache.now c.try_search_rev.new.cache) c.backward-rest.ensures c.in_ok-found.ensures.effect.ended,
   );
   left = search rules;
 }
