@@ -6,7 +6,7 @@ use Rattle.automata_base.specs.Nfas.Engines.{engine_of}
 use Rattle.automata_base.specs.Haystacks.Input.{Input}
 use Rattle.automata_base.specs.Haystacks.Matches.{HalfMatch, Match}
 use Rattle.automata_base.specs.Nfas.Nodes.{nfa_of}
-use Rattle.automata_base.specs.Paths.Paths.{IsLookAcyclic}
+use Rattle.automata_base.specs.Paths.Paths.{KeepsCycles}
 use Rattle.automata_base.specs.Haystacks.Tapes.{Forward}
 use Rattle.automata_base.specs.declared.util.search.Anchored.TheVariants.{Yes}
 use Rattle.automata_config.specs.declared.error.SearchError.{SearchError}
@@ -179,9 +179,9 @@ pub record AreTokensUpto (m : Machine) (input : Input) (ts : List Match) (error 
   pub given : AreGiven m input.haystack input.end input.start ts error
   -- for every NFA, what the passes report
   pub found : AreFoundBy (λ i. WithoutBase (IsFound Forward m i)) input.haystack input.end input.start ts error
-  -- without a look cycle, the answers of the ordered paths
+  -- if the NFA keeps its cycles, the answers of the ordered paths
   pub paths :
-      IsLookAcyclic (nfa_of m.nfa)
+      KeepsCycles (nfa_of m.nfa)
       → AreFoundBy (λ i. WithoutBase (IsAnswer Forward (engine_of m.nfa (match_kind_of m.config)) i))
       input.haystack input.end input.start ts error
   -- their bytes joined are a beginning of the span's bytes, and without an error all of them

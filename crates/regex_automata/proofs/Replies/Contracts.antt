@@ -4,7 +4,7 @@ use Rattle.std.proofs.Common.{ap}
 use Rattle.automata_base.specs.Haystacks.Input.{Input}
 use Rattle.automata_base.specs.Haystacks.Matches.{Match}
 use Rattle.automata_base.specs.Nfas.Nodes.{nfa_of}
-use Rattle.automata_base.specs.Paths.Paths.{IsLookAcyclic}
+use Rattle.automata_base.specs.Paths.Paths.{KeepsCycles}
 use Rattle.automata_base.specs.Answers.Spans.{IsMatch, IsSpan, TryFinds}
 use Rattle.automata_base.specs.Haystacks.Tapes.{Forward}
 use Rattle.automata_config.specs.declared.error.SearchError.{SearchError}
@@ -20,7 +20,7 @@ use Rattle.regex_automata.specs.Spans.Contracts.{AreStoresOf, IsSpanOf, IsSpanRe
 use Rattle.regex_automata.specs.Spans.Contracts.{MayRefuseTruth}
 use Rattle.regex_automata.specs.Regexes.Caches.{AreCachesOf, AreFresh}
 use Rattle.regex_automata.specs.Spans.Errors.{IsFree, IsOfMemory, IsRegexRefusal}
-use Rattle.regex_automata.specs.Regexes.SoundPairs.{AreLookAcyclic, IsSoundPair, forward_engine, reverse_engine}
+use Rattle.regex_automata.specs.Regexes.SoundPairs.{BothKeepCycles, IsSoundPair, forward_engine, reverse_engine}
 use Rattle.regex_automata.specs.declared.hybrid.regex.Regex.{Regex}
 use Rattle.regex_automata.specs.declared.hybrid.regex.caches.Cache.{Cache}
 use Rattle.automata_config.specs.Options.{minimum_cache_clear_count_of}
@@ -61,7 +61,7 @@ refused_sound (Err e) p c input sound free h = memory_of_sound p c input e sound
 pub span_returned :
     (p : Regex) (input : Input) (r : Result (Option Match) SearchError) (c : Cache) → AreStoresOf c p
     → IsSpanReported p input r
-    → (AreLookAcyclic p → IfOk r (TryFinds (forward_engine p) (reverse_engine p) input))
+    → (BothKeepCycles p → IfOk r (TryFinds (forward_engine p) (reverse_engine p) input))
     → (IsSoundPair p → IfOk r (IsSpan (forward_engine p) input))
     → IfErr r (IsRegexRefusal p c input)
     → IsSpanOf p input r
@@ -78,7 +78,7 @@ pub truth_returned :
     (p : Regex) (input : Input) (r : Result Bool SearchError)
     → IfOk r (IsTruthFound p.forward input)
     → IfOk r (IsMatchReported p.forward input)
-    → (IsLookAcyclic (nfa_of p.forward.nfa) → IfOk r (IsMatch (forward_engine p) input))
+    → (KeepsCycles (nfa_of p.forward.nfa) → IfOk r (IsMatch (forward_engine p) input))
     → ((Skips p.forward → ⊥) → IfOk r (IsNearestThere p.forward input))
     → IfErr r (MayRefuseTruth p.forward input)
     → (input.start ≤ input.end → quit_behind p.forward (tape_in Forward input).before ≡ None

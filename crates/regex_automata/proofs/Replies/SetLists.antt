@@ -100,7 +100,7 @@ pub no_patterns :
 no_patterns m input capacity found none = record {
   rise = subst (λ (ks : List ℕ). AreRising 0 ks) (sym none) tt;
   reported = λ e. absurd (some_none e);
-  paths = λ acyclic e. absurd (some_none e);
+  paths = λ cycles e. absurd (some_none e);
   clean = λ e. absurd (some_none e);
   errors = inl (refl, none);
   unsupported = λ u. (none, inr refl);

@@ -6,7 +6,7 @@ use Rattle.automata_base.specs.Nfas.Engines.{engine_of}
 use Rattle.automata_base.specs.Haystacks.Input.{Input}
 use Rattle.automata_base.specs.Haystacks.Matches.{HalfMatch, Match}
 use Rattle.automata_base.specs.Nfas.Nodes.{nfa_of}
-use Rattle.automata_base.specs.Paths.Paths.{IsLookAcyclic}
+use Rattle.automata_base.specs.Paths.Paths.{KeepsCycles}
 use Rattle.automata_base.specs.Haystacks.PatternSet.{members}
 use Rattle.automata_base.specs.Paths.Selections.{Pair}
 use Rattle.automata_base.specs.Answers.Spans.{AreSpans, IsMatch, IsSpan, Rise, TryFinds, from}
@@ -28,7 +28,7 @@ use Rattle.automata_hybrid.specs.Searches.Passes.{Skips}
 use Rattle.regex_automata.specs.Spans.IsMatch.{IsMatchRefused, IsMatchReported, IsNearestThere, IsTruthFound}
 use Rattle.regex_automata.specs.Spans.Outcomes.{FindsMatch, MatchLiesIn}
 use Rattle.regex_automata.specs.Spans.Errors.{IsFree, IsOfMemory, IsRegexRefusal}
-use Rattle.regex_automata.specs.Regexes.SoundPairs.{AreLookAcyclic, IsSoundPair, forward_engine, reverse_engine}
+use Rattle.regex_automata.specs.Regexes.SoundPairs.{BothKeepCycles, IsSoundPair, forward_engine, reverse_engine}
 use Rattle.regex_automata.specs.declared.hybrid.regex.Regex.{Regex}
 use Rattle.regex_automata.specs.declared.hybrid.regex.caches.Cache.{Cache}
 use Rattle.automata_config.specs.Options.{match_kind_of}
@@ -48,9 +48,9 @@ pub record IsStep (way : Direction) (m : Machine) (input : Input) (reported : �
   -- for every NFA, the next pair of the list that its passes report, and none after the last one
   pub pair : IfOk result (λ found. (pairs : List Pair) → AreWalked way m input pairs
       → found ≡ half_nth pairs reported)
-  -- without a look cycle, that of the list of the ordered paths
+  -- if the NFA keeps its cycles, that of the list of the ordered paths
   pub paths :
-      IsLookAcyclic (nfa_of m.nfa)
+      KeepsCycles (nfa_of m.nfa)
       → IfOk result (λ found.
       (pairs : List Pair) → IsOverlapping way (engine_of m.nfa (match_kind_of m.config)) input pairs
       → found ≡ half_nth pairs reported)
@@ -88,8 +88,8 @@ pub record IsSpanReported (p : Regex) (input : Input) (result : Result (Option M
 pub record IsSpanOf (p : Regex) (input : Input) (result : Result (Option Match) SearchError) : Type 0 where
   -- for every two NFAs, what the passes of both report
   pub reported : IsSpanReported p input result
-  -- without a look cycle, what the ordered paths through both define
-  pub answer : AreLookAcyclic p → IfOk result (TryFinds (forward_engine p) (reverse_engine p) input)
+  -- if both NFAs keep their cycles, what the ordered paths through both define
+  pub answer : BothKeepCycles p → IfOk result (TryFinds (forward_engine p) (reverse_engine p) input)
   -- over a sound pair, the span of the path that the forward search chose
   pub span : IsSoundPair p → IfOk result (IsSpan (forward_engine p) input)
   -- an error is one that some caches may give
@@ -107,8 +107,8 @@ pub record IsTruthOf (p : Regex) (input : Input) (result : Result Bool SearchErr
   -- input that is not earliest report one
   pub found : IfOk result (IsTruthFound p.forward input)
   pub reported : IfOk result (IsMatchReported p.forward input)
-  -- without a look cycle, whether the ordered paths have an answer
-  pub answer : IsLookAcyclic (nfa_of p.forward.nfa) → IfOk result (IsMatch (forward_engine p) input)
+  -- if the NFA keeps its cycles, whether the ordered paths have an answer
+  pub answer : KeepsCycles (nfa_of p.forward.nfa) → IfOk result (IsMatch (forward_engine p) input)
   -- for every NFA too, if no place is skipped: whether an earliest search has a nearest end
   pub nearest : (Skips p.forward → ⊥) → IfOk result (IsNearestThere p.forward input)
   -- an error is one that some cache may give
@@ -146,8 +146,8 @@ MayRefuseNext p input ms e = IsMemory e ⊎ ((c : Cache) × AreStoresOf c p × I
 pub record AreMatchesUpto (p : Regex) (input : Input) (ms : List Match) (error : Option SearchError) : Type 0 where
   -- for every two NFAs, what the passes of both report
   pub found : AreCollected (FindsMatch p) input ms error
-  -- without a look cycle, what the ordered paths through both define
-  pub answers : AreLookAcyclic p → AreCollected (TryFinds (forward_engine p) (reverse_engine p)) input ms error
+  -- if both NFAs keep their cycles, what the ordered paths through both define
+  pub answers : BothKeepCycles p → AreCollected (TryFinds (forward_engine p) (reverse_engine p)) input ms error
   -- over a sound pair, the spans of the paths; and if there is an error, a beginning of them
   pub spans : IsSoundPair p → AreCollected (IsSpan (forward_engine p)) input ms error
   pub beginning :
@@ -196,9 +196,9 @@ pub record ArePatternsUpto (m : Machine) (input : Input) (capacity : ℕ) (found
   pub rise : AreRising 0 found
   -- for every NFA, those that the walk reports
   pub reported : error ≡ None → ArePatterns (AreWalked Forward m input) input capacity [] found
-  -- without a look cycle, those of the ordered paths
+  -- if the NFA keeps its cycles, those of the ordered paths
   pub paths :
-      IsLookAcyclic (nfa_of m.nfa) → error ≡ None
+      KeepsCycles (nfa_of m.nfa) → error ≡ None
       → ArePatternsFound (engine_of m.nfa (match_kind_of m.config)) input capacity [] found
   -- no unit that was read up to the last one is a quit byte
   pub clean : error ≡ None → HasReportedSet m input (empty_set capacity)

@@ -35,8 +35,8 @@ returns-clause-returned c =
     let of = are_stores cache p (s.forward, s.reverse) c.see_bounds.ensures.forward c.see_bounds.ensures.reverse in
     record {
       found = s.found;
-      answers = λ acyclic. collected_right (FindsMatch p) (TryFinds (forward_engine p) (reverse_engine p)) input
-          (λ start o f. outcome_right p front rear (from start input) (Found o) acyclic (c.haystack-haystack.ensures.bytes, within) f)
+      answers = λ cycles. collected_right (FindsMatch p) (TryFinds (forward_engine p) (reverse_engine p)) input
+          (λ start o f. outcome_right p front rear (from start input) (Found o) cycles (c.haystack-haystack.ensures.bytes, within) f)
           ms error s.found;
       spans = right;
       beginning = λ sound whole spans. collected_begins (IsSpan (forward_engine p)) (c.start_is_right.ensures.one.span (forward_engine p)) input ms whole error (right sound) spans;

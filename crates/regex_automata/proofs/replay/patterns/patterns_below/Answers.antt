@@ -35,8 +35,8 @@ returns-in-Ok-list_members-clause-returned c =
       rise = members_rise new found c.in-Ok-list_members.ensures;
       reported = λ none. patterns_reported (AreWalked Forward m input) input c.args.capacity old new found c.in-Ok.ensures.capacity c.in-Ok.ensures.empty c.in-Ok-list_members.ensures
           (reported_where reported (ArePatterns (AreWalked Forward m input) input _ _ _) s.reported.found (sym error ∙ none));
-      paths = λ acyclic none. patterns_reported (IsOverlapping Forward (engine_of m.nfa (match_kind_of m.config)) input) input c.args.capacity old new found c.in-Ok.ensures.capacity c.in-Ok.ensures.empty c.in-Ok-list_members.ensures
-          (reported_where reported (ArePatternsFound (engine_of m.nfa (match_kind_of m.config)) input _ _ _) (s.reported.paths acyclic) (sym error ∙ none));
+      paths = λ cycles none. patterns_reported (IsOverlapping Forward (engine_of m.nfa (match_kind_of m.config)) input) input c.args.capacity old new found c.in-Ok.ensures.capacity c.in-Ok.ensures.empty c.in-Ok-list_members.ensures
+          (reported_where reported (ArePatternsFound (engine_of m.nfa (match_kind_of m.config)) input _ _ _) (s.reported.paths cycles) (sym error ∙ none));
       clean = λ none. subst (λ (set : List Bool). HasReportedSet m input set) c.in-Ok.ensures.capacity
           (reported_set m input old c.args.cache.now.store c.try_which_overlapping_matches-reported.new.cache.store
           (reported_where reported (EndsSet m input old c.args.cache.now.store c.try_which_overlapping_matches-reported.new.cache.store)

@@ -34,7 +34,7 @@ returns-in_err-found-clause-returned c =
     truth_returned c.args.self.now c.args.input.now c.from_residual.result
     (if_ok c.from_residual.result _ _ c.from_residual.ensures.1)
     (if_ok c.from_residual.result _ _ c.from_residual.ensures.1)
-    (λ acyclic. if_ok c.from_residual.result _ _ c.from_residual.ensures.1)
+    (λ cycles. if_ok c.from_residual.result _ _ c.from_residual.ensures.1)
     (λ whole. if_ok c.from_residual.result _ _ c.from_residual.ensures.1)
     (if_err c.from_residual.result _ _ c.from_residual.ensures.1
     (may_refuse_truth c.args.self.now.forward c.args.input.now c.asked-asked.result _ c.asked-asked.ensures c.in_err-found.ensures.half.errors))
@@ -72,7 +72,7 @@ returns-clause-returned c =
     truth_returned c.args.self.now c.args.input.now (Ok c.is_some.result)
     (truth_found c.args.self.now.forward c.args.input.now c.asked-asked.result c.asked-asked.ensures c.in_ok-found.found c.is_some.result c.in_ok-found.ensures.half.found c.is_some.ensures)
     reported
-    (λ acyclic. match_right c.args.self.now.forward (subst (λ (a : Automaton). ReportedIsRight a) c.get_nfa.ensures c.reported_is_right.ensures.answer) c.args.input.now c.is_some.result acyclic (c.haystack-haystack.ensures.bytes, c.haystack-haystack.ensures.within.1) (truth_reported c.args.self.now.forward c.args.input.now c.asked-asked.result c.asked-asked.ensures c.in_ok-found.found c.is_some.result c.in_ok-found.ensures.half.found c.is_some.ensures))
+    (λ cycles. match_right c.args.self.now.forward (subst (λ (a : Automaton). ReportedIsRight a) c.get_nfa.ensures c.reported_is_right.ensures.answer) c.args.input.now c.is_some.result cycles (c.haystack-haystack.ensures.bytes, c.haystack-haystack.ensures.within.1) (truth_reported c.args.self.now.forward c.args.input.now c.asked-asked.result c.asked-asked.ensures c.in_ok-found.found c.is_some.result c.in_ok-found.ensures.half.found c.is_some.ensures))
     (truth_nearest c.args.self.now.forward c.args.input.now c.asked-asked.result c.asked-asked.ensures c.in_ok-found.found c.is_some.result c.in_ok-found.ensures.half.nearest c.is_some.ensures)
     tt
     (λ ahead behind mode. absurd (ok_err

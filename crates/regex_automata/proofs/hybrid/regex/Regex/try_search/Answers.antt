@@ -27,8 +27,8 @@ returns-clause-returned c =
     span_returned c.args.self.now c.args.input.now c.search-found.result c.search-found.new.cache
     (are_stores c.search-found.new.cache c.args.self.now s.of c.see_bounds.ensures.forward c.see_bounds.ensures.reverse)
     s.reported
-    (λ acyclic. IfOk-weaker c.search-found.result _ _
-    (λ o found. outcome_right c.args.self.now front rear c.args.input.now (Found o) acyclic (c.haystack-haystack.ensures.bytes, c.haystack-haystack.ensures.within.1) found)
+    (λ cycles. IfOk-weaker c.search-found.result _ _
+    (λ o found. outcome_right c.args.self.now front rear c.args.input.now (Found o) cycles (c.haystack-haystack.ensures.bytes, c.haystack-haystack.ensures.within.1) found)
     s.reported.found)
     (λ sound. IfOk-weaker c.search-found.result _ _
     (match_right c.args.self.now front ends c.start_is_right.ensures.starts sound c.args.input.now (c.haystack-haystack.ensures.bytes, c.haystack-haystack.ensures.within.1))
