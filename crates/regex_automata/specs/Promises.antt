@@ -14,8 +14,9 @@ pub use Rattle.automata_base.specs.declared.util.search.MatchKind.TheVariants.{A
 pub use Rattle.automata_base.specs.Haystacks.Input.{Input, Allows}
 pub use Rattle.automata_base.specs.Haystacks.Tapes.{IsHaystack}
 pub use Rattle.automata_base.specs.declared.util.search.Anchored.TheVariants.{No, Yes, Pattern}
--- No cycle of epsilon transitions passes a look-around assertion. Answers by ordered paths need it.
-pub use Rattle.automata_base.specs.Paths.Paths.{IsLookAcyclic}
+-- The NFA keeps its cycles: answers by ordered paths need it. It does so if no cycle of epsilon transitions passes a
+-- look-around assertion, and if it keeps unions; `NFA::keeping_unions` returns an NFA that does, for every NFA.
+pub use Rattle.automata_base.specs.Paths.Paths.{IsLookAcyclic, KeepsCycles}
 -- A match's pattern and end: of a search that returns it; and of one by paths, with the start of the span that gave it.
 pub use Rattle.automata_base.specs.Haystacks.Matches.{HalfMatch}
 pub use Rattle.automata_base.specs.Answers.Answers.{Half}

@@ -6,7 +6,7 @@ use Rattle.automata_base.specs.Nfas.Engines.{engine_of}
 use Rattle.automata_base.specs.Haystacks.Input.{Input}
 use Rattle.automata_base.specs.Haystacks.Matches.{HalfMatch, Match}
 use Rattle.automata_base.specs.Nfas.Nodes.{nfa_of}
-use Rattle.automata_base.specs.Paths.Paths.{IsLookAcyclic}
+use Rattle.automata_base.specs.Paths.Paths.{KeepsCycles}
 use Rattle.automata_base.specs.declared.util.search.Direction.TheVariants.{Forward}
 use Rattle.automata_base.specs.declared.util.search.Anchored.TheVariants.{Yes}
 use Rattle.automata_config.specs.declared.error.SearchError.{SearchError}
@@ -189,9 +189,9 @@ pub record AreTokensReported (m : Machine) (input : Input) (ts : List Match) (er
 
 -- the tokens of an input, one after another; or the first ones, and the error that ended them
 pub record AreTokensUpto (m : Machine) (input : Input) (ts : List Match) (error : Option TokenError) : Type 0 where
-  -- without a look cycle, the answers of the ordered paths
+  -- if the NFA keeps its cycles, the answers of the ordered paths
   pub paths :
-      IsLookAcyclic (nfa_of m.nfa)
+      KeepsCycles (nfa_of m.nfa)
       → AreFoundBy (λ i. WithoutBase (IsAnswer Forward (engine_of m.nfa (match_kind_of m.config)) i))
       input.haystack input.end input.start ts error
   -- their bytes joined are a beginning of the span's bytes, and without an error all of them

@@ -4,7 +4,7 @@ use Rattle.std.proofs.Common.{ap, subst, sym, ◌∙◌, Some, List, slice_get}
 use Rattle.automata_base.specs.Haystacks.Input.{Input}
 use Rattle.automata_base.specs.Haystacks.Matches.{Match}
 use Rattle.automata_base.specs.Nfas.Nodes.{nfa_of}
-use Rattle.automata_base.specs.Paths.Paths.{IsLookAcyclic}
+use Rattle.automata_base.specs.Paths.Paths.{KeepsCycles}
 use Rattle.automata_base.specs.Answers.Spans.{IsMatch, IsSpan, TryFinds}
 use Rattle.automata_base.specs.declared.util.search.Direction.TheVariants.{Forward}
 use Rattle.automata_config.specs.declared.error.SearchError.{SearchError}
@@ -21,7 +21,7 @@ use Rattle.regex_automata.specs.Replay.Caches.{AreOfCurrent}
 use Rattle.regex_automata.specs.Replay.Histories.{History}
 use Rattle.automata_base.proofs.Paths.Orders.{some_inj}
 use Rattle.regex_automata.specs.Spans.Errors.{IsFree, IsOfMemory, IsRegexRefusal}
-use Rattle.regex_automata.specs.Regexes.SoundPairs.{AreLookAcyclic, IsSoundPair, forward_engine, reverse_engine}
+use Rattle.regex_automata.specs.Regexes.SoundPairs.{BothKeepCycles, IsSoundPair, forward_engine, reverse_engine}
 use Rattle.regex_automata.specs.declared.hybrid.regex.Regex.{Regex}
 use Rattle.regex_automata.specs.declared.hybrid.regex.caches.Cache.{Cache}
 use Rattle.automata_config.specs.Options.{minimum_cache_clear_count_of}
@@ -58,7 +58,7 @@ refused_sound (Err e) p c input sound free h = memory_of_sound p c input e sound
 pub span_returned :
     (p : Regex) (input : Input) (r : Result (Option Match) SearchError) (c : Cache)
     → IsSpanReported p input r
-    → (AreLookAcyclic p → IfOk r (TryFinds (forward_engine p) (reverse_engine p) input))
+    → (BothKeepCycles p → IfOk r (TryFinds (forward_engine p) (reverse_engine p) input))
     → (IsSoundPair p → IfOk r (IsSpan (forward_engine p) input))
     → IfErr r (IsRegexRefusal p c input)
     → IsSpanOf p input r
@@ -75,7 +75,7 @@ span_returned p input r c reported answer span errors = record {
 -- a search for whether there is a match
 pub truth_returned :
     (p : Regex) (input : Input) (r : Result Bool SearchError)
-    → (IsLookAcyclic (nfa_of p.forward.nfa) → IfOk r (IsMatch (forward_engine p) input))
+    → (KeepsCycles (nfa_of p.forward.nfa) → IfOk r (IsMatch (forward_engine p) input))
     → ((Skips p.forward → ⊥) → IfOk r (IsNearestThere p.forward input))
     → (input.start ≤ input.end → quit_behind p.forward (tape_in Forward input).before ≡ None
     → supports p.forward input.anchored ≡ false → r ≡ Err (unsupported_error input))

@@ -90,7 +90,7 @@ pub no_patterns :
     → ArePatternsUpto m input capacity found (Some search.OutOfMemory)
 no_patterns m input capacity found none = record {
   rise = subst (λ (ks : List ℕ). AreRising 0 ks) (sym none) tt;
-  paths = λ acyclic e. absurd (some_none e);
+  paths = λ cycles e. absurd (some_none e);
   unsupported = λ u. (none, inr refl);
   free = λ f. refl;
   done = λ past. (none, refl);

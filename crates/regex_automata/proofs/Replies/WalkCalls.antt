@@ -6,7 +6,7 @@ use Rattle.automata_base.specs.Nfas.Engines.{engine_of}
 use Rattle.automata_base.specs.Haystacks.Input.{Input}
 use Rattle.automata_base.specs.Haystacks.Matches.{HalfMatch}
 use Rattle.automata_base.specs.Nfas.Nodes.{nfa_of}
-use Rattle.automata_base.specs.Paths.Paths.{IsLookAcyclic}
+use Rattle.automata_base.specs.Paths.Paths.{KeepsCycles}
 use Rattle.automata_base.specs.Paths.Selections.{Pair}
 use Rattle.automata_base.specs.declared.util.search.Direction.{Direction}
 use Rattle.automata_base.specs.declared.util.search.Anchored.{Anchored}
@@ -39,13 +39,13 @@ module _ (way : Direction) (m : Machine) (input : Input) (old : Walk) (k : ℕ) 
   -- one that answers
   pub step_answers :
       (new : Walk) (found : Option HalfMatch) → found ≡ new.found → ReportsNext way m input old new
-      → (IsLookAcyclic (nfa_of m.nfa) → (j : ℕ) (pairs : List Pair) → HasReported way m input old j
+      → (KeepsCycles (nfa_of m.nfa) → (j : ℕ) (pairs : List Pair) → HasReported way m input old j
       → IsOverlapping way (engine_of m.nfa (match_kind_of m.config)) input pairs → new.found ≡ half_nth pairs j)
       → IfSome new.found (LiesIn m input) → (old.stage ≡ Fresh → IsUnsupported way m input → ⊥)
       → IsStep way m input k (Ok found)
   step_answers new found is reports paths within supported = record {
     pair = λ pairs all. is ∙ ((reports k h.reported).1 pairs all).0;
-    paths = λ acyclic pairs all. is ∙ paths acyclic k pairs h.reported all;
+    paths = λ cycles pairs all. is ∙ paths cycles k pairs h.reported all;
     clean = (new, (reports k h.reported).0);
     within = subst (λ (o : Option HalfMatch). IfSome o (LiesIn m input)) (sym is) within;
     ended = λ pairs all lt. tt;
@@ -77,7 +77,7 @@ module _ (way : Direction) (m : Machine) (input : Input) (old : Walk) (k : ℕ) 
       → IsStep way m input k (Err e)
   step_refused e goes_on unsupported free = record {
     pair = tt;
-    paths = λ acyclic. tt;
+    paths = λ cycles. tt;
     clean = tt;
     within = tt;
     ended = λ pairs all lt. goes_on ((h.ended pairs all).1 lt);

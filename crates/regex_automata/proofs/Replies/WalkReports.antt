@@ -217,7 +217,7 @@ module _
 pub report_walks : (rs : List Regex) (script : List Request) (answers : List Reply) → AreReplies rs script answers → ReportWalks rs script answers
 report_walks rs script answers all = λ k w r e of. record {
   reported = λ pairs list. (reports rs k w r of pairs (λ reported found step. step.pair pairs list) start script answers all e).0;
-  paths = λ acyclic pairs list. (reports rs k w r of pairs (λ reported found step. step.paths acyclic pairs list) start script answers all e).0;
+  paths = λ cycles pairs list. (reports rs k w r of pairs (λ reported found step. step.paths cycles pairs list) start script answers all e).0;
 }
 
 pub all_report :

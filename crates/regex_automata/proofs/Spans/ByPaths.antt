@@ -5,7 +5,7 @@ use Rattle.automata_base.specs.Answers.Answers.{Half, IsAnswer, IsInput}
 use Rattle.automata_base.specs.Haystacks.Input.{Input}
 use Rattle.automata_base.specs.Haystacks.Matches.{Match}
 use Rattle.automata_base.specs.Nfas.Nodes.{nfa_of}
-use Rattle.automata_base.specs.Paths.Paths.{IsLookAcyclic}
+use Rattle.automata_base.specs.Paths.Paths.{KeepsCycles}
 use Rattle.automata_base.specs.Answers.Spans.{FindsSpan, Found, IsFarSearch, IsSpan, IsTrySearch, NotAPair, Outcome}
 use Rattle.automata_base.specs.Answers.Spans.{back}
 use Rattle.automata_base.specs.Laws.StartIsRight.{BackMeetsNone, StartsAreRight}
@@ -20,18 +20,18 @@ use Rattle.automata_hybrid.proofs.Searches.Skips.{found_reported}
 use Rattle.automata_hybrid.proofs.Searches.Bounds.{found_within}
 use Rattle.regex_automata.specs.Spans.Outcomes.{FindsMatch, IsOutcome}
 use Rattle.regex_automata.specs.Spans.Errors.{HasReason, IsFree, IsOfMemory, IsRegexRefusal}
-use Rattle.regex_automata.specs.Regexes.SoundPairs.{AreLookAcyclic, IsSoundPair, forward_engine, reverse_engine}
+use Rattle.regex_automata.specs.Regexes.SoundPairs.{BothKeepCycles, IsSoundPair, forward_engine, reverse_engine}
 use Rattle.regex_automata.specs.declared.hybrid.regex.Regex.{Regex}
 use Rattle.regex_automata.specs.declared.hybrid.regex.caches.Cache.{Cache}
 use Rattle.regex_automata.proofs.Spans.Quits.{back_free, never_pair}
 use Rattle.automata_config.specs.Options.{match_kind_of}
 
--- over NFAs without look cycles
+-- over NFAs that keep their cycles
 module _ (p : Regex) (front : ReportedIsRight p.forward.nfa) where
   front_right :
-      (input : Input) (o : Option Half) → IsLookAcyclic (nfa_of p.forward.nfa) → IsInput input → IsFound Forward p.forward input o
+      (input : Input) (o : Option Half) → KeepsCycles (nfa_of p.forward.nfa) → IsInput input → IsFound Forward p.forward input o
       → IsAnswer Forward (forward_engine p) input o
-  front_right input o acyclic given f = front Forward (match_kind_of p.forward.config) input o acyclic given (found_reported Forward p.forward input o f)
+  front_right input o cycles given f = front Forward (match_kind_of p.forward.config) input o cycles given (found_reported Forward p.forward input o f)
 
   back_given : (input : Input) (half : Half) → IsInput input → IsFound Forward p.forward input (Some half) → IsInput (back input half)
   back_given input half given f =
@@ -40,14 +40,14 @@ module _ (p : Regex) (front : ReportedIsRight p.forward.nfa) where
       (given.0, omega (arith, w, few))
 
   pub outcome_right :
-      (rear : ReportedIsRight p.reverse.nfa) (input : Input) (outcome : Outcome) → AreLookAcyclic p → IsInput input → IsOutcome p input outcome
+      (rear : ReportedIsRight p.reverse.nfa) (input : Input) (outcome : Outcome) → BothKeepCycles p → IsInput input → IsOutcome p input outcome
       → IsTrySearch (forward_engine p) (reverse_engine p) input outcome
-  outcome_right rear input outcome acyclic given f =
+  outcome_right rear input outcome cycles given f =
       turn_outcome (IsFound Forward p.forward) (IsAnswer Forward (forward_engine p)) (IsFound Backward p.reverse)
       (IsAnswer Backward (reverse_engine p)) (forward_engine p) input
-      (λ o a. front_right input o acyclic.0 given a)
+      (λ o a. front_right input o cycles.0 given a)
       (λ half o a b.
-      rear Backward (match_kind_of p.reverse.config) (back input half) o acyclic.1 (back_given input half given a)
+      rear Backward (match_kind_of p.reverse.config) (back input half) o cycles.1 (back_given input half given a)
       (found_reported Backward p.reverse (back input half) o b))
       outcome f
 
@@ -58,7 +58,7 @@ module _ (p : Regex) (front : ReportedIsRight p.forward.nfa) where
     outcome_far outcome f =
         turn_outcome (IsFound Forward p.forward) (IsAnswer Forward (forward_engine p)) (IsFound Backward p.reverse)
         (IsFarthestAnswer Backward (reverse_engine p)) (forward_engine p) input
-        (λ o a. front_right input o sound.acyclic given a)
+        (λ o a. front_right input o sound.cycles given a)
         (λ half o a b.
         (ends Backward (match_kind_of p.reverse.config) (back input half) o (back_given input half given a)
         (found_reported Backward p.reverse (back input half) o b)).1 refl sound.pair.0)
@@ -95,7 +95,7 @@ module _ (p : Regex) (front : ReportedIsRight p.forward.nfa) where
         record {
           reason = reason;
           free = free;
-          apart = λ acyclic is. outcome_right rear input NotAPair acyclic given (no_pair is);
+          apart = λ cycles is. outcome_right rear input NotAPair cycles given (no_pair is);
           sound = λ sound is. no_pair_wrong ends starts sound input given (no_pair is);
           quits = λ same byte at is. quits same byte at is reason;
         } where

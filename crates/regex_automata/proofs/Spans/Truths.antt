@@ -8,7 +8,7 @@ use Rattle.automata_base.specs.Nfas.Engines.{engine_of}
 use Rattle.automata_base.specs.Haystacks.Input.{Input}
 use Rattle.automata_base.specs.Haystacks.Matches.{HalfMatch}
 use Rattle.automata_base.specs.Nfas.Nodes.{Automaton, nfa_of}
-use Rattle.automata_base.specs.Paths.Paths.{IsLookAcyclic, Tape}
+use Rattle.automata_base.specs.Paths.Paths.{KeepsCycles, Tape}
 use Rattle.automata_base.specs.Paths.Selections.{Pair}
 use Rattle.automata_base.specs.Answers.Spans.{IsMatch, in_full}
 use Rattle.automata_base.specs.Haystacks.Tapes.{forward_tape}
@@ -130,9 +130,9 @@ truth_reported m input asked (inr a) found truth f e =
     (w.0, w.1, e ∙ same_some found f.0 f.2 ∙ w.2)
 
 pub match_right :
-    (m : Machine) → ReportedIsRight m.nfa → (input : Input) (truth : Bool) → IsLookAcyclic (nfa_of m.nfa) → IsInput input
+    (m : Machine) → ReportedIsRight m.nfa → (input : Input) (truth : Bool) → KeepsCycles (nfa_of m.nfa) → IsInput input
     → IsMatchReported m input truth → IsMatch (engine_of m.nfa (match_kind_of m.config)) input truth
-match_right m law input truth acyclic given f = (f.0, law Forward (match_kind_of m.config) (in_full input) f.0 acyclic given f.1, f.2)
+match_right m law input truth cycles given f = (f.0, law Forward (match_kind_of m.config) (in_full input) f.0 cycles given f.1, f.2)
 
 -- if nothing is skipped the nearest end is searched for
 pub truth_nearest :

@@ -3,10 +3,10 @@ use Rattle.std.specs.Prelude.{ℕ, ◌≡◌, ◌==◌, false, true, if◌then�
 use Rattle.std.specs.Option.{option_or}
 use Rattle.automata_base.specs.Nfas.Getters.{SkipsLazily}
 use Rattle.automata_base.specs.Nfas.Mirrors.{BeginsAlike, IsReversed}
-use Rattle.automata_base.specs.Nfas.Nodes.{Automaton, nfa_of}
-use Rattle.automata_base.specs.Paths.Paths.{IsLookAcyclic}
+use Rattle.automata_base.specs.Nfas.Nodes.{Automaton}
 use Rattle.automata_base.specs.Nfas.ReversedSizes.{MayBeTooLarge}
 use Rattle.automata_base.specs.declared.util.search.Direction.TheVariants.{Forward}
+use Rattle.automata_base.specs.Nfas.Unions.{IsKeepingUnions}
 use Rattle.automata_base.specs.Nfas.Utf8.{ReadsUtf8}
 use Rattle.automata_base.specs.declared.nfa.thompson.ReverseError.{ReverseError}
 use Rattle.automata_base.specs.declared.nfa.thompson.ReverseError.TheVariants as reverse
@@ -45,29 +45,30 @@ reverse_refusal reverse.Starts = is.Starts
 reverse_refusal reverse.TooLarge = is.TooLarge
 reverse_refusal reverse.OutOfMemory = is.OutOfMemory
 
--- the tests that an NFA passes: the first two; the third as well, that in UTF-8 mode it reads valid UTF-8; and all, with
--- that of its starts
-abbrev pub PassesTwo : Automaton → Type 0
-PassesTwo forward = SkipsLazily forward × IsLookAcyclic (nfa_of forward)
-
+-- in UTF-8 mode the NFA reads valid UTF-8
 abbrev pub IsUtf8 : Automaton → Type 0
 IsUtf8 forward = forward.flags.utf8 ≡ true → ReadsUtf8 Forward forward
 
-abbrev pub PassesThree : Automaton → Type 0
-PassesThree forward = PassesTwo forward × IsUtf8 forward
+-- the tests that an NFA passes: the first two; and all three, with that of its starts
+abbrev pub PassesTwo : Automaton → Type 0
+PassesTwo forward = SkipsLazily forward × IsUtf8 forward
 
 abbrev pub PassesAll : Automaton → Type 0
-PassesAll forward = PassesThree forward × BeginsAlike forward
+PassesAll forward = PassesTwo forward × BeginsAlike forward
+
+-- the regex is made of the NFA, which then keeps unions if it has a look cycle, and of the reversed one
+abbrev pub BuildsOne : Options → Automaton → Regex → Type 0
+BuildsOne o forward p =
+    (kept reverse : Automaton) × IsKeepingUnions forward kept × IsReversed forward reverse × BuildsPair o kept reverse p
 
 -- why no regex is built of one NFA: it fails the next test after those that it passes; or it passes all, and cannot be
--- reversed, or no pair can be built of it and of its reverse. Memory is used only after the first two tests
+-- reversed, or no pair can be built of it and of its reverse. Memory is used only after the first test
 abbrev pub IsRefusal : Options → Automaton → RegexBuildError → Type 0
 IsRefusal o forward is.NotLazy = SkipsLazily forward → ⊥
-IsRefusal o forward is.LookCycle = SkipsLazily forward × (IsLookAcyclic (nfa_of forward) → ⊥)
-IsRefusal o forward is.NotUtf8 = PassesTwo forward × (IsUtf8 forward → ⊥)
-IsRefusal o forward is.Starts = PassesThree forward × (BeginsAlike forward → ⊥)
+IsRefusal o forward is.NotUtf8 = SkipsLazily forward × (IsUtf8 forward → ⊥)
+IsRefusal o forward is.Starts = PassesTwo forward × (BeginsAlike forward → ⊥)
 IsRefusal o forward is.TooLarge = PassesAll forward × MayBeTooLarge forward
-IsRefusal o forward is.OutOfMemory = PassesTwo forward
+IsRefusal o forward is.OutOfMemory = SkipsLazily forward
 IsRefusal o forward (is.Build error) =
     PassesAll forward
     × ((reverse : Automaton) × IsReversed forward reverse × (pair_refusal o forward reverse ≡ Some error))

@@ -1,7 +1,7 @@
 -- What the two lazy DFAs of a regex have to be so that spans are promised.
 use Rattle.automata_base.specs.Nfas.Engines.{Engine, engine_of}
 use Rattle.automata_base.specs.Nfas.Nodes.{nfa_of}
-use Rattle.automata_base.specs.Paths.Paths.{IsLookAcyclic}
+use Rattle.automata_base.specs.Paths.Paths.{KeepsCycles}
 use Rattle.automata_base.specs.declared.util.search.Direction.TheVariants.{Forward}
 use Rattle.automata_base.specs.Answers.TruePairs.{IsTruePair, KeepsUtf8}
 use Rattle.regex_automata.specs.declared.hybrid.regex.Regex.{Regex}
@@ -14,12 +14,12 @@ forward_engine p = engine_of p.forward.nfa (match_kind_of p.forward.config)
 abbrev pub reverse_engine : Regex → Engine
 reverse_engine p = engine_of p.reverse.nfa (match_kind_of p.reverse.config)
 
--- no cycle of edges that read nothing passes a look, in either NFA
-abbrev pub AreLookAcyclic : Regex → Type 0
-AreLookAcyclic p = IsLookAcyclic (nfa_of p.forward.nfa) × IsLookAcyclic (nfa_of p.reverse.nfa)
+-- both NFAs keep their cycles
+abbrev pub BothKeepCycles : Regex → Type 0
+BothKeepCycles p = KeepsCycles (nfa_of p.forward.nfa) × KeepsCycles (nfa_of p.reverse.nfa)
 
--- they are of one regular expression, which keeps the UTF-8 promise, and the forward one has no look cycle
+-- they are of one regular expression, which keeps the UTF-8 promise, and the forward NFA keeps its cycles
 pub record IsSoundPair (p : Regex) : Type 0 where
-  pub acyclic : IsLookAcyclic (nfa_of p.forward.nfa)
+  pub cycles : KeepsCycles (nfa_of p.forward.nfa)
   pub pair : IsTruePair (forward_engine p) (reverse_engine p)
   pub utf8 : KeepsUtf8 Forward (forward_engine p)

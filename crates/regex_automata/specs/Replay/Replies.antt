@@ -6,7 +6,7 @@ use Rattle.automata_base.specs.Nfas.Engines.{engine_of}
 use Rattle.automata_base.specs.Haystacks.Input.{Input}
 use Rattle.automata_base.specs.Haystacks.Matches.{HalfMatch, Match}
 use Rattle.automata_base.specs.Nfas.Nodes.{nfa_of}
-use Rattle.automata_base.specs.Paths.Paths.{IsLookAcyclic}
+use Rattle.automata_base.specs.Paths.Paths.{KeepsCycles}
 use Rattle.automata_base.specs.Paths.Selections.{Pair}
 use Rattle.automata_base.specs.declared.util.search.Direction.{Direction}
 use Rattle.automata_base.specs.declared.util.search.Direction.TheVariants.{Forward, Backward}
@@ -145,11 +145,11 @@ AreReportedFrom reported pairs (found ∷ later) =
     (found ≡ half_nth pairs reported) × AreReportedFrom (suc reported) pairs later
 
 -- they are the pairs of the walk over an input, and then none: for every NFA those that its passes report (there is one
--- such list), and without a look cycle those of the ordered paths
+-- such list), and if the NFA keeps its cycles those of the ordered paths
 pub record ReportWalk (way : Direction) (m : Machine) (input : Input) (steps : List (Option HalfMatch)) : Type 0 where
   pub reported : (pairs : List Pair) → AreWalked way m input pairs → AreReportedFrom 0 pairs steps
   pub paths :
-      IsLookAcyclic (nfa_of m.nfa)
+      KeepsCycles (nfa_of m.nfa)
       → (pairs : List Pair) → IsOverlapping way (engine_of m.nfa (match_kind_of m.config)) input pairs
       → AreReportedFrom 0 pairs steps
 

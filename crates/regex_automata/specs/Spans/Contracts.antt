@@ -6,7 +6,8 @@ use Rattle.automata_base.specs.Nfas.Engines.{engine_of}
 use Rattle.automata_base.specs.Haystacks.Input.{Input}
 use Rattle.automata_base.specs.Haystacks.Matches.{HalfMatch, Match}
 use Rattle.automata_base.specs.Nfas.Nodes.{nfa_of}
-use Rattle.automata_base.specs.Paths.Paths.{IsLookAcyclic}
+use Rattle.automata_base.specs.Paths.Paths.{KeepsCycles}
+use Rattle.automata_base.specs.Haystacks.PatternSet.{members}
 use Rattle.automata_base.specs.Paths.Selections.{Pair}
 use Rattle.automata_base.specs.Answers.Spans.{AreSpans, IsMatch, IsSpan, Rise, TryFinds, from}
 use Rattle.automata_base.specs.declared.util.search.Direction.{Direction}
@@ -25,8 +26,8 @@ use Rattle.regex_automata.specs.Spans.Iteration.{AreCollected, IsBeginning, IsNe
 use Rattle.automata_hybrid.specs.Searches.Passes.{Skips}
 use Rattle.regex_automata.specs.Spans.IsMatch.{IsMatchReported, IsNearestThere, IsTruthFound}
 use Rattle.regex_automata.specs.Spans.Outcomes.{FindsMatch, MatchLiesIn}
-use Rattle.regex_automata.specs.Spans.Errors.{IsFree, IsOfMemory}
-use Rattle.regex_automata.specs.Regexes.SoundPairs.{AreLookAcyclic, IsSoundPair, forward_engine, reverse_engine}
+use Rattle.regex_automata.specs.Spans.Errors.{IsFree, IsOfMemory, IsRegexRefusal}
+use Rattle.regex_automata.specs.Regexes.SoundPairs.{BothKeepCycles, IsSoundPair, forward_engine, reverse_engine}
 use Rattle.regex_automata.specs.declared.hybrid.regex.Regex.{Regex}
 use Rattle.regex_automata.specs.declared.hybrid.regex.caches.Cache.{Cache}
 use Rattle.automata_config.specs.Options.{match_kind_of}
@@ -37,9 +38,9 @@ pub record IsStep (way : Direction) (m : Machine) (input : Input) (reported : �
   -- for every NFA, the next pair of the list that its passes report, and none after the last one
   pub pair : IfOk result (λ found. (pairs : List Pair) → AreWalked way m input pairs
       → found ≡ half_nth pairs reported)
-  -- without a look cycle, that of the list of the ordered paths
+  -- if the NFA keeps its cycles, that of the list of the ordered paths
   pub paths :
-      IsLookAcyclic (nfa_of m.nfa)
+      KeepsCycles (nfa_of m.nfa)
       → IfOk result (λ found.
       (pairs : List Pair) → IsOverlapping way (engine_of m.nfa (match_kind_of m.config)) input pairs
       → found ≡ half_nth pairs reported)
@@ -69,8 +70,8 @@ pub record IsSpanReported (p : Regex) (input : Input) (result : Result (Option M
 
 -- what a search for a span returns
 pub record IsSpanOf (p : Regex) (input : Input) (result : Result (Option Match) SearchError) : Type 0 where
-  -- without a look cycle, what the ordered paths through both define
-  pub answer : AreLookAcyclic p → IfOk result (TryFinds (forward_engine p) (reverse_engine p) input)
+  -- if both NFAs keep their cycles, what the ordered paths through both define
+  pub answer : BothKeepCycles p → IfOk result (TryFinds (forward_engine p) (reverse_engine p) input)
   -- over a sound pair, the span of the path that the forward search chose
   pub span : IsSoundPair p → IfOk result (IsSpan (forward_engine p) input)
   -- it lies in the input's span, and its pattern is one of the NFAs'
@@ -93,8 +94,8 @@ pub record IsTruthReported (m : Machine) (input : Input) (truth : Bool) : Type 0
 
 -- what the search for whether there is a match returns
 pub record IsTruthOf (p : Regex) (input : Input) (result : Result Bool SearchError) : Type 0 where
-  -- without a look cycle, whether the ordered paths have an answer
-  pub answer : IsLookAcyclic (nfa_of p.forward.nfa) → IfOk result (IsMatch (forward_engine p) input)
+  -- if the NFA keeps its cycles, whether the ordered paths have an answer
+  pub answer : KeepsCycles (nfa_of p.forward.nfa) → IfOk result (IsMatch (forward_engine p) input)
   -- for every NFA too, if no place is skipped: whether an earliest search has a nearest end
   pub nearest : (Skips p.forward → ⊥) → IfOk result (IsNearestThere p.forward input)
   -- an anchored mode that is not supported is reported
@@ -124,8 +125,8 @@ IsRefusedAfter p c input ms e = IsNextRefusal p c (from (place_after input.start
 
 -- the matches of an input, one after another; or the first ones, and the error that ended them
 pub record AreMatchesUpto (p : Regex) (input : Input) (ms : List Match) (error : Option SearchError) : Type 0 where
-  -- without a look cycle, what the ordered paths through both define
-  pub answers : AreLookAcyclic p → AreCollected (TryFinds (forward_engine p) (reverse_engine p)) input ms error
+  -- if both NFAs keep their cycles, what the ordered paths through both define
+  pub answers : BothKeepCycles p → AreCollected (TryFinds (forward_engine p) (reverse_engine p)) input ms error
   -- over a sound pair, the spans of the paths; and if there is an error, a beginning of them
   pub spans : IsSoundPair p → AreCollected (IsSpan (forward_engine p)) input ms error
   pub beginning :
@@ -170,9 +171,9 @@ pub record ArePatternsUpto (m : Machine) (input : Input) (capacity : ℕ) (found
     (error : Option SearchError) : Type 0 where
   -- in increasing order
   pub rise : AreRising 0 found
-  -- without a look cycle, those of the ordered paths
+  -- if the NFA keeps its cycles, those of the ordered paths
   pub paths :
-      IsLookAcyclic (nfa_of m.nfa) → error ≡ None
+      KeepsCycles (nfa_of m.nfa) → error ≡ None
       → ArePatternsFound (engine_of m.nfa (match_kind_of m.config)) input capacity [] found
   -- if the anchored mode is not supported there are none, and that is reported, or out of memory for the set or the
   -- list

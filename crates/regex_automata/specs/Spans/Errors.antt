@@ -12,7 +12,7 @@ use Rattle.automata_hybrid.specs.Searches.Cached.{IsOfInput}
 use Rattle.automata_hybrid.specs.Searches.Passes.{IsFound, IsRefused, NoQuitInReach}
 use Rattle.automata_hybrid.specs.Machines.StartSlots.{supports}
 use Rattle.regex_automata.specs.declared.hybrid.regex.Regex.{Regex}
-use Rattle.regex_automata.specs.Regexes.SoundPairs.{AreLookAcyclic, IsSoundPair, forward_engine, reverse_engine}
+use Rattle.regex_automata.specs.Regexes.SoundPairs.{BothKeepCycles, IsSoundPair, forward_engine, reverse_engine}
 use Rattle.regex_automata.specs.Spans.Outcomes.{IsOutcome}
 use Rattle.regex_automata.specs.declared.hybrid.regex.caches.Cache.{Cache}
 use Rattle.automata_config.specs.Options.{minimum_cache_clear_count_of}
@@ -46,8 +46,8 @@ pub record IsRegexRefusal (p : Regex) (c : Cache) (input : Input) (e : SearchErr
   pub reason : HasReason p c input e
   -- if nothing prevents an answer, the error is out of memory, or that the two are no pair
   pub free : IsFree p input → IsOfMemory e
-  -- without a look cycle, they are no pair by the paths too
-  pub apart : AreLookAcyclic p → e ≡ search.NotAPair → IsTrySearch (forward_engine p) (reverse_engine p) input NotAPair
+  -- if both NFAs keep their cycles, they are no pair by the paths too
+  pub apart : BothKeepCycles p → e ≡ search.NotAPair → IsTrySearch (forward_engine p) (reverse_engine p) input NotAPair
   -- and never over a sound pair
   pub sound : IsSoundPair p → e ≡ search.NotAPair → ⊥
   -- with one quit set the search back meets no quit byte

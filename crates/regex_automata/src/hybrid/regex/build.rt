@@ -1,12 +1,13 @@
 ghost use Rattle.std.specs.Prelude.{◌≡◌, ◌↔◌, IfOk, IfErr, IsTrue, length, Err, Some, false};
 ghost use Rattle.automata_base.specs.Nfas.Engines.{engine_of};
+ghost use Rattle.automata_base.specs.Nfas.Getters.{SkipsLazily};
 ghost use Rattle.automata_base.specs.Nfas.Mirrors.{IsReversed};
 ghost use Rattle.automata_base.specs.Nfas.Nodes.{Automaton, nfa_of};
-ghost use Rattle.automata_base.specs.Paths.Paths.{IsLookAcyclic};
+ghost use Rattle.automata_base.specs.Paths.Paths.{KeepsCycles};
 ghost use Rattle.automata_base.specs.declared.util.search.Direction.TheVariants.{Forward};
 ghost use Rattle.automata_base.specs.Answers.TruePairs.{IsTruePair, KeepsUtf8};
 ghost use Rattle.automata_config.specs.Options.{Options, unset, overwritten};
-ghost use Rattle.regex_automata.specs.Regexes.Builds.{BuildsPair, IsUtf8, PassesTwo, PassesAll, IsRefusal};
+ghost use Rattle.regex_automata.specs.Regexes.Builds.{BuildsOne, BuildsPair, IsUtf8, PassesAll, IsRefusal};
 ghost use Rattle.regex_automata.specs.Regexes.Builds.{pair_refusal, reverse_refusal};
 ghost use Rattle.regex_automata.specs.Regexes.SoundPairs.{IsSoundPair};
 ghost use Rattle.regex_automata.specs.declared.hybrid.regex.build.RegexBuildError.TheVariants.{Build as RegexBuild};
@@ -27,9 +28,6 @@ pub enum RegexBuildError {
     /// `NFA::skips_lazily` is false.
     #[error("the unanchored start does not skip lazily, so an unanchored match may have no start")]
     NotLazy,
-    /// `NFA::is_look_acyclic` is false.
-    #[error("a cycle of edges that read nothing passes a look, so matches may not follow the paths")]
-    LookCycle,
     /// `NFA::keeps_utf8` is false.
     #[error("a match may be invalid UTF-8, so in UTF-8 mode it might split a character")]
     NotUtf8,
@@ -89,15 +87,11 @@ fn tested_reverse(forward: &NFA) -> Result<NFA, RegexBuildError>
     ensures reversed { IfOk result (λ reverse. IsReversed forward.now reverse) }
     ensures pair { IfOk result (λ reverse. (kind : MatchKind)
         → IsTruePair (engine_of forward.now kind) (engine_of reverse MatchKind.All)) }
-    ensures acyclic { IfOk result (λ reverse. IsLookAcyclic (nfa_of forward.now)) }
     ensures utf8 { IfOk result (λ reverse. (kind : MatchKind) → KeepsUtf8 Forward (engine_of forward.now kind)) }
     ensures refused { IfErr result (λ error. (o : Options) → IsRefusal o forward.now error) }
 {
     if !forward.skips_lazily() {
         return Err(RegexBuildError::NotLazy);
-    }
-    if !forward.is_look_acyclic() {
-        return Err(RegexBuildError::LookCycle);
     }
     match forward.keeps_utf8() {
         Err(_) => Err(RegexBuildError::OutOfMemory),
@@ -107,7 +101,7 @@ fn tested_reverse(forward: &NFA) -> Result<NFA, RegexBuildError>
 
 /// Reverses an NFA, by the answer of the test for UTF-8. If it fails, no memory is asked for.
 fn reverse_if(forward: &NFA, keeps: bool) -> Result<NFA, RegexBuildError>
-    requires two { PassesTwo forward.now }
+    requires lazy { SkipsLazily forward.now }
     requires keeps { IsTrue keeps ↔ IsUtf8 forward.now }
     ensures passes { IfOk result (λ reverse. PassesAll forward.now) }
     ensures reversed { IfOk result (λ reverse. IsReversed forward.now reverse) }
@@ -208,22 +202,22 @@ impl Builder {
 
     /// The regex of one NFA. It searches backward with the reversed NFA (`NFA::reversed`).
     ///
-    /// It tests what the promise of spans needs: that the NFA skips lazily (`NFA::skips_lazily`), that no cycle of
-    /// epsilon transitions passes a look-around assertion (`NFA::is_look_acyclic`), and that in UTF-8 mode it keeps
-    /// UTF-8 (`NFA::keeps_utf8`). So every regex that it returns is a sound pair: `find` and its iterator return the
-    /// spans that the ordered paths of the NFA define. `build_from_nfas` makes a regex without these tests.
+    /// It tests what the promise of spans needs: that the NFA skips lazily (`NFA::skips_lazily`), and that in UTF-8
+    /// mode it keeps UTF-8 (`NFA::keeps_utf8`). If a cycle of epsilon transitions passes a look-around assertion, the
+    /// forward lazy DFA keeps unions in its states (`NFA::keeping_unions`). So every regex that it returns is a sound
+    /// pair: `find` and its iterator return the spans that the ordered paths of the NFA define. `build_from_nfas` makes
+    /// a regex without these tests, of the NFAs as they are.
     ///
     /// It makes these tests in this order, then reverses the NFA, and then builds both lazy DFAs. The error is that of
     /// the first that fails. It does not give the NFA back: clone it before.
     pub fn build_from_nfa(&self, forward: NFA) -> Result<Regex, RegexBuildError>
-        ensures built { IfOk result (λ regex. (reverse : Automaton)
-            × IsReversed forward reverse × BuildsPair self.now forward reverse regex) }
+        ensures built { IfOk result (BuildsOne self.now forward) }
         ensures sound { IfOk result IsSoundPair }
         ensures refused { IfErr result (IsRefusal self.now forward) }
     {
         match tested_reverse(&forward) {
             Err(error) => Err(error),
-            Ok(reverse) => match self.build_from_nfas(forward, reverse) {
+            Ok(reverse) => match self.build_from_nfas(forward.keeping_unions(), reverse) {
                 Ok(regex) => Ok(regex),
                 Err(error) => Err(RegexBuildError::Build(error)),
             },

@@ -32,8 +32,8 @@ returns-clause-returned c =
     ms error s.found in
     let first = collected_first p input within ms error s.found in
     record {
-      answers = λ acyclic. collected_right (FindsMatch p) (TryFinds (forward_engine p) (reverse_engine p)) input
-          (λ start o f. outcome_right p front rear (from start input) (Found o) acyclic (c.haystack-haystack.ensures.bytes, within) f)
+      answers = λ cycles. collected_right (FindsMatch p) (TryFinds (forward_engine p) (reverse_engine p)) input
+          (λ start o f. outcome_right p front rear (from start input) (Found o) cycles (c.haystack-haystack.ensures.bytes, within) f)
           ms error s.found;
       spans = right;
       beginning = λ sound whole spans. collected_begins (IsSpan (forward_engine p)) (c.start_is_right.ensures.one.span (forward_engine p)) input ms whole error (right sound) spans;

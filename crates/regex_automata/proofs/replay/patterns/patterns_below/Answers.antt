@@ -34,8 +34,8 @@ returns-in-Ok-list_members-clause-returned c =
     let still : new ≡ old → found ≡ [] = (λ same. c.in-Ok-list_members.ensures ∙ (ap members same ∙ c.in-Ok.ensures.empty)) in
     record {
       rise = members_rise new found c.in-Ok-list_members.ensures;
-      paths = λ acyclic none. patterns_reported (IsOverlapping Forward (engine_of m.nfa (match_kind_of m.config)) input) input c.args.capacity old new found c.in-Ok.ensures.capacity c.in-Ok.ensures.empty c.in-Ok-list_members.ensures
-          (reported_where reported (ArePatternsFound (engine_of m.nfa (match_kind_of m.config)) input _ _ _) (s.paths acyclic) (sym error ∙ none));
+      paths = λ cycles none. patterns_reported (IsOverlapping Forward (engine_of m.nfa (match_kind_of m.config)) input) input c.args.capacity old new found c.in-Ok.ensures.capacity c.in-Ok.ensures.empty c.in-Ok-list_members.ensures
+          (reported_where reported (ArePatternsFound (engine_of m.nfa (match_kind_of m.config)) input _ _ _) (s.paths cycles) (sym error ∙ none));
       unsupported = λ u. (let reported = s.unsupported u in (still reported.1, inl (error ∙ ap result_err reported.0)));
       free = λ f. subst (λ (e : Option SearchError). IfSome e IsMemory) (sym error) (memory_where reported (s.free f));
       done = λ past. (

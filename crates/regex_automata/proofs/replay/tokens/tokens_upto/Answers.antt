@@ -21,8 +21,8 @@ returns-clause-returned c =
     let few = c.haystack-haystack.ensures.within.1 in
     let given = c.take_tokens.ensures.given in
     record {
-      paths = λ acyclic. found_by m input.haystack input.end few (λ i. WithoutBase (IsAnswer Forward (engine_of m.nfa (match_kind_of m.config)) i))
-          (λ offset o returned. returned.0.answer acyclic) input.start ts error given;
+      paths = λ cycles. found_by m input.haystack input.end few (λ i. WithoutBase (IsAnswer Forward (engine_of m.nfa (match_kind_of m.config)) i))
+          (λ offset o returned. returned.0.answer cycles) input.start ts error given;
       beginning = begins m input.haystack input.end few input.start ts error given;
       whole = λ none. tiles m input.haystack input.end few input.start ts
           (subst (λ (e : Option TokenError). AreGiven m input.haystack input.end input.start ts e) none given);

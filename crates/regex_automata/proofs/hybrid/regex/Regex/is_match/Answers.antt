@@ -33,7 +33,7 @@ returns-in_err-found-clause-refusal c =
 pub returns-in_err-found-clause-returned : goal.returns-in_err-found-clause-returned
 returns-in_err-found-clause-returned c =
     truth_returned c.args.self.now c.args.input.now c.from_residual.result
-    (λ acyclic. if_ok c.from_residual.result _ _ c.from_residual.ensures.1)
+    (λ cycles. if_ok c.from_residual.result _ _ c.from_residual.ensures.1)
     (λ whole. if_ok c.from_residual.result _ _ c.from_residual.ensures.1)
     (λ ahead behind mode. is_err c.from_residual.result _ c.from_residual.ensures.1 ∙ ap (λ (e : SearchError). Err e) (same_err
     (asked_to (λ (i : Input). i.start ≤ i.end → quit_behind c.args.self.now.forward (byte_before i.haystack i.start) ≡ None → supports c.args.self.now.forward i.anchored ≡ false → ◌≡◌ {A = Result (Option HalfMatch) SearchError} (Err c.in_err-found.field-0.0) (Err (search.Match (UnsupportedMode i.anchored))))
@@ -67,7 +67,7 @@ pub returns-clause-returned : goal.returns-clause-returned
 returns-clause-returned c =
     let reported = truth_reported c.args.self.now.forward c.args.input.now c.asked-asked.result c.asked-asked.ensures c.in_ok-found.found c.is_some.result c.in_ok-found.ensures.found c.is_some.ensures in
     truth_returned c.args.self.now c.args.input.now (Ok c.is_some.result)
-    (λ acyclic. match_right c.args.self.now.forward (subst (λ (a : Automaton). ReportedIsRight a) c.get_nfa.ensures c.reported_is_right.ensures.answer) c.args.input.now c.is_some.result acyclic (c.haystack-haystack.ensures.bytes, c.haystack-haystack.ensures.within.1) (truth_reported c.args.self.now.forward c.args.input.now c.asked-asked.result c.asked-asked.ensures c.in_ok-found.found c.is_some.result c.in_ok-found.ensures.found c.is_some.ensures))
+    (λ cycles. match_right c.args.self.now.forward (subst (λ (a : Automaton). ReportedIsRight a) c.get_nfa.ensures c.reported_is_right.ensures.answer) c.args.input.now c.is_some.result cycles (c.haystack-haystack.ensures.bytes, c.haystack-haystack.ensures.within.1) (truth_reported c.args.self.now.forward c.args.input.now c.asked-asked.result c.asked-asked.ensures c.in_ok-found.found c.is_some.result c.in_ok-found.ensures.found c.is_some.ensures))
     (truth_nearest c.args.self.now.forward c.args.input.now c.asked-asked.result c.asked-asked.ensures c.in_ok-found.found c.is_some.result c.in_ok-found.ensures.half.nearest c.is_some.ensures)
     (λ ahead behind mode. absurd (ok_err
     (asked_to (λ (i : Input). i.start ≤ i.end → quit_behind c.args.self.now.forward (byte_before i.haystack i.start) ≡ None → supports c.args.self.now.forward i.anchored ≡ false → ◌≡◌ {A = Result (Option HalfMatch) SearchError} (Ok c.in_ok-found.found) (Err (search.Match (UnsupportedMode i.anchored))))

@@ -26,8 +26,8 @@ returns-clause-returned c =
     let ends = subst (λ (a : Automaton). ReportedEndsAreRight a) c.get_nfa-2.ensures c.reported_is_right-2.ensures.ends in
     span_returned c.args.self.now c.args.input.now c.search.result c.search.new.cache
     s.reported
-    (λ acyclic. IfOk-weaker c.search.result _ _
-    (λ o found. outcome_right c.args.self.now front rear c.args.input.now (Found o) acyclic (c.haystack-haystack.ensures.bytes, c.haystack-haystack.ensures.within.1) found)
+    (λ cycles. IfOk-weaker c.search.result _ _
+    (λ o found. outcome_right c.args.self.now front rear c.args.input.now (Found o) cycles (c.haystack-haystack.ensures.bytes, c.haystack-haystack.ensures.within.1) found)
     s.reported.found)
     (λ sound. IfOk-weaker c.search.result _ _
     (match_right c.args.self.now front ends c.start_is_right.ensures.starts sound c.args.input.now (c.haystack-haystack.ensures.bytes, c.haystack-haystack.ensures.within.1))
