@@ -1,0 +1,12 @@
+pub mod Options
+pub mod Nodes
+pub mod Looking
+pub mod Ascii
+pub mod Ranks
+pub mod Edges
+pub mod Runs
+pub mod Unions
+pub mod Lists
+pub mod Loops
+pub mod Spanning
+pub mod Means
