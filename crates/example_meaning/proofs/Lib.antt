@@ -8,5 +8,7 @@ pub mod Runs
 pub mod Unions
 pub mod Lists
 pub mod Loops
+pub mod Texts
 pub mod Spanning
 pub mod Means
+pub mod Iterations

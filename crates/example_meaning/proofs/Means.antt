@@ -1,25 +1,29 @@
 -- A search over the joined NFA finds what the alternation of the patterns means.
-use Rattle.std.proofs.Common.{ℕ, suc, ◌≡◌, ◌+◌, ◌<◌, ◌≤◌, List, [], ◌∷◌, Option, Some, None, Bool, false, length, option_map, refl, sym, ap, ap₂, ◌∙◌, subst, arith}
+use Rattle.std.proofs.Common.{ℕ, suc, ◌≡◌, ◌+◌, ◌<◌, ◌≤◌, List, [], ◌∷◌, Option, Some, None, Bool, true, false, IsUtf8, length, option_map, refl, sym, ap, ap₂, ◌∙◌, subst, arith}
 use Rattle.std.specs.Prelude.{cond, is_some, slice_get, if◌then◌else◌}
 use Rattle.std.specs.Option.{option_or}
 use Rattle.regex_class.specs.Ranges.{in_ranges}
 use Rattle.regex_hir.specs.Re.{Re, Trace, accept, attempt, byte_in}
-use Rattle.regex_hir.specs.Find.{find, first_between}
+use Rattle.regex_hir.specs.Find.{find, find_str, first_between}
 use Rattle.regex_hir.specs.Text.{is_some_and}
 use Rattle.regex_hir.proofs.OptionLemmas.{option_or-None}
 use Rattle.regex_nfa.specs.Run.{run}
 use Rattle.regex_nfa.specs.declared.nfa.Nfa as kit_nfa
 use Rattle.automata_base.specs.Answers.Spans.{IsSpan}
 use Rattle.automata_base.specs.Haystacks.Matches.{HalfMatch, Match}
-use Rattle.automata_base.specs.Haystacks.Tapes.{IsHaystack, forward_tape}
-use Rattle.automata_base.proofs.Answers.Once.{span_once}
+use Rattle.automata_base.specs.Haystacks.Tapes.{Forward, IsHaystack, forward_tape}
+use Rattle.automata_base.specs.Answers.TruePairs.{KeepsUtf8}
+use Rattle.automata_base.specs.Paths.Paths.{IsPathFrom}
+use Rattle.automata_base.proofs.Answers.Bytes.{forward_length}
+use Rattle.automata_base.proofs.Paths.Searches.{path_inside}
 use Rattle.example_meaning.specs.Translated.{engine, nfa_of, size_of, starts_of}
 use Rattle.example_meaning.specs.Agreeing.{Each, HasSameLooks, ImplementAll, IsLeastEnd}
-use Rattle.example_meaning.specs.Patterns.{any_of, first_at, match_of, span_input}
+use Rattle.example_meaning.specs.Patterns.{any_of, find_any, first_at, match_of, span_input}
 use Rattle.example_meaning.proofs.Options.{half_of}
-use Rattle.example_meaning.proofs.Unions.{found_of, union_finds}
+use Rattle.example_meaning.proofs.Unions.{found_of, union_finds, union_is}
 use Rattle.example_meaning.proofs.Loops.{loops_lazily}
-use Rattle.example_meaning.proofs.Spanning.{bytes_span}
+use Rattle.example_meaning.proofs.Spanning.{bytes_span, text_span}
+use Rattle.example_meaning.proofs.Texts.{empty_start, whole_match}
 
 -- no byte is in no range
 nowhere : (hay : List ℕ) (i : ℕ) (o : Option ℕ) → (if is_some_and o (in_ranges []) then accept (i + 1) else None) ≡ None
@@ -66,10 +70,56 @@ module _ (ks : List kit_nfa.Nfa) (res : List Re) (is : ImplementAll ks res) (hay
       (union_finds ks hay (length hay) (omega arith) same s place inside)
 
   -- over bytes
-  pub bytes_mean : IsHaystack hay → (s : ℕ) (o : Option Match) →
-      IsSpan (engine false ks) (span_input hay s (length hay)) o → o ≡ option_map (match_of res hay) (find (any_of res) hay s)
+  bytes_mean : IsHaystack hay → (s : ℕ) →
+      IsSpan (engine false ks) (span_input hay s (length hay)) (option_map (match_of res hay) (find (any_of res) hay s))
   unfolding find
-  bytes_mean bytes s o h =
-      span_once (engine false ks) (span_input hay s (length hay)) o _ h
-      (bytes_span (nfa_of ks) (size_of ks) (size_of ks + 1) (size_of ks + 2) (starts_of 0 ks) false (loops_lazily ks) hay (length hay)
-      (omega arith) bytes (attempt hay (any_of res) accept) (first_at res hay) finds s refl)
+  bytes_mean bytes s =
+      bytes_span (nfa_of ks) (size_of ks) (size_of ks + 1) (size_of ks + 2) (starts_of 0 ks) false (loops_lazily ks) hay (length hay)
+      (omega arith) bytes (attempt hay (any_of res) accept) (first_at res hay) finds s refl
+
+  -- where a match begins, as the least path there
+  here : (i : ℕ) (trace : Trace) → i ≤ length hay → attempt hay (any_of res) accept i ≡ Some trace →
+      IsLeastEnd (nfa_of ks) (forward_tape hay i (length hay)) i 0 [] (size_of ks) (Some (half_of (first_at res hay i) trace))
+  here i trace inside e =
+      subst (λ o. IsLeastEnd (nfa_of ks) (forward_tape hay i (length hay)) i 0 [] (size_of ks) (option_map (half_of (first_at res hay i)) o)) e
+      (subst (λ v. IsLeastEnd (nfa_of ks) (forward_tape hay i (length hay)) i 0 [] (size_of ks)
+      (option_map (half_of (first_at res hay v)) (attempt hay (any_of res) accept v))) at_first
+      (finds i 0 (omega (arith, inside))))
+    where
+      at_first : i + 0 ≡ i
+      at_first = omega arith
+
+  ends_inside : (i : ℕ) (half : HalfMatch) → i ≤ length hay →
+      IsLeastEnd (nfa_of ks) (forward_tape hay i (length hay)) i 0 [] (size_of ks) (Some half) → half.offset ≤ length hay
+  ends_inside i half inside own =
+      let l = path_inside (nfa_of ks) (forward_tape hay i (length hay)) 0 [] (size_of ks) own.0 own.1 own.2 (omega arith) own.3 in
+      let count = forward_length hay i (length hay) inside (omega arith) in
+      let e = own.5 in
+      omega (arith, l, count, e, inside)
+
+  -- over text, under the UTF-8 promise
+  text_means : IsHaystack hay → IsUtf8 hay → KeepsUtf8 Forward (engine true ks) → (s : ℕ) →
+      IsSpan (engine true ks) (span_input hay s (length hay)) (option_map (match_of res hay) (find_str (any_of res) hay s))
+  unfolding find_str
+  text_means bytes text keeps s =
+      text_span (nfa_of ks) (size_of ks) (size_of ks + 1) (size_of ks + 2) (starts_of 0 ks) true (loops_lazily ks) hay (length hay)
+      (omega arith) bytes (attempt hay (any_of res) accept) (first_at res hay) finds
+      (λ i trace inside e.
+      let own = here i trace inside e in
+      whole_match (engine true ks) keeps refl hay bytes text i (half_of (first_at res hay i) trace) inside own
+      (ends_inside i _ inside own))
+      (λ i trace inside e empty.
+      let own = here i trace inside e in
+      let still : own.1 ≡ 0 = let f = own.5 in omega (arith, f, empty) in
+      (
+        refl,
+        empty_start (nfa_of ks) (forward_tape hay i (length hay)) (size_of ks) (starts_of 0 ks) (union_is ks) own.0 own.2
+            (first_at res hay i) (subst (λ v. IsPathFrom (nfa_of ks) (forward_tape hay i (length hay)) 0 [] (size_of ks) own.0 v own.2) still own.3) own.4,
+      ))
+      s
+
+  -- The span of a search over the rest of a haystack is the leftmost match that the alternation means.
+  pub any_means : (utf8 : Bool) → IsHaystack hay → (utf8 ≡ true → IsUtf8 hay) → KeepsUtf8 Forward (engine utf8 ks) → (s : ℕ) →
+      IsSpan (engine utf8 ks) (span_input hay s (length hay)) (option_map (match_of res hay) (find_any utf8 res hay s))
+  any_means true bytes text keeps s = text_means bytes (text refl) keeps s
+  any_means false bytes text keeps s = bytes_mean bytes s

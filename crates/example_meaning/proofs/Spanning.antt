@@ -1,12 +1,14 @@
 -- The leftmost match by what is found at each offset is the span that the paths define, where a lazy loop begins them.
-use Rattle.std.proofs.Common.{ℕ, zero, suc, ◌≡◌, ◌+◌, ◌-◌, ◌<◌, ◌≤◌, ◌⊎◌, List, [], ◌∷◌, Option, Some, None, Bool, true, false, length, option_map, refl, sym, ap, ◌∙◌, subst, ⊎_elim, inl, inr, arith, true≢false}
+use Rattle.std.proofs.Common.{ℕ, zero, suc, ◌≡◌, ◌+◌, ◌-◌, ◌<◌, ◌≤◌, ◌⊎◌, List, [], ◌∷◌, Option, Some, None, Bool, true, false, not, length, option_map, refl, sym, ap, ◌∙◌, subst, ⊎_elim, inl, inr, arith, true≢false}
+use Rattle.std.specs.Prelude.{if◌then◌else◌}
 use Rattle.std.proofs.lemmas.Bool.{cases_lt}
 use Rattle.regex_hir.specs.Re.{Rest, Trace}
 use Rattle.regex_hir.specs.Find as kit_find
 use Rattle.regex_hir.specs.Find.{first_between}
-use Rattle.regex_hir.proofs.FindLemmas.{IsFirst, IsFirst-of_first_between, none_of_first_between}
+use Rattle.regex_hir.specs.Text.{is_boundary}
+use Rattle.regex_hir.proofs.FindLemmas.{IsFirst, IsFirst-of_first_between, first_between_next, first_between_none, first_between_of_IsFirst, first_between_past, none_of_first_between}
 use Rattle.regex_hir.proofs.OptionLemmas.{option_cases}
-use Rattle.automata_base.specs.Answers.Answers.{Half, IsAnswer, Tries, SelectsOver}
+use Rattle.automata_base.specs.Answers.Answers.{later}
 use Rattle.automata_base.specs.Answers.Spans.{IsSpan, IsPathStart, Chooses}
 use Rattle.automata_base.specs.Haystacks.Input.{Input}
 use Rattle.automata_base.specs.Haystacks.Matches.{Match}
@@ -22,13 +24,14 @@ use Rattle.automata_base.proofs.Answers.Backs.{forward_bytes}
 use Rattle.automata_base.proofs.Answers.Bytes.{forward_length}
 use Rattle.automata_base.proofs.Answers.Chosen.{StartsAt, starts_at, lazy_start}
 use Rattle.automata_base.proofs.Answers.Loops.{HasBytes, skips, skipping, sooner_less}
-use Rattle.automata_base.proofs.Answers.Tried.{ComesTo}
+use Rattle.automata_base.proofs.Answers.Tried.{ComesTo, IsSplitAnswer}
 use Rattle.automata_base.proofs.Paths.Places.{path_grows}
 use Rattle.automata_base.proofs.Paths.Searches.{accepting_inside, path_inside}
 use Rattle.example_meaning.specs.Agreeing.{IsLeastEnd}
 use Rattle.example_meaning.specs.Patterns.{span_input}
 use Rattle.example_meaning.proofs.Options.{half_of}
 use Rattle.example_meaning.proofs.Edges.{upto_cons}
+use Rattle.example_meaning.proofs.Texts.{boundary_is}
 
 -- as much as is skipped before both
 upto_skips : (k : ℕ) (a b : List ℕ) → Upto a b → Upto (skips k (0 ∷ a)) (skips k (0 ∷ b))
@@ -196,3 +199,117 @@ module _ (n : Nfa) (a u x : ℕ) (starts : List ℕ) (utf8 : Bool) (loop : Loops
         (λ f. subst (λ o. IsSpan searched input (option_map (numbered number) o)) (sym f.1)
         (a_span 0 at_once f.0 (IsFirst-of_first_between at (s + 0) stop f.0 (from_here ∙ f.1)) (λ skip. absurd (true≢false (sym skip.0 ∙ plain)))))
         (option_cases (first_between at s stop))
+
+  -- Over text a match is empty, or begins and ends where characters do; and if one is empty, places inside characters
+  -- are skipped.
+  module _ (plain : (i : ℕ) (trace : Trace) → i ≤ stop → at i ≡ Some trace →
+      (i ≡ trace.end) ⊎ ((is_split hay i ≡ false) × (is_split hay trace.end ≡ false)))
+      (skips_there : (i : ℕ) (trace : Trace) → i ≤ stop → at i ≡ Some trace → i ≡ trace.end → IsSkipping searched) where
+    -- the matches that begin where a character does
+    abbrev pub at_starts : Rest
+    at_starts i = if is_boundary hay i then at i else None
+
+    starts_none : (i : ℕ) → at i ≡ None → at_starts i ≡ None
+    starts_none i e = by (is_boundary hay i)
+      where
+        by : (b : Bool) → (if b then at i else None) ≡ None
+        by true = e
+        by false = refl
+
+    starts_whole : (i : ℕ) → is_split hay i ≡ false → at_starts i ≡ at i
+    starts_whole i e = ap (λ b. if b then at i else None) (boundary_is hay i ∙ ap not e)
+
+    starts_split : (i : ℕ) → is_split hay i ≡ true → at_starts i ≡ None
+    starts_split i e = ap (λ b. if b then at i else None) (boundary_is hay i ∙ ap not e)
+
+    module _ (s : ℕ) where
+      abbrev Spans : ℕ → Type 0
+      Spans k =
+          ComesTo Forward searched (span_input hay s stop) k
+          → IsSpan searched (span_input hay s stop) (option_map (numbered number) (first_between at_starts (s + k) stop))
+
+      none_later : (k : ℕ) → first_between at (s + k) stop ≡ None → Spans k
+      none_later k e tries =
+          subst (λ o. IsSpan searched (span_input hay s stop) (option_map (numbered number) o))
+          (sym (first_between_none at_starts (s + k) stop (λ i p q. starts_none i (none_of_first_between at (s + k) stop e i p q))))
+          (no_span s k tries e)
+
+      -- the leftmost match ends where a character does
+      whole_here : (k : ℕ) (m : kit_find.Match) → IsFirst at (s + k) stop m → is_split hay m.trace.end ≡ false → Spans k
+      whole_here k m first c tries =
+          subst (λ o. IsSpan searched (span_input hay s stop) (option_map (numbered number) o))
+          (sym (first_between_of_IsFirst at_starts (s + k) stop m (record {
+            from = first.from;
+            to = first.to;
+            here = starts_whole m.start begin ∙ first.here;
+            before = λ i p q. starts_none i (first.before i p q);
+          })))
+          (a_span s k tries m first (λ skip. c))
+        where
+          begin : is_split hay m.start ≡ false
+          begin =
+              ⊎_elim (λ (e : m.start ≡ m.trace.end). ap (is_split hay) e ∙ c)
+              (λ (w : (is_split hay m.start ≡ false) × (is_split hay m.trace.end ≡ false)). w.0)
+              (plain m.start m.trace first.to first.here)
+
+      -- it ends inside a character, so it is empty there, and the search goes on
+      split_here : (k : ℕ) (m : kit_find.Match) → IsFirst at (s + k) stop m → is_split hay m.trace.end ≡ true → Spans (suc k) → Spans k
+      split_here k m first c more tries =
+          subst (λ o. IsSpan searched (span_input hay s stop) (option_map (numbered number) o))
+          (sym (first_between_next at_starts (s + k) stop none_here ∙ ap (λ v. first_between at_starts v stop) one_more))
+          (more (inr (skips_there m.start m.trace first.to first.here empty, refl), tried))
+        where
+          one_more : s + k + 1 ≡ s + suc k
+          one_more = omega arith
+
+          inside : s + k ≤ stop
+          inside = let l = first.from in let g = first.to in omega (arith, l, g)
+
+          empty : m.start ≡ m.trace.end
+          empty =
+              ⊎_elim (λ (e : m.start ≡ m.trace.end). e)
+              (λ (w : (is_split hay m.start ≡ false) × (is_split hay m.trace.end ≡ false)). absurd (true≢false (sym c ∙ w.1)))
+              (plain m.start m.trace first.to first.here)
+
+          none_here : at_starts (s + k) ≡ None
+          none_here =
+              ⊎_elim (λ (l : s + k < m.start). starts_none (s + k) (first.before (s + k) (omega arith) l))
+              (λ (l : m.start ≤ s + k).
+              let low = first.from in
+              let same : m.start ≡ s + k = omega (arith, l, low) in
+              subst (λ v. at_starts v ≡ None) same (starts_split m.start (ap (is_split hay) empty ∙ c)))
+              (cases_lt (s + k) m.start)
+
+          tried : (j : ℕ) → j < suc k →
+              (s + j ≤ stop) × IsSplitAnswer Forward searched (later Forward j (span_input hay s stop))
+          tried j l =
+              ⊎_elim (λ (b : j < k). tries.1 j b)
+              (λ (b : k ≤ j).
+              let same : k ≡ j = omega (arith, b, l) in
+              subst (λ v. (s + v ≤ stop) × IsSplitAnswer Forward searched (later Forward v (span_input hay s stop))) same (
+                inside,
+                (
+                  pair (s + k) inside m first,
+                  selects_some (s + k) inside m first,
+                  subst (λ v. is_split hay v ≡ true) (sym (ends_there (s + k) inside m first)) c,
+                ),
+              ))
+              (cases_lt j k)
+
+      spans_from : (fuel k : ℕ) → stop + 1 ≤ s + k + fuel → Spans k
+      spans_from zero k room = none_later k (first_between_past at (s + k) stop (omega (arith, room)))
+      spans_from (suc fuel) k room =
+          ⊎_elim (λ e. none_later k e)
+          (λ f. by f.0 (IsFirst-of_first_between at (s + k) stop f.0 f.1) (is_split hay f.0.trace.end) refl
+          (spans_from fuel (suc k) (omega (arith, room))))
+          (option_cases (first_between at (s + k) stop))
+        where
+          by : (m : kit_find.Match) → IsFirst at (s + k) stop m → (c : Bool) → is_split hay m.trace.end ≡ c → Spans (suc k) → Spans k
+          by m first false c more = whole_here k m first c
+          by m first true c more = split_here k m first c more
+
+      -- over text the spans are tried one after another, until a match is not inside a character
+      pub text_span : IsSpan searched (span_input hay s stop) (option_map (numbered number) (first_between at_starts s stop))
+      text_span =
+          subst (λ v. IsSpan searched (span_input hay s stop) (option_map (numbered number) (first_between at_starts v stop)))
+          (omega arith) (spans_from (stop + 1) 0 (omega arith) (at_once s))
