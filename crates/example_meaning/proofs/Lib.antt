@@ -12,3 +12,4 @@ pub mod Texts
 pub mod Spanning
 pub mod Means
 pub mod Iterations
+pub mod Matching
