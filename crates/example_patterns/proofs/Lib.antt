@@ -1,1 +1,3 @@
 mod Drafting
+mod Searching
+mod Building

@@ -1,5 +1,5 @@
 -- What NFAs and regexes of patterns are: each text is read as a tree, and what its NFA finds is what the tree means.
-use Rattle.std.specs.Prelude.{ℕ, ◌≡◌, Bool, List, [], ◌∷◌, Option}
+use Rattle.std.specs.Prelude.{ℕ, ◌≡◌, Bool, true, false, List, [], ◌∷◌, Option, IsAscii, IsUtf8}
 use Rattle.regex_hir.specs.Re.{Re}
 use Rattle.regex_hir.specs.Meaning.{meaning}
 use Rattle.regex_hir.specs.declared.hir.Hir as kit_hir
@@ -32,23 +32,27 @@ AreMeanings config [] (re ∷ res) = ⊥
 AreMeanings config (text ∷ texts) [] = ⊥
 AreMeanings config (text ∷ texts) (re ∷ res) = IsMeaning config text re × AreMeanings config texts res
 
--- some NFAs of the kit find what the patterns mean, and no look of them is one of characters
-abbrev pub AreNfasOf : List kit_nfa.Nfa → List Re → Type 0
-AreNfasOf ks res = ImplementAll ks res × Each HasNoUnicodeLook ks
+-- some NFAs of the kit find what the patterns mean; no look of them is one of characters, unless the text is ASCII
+abbrev pub AreNfasOf : Options → List kit_nfa.Nfa → List Re → Type 0
+AreNfasOf options ks res = ImplementAll ks res × Each (λ k. options.ascii ≡ false → HasNoUnicodeLook k) ks
 
 -- the NFA is that of the patterns of these texts
 abbrev pub IsNfaOf : Options → (texts : List (List ℕ)) → Automaton → Type 0
 IsNfaOf options texts nfa =
-    (res : List Re) × (ks : List kit_nfa.Nfa) × AreMeanings (config_of options) texts res × AreNfasOf ks res
+    (res : List Re) × (ks : List kit_nfa.Nfa) × AreMeanings (config_of options) texts res × AreNfasOf options ks res
     × (engine_of nfa LeftmostFirst ≡ engine options.utf8 ks)
 
--- the regex is a sound pair that searches for what the patterns mean, in text if `utf8` is true and else in bytes
-abbrev pub IsRegexOf : (utf8 : Bool) → List Re → Regex → Type 0
-IsRegexOf utf8 res regex =
+-- the regex is a sound pair that searches for what the patterns mean
+abbrev pub IsRegexOf : Options → List Re → Regex → Type 0
+IsRegexOf options res regex =
     IsSoundPair regex
-    × ((ks : List kit_nfa.Nfa) × AreNfasOf ks res × (forward_engine regex ≡ engine utf8 ks))
+    × ((ks : List kit_nfa.Nfa) × AreNfasOf options ks res × (forward_engine regex ≡ engine options.utf8 ks))
 
 -- the regex is that of the patterns of these texts
 abbrev pub IsPatternOf : Options → (texts : List (List ℕ)) → Regex → Type 0
 IsPatternOf options texts regex =
-    (res : List Re) × AreMeanings (config_of options) texts res × IsRegexOf options.utf8 res regex
+    (res : List Re) × AreMeanings (config_of options) texts res × IsRegexOf options res regex
+
+-- the bytes are what the options say is searched
+abbrev pub IsFor : Options → List ℕ → Type 0
+IsFor options hay = (options.utf8 ≡ true → IsUtf8 hay) × (options.ascii ≡ true → IsAscii hay)

@@ -26,6 +26,9 @@ pub struct Options {
     pub case_insensitive: bool,
     /// Whether text is searched: no match splits a character. Otherwise bytes are searched.
     pub utf8: bool,
+    /// Whether the text is ASCII. Then a pattern may have a word boundary of Unicode, and a search that comes to
+    /// another byte may fail. Otherwise such a pattern is refused.
+    pub ascii: bool,
     /// How many bytes the tables of all patterns may take.
     pub size_limit: usize,
 }
@@ -35,6 +38,7 @@ impl Default for Options {
         Options {
             case_insensitive: false,
             utf8: true,
+            ascii: false,
             size_limit: 10 << 20,
         }
     }
@@ -78,9 +82,12 @@ fn compile(alloc: Global, text: &str, options: &Options, room: usize) -> Result<
     ensures { IfOk result (IsCompiled (config_of options.now) text.now) }
 {
     let parsed = parse(alloc, text, options)?;
-    match u32::try_from(parsed.names.len()) {
-        Ok(groups) => regex_compile::compile(alloc, &parsed.hir, groups, room).map_err(Fault::from),
-        Err(_) => Err(Fault::TooLarge),
+    let Ok(groups) = u32::try_from(parsed.names.len()) else {
+        return Err(Fault::TooLarge);
+    };
+    match regex_compile::compile(alloc, &parsed.hir, groups, room) {
+        Ok(nfa) => Ok(nfa),
+        Err(error) => Err(Fault::from(error)),
     }
 }
 
@@ -108,12 +115,13 @@ impl Draft {
     fn read(&mut self, alloc: Global, texts: &[&str], options: &Options) -> Result<(), PatternError>
         requires states { self.old.states.items ≡ [] }
         requires starts { self.old.starts.items ≡ [] }
-        ensures { OnOk result (IsDraftOf (config_of options.now) (map (λ text. text.now) texts.now) self.new) }
+        ensures { OnOk result (IsDraftOf options.now (map (λ text. text.now) texts.now) self.new) }
     {
         for text in texts {
             let number = self.starts.len();
-            if let Err(fault) = self.read_one(alloc, text, options) {
-                return Err(PatternError { number, fault });
+            match self.read_one(alloc, text, options) {
+                Ok(()) => {}
+                Err(fault) => return Err(PatternError { number, fault }),
             }
         }
         Ok(())
@@ -122,17 +130,17 @@ impl Draft {
     /// Adds the pattern of a text.
     fn read_one(&mut self, alloc: Global, text: &str, options: &Options) -> Result<(), Fault>
         ensures { OnOk result ((k : kit_nfa.Nfa) × IsCompiled (config_of options.now) text.now k
-            × Grows self.old k self.new) }
+            × Grows options.now.ascii self.old k self.new) }
     {
         let nfa = compile(alloc, text, options, self.room)?;
-        self.add(alloc, &nfa)
+        self.add(alloc, &nfa, options.ascii)
     }
 
     /// Adds the states of a pattern behind those of the patterns before it.
-    fn add(&mut self, alloc: Global, nfa: &Nfa) -> Result<(), Fault>
-        ensures { OnOk result (Grows self.old nfa.now self.new) }
+    fn add(&mut self, alloc: Global, nfa: &Nfa, ascii: bool) -> Result<(), Fault>
+        ensures { OnOk result (Grows ascii self.old nfa.now self.new) }
     {
-        if has_unicode_look(nfa) {
+        if !ascii && has_unicode_look(nfa) {
             return Err(Fault::UnicodeWord);
         }
         let Some(pattern) = PatternID::new(self.starts.len()) else {
@@ -148,10 +156,10 @@ impl Draft {
     }
 
     /// Adds a union of all starts, and before it a lazy loop that skips bytes. Returns where the loop begins.
-    fn join(&mut self) -> Result<StateID, Fault>
+    fn join(&mut self, alloc: Global) -> Result<StateID, Fault>
         ensures nodes { OnOk result (nodes.nodes_of self.new.states.items ≡ nodes.nodes_of self.old.states.items
             ++ Split self.old.starts.items
-            ∷ Split (length self.old.states.items ∷ length self.old.states.items + 2 ∷ [])
+            ∷ Split (length self.old.states.items ∷ (length self.old.states.items + 2) ∷ [])
             ∷ any_byte (length self.old.states.items + 1) ∷ []) }
         ensures starts { OnOk result (self.new.starts ≡ self.old.starts) }
         ensures start { IfOk result (λ id. id ≡ length self.old.states.items + 1) }
@@ -159,7 +167,7 @@ impl Draft {
         let union = id_of(self.states.len())?;
         let next = id_of(self.states.len() + 1)?;
         let skip = id_of(self.states.len() + 2)?;
-        let alternates = self.starts.clone()?;
+        let alternates = Vec::from_slice(alloc, self.starts.as_slice())?;
         self.states.push(State::Union { alternates })?;
         let (alt1, alt2) = (union, skip);
         self.states.push(State::BinaryUnion { alt1, alt2 })?;
@@ -174,7 +182,7 @@ impl Draft {
             → engine_of nfa LeftmostFirst ≡ engine utf8 ks) }
     {
         let start = id_of(self.states.len())?;
-        let unanchored = self.join()?;
+        let unanchored = self.join(alloc)?;
         let flags = Flags {
             utf8,
             reverse: false,
@@ -198,9 +206,7 @@ pub fn nfa_of(alloc: Global, texts: &[&str], options: &Options) -> Result<NFA, P
     ensures { IfOk result (IsNfaOf options.now (map (λ text. text.now) texts.now)) }
 {
     let mut draft = Draft::new(alloc, options.size_limit);
-    if let Err(error) = draft.read(alloc, texts, options) {
-        return Err(error);
-    }
+    draft.read(alloc, texts, options)?;
     match draft.finish(alloc, options.utf8) {
         Ok(nfa) => Ok(nfa),
         Err(fault) => Err(PatternError { number: 0, fault }),

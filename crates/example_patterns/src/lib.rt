@@ -12,7 +12,9 @@
 
 mod compile;
 mod error;
+mod pattern;
 mod translate;
 
 pub use compile::{Options, nfa_of};
 pub use error::{Fault, PatternError};
+pub use pattern::Pattern;
