@@ -14,21 +14,18 @@ use Rattle.automata_base.proofs.Answers.Once.{match_iff_find, span_once}
 use Rattle.automata_base.proofs.Answers.Rising.{spans_inside, spans_rise}
 use Rattle.automata_base.proofs.Paths.Orders.{none_some, some_inj}
 use Rattle.example_meaning.specs.Patterns.{match_of, span_input}
+use Rattle.example_meaning.proofs.Options.{some_map}
 
 module _ (d : Engine) (res : List Re) (hay : List ℕ) (search : ℕ → Option kit_find.Match)
     (spans : (s : ℕ) → IsSpan d (span_input hay s (length hay)) (option_map (match_of res hay) (search s))) where
   abbrev own : kit_find.Match → Match
   own m = match_of res hay m
 
-  is_some_map : (o : Option kit_find.Match) → is_some (option_map (match_of res hay) o) ≡ is_some o
-  is_some_map None = refl
-  is_some_map (Some m) = refl
-
   -- whether there is a match
   pub truth_is : (s : ℕ) (truth : Bool) → IsMatch d (span_input hay s (length hay)) truth → truth ≡ is_some (search s)
   truth_is s truth h =
       match_iff_find d (span_input hay s (length hay)) truth (option_map (match_of res hay) (search s)) (inl refl) h (spans s)
-      ∙ is_some_map (search s)
+      ∙ some_map (match_of res hay) (search s)
 
   -- the span is the one that is meant
   pub span_is : (s : ℕ) (o : Option Match) → IsSpan d (span_input hay s (length hay)) o → o ≡ option_map (match_of res hay) (search s)

@@ -1,5 +1,5 @@
 -- Whether there is a match, in an earliest search too, and by the textbook relation.
-use Rattle.std.proofs.Common.{ℕ, ◌≡◌, ◌+◌, ◌≤◌, ◌⊎◌, List, Option, Some, None, Bool, true, false, is_some, length, option_map, refl, sym, ap, ◌∙◌, subst, ⊎_elim, inl, inr, arith, max}
+use Rattle.std.proofs.Common.{ℕ, ◌≡◌, ◌+◌, ◌≤◌, ◌⊎◌, List, Option, Some, None, Bool, true, false, is_some, length, option_map, refl, sym, ap, ◌∙◌, subst, ⊎_elim, inl, inr, arith, max, true≢false}
 use Rattle.std.specs.Prelude.{IsTrue, ◌↔◌}
 use Rattle.regex_hir.specs.Re.{Re}
 use Rattle.regex_hir.specs.Find as kit_find
@@ -8,16 +8,21 @@ use Rattle.regex_hir.specs.Matches.{Matches}
 use Rattle.regex_hir.proofs.FindLemmas.{IsFirst-of_first_between, find_complete, find_sound}
 use Rattle.regex_hir.proofs.MatchesLemmas.{Matches-IsSpan}
 use Rattle.regex_hir.proofs.OptionLemmas.{option_cases}
+use Rattle.regex_nfa.specs.declared.nfa.Nfa as kit_nfa
 use Rattle.automata_base.specs.Answers.Answers.{Half, IsAnswer, SelectsOver, later}
 use Rattle.automata_base.specs.Answers.Spans.{IsSpan}
 use Rattle.automata_base.specs.Haystacks.Input.{Input}
 use Rattle.automata_base.specs.Haystacks.Matches.{Match}
-use Rattle.automata_base.specs.Haystacks.Tapes.{Forward, forward_tape}
+use Rattle.automata_base.specs.Haystacks.Tapes.{Forward, IsHaystack, forward_tape}
 use Rattle.automata_base.specs.Nfas.Engines.{Engine, IsSkipping}
 use Rattle.automata_base.specs.Paths.Selections.{Accepts}
 use Rattle.automata_base.proofs.Answers.Tried.{ComesTo}
 use Rattle.automata_base.proofs.Paths.Orders.{none_some}
+use Rattle.example_meaning.specs.Agreeing.{Each, HasSameLooks, ImplementAll}
 use Rattle.example_meaning.specs.Patterns.{any_of, HasPart, match_of, span_input}
+use Rattle.example_meaning.specs.Translated.{engine}
+use Rattle.example_meaning.proofs.Means.{bytes_mean}
+use Rattle.example_meaning.proofs.Options.{some_map}
 
 module _ (d : Engine) (all : IsSkipping d → ⊥) (hay : List ℕ) (s stop : ℕ) (inside : s ≤ stop) where
   -- the same span, of a search that may stop at its first match
@@ -71,3 +76,14 @@ part_is res hay truth e = (
   there (inr (m, found)) t =
       let w = find_sound (any_of res) hay 0 m found in
       (m.start, m.trace.end, begins (any_of res) hay 0 m found, w.1)
+
+-- So a search over bytes, earliest or not, tells whether some part of the haystack is a match.
+pub part_of_answer : (ks : List kit_nfa.Nfa) (res : List Re) → ImplementAll ks res → (hay : List ℕ) → Each (HasSameLooks hay) ks →
+    IsHaystack hay → (e : Bool) (o : Option Half) →
+    IsAnswer Forward (engine false ks) (record (span_input hay 0 (length hay)) { earliest = e }) o →
+    (truth : Bool) → truth ≡ is_some o → IsTrue truth ↔ HasPart res hay
+part_of_answer ks res is hay same bytes e o a truth t =
+    part_is res hay truth
+    (t
+    ∙ answer_tells (engine false ks) (λ h. true≢false (sym h.0)) hay 0 (length hay) (omega arith) e o a _ (bytes_mean ks res is hay same bytes 0)
+    ∙ some_map (match_of res hay) (find (any_of res) hay 0))

@@ -70,7 +70,7 @@ module _ (ks : List kit_nfa.Nfa) (res : List Re) (is : ImplementAll ks res) (hay
       (union_finds ks hay (length hay) (omega arith) same s place inside)
 
   -- over bytes
-  bytes_mean : IsHaystack hay → (s : ℕ) →
+  pub bytes_mean : IsHaystack hay → (s : ℕ) →
       IsSpan (engine false ks) (span_input hay s (length hay)) (option_map (match_of res hay) (find (any_of res) hay s))
   unfolding find
   bytes_mean bytes s =

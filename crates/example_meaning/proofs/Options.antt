@@ -1,6 +1,6 @@
 -- What is done to a value under an option.
 use Rattle.std.proofs.Common.{◌≡◌, ℕ, ◌+◌, Option, None, Some, option_map, refl}
-use Rattle.std.specs.Prelude.{Bool, true, false, cond, option_and_then}
+use Rattle.std.specs.Prelude.{Bool, true, false, cond, is_some, option_and_then}
 use Rattle.std.specs.Option.{option_or}
 use Rattle.regex_hir.specs.Re.{Trace, write}
 use Rattle.automata_base.specs.Haystacks.Matches.{HalfMatch}
@@ -18,6 +18,10 @@ module _ {A B : Type 0} (f : A → B) where
   pub map_or : (o o2 : Option A) → option_or (option_map f o) (option_map f o2) ≡ option_map f (option_or o o2)
   map_or None o2 = refl
   map_or (Some x) o2 = refl
+
+  pub some_map : (o : Option A) → is_some (option_map f o) ≡ is_some o
+  some_map None = refl
+  some_map (Some x) = refl
 
 -- A trace's end, as the end of a match of a pattern.
 abbrev pub half_of : (pattern : ℕ) → Trace → HalfMatch

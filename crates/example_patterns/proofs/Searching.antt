@@ -1,11 +1,17 @@
 -- What the searches for a pattern find, by what the pattern means.
-use Rattle.std.proofs.Common.{ℕ, ◌≡◌, ◌<◌, ◌≤◌, List, [], ◌∷◌, Option, Bool, true, false, is_some, length, map, option_map, sym, ap, ◌∙◌, subst, ⊎_elim, All, get_or}
-use Rattle.std.specs.Prelude.{Result, Ok, Err, IfOk, IsAscii}
+use Rattle.std.proofs.Common.{ℕ, ◌≡◌, ◌<◌, ◌≤◌, List, [], ◌∷◌, Option, None, Bool, true, false, is_some, length, map, option_map, sym, ap, ◌∙◌, subst, ⊎_elim, All, get_or}
+use Rattle.std.specs.Prelude.{Result, Ok, Err, IfOk, IsAscii, Vec}
+use Rattle.std.specs.declared.alloc.Global.{Global}
 use Rattle.std.proofs.lemmas.Bool.{cases_Bool}
 use Rattle.regex_nfa.proofs.RunLemmas.{any_default}
 use Rattle.regex_hir.specs.Re.{Re}
 use Rattle.regex_nfa.specs.declared.nfa.Nfa as kit_nfa
-use Rattle.automata_base.specs.Answers.Spans.{AreSpans, IsSpan}
+use Rattle.automata_base.specs.Answers.OfPasses.{ReportedEndsAreRight, ReportedIsRight}
+use Rattle.automata_base.specs.Answers.Spans.{AreMatches, AreSpans, IsSpan, from}
+use Rattle.automata_base.specs.Laws.StartIsRight.{StartsAreRight}
+use Rattle.automata_base.proofs.Answers.Rising.{matches_right}
+use Rattle.regex_automata.specs.Spans.Outcomes.{FindsMatch}
+use Rattle.regex_automata.proofs.Spans.ByPaths.{match_right}
 use Rattle.automata_base.specs.Haystacks.Input.{Input}
 use Rattle.automata_base.specs.Haystacks.Matches.{Match}
 use Rattle.automata_base.specs.Haystacks.Tapes.{Forward, IsHaystack}
@@ -29,7 +35,7 @@ all_ascii : (hay : List ℕ) → IsAscii hay → All (λ b. b < 128) hay
 all_ascii hay ascii i d l = subst (λ v. v < 128) (any_default hay i 0 d l) (ascii i)
 
 -- the looks agree on what the options say is searched
-looks_same : (ascii : Bool) (hay : List ℕ) → (ascii ≡ true → IsAscii hay) → (ks : List kit_nfa.Nfa) →
+pub looks_same : (ascii : Bool) (hay : List ℕ) → (ascii ≡ true → IsAscii hay) → (ks : List kit_nfa.Nfa) →
     Each (λ k. ascii ≡ false → HasNoUnicodeLook k) ks → Each (HasSameLooks hay) ks
 looks_same ascii hay only [] looks = tt
 looks_same ascii hay only (k ∷ ks) looks = (
@@ -84,3 +90,17 @@ truth_found p hay input (Err e) same bytes h = tt
 truth_found p hay input (Ok truth) same bytes h = λ o res is for.
     truth_means p o res is hay for (subst (λ (v : Input). IsHaystack v.haystack) same bytes) (Ok truth)
     (subst (λ v. IsTruthOf p v (Ok truth)) same h)
+
+pub all_found : (p : Regex) → ReportedIsRight p.forward.nfa → ReportedEndsAreRight p.reverse.nfa → StartsAreRight →
+    (hay : List ℕ) (input : Input) (r : Result (Vec Match Global) SearchError) → input ≡ span_input hay 0 (length hay) →
+    IsHaystack input.haystack → input.end ≤ length input.haystack →
+    IfOk r (λ found. AreMatches (FindsMatch p) input input.start None found.items) →
+    IfOk r (λ found. (o : Options) (res : List Re) → IsRegexOf o res p → IsFor o hay →
+    found.items ≡ map (match_of res hay) (find_all_any o.utf8 res hay))
+all_found p front ends starts hay input (Err e) same bytes within h = tt
+all_found p front ends starts hay input (Ok found) same bytes within h = λ o res is for.
+    all_mean p o res is hay for (subst (λ (v : Input). IsHaystack v.haystack) same bytes) found.items
+    (subst (λ v. AreSpans (forward_engine p) v found.items) same
+    (matches_right (FindsMatch p) (IsSpan (forward_engine p)) input
+    (λ start m f. match_right p front ends starts is.0 (from start input) (bytes, within) m f)
+    input.start None found.items h))

@@ -1,6 +1,8 @@
 //! Patterns, to be searched for.
-ghost use Rattle.std.specs.Prelude.{◌≡◌, ◌≤◌, List, [], ◌∷◌, IfOk, is_some, length, map, option_map};
+ghost use Rattle.std.specs.Prelude.{◌≡◌, ◌≤◌, List, [], ◌∷◌, IfOk, None, is_some, length, map, option_map};
 ghost use Rattle.regex_hir.specs.Re.{Re};
+ghost use Rattle.automata_base.specs.Answers.Spans.{AreMatches};
+ghost use Rattle.regex_automata.specs.Spans.Outcomes.{FindsMatch};
 ghost use Rattle.regex_automata.specs.Promises.{AreCachesOf, IsSpanOf, IsTruthOf};
 ghost use Rattle.example_meaning.specs.Patterns.{find_all_any, find_any, match_of, span_input};
 ghost use Rattle.example_patterns.specs.Patterns.{IsFor, IsPatternOf, IsRegexOf};
@@ -93,4 +95,47 @@ impl Pattern {
         let _haystack = input.haystack();
         self.regex.find(cache, &input)
     }
+
+    /// All matches of the haystack, one after another. An empty match at the end of the one before it is none of them.
+    pub fn find_all(
+        &self,
+        alloc: Global,
+        cache: &mut Cache,
+        hay: &[u8],
+    ) -> Result<Vec<Match>, SearchError>
+        requires { AreCachesOf cache.old self.now.regex }
+        ensures of { AreCachesOf cache.new self.now.regex }
+        ensures found { IfOk result (λ found. (o : options.Options) (res : List Re)
+            → IsRegexOf o res self.now.regex → IsFor o hay.now
+            → found.items ≡ map (match_of res hay.now) (find_all_any o.utf8 res hay.now)) }
+    {
+        reported_is_right(self.regex.forward().get_nfa());
+        reported_is_right(self.regex.reverse().get_nfa());
+        start_is_right();
+        let input = Input::new(hay);
+        let _haystack = input.haystack();
+        collect(alloc, &self.regex, cache, input)
+    }
+}
+
+/// The matches of an input, by what the passes of the two DFAs report.
+fn collect(
+    alloc: Global,
+    regex: &Regex,
+    cache: &mut Cache,
+    input: Input<'_>,
+) -> Result<Vec<Match>, SearchError>
+    requires { AreCachesOf cache.old regex.now }
+    ensures of { AreCachesOf cache.new regex.now }
+    ensures found { IfOk result (λ found.
+        AreMatches (FindsMatch regex.now) input.entry input.entry.start None found.items) }
+{
+    let mut found = Vec::new(alloc);
+    for item in regex.find_iter(cache, input) {
+        match item {
+            Ok(next) => found.push(next)?,
+            Err(error) => return Err(error),
+        }
+    }
+    Ok(found)
 }
