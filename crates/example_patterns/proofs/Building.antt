@@ -19,11 +19,13 @@ pub built_is : (o : Options) (texts : List (List ℕ)) (nfa : Automaton) (p : Re
 built_is o texts nfa p config is sound kind built = (
   is.0,
   is.2,
-  sound,
   (
-    is.1,
-    is.3,
-    ap (λ (m : Machine). engine_of m.nfa (settings.match_kind_of m.config)) built.2.0.2
-        ∙ ap (engine_of nfa) kind ∙ is.4,
+    sound,
+    (
+      is.1,
+      is.3,
+      ap (λ (m : Machine). engine_of m.nfa (settings.match_kind_of m.config)) built.2.0.2
+          ∙ ap (engine_of nfa) kind ∙ is.4,
+    ),
   ),
 )
