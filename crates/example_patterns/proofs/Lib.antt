@@ -1,3 +1,2 @@
 mod Drafting
 mod Searching
-mod Building
