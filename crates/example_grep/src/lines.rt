@@ -59,8 +59,8 @@ impl LineSearcher {
             (is : IsSearcherOf case_insensitive texts self.old.dfa) → IsTrue truth ↔ HasPart is.0.0 line.now) }
     {
         start_is_right();
+        let _haystack = Input::new(line).haystack();
         let input = Input::new(line).earliest(true);
-        let _haystack = input.haystack();
         let found = self.dfa.try_search_fwd(&mut self.cache, &input)?;
         Ok(found.is_some())
     }

@@ -37,16 +37,16 @@ tells m line found truth case_insensitive texts is bytes (answer, a, e) t =
 
 pub returns-clause-meant : goal.returns-clause-meant
 returns-clause-meant c = λ case_insensitive texts is.
-    let same : c.earliest-input.result ≡ whole c.args.line.now = c.earliest-input.ensures ∙ ap (λ (i : Input). record i { earliest = true }) c.new.ensures in
+    let same : c.earliest-input.result ≡ whole c.args.line.now = c.earliest-input.ensures ∙ ap (λ (i : Input). record i { earliest = true }) c.new-2.ensures in
     tells c.args.self.now.dfa c.args.line.now c.in_ok-found.found c.is_some.result case_insensitive texts is
-    (subst (λ (i : Input). IsHaystack i.haystack) same c.haystack-haystack.ensures.bytes)
+    (subst (λ (i : Input). IsHaystack i.haystack) c.new.ensures c.haystack-haystack.ensures.bytes)
     (subst (λ i. WithoutBase (IsAnswer Forward (engine_of c.args.self.now.dfa.nfa (match_kind_of c.args.self.now.dfa.config)) i) c.in_ok-found.found)
     same (c.in_ok-found.ensures.half.answer c.args.self.now.ordered))
     c.is_some.ensures
 
 pub returns-clause-found : goal.returns-clause-found
 returns-clause-found c =
-    let same : c.earliest-input.result ≡ whole c.args.line.now = c.earliest-input.ensures ∙ ap (λ (i : Input). record i { earliest = true }) c.new.ensures in
+    let same : c.earliest-input.result ≡ whole c.args.line.now = c.earliest-input.ensures ∙ ap (λ (i : Input). record i { earliest = true }) c.new-2.ensures in
     decides c.args.self.now.dfa c.args.line.now c.in_ok-found.found c.is_some.result
     (c.start_is_right.ensures.one.answer Forward (engine_of c.args.self.now.dfa.nfa (match_kind_of c.args.self.now.dfa.config)) (whole c.args.line.now))
     (subst (λ i. WithoutBase (IsAnswer Forward (engine_of c.args.self.now.dfa.nfa (match_kind_of c.args.self.now.dfa.config)) i) c.in_ok-found.found)
