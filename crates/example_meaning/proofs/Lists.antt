@@ -1,7 +1,7 @@
 -- One more state, range or pattern, for loops that make the lists.
 use Rattle.std.proofs.Common.{ℕ, suc, ◌≡◌, ◌<◌, ◌+◌, List, [], ◌∷◌, ◌++◌, take, get_or, length, sym, ap, ap₂, ◌∙◌, refl, add-one, arith}
 use Rattle.std.proofs.Math.Seq.{take-suc}
-use Rattle.std.proofs.lemmas.List.{append_assoc, append-nil, length-append}
+use Rattle.std.proofs.lemmas.List.{append_assoc, append-nil}
 use Rattle.regex_nfa.specs.declared.nfa.Nfa as kit_nfa
 use Rattle.regex_nfa.specs.declared.state.State as kit_state
 use Rattle.regex_nfa.specs.declared.state.Transition as kit_transition

@@ -9,10 +9,10 @@ use Rattle.regex_nfa.specs.declared.state.State.TheVariants as kit
 use Rattle.regex_nfa.specs.declared.nfa.Nfa as kit_nfa
 use Rattle.regex_nfa.proofs.RunLemmas.{sound_of, next_on_within}
 use Rattle.automata_base.specs.Nfas.Engines.{HasEdge, Reaches, Road, LoopsLazily}
-use Rattle.automata_base.specs.Nfas.Nfa.{Nfa, Truth, Split, hop_at, takes_at}
+use Rattle.automata_base.specs.Nfas.Nfa.{Nfa, hop_at, takes_at}
 use Rattle.automata_base.specs.Paths.Paths.{all_true}
 use Rattle.automata_base.proofs.Paths.Orders.{some_inj, none_some}
-use Rattle.example_meaning.specs.Translated.{node_of, nfa_of, size_of, starts_of, look_of}
+use Rattle.example_meaning.specs.Translated.{node_of, nfa_of, size_of, starts_of}
 use Rattle.example_meaning.specs.Agreeing.{Holds, HoldsAll}
 use Rattle.example_meaning.proofs.Nodes.{node_known, takes_known}
 use Rattle.example_meaning.proofs.Unions.{holds_all, union_is, loop_is, skip_is}

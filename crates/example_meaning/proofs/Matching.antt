@@ -1,15 +1,13 @@
 -- Whether there is a match, in an earliest search too, and by the textbook relation.
-use Rattle.std.proofs.Common.{ℕ, ◌≡◌, ◌+◌, ◌≤◌, ◌⊎◌, List, Option, Some, None, Bool, true, false, is_some, length, option_map, refl, sym, ap, ◌∙◌, subst, ⊎_elim, inl, inr, arith, max, true≢false}
+use Rattle.std.proofs.Common.{ℕ, ◌≡◌, ◌+◌, ◌≤◌, ◌⊎◌, List, Option, Some, None, Bool, false, is_some, length, refl, sym, ◌∙◌, subst, ⊎_elim, inl, inr, arith, true≢false}
 use Rattle.std.specs.Prelude.{IsTrue, ◌↔◌}
 use Rattle.regex_hir.specs.Re.{Re}
 use Rattle.regex_hir.specs.Find as kit_find
 use Rattle.regex_hir.specs.Find.{find}
-use Rattle.regex_hir.specs.Matches.{Matches}
 use Rattle.regex_hir.proofs.FindLemmas.{IsFirst-of_first_between, find_complete, find_sound}
-use Rattle.regex_hir.proofs.MatchesLemmas.{Matches-IsSpan}
 use Rattle.regex_hir.proofs.OptionLemmas.{option_cases}
 use Rattle.regex_nfa.specs.declared.nfa.Nfa as kit_nfa
-use Rattle.automata_base.specs.Answers.Answers.{Half, IsAnswer, SelectsOver, later}
+use Rattle.automata_base.specs.Answers.Answers.{Half, IsAnswer}
 use Rattle.automata_base.specs.Answers.Spans.{IsSpan}
 use Rattle.automata_base.specs.Haystacks.Input.{Input}
 use Rattle.automata_base.specs.Haystacks.Matches.{Match}
@@ -17,7 +15,6 @@ use Rattle.automata_base.specs.Haystacks.Tapes.{Forward, IsHaystack, forward_tap
 use Rattle.automata_base.specs.Nfas.Engines.{Engine, IsSkipping}
 use Rattle.automata_base.specs.Paths.Selections.{Accepts}
 use Rattle.automata_base.proofs.Answers.Tried.{ComesTo}
-use Rattle.automata_base.proofs.Paths.Orders.{none_some}
 use Rattle.example_meaning.specs.Agreeing.{Each, HasSameLooks, ImplementAll}
 use Rattle.example_meaning.specs.Patterns.{any_of, HasPart, match_of, span_input}
 use Rattle.example_meaning.specs.Translated.{engine}

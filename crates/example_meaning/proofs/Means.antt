@@ -1,16 +1,15 @@
 -- A search over the joined NFA finds what the alternation of the patterns means.
-use Rattle.std.proofs.Common.{ℕ, suc, ◌≡◌, ◌+◌, ◌<◌, ◌≤◌, List, [], ◌∷◌, Option, Some, None, Bool, true, false, IsUtf8, length, option_map, refl, sym, ap, ap₂, ◌∙◌, subst, arith}
+use Rattle.std.proofs.Common.{ℕ, suc, ◌≡◌, ◌+◌, ◌≤◌, List, [], ◌∷◌, Option, Some, None, Bool, true, false, IsUtf8, length, option_map, refl, sym, ap, ap₂, ◌∙◌, subst, arith}
 use Rattle.std.specs.Prelude.{cond, is_some, slice_get, if◌then◌else◌}
 use Rattle.std.specs.Option.{option_or}
 use Rattle.regex_class.specs.Ranges.{in_ranges}
 use Rattle.regex_hir.specs.Re.{Re, Trace, accept, attempt, byte_in}
-use Rattle.regex_hir.specs.Find.{find, find_str, first_between}
+use Rattle.regex_hir.specs.Find.{find, find_str}
 use Rattle.regex_hir.specs.Text.{is_some_and}
 use Rattle.regex_hir.proofs.OptionLemmas.{option_or-None}
-use Rattle.regex_nfa.specs.Run.{run}
 use Rattle.regex_nfa.specs.declared.nfa.Nfa as kit_nfa
 use Rattle.automata_base.specs.Answers.Spans.{IsSpan}
-use Rattle.automata_base.specs.Haystacks.Matches.{HalfMatch, Match}
+use Rattle.automata_base.specs.Haystacks.Matches.{HalfMatch}
 use Rattle.automata_base.specs.Haystacks.Tapes.{Forward, IsHaystack, forward_tape}
 use Rattle.automata_base.specs.Answers.TruePairs.{KeepsUtf8}
 use Rattle.automata_base.specs.Paths.Paths.{IsPathFrom}
@@ -110,8 +109,7 @@ module _ (ks : List kit_nfa.Nfa) (res : List Re) (is : ImplementAll ks res) (hay
       (ends_inside i _ inside own))
       (λ i trace inside e empty.
       let own = here i trace inside e in
-      let still : own.1 ≡ 0 = let f = own.5 in omega (arith, f, empty) in
-      (
+      let still : own.1 ≡ 0 = let f = own.5 in omega (arith, f, empty) in (
         refl,
         empty_start (nfa_of ks) (forward_tape hay i (length hay)) (size_of ks) (starts_of 0 ks) (union_is ks) own.0 own.2
             (first_at res hay i) (subst (λ v. IsPathFrom (nfa_of ks) (forward_tape hay i (length hay)) 0 [] (size_of ks) own.0 v own.2) still own.3) own.4,

@@ -1,5 +1,5 @@
 -- A rank falls along each edge that reads no byte, so no state stands twice at one place.
-use Rattle.std.proofs.Common.{ℕ, ◌≡◌, ◌+◌, ◌<◌, List, ◌∷◌, ap, sym, ◌∙◌, subst, inl, inr, arith, lt_irrefl, length}
+use Rattle.std.proofs.Common.{ℕ, ◌≡◌, ◌+◌, ◌<◌, List, ◌∷◌, sym, subst, inl, inr, arith, lt_irrefl, length}
 use Rattle.std.specs.Prelude.{slice_index}
 use Rattle.regex_nfa.specs.declared.nfa.Nfa as kit_nfa
 use Rattle.automata_base.specs.Lists.{In}

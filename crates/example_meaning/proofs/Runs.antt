@@ -20,7 +20,7 @@ use Rattle.automata_base.specs.Haystacks.Tapes.{byte_before, forward_tape}
 use Rattle.automata_base.specs.Lists.{In}
 use Rattle.automata_base.specs.Nfas.Nfa.{Nfa, Node, Range, Truth, node, hop, hop_at, takes_at, accepts, accepts_at, Split, Assert, Read}
 use Rattle.automata_base.specs.Paths.Paths.{Tape, truth, next, prev, Moves}
-use Rattle.automata_base.proofs.Paths.Orders.{some_inj, none_some}
+use Rattle.automata_base.proofs.Paths.Orders.{none_some}
 use Rattle.automata_base.proofs.Answers.Bytes.{forward_next, forward_prev, forward_byte, forward_length}
 use Rattle.example_meaning.specs.Translated.{look_of}
 use Rattle.example_meaning.specs.Agreeing.{HasSameLooks, Holds, IsLeastEnd}

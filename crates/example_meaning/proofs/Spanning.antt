@@ -1,5 +1,5 @@
 -- The leftmost match by what is found at each offset is the span that the paths define, where a lazy loop begins them.
-use Rattle.std.proofs.Common.{ℕ, zero, suc, ◌≡◌, ◌+◌, ◌-◌, ◌<◌, ◌≤◌, ◌⊎◌, List, [], ◌∷◌, Option, Some, None, Bool, true, false, not, length, option_map, refl, sym, ap, ◌∙◌, subst, ⊎_elim, inl, inr, arith, true≢false}
+use Rattle.std.proofs.Common.{ℕ, zero, suc, ◌≡◌, ◌+◌, ◌-◌, ◌<◌, ◌≤◌, ◌⊎◌, List, [], ◌∷◌, Some, None, Bool, true, false, not, length, option_map, refl, sym, ap, ◌∙◌, subst, ⊎_elim, inl, inr, arith, true≢false}
 use Rattle.std.specs.Prelude.{if◌then◌else◌}
 use Rattle.std.proofs.lemmas.Bool.{cases_lt}
 use Rattle.regex_hir.specs.Re.{Rest, Trace}
@@ -14,7 +14,7 @@ use Rattle.automata_base.specs.Haystacks.Input.{Input}
 use Rattle.automata_base.specs.Haystacks.Matches.{Match}
 use Rattle.automata_base.specs.Haystacks.Tapes.{Forward, forward_tape, IsHaystack, is_split}
 use Rattle.automata_base.specs.Nfas.Engines.{Engine, IsSkipping, LoopsLazily}
-use Rattle.automata_base.specs.Nfas.Nfa.{Nfa, accepts}
+use Rattle.automata_base.specs.Nfas.Nfa.{Nfa}
 use Rattle.automata_base.specs.Paths.Order.{Upto}
 use Rattle.automata_base.specs.Paths.Paths.{Tape, IsPathFrom}
 use Rattle.automata_base.specs.Paths.Selections.{Accepts, Pair, Selects}

@@ -1,5 +1,5 @@
 -- Matches in text: those that are not empty begin and end where characters do.
-use Rattle.std.proofs.Common.{ℕ, zero, suc, ◌≡◌, ◌+◌, ◌-◌, ◌<◌, ◌≤◌, ◌⊎◌, ◌&&◌, List, [], ◌∷◌, Option, Some, None, Bool, true, false, not, length, drop, get_or, IsUtf8, option_map, refl, sym, ap, ap₂, ◌∙◌, subst, ⊎_elim, inl, inr, arith, le-leb, true≢false}
+use Rattle.std.proofs.Common.{ℕ, suc, ◌≡◌, ◌+◌, ◌-◌, ◌<◌, ◌≤◌, ◌⊎◌, ◌&&◌, List, [], ◌∷◌, Option, Some, None, true, false, not, length, drop, get_or, IsUtf8, refl, sym, ap, ap₂, ◌∙◌, subst, ⊎_elim, inl, inr, arith, le-leb, true≢false}
 use Rattle.std.specs.Prelude.{slice_get, IsCharBoundary}
 use Rattle.std.proofs.lemmas.Bool.{cases_lt}
 use Rattle.std.proofs.lemmas.Option.{slice_get-get_or}
@@ -32,10 +32,13 @@ unfolding is_boundary
 boundary_is hay i = boundary_of (slice_get hay i)
 
 boundary : (hay : List ℕ) (i : ℕ) → i ≤ length hay → is_split hay i ≡ false → IsCharBoundary hay i
-boundary hay i l e = (l, λ inside low. ⊎_elim
-    (λ (c : get_or hay i 0 < 192). absurd (true≢false (sym (held inside low c) ∙ e)))
-    (λ (c : 192 ≤ get_or hay i 0). c)
-    (cases_lt (get_or hay i 0) 192))
+boundary hay i l e = (
+  l,
+  λ inside low. ⊎_elim
+      (λ (c : get_or hay i 0 < 192). absurd (true≢false (sym (held inside low c) ∙ e)))
+      (λ (c : 192 ≤ get_or hay i 0). c)
+      (cases_lt (get_or hay i 0) 192),
+)
   where
     held : i < length hay → 128 ≤ get_or hay i 0 → get_or hay i 0 < 192 → is_split hay i ≡ true
     held inside low high =
@@ -72,8 +75,7 @@ module _ (d : Engine) (keeps : KeepsUtf8 Forward d) (utf8 : d.utf8 ≡ true) (ha
           (λ e. cc) refl joined.1 in
           let begin : is_split hay i ≡ false = ap (is_split hay) (omega arith) ∙ unsplit hay (i + 0) (i + own.1) (omega (arith, l)) inner in
           let from : i + 0 ≡ i = omega arith in
-          let there : i + own.1 ≡ half.offset = own.5 in
-          (
+          let there : i + own.1 ≡ half.offset = own.5 in (
             begin,
             ends_whole hay i half.offset text (omega (arith, own.5)) fits begin
                 (subst (λ v. IsUtf8 (between hay v half.offset)) from (subst (λ v. IsUtf8 (between hay (i + 0) v)) there inner)),
@@ -93,14 +95,13 @@ pub empty_start : (n : Nfa) (t : Tape) (u : ℕ) (starts : List ℕ) → node n 
     IsPathFrom n t 0 [] u path 0 z → accepts n z ≡ Some pattern → MatchesEmpty n starts
 empty_start n t u starts is [] z pattern h acc =
     absurd (none_some (sym (ap accepts_at is) ∙ ap (λ v. accepts n v) h.1 ∙ acc))
-empty_start n t u starts is (e ∷ path) z pattern (inl h) acc =
-    (
-      h.0,
-      z,
-      pattern,
-      nth_in starts e h.0 (sym (ap (λ v. hop_at v (truth n t 0) e) is) ∙ h.1),
-      still n t 0 (u ∷ []) h.0 path z h.3,
-      acc,
-    )
+empty_start n t u starts is (e ∷ path) z pattern (inl h) acc = (
+  h.0,
+  z,
+  pattern,
+  nth_in starts e h.0 (sym (ap (λ v. hop_at v (truth n t 0) e) is) ∙ h.1),
+  still n t 0 (u ∷ []) h.0 path z h.3,
+  acc,
+)
 empty_start n t u starts is (e ∷ path) z pattern (inr h) acc =
     absurd (let g = path_grows n t 1 [] h.0 path 0 z h.3 in omega (arith, g))

@@ -1,22 +1,18 @@
 -- The patterns' states in the joined NFA, and what its union of their starts finds.
-use Rattle.std.proofs.Common.{ℕ, zero, suc, ◌≡◌, ◌+◌, ◌-◌, ◌<◌, ◌≤◌, List, [], ◌∷◌, ◌++◌, Option, Some, None, length, option_map, refl, sym, ap, ◌∙◌, subst, ⊎_elim, inl, inr, arith, lt_irrefl}
-use Rattle.std.specs.Prelude.{slice_get, is_some, cond, Bool, false}
+use Rattle.std.proofs.Common.{ℕ, zero, suc, ◌≡◌, ◌+◌, ◌-◌, ◌<◌, ◌≤◌, List, [], ◌∷◌, ◌++◌, Option, None, length, option_map, refl, sym, ap, ◌∙◌, ⊎_elim, arith}
+use Rattle.std.specs.Prelude.{slice_get, false}
 use Rattle.std.specs.Option.{option_or}
-use Rattle.std.proofs.lemmas.Bool.{cases_lt}
 use Rattle.std.proofs.lemmas.List.{append_assoc, length-append}
-use Rattle.regex_hir.proofs.OptionLemmas.{option_or-None}
-use Rattle.regex_hir.specs.Re.{Re, Trace, accept, attempt}
-use Rattle.regex_nfa.specs.Run.{run, state_of}
+use Rattle.regex_nfa.specs.Run.{run}
 use Rattle.regex_nfa.specs.declared.nfa.Nfa as kit_nfa
 use Rattle.automata_base.specs.Haystacks.Matches.{HalfMatch}
 use Rattle.automata_base.specs.Haystacks.Tapes.{forward_tape}
-use Rattle.automata_base.specs.Lists.{In}
 use Rattle.automata_base.specs.Nfas.Engines.{any_byte}
 use Rattle.automata_base.specs.Nfas.Nfa.{Nfa, Node, Split, node, node_or_fail, hop, hop_at}
 use Rattle.automata_base.specs.Paths.Paths.{truth}
 use Rattle.automata_base.proofs.Paths.Orders.{none_some}
 use Rattle.example_meaning.specs.Translated.{nodes_of, nodes_of_all, nfa_of, size_of, starts_of}
-use Rattle.example_meaning.specs.Agreeing.{Each, HasSameLooks, Holds, HoldsAll, IsLeastEnd}
+use Rattle.example_meaning.specs.Agreeing.{Each, HasSameLooks, HoldsAll, IsLeastEnd}
 use Rattle.example_meaning.proofs.Options.{half_of}
 use Rattle.example_meaning.proofs.Nodes.{node_at, length-nodes_of}
 use Rattle.example_meaning.proofs.Edges.{IsLeastPast, all_edges, past_edge, past_none}

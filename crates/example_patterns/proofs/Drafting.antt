@@ -1,12 +1,12 @@
 -- A draft that gets one pattern after another.
-use Rattle.std.proofs.Common.{ℕ, ◌≡◌, ◌+◌, ◌<◌, List, [], ◌∷◌, ◌++◌, Bool, Bor, false, length, map, take, get_or, refl, sym, ap, ap₂, ◌∙◌, subst, arith, add-one}
+use Rattle.std.proofs.Common.{ℕ, ◌≡◌, ◌+◌, ◌<◌, List, [], ◌∷◌, ◌++◌, Bool, Bor, false, length, map, take, get_or, sym, ap, ap₂, ◌∙◌, subst, arith, add-one}
 use Rattle.std.proofs.lemmas.List.{append_assoc, map-append}
 use Rattle.std.proofs.Math.Seq.{take-suc}
 use Rattle.regex_hir.specs.Re.{Re}
 use Rattle.regex_compile.specs.Implements.{Implements}
 use Rattle.regex_nfa.specs.declared.nfa.Nfa as kit_nfa
 use Rattle.regex_syntax.specs.declared.Config.{Config}
-use Rattle.automata_base.specs.Nfas.Engines.{Engine, any_byte, engine_of}
+use Rattle.automata_base.specs.Nfas.Engines.{any_byte, engine_of}
 use Rattle.automata_base.specs.Nfas.Nfa.{Node, Split}
 use Rattle.automata_base.specs.Nfas.Nodes as ours
 use Rattle.automata_base.specs.Nfas.Nodes.{Automaton}
@@ -18,7 +18,7 @@ use Rattle.example_meaning.specs.Translated.{engine, nfa_of, nodes_of, nodes_of_
 use Rattle.example_meaning.proofs.Lists.{our_nodes, length-our_nodes, length-starts_of, nodes_of_all_push, starts_of_push}
 use Rattle.example_meaning.proofs.Unions.{length-nodes_of_all}
 use Rattle.example_patterns.specs.Drafts.{Grows, Has, IsCompiled, IsDraftOf}
-use Rattle.example_patterns.specs.Patterns.{AreMeanings, AreNfasOf, IsMeaning, config_of}
+use Rattle.example_patterns.specs.Patterns.{AreMeanings, IsMeaning, config_of}
 use Rattle.example_patterns.specs.declared.compile.Draft.{Draft}
 use Rattle.example_patterns.specs.declared.compile.Options.{Options}
 

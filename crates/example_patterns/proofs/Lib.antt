@@ -1,2 +1,2 @@
 mod Drafting
-mod Searching
+pub mod Searching

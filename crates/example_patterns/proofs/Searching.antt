@@ -1,5 +1,5 @@
 -- What the searches for a pattern find, by what the pattern means.
-use Rattle.std.proofs.Common.{ℕ, ◌≡◌, ◌<◌, ◌≤◌, List, [], ◌∷◌, Option, None, Bool, true, false, is_some, length, map, option_map, sym, ap, ◌∙◌, subst, ⊎_elim, All, get_or}
+use Rattle.std.proofs.Common.{ℕ, ◌≡◌, ◌<◌, ◌≤◌, List, [], ◌∷◌, Option, None, Bool, true, false, is_some, length, map, option_map, sym, subst, ⊎_elim, All}
 use Rattle.std.specs.Prelude.{Result, Ok, Err, IfOk, IsAscii, Vec}
 use Rattle.std.specs.declared.alloc.Global.{Global}
 use Rattle.std.proofs.lemmas.Bool.{cases_Bool}
@@ -16,14 +16,12 @@ use Rattle.automata_base.specs.Haystacks.Input.{Input}
 use Rattle.automata_base.specs.Haystacks.Matches.{Match}
 use Rattle.automata_base.specs.Haystacks.Tapes.{Forward, IsHaystack}
 use Rattle.automata_base.specs.Answers.TruePairs.{KeepsUtf8}
-use Rattle.automata_base.specs.Nfas.Engines.{Engine}
 use Rattle.automata_config.specs.declared.error.SearchError.{SearchError}
 use Rattle.regex_automata.specs.Regexes.SoundPairs.{forward_engine}
 use Rattle.regex_automata.specs.Spans.Contracts.{IsSpanOf, IsTruthOf}
 use Rattle.regex_automata.specs.declared.hybrid.regex.Regex.{Regex}
 use Rattle.example_meaning.specs.Agreeing.{Each, HasNoUnicodeLook, HasSameLooks}
 use Rattle.example_meaning.specs.Patterns.{find_all_any, find_any, match_of, span_input}
-use Rattle.example_meaning.specs.Translated.{engine}
 use Rattle.example_meaning.proofs.Ascii.{same_looks_ascii}
 use Rattle.example_meaning.proofs.Iterations.{all_are, span_is, truth_is}
 use Rattle.example_meaning.proofs.Looking.{same_looks}

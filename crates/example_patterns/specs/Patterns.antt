@@ -1,5 +1,5 @@
 -- What NFAs and regexes of patterns are: each text is read as a tree, and what its NFA finds is what the tree means.
-use Rattle.std.specs.Prelude.{ℕ, ◌≡◌, Bool, true, false, List, [], ◌∷◌, Option, IsAscii, IsUtf8}
+use Rattle.std.specs.Prelude.{ℕ, ◌≡◌, true, false, List, [], ◌∷◌, Option, IsAscii, IsUtf8}
 use Rattle.regex_hir.specs.Re.{Re}
 use Rattle.regex_hir.specs.Meaning.{meaning}
 use Rattle.regex_hir.specs.declared.hir.Hir as kit_hir
