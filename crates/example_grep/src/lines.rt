@@ -1,7 +1,8 @@
 //! Which lines of a text have a match.
-ghost use Rattle.std.specs.Prelude.{◌≡◌, ◌↔◌, IfOk, IsTrue, map};
+ghost use Rattle.std.specs.Prelude.{ℕ, ◌≡◌, ◌↔◌, Bool, List, IfOk, IsTrue, map};
 ghost use Rattle.regex_automata.specs.Promises.{IsCacheOf, IsLookAcyclic, nfa_of};
-ghost use Rattle.example_grep.specs.Lines.{AreMatching, HasMatch, lines};
+ghost use Rattle.example_meaning.specs.Patterns.{HasPart};
+ghost use Rattle.example_grep.specs.Lines.{AreMatching, AreMeant, HasMatch, IsSearcherOf, lines};
 
 use anyhow::Result;
 use regex_automata::hybrid::SearchError;
@@ -54,9 +55,12 @@ impl LineSearcher {
     /// Whether a line has a match.
     fn has_match(&mut self, line: &[u8]) -> Result<bool, SearchError>
         ensures same { self.new.dfa ≡ self.old.dfa }
-        ensures found { IfOk result (λ yes. IsTrue yes ↔ HasMatch self.old.dfa line.now) }
+        ensures found { IfOk result (λ truth. IsTrue truth ↔ HasMatch self.old.dfa line.now) }
+        ensures meant { IfOk result (λ truth. (case_insensitive : Bool) (texts : List (List ℕ))
+            (is : IsSearcherOf case_insensitive texts self.old.dfa) → IsTrue truth ↔ HasPart is.0.0 line.now) }
     {
         start_is_right();
+        let _haystack = Input::new(line).haystack();
         let input = Input::new(line).earliest(true);
         let found = self.dfa.try_search_fwd(&mut self.cache, &input)?;
         Ok(found.is_some())
@@ -66,7 +70,10 @@ impl LineSearcher {
     pub fn matching<'t>(&mut self, alloc: Global, text: &'t [u8]) -> Result<Vec<Line<'t>>>
         ensures same { self.new.dfa ≡ self.old.dfa }
         ensures lines { IfOk result
-            (λ found. AreMatching self.old.dfa (lines text.now) (map (λ line. line.bytes.now) found.items)) }
+            (λ found. AreMatching (HasMatch self.old.dfa) (lines text.now) (map (λ line. line.bytes.now) found.items)) }
+        ensures meant { IfOk result (λ found. (case_insensitive : Bool) (texts : List (List ℕ))
+            → IsSearcherOf case_insensitive texts self.old.dfa
+            → AreMeant case_insensitive texts (lines text.now) (map (λ line. line.bytes.now) found.items)) }
     {
         let mut found = Vec::new(alloc);
         for bytes in text.split(|byte| *byte == b'\n') {

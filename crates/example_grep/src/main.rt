@@ -7,9 +7,15 @@
 //! A line is a run of bytes up to a line feed. It need not be text: a byte that is no part of a character matches
 //! `(?-u:[\x80-\xFF])`, but no `.`. The status is 0 if a line matches, 1 if none does, and 2 after an error.
 //!
-//! It is proved that of each block of lines exactly those are taken in which the ordered paths of the patterns' NFA have
-//! a match (`LineSearcher::matching`). How blocks are cut and what is written is safe, and no more is proved of it.
+//! It is proved that of each block of lines exactly those are taken of which some part is a match of some pattern, by
+//! what the patterns' texts mean (`LineSearcher::matching`). How blocks are cut and what is written is safe, and no more
+//! is proved of it.
 #![tactic(auto)]
+
+ghost use Rattle.std.specs.Prelude.{◌≡◌, IfOk, map};
+ghost use Rattle.regex_automata.specs.Promises.{LeftmostFirst, match_kind_of};
+ghost use Rattle.example_patterns.specs.Patterns.{IsNfaOf};
+ghost use Rattle.example_grep.specs.Lines.{bytewise};
 
 mod grep;
 mod lines;
@@ -30,11 +36,15 @@ use std::process::ExitCode;
 use std::{env, io};
 
 /// The NFA of the patterns, which are searched in bytes.
-fn patterns_nfa(alloc: Global, options: &Options<'_>) -> Result<NFA, PatternError> {
+fn patterns_nfa(alloc: Global, options: &Options<'_>) -> Result<NFA, PatternError>
+    ensures { IfOk result (IsNfaOf (bytewise options.now.case_insensitive)
+        (map (λ text. text.now) options.now.patterns.items)) }
+{
     let how = PatternOptions {
         case_insensitive: options.case_insensitive,
         utf8: false,
-        ..PatternOptions::default()
+        ascii: false,
+        size_limit: 10 << 20,
     };
     nfa_of(alloc, options.patterns.as_slice(), &how)
 }
@@ -47,8 +57,11 @@ fn report(rt: &HostRuntime, options: &Options<'_>, error: PatternError) -> Resul
     Ok(ExitCode::from(2))
 }
 
-/// The searcher of lines for an NFA. It fails if a cycle of the NFA passes a look-around assertion.
-fn line_searcher(nfa: NFA) -> Result<LineSearcher> {
+/// The searcher of the patterns of an NFA.
+fn line_searcher(nfa: NFA) -> Result<LineSearcher>
+    ensures nfa { IfOk result (λ s. s.dfa.nfa ≡ nfa) }
+    ensures kind { IfOk result (λ s. match_kind_of s.dfa.config ≡ LeftmostFirst) }
+{
     let dfa = DFA::builder().build_from_nfa(nfa)?;
     if !dfa.get_nfa().is_look_acyclic() {
         bail!("a cycle passes a look-around assertion");

@@ -1,3 +1,15 @@
+//! The NFA of several patterns.
+ghost use Rattle.std.specs.Prelude.{◌≡◌, ◌+◌, List, [], ◌∷◌, ◌++◌, IfOk, OnOk, length, map, option_map, string_bytes};
+ghost use Rattle.automata_base.specs.Nfas.Engines.{any_byte};
+ghost use Rattle.automata_base.specs.Nfas.Nfa.{Split};
+ghost use Rattle.automata_base.specs.Nfas.Nodes as nodes;
+ghost use Rattle.regex_automata.specs.Promises.{LeftmostFirst, engine_of};
+ghost use Rattle.regex_nfa.specs.declared.nfa.Nfa as kit_nfa;
+ghost use Rattle.regex_syntax.specs.Verdict.{Reads};
+ghost use Rattle.example_meaning.specs.Translated.{engine};
+ghost use Rattle.example_patterns.specs.Drafts.{Grows, Has, IsCompiled, IsDraftOf};
+ghost use Rattle.example_patterns.specs.Patterns.{IsNfaOf, config_of};
+
 use crate::error::{Fault, PatternError};
 use crate::translate::{Origin, has_unicode_look, id_of, push_states, shifted};
 use regex_automata::nfa::thompson::{Flags, NFA, NfaError, State};
@@ -14,6 +26,9 @@ pub struct Options {
     pub case_insensitive: bool,
     /// Whether text is searched: no match splits a character. Otherwise bytes are searched.
     pub utf8: bool,
+    /// Whether the text is ASCII. Then a pattern may have a word boundary of Unicode, and a search that comes to
+    /// another byte may fail. Otherwise such a pattern is refused.
+    pub ascii: bool,
     /// How many bytes the tables of all patterns may take.
     pub size_limit: usize,
 }
@@ -23,16 +38,16 @@ impl Default for Options {
         Options {
             case_insensitive: false,
             utf8: true,
+            ascii: false,
             size_limit: 10 << 20,
         }
     }
 }
 
-// What the patterns so far came to.
+/// The states of the patterns so far, one pattern behind the other, and where each begins.
 struct Draft {
     states: Vec<State>,
     starts: Vec<StateID>,
-    prefix: StateID,
     room: usize,
 }
 
@@ -42,14 +57,16 @@ impl Drop for Draft {
         let Self {
             states: _states,
             starts: _starts,
-            prefix: _prefix,
             room: _room,
         } = self;
     }
 }
 
-/// Parses a pattern by these options.
-fn parse(alloc: Global, text: &str, options: &Options) -> Result<Parsed, Fault> {
+/// Reads a text as the options say.
+fn parse(alloc: Global, text: &str, options: &Options) -> Result<Parsed, Fault>
+    ensures { IfOk result (λ p.
+        Reads (config_of options.now) text.now p.hir (map (option_map string_bytes) p.names.items)) }
+{
     let mut config = Config::default();
     config.flags.case_insensitive = options.case_insensitive;
     config.utf8 = options.utf8;
@@ -61,11 +78,16 @@ fn parse(alloc: Global, text: &str, options: &Options) -> Result<Parsed, Fault> 
 }
 
 /// The kit's NFA of a pattern, whose tables take at most so many bytes.
-fn compile(alloc: Global, text: &str, options: &Options, room: usize) -> Result<Nfa, Fault> {
+fn compile(alloc: Global, text: &str, options: &Options, room: usize) -> Result<Nfa, Fault>
+    ensures { IfOk result (IsCompiled (config_of options.now) text.now) }
+{
     let parsed = parse(alloc, text, options)?;
-    match u32::try_from(parsed.names.len()) {
-        Ok(groups) => regex_compile::compile(alloc, &parsed.hir, groups, room).map_err(Fault::from),
-        Err(_) => Err(Fault::TooLarge),
+    let Ok(groups) = u32::try_from(parsed.names.len()) else {
+        return Err(Fault::TooLarge);
+    };
+    match regex_compile::compile(alloc, &parsed.hir, groups, room) {
+        Ok(nfa) => Ok(nfa),
+        Err(error) => Err(Fault::from(error)),
     }
 }
 
@@ -77,68 +99,90 @@ fn table_bytes(nfa: &Nfa) -> usize {
 }
 
 impl Draft {
-    /// No pattern so far. `room` is how many bytes the tables of all patterns may take.
-    fn new(alloc: Global, room: usize) -> Draft {
+    /// A draft of no pattern.
+    fn new(alloc: Global, room: usize) -> Draft
+        ensures states { result.states.items ≡ [] }
+        ensures starts { result.starts.items ≡ [] }
+    {
         Draft {
             states: Vec::new(alloc),
             starts: Vec::new(alloc),
-            prefix: StateID::ZERO,
             room,
         }
     }
 
+    /// Adds the patterns of texts. It fails at the first text that is no pattern, or that makes the patterns too large.
+    fn read(&mut self, alloc: Global, texts: &[&str], options: &Options) -> Result<(), PatternError>
+        requires states { self.old.states.items ≡ [] }
+        requires starts { self.old.starts.items ≡ [] }
+        ensures { OnOk result (IsDraftOf options.now (map (λ text. text.now) texts.now) self.new) }
+    {
+        for text in texts {
+            let number = self.starts.len();
+            match self.read_one(alloc, text, options) {
+                Ok(()) => {}
+                Err(fault) => return Err(PatternError { number, fault }),
+            }
+        }
+        Ok(())
+    }
+
     /// Adds the pattern of a text.
-    fn read(&mut self, alloc: Global, text: &str, options: &Options) -> Result<(), Fault> {
+    fn read_one(&mut self, alloc: Global, text: &str, options: &Options) -> Result<(), Fault>
+        ensures { OnOk result ((k : kit_nfa.Nfa) × IsCompiled (config_of options.now) text.now k
+            × Grows options.now.ascii self.old k self.new) }
+    {
         let nfa = compile(alloc, text, options, self.room)?;
-        self.add(alloc, &nfa)
+        self.add(alloc, &nfa, options.ascii)
     }
 
     /// Adds the states of a pattern behind those of the patterns before it.
-    fn add(&mut self, alloc: Global, nfa: &Nfa) -> Result<(), Fault> {
-        if has_unicode_look(nfa) {
+    fn add(&mut self, alloc: Global, nfa: &Nfa, ascii: bool) -> Result<(), Fault>
+        ensures { OnOk result (Grows ascii self.old nfa.now self.new) }
+    {
+        if !ascii && has_unicode_look(nfa) {
             return Err(Fault::UnicodeWord);
         }
         let Some(pattern) = PatternID::new(self.starts.len()) else {
             return Err(Fault::TooLarge);
         };
-        let origin = Origin {
-            base: self.states.len(),
-            pattern,
-        };
-        push_states(alloc, nfa, &origin, &mut self.states)?;
+        let base = self.states.len();
+        let origin = Origin { base, pattern };
         let start = shifted(&origin, nfa.start)?;
+        push_states(alloc, nfa, &origin, &mut self.states)?;
         self.starts.push(start)?;
-        self.prefix = shifted(&origin, nfa.unanchored)?;
         self.room = self.room.saturating_sub(table_bytes(nfa));
         Ok(())
     }
 
-    /// Adds a union of all starts, and before it a lazy loop that skips bytes. Returns the union.
-    fn join(&mut self) -> Result<StateID, Fault> {
-        let alternates = self.starts.clone()?;
-        let start = self.push(State::Union { alternates })?;
-        let skip = id_of(self.states.len().saturating_add(1))?;
-        let (alt1, alt2) = (start, skip);
-        let next = self.push(State::BinaryUnion { alt1, alt2 })?;
+    /// Adds a union of all starts, and before it a lazy loop that skips bytes. Returns where the loop begins.
+    fn join(&mut self, alloc: Global) -> Result<StateID, Fault>
+        ensures nodes { OnOk result (nodes.nodes_of self.new.states.items ≡ nodes.nodes_of self.old.states.items
+            ++ Split self.old.starts.items
+            ∷ Split (length self.old.states.items ∷ (length self.old.states.items + 2) ∷ [])
+            ∷ any_byte (length self.old.states.items + 1) ∷ []) }
+        ensures starts { OnOk result (self.new.starts ≡ self.old.starts) }
+        ensures start { IfOk result (λ id. id ≡ length self.old.states.items + 1) }
+    {
+        let union = id_of(self.states.len())?;
+        let next = id_of(self.states.len() + 1)?;
+        let skip = id_of(self.states.len() + 2)?;
+        let alternates = Vec::from_slice(alloc, self.starts.as_slice())?;
+        self.states.push(State::Union { alternates })?;
+        let (alt1, alt2) = (union, skip);
+        self.states.push(State::BinaryUnion { alt1, alt2 })?;
         let (lo, hi) = (0, 255);
-        self.push(State::ByteRange { lo, hi, next })?;
-        self.prefix = next;
-        Ok(start)
+        self.states.push(State::ByteRange { lo, hi, next })?;
+        Ok(next)
     }
 
-    /// Adds a state after the others, and returns its ID.
-    fn push(&mut self, state: State) -> Result<StateID, Fault> {
-        let id = id_of(self.states.len())?;
-        self.states.push(state)?;
-        Ok(id)
-    }
-
-    /// The NFA of all patterns. One alone has the states that the compiler made, and no others.
-    fn finish(mut self, alloc: Global, utf8: bool) -> Result<NFA, Fault> {
-        let start = match self.starts.as_slice() {
-            [start] => *start,
-            _ => self.join()?,
-        };
+    /// The NFA of all patterns.
+    fn finish(&mut self, alloc: Global, utf8: bool) -> Result<NFA, Fault>
+        ensures { IfOk result (λ nfa. (ks : List kit_nfa.Nfa) → Has self.old ks
+            → engine_of nfa LeftmostFirst ≡ engine utf8 ks) }
+    {
+        let start = id_of(self.states.len())?;
+        let unanchored = self.join(alloc)?;
         let flags = Flags {
             utf8,
             reverse: false,
@@ -146,7 +190,7 @@ impl Draft {
         };
         let states = mem::replace(&mut self.states, Vec::new(alloc));
         let starts = mem::replace(&mut self.starts, Vec::new(alloc));
-        match NFA::from_states(alloc, states, start, self.prefix, starts, flags) {
+        match NFA::from_states(alloc, states, start, unanchored, starts, flags) {
             Ok(nfa) => Ok(nfa),
             Err(NfaError::OutOfMemory) => Err(Fault::OutOfMemory),
             Err(error) => Err(Fault::Refused(error)),
@@ -156,13 +200,13 @@ impl Draft {
 
 /// The NFA of these patterns, in which each has its place in the list as its number. It fails at the first text that is
 /// no pattern, or that makes the patterns too large.
-pub fn nfa_of(alloc: Global, texts: &[&str], options: &Options) -> Result<NFA, PatternError> {
+///
+/// Behind the states of the patterns stand a union of their starts and a loop that skips bytes, also for one pattern.
+pub fn nfa_of(alloc: Global, texts: &[&str], options: &Options) -> Result<NFA, PatternError>
+    ensures { IfOk result (IsNfaOf options.now (map (λ text. text.now) texts.now)) }
+{
     let mut draft = Draft::new(alloc, options.size_limit);
-    for (number, text) in texts.iter().enumerate() {
-        if let Err(fault) = draft.read(alloc, text, options) {
-            return Err(PatternError { number, fault });
-        }
-    }
+    draft.read(alloc, texts, options)?;
     match draft.finish(alloc, options.utf8) {
         Ok(nfa) => Ok(nfa),
         Err(fault) => Err(PatternError { number: 0, fault }),

@@ -1,3 +1,4 @@
+use regex_automata::hybrid::regex::RegexBuildError;
 use regex_automata::nfa::thompson::NfaError;
 use regex_syntax::Span;
 use std::alloc::{AllocError, AllocFailed, Global};
@@ -10,7 +11,7 @@ pub enum Fault {
     /// The text is no pattern.
     #[error("{}", .0.kind.message())]
     Syntax(regex_syntax::Error),
-    /// The pattern has a word boundary of Unicode, which the library supports in no search of all texts.
+    /// The pattern has a word boundary of Unicode, which the library supports in ASCII text alone.
     #[error("a Unicode word boundary is not supported: write (?-u:\\b) for one of ASCII")]
     UnicodeWord,
     /// The tables of all patterns together would pass the size limit.
@@ -22,6 +23,9 @@ pub enum Fault {
     /// The library refused the states.
     #[error("{0}")]
     Refused(NfaError),
+    /// No regex could be built of the NFA.
+    #[error("{0}")]
+    Unbuilt(RegexBuildError),
     /// An allocation failed.
     #[error("out of memory")]
     OutOfMemory,

@@ -1,4 +1,10 @@
 //! The states of the kit's NFA as those of the library.
+ghost use Rattle.std.specs.Prelude.{◌≡◌, ◌+◌, ◌++◌, IfOk, OnOk, false};
+ghost use Rattle.automata_base.specs.Nfas.Nodes as nodes;
+ghost use Rattle.regex_nfa.specs.Sides.{is_unicode_look};
+ghost use Rattle.example_meaning.specs.Agreeing.{HasNoUnicodeLook};
+ghost use Rattle.example_meaning.specs.Translated as translated;
+
 use crate::error::Fault;
 use regex_automata::nfa::thompson::{State, Transition};
 use regex_automata::util::look::Look;
@@ -13,8 +19,10 @@ pub(crate) struct Origin {
     pub pattern: PatternID,
 }
 
-/// The ID of a state of this number. It fails with `TooLarge` if there is no such ID.
-pub(crate) fn id_of(number: usize) -> Result<StateID, Fault> {
+/// The ID of a state by its number.
+pub(crate) fn id_of(number: usize) -> Result<StateID, Fault>
+    ensures { IfOk result (λ id. id ≡ number) }
+{
     match StateID::new(number) {
         Some(id) => Ok(id),
         None => Err(Fault::TooLarge),
@@ -22,12 +30,19 @@ pub(crate) fn id_of(number: usize) -> Result<StateID, Fault> {
 }
 
 /// The ID in the NFA of all patterns of a state of one.
-pub(crate) fn shifted(origin: &Origin, number: u32) -> Result<StateID, Fault> {
-    id_of(origin.base.saturating_add(number as usize))
+pub(crate) fn shifted(origin: &Origin, number: u32) -> Result<StateID, Fault>
+    ensures { IfOk result (λ id. id ≡ origin.now.base + number) }
+{
+    match origin.base.checked_add(number as usize) {
+        Some(sum) => id_of(sum),
+        None => Err(Fault::TooLarge),
+    }
 }
 
-/// The library's look for one of the kit's.
-fn look_of(look: regex_hir::Look) -> Look {
+/// The same assertion, as the library names it.
+fn look_of(look: regex_hir::Look) -> Look
+    ensures { result ≡ translated.look_of look }
+{
     match look {
         regex_hir::Look::Start => Look::Start,
         regex_hir::Look::End => Look::End,
@@ -50,12 +65,15 @@ fn look_of(look: regex_hir::Look) -> Look {
     }
 }
 
-/// The library's ranges for those of a state of a pattern. It fails with `TooLarge` if a target has no ID.
+/// The ranges of a sparse state.
 fn ranges_of(
     alloc: Global,
     own: &[regex_nfa::Transition],
     origin: &Origin,
-) -> Result<Vec<Transition>, Fault> {
+) -> Result<Vec<Transition>, Fault>
+    ensures { IfOk result (λ ranges.
+        nodes.ranges_of ranges.items ≡ translated.ranges_of origin.now.base own.now) }
+{
     let mut ranges = Vec::new(alloc);
     for t in own {
         let next = shifted(origin, t.next)?;
@@ -65,14 +83,16 @@ fn ranges_of(
     Ok(ranges)
 }
 
-/// The library's state for one of a pattern. It fails with `Malformed` if the state's ranges are not in the table, and
-/// with `TooLarge` if a target has no ID.
+/// The library's state for one of the pattern. What a capture writes is kept, and no search of the library reads it.
 fn state_of(
     alloc: Global,
     nfa: &Nfa,
     origin: &Origin,
     state: regex_nfa::State,
-) -> Result<State, Fault> {
+) -> Result<State, Fault>
+    ensures { IfOk result (λ own. nodes.node_of own
+        ≡ translated.node_of origin.now.base origin.now.pattern nfa.now.transitions.items state) }
+{
     match state {
         regex_nfa::State::ByteRange(t) => {
             let next = shifted(origin, t.next)?;
@@ -118,7 +138,10 @@ pub(crate) fn push_states(
     nfa: &Nfa,
     origin: &Origin,
     states: &mut Vec<State>,
-) -> Result<(), Fault> {
+) -> Result<(), Fault>
+    ensures { OnOk result (nodes.nodes_of states.new.items ≡ nodes.nodes_of states.old.items
+        ++ translated.nodes_of origin.now.base origin.now.pattern nfa.now.transitions.items nfa.now.states.items) }
+{
     for state in &nfa.states {
         let own = state_of(alloc, nfa, origin, *state)?;
         states.push(own)?;
@@ -127,7 +150,9 @@ pub(crate) fn push_states(
 }
 
 /// Whether an assertion of the pattern looks at characters.
-pub(crate) fn has_unicode_look(nfa: &Nfa) -> bool {
+pub(crate) fn has_unicode_look(nfa: &Nfa) -> bool
+    ensures { result ≡ false → HasNoUnicodeLook nfa.now }
+{
     for state in &nfa.states {
         if let regex_nfa::State::Look { look, .. } = *state {
             if regex_nfa::is_unicode(look) {

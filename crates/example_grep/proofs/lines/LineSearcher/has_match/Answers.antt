@@ -1,7 +1,11 @@
 use Rattle.std.proofs.Common.{◌≡◌, ◌∙◌, ℕ, Bool, true, false, List, Option, None, Some, ap, subst, sym}
 use Rattle.std.specs.Prelude.{◌↔◌, IsTrue, is_some}
-use Rattle.regex_automata.specs.Promises.{Forward, Half, HalfMatch, Input, IsAnswer, Machine, WithoutBase, engine_of, match_kind_of}
-use Rattle.example_grep.specs.Lines.{HasMatch, whole}
+use Rattle.regex_automata.specs.Promises.{Forward, Half, HalfMatch, Input, IsAnswer, IsHaystack, Machine, WithoutBase, engine_of, match_kind_of, without_base}
+use Rattle.example_meaning.specs.Patterns.{HasPart}
+use Rattle.example_meaning.proofs.Matching.{part_of_answer}
+use Rattle.example_meaning.proofs.Options.{some_map}
+use Rattle.example_patterns.proofs.Searching.{looks_same}
+use Rattle.example_grep.specs.Lines.{HasMatch, IsSearcherOf, whole}
 use Rattle.example_grep.proofs.lines.LineSearcher.has_match.Goals as goal
 
 decides :
@@ -21,9 +25,28 @@ decides m line None has one (Some half, a, e) said = absurd (cc)
 decides m line (Some half) has one (None, a, e) said = absurd (cc)
 decides m line (Some found) has one (Some half, a, e) said = (λ t. record { half = half; answer = a }, λ h. said)
 
+-- by what the patterns' texts mean
+tells :
+    (m : Machine) (line : List ℕ) (found : Option HalfMatch) (truth case_insensitive : Bool) (texts : List (List ℕ)) (is : IsSearcherOf case_insensitive texts m)
+    → IsHaystack line → WithoutBase (IsAnswer Forward (engine_of m.nfa (match_kind_of m.config)) (whole line)) found
+    → truth ≡ is_some found → IsTrue truth ↔ HasPart is.0.0 line
+tells m line found truth case_insensitive texts is bytes (answer, a, e) t =
+    part_of_answer is.0.1 is.0.0 is.0.3.0 line (looks_same false line (λ f. absurd (cc)) is.0.1 is.0.3.1) bytes true answer
+    (subst (λ d. IsAnswer Forward d (whole line) answer) (ap (engine_of m.nfa) is.1 ∙ is.0.4) a) truth
+    (t ∙ ap is_some e ∙ some_map without_base answer)
+
+pub returns-clause-meant : goal.returns-clause-meant
+returns-clause-meant c = λ case_insensitive texts is.
+    let same : c.earliest-input.result ≡ whole c.args.line.now = c.earliest-input.ensures ∙ ap (λ (i : Input). record i { earliest = true }) c.new-2.ensures in
+    tells c.args.self.now.dfa c.args.line.now c.in_ok-found.found c.is_some.result case_insensitive texts is
+    (subst (λ (i : Input). IsHaystack i.haystack) c.new.ensures c.haystack-haystack.ensures.bytes)
+    (subst (λ i. WithoutBase (IsAnswer Forward (engine_of c.args.self.now.dfa.nfa (match_kind_of c.args.self.now.dfa.config)) i) c.in_ok-found.found)
+    same (c.in_ok-found.ensures.half.answer c.args.self.now.ordered))
+    c.is_some.ensures
+
 pub returns-clause-found : goal.returns-clause-found
 returns-clause-found c =
-    let same : c.earliest-input.result ≡ whole c.args.line.now = c.earliest-input.ensures ∙ ap (λ (i : Input). record i { earliest = true }) c.new.ensures in
+    let same : c.earliest-input.result ≡ whole c.args.line.now = c.earliest-input.ensures ∙ ap (λ (i : Input). record i { earliest = true }) c.new-2.ensures in
     decides c.args.self.now.dfa c.args.line.now c.in_ok-found.found c.is_some.result
     (c.start_is_right.ensures.one.answer Forward (engine_of c.args.self.now.dfa.nfa (match_kind_of c.args.self.now.dfa.config)) (whole c.args.line.now))
     (subst (λ i. WithoutBase (IsAnswer Forward (engine_of c.args.self.now.dfa.nfa (match_kind_of c.args.self.now.dfa.config)) i) c.in_ok-found.found)

@@ -1,0 +1,15 @@
+pub mod Options
+pub mod Nodes
+pub mod Looking
+pub mod Ascii
+pub mod Ranks
+pub mod Edges
+pub mod Runs
+pub mod Unions
+pub mod Lists
+pub mod Loops
+pub mod Texts
+pub mod Spanning
+pub mod Means
+pub mod Iterations
+pub mod Matching

@@ -1,0 +1,2 @@
+mod Drafting
+pub mod Searching

@@ -1,0 +1,15 @@
+use Rattle.std.proofs.Common.{◌≡◌, None, false}
+use Rattle.automata_base.specs.Answers.Spans.{from}
+use Rattle.regex_automata.specs.Spans.Iteration.{input_over}
+use Rattle.regex_automata.specs.Spans.Outcomes.{FindsMatch}
+use Rattle.regex_automata.proofs.Spans.Lists.{ComesTo}
+use Rattle.example_patterns.proofs.pattern.collect.Given as goal
+
+abbrev pub invariant-loop-item : goal.invariant-loop-item
+invariant-loop-item l = record {
+  comes : ComesTo (FindsMatch l.fn.regex) l.fn.input l.fn.input.start None l.found.items l.item-iterator.start l.item-iterator.last;
+  regex : l.item-iterator.regex.now ≡ l.fn.regex;
+  input : input_over l.item-iterator.haystack.now l.item-iterator.start l.item-iterator.end l.item-iterator.anchored l.item-iterator.earliest ≡ from l.item-iterator.start l.fn.input;
+  going : l.item-iterator.ended ≡ false;
+  same_cache : l.item-iterator.cache.ghost_name ≡ l.initial.item-iterator.cache.ghost_name;
+}

@@ -1,0 +1,58 @@
+-- What NFAs and regexes of patterns are: each text is read as a tree, and what its NFA finds is what the tree means.
+use Rattle.std.specs.Prelude.{ℕ, ◌≡◌, true, false, List, [], ◌∷◌, Option, IsAscii, IsUtf8}
+use Rattle.regex_hir.specs.Re.{Re}
+use Rattle.regex_hir.specs.Meaning.{meaning}
+use Rattle.regex_hir.specs.declared.hir.Hir as kit_hir
+use Rattle.regex_nfa.specs.declared.nfa.Nfa as kit_nfa
+use Rattle.regex_syntax.specs.declared.Config.{Config}
+use Rattle.regex_syntax.specs.Verdict.{Reads, default_config, default_flags}
+use Rattle.automata_base.specs.Nfas.Nodes.{Automaton}
+use Rattle.regex_automata.specs.Promises.{IsSoundPair, LeftmostFirst, engine_of, forward_engine}
+use Rattle.regex_automata.specs.declared.hybrid.regex.Regex.{Regex}
+use Rattle.example_meaning.specs.Agreeing.{Each, HasNoUnicodeLook, ImplementAll}
+use Rattle.example_meaning.specs.Translated.{engine}
+use Rattle.example_patterns.specs.declared.compile.Options.{Options}
+
+-- how these options read a text
+abbrev pub config_of : Options → Config
+config_of options = record default_config {
+  flags = record default_flags { case_insensitive = options.case_insensitive };
+  utf8 = options.utf8;
+}
+
+-- the text is read as a tree, whose meaning this is
+abbrev pub IsMeaning : Config → (text : List ℕ) → Re → Type 0
+IsMeaning config text re =
+    (hir : kit_hir.Hir) × (names : List (Option (List ℕ))) × Reads config text hir names × (re ≡ meaning hir)
+
+-- the meanings of these texts, in their order
+abbrev pub AreMeanings : Config → (texts : List (List ℕ)) → List Re → Type 0
+AreMeanings config [] [] = Unit {0}
+AreMeanings config [] (re ∷ res) = ⊥
+AreMeanings config (text ∷ texts) [] = ⊥
+AreMeanings config (text ∷ texts) (re ∷ res) = IsMeaning config text re × AreMeanings config texts res
+
+-- some NFAs of the kit find what the patterns mean; no look of them is one of characters, unless the text is ASCII
+abbrev pub AreNfasOf : Options → List kit_nfa.Nfa → List Re → Type 0
+AreNfasOf options ks res = ImplementAll ks res × Each (λ k. options.ascii ≡ false → HasNoUnicodeLook k) ks
+
+-- the NFA is that of the patterns of these texts
+abbrev pub IsNfaOf : Options → (texts : List (List ℕ)) → Automaton → Type 0
+IsNfaOf options texts nfa =
+    (res : List Re) × (ks : List kit_nfa.Nfa) × AreMeanings (config_of options) texts res × AreNfasOf options ks res
+    × (engine_of nfa LeftmostFirst ≡ engine options.utf8 ks)
+
+-- the regex is a sound pair that searches for what the patterns mean
+abbrev pub IsRegexOf : Options → List Re → Regex → Type 0
+IsRegexOf options res regex =
+    IsSoundPair regex
+    × ((ks : List kit_nfa.Nfa) × AreNfasOf options ks res × (forward_engine regex ≡ engine options.utf8 ks))
+
+-- the regex is that of the patterns of these texts
+abbrev pub IsPatternOf : Options → (texts : List (List ℕ)) → Regex → Type 0
+IsPatternOf options texts regex =
+    (res : List Re) × AreMeanings (config_of options) texts res × IsRegexOf options res regex
+
+-- the bytes are what the options say is searched
+abbrev pub IsFor : Options → List ℕ → Type 0
+IsFor options hay = (options.utf8 ≡ true → IsUtf8 hay) × (options.ascii ≡ true → IsAscii hay)

@@ -1,0 +1,16 @@
+#!/bin/sh
+# Compares what `Pattern` of `example_patterns` finds with what the kit's regex crate finds, in a copy of the repository
+# with one crate more, outside the gate:
+#     tools/patterns.sh
+# Random patterns, alone and two at once, are searched in random bytes and texts, from every offset. It prints what
+# differs, and how many searches there were. Nothing is proved: the program runs under a sanitizer.
+set -eu
+tools=$(cd "$(dirname "$0")" && pwd)
+copy=$(mktemp -d)
+trap 'rm -rf "$copy"' EXIT
+(cd "$tools/.." && git ls-files -z | tar -c --null -T -) | tar -x -C "$copy"
+mkdir -p "$copy/crates/patterns/src"
+cp "$tools/compare/patterns.in" "$copy/crates/patterns/src/main.rt"
+echo 'patterns: example_patterns regex regex_automata anyhow' >> "$copy/crates.txt"
+cd "$copy/crates/patterns"
+rt try --seconds 86400
