@@ -12,6 +12,7 @@ pub enum Keyword {
     IsMatch,
     Iterate,
     Limit,
+    Nfa,
     NoClasses,
     Pattern,
     PerState,
@@ -26,11 +27,12 @@ pub enum Keyword {
     Tags,
     Tokenise,
     Unicode,
+    Utf8,
     Walk,
     Which,
 }
 
-const KEYWORDS: [(&[u8], Keyword); 25] = [
+const KEYWORDS: [(&[u8], Keyword); 27] = [
     (b"all", Keyword::All),
     (b"anchored", Keyword::Anchored),
     (b"capacity", Keyword::Capacity),
@@ -40,6 +42,7 @@ const KEYWORDS: [(&[u8], Keyword); 25] = [
     (b"is", Keyword::IsMatch),
     (b"iter", Keyword::Iterate),
     (b"limit", Keyword::Limit),
+    (b"nfa", Keyword::Nfa),
     (b"noclasses", Keyword::NoClasses),
     (b"pattern", Keyword::Pattern),
     (b"perstate", Keyword::PerState),
@@ -54,6 +57,7 @@ const KEYWORDS: [(&[u8], Keyword); 25] = [
     (b"tags", Keyword::Tags),
     (b"tok", Keyword::Tokenise),
     (b"unicode", Keyword::Unicode),
+    (b"utf8", Keyword::Utf8),
     (b"walk", Keyword::Walk),
     (b"which", Keyword::Which),
 ];

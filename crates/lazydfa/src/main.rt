@@ -11,8 +11,10 @@ mod keyword;
 mod reply;
 mod run;
 mod script;
+mod states;
 #[cfg(test)]
 mod tests;
+mod words;
 
 fn main(rt: HostRuntime) -> ExitCode {
     match run(rt.alloc(), &mut rt.reader(), &mut io::writer(&rt)) {
