@@ -1,4 +1,4 @@
-"""Writes random NFAs and requests, with the replies of the model, into the script that the gate runs:
+"""Writes NFAs and requests into the script that the gate runs: some by hand, and random ones with the model's replies.
 
     tools/compare/rows.py
 
@@ -21,11 +21,12 @@ from model import Haystack, Mirror, Nfa, TooManyPaths, has_look_cycle, refusal
 from scripts import (
     REFUSALS, Input, Options, Request, Script, asks_words, half_words, is_unsupported, mixed, numbered, random_haystack,
     random_input, random_nfa, wanted)
+from worked import worked_parts
 
 CRATE = os.path.join(os.path.dirname(os.path.abspath(__file__)), "../../crates/lazydfa")
-BEGIN, END = "# random: as tools/compare/rows.py writes them", "# no longer random"
+BEGIN, END = "# == as tools/compare/rows.py writes them, up to the line of its end", "# == the end of these"
 SEED = 1
-MADE, PAIRS, EACH = 230, 330, 4
+MADE, PAIRS = 230, 330
 BOTH = ("fwd", "rev", "which", "is", "tok", "walk fwd", "walk rev")
 ALL = BOTH + ("find", "find", "iter", "iter")
 
@@ -34,7 +35,8 @@ def random_settings(random: Random, unicode: bool, starts: float) -> Options:
     """Settings that never end a search."""
     words = [name for name, part in (("all", 0.45), ("starts", starts), ("noclasses", 0.1), ("tags", 0.2))
              if random.random() < part]
-    words += ["unicode"] * unicode + random.choice(([], ["skip", "capacity=0"], ["skip", "capacity=0"], ["skip", "capacity=2000"]))
+    words += ["unicode"] * unicode
+    words += random.choice(([], ["skip", "capacity=0"], ["skip", "capacity=0"], ["skip", "capacity=2000"]))
     return Options(" ".join(words), "all" in words, "starts" in words, unicode, frozenset(), False)
 
 
@@ -116,24 +118,27 @@ def paired(random: Random) -> Script:
     return Script(definitions, random_turns(random, BOTH, 8, texts_of, options))
 
 
-def listed(name: str) -> Callable[[Random], Script]:
-    """What makes a regex of an entry of the catalogue, and requests to it."""
+def listed(name: str, is_made: bool) -> Callable[[Random], Script]:
+    """What makes a regex of an entry of the catalogue, or of its forward NFA alone, and requests to it."""
     forward, backward = pair_of(name)
 
     def script(random: Random) -> Script:
         options = random_settings(random, asks_words(forward), 0.7)
         texts = [b"".join(random.choices(PIECES[name], k=random.randint(0, 6))) for _ in range(6)]
         texts_of = [(Haystack(forward, text[:18]), Mirror(backward, text[:18])) for text in texts]
-        definitions = [Request(f"regex {name} {options.line}".rstrip(), ["regex", "%r0"])]
+        texts_of = [(text, text if is_made else back) for text, back in texts_of]
+        words = [name] + ["made"] * is_made + [options.line] * (options.line != "")
+        definitions = [Request("regex " + " ".join(words), ["regex", "%r0"])]
         return Script(definitions, random_turns(random, ALL, 14, texts_of, options))
     return script
 
 
-def random_parts() -> list[Script]:
-    """All parts, made again where the paths are too many."""
+def all_parts() -> list[Script]:
+    """All parts. A random one is made again if its paths are too many."""
     random = Random(SEED)
-    makers = [made] * MADE + [paired] * PAIRS + [listed(name) for name in ENTRIES for _ in range(EACH)]
-    parts = []
+    makers = [made] * MADE + [paired] * PAIRS
+    makers += [listed(name, is_made) for name in ENTRIES for is_made in (False, False, False, name != "any")]
+    parts = worked_parts()
     for make in makers:
         while True:
             try:
@@ -150,19 +155,19 @@ def asks(line: str) -> bool:
 
 
 def kept(lines: list[str], replies: list[str]) -> Iterator[tuple[str, str]]:
-    """The lines of a script that are not random, each with its reply if it has one."""
+    """The other lines of a script, each with its reply if it has one."""
     answers = iter(replies)
-    is_random = False
+    is_written = False
     for line in lines:
         reply = next(answers) if asks(line) else ""
-        is_random = is_random or line == BEGIN
-        if not is_random:
+        is_written = is_written or line == BEGIN
+        if not is_written:
             yield line, reply
-        is_random = is_random and line != END
+        is_written = is_written and line != END
 
 
-def random_rows(parts: list[list[Request]], bases: list[Counter[str]]) -> list[tuple[str, str]]:
-    """The rows of all parts, between their comments."""
+def rows_of(parts: list[list[Request]], bases: list[Counter[str]]) -> list[tuple[str, str]]:
+    """The rows of all parts, between the two comments."""
     rows = [(numbered(request.line, base), numbered(" ".join(request.words), base))
             for part, base in zip(parts, bases) for request in part]
     return [(BEGIN, ""), *rows, (END, "")]
@@ -173,11 +178,11 @@ def main() -> None:
     with open(f"{CRATE}/stdin", encoding="utf-8") as script, open(f"{CRATE}/stdout", encoding="utf-8") as answers:
         rows = list(kept(script.read().splitlines(), answers.read().splitlines()))
     before = Counter(reply[0] for _, reply in rows if reply.split(" ")[0] in ("nfa", "regex", "walk"))
-    parts = random_parts()
+    parts = all_parts()
     bases = [base + before for base in bases_of(parts)]
     last = max(at for at, (line, _) in enumerate(rows) if line.startswith(("nfa ", "regex ")))
-    rows[last + 1:last + 1] = random_rows([part.definitions for part in parts], bases)
-    rows += random_rows([part.requests for part in parts], bases)
+    rows[last + 1:last + 1] = rows_of([part.definitions for part in parts], bases)
+    rows += rows_of([part.requests for part in parts], bases)
     with open(f"{CRATE}/stdin", "w", encoding="utf-8") as script, open(f"{CRATE}/stdout", "w", encoding="utf-8") as answers:
         script.writelines(f"{line}\n" for line, _ in rows)
         answers.writelines(f"{reply}\n" for line, reply in rows if asks(line))

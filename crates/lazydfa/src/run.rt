@@ -9,9 +9,8 @@ use regex_automata::nfa::thompson::{NFA, NfaError};
 use regex_automata::replay::replay;
 use std::alloc::{AllocError, Global};
 use std::fmt::Write;
-use std::io;
 use std::io::Read;
-use std::mem;
+use std::{io, mem};
 
 /// Answers the script that the input has, with one line of output for each line of the script that is neither empty nor
 /// a comment.

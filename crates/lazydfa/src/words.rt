@@ -5,7 +5,7 @@ ghost use Rattle.std.specs.Prelude.{◌<◌, IfSome};
 use std::alloc::AllocError;
 
 /// Why a line is bad.
-#[derive(Clone, Copy)]
+#[derive(Clone, Copy, Debug)]
 pub enum LineError {
     Bad,
     OutOfMemory,

@@ -12,21 +12,16 @@ mod bench;
 mod growths;
 mod made;
 mod memory;
-mod paths;
 mod plans;
-mod random_paths;
 mod regex;
 mod regex_bench;
 mod replay_turns;
 mod reported;
 mod reports;
-mod reversed;
 mod rows;
 mod scripts;
-mod span_paths;
 mod texts;
-mod walk_paths;
-mod walker;
+mod walking;
 mod walks;
 
 /// A text in a row of a table.
