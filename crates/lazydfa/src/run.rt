@@ -33,6 +33,7 @@ pub fn run<R: Read, W: io::Write>(
     output.flush().map_err(RunError::of_io)
 }
 
+/// The replies to all lines of a script.
 fn replies_to(alloc: Global, script: Script) -> Result<String, RunError> {
     let mut script = script;
     let definitions = mem::replace(&mut script.definitions, Vec::new(alloc));
@@ -55,6 +56,7 @@ struct Built {
 }
 
 impl Built {
+    /// Nothing is built yet.
     fn new(alloc: Global) -> Built {
         Built {
             nfas: Vec::new(alloc),
@@ -63,6 +65,7 @@ impl Built {
         }
     }
 
+    /// Builds what the definitions say, in their order.
     fn define_all(&mut self, alloc: Global, definitions: Vec<Definition>) -> Result<(), RunError> {
         for definition in definitions {
             match definition {
@@ -76,7 +79,7 @@ impl Built {
         Ok(())
     }
 
-    /// An NFA that cannot be built takes no number.
+    /// Keeps an NFA by the next number. One that cannot be built takes none.
     fn add_nfa(&mut self, nfa: Result<NFA, NfaError>) -> Result<(), RunError> {
         match nfa {
             Ok(nfa) => {
@@ -89,7 +92,7 @@ impl Built {
         Ok(())
     }
 
-    /// A regex that cannot be built takes no number.
+    /// Keeps a regex by the next number. One that cannot be built takes none.
     fn add_regex(&mut self, regex: Result<Regex, Refusal>) -> Result<(), RunError> {
         match regex {
             Ok(regex) => {
@@ -103,6 +106,7 @@ impl Built {
         Ok(())
     }
 
+    /// The regex that is made of this.
     fn build(&self, alloc: Global, source: Source, config: Config) -> Result<Regex, Refusal> {
         match source {
             Source::Entry(entry) => {
@@ -143,6 +147,7 @@ fn entry_nfa(nfa: Result<NFA, NfaError>) -> Result<NFA, Refusal> {
     }
 }
 
+/// The regex of a forward and a reverse NFA.
 fn build_pair(forward: NFA, reverse: NFA, config: Config) -> Result<Regex, Refusal> {
     match Regex::builder()
         .dfa(config)
@@ -153,6 +158,7 @@ fn build_pair(forward: NFA, reverse: NFA, config: Config) -> Result<Regex, Refus
     }
 }
 
+/// The regex of one NFA, which the library reverses.
 fn build_made(forward: NFA, config: Config) -> Result<Regex, Refusal> {
     match Regex::builder().dfa(config).build_from_nfa(forward) {
         Ok(regex) => Ok(regex),

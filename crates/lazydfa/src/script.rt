@@ -4,7 +4,7 @@ ghost use Rattle.std.specs.Prelude.{◌+◌, ◌≤◌, length};
 
 use crate::catalogue::Entry;
 use crate::error::RunError;
-use crate::keyword::Keyword;
+use crate::keyword::{Keyword, option_of};
 use crate::states::Outline;
 use crate::words::{LineError, hexadecimal_byte, number, only_number, split_once};
 use regex_automata::hybrid::dfa::Config;
@@ -147,20 +147,25 @@ impl Source {
     /// Reads what a regex is made of, and returns the words after it.
     fn parse<'a, 'b>(words: &'a [&'b [u8]]) -> Option<(Source, &'a [&'b [u8]])> {
         let (first, rest) = words.split_first()?;
-        let (is_made, after) = match rest.split_first() {
-            Some((word, after)) if *word == b"made".as_slice() => (true, after),
-            _ => (false, rest),
-        };
-        match (Entry::named(*first), is_made) {
-            (Some(entry), true) => Some((Source::EntryMade(entry), after)),
-            (Some(entry), false) => Some((Source::Entry(entry), after)),
-            (None, true) => Some((Source::Made(number(*first)?), after)),
-            (None, false) => {
-                let (second, after) = after.split_first()?;
+        match (Entry::named(*first), after_made(rest)) {
+            (Some(entry), Some(options)) => Some((Source::EntryMade(entry), options)),
+            (Some(entry), None) => Some((Source::Entry(entry), rest)),
+            (None, Some(options)) => Some((Source::Made(number(*first)?), options)),
+            (None, None) => {
+                let (second, options) = rest.split_first()?;
                 let source = Source::Pair(number(*first)?, number(*second)?);
-                Some((source, after))
+                Some((source, options))
             }
         }
+    }
+}
+
+/// The words after the one that has the library make the reverse NFA, if it stands first.
+fn after_made<'a, 'b>(words: &'a [&'b [u8]]) -> Option<&'a [&'b [u8]]> {
+    let (first, rest) = words.split_first()?;
+    match Keyword::spelled(*first)? {
+        Keyword::Made => Some(rest),
+        _ => None,
     }
 }
 
@@ -321,12 +326,4 @@ fn push_pairs(haystack: &mut Vec<u8>, word: &[u8]) -> Result<(), LineError> {
         haystack.push(byte).map_err(AllocError::from)?;
     }
     Ok(())
-}
-
-/// The keyword of an option, and its value if it has one.
-fn option_of(option: &[u8]) -> Option<(Keyword, Option<&[u8]>)> {
-    let Some((name, value)) = split_once(option, b'=') else {
-        return Some((Keyword::spelled(option)?, None));
-    };
-    Some((Keyword::spelled(name)?, Some(value)))
 }

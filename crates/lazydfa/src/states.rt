@@ -1,6 +1,6 @@
 //! The states of an NFA, as a line of a script lists them.
 
-use crate::keyword::Keyword;
+use crate::keyword::{Keyword, option_of};
 use crate::words::{LineError, hexadecimal_byte, number, split_once};
 use regex_automata::nfa::thompson::{Flags, NFA, NfaError, State, Transition};
 use regex_automata::util::look::Look;
@@ -45,6 +45,7 @@ impl Outline {
         )
     }
 
+    /// Reads the words of a line.
     fn read(&mut self, alloc: Global, words: &[&[u8]]) -> Result<(), LineError> {
         let (starts, rest) = words.split_first().ok_or(LineError::Bad)?;
         self.set_starts(*starts)?;
@@ -60,24 +61,31 @@ impl Outline {
     /// Reads the anchored and the unanchored start, and those of the patterns.
     fn set_starts(&mut self, word: &[u8]) -> Result<(), LineError> {
         let (anchored, rest) = split_once(word, b'/').ok_or(LineError::Bad)?;
-        let (unanchored, patterns) = split_once(rest, b',').unwrap_or((rest, b""));
+        let (unanchored, patterns) = match split_once(rest, b',') {
+            Some((unanchored, patterns)) => (unanchored, Some(patterns)),
+            None => (rest, None),
+        };
         self.anchored = state_id(anchored).ok_or(LineError::Bad)?;
         self.unanchored = state_id(unanchored).ok_or(LineError::Bad)?;
-        push_ids(&mut self.patterns, patterns)
+        match patterns {
+            Some(list) => push_ids(&mut self.patterns, list),
+            None => Ok(()),
+        }
     }
 
     /// The flags with one more, if this word is one.
     fn flags_with(&self, word: &[u8]) -> Option<Flags> {
         let mut flags = self.flags;
-        match (split_once(word, b'='), Keyword::spelled(word)) {
-            (None, Some(Keyword::Utf8)) => flags.utf8 = true,
-            (None, Some(Keyword::Reverse)) => flags.reverse = true,
-            (Some((b"line", value)), _) => flags.line_terminator = hexadecimal_byte(value)?,
+        match option_of(word)? {
+            (Keyword::Utf8, None) => flags.utf8 = true,
+            (Keyword::Reverse, None) => flags.reverse = true,
+            (Keyword::Line, Some(value)) => flags.line_terminator = hexadecimal_byte(value)?,
             _ => return None,
         }
         Some(flags)
     }
 
+    /// Adds a state behind the others.
     fn add(&mut self, state: State) -> Result<(), LineError> {
         Ok(self.states.push(state).map_err(AllocError::from)?)
     }
@@ -130,9 +138,12 @@ fn captured(next: StateID) -> State {
     }
 }
 
+/// A union of the states that a list names.
 fn union_of(alloc: Global, word: &[u8]) -> Result<State, LineError> {
     let mut alternates = Vec::new(alloc);
-    push_ids(&mut alternates, word)?;
+    if !word.is_empty() {
+        push_ids(&mut alternates, word)?;
+    }
     Ok(State::Union { alternates })
 }
 
@@ -144,6 +155,7 @@ fn dense_state(alloc: Global, word: &[u8]) -> Result<State, LineError> {
     Ok(State::Dense(targets))
 }
 
+/// Where each byte leads, by the last range that has it.
 fn targets_of(ranges: &[Transition]) -> [StateID; 256] {
     let mut targets = [StateID::ZERO; 256];
     for range in ranges {
@@ -157,14 +169,14 @@ fn targets_of(ranges: &[Transition]) -> [StateID; 256] {
 /// The transitions that a list of ranges writes.
 fn ranges_of(alloc: Global, word: &[u8]) -> Result<Vec<Transition>, LineError> {
     let mut ranges = Vec::new(alloc);
-    push_ranges(&mut ranges, word)?;
+    if !word.is_empty() {
+        push_ranges(&mut ranges, word)?;
+    }
     Ok(ranges)
 }
 
+/// Adds the transitions that a list of ranges writes.
 fn push_ranges(ranges: &mut Vec<Transition>, word: &[u8]) -> Result<(), LineError> {
-    if word.is_empty() {
-        return Ok(());
-    }
     for part in word.split(|byte| *byte == b',') {
         let range = transition(part).ok_or(LineError::Bad)?;
         ranges.push(range).map_err(AllocError::from)?;
@@ -172,10 +184,8 @@ fn push_ranges(ranges: &mut Vec<Transition>, word: &[u8]) -> Result<(), LineErro
     Ok(())
 }
 
+/// Adds the states that a list names.
 fn push_ids(ids: &mut Vec<StateID>, word: &[u8]) -> Result<(), LineError> {
-    if word.is_empty() {
-        return Ok(());
-    }
     for part in word.split(|byte| *byte == b',') {
         let id = state_id(part).ok_or(LineError::Bad)?;
         ids.push(id).map_err(AllocError::from)?;
@@ -194,6 +204,7 @@ fn transition(word: &[u8]) -> Option<Transition> {
     })
 }
 
+/// The state that a decimal number names.
 fn state_id(word: &[u8]) -> Option<StateID> {
     StateID::new(number(word)?)
 }

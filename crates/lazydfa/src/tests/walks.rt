@@ -6,7 +6,7 @@ use super::rows::TWO_WAYS;
 use super::walking::Over;
 use crate::catalogue::Entry;
 use Automaton::{Chain, Forward, Planned, Reverse};
-use Call::{Begin, Counts, Find, Join, Match, Next, Prints, Reset, Switch, Which};
+use Call::{Begin, Counts, Find, FindEarliest, Join, Match, Next, Prints, Reset, Switch, Which};
 use Over::{Pattern, Span, Whole};
 
 /// A row of calls over a walk.
@@ -57,6 +57,37 @@ const PAIRS: &[Row] = &[
         "-, quit b2 1, none, quit b2 1"),
     ("a pattern without its starts", Forward(Entry::Words), "all", &[Begin(Pattern("a!", 1)), Next, Match, Next],
         "-, unsupported, none, unsupported"),
+];
+
+/// In reverse under leftmost-first: a search, one that is earliest, and a walk.
+#[rattlefmt::skip]
+const BACK: &[Row] = &[
+    ("", Reverse(Entry::Words), "", &[Begin(Whole("@foo bar")), Find("@foo bar"), FindEarliest("@foo bar"), Next, Next,
+        Next, Next],
+        "-, half 0 5, half 0 7, half 0 7, half 0 6, half 0 5, none"),
+    ("", Reverse(Entry::Words), "", &[Begin(Whole("a!")), Find("a!"), FindEarliest("a!"), Next, Next, Next],
+        "-, half 1 0, half 1 1, half 1 1, half 1 0, none"),
+    ("", Reverse(Entry::Abc), "", &[Begin(Whole("abcab")), Find("abcab"), FindEarliest("abcab"), Next, Next, Next],
+        "-, half 0 0, half 0 2, half 0 2, half 0 0, none"),
+    ("", Reverse(Entry::Runs), "", &[Begin(Whole("12ab 34")), Find("12ab 34"), FindEarliest("12ab 34"), Next, Next,
+        Next],
+        "-, half 1 5, half 1 6, half 1 6, half 1 5, none"),
+    ("", Reverse(Entry::Date), "", &[Begin(Whole("x2018-12-24")), Find("x2018-12-24"), FindEarliest("x2018-12-24"),
+        Next, Next],
+        "-, half 0 1, half 0 1, half 0 1, none"),
+    ("", Reverse(Entry::Bnum), "unicode", &[Begin(Whole("a 12 b")), Find("a 12 b"), FindEarliest("a 12 b"), Next, Next],
+        "-, half 0 2, half 0 2, half 0 2, none"),
+    ("", Reverse(Entry::Wordend), "", &[Begin(Whole("ab cd")), Find("ab cd"), FindEarliest("ab cd"), Next, Next, Next],
+        "-, half 0 3, half 0 4, half 0 4, half 0 3, none"),
+    ("", Reverse(Entry::Snow), "", &[Begin(Whole("a\u{2603}x")), Find("a\u{2603}x"), FindEarliest("a\u{2603}x"), Next,
+        Next],
+        "-, half 0 0, none, half 0 0, none"),
+    ("", Reverse(Entry::Snowx), "", &[Begin(Whole("xa\u{2603}x")), Find("xa\u{2603}x"), FindEarliest("xa\u{2603}x"),
+        Next, Next, Next],
+        "-, half 0 1, half 1 5, half 1 5, half 0 1, none"),
+    ("", Reverse(Entry::Empty), "", &[Begin(Whole("a\u{2603}")), Find("a\u{2603}"), FindEarliest("a\u{2603}"), Next,
+        Next],
+        "-, half 0 4, half 0 4, half 0 4, none"),
 ];
 
 /// A walk belongs to no cache: each cache of its DFA will do, whatever it was used for.
@@ -150,6 +181,7 @@ const PRINTED: &[Row] = &[
 #[test]
 fn walks_and_sets_report_their_rows(rt: HostRuntime) {
     reports_all::<Bench>(&rt, PAIRS);
+    reports_all::<Bench>(&rt, BACK);
     reports_all::<Bench>(&rt, CACHES);
     reports_all::<Bench>(&rt, CLEARED);
     reports_all::<Bench>(&rt, SETS);
