@@ -1,21 +1,18 @@
-//! Calls of the library over one lazy DFA and its caches, and what they report.
+//! Calls of the library over one lazy DFA and its cache, and what they report.
 
 ghost use Rattle.std.specs.Prelude.{◌<◌, ◌^◌, IfOk, IsTrue};
-ghost use Rattle.lazydfa.specs.Walks.{IsWalkOver};
 ghost use Rattle.regex_automata.specs.Promises.{HoldsRow, IsCacheOf};
 
 use super::Host;
-use super::plans::{Mode, pattern_id};
-use super::reported::{Counted, Reported, letter, prints};
+use super::plans::Mode;
+use super::reported::{Counted, Reported, letter};
 use super::reports::{Automaton, Caller};
-use super::walking::{Over, join, reported_of_copy, reported_of_step, step};
-use regex_automata::hybrid::dfa::{Cache, DFA, OverlappingState};
+use regex_automata::hybrid::dfa::{Cache, DFA};
 use regex_automata::hybrid::{BuildError, LazyStateID, SearchError, StartError, StepError};
 use regex_automata::nfa::thompson::{NFA, ReverseError};
-use regex_automata::util::search::{Anchored, HalfMatch, Input, PatternSet};
+use regex_automata::util::search::{Anchored, HalfMatch, Input};
 use regex_automata::util::start;
 use std::alloc::{AllocError, Global};
-use std::mem;
 
 /// A call.
 #[derive(Clone, Copy)]
@@ -53,26 +50,6 @@ pub enum Call {
     Counts,
     /// The memory, and the tags of the state.
     Brief,
-    /// Begins a walk.
-    Begin(Over),
-    /// Its next match.
-    Next,
-    /// What it has found last.
-    Match,
-    /// The same of a copy of it.
-    Copy,
-    /// Whether it is printed so for debugging.
-    Prints(&'static str),
-    /// The patterns of all matches of what is walked over, in a set of this capacity.
-    Which(usize),
-    /// The same in a set of this capacity that has a pattern.
-    Join(usize, u8),
-    /// Adds a pattern to a set that is kept.
-    Insert(u8),
-    /// Adds the patterns of all matches to that set.
-    Fill,
-    /// Goes on over the other cache.
-    Switch,
     /// Replaces the cache by a new one.
     Replace,
     /// The same by `Cache::new`.
@@ -96,41 +73,28 @@ pub enum Call {
     Room,
 }
 
-/// A lazy DFA with two caches, of which calls use the first; the state to which was stepped, and the states that were
-/// reported; a walk, and what it is over; and a set of patterns.
+/// A lazy DFA with a cache of its own, the state to which was stepped, and the states that were reported.
 #[derive(Drop)]
 pub struct Bench {
     dfa: DFA,
     cache: Cache,
-    other: Cache,
     at: LazyStateID,
     reported: [LazyStateID; 8],
     count: usize,
-    input: Input<'static>,
-    walk: OverlappingState,
-    set: PatternSet,
     ghost of: { IsCacheOf cache dfa },
-    ghost other_of: { IsCacheOf other dfa },
-    ghost walks: { IsWalkOver dfa input walk },
 }
 
 impl Bench {
     /// Before any start.
     fn new(rt: &impl Host, dfa: DFA) -> Bench {
         let cache = dfa.create_cache().expect(rt, "a cache");
-        let other = dfa.create_cache().expect(rt, "a cache");
-        let set = PatternSet::new(rt.alloc(), 4).expect(rt, "a set");
         let at = LazyStateID::default();
         Bench {
             dfa,
             cache,
-            other,
             at,
             reported: [at; 8],
             count: 0,
-            input: Input::new(b"".as_slice()),
-            walk: OverlappingState::start(),
-            set,
         }
     }
 
@@ -171,55 +135,13 @@ impl Bench {
             }
             Call::Reset => Reported::of_growth(self.dfa.reset_cache(&mut self.cache)),
             Call::ResetByCache => Reported::of_growth(self.cache.reset(&self.dfa)),
-            _ => self.turn(alloc, call),
-        }
-    }
-
-    /// A call over what is walked over.
-    fn turn(&mut self, alloc: Global, call: Call) -> Reported {
-        match call {
-            Call::Begin(over) => self.begin_walk(over),
-            Call::Next => self.next(),
-            Call::Which(capacity) => self.which(alloc, capacity, None),
-            Call::Join(capacity, pattern) => self.which(alloc, capacity, Some(pattern)),
-            Call::Insert(pattern) => {
-                Reported::of_flag(self.set.try_insert(pattern_id(pattern)) == Ok(true))
-            }
-            Call::Fill => join(&self.dfa, &mut self.cache, &self.input, &mut self.set, None),
-            Call::Switch => {
-                mem::swap(&mut self.cache, &mut self.other);
-                Reported::Word("-")
-            }
             _ => self.ask(alloc, call),
-        }
-    }
-
-    fn begin_walk(&mut self, over: Over) -> Reported {
-        self.walk = OverlappingState::start();
-        self.input = over.input();
-        Reported::Word("-")
-    }
-
-    /// The next match of the walk.
-    fn next(&mut self) -> Reported {
-        let stepped = step(&self.dfa, &mut self.cache, &self.input, &mut self.walk);
-        reported_of_step(stepped, self.walk.get_match())
-    }
-
-    /// The patterns of all matches, in a set of this capacity that may have one.
-    fn which(&mut self, alloc: Global, capacity: usize, given: Option<u8>) -> Reported {
-        match PatternSet::new(alloc, capacity) {
-            Ok(mut set) => join(&self.dfa, &mut self.cache, &self.input, &mut set, given),
-            Err(_) => Reported::Refused(BuildError::OutOfMemory),
         }
     }
 
     /// A call that does not change the cache.
     fn ask(&mut self, alloc: Global, call: Call) -> Reported {
         match call {
-            Call::Match => Reported::Half(Ok(self.walk.get_match())),
-            Call::Copy => reported_of_copy(&self.walk),
-            Call::Prints(text) => Reported::of_flag(prints(alloc, &self.walk, text)),
             Call::Known(byte) => self.known(byte),
             Call::State => self.state(self.at),
             Call::Matched => self.matched(),

@@ -1,26 +1,27 @@
 //! Allocations that fail, by rows. Each test is a process of its own, so it may use up all memory.
 
-use super::Text;
 use super::bench::{Bench, Call};
 use super::plans::Mode;
 use super::regex_bench::{Ask, Pair, RegexBench};
 use super::reports::{Automaton, ONCE, Refusal, Short, answer_within, refuse_each};
-use super::walking::Over;
+use super::walker::{Over, Turn, Walked, Walker};
 use crate::catalogue::Entry;
 use Automaton::{Chain, Forward, Planned, Reverse};
 use Call::{
-    Begin, Brief, Classes, Copy, Counts, End, Fill, Find, FindIn, Insert, KeepsUtf8, Known, Match,
-    Matched, Memory, Minimum, Next, Patterns, PatternsOfCopy, PatternsOfNfaCopy,
-    PatternsOfReversed, Replace, ReplaceByNew, Reset, Room, Start, StartIn, StartOn, State, Step,
-    Steps, Switch, Which,
+    Brief, Classes, Counts, End, Find, FindIn, KeepsUtf8, Known, Matched, Memory, Minimum,
+    Patterns, PatternsOfCopy, PatternsOfNfaCopy, PatternsOfReversed, Replace, ReplaceByNew, Reset,
+    Room, Start, StartIn, StartOn, State, Step, Steps,
 };
 use Mode::{Every, First, Of};
-use Over::{Span, Whole};
+use Over::{Span, Text};
+use Turn::{Begin, Fill, Insert, Match, Next, Switch, Which};
 
 /// Rows over a lazy DFA and its cache, and over a regex.
 type Lazy = Short<Automaton, Call>;
 
 type Regex = Short<Pair, Ask>;
+
+type Walk = Short<Walked, Turn>;
 
 const AB: Automaton = Forward(Entry::Ab);
 
@@ -148,46 +149,47 @@ fn starts_after_each_refused_growth(rt: HostRuntime) {
     refuse_each::<Bench>(&rt, STARTS);
 }
 
+const OVER_WORDS: Walked = Walked(WORDS, Text("@a b"));
+
 /// No byte at all, and eleven bytes `a`, whose match needs more rows than a new cache has room for.
-const NONE_OR_ELEVEN: Text =
+const NONE_OR_ELEVEN: &str =
     "0/0,0,0 E1,2 M1 B61:3 B61:4 B61:5 B61:6 B61:7 B61:8 B61:9 B61:10 B61:11 B61:12 B61:13 M0";
 
 /// If memory runs out, a call has no match, and the next call has the one that was due.
 #[rattlefmt::skip]
-const WALKS: &[Lazy] = &[
-    ("over known transitions a walk takes no memory", Forward(Entry::Aa), "all", &[Begin(Whole("aa")), Next, Next, Next,
-        Next, Next], &[(Begin(Whole("aa")), "-"), (Next, "half 0 1"), (Next, "half 1 1"), (Next, "half 0 2"), (Next,
-        "half 1 2"), (Next, "none"), (Room, "false")], &[]),
-    ("nor does one in reverse", Reverse(Entry::Aa), "all limit=0", &[Begin(Whole("aa")), Next, Next, Next, Next, Next],
-        &[(Begin(Whole("aa")), "-"), (Next, "half 0 1"), (Next, "half 1 1"), (Next, "half 0 0"), (Next, "half 1 0"),
-        (Next, "none"), (Room, "false")], &[]),
-    ("nor from a state that it holds and that the cache has, else it owes its pair", Forward(Entry::Aa), "all",
-        &[Begin(Whole("aa")), Next, Next, Next, Next, Next, Begin(Whole("aa")), Next, Next], &[(Switch, "-"), (Next,
-        "memory"), (Match, "none"), (Next, "memory"), (Switch, "-"), (Next, "half 0 2"), (Next, "half 1 2"), (Next,
-        "none"), (Switch, "-"), (Next, "none"), (Match, "none")], &[]),
-    ("nor for another pattern of a place", Forward(Entry::Aa), "all", &[Begin(Whole("aa")), Next], &[(Switch, "-"),
-        (Next, "half 1 1"), (Next, "memory"), (Match, "none"), (Next, "memory"), (Counts, "0 481 0")], &[]),
-    ("nor for a copy", Forward(Entry::Aa), "all", &[Begin(Whole("aa")), Next], &[(Copy, "half 0 1"), (Room, "false")],
-        &[]),
-    ("nor over a done span", Forward(Entry::Always), "all", &[Begin(Span("ab", 2, 1))], &[(Next, "none"), (Next,
-        "none"), (Counts, "0 221 0")], &[]),
-    ("over known transitions a search for a set takes none", WORDS, "all", &[Begin(Whole("@a b")), Which(4)], &[(Fill,
-        "{0 1}")], &[]),
-    ("each call over another cache", WORDS, "all", &[Begin(Whole("@a b"))], &[(Next, "half 1 1"), (Switch, "-"), (Next,
-        "half 1 2"), (Switch, "-"), (Next, "half 0 2"), (Switch, "-"), (Next, "half 0 4"), (Switch, "-"), (Next,
-        "half 1 4"), (Switch, "-"), (Next, "none")], AT_ONCE),
-    ("each call over another cache in reverse", WORDS_BACK, "all", &[Begin(Whole("@a b"))], &[(Next, "half 0 3"),
+const WALKS: &[Walk] = &[
+    ("over known transitions a walk takes no memory", Walked(Forward(Entry::Aa), Text("aa")), "all", &[Next, Next,
+        Next, Next, Next], &[(Begin, "-"), (Next, "half 0 1"), (Next, "half 1 1"), (Next, "half 0 2"),
+        (Next, "half 1 2"), (Next, "none"), (Turn::Room, "false")], &[]),
+    ("nor does one in reverse", Walked(Reverse(Entry::Aa), Text("aa")), "all limit=0", &[Next, Next, Next, Next, Next],
+        &[(Begin, "-"), (Next, "half 0 1"), (Next, "half 1 1"), (Next, "half 0 0"), (Next, "half 1 0"), (Next, "none"),
+        (Turn::Room, "false")], &[]),
+    ("nor from a state that it holds and that the cache has, else it owes its pair", Walked(Forward(Entry::Aa),
+        Text("aa")), "all", &[Next, Next, Next, Next, Next, Begin, Next, Next], &[(Switch, "-"), (Next, "memory"),
+        (Match, "none"), (Next, "memory"), (Switch, "-"), (Next, "half 0 2"), (Next, "half 1 2"), (Next, "none"),
+        (Switch, "-"), (Next, "none"), (Match, "none")], &[]),
+    ("nor for another pattern of a place", Walked(Forward(Entry::Aa), Text("aa")), "all", &[Next], &[(Switch, "-"),
+        (Next, "half 1 1"), (Next, "memory"), (Match, "none"), (Next, "memory"), (Turn::Counts, "0 481 0")], &[]),
+    ("nor for a copy", Walked(Forward(Entry::Aa), Text("aa")), "all", &[Next], &[(Turn::Copy, "half 0 1"),
+        (Turn::Room, "false")], &[]),
+    ("nor over a done span", Walked(Forward(Entry::Always), Span("ab", 2, 1)), "all", &[], &[(Next, "none"),
+        (Next, "none"), (Turn::Counts, "0 221 0")], &[]),
+    ("over known transitions a search for a set takes none", OVER_WORDS, "all", &[Which(4)], &[(Fill, "{0 1}")], &[]),
+    ("each call over another cache", OVER_WORDS, "all", &[], &[(Next, "half 1 1"), (Switch, "-"), (Next, "half 1 2"),
+        (Switch, "-"), (Next, "half 0 2"), (Switch, "-"), (Next, "half 0 4"), (Switch, "-"), (Next, "half 1 4"),
+        (Switch, "-"), (Next, "none")], AT_ONCE),
+    ("each call over another cache in reverse", Walked(WORDS_BACK, Text("@a b")), "all", &[], &[(Next, "half 0 3"),
         (Switch, "-"), (Next, "half 1 3"), (Switch, "-"), (Next, "half 0 1"), (Switch, "-"), (Next, "half 1 1"),
         (Switch, "-"), (Next, "half 1 0"), (Switch, "-"), (Next, "none")], AT_ONCE),
-    ("across a clear", A16, "all noclasses capacity=37281", &[Begin(Whole(AS))], &[(Next, "half 0 16"), (Switch, "-"),
-        (Next, "none")], AT_ONCE),
-    ("a set that has a pattern keeps it, and with memory it gets the rest", Planned(NONE_OR_ELEVEN), "all",
-        &[Begin(Whole(AS)), Insert(2)], &[(Fill, "{0 1 2}")], &[(0, "{2} memory"), (0, "{1 2} memory")]),
+    ("across a clear", Walked(A16, Text(AS)), "all noclasses capacity=37281", &[], &[(Next, "half 0 16"),
+        (Switch, "-"), (Next, "none")], AT_ONCE),
+    ("a set that has a pattern keeps it, and with memory it gets the rest", Walked(Planned(NONE_OR_ELEVEN), Text(AS)),
+        "all", &[Insert(2)], &[(Fill, "{0 1 2}")], &[(0, "{2} memory"), (0, "{1 2} memory")]),
 ];
 
 #[test]
 fn walks_after_each_refused_growth(rt: HostRuntime) {
-    refuse_each::<Bench>(&rt, WALKS);
+    refuse_each::<Walker>(&rt, WALKS);
 }
 
 const FOO: &[u8] = b"@foo bar";

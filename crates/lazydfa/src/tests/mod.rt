@@ -21,7 +21,7 @@ mod reports;
 mod rows;
 mod scripts;
 mod texts;
-mod walking;
+mod walker;
 mod walks;
 
 /// A text in a row of a table.

@@ -107,6 +107,17 @@ const SEARCHED: &[Row] = &[
     ("a quit byte before the start is known", Reverse(Entry::Wordend), "quit=78", &[Find("abcxyz")], "quit 78 3"),
     ("a place that splits a character is passed, unless anchored there", Reverse(Entry::Empty), "",
         &[FindIn("\u{2603}", 0, 2), FindAnchored("\u{2603}", 0, 2)], "half 0 0, none"),
+    // The first path, and the one of the nearest start.
+    ("", Reverse(Entry::Words), "", &[Find("@foo bar"), FindEarliest("@foo bar")], "half 0 5, half 0 7"),
+    ("", Reverse(Entry::Words), "", &[Find("a!"), FindEarliest("a!")], "half 1 0, half 1 1"),
+    ("", Reverse(Entry::Abc), "", &[Find("abcab"), FindEarliest("abcab")], "half 0 0, half 0 2"),
+    ("", Reverse(Entry::Runs), "", &[Find("12ab 34"), FindEarliest("12ab 34")], "half 1 5, half 1 6"),
+    ("", Reverse(Entry::Date), "", &[Find("x2018-12-24"), FindEarliest("x2018-12-24")], "half 0 1, half 0 1"),
+    ("", Reverse(Entry::Bnum), "unicode", &[Find("a 12 b"), FindEarliest("a 12 b")], "half 0 2, half 0 2"),
+    ("", Reverse(Entry::Wordend), "", &[Find("ab cd"), FindEarliest("ab cd")], "half 0 3, half 0 4"),
+    ("", Reverse(Entry::Snow), "", &[Find("a\u{2603}x"), FindEarliest("a\u{2603}x")], "half 0 0, none"),
+    ("", Reverse(Entry::Snowx), "", &[Find("xa\u{2603}x"), FindEarliest("xa\u{2603}x")], "half 0 1, half 1 5"),
+    ("", Reverse(Entry::Empty), "", &[Find("a\u{2603}"), FindEarliest("a\u{2603}")], "half 0 4, half 0 4"),
     // The bytes searched, by each way out of a search, and that no search is in progress after it.
     ("at a quit byte", AB, "quit=63", &[Find("abc"), Counts], "quit 63 2, 0 593 2"),
     ("at a quit byte behind the span", AB, "quit=63", &[FindIn("abc", 0, 2), Counts], "quit 63 2, 0 593 2"),
