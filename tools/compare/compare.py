@@ -1,7 +1,7 @@
 """Compares replies with those of the model.
 
-`compare.py ask NFAS SEED` prints a script over so many random NFAs. `compare.py check NFAS SEED` makes the same one, and
-reads the replies to it.
+`compare.py ask NFAS SEED` prints a script over so many random NFAs. `compare.py check NFAS SEED` makes the same one,
+and reads the replies to it.
 """
 from __future__ import annotations
 
@@ -15,7 +15,7 @@ from scripts import ERROR, Script, numbered, random_script
 
 
 def random_scripts(count: int, seed: int) -> Iterator[Script]:
-    """The scripts of a seed."""
+    """The parts of a seed."""
     random = Random(seed)
     for _ in range(count):
         yield random_script(random)
@@ -59,7 +59,7 @@ def check(seed: int, scripts: list[Script]) -> int:
             wrong.append((script.text(), difference))
     expected = sum(len(script.definitions) + len(script.requests) for script in scripts)
     total = sum(counts.values())
-    print(f"seed {seed}: {len(scripts)} NFAs, {total} replies to {expected} lines, {len(wrong)} NFAs with a wrong reply")
+    print(f"seed {seed}: {len(scripts)} NFAs, {total} replies to {expected} lines, {len(wrong)} NFAs with a wrong one")
     print(", ".join(f"{number} {name}" for name, number in sorted(counts.items())))
     if wrong:
         text, difference = min(wrong, key=lambda pair: len(pair[0]))

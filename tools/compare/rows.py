@@ -183,8 +183,9 @@ def main() -> None:
     last = max(at for at, (line, _) in enumerate(rows) if line.startswith(("nfa ", "regex ")))
     rows[last + 1:last + 1] = rows_of([part.definitions for part in parts], bases)
     rows += rows_of([part.requests for part in parts], bases)
-    with open(f"{CRATE}/stdin", "w", encoding="utf-8") as script, open(f"{CRATE}/stdout", "w", encoding="utf-8") as answers:
+    with open(f"{CRATE}/stdin", "w", encoding="utf-8") as script:
         script.writelines(f"{line}\n" for line, _ in rows)
+    with open(f"{CRATE}/stdout", "w", encoding="utf-8") as answers:
         answers.writelines(f"{reply}\n" for line, reply in rows if asks(line))
 
 
