@@ -1,3 +1,4 @@
+#!/usr/bin/env python3
 """Writes NFAs and requests into the script that the gate runs: some by hand, and random ones with the model's replies.
 
     tools/compare/rows.py
