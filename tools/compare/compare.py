@@ -1,34 +1,44 @@
 """Compares replies with those of the model.
 
-`compare.py ask SCRIPTS SEED` prints random scripts. `compare.py check SCRIPTS SEED` makes the same ones, and reads the
-replies to them.
+`compare.py ask NFAS SEED` prints a script over so many random NFAs. `compare.py check NFAS SEED` makes the same one,
+and reads the replies to it.
 """
 from __future__ import annotations
 
 import sys
 from collections import Counter
+from itertools import accumulate, islice
 from random import Random
-from typing import Iterable, Iterator, Optional
+from typing import Iterable, Iterator
 
-from scripts import ERROR, Script, random_script
+from scripts import ERROR, Script, numbered, random_script
 
 
 def random_scripts(count: int, seed: int) -> Iterator[Script]:
-    """The scripts of a seed."""
+    """The parts of a seed."""
     random = Random(seed)
     for _ in range(count):
         yield random_script(random)
 
 
-def replies_by_script(lines: Iterable[str]) -> Iterator[list[str]]:
-    """The replies to each script."""
-    replies: list[str] = []
-    for line in lines:
-        if line == "#\n":
-            yield replies
-            replies = []
-        else:
-            replies.append(line.rstrip("\n"))
+def bases_of(scripts: list[Script]) -> list[Counter[str]]:
+    """How many NFAs, regexes and walks stand before each part, where all follow one another in one script."""
+    return list(accumulate((script.counts() for script in scripts[:-1]), initial=Counter()))
+
+
+def ask(scripts: list[Script]) -> None:
+    """Prints one script: all definitions, and then all requests."""
+    for requests in ([script.definitions for script in scripts], [script.requests for script in scripts]):
+        for part, bases in zip(requests, bases_of(scripts)):
+            for request in part:
+                print(numbered(request.line, bases))
+
+
+def replies_by_script(scripts: list[Script], lines: Iterable[str]) -> list[list[str]]:
+    """The replies to each part."""
+    replies = iter([line.rstrip("\n") for line in lines])
+    defined = [list(islice(replies, len(script.definitions))) for script in scripts]
+    return [before + list(islice(replies, len(script.requests))) for script, before in zip(scripts, defined)]
 
 
 def first_words(replies: list[str]) -> list[str]:
@@ -37,33 +47,32 @@ def first_words(replies: list[str]) -> list[str]:
             for reply in replies]
 
 
-def check(count: int, seed: int) -> int:
-    """Prints what was compared, and the shortest script with a wrong reply if there is one."""
+def check(seed: int, scripts: list[Script]) -> int:
+    """Prints what was compared, and the shortest part with a wrong reply if there is one."""
     counts: Counter[str] = Counter()
-    wrong = 0
-    shortest: Optional[tuple[str, str]] = None
-    answers = replies_by_script(sys.stdin)
-    for script in random_scripts(count, seed):
-        replies = next(answers, [])
+    wrong: list[tuple[str, str]] = []
+    answers = replies_by_script(scripts, sys.stdin)
+    for script, replies, bases in zip(scripts, answers, bases_of(scripts)):
         counts.update(first_words(replies))
-        difference = script.first_difference(replies)
+        difference = script.first_difference(replies, bases)
         if difference:
-            wrong += 1
-            text = script.text()
-            shortest = min(shortest or (text, difference), (text, difference), key=lambda pair: len(pair[0]))
-    print(f"seed {seed}: {count} scripts, {sum(counts.values())} replies, {wrong} scripts with a wrong reply")
+            wrong.append((script.text(), difference))
+    expected = sum(len(script.definitions) + len(script.requests) for script in scripts)
+    total = sum(counts.values())
+    print(f"seed {seed}: {len(scripts)} NFAs, {total} replies to {expected} lines, {len(wrong)} NFAs with a wrong one")
     print(", ".join(f"{number} {name}" for name, number in sorted(counts.items())))
-    if shortest:
-        print(f"the shortest of these:\n{shortest[0]}\n{shortest[1]}")
-    return 1 if wrong else 0
+    if wrong:
+        text, difference = min(wrong, key=lambda pair: len(pair[0]))
+        print(f"the shortest of these:\n{text}\n{difference}")
+    return 1 if wrong or total != expected else 0
 
 
 def main(what: str, count: int, seed: int) -> int:
     """Asks or checks."""
+    scripts = list(random_scripts(count, seed))
     if what == "check":
-        return check(count, seed)
-    for script in random_scripts(count, seed):
-        print(script.text(), end="")
+        return check(seed, scripts)
+    ask(scripts)
     return 0
 
 

@@ -1,4 +1,4 @@
-"""Random regular expressions, compiled to NFAs, and how these are written in a case of compare.in."""
+"""Random regular expressions, compiled to NFAs, and how a script writes these."""
 from __future__ import annotations
 
 from dataclasses import dataclass
@@ -105,7 +105,7 @@ class Compiler:
 
     def free(self, targets: list[int]) -> Free:
         """A state that reads nothing and leads to these states."""
-        letters = {0: "FU", 1: "EUC", 2: "UW"}.get(len(targets), "U")
+        letters = {0: "FU", 1: "UC", 2: "UE"}.get(len(targets), "U")
         return Free(self.random.choice(letters), tuple(targets))
 
     def read(self, ranges: tuple[tuple[int, int], ...], to: int) -> State:
@@ -171,33 +171,36 @@ def random_end(random: Random, compiler: Compiler, pattern: int, starts: list[in
 
 
 def random_prefix(random: Random, compiler: Compiler, start: int) -> int:
-    """The unanchored start: a lazy loop before the start, which is written as one word, or the start itself."""
+    """The unanchored start: a lazy loop before the start, or the start itself."""
     kind = random.random()
     if kind < 0.15:
         return start
     union = len(compiler.states)
     targets = (start, union + 1) if kind < 0.97 else (union + 1, start)
-    compiler.add(Free("P" if kind < 0.9 else "U", targets))
+    compiler.add(Free("E" if kind < 0.9 else "U", targets))
     compiler.add(Read("B", ((0, 255, union),)))
     return union
 
 
+def ranges_word(ranges: tuple[tuple[int, int, int], ...]) -> str:
+    """Ranges of bytes and where they lead to, as a script has them."""
+    return ",".join(f"{lo:02x}:{to}" if lo == hi else f"{lo:02x}-{hi:02x}:{to}" for lo, hi, to in ranges)
+
+
 def word(state: State) -> str:
-    """A state, as a case of compare.in has it."""
+    """A state, as a script has it."""
     if isinstance(state, Accept):
         return f"M{state.pattern}"
     if isinstance(state, Ask):
-        return f"L{state.look},{state.target}"
+        return f"L{LOOKS[state.look]}:{state.target}"
     if isinstance(state, Read):
-        return state.letter + ",".join(f"{lo},{hi},{to}" for lo, hi, to in state.ranges)
-    targets = state.targets[:1] if state.letter == "P" else state.targets
-    return state.letter + ",".join(map(str, targets))
+        return state.letter + ranges_word(state.ranges)
+    return state.letter + ",".join(map(str, state.targets))
 
 
 def written(nfa: Nfa) -> str:
-    """An NFA, as a case of compare.in has it: a `P` stands for its state and the next one."""
-    words = [f"{nfa.utf8:d},{nfa.reverse:d},{nfa.terminator}", f"{nfa.anchored},{nfa.unanchored}",
-             ",".join(map(str, nfa.patterns))]
-    loops = [number for number, state in enumerate(nfa.states) if isinstance(state, Free) and state.letter == "P"]
-    words += [word(state) for number, state in enumerate(nfa.states) if number - 1 not in loops]
-    return " ".join(words)
+    """An NFA, as a line of a script has it."""
+    starts = ",".join(map(str, (nfa.unanchored, *nfa.patterns)))
+    flags = ["utf8"] * nfa.utf8 + ["rev"] * nfa.reverse
+    flags += [] if nfa.terminator == 0x0A else [f"line={nfa.terminator:02x}"]
+    return " ".join(["nfa", f"{nfa.anchored}/{starts}", *flags, *map(word, nfa.states)])

@@ -206,11 +206,11 @@ def first_of_each(paths: Iterable[Found]) -> list[Found]:
 
 
 class Haystack:
-    """The accepting paths of an NFA over a haystack, and what searches of it answer."""
+    """The accepting paths of an NFA over a haystack, and what searches of it answer. It reads forward."""
 
     def __init__(self, nfa: Nfa, haystack: bytes) -> None:
         self.nfa = nfa
-        self.bytes = haystack
+        self.text = self.bytes = haystack
         self.known: dict[tuple[int, int, Optional[int]], list[Found]] = {}
         self.steps = 0
 
@@ -340,3 +340,30 @@ class Haystack:
     def walk_back(self, span: Span, mode: Mode) -> list[tuple[int, int]]:
         """The pairs of an overlapping walk of the reversed NFA: patterns and starts."""
         return [(path.pattern, path.start) for path in self.paths_back(span, mode) if not self.skips(path.start)]
+
+
+class Mirror(Haystack):
+    """The same of an NFA for reverse searches, which reads from the haystack's end to its start."""
+
+    def __init__(self, nfa: Nfa, haystack: bytes) -> None:
+        super().__init__(nfa, haystack[::-1])
+        self.text = haystack
+
+    def mirrored(self, span: Span) -> Span:
+        """A span as it is read."""
+        begin, end = span
+        return len(self.bytes) - end, len(self.bytes) - begin
+
+    def skips(self, offset: int) -> bool:
+        """Whether no match starts at an offset, which is counted from the haystack's end."""
+        return self.nfa.skips_splits and is_split(self.text, len(self.text) - offset)
+
+    def search_back(self, span: Span, mode: Mode, earliest: bool) -> Optional[Found]:
+        """The match that a search reports, its start where its path ends."""
+        found = self.search(self.mirrored(span), mode, True, earliest)
+        return found and Found(found.pattern, len(self.bytes) - found.end, span[1])
+
+    def walk_back(self, span: Span, mode: Mode) -> list[tuple[int, int]]:
+        """The pairs of an overlapping walk: patterns and starts."""
+        pairs = self.walk(self.mirrored(span), mode, True)
+        return [(pattern, len(self.bytes) - end) for pattern, end in pairs]

@@ -1,7 +1,8 @@
-"""Random scripts over a random NFA, with the replies that the model gives."""
+"""Random parts of scripts, each over a random NFA, with the replies that the model gives."""
 from __future__ import annotations
 
 import re
+from collections import Counter
 from dataclasses import dataclass, field
 from random import Random
 from typing import Optional
@@ -9,6 +10,15 @@ from typing import Optional
 from expressions import BYTES, CHARACTERS, random_nfa, written
 from model import LOOKS, Accept, Ask, Found, Free, Haystack, Mode, Nfa, Read, Span, TooManyPaths, refusal
 
+REFUSALS = {
+    "NotLazy": "the unanchored start does not skip lazily, so an unanchored match may have no start",
+    "LookCycle": "a cycle of edges that read nothing passes a look, so matches may not follow the paths",
+    "NotUtf8": "a match may be invalid UTF-8, so in UTF-8 mode it might split a character",
+    "Starts": "the starts differ in the empty match, so the reversed NFA would have others",
+    "Build": "unsupported regex feature for DFAs: cannot build lazy DFAs for regexes with Unicode word boundaries; "
+             "switch to ASCII word boundaries, or heuristically enable Unicode word boundaries or use a different "
+             "regex engine",
+}
 ERROR = re.compile(r"(?:^|(.*) )(?:quit ([0-9a-f]{2}) (\d+)|gaveup (\d+))$")
 
 
@@ -35,7 +45,15 @@ class Input:
         """The words of a request."""
         mode = {"unanchored": "", "anchored": " anchored"}.get(str(self.mode), f" pattern={self.mode}")
         earliest = " earliest" if self.earliest else ""
-        return f"{self.haystack.bytes.hex() or '-'} span={self.span[0]}..{self.span[1]}{mode}{earliest}"
+        whole = self.span == (0, len(self.haystack.text))
+        span = "" if whole else f" span={self.span[0]}..{self.span[1]}"
+        return f"{self.haystack.text.hex() or '-'}{span}{mode}{earliest}"
+
+
+def numbered(text: str, bases: Counter[str]) -> str:
+    """A line or a reply, its `%n0`, `%r0` and `%w0` replaced by the numbers of an NFA, a regex and a walk in a script,
+    where these of another part stand before them."""
+    return re.sub(r"%([nrw])(\d+)", lambda number: str(bases[number[1]] + int(number[2])), text)
 
 
 @dataclass
@@ -53,16 +71,16 @@ class Request:
         error = ERROR.match(reply)
         if not error or self.input is None or self.options is None:
             return None
-        haystack, (begin, end) = self.input.haystack.bytes, self.input.span
+        haystack, (begin, end) = self.input.haystack.text, self.input.span
         if error[4]:
             return error[1] or "" if self.options.limit and begin <= int(error[4]) <= end else None
         byte, at = int(error[2], 16), int(error[3])
         named = begin - 1 <= at <= end and at < len(haystack) and haystack[at] == byte
         return error[1] or "" if named and byte in self.options.quits else None
 
-    def allows(self, reply: str) -> bool:
+    def allows(self, reply: str, bases: Counter[str]) -> bool:
         """Whether a reply is right, or ends in an error that may come, with nothing wrong before it."""
-        if reply == " ".join(self.words):
+        if reply == numbered(" ".join(self.words), bases):
             return True
         before = self.may_end(reply)
         if before is None:
@@ -75,23 +93,26 @@ class Request:
 
 @dataclass
 class Script:
-    """An NFA, and requests of regexes that are made of it."""
-    nfa: Nfa
+    """A part of a script: NFAs, regexes of them, and requests."""
+    definitions: list[Request] = field(default_factory=list)
     requests: list[Request] = field(default_factory=list)
 
-    def text(self) -> str:
-        """The case of compare.in."""
-        return "\n".join([written(self.nfa)] + [request.line for request in self.requests]) + "\n#"
+    def counts(self) -> Counter[str]:
+        """How many NFAs, regexes and walks it has, by the letters that `numbered` knows."""
+        kinds = [request.words[0][:1] for request in self.definitions + self.requests if "%" in "".join(request.words)]
+        return Counter(kinds)
 
-    def first_difference(self, replies: list[str]) -> Optional[str]:
+    def text(self) -> str:
+        """The part as a whole script."""
+        return "\n".join(numbered(request.line, Counter()) for request in self.definitions + self.requests)
+
+    def first_difference(self, replies: list[str], bases: Counter[str]) -> Optional[str]:
         """The first request with a wrong reply."""
-        if len(replies) != len(self.requests):
-            return f"{len(replies)} replies to {len(self.requests)} requests"
         walks: list[list[str]] = []
-        for request, reply in zip(self.requests, replies):
+        for request, reply in zip(self.definitions + self.requests, replies):
             if request.walk is not None:
                 request.words = [(walks[request.walk] or ["none"])[0]]
-            if not request.allows(reply):
+            if not request.allows(reply, bases):
                 return f"{request.line}: {reply}, and not {' '.join(request.words)}"
             if request.pairs is not None:
                 walks.append(list(request.pairs))
@@ -100,18 +121,21 @@ class Script:
         return None
 
 
+def asks_words(nfa: Nfa) -> bool:
+    """Whether an NFA asks for Unicode words."""
+    return any(isinstance(state, Ask) and "Unicode" in LOOKS[state.look] for state in nfa.states)
+
+
 def random_options(random: Random, nfa: Nfa) -> Options:
     """Settings, of which a cache that is too small is as likely as an ample one."""
-    asks_words = any(isinstance(state, Ask) and "Unicode" in LOOKS[state.look] for state in nfa.states)
-    words = [random.choice(("states", "builder"))]
-    words += [name for name, part in (("all", 0.4), ("starts", 0.5), ("noclasses", 0.2), ("tags", 0.3))
+    words = [name for name, part in (("all", 0.4), ("starts", 0.5), ("noclasses", 0.2), ("tags", 0.3))
               if random.random() < part]
     quits = frozenset(random.sample((0x0A, 0x2D, 0x62, 0xE2), random.randint(1, 2)) if random.random() < 0.15 else ())
     words += [f"quit={byte:02x}" for byte in sorted(quits)]
-    decides_words = random.random() < (0.95 if asks_words else 0.1)
+    decides_words = random.random() < (0.95 if asks_words(nfa) else 0.1)
     if decides_words:
         words.append("unicode")
-    if decides_words and asks_words:
+    if decides_words and asks_words(nfa):
         quits |= frozenset(range(0x80, 0x100))
     if random.random() < 0.5:
         words += ["skip", f"capacity={random.choice((0, 0, 1000, 2000, 4000, 8000))}"]
@@ -210,15 +234,15 @@ def random_walk(
     """A request that begins a walk, and its steps past its end. A walk that is not supported has one step."""
     given = random_input(random, haystacks)
     way = random.choice(("fwd", "rev"))
-    begin = Request(f"walk {way} {given.line()}", [f"walk {number}"], given, options, [])
+    begin = Request(f"walk {way} {given.line()}", ["walk", f"%w{number}"], given, options, [])
     if is_unsupported(given, options):
-        return begin, [Request(f"step {number}", ["unsupported"], given, options)]
+        return begin, [Request(f"step %w{number}", ["unsupported"], given, options)]
     if way == "fwd":
         pairs = given.haystack.walk(given.span, given.mode, options.all_kind)
     else:
         pairs = given.haystack.walk_back(given.span, given.mode)
     begin.pairs = [f"half {pattern} {at}" for pattern, at in pairs]
-    return begin, [Request(f"step {number}", [], given, options, walk=number) for _ in range(len(pairs) + 2)]
+    return begin, [Request(f"step %w{number}", [], given, options, walk=number) for _ in range(len(pairs) + 2)]
 
 
 def mixed(random: Random, one: list[Request], other: list[Request]) -> list[Request]:
@@ -242,18 +266,18 @@ def random_script(random: Random) -> Script:
     """A script over two regexes of one NFA with settings of their own, the second current from the middle on."""
     while True:
         nfa = random_nfa(random)
-        script = Script(nfa)
+        script = Script([Request(written(nfa), ["nfa", "%n0"])])
         settings = [random_options(random, nfa), random_options(random, nfa)]
         names = [refusal(nfa, options.decides_words) for options in settings]
         built: list[Options] = []
         for options, name in zip(settings, names):
-            reply = f"refused {name}" if name else f"regex {len(built)}"
-            script.requests.append(Request(f"regex {options.line}", [reply]))
+            words = ["refused", REFUSALS[name]] if name else ["regex", f"%r{len(built)}"]
+            script.definitions.append(Request(f"regex %n0 made {options.line}".rstrip(), words))
             built += [] if name else [options]
         haystacks = [random_haystack(random, nfa) for _ in range(2)]
         try:
             for number, options in enumerate(built):
-                script.requests += [Request(f"reset {number}", ["ok"])] if number else []
+                script.requests.append(Request(f"reset %r{number}", ["ok"]))
                 script.requests += random_requests(random, 2 * number, haystacks, options)
         except TooManyPaths:
             continue

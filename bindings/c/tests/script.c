@@ -12,10 +12,14 @@
         if (status_.code != LAZYDFA_OK) return status_;  \
     } while (0)
 
-enum { MOST = 128, ROOM = 4096 };
+enum { MOST = 4096, ROOM = 4096, STATES = 256 };
 
 static lazydfa_cache caches[MOST];
 static size_t regexes, current;
+
+/* The words of the NFAs that the script defines. */
+static const char *nfas[MOST];
+static size_t nfa_count;
 
 /* A walk, the matches that are known of it, how many were reported, and what came after the known ones. */
 static struct walk {
@@ -83,10 +87,180 @@ static const char *after(const char *option, const char *name) {
     return strncmp(option, name, length) ? NULL : option + length;
 }
 
+/* ---- NFAs that the script defines ---- */
+
+/* The words of an NFA, its starts, and how many patterns were started. */
+struct outline {
+    char *text, *words[STATES];
+    size_t word_count;
+    uint32_t patterns[STATES], pattern_count, begun;
+    lazydfa_starts starts;
+};
+
+/* The numbers of a list, and how many there are. */
+static uint32_t numbers(char *list, uint32_t *found) {
+    uint32_t count = 0;
+    char *part = *list ? strtok(list, ",") : NULL;
+    for (; part; part = strtok(NULL, ",")) {
+        if (count == STATES) bad_line();
+        found[count++] = (uint32_t)number(part);
+    }
+    return count;
+}
+
+/* Ranges and where they lead, and how many there are. Those of a dense state that lead to state 0 are no transitions. */
+static size_t edges_of(char *list, lazydfa_edge *found, int is_dense) {
+    size_t count = 0;
+    char *part = *list ? strtok(list, ",") : NULL;
+    for (; part; part = strtok(NULL, ",")) {
+        char *colon = strchr(part, ':');
+        if (!colon || count == STATES) bad_line();
+        memset(&found[count], 0, sizeof *found);
+        found[count].lo = byte(part);
+        found[count].hi = byte(part[2] == '-' ? part + 3 : part);
+        found[count].next = (uint32_t)number(colon + 1);
+        count += !is_dense || found[count].next;
+    }
+    return count;
+}
+
+static uint32_t look_of(const char *name) {
+    static const char *const looks[] = {
+        "Start", "End", "StartLF", "EndLF", "StartCRLF", "EndCRLF", "WordAscii", "WordAsciiNegate", "WordUnicode",
+        "WordUnicodeNegate", "WordStartAscii", "WordEndAscii", "WordStartUnicode", "WordEndUnicode",
+        "WordStartHalfAscii", "WordEndHalfAscii", "WordStartHalfUnicode", "WordEndHalfUnicode" };
+    uint32_t i;
+    for (i = 0; i < sizeof looks / sizeof *looks; i++)
+        if (!strcmp(looks[i], name)) return i;
+    bad_line();
+    return 0;
+}
+
+/* Starts the patterns before this number, each after the one before is finished. */
+static lazydfa_status begin_patterns(lazydfa_builder *b, struct outline *o, uint32_t count) {
+    lazydfa_status ok = { LAZYDFA_OK, 0, 0 };
+    uint32_t pattern;
+    for (; o->begun < count; o->begun++) {
+        if (o->begun) TRY(lazydfa_finish_pattern(b, o->patterns[o->begun - 1], &pattern));
+        TRY(lazydfa_start_pattern(b, &pattern));
+    }
+    return ok;
+}
+
+/* A union; with one alternate it is an empty state that is patched. */
+static lazydfa_status add_union(lazydfa_builder *b, char *list) {
+    uint32_t found[STATES], count = numbers(list, found), id;
+    if (count != 1) return lazydfa_add_union(b, found, count, &id);
+    TRY(lazydfa_add_empty(b, &id));
+    return lazydfa_patch(b, id, found[0]);
+}
+
+static lazydfa_status add_look(lazydfa_builder *b, char *rest) {
+    char *colon = strchr(rest, ':');
+    uint32_t id;
+    if (!colon) bad_line();
+    *colon = '\0';
+    return lazydfa_add_look(b, (uint32_t)number(colon + 1), look_of(rest), &id);
+}
+
+/* Adds a state that a word writes. */
+static lazydfa_status add_word(lazydfa_builder *b, struct outline *o, char *word) {
+    lazydfa_edge found[STATES];
+    uint32_t id, pattern;
+    char *rest = word + 1;
+    switch (*word) {
+    case 'B':
+        if (edges_of(rest, found, 0) != 1) bad_line();
+        return lazydfa_add_range(b, found[0].lo, found[0].hi, found[0].next, &id);
+    case 'S':
+    case 'D': {
+        size_t count = edges_of(rest, found, *word == 'D');
+        return lazydfa_add_sparse(b, found, count, &id);
+    }
+    case 'E':
+    case 'U': return add_union(b, rest);
+    case 'L': return add_look(b, rest);
+    case 'C': return lazydfa_add_capture_start(b, (uint32_t)number(rest), 0, &id);
+    case 'F': return lazydfa_add_fail(b, &id);
+    case 'M':
+        pattern = (uint32_t)number(rest);
+        TRY(begin_patterns(b, o, pattern + 1));
+        return lazydfa_add_match(b, &id);
+    default: bad_line();
+    }
+    return lazydfa_bad_argument();
+}
+
+/* The start before which bytes are skipped lazily, if two words from a state on do that; or NULL. */
+static const char *skipped_before(const struct outline *o, size_t at, size_t state) {
+    char either[64], any[64], *comma;
+    if (at + 1 >= o->word_count) return NULL;
+    comma = strchr(o->words[at], ',');
+    sprintf(either, ",%lu", (unsigned long)state + 1);
+    sprintf(any, "B00-ff:%lu", (unsigned long)state);
+    if (*o->words[at] != 'E' || !comma || strcmp(comma, either) || strcmp(o->words[at + 1], any)) return NULL;
+    *comma = '\0';
+    return o->words[at] + 1;
+}
+
+static lazydfa_status add_words(lazydfa_builder *b, struct outline *o) {
+    lazydfa_status ok = { LAZYDFA_OK, 0, 0 };
+    size_t at, state = 0;
+    uint32_t pattern, id;
+    for (at = 1; at < o->word_count; at++) {
+        const char *start = skipped_before(o, at, state), *line = after(o->words[at], "line=");
+        if (!strcmp(o->words[at], "utf8")) TRY(lazydfa_set_utf8(b, 1));
+        else if (!strcmp(o->words[at], "rev")) TRY(lazydfa_set_reverse(b, 1));
+        else if (line) TRY(lazydfa_set_line_terminator(b, byte(line)));
+        else if (start) {
+            TRY(lazydfa_add_unanchored_prefix(b, (uint32_t)number(start), &id));
+            at++;
+            state += 2;
+        } else {
+            TRY(add_word(b, o, o->words[at]));
+            state++;
+        }
+    }
+    TRY(begin_patterns(b, o, o->pattern_count));
+    if (o->begun) TRY(lazydfa_finish_pattern(b, o->patterns[o->begun - 1], &pattern));
+    return ok;
+}
+
+/* Adds the states of an NFA to a new builder, and says its starts. */
+static lazydfa_status add_nfa(lazydfa_builder *b, size_t at, lazydfa_starts *starts) {
+    struct outline o;
+    lazydfa_status status = { LAZYDFA_OK, 0, 0 };
+    char *line, *slash, *comma;
+    memset(&o, 0, sizeof o);
+    o.text = line = room_for(strlen(nfas[at]) + 1, 1);
+    strcpy(o.text, nfas[at]);
+    while (o.word_count < STATES && (o.words[o.word_count] = next_word(&line))) o.word_count++;
+    slash = o.word_count ? strchr(o.words[0], '/') : NULL;
+    if (line || !slash) bad_line();
+    *slash = '\0';
+    comma = strchr(slash + 1, ',');
+    if (comma) *comma = '\0';
+    starts->anchored = (uint32_t)number(o.words[0]);
+    starts->unanchored = (uint32_t)number(slash + 1);
+    o.pattern_count = comma ? numbers(comma + 1, o.patterns) : 0;
+    status = add_words(b, &o);
+    free(o.text);
+    return status;
+}
+
+static void define_nfa(const char *line) {
+    if (!line || nfa_count == MOST) bad_line();
+    nfas[nfa_count] = line;
+    printf("nfa %lu\n", (unsigned long)nfa_count++);
+}
+
 /* ---- Regexes ---- */
 
+/* What a regex is made of: an entry, or one or two NFAs by their numbers; and its settings. */
 struct definition {
     const struct entry *entry;
+    size_t forward, backward;
+    int is_made;
     lazydfa_settings settings;
     uint8_t quits[256];
     size_t quit_count;
@@ -147,21 +321,26 @@ static lazydfa_status add_states(lazydfa_builder *b, const struct entry *entry, 
     return ok;
 }
 
+/* Adds the states of one direction to a new builder, and says its starts. */
+static lazydfa_status fill(lazydfa_builder *b, const struct definition *d, int is_backward, lazydfa_starts *starts) {
+    TRY(lazydfa_builder_new(b));
+    if (!d->entry) return add_nfa(b, is_backward ? d->backward : d->forward, starts);
+    starts->unanchored = d->entry->unanchored;
+    TRY(lazydfa_set_utf8(b, d->entry->utf8));
+    TRY(lazydfa_set_reverse(b, (uint32_t)is_backward));
+    return add_states(b, d->entry, is_backward ? d->entry->backward : d->entry->forward);
+}
+
 static lazydfa_status build(const struct definition *d, lazydfa_cache *cache) {
     lazydfa_builder forward = LAZYDFA_INIT, backward = LAZYDFA_INIT;
     lazydfa_regex regex = LAZYDFA_INIT;
-    lazydfa_starts starts = { 0, 0 };
-    lazydfa_status status = lazydfa_builder_new(&forward);
-    starts.unanchored = d->entry->unanchored;
-    if (status.code == LAZYDFA_OK) status = lazydfa_builder_new(&backward);
-    if (status.code == LAZYDFA_OK) status = lazydfa_set_utf8(&forward, d->entry->utf8);
-    if (status.code == LAZYDFA_OK) status = lazydfa_set_utf8(&backward, d->entry->utf8);
-    if (status.code == LAZYDFA_OK) status = lazydfa_set_reverse(&backward, 1);
-    if (status.code == LAZYDFA_OK) status = add_states(&forward, d->entry, d->entry->forward);
-    if (status.code == LAZYDFA_OK) status = add_states(&backward, d->entry, d->entry->backward);
+    lazydfa_starts starts = { 0, 0 }, back_starts = { 0, 0 };
+    lazydfa_status status = fill(&forward, d, 0, &starts);
+    if (status.code == LAZYDFA_OK && !d->is_made) status = fill(&backward, d, 1, &back_starts);
     if (status.code == LAZYDFA_OK)
-        status = lazydfa_regex_build_pair(&regex, &forward, starts, &backward, starts, &d->settings, d->quits,
-                                          d->quit_count);
+        status = d->is_made ? lazydfa_regex_build(&regex, &forward, starts, &d->settings, d->quits, d->quit_count)
+                            : lazydfa_regex_build_pair(&regex, &forward, starts, &backward, back_starts, &d->settings,
+                                                       d->quits, d->quit_count);
     if (status.code == LAZYDFA_OK) status = lazydfa_cache_new(cache, &regex);
     lazydfa_regex_close(&regex);
     lazydfa_builder_close(&backward);
@@ -181,20 +360,42 @@ static void refuse(const struct definition *d, lazydfa_status status) {
         printf("given cache capacity (%lu) is smaller than minimum required (%lu)\n",
                (unsigned long)d->settings.cache_capacity, (unsigned long)status.offset);
         break;
+    case LAZYDFA_NOT_LAZY: puts("the unanchored start does not skip lazily, so an unanchored match may have no start"); break;
+    case LAZYDFA_LOOK_CYCLE:
+        puts("a cycle of edges that read nothing passes a look, so matches may not follow the paths");
+        break;
+    case LAZYDFA_NOT_UTF8: puts("a match may be invalid UTF-8, so in UTF-8 mode it might split a character"); break;
+    case LAZYDFA_STARTS: puts("the starts differ in the empty match, so the reversed NFA would have others"); break;
     default: puts(lazydfa_code_text(status.code));
     }
 }
 
+/* Reads what a regex is made of, and leaves the options. */
+static void set_source(struct definition *d, char **line) {
+    const char *name = next_word(line), *rest = *line;
+    size_t i;
+    if (!name) bad_line();
+    for (i = 0; i < sizeof catalogue / sizeof *catalogue; i++)
+        if (!strcmp(catalogue[i].name, name)) d->entry = &catalogue[i];
+    d->is_made = rest && !strncmp(rest, "made", 4) && (!rest[4] || rest[4] == ' ');
+    if (!d->entry) d->forward = number(name);
+    if (d->is_made || !d->entry) name = next_word(line);
+    if (!name) bad_line();
+    if (!d->is_made && !d->entry) d->backward = number(name);
+}
+
 static void define(char *line) {
-    const char *name = next_word(&line), *option;
+    const char *option;
     struct definition d;
     lazydfa_status status;
-    size_t i;
     memset(&d, 0, sizeof d);
-    for (i = 0; i < sizeof catalogue / sizeof *catalogue; i++)
-        if (name && !strcmp(catalogue[i].name, name)) d.entry = &catalogue[i];
-    if (!d.entry || regexes == MOST) bad_line();
+    set_source(&d, &line);
+    if (regexes == MOST) bad_line();
     while ((option = next_word(&line))) set_option(&d, option);
+    if (!d.entry && (d.forward >= nfa_count || (!d.is_made && d.backward >= nfa_count))) {
+        puts("bad nfa");
+        return;
+    }
     status = build(&d, &caches[regexes]);
     if (status.code != LAZYDFA_OK) refuse(&d, status);
     else printf("regex %lu\n", (unsigned long)regexes++);
@@ -407,6 +608,10 @@ static void run_line(char *line) {
     const char *form;
     if (!*line || *line == '#') return;
     form = next_word(&line);
+    if (!strcmp(form, "nfa")) {
+        define_nfa(line);
+        return;
+    }
     if (!strcmp(form, "regex")) {
         define(line);
         return;

@@ -1,5 +1,7 @@
 //! The words in which scripts are written.
 
+use crate::words::split_once;
+
 /// A word with a meaning of its own.
 #[derive(Clone, Copy)]
 pub enum Keyword {
@@ -12,6 +14,9 @@ pub enum Keyword {
     IsMatch,
     Iterate,
     Limit,
+    Line,
+    Made,
+    Nfa,
     NoClasses,
     Pattern,
     PerState,
@@ -26,11 +31,12 @@ pub enum Keyword {
     Tags,
     Tokenise,
     Unicode,
+    Utf8,
     Walk,
     Which,
 }
 
-const KEYWORDS: [(&[u8], Keyword); 25] = [
+const KEYWORDS: [(&[u8], Keyword); 29] = [
     (b"all", Keyword::All),
     (b"anchored", Keyword::Anchored),
     (b"capacity", Keyword::Capacity),
@@ -40,6 +46,9 @@ const KEYWORDS: [(&[u8], Keyword); 25] = [
     (b"is", Keyword::IsMatch),
     (b"iter", Keyword::Iterate),
     (b"limit", Keyword::Limit),
+    (b"line", Keyword::Line),
+    (b"made", Keyword::Made),
+    (b"nfa", Keyword::Nfa),
     (b"noclasses", Keyword::NoClasses),
     (b"pattern", Keyword::Pattern),
     (b"perstate", Keyword::PerState),
@@ -54,6 +63,7 @@ const KEYWORDS: [(&[u8], Keyword); 25] = [
     (b"tags", Keyword::Tags),
     (b"tok", Keyword::Tokenise),
     (b"unicode", Keyword::Unicode),
+    (b"utf8", Keyword::Utf8),
     (b"walk", Keyword::Walk),
     (b"which", Keyword::Which),
 ];
@@ -64,4 +74,12 @@ impl Keyword {
         let (_, keyword) = KEYWORDS.iter().find(|(text, _)| *text == word)?;
         Some(*keyword)
     }
+}
+
+/// The keyword of an option, and its value if it has one.
+pub fn option_of(option: &[u8]) -> Option<(Keyword, Option<&[u8]>)> {
+    let Some((name, value)) = split_once(option, b'=') else {
+        return Some((Keyword::spelled(option)?, None));
+    };
+    Some((Keyword::spelled(name)?, Some(value)))
 }

@@ -11,8 +11,10 @@ mod keyword;
 mod reply;
 mod run;
 mod script;
+mod states;
 #[cfg(test)]
 mod tests;
+mod words;
 
 /// Answers the script on standard input. An error is written to standard error, and gives the exit status.
 fn main(rt: HostRuntime) -> ExitCode {

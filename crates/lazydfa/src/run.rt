@@ -2,15 +2,15 @@
 
 use crate::error::RunError;
 use crate::reply::Line;
-use crate::script::{Definition, Script};
-use regex_automata::hybrid::BuildError;
-use regex_automata::hybrid::regex::Regex;
+use crate::script::{Definition, Script, Source};
+use regex_automata::hybrid::dfa::Config;
+use regex_automata::hybrid::regex::{Regex, RegexBuildError};
 use regex_automata::nfa::thompson::{NFA, NfaError};
 use regex_automata::replay::replay;
 use std::alloc::{AllocError, Global};
 use std::fmt::Write;
-use std::io;
 use std::io::Read;
+use std::{io, mem};
 
 /// Answers the script that the input has, with one line of output for each line of the script that is neither empty nor
 /// a comment.
@@ -26,58 +26,142 @@ pub fn run<R: Read, W: io::Write>(
     let mut text = Vec::new(alloc);
     input.read_to_end(&mut text).map_err(RunError::of_io)?;
     let script = Script::parse(alloc, text.as_slice())?;
-    let replies = replies_to(alloc, &script)?;
+    let replies = replies_to(alloc, script)?;
     output
         .write_all(replies.as_bytes())
         .map_err(RunError::of_io)?;
     output.flush().map_err(RunError::of_io)
 }
 
-/// The lines that answer a script: one for each regex that it defines, and one for each request.
-fn replies_to(alloc: Global, script: &Script) -> Result<String, RunError> {
-    let mut text = String::new(alloc);
-    let regexes = build_all(alloc, script.definitions.as_slice(), &mut text)?;
+/// The replies to all lines of a script.
+fn replies_to(alloc: Global, script: Script) -> Result<String, RunError> {
+    let mut script = script;
+    let definitions = mem::replace(&mut script.definitions, Vec::new(alloc));
+    let mut built = Built::new(alloc);
+    built.define_all(alloc, definitions)?;
     let requests = script.requests(alloc)?;
-    let replies = replay(alloc, regexes.as_slice(), requests.as_slice())?;
+    let replies = replay(alloc, built.regexes.as_slice(), requests.as_slice())?;
     for reply in &replies {
-        writeln!(text, "{}", Line(reply))?;
+        writeln!(built.text, "{}", Line(reply))?;
     }
-    Ok(text)
+    Ok(built.text)
 }
 
-/// Builds the regexes in order. One that cannot be built takes no number.
-fn build_all(
-    alloc: Global,
-    definitions: &[Definition],
-    text: &mut String,
-) -> Result<Vec<Regex>, RunError> {
-    let mut regexes = Vec::new(alloc);
-    for definition in definitions {
-        match build(alloc, definition) {
-            Ok(regex) => {
-                let number = regexes.len();
-                writeln!(text, "regex {number}")?;
-                regexes.push(regex).map_err(AllocError::from)?;
-            }
-            Err(error) => writeln!(text, "refused {error}")?,
+/// What the definitions have built, in order, and the replies to them.
+#[derive(Drop)]
+struct Built {
+    nfas: Vec<NFA>,
+    regexes: Vec<Regex>,
+    text: String,
+}
+
+impl Built {
+    /// Nothing is built yet.
+    fn new(alloc: Global) -> Built {
+        Built {
+            nfas: Vec::new(alloc),
+            regexes: Vec::new(alloc),
+            text: String::new(alloc),
         }
     }
-    Ok(regexes)
+
+    /// Builds what the definitions say, in their order.
+    fn define_all(&mut self, alloc: Global, definitions: Vec<Definition>) -> Result<(), RunError> {
+        for definition in definitions {
+            match definition {
+                Definition::Nfa(outline) => self.add_nfa(outline.build(alloc))?,
+                Definition::Regex { source, config } => {
+                    let regex = self.build(alloc, source, config);
+                    self.add_regex(regex)?;
+                }
+            }
+        }
+        Ok(())
+    }
+
+    /// Keeps an NFA by the next number. One that cannot be built takes none.
+    fn add_nfa(&mut self, nfa: Result<NFA, NfaError>) -> Result<(), RunError> {
+        match nfa {
+            Ok(nfa) => {
+                let number = self.nfas.len();
+                writeln!(self.text, "nfa {number}")?;
+                self.nfas.push(nfa).map_err(AllocError::from)?;
+            }
+            Err(error) => writeln!(self.text, "refused {error}")?,
+        }
+        Ok(())
+    }
+
+    /// Keeps a regex by the next number. One that cannot be built takes none.
+    fn add_regex(&mut self, regex: Result<Regex, Refusal>) -> Result<(), RunError> {
+        match regex {
+            Ok(regex) => {
+                let number = self.regexes.len();
+                writeln!(self.text, "regex {number}")?;
+                self.regexes.push(regex).map_err(AllocError::from)?;
+            }
+            Err(Refusal::NoNfa) => writeln!(self.text, "bad nfa")?,
+            Err(Refusal::Build(error)) => writeln!(self.text, "refused {error}")?,
+        }
+        Ok(())
+    }
+
+    /// The regex that is made of this.
+    fn build(&self, alloc: Global, source: Source, config: Config) -> Result<Regex, Refusal> {
+        match source {
+            Source::Entry(entry) => {
+                let forward = entry_nfa(entry.forward(alloc))?;
+                build_pair(forward, entry_nfa(entry.reverse(alloc))?, config)
+            }
+            Source::EntryMade(entry) => build_made(entry_nfa(entry.forward(alloc))?, config),
+            Source::Pair(forward, reverse) => {
+                let forward = self.nfa(forward)?;
+                build_pair(forward, self.nfa(reverse)?, config)
+            }
+            Source::Made(forward) => build_made(self.nfa(forward)?, config),
+        }
+    }
+
+    /// The NFA with this number, which shares its states.
+    fn nfa(&self, number: usize) -> Result<NFA, Refusal> {
+        let nfa = self.nfas.get(number).ok_or(Refusal::NoNfa)?;
+        nfa.clone().map_err(|_| OUT_OF_MEMORY)
+    }
 }
 
-/// The regex that a line defines. The NFAs of the catalogue are well formed, so for them only memory can be missing.
-fn build(alloc: Global, definition: &Definition) -> Result<Regex, BuildError> {
-    let forward = built(definition.entry.forward(alloc))?;
-    let reverse = built(definition.entry.reverse(alloc))?;
-    Regex::builder()
-        .dfa(definition.config)
-        .build_from_nfas(forward, reverse)
+/// Why a line builds no regex.
+#[derive(Drop)]
+enum Refusal {
+    /// It names an NFA that there is not.
+    NoNfa,
+    Build(RegexBuildError),
 }
 
-/// The NFA, with every error named out of memory: an NFA of the catalogue has no other.
-fn built(nfa: Result<NFA, NfaError>) -> Result<NFA, BuildError> {
+const OUT_OF_MEMORY: Refusal = Refusal::Build(RegexBuildError::OutOfMemory);
+
+/// An NFA of the catalogue. These are well formed, so only memory can be missing.
+fn entry_nfa(nfa: Result<NFA, NfaError>) -> Result<NFA, Refusal> {
     match nfa {
         Ok(nfa) => Ok(nfa),
-        Err(_) => Err(BuildError::OutOfMemory),
+        Err(_) => Err(OUT_OF_MEMORY),
+    }
+}
+
+/// The regex of a forward and a reverse NFA.
+fn build_pair(forward: NFA, reverse: NFA, config: Config) -> Result<Regex, Refusal> {
+    match Regex::builder()
+        .dfa(config)
+        .build_from_nfas(forward, reverse)
+    {
+        Ok(regex) => Ok(regex),
+        Err(error) => Err(Refusal::Build(RegexBuildError::Build(error))),
+    }
+}
+
+/// The regex of one NFA, which the library reverses.
+fn build_made(forward: NFA, config: Config) -> Result<Regex, Refusal> {
+    match Regex::builder().dfa(config).build_from_nfa(forward) {
+        Ok(regex) => Ok(regex),
+        Err(error) => Err(Refusal::Build(error)),
     }
 }

@@ -1,10 +1,12 @@
 //! The lines of a script, read and checked.
 
-ghost use Rattle.std.specs.Prelude.{◌+◌, ◌<◌, ◌≤◌, IfSome, length};
+ghost use Rattle.std.specs.Prelude.{◌+◌, ◌≤◌, length};
 
 use crate::catalogue::Entry;
 use crate::error::RunError;
-use crate::keyword::Keyword;
+use crate::keyword::{Keyword, option_of};
+use crate::states::Outline;
+use crate::words::{LineError, hexadecimal_byte, number, only_number, split_once};
 use regex_automata::hybrid::dfa::Config;
 use regex_automata::replay::Request;
 use regex_automata::util::primitives::PatternID;
@@ -18,11 +20,24 @@ pub struct Script {
     orders: Vec<Order>,
 }
 
-/// A line that builds a regex.
+/// A line that builds an NFA or a regex.
 #[derive(Drop)]
-pub struct Definition {
-    pub entry: Entry,
-    pub config: Config,
+pub enum Definition {
+    Nfa(Outline),
+    Regex { source: Source, config: Config },
+}
+
+/// What a regex is made of. An NFA that the script defines is named by its number.
+#[derive(Clone, Copy)]
+pub enum Source {
+    /// Both NFAs of an entry.
+    Entry(Entry),
+    /// The forward NFA of an entry, and what the library makes of it for reverse searches.
+    EntryMade(Entry),
+    /// Two NFAs, the second for reverse searches.
+    Pair(usize, usize),
+    /// An NFA, and what the library makes of it for reverse searches.
+    Made(usize),
 }
 
 /// A line that makes a request. It owns its haystack.
@@ -51,29 +66,6 @@ struct Query {
     ghost within: { span.end ≤ length haystack.items },
 }
 
-/// Why a line is bad.
-#[derive(Clone, Copy)]
-enum LineError {
-    Bad,
-    OutOfMemory,
-}
-
-impl LineError {
-    /// The error of a script, by that of its line of this number, counted from 1.
-    fn at(self, number: usize) -> RunError {
-        match self {
-            LineError::Bad => RunError::BadLine(number),
-            LineError::OutOfMemory => RunError::OutOfMemory,
-        }
-    }
-}
-
-impl From<AllocError> for LineError {
-    fn from(_error: AllocError) -> LineError {
-        LineError::OutOfMemory
-    }
-}
-
 impl Script {
     /// Reads all lines. If one is bad, the error is the number of the first bad one, counted from 1.
     pub fn parse(alloc: Global, text: &[u8]) -> Result<Script, RunError> {
@@ -88,7 +80,7 @@ impl Script {
                 continue;
             }
             if let Err(fault) = script.add_line(alloc, line) {
-                return Err(fault.at(number));
+                return Err(fault_at(number, fault));
             }
         }
         Ok(script)
@@ -112,7 +104,14 @@ impl Script {
             return Err(LineError::Bad);
         };
         match Keyword::spelled(*first) {
-            Some(Keyword::Regex) => self.add_definition(rest),
+            Some(Keyword::Nfa) => {
+                let outline = Outline::parse(alloc, rest)?;
+                self.add_definition(Definition::Nfa(outline))
+            }
+            Some(Keyword::Regex) => {
+                let definition = Definition::parse(rest).ok_or(LineError::Bad)?;
+                self.add_definition(definition)
+            }
             Some(keyword) => {
                 let order = Order::parse(alloc, keyword, rest)?;
                 self.add_order(order)
@@ -121,12 +120,11 @@ impl Script {
         }
     }
 
-    /// Adds the definition of a regex. It is a bad line if an order came before it, or if the words are no definition.
-    fn add_definition(&mut self, words: &[&[u8]]) -> Result<(), LineError> {
+    /// Adds a definition. It is a bad line if an order came before it.
+    fn add_definition(&mut self, definition: Definition) -> Result<(), LineError> {
         if !self.orders.is_empty() {
             return Err(LineError::Bad);
         }
-        let definition = Definition::parse(words).ok_or(LineError::Bad)?;
         Ok(self.definitions.push(definition).map_err(AllocError::from)?)
     }
 
@@ -137,15 +135,48 @@ impl Script {
 }
 
 impl Definition {
-    /// Reads the words of a definition: the name of an entry, and options of its DFAs. It is none if a word is bad.
+    /// Reads the words of a line that builds a regex.
     fn parse(words: &[&[u8]]) -> Option<Definition> {
-        let (name, options) = words.split_first()?;
-        let entry = Entry::named(*name)?;
+        let (source, options) = Source::parse(words)?;
         let mut config = Config::new();
         for option in options {
             config = configured(config, *option)?;
         }
-        Some(Definition { entry, config })
+        Some(Definition::Regex { source, config })
+    }
+}
+
+impl Source {
+    /// Reads what a regex is made of, and returns the words after it.
+    fn parse<'a, 'b>(words: &'a [&'b [u8]]) -> Option<(Source, &'a [&'b [u8]])> {
+        let (first, rest) = words.split_first()?;
+        match (Entry::named(*first), after_made(rest)) {
+            (Some(entry), Some(options)) => Some((Source::EntryMade(entry), options)),
+            (Some(entry), None) => Some((Source::Entry(entry), rest)),
+            (None, Some(options)) => Some((Source::Made(number(*first)?), options)),
+            (None, None) => {
+                let (second, options) = rest.split_first()?;
+                let source = Source::Pair(number(*first)?, number(*second)?);
+                Some((source, options))
+            }
+        }
+    }
+}
+
+/// The words after the one that has the library make the reverse NFA, if it stands first.
+fn after_made<'a, 'b>(words: &'a [&'b [u8]]) -> Option<&'a [&'b [u8]]> {
+    let (first, rest) = words.split_first()?;
+    match Keyword::spelled(*first)? {
+        Keyword::Made => Some(rest),
+        _ => None,
+    }
+}
+
+/// The fault of a line, by its number.
+fn fault_at(number: usize, error: LineError) -> RunError {
+    match error {
+        LineError::Bad => RunError::BadLine(number),
+        LineError::OutOfMemory => RunError::OutOfMemory,
     }
 }
 
@@ -211,15 +242,7 @@ impl Order {
     }
 }
 
-/// The number that is the only word of a line.
-fn only_number(words: &[&[u8]]) -> Result<usize, LineError> {
-    match words {
-        [word] => number(*word).ok_or(LineError::Bad),
-        _ => Err(LineError::Bad),
-    }
-}
-
-/// The settings with one more option, or none if the word is no option.
+/// The settings with one more option.
 pub fn configured(config: Config, option: &[u8]) -> Option<Config> {
     Some(match option_of(option)? {
         (Keyword::All, None) => config.match_kind(MatchKind::All),
@@ -315,51 +338,4 @@ fn push_pairs(haystack: &mut Vec<u8>, word: &[u8]) -> Result<(), LineError> {
         haystack.push(byte).map_err(AllocError::from)?;
     }
     Ok(())
-}
-
-/// The keyword of an option, and its value if it has one.
-fn option_of(option: &[u8]) -> Option<(Keyword, Option<&[u8]>)> {
-    let Some((name, value)) = split_once(option, b'=') else {
-        return Some((Keyword::spelled(option)?, None));
-    };
-    Some((Keyword::spelled(name)?, Some(value)))
-}
-
-/// The bytes before and after the first separator, or none if there is no separator.
-fn split_once(word: &[u8], separator: u8) -> Option<(&[u8], &[u8])> {
-    let at = word.iter().position(|byte| *byte == separator)?;
-    Some((&word[..at], &word[at + 1..]))
-}
-
-/// The number that 1 to 20 decimal digits write, if it fits.
-fn number(word: &[u8]) -> Option<usize> {
-    if word.is_empty() || word.len() > 20 {
-        return None;
-    }
-    let mut value = 0usize;
-    for byte in word {
-        let digit = digit_of(*byte).filter(|digit| *digit < 10)?;
-        value = value.checked_mul(10)?.checked_add(usize::from(digit))?;
-    }
-    Some(value)
-}
-
-/// The byte that two hexadecimal digits write.
-fn hexadecimal_byte(word: &[u8]) -> Option<u8> {
-    match word {
-        [high, low] => Some(digit_of(*high)? * 16 + digit_of(*low)?),
-        _ => None,
-    }
-}
-
-/// The value of a hexadecimal digit in either case.
-fn digit_of(byte: u8) -> Option<u8>
-    ensures { IfSome result (λ digit. digit < 16) }
-{
-    match byte {
-        b'0'..=b'9' => Some(byte - b'0'),
-        b'a'..=b'f' => Some(byte - b'a' + 10),
-        b'A'..=b'F' => Some(byte - b'A' + 10),
-        _ => None,
-    }
 }

@@ -5,7 +5,6 @@ ghost use Rattle.regex_automata.specs.Promises.{HoldsRow, IsCacheOf};
 
 use super::Host;
 use super::plans::Mode;
-use super::random_paths::Dice;
 use super::reported::{Counted, Reported, letter};
 use super::reports::{Automaton, Caller};
 use regex_automata::hybrid::dfa::{Cache, DFA};
@@ -414,12 +413,16 @@ fn repeated(alloc: Global, piece: &str, count: usize) -> Result<Vec<u8>, AllocEr
     Ok(text)
 }
 
+/// A mebibyte of the letters that a linear congruential generator gives.
 fn letters(alloc: Global) -> Result<Vec<u8>, AllocError> {
     let mut text = Vec::new(alloc);
-    let mut dice = Dice::new(0);
+    let mut rolled = 0u64;
     for _ in 0..1u32 << 20 {
-        let letter = if dice.roll(2) == 0 { b'a' } else { b'b' };
-        text.extend_from_slice(&[letter])?;
+        rolled = rolled
+            .wrapping_mul(6364136223846793005)
+            .wrapping_add(1442695040888963407);
+        let [highest, ..] = rolled.to_be_bytes();
+        text.extend_from_slice(&[b'a' + highest % 2])?;
     }
     Ok(text)
 }

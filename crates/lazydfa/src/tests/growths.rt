@@ -1,7 +1,7 @@
 //! Allocations that fail, by rows. Each test is a process of its own, so it may use up all memory.
 
 use super::bench::{Bench, Call};
-use super::plans::{Mode, Plan, Shape};
+use super::plans::Mode;
 use super::regex_bench::{Ask, Pair, RegexBench};
 use super::reports::{Automaton, ONCE, Refusal, Short, answer_within, refuse_each};
 use super::walker::{Over, Turn, Walked, Walker};
@@ -14,9 +14,7 @@ use Call::{
 };
 use Mode::{Every, First, Of};
 use Over::{Span, Text};
-use Shape::{Accept, Either, Range};
 use Turn::{Begin, Fill, Insert, Match, Next, Switch, Which};
-use regex_automata::util::look::Look;
 
 /// Rows over a lazy DFA and its cache, and over a regex.
 type Lazy = Short<Automaton, Call>;
@@ -101,7 +99,7 @@ const CALLS: &[Lazy] = &[
         (Step(b'a'), "-"), (Counts, "0 36105 0")], ONCE),
     ("a step that clears, and two more", A16, FULL, &[Start(None), Steps("aaaaaaaaaaaaa")], &[(Step(b'a'), "-"),
         (Step(b'a'), "-"), (Step(b'a'), "-"), (Counts, "1 17187 0")], ONCE),
-    ("a start that clears", Chain(Shape::Assert(Look::WordAscii, 1), 20), "noclasses capacity=37645", &[Start(None),
+    ("a start that clears", Chain("LWordAscii:1", 20), "noclasses capacity=37645", &[Start(None),
         Steps("aaaaaaaaaaaaa"), Counts], &[(Start(Some(b'a')), "-"), (Counts, "1 10965 0")], ONCE),
 ];
 
@@ -154,13 +152,8 @@ fn starts_after_each_refused_growth(rt: HostRuntime) {
 const OVER_WORDS: Walked = Walked(WORDS, Text("@a b"));
 
 /// No byte at all, and eleven bytes `a`, whose match needs more rows than a new cache has room for.
-#[rattlefmt::skip]
-const NONE_OR_ELEVEN: Plan = Plan {
-    states: &[Either(1, 2), Accept(1), Range(b'a', b'a', 3), Range(b'a', b'a', 4), Range(b'a', b'a', 5),
-        Range(b'a', b'a', 6), Range(b'a', b'a', 7), Range(b'a', b'a', 8), Range(b'a', b'a', 9),
-        Range(b'a', b'a', 10), Range(b'a', b'a', 11), Range(b'a', b'a', 12), Range(b'a', b'a', 13), Accept(0)],
-    starts: (0, 0), patterns: &[0, 0],
-};
+const NONE_OR_ELEVEN: &str =
+    "0/0,0,0 E1,2 M1 B61:3 B61:4 B61:5 B61:6 B61:7 B61:8 B61:9 B61:10 B61:11 B61:12 B61:13 M0";
 
 /// If memory runs out, a call has no match, and the next call has the one that was due.
 #[rattlefmt::skip]
@@ -190,7 +183,7 @@ const WALKS: &[Walk] = &[
         (Switch, "-"), (Next, "half 1 0"), (Switch, "-"), (Next, "none")], AT_ONCE),
     ("across a clear", Walked(A16, Text(AS)), "all noclasses capacity=37281", &[], &[(Next, "half 0 16"),
         (Switch, "-"), (Next, "none")], AT_ONCE),
-    ("a set that has a pattern keeps it, and with memory it gets the rest", Walked(Planned(&NONE_OR_ELEVEN), Text(AS)),
+    ("a set that has a pattern keeps it, and with memory it gets the rest", Walked(Planned(NONE_OR_ELEVEN), Text(AS)),
         "all", &[Insert(2)], &[(Fill, "{0 1 2}")], &[(0, "{2} memory"), (0, "{1 2} memory")]),
 ];
 

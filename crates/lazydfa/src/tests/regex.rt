@@ -1,10 +1,9 @@
 //! The calls of a regex over one cache, by rows with what they report.
 
-use super::plans::{Plan, Shape};
 use super::regex_bench::{Ask, Pair, Printed, RegexBench, Row};
 use super::reports::reports_all;
 use super::texts::UNSUPPORTED;
-use super::{Host, same_of};
+use super::{Host, Text, same_of};
 use crate::catalogue::Entry;
 use Ask::{
     Both, Counts, Find, Forward, Is, Items, ItemsPrint, Memory, Patterns, Prints, ReplaceByClone,
@@ -13,7 +12,6 @@ use Ask::{
 };
 use Pair::{Barren, Joined, Mixed, Of, Planned};
 use regex_automata::tokens::Token;
-use regex_automata::util::look::Look;
 
 const DATES: &[u8] = b"2018-12-24 2016-10-08";
 
@@ -55,22 +53,14 @@ const AMPLE: &[Row] = &[
 ];
 
 /// `a+`.
-#[rattlefmt::skip]
-const RUN: Plan = Plan {
-    states: &[Shape::Range(b'a', b'a', 1), Shape::Either(0, 2), Shape::Accept(0), Shape::Range(0, 255, 4),
-        Shape::Either(0, 3)], starts: (0, 4), patterns: &[0],
-};
+const RUN: Text = "0/4,0 B61:1 E0,2 M0 B00-ff:4 E0,3";
 
 /// The same read backward, by an NFA with a look cycle.
-#[rattlefmt::skip]
-const RUN_BACK_LOOPED: Plan = Plan {
-    states: &[Shape::Either(1, 2), Shape::Assert(Look::WordAsciiNegate, 0), Shape::Range(b'a', b'a', 3),
-        Shape::Either(0, 4), Shape::Accept(0)], starts: (0, 0), patterns: &[0],
-};
+const RUN_BACK_LOOPED: Text = "0/0,0 E1,2 LWordAsciiNegate:0 B61:3 E0,4 M0";
 
 #[rattlefmt::skip]
 const STARTS: &[Row] = &[
-    ("a cycle of the reverse automaton passes a look", Planned(&RUN, &RUN_BACK_LOOPED), "", &[Find(b"xaa a"),
+    ("a cycle of the reverse automaton passes a look", Planned(RUN, RUN_BACK_LOOPED), "", &[Find(b"xaa a"),
         Items(b"xaa a")], "match 0 1..3, 0 1..3; 0 4..5"),
     ("the search back finds no start", Barren(Entry::Date), "", &[Find(DATES), Is(DATES), Items(DATES)],
         "notapair, true, notapair"),

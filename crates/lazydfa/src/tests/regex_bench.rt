@@ -3,11 +3,11 @@
 ghost use Rattle.std.specs.Prelude.{◌≡◌, IfOk};
 ghost use Rattle.regex_automata.specs.Promises.{AreCachesOf, IsSoundPair};
 
-use super::Host;
 use super::bench::counted;
-use super::plans::{Mode, Plan, Shape};
+use super::plans::Mode;
 use super::reported::{Counted, Item, Reported, prints};
 use super::reports::{Automaton, Caller, RowOf, config};
+use super::{Host, Text};
 use crate::catalogue::Entry;
 use regex_automata::hybrid::dfa::{Config, DFA};
 use regex_automata::hybrid::regex::{Builder, Cache, Regex, RegexBuildError};
@@ -29,7 +29,7 @@ pub enum Pair {
     /// Two lazy DFAs of an entry, the reverse one of `MatchKind::All`.
     Joined(Entry),
     /// Two NFAs that are not in the catalogue, the forward one first.
-    Planned(&'static Plan, &'static Plan),
+    Planned(Text, Text),
     /// A forward NFA, and the reverse of it.
     Turned(Automaton),
 }
@@ -43,7 +43,7 @@ impl Pair {
             }
             Pair::Mixed(entry, other) => (Automaton::Forward(entry), Automaton::Reverse(other)),
             Pair::Barren(entry) => (Automaton::Forward(entry), BARREN),
-            Pair::Planned(plan, other) => (Automaton::Planned(plan), Automaton::Planned(other)),
+            Pair::Planned(text, other) => (Automaton::Planned(text), Automaton::Planned(other)),
             Pair::Turned(automaton) => (automaton, Automaton::Never),
         }
     }
@@ -88,8 +88,7 @@ pub fn alone(nfa: NFA, config: Config) -> Result<Regex, RegexBuildError>
 }
 
 /// One state, which has no edges.
-#[rattlefmt::skip]
-const BARREN: Automaton = Automaton::Planned(&Plan { states: &[Shape::Union], starts: (0, 0), patterns: &[0] });
+const BARREN: Automaton = Automaton::Planned("0/0,0 U");
 
 /// How an iteration is printed: at first, after one item, and after two more calls.
 #[derive(Clone, Copy)]
@@ -289,22 +288,13 @@ impl RegexBench {
         self.regex.try_search(&mut self.cache, input)
     }
 
-    /// The match of a search, as an item.
-    pub fn first(&mut self, input: &Input<'_>) -> Item {
-        match self.search(input) {
-            Ok(Some(found)) => item_of(Some(Ok(found))),
-            Ok(None) => None,
-            Err(error) => item_of(Some(Err(error))),
-        }
-    }
-
-    pub fn holds(&mut self, input: &Input<'_>) -> Result<bool, SearchError> {
+    fn holds(&mut self, input: &Input<'_>) -> Result<bool, SearchError> {
         self.regex.is_match(&mut self.cache, input)
     }
 
     /// The first eight items of an iteration.
     #[rattlefmt::skip]
-    pub fn first_items(&mut self, input: Input<'_>) -> [Item; 8] {
+    fn first_items(&mut self, input: Input<'_>) -> [Item; 8] {
         let mut it = self.regex.find_iter(&mut self.cache, input);
         [
             item_of(it.next()), item_of(it.next()), item_of(it.next()), item_of(it.next()),
@@ -342,10 +332,6 @@ impl RegexBench {
         let _ = next_token(&mut tokens, haystack);
         let _ = next_token(&mut tokens, haystack);
         Reported::of_flag(first && second && prints(alloc, &tokens, texts.last))
-    }
-
-    pub fn regex(&self) -> &Regex {
-        &self.regex
     }
 
     fn find(&mut self, input: &Input<'_>) -> Reported {

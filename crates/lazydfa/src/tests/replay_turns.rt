@@ -1,13 +1,11 @@
 //! A long script whose allocations fail in turn. Each test may use up all memory.
 
-use super::plans::{Plan, Shape};
 use super::regex_bench::Pair;
 use super::reports::{Automaton, Turns};
 use super::{Host, check, same_of};
 use crate::catalogue::Entry;
 use crate::reply::Line;
 use crate::script::Script;
-use Shape::{Accept, Either, Range};
 use regex_automata::hybrid::regex::Regex;
 use regex_automata::replay::{Reply, Request, replay};
 use std::fmt::Write;
@@ -17,16 +15,9 @@ use std::fmt::Write;
 type Row = (&'static str, [&'static [&'static str]; 2]);
 
 /// `[0-9]{22}`. Twelve digits need more rows than a new cache has room for, and twenty-two need more than these.
-#[rattlefmt::skip]
-const DIGITS: Pair = Pair::Turned(Automaton::Planned(&Plan {
-    states: &[Range(b'0', b'9', 1), Range(b'0', b'9', 2), Range(b'0', b'9', 3), Range(b'0', b'9', 4),
-        Range(b'0', b'9', 5), Range(b'0', b'9', 6), Range(b'0', b'9', 7), Range(b'0', b'9', 8), Range(b'0', b'9', 9),
-        Range(b'0', b'9', 10), Range(b'0', b'9', 11), Range(b'0', b'9', 12), Range(b'0', b'9', 13),
-        Range(b'0', b'9', 14), Range(b'0', b'9', 15), Range(b'0', b'9', 16), Range(b'0', b'9', 17),
-        Range(b'0', b'9', 18), Range(b'0', b'9', 19), Range(b'0', b'9', 20), Range(b'0', b'9', 21),
-        Range(b'0', b'9', 22), Accept(0), Either(0, 24), Range(0x00, 0xFF, 23)],
-    starts: (0, 23), patterns: &[0],
-}));
+const DIGITS: Pair = Pair::Turned(Automaton::Planned(
+    "0/23,0 B30-39:1 B30-39:2 B30-39:3 B30-39:4 B30-39:5 B30-39:6 B30-39:7 B30-39:8 B30-39:9 B30-39:10 B30-39:11 B30-39:12 B30-39:13 B30-39:14 B30-39:15 B30-39:16 B30-39:17 B30-39:18 B30-39:19 B30-39:20 B30-39:21 B30-39:22 M0 E0,24 B00-ff:23",
+));
 
 /// How many requests stand in front of the one in the middle.
 const MIDDLE: usize = 20;

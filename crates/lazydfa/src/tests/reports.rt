@@ -1,7 +1,7 @@
 //! Rows of calls over one cache, with what they report: in ample memory, and while the memory that is left rises, so
 //! that each allocation fails in some turn. A test that takes turns uses up all memory.
 
-use super::plans::{Plan, Shape, chain, crowd};
+use super::plans::{chain, crowd, plan};
 use super::reported::Reported;
 use super::{Host, Text, check, exhaust, same_of, same_text};
 use crate::catalogue::Entry;
@@ -17,11 +17,12 @@ use std::fmt::Write;
 pub enum Automaton {
     Forward(Entry),
     Reverse(Entry),
-    Planned(&'static Plan),
+    /// One that is not in the catalogue, as a line of a script has it.
+    Planned(Text),
     /// One match state, at which so many patterns start.
     Crowd(usize),
     /// A state, and after it so many states, of which each but the last, the one match, reads an `a`.
-    Chain(Shape, usize),
+    Chain(Text, usize),
     /// Those of `DFA::always_match` and `DFA::never_match`.
     Always,
     Never,
@@ -32,7 +33,7 @@ impl Automaton {
         match self {
             Automaton::Forward(entry) => entry.forward(rt.alloc()).expect(rt, "an entry"),
             Automaton::Reverse(entry) => entry.reverse(rt.alloc()).expect(rt, "an entry"),
-            Automaton::Planned(plan) => plan.build(rt),
+            Automaton::Planned(text) => plan(rt, text),
             Automaton::Crowd(patterns) => crowd(rt, patterns),
             Automaton::Always | Automaton::Never => panic!(rt; "it is built by the library"),
             Automaton::Chain(first, length) => chain(rt, first, length),

@@ -1,7 +1,8 @@
 //! Calls of the lazy DFA over one cache, by rows with what they report and count.
 
+use super::Text;
 use super::bench::{Bench, Call};
-use super::plans::{Mode, Plan, Shape};
+use super::plans::Mode;
 use super::reports::{Automaton, RowOf, reports_all};
 use super::texts::UNSUPPORTED;
 use crate::catalogue::Entry;
@@ -12,8 +13,6 @@ use Call::{
     Reset, ResetByCache, Start, StartIn, StartOn, State, Step, Steps,
 };
 use Mode::{Every, Of};
-use Shape::{Accept, Assert, Capture, Dense, Either, Range, Sparse, Union};
-use regex_automata::util::look::Look;
 
 /// A row of calls over an NFA and a cache.
 type Row = RowOf<Automaton, Call>;
@@ -63,26 +62,18 @@ const AMPLE: &[Row] = &[
 ];
 
 /// `ab`, as the README's example has it.
-#[rattlefmt::skip]
-const EXAMPLE: Plan = Plan {
-    states: &[Range(b'a', b'a', 1), Range(b'b', b'b', 2), Accept(0)], starts: (0, 0),
-        patterns: &[0],
-};
+const EXAMPLE: Text = "0/0,0 B61:1 B62:2 M0";
 
 /// How many classes the bytes have, with that of the end.
 #[rattlefmt::skip]
 const PARTED: &[Row] = &[
-    ("the start", Planned(&Plan { states: &[Assert(Look::Start, 1), Accept(0)], ..EXAMPLE }), "", &[Classes], "2"),
-    ("a line's start", Planned(&Plan { states: &[Assert(Look::StartLF, 1), Accept(0)], ..EXAMPLE }), "", &[Classes],
-        "4"),
-    ("a line's end", Planned(&Plan { states: &[Assert(Look::EndCRLF, 1), Accept(0)], ..EXAMPLE }), "", &[Classes], "6"),
-    ("a word boundary", Planned(&Plan { states: &[Assert(Look::WordAscii, 1), Accept(0)], ..EXAMPLE }), "", &[Classes],
-        "10"),
-    ("a dense state", Planned(&Plan { states: &[Dense(&[(b'a', 1), (b'b', 1), (b'c', 1), (b'd', 2)]), Accept(0),
-        Accept(0)], ..EXAMPLE }), "", &[Classes], "5"),
-    ("a sparse state", Planned(&Plan { states: &[Sparse(&[(b'0', b'9', 1), (b':', b'<', 1)]), Accept(0)], ..EXAMPLE }),
-        "", &[Classes], "5"),
-    ("quit bytes", Planned(&Plan { states: &[Accept(0)], ..EXAMPLE }), "quit=61 quit=62 quit=64", &[Classes], "6"),
+    ("the start", Planned("0/0,0 LStart:1 M0"), "", &[Classes], "2"),
+    ("a line's start", Planned("0/0,0 LStartLF:1 M0"), "", &[Classes], "4"),
+    ("a line's end", Planned("0/0,0 LEndCRLF:1 M0"), "", &[Classes], "6"),
+    ("a word boundary", Planned("0/0,0 LWordAscii:1 M0"), "", &[Classes], "10"),
+    ("a dense state", Planned("0/0,0 D61-63:1,64:2 M0 M0"), "", &[Classes], "5"),
+    ("a sparse state", Planned("0/0,0 S30-39:1,3a-3c:1 M0"), "", &[Classes], "5"),
+    ("quit bytes", Planned("0/0,0 M0"), "quit=61 quit=62 quit=64", &[Classes], "6"),
 ];
 
 const TWICE: &[Call] = &[Find("ab"), Counts, Find("ab"), Counts];
@@ -96,7 +87,7 @@ const SEARCHED: &[Row] = &[
     ("and needs none with no limit on clears", AB, "capacity=0 skip", TWICE, "half 0 2, 0 678 2, half 0 2, 0 678 4"),
     ("a reset forgets it all", AB, "capacity=1735", &[Find("ab"), Find("ab"), Reset, Counts],
         "half 0 2, half 0 2, -, 0 335 0"),
-    ("the example", Planned(&EXAMPLE), "capacity=65536", &[Find("abc"), FindAnchored("cab", 1, 3)],
+    ("the example", Planned(EXAMPLE), "capacity=65536", &[Find("abc"), FindAnchored("cab", 1, 3)],
         "half 0 2, half 0 3"),
     ("the start of a search over no bytes is there, though the search begins no progress", AB_BACK, "all",
         &[StartOn(Every, ""), Counts, Find(""), Counts], "false, 0 421 0, none, 0 421 0"),
@@ -114,6 +105,17 @@ const SEARCHED: &[Row] = &[
     ("a quit byte before the start is known", Reverse(Entry::Wordend), "quit=78", &[Find("abcxyz")], "quit 78 3"),
     ("a place that splits a character is passed, unless anchored there", Reverse(Entry::Empty), "",
         &[FindIn("\u{2603}", 0, 2), FindAnchored("\u{2603}", 0, 2)], "half 0 0, none"),
+    // The first path, and the one of the nearest start.
+    ("", Reverse(Entry::Words), "", &[Find("@foo bar"), FindEarliest("@foo bar")], "half 0 5, half 0 7"),
+    ("", Reverse(Entry::Words), "", &[Find("a!"), FindEarliest("a!")], "half 1 0, half 1 1"),
+    ("", Reverse(Entry::Abc), "", &[Find("abcab"), FindEarliest("abcab")], "half 0 0, half 0 2"),
+    ("", Reverse(Entry::Runs), "", &[Find("12ab 34"), FindEarliest("12ab 34")], "half 1 5, half 1 6"),
+    ("", Reverse(Entry::Date), "", &[Find("x2018-12-24"), FindEarliest("x2018-12-24")], "half 0 1, half 0 1"),
+    ("", Reverse(Entry::Bnum), "unicode", &[Find("a 12 b"), FindEarliest("a 12 b")], "half 0 2, half 0 2"),
+    ("", Reverse(Entry::Wordend), "", &[Find("ab cd"), FindEarliest("ab cd")], "half 0 3, half 0 4"),
+    ("", Reverse(Entry::Snow), "", &[Find("a\u{2603}x"), FindEarliest("a\u{2603}x")], "half 0 0, none"),
+    ("", Reverse(Entry::Snowx), "", &[Find("xa\u{2603}x"), FindEarliest("xa\u{2603}x")], "half 0 1, half 1 5"),
+    ("", Reverse(Entry::Empty), "", &[Find("a\u{2603}"), FindEarliest("a\u{2603}")], "half 0 4, half 0 4"),
     // The bytes searched, by each way out of a search, and that no search is in progress after it.
     ("at a quit byte", AB, "quit=63", &[Find("abc"), Counts], "quit 63 2, 0 593 2"),
     ("at a quit byte behind the span", AB, "quit=63", &[FindIn("abc", 0, 2), Counts], "quit 63 2, 0 593 2"),
@@ -127,43 +129,30 @@ const SEARCHED: &[Row] = &[
 ];
 
 /// Any bytes, an `a`, and eleven bytes more. Its states distinguish which of the last twelve bytes were `a`.
-#[rattlefmt::skip]
-const TWELFTH: Plan = Plan {
-    states: &[Either(1, 2), Range(0, 255, 0), Range(b'a', b'a', 3), Range(0, 255, 4), Range(0, 255, 5),
-        Range(0, 255, 6), Range(0, 255, 7), Range(0, 255, 8), Range(0, 255, 9), Range(0, 255, 10), Range(0, 255, 11),
-        Range(0, 255, 12), Range(0, 255, 13), Range(0, 255, 14), Accept(0)], starts: (0, 0), patterns: &[0],
-};
+const TWELFTH: Text =
+    "0/0,0 E1,2 B00-ff:0 B61:3 B00-ff:4 B00-ff:5 B00-ff:6 B00-ff:7 B00-ff:8 B00-ff:9 B00-ff:10 B00-ff:11 B00-ff:12 B00-ff:13 B00-ff:14 M0";
 
 /// Long haystacks and many states.
 #[rattlefmt::skip]
 const LONG: &[Row] = &[
-    ("three thousand bytes, each with a state of its own", Chain(Range(b'a', b'a', 1), 3000), "",
+    ("three thousand bytes, each with a state of its own", Chain("B61:1", 3000), "",
         &[FindRepeated("a", 3000), Counts], "half 0 3000, 0 273384 3000"),
-    ("a mebibyte of which nearly each byte makes a new state, over a cache of the least capacity", Planned(&TWELFTH),
+    ("a mebibyte of which nearly each byte makes a new state, over a cache of the least capacity", Planned(TWELFTH),
         "all capacity=0 skip", &[FindLetters, Counts], "half 0 1048574, 62993 1468 7"),
     ("ten thousand dates, each found from the end of the one before", Forward(Entry::Date), "",
         &[FindEach("2018-12-24 ", 10_000), Counts], "half 0 109999, 0 1745 119999"),
 ];
 
-#[rattlefmt::skip]
-const NOTHING: Plan = Plan { states: &[Union], starts: (0, 0), patterns: &[] };
+const NOTHING: Text = "0/0 U";
 
-#[rattlefmt::skip]
-const ONE_STATE_TWICE: Plan = Plan { states: &[Either(1, 1), Accept(0)], starts: (0, 0), patterns: &[0] };
+const ONE_STATE_TWICE: Text = "0/0,0 E1,1 M0";
 
-#[rattlefmt::skip]
-const DENSE: Plan = Plan { states: &[Dense(&[(b'a', 1)]), Accept(0)], starts: (0, 0), patterns: &[0] };
+const DENSE: Text = "0/0,0 D61:1 M0";
 
-#[rattlefmt::skip]
-const CAPTURE: Plan = Plan { states: &[Capture(1), Range(b'a', b'a', 2), Accept(0)], starts: (0, 0), patterns: &[0] };
+const CAPTURE: Text = "0/0,0 C1 B61:2 M0";
 
 /// A cycle of epsilon edges that passes a look.
-#[rattlefmt::skip]
-const LOOK_CYCLE: Plan = Plan {
-    states: &[Either(1, 4), Either(2, 5), Assert(Look::WordAscii, 3), Either(0, 6), Range(b'b', b'b', 7),
-        Range(b'a', b'a', 8), Range(b'c', b'c', 9), Accept(0), Accept(1), Accept(2)], starts: (0, 0),
-        patterns: &[0, 0, 0],
-};
+const LOOK_CYCLE: Text = "0/0,0,0,0 E1,4 E2,5 LWordAscii:3 E0,6 B62:7 B61:8 B63:9 M0 M1 M2";
 
 /// How many patterns there are, the memory, the least capacity, what searches from the first offset to the second
 /// answer, of which one is over a part of a character, the memory of the cache, and what a search of a byte answers.
@@ -181,19 +170,18 @@ const ODD: &[Row] = &[
     ("as many starts as there may be", Crowd(43687), "noclasses skip starts", &[], ""),
     ("a pattern more", Crowd(43688), "noclasses skip starts", &[],
         "failed to create LazyStateID from 134217728, which exceeds 134217727"),
-    ("a union of nothing", Planned(&NOTHING), "all", &[Minimum, Find("ab")], "1085, none"),
-    ("a union of nothing adds no state to the cache", Planned(&NOTHING), "", &[Find("ab"), Counts], "none, 0 217 0"),
-    ("a union of one state twice", Planned(&ONE_STATE_TWICE), "", &[Find("")], "half 0 0"),
-    ("a union of one pattern twice", Planned(&TWO_WAYS), "all", &[Find("")], "half 0 0"),
-    ("a dense state", Planned(&DENSE), "", &[Find("a"), Find("b")], "half 0 1, none"),
-    ("a capture", Planned(&CAPTURE), "", &[Find("a"), Find("b")], "half 0 1, none"),
-    ("a cycle of epsilon edges that passes a look", Planned(&LOOK_CYCLE), "all", &[Find("a"), Find("b"), Find("c"),
+    ("a union of nothing", Planned(NOTHING), "all", &[Minimum, Find("ab")], "1085, none"),
+    ("a union of nothing adds no state to the cache", Planned(NOTHING), "", &[Find("ab"), Counts], "none, 0 217 0"),
+    ("a union of one state twice", Planned(ONE_STATE_TWICE), "", &[Find("")], "half 0 0"),
+    ("a union of one pattern twice", Planned(TWO_WAYS), "all", &[Find("")], "half 0 0"),
+    ("a dense state", Planned(DENSE), "", &[Find("a"), Find("b")], "half 0 1, none"),
+    ("a capture", Planned(CAPTURE), "", &[Find("a"), Find("b")], "half 0 1, none"),
+    ("a cycle of epsilon edges that passes a look", Planned(LOOK_CYCLE), "all", &[Find("a"), Find("b"), Find("c"),
         FindIn("xc", 1, 2), Brief], "half 1 1, half 0 1, half 2 1, none, 1559"),
 ];
 
 /// Two ways to one pattern.
-#[rattlefmt::skip]
-pub const TWO_WAYS: Plan = Plan { states: &[Either(1, 2), Accept(0), Accept(0)], starts: (0, 0), patterns: &[0] };
+pub const TWO_WAYS: Text = "0/0,0 E1,2 M0 M0";
 
 #[rattlefmt::skip]
 const STEPPED: &[Row] = &[
@@ -206,7 +194,7 @@ const STEPPED: &[Row] = &[
         Step(b'a'), State], "-, state 0q, -, state 0q, -, state 0q"),
     ("the patterns of a match", Forward(Entry::Aa), "all", &[Start(None), Steps("aa"), State, Matched],
         "-, -, state 0m, patterns 2 last 1"),
-    ("two ways to one pattern match once", Planned(&TWO_WAYS), "all", &[Start(None), End, Matched],
+    ("two ways to one pattern match once", Planned(TWO_WAYS), "all", &[Start(None), End, Matched],
         "-, -, patterns 1 last 0"),
     ("no tag", AB, "", &[Start(None), State], "-, state 0"),
     ("a tag where asked", AB, "tags", &[Start(None), State], "-, state 0s"),
@@ -247,10 +235,10 @@ const WALKED: &[Row] = &[
 ];
 
 /// `b`, or else twenty bytes `a`.
-const FORK: Automaton = Chain(Sparse(&[(b'a', b'a', 1), (b'b', b'b', 20)]), 20);
+const FORK: Automaton = Chain("S61:1,62:20", 20);
 
 /// Twenty bytes `a` from a word boundary on, so that the starts differ by the look-behind byte.
-const WORD: Automaton = Chain(Assert(Look::WordAscii, 1), 20);
+const WORD: Automaton = Chain("LWordAscii:1", 20);
 
 #[rattlefmt::skip]
 const TWO_SEARCHES: &[Call] = &[Counts, Find(AS), Counts, Find(AS), Counts];

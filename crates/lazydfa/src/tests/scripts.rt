@@ -19,7 +19,19 @@ const ANSWERED: &[(&str, &str)] = &[
     ("walk fwd 61\nstep 0\nwhich 1 61\nreset 0\nwalk rev -\nstep 1\niter 61\n",
         "bad regex\nbad regex\nbad regex\nbad regex\nbad regex\nbad regex\nbad regex\n"),
     ("tok 61\n", "bad regex\n"),
+    ("nfa 0/0,0 B61:1 M0\nregex 0 made\nregex 0 0\nfwd 61\n", "nfa 0\nregex 0\nregex 1\nhalf 0 1\n"),
+    ("regex 0 made\nnfa 0/0,0 M0\nregex 1 0\nregex 0 0\nfwd -\n",
+        "bad nfa\nnfa 0\nbad nfa\nregex 0\nhalf 0 0\n"),
+    ("nfa 0/0,0 B61:9 M0\nnfa 0/0,0 M0\n", "refused a state leads to a state that is out of range\nnfa 0\n"),
+    ("nfa 1/0,0 M0\n", NO_START), ("nfa 0/1,0 M0\n", NO_START), ("nfa 0/0,1 M0\n", NO_START), ("nfa 0/0\n", NO_START),
+    ("nfa 0/0,0 M1\n", "refused a match state has a pattern that is out of range\n"),
+    ("nfa 0/0 B62-61:0\nnfa 0/0 S62:0,61:0\n",
+        "refused ranges of bytes are not in order\nrefused ranges of bytes are not in order\n"),
+    ("nfa 0/0,0 M0\nnfa 0/0,0,0 M0 M1\nregex 0 1\n",
+        "nfa 0\nnfa 1\nrefused forward DFA has 1 patterns and reverse DFA has 2\n"),
 ];
+
+const NO_START: &str = "refused a start state is out of range\n";
 
 const BOUND_REFUSED: &str =
     "refused unsupported regex feature for DFAs: cannot build lazy DFAs for regexes with Unicode word boundaries; switch to ASCII word boundaries, or heuristically enable Unicode word boundaries or use a different regex engine\nbad regex\n";
@@ -68,7 +80,16 @@ const BAD: &[(&str, usize)] = &[
     ("which 18446744073709551616 6162", 1), ("which 1 6162 span=2..0", 1), ("which 1 6162 which", 1), ("reset", 1),
     ("reset -", 1), ("reset 0 earliest", 1), ("reset 000000000000000000001", 1), ("regex ab\nreset 0\nregex aa\n", 3),
     ("regex ab\nwalk fwd 6162\nstep 0\nregex aa\n", 4), ("regex ab\nwhich 1 61\n\nstep 0 \n", 4),
-    ("regex ab\nrev 6162\nregex aa\n", 3), ("regex ab\nfwd 6162\nrev 6162 \n", 3),
+    ("regex ab\nrev 6162\nregex aa\n", 3), ("regex ab\nfwd 6162\nrev 6162 \n", 3), ("nfa", 1), ("nfa 0", 1),
+    ("nfa 0/", 1), ("nfa /0", 1), ("nfa 0/0,", 1), ("nfa 0/0,1,", 1), ("nfa 0/2147483647", 1), ("nfa x/0", 1),
+    ("nfa M0", 1), ("nfa 0/0 X", 1), ("nfa 0/0 b61:1", 1), ("nfa 0/0 B", 1), ("nfa 0/0 B61", 1), ("nfa 0/0 B61:", 1),
+    ("nfa 0/0 B6:1", 1), ("nfa 0/0 B61-:1", 1), ("nfa 0/0 B61-62-63:1", 1), ("nfa 0/0 B61:1,62:1", 1),
+    ("nfa 0/0 S61", 1), ("nfa 0/0 S61:1,", 1), ("nfa 0/0 D61-62", 1), ("nfa 0/0 E1", 1), ("nfa 0/0 E1,2,3", 1),
+    ("nfa 0/0 U1,", 1), ("nfa 0/0 Lstart:1", 1), ("nfa 0/0 LStart", 1), ("nfa 0/0 C", 1), ("nfa 0/0 M", 1),
+    ("nfa 0/0 M2147483647", 1), ("nfa 0/0 F1", 1), ("nfa 0/0 utf8=1", 1), ("nfa 0/0 line", 1), ("nfa 0/0 line=a", 1),
+    ("nfa 0/0 rev=", 1), ("nfa 0/0 all", 1), ("nfa 0/0,0 M0\nregex 0", 2), ("regex 0 x", 1), ("regex made", 1),
+    ("regex 0 made made", 1), ("regex 0 1 2", 1), ("regex ab 0", 1), ("regex ab made x", 1), ("regex -1 made", 1),
+    ("fwd 61\nnfa 0/0,0 M0\n", 2),
 ];
 
 #[test]
@@ -102,7 +123,9 @@ const ALLOWED: &[&str] = &[
     "iter 6162 earliest earliest span=0..0 span=2..2", "tok 6162 anchored pattern=0 earliest span=3..2",
     "tok - span=1..0", "walk fwd - span=1..0", "walk rev 6162 anchored pattern=0 earliest span=3..2",
     "which 18446744073709551615 6162 earliest anchored", "which 00000000000000000000 - span=1..0",
-    "step 18446744073709551615", "reset 18446744073709551615",
+    "step 18446744073709551615", "reset 18446744073709551615", "nfa 0/0", "nfa 5/7,1 U S D F", "nfa 0/0 D61-63:1,62:2",
+    "nfa 0/0 rev M0 utf8 line=FF utf8", "nfa 2147483646/0,2147483646 M2147483646", "regex 0 made",
+    "regex 18446744073709551615 made all", "regex 0 1 all", "regex ab made all",
 ];
 
 #[test]

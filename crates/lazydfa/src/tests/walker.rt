@@ -4,11 +4,11 @@ ghost use Rattle.std.specs.Prelude.{◌≡◌};
 ghost use Rattle.lazydfa.specs.Walks.{IsWalkOver};
 ghost use Rattle.regex_automata.specs.Promises.{IsCacheOf};
 
+use super::Host;
 use super::bench::{counted, search, within};
 use super::plans::pattern_id;
 use super::reported::{Reported, prints};
 use super::reports::{Automaton, Caller, Short, Turns, write_reported};
-use super::{Host, check};
 use regex_automata::hybrid::dfa::{Cache, DFA, OverlappingState};
 use regex_automata::hybrid::{BuildError, SearchError};
 use regex_automata::util::search::{Anchored, HalfMatch, Input, PatternSet};
@@ -112,7 +112,7 @@ pub struct Walker {
 }
 
 impl Walker {
-    pub fn new(rt: &impl Host, dfa: DFA, over: Over) -> Walker {
+    fn new(rt: &impl Host, dfa: DFA, over: Over) -> Walker {
         let cache = dfa.create_cache().expect(rt, "a cache");
         let other = dfa.create_cache().expect(rt, "a cache");
         let set = PatternSet::new(rt.alloc(), 4).expect(rt, "a set");
@@ -123,51 +123,6 @@ impl Walker {
             set,
             over,
         }
-    }
-
-    pub fn dfa(&self) -> &DFA {
-        &self.dfa
-    }
-
-    /// All matches of a walk. Each call is made over the other cache, after a search of the same input.
-    pub fn walk(&mut self, rt: &impl Host, input: &Input<'_>, found: &mut Vec<HalfMatch>) {
-        found.clear();
-        let mut walk = OverlappingState::start();
-        self.walk_on(rt, input, &mut walk, found);
-    }
-
-    fn walk_on(
-        &mut self,
-        rt: &impl Host,
-        input: &Input<'_>,
-        walk: &mut OverlappingState,
-        found: &mut Vec<HalfMatch>,
-    )
-        requires { IsWalkOver self.old.dfa input.now walk.old }
-    {
-        for _call in 0..1000u32 {
-            let Some(half) = self.next(rt, input, walk) else {
-                return;
-            };
-            found.push(half).expect(rt, "memory");
-        }
-        check(rt, false);
-    }
-
-    /// The next match of a walk, after a search of its input. The next call is made over the other cache.
-    fn next(
-        &mut self,
-        rt: &impl Host,
-        input: &Input<'_>,
-        walk: &mut OverlappingState,
-    ) -> Option<HalfMatch>
-        requires { IsWalkOver self.old.dfa input.now walk.old }
-        ensures { IsWalkOver self.new.dfa input.now walk.new }
-    {
-        self.find(input).expect(rt, "a search");
-        step(&self.dfa, &mut self.cache, input, walk).expect(rt, "a call");
-        self.switch();
-        walk.get_match()
     }
 
     /// Writes what the calls of a walk over this input report, and those between them.
@@ -275,7 +230,7 @@ impl Walker {
     }
 
     /// Searches in the direction of the NFA.
-    pub fn find(&mut self, input: &Input<'_>) -> Result<Option<HalfMatch>, SearchError>
+    fn find(&mut self, input: &Input<'_>) -> Result<Option<HalfMatch>, SearchError>
         ensures { self.new.dfa ≡ self.old.dfa }
     {
         search(&self.dfa, &mut self.cache, input)
@@ -295,14 +250,6 @@ impl Walker {
             Ok(mut set) => join(&self.dfa, &mut self.cache, input, &mut set, given),
             Err(_) => Reported::Refused(BuildError::OutOfMemory),
         }
-    }
-
-    /// The patterns of all matches that are below a capacity, as far as they are among the first ones.
-    pub fn patterns(&mut self, rt: &impl Host, input: &Input<'_>, capacity: usize) -> [bool; 4] {
-        let mut set = PatternSet::new(rt.alloc(), capacity).expect(rt, "memory");
-        let (has, filled) = fill(&self.dfa, &mut self.cache, input, &mut set);
-        filled.expect(rt, "a set");
-        has
     }
 
     /// Puts the other cache first.

@@ -1,6 +1,5 @@
 //! Overlapping walks and sets of patterns: the worked rows.
 
-use super::plans::Shape;
 use super::reports::{Automaton, RowOf, reports_all};
 use super::rows::TWO_WAYS;
 use super::walker::{Over, Turn, Walked, Walker};
@@ -18,7 +17,7 @@ const AS: &str = "aaaaaaaaaaaaaaaa";
 const MORE: &str = "aaaaaaaaaaaaaaaaaaa";
 
 /// No byte at all, or nineteen bytes `a`.
-const FORK: Automaton = Automaton::Chain(Shape::Either(1, 20), 20);
+const FORK: Automaton = Automaton::Chain("E1,20", 20);
 
 const OVER_FORK: Walked = Walked(FORK, Text(MORE));
 
@@ -38,7 +37,7 @@ const PAIRS: &[Row] = &[
     ("try_which_overlapping_matches", OVER_WORDS, "all", &[Which(2)], "{0 1}"),
     ("in reverse, the chosen path alone", Walked(Reverse(Entry::Aa), Text("aa")), "", &[Next, Next, Next],
         "half 0 1, none, none"),
-    ("two ways to one pattern match once", Walked(Planned(&TWO_WAYS), Text("")), "all", &[Next, Next, Next],
+    ("two ways to one pattern match once", Walked(Planned(TWO_WAYS), Text("")), "all", &[Next, Next, Next],
         "half 0 0, none, none"),
     ("a done span takes nothing of the cache", Walked(Forward(Entry::Always), Span("ab", 2, 1)), "all", &[Next, Match,
         Counts], "none, none, 0 221 0"),
@@ -59,6 +58,31 @@ const PAIRS: &[Row] = &[
         Next], "quit b2 1, none, quit b2 1"),
     ("a pattern without its starts", Walked(Forward(Entry::Words), Pattern("a!", 1)), "all", &[Next, Match, Next],
         "unsupported, none, unsupported"),
+];
+
+/// In reverse under leftmost-first.
+#[rattlefmt::skip]
+const BACK: &[Row] = &[
+    ("", Walked(Reverse(Entry::Words), Text("@foo bar")), "", &[Next, Next, Next, Next],
+        "half 0 7, half 0 6, half 0 5, none"),
+    ("", Walked(Reverse(Entry::Words), Text("a!")), "", &[Next, Next, Next],
+        "half 1 1, half 1 0, none"),
+    ("", Walked(Reverse(Entry::Abc), Text("abcab")), "", &[Next, Next, Next],
+        "half 0 2, half 0 0, none"),
+    ("", Walked(Reverse(Entry::Runs), Text("12ab 34")), "", &[Next, Next, Next],
+        "half 1 6, half 1 5, none"),
+    ("", Walked(Reverse(Entry::Date), Text("x2018-12-24")), "", &[Next, Next],
+        "half 0 1, none"),
+    ("", Walked(Reverse(Entry::Bnum), Text("a 12 b")), "unicode", &[Next, Next],
+        "half 0 2, none"),
+    ("", Walked(Reverse(Entry::Wordend), Text("ab cd")), "", &[Next, Next, Next],
+        "half 0 4, half 0 3, none"),
+    ("", Walked(Reverse(Entry::Snow), Text("a\u{2603}x")), "", &[Next, Next],
+        "half 0 0, none"),
+    ("", Walked(Reverse(Entry::Snowx), Text("xa\u{2603}x")), "", &[Next, Next, Next],
+        "half 1 5, half 0 1, none"),
+    ("", Walked(Reverse(Entry::Empty), Text("a\u{2603}")), "", &[Next, Next],
+        "half 0 4, none"),
 ];
 
 /// A walk belongs to no cache: each cache of its DFA will do, whatever it was used for.
@@ -148,6 +172,7 @@ const PRINTED: &[Row] = &[
 #[test]
 fn walks_and_sets_report_their_rows(rt: HostRuntime) {
     reports_all::<Walker>(&rt, PAIRS);
+    reports_all::<Walker>(&rt, BACK);
     reports_all::<Walker>(&rt, CACHES);
     reports_all::<Walker>(&rt, CLEARED);
     reports_all::<Walker>(&rt, SETS);
