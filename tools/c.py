@@ -75,10 +75,11 @@ def archive(room):
         words += ["--extern", f"{name}={rlib(name)}", "-L", f"dependency={os.path.dirname(rlib(name))}"]
     words += ["--antt-project", f"{KIT}/rattle/logic/antt-project.json", "--logic-built", f"{KIT}/logic_built"]
     words += ["--jobs", "1", "--links", "lazydfa_c=", "--toolchain", f"{KIT}/toolchain", "--backend", "llvm", "-o", made]
-    how = {"cwd": f"{TOP}/crates/lazydfa_c", "stdin": subprocess.DEVNULL, "capture_output": True, "errors": "replace"}
-    ran = subprocess.run([f"{KIT}/bin/rattle", "build", *words], **how)
-    proved = ran.returncode == 0 and re.search(r"^logic=proved ", ran.stdout, re.M)
-    print(proved[0] if proved else f"{ran.stdout}{ran.stderr}status {ran.returncode}: built by rt lib", flush=True)
+    # A build writes its verdict to standard error.
+    how = {"cwd": f"{TOP}/crates/lazydfa_c", "stdin": subprocess.DEVNULL, "stdout": subprocess.PIPE}
+    ran = subprocess.run([f"{KIT}/bin/rattle", "build", *words], stderr=subprocess.STDOUT, errors="replace", **how)
+    proved = ran.returncode == 0 and re.search(r"^logic=proved functions=\d+", ran.stdout, re.M)
+    print(proved[0] if proved else f"{ran.stdout}status {ran.returncode}: built by rt lib", flush=True)
     return [f"ARCHIVE={made}"] if proved else []
 
 

@@ -1,6 +1,6 @@
 #!/bin/sh
-# Measures the library beside a lean twin in unchecked Rust and beside RE2, in a copy of the repository with one crate
-# more, outside the gate:
+# Measures the library beside a lean twin in unchecked Rust and beside RE2, and the library for C beside grep and RE2, in
+# a copy of the repository with one crate more, outside the gate:
 #     tools/measure.sh [ROUNDS [WORK..]]
 # It needs rt, g++, RE2's headers and library, and rustc; without rustc the twin is left out. Seven rounds, as by
 # default, take three minutes, and on a busy machine ten. The crate `measure` is proved before that, in five minutes
@@ -12,24 +12,61 @@
 # prints is worth as much as these brackets are narrow. The works stand in measure/measure.in and measure/mixed.in, and
 # their units in measure/works. The lines of the licence make the running text of `prose` and `prosetail`. With all works
 # it draws the plot docs/speed.svg. MEASURE_COPY names a copy to use again.
+#
+# The works of the library for C stand in measure/from_c.c, and their units in measure/works_c: with all works, and with
+# `c` in place of the works, they are measured after the others, by rounds of their own. grep counts the lines with a date
+# in a file, in the locale C; the others have the same lines in memory. Its time is as fine as the shell's `times`.
 set -eu
 rounds=${1:-7}
 [ "$#" -eq 0 ] || shift
 top=$(cd "$(dirname "$0")/.." && pwd)
 copy=${MEASURE_COPY:-$(mktemp -d)}
 (cd "$top" && git ls-files -z | tar -c --null -T -) | tar -x -C "$copy"
-for crate in automata_base automata_config automata_hybrid regex_automata; do
+for crate in automata_base automata_config automata_hybrid regex_automata lazydfa_c; do
     if [ -d "$top/crates/$crate/out" ] && [ ! -d "$copy/crates/$crate/out" ]; then
         cp -r "$top/crates/$crate/out" "$copy/crates/$crate/out"
     fi
 done
+g++ -O2 -o "$copy/re2" "$top/tools/measure/re2.cc" -lre2
+
+tell() { # ROUND WHO PROGRAM WORK
+    [ ! -x "$3" ] || "$3" "$4" < "$top/LICENSE-APACHE" | sed "s/^/$1 $2 /" >> "$copy/told"
+}
+
+grep_dates() { # ROUND
+    found=$(LC_ALL=C grep -cE '[0-9]{4}-[0-9]{2}-[0-9]{2}' "$copy/dates.txt" && times) || return 0
+    echo "$found" | awk -v round="$1" 'function micros(t) { sub(/s$/, "", t); split(t, at, "m"); return (at[1] * 60 + at[2]) * 1e6 }
+        NR == 1 { count = $1 } END { printf "%d grep dates %d %d\n", round, count, micros($1) + micros($2) }' >> "$copy/told"
+}
+
+measure_c() {
+    make -C "$copy/bindings/c" > "$copy/proved_c" 2>&1 || { cat "$copy/proved_c"; exit 1; }
+    cc -O2 -I"$copy/bindings/c/include" -o "$copy/from_c" "$top/tools/measure/from_c.c" "$copy/bindings/c/out/liblazydfa.a"
+    "$copy/from_c" text > "$copy/dates.txt"
+    : > "$copy/told"
+    round=1
+    while [ "$round" -le "$rounds" ]; do
+        for work in $(cut -d ' ' -f 1 "$top/tools/measure/works_c"); do
+            tell "$round" here "$copy/from_c" "$work"
+            tell "$round" re2 "$copy/re2" "$work"
+        done
+        grep_dates "$round"
+        round=$((round + 1))
+    done
+    awk -v other=grep -f "$top/tools/measure/table.awk" "$top/tools/measure/works_c" "$copy/told" | tee "$copy/table_c"
+}
+
+if [ "$*" = c ]; then
+    measure_c
+    echo "the copy, with the programs and all rounds: $copy"
+    exit
+fi
 mkdir -p "$copy/crates/measure/src"
 cp "$top/tools/measure/measure.in" "$copy/crates/measure/src/main.rt"
 cp "$top/tools/measure/mixed.in" "$copy/crates/measure/src/mixed.rt"
 echo 'measure: regex_automata' >> "$copy/crates.txt"
 (cd "$copy/crates/measure" && rt run --jobs 2 -- first) > "$copy/proved" 2>&1 || { cat "$copy/proved"; exit 1; }
 here=$copy/crates/measure/out/measure
-g++ -O2 -o "$copy/re2" "$top/tools/measure/re2.cc" -lre2
 rm -f "$copy/twin"
 if command -v rustc > /dev/null; then
     rustc --edition 2021 --crate-name twin -O -C codegen-units=1 -C target-cpu=x86-64-v2 -C panic=abort \
@@ -41,9 +78,6 @@ fi
 all=$(cut -d ' ' -f 1 "$top/tools/measure/works")
 works=${*:-$all}
 : > "$copy/told"
-tell() { # ROUND WHO PROGRAM WORK
-    [ ! -x "$3" ] || "$3" "$4" < "$top/LICENSE-APACHE" | sed "s/^/$1 $2 /" >> "$copy/told"
-}
 round=1
 while [ "$round" -le "$rounds" ]; do
     for work in $works; do
@@ -56,5 +90,6 @@ done
 awk -f "$top/tools/measure/table.awk" "$top/tools/measure/works" "$copy/told" | tee "$copy/table"
 if [ "$works" = "$all" ]; then
     awk -f "$top/tools/measure/plot.awk" "$copy/table" > "$top/docs/speed.svg"
+    measure_c
 fi
 echo "the copy, with the programs and all rounds: $copy"

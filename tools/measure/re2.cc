@@ -115,6 +115,27 @@ static std::string running_text() {
   return text;
 }
 
+// The lines of from_c.c: ten words, and every tenth line ends in a date.
+static std::string dated_text(size_t size) {
+  std::string text;
+  Noise noise{5};
+  for (size_t line = 1; text.size() < size; line++) {
+    for (int word = 0; word < 10; word++) {
+      for (size_t letters = below(noise, 8) + 2; letters > 0; letters--) text += 'a' + below(noise, 26);
+      text += ' ';
+    }
+    if (line % 10 == 0) {
+      unsigned year = below(noise, 90) + 10, month = below(noise, 12) + 1, day = below(noise, 28) + 1;
+      char date[16];
+      snprintf(date, sizeof date, "20%02u-%02u-%02u", year, month, day);
+      text += date;
+    }
+    text += '\n';
+  }
+  text.resize(size);
+  return text;
+}
+
 static std::string joined(const std::vector<std::string>& words) {
   std::string all;
   for (const std::string& word : words) all += (all.empty() ? "" : "|") + word;
@@ -146,6 +167,21 @@ static void matches_in(const char* work, const char* pattern, const std::string&
       count++;
       at = m.data() + m.size() - text.data();
     }
+  }
+  tell(work, count, start);
+}
+
+// Lines that have a date.
+static void dates(const char* work) {
+  std::string text = dated_text(100 << 20);
+  RE2 re("[0-9]{4}-[0-9]{2}-[0-9]{2}", latin());
+  long start = now(), count = 0;
+  size_t at = 0;
+  StringPiece m;
+  while (at < text.size() && re.Match(text, at, text.size(), RE2::UNANCHORED, &m, 1)) {
+    count++;
+    at = text.find('\n', m.data() + m.size() - text.data());
+    at = at == std::string::npos ? text.size() : at + 1;
   }
   tell(work, count, start);
 }
@@ -295,6 +331,7 @@ int main(int n, char** words) {
     else if (w == "first20") first(name, twenty(), kShort, 20000);
     else if (w == "whole") whole(name, "[0-9]{4}");
     else if (w == "whole20") whole(name, twenty());
+    else if (w == "dates") dates(name);
     else if (w == "date") matches_in(name, "[0-9]{4}-[0-9]{2}-[0-9]{2}", log_text());
     else if (w == "numbers") matches_in(name, "\\b[0-9]+\\b", log_text());
     else if (w == "prose") matches_in(name, "[a-z]+", running_text());

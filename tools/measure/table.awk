@@ -1,7 +1,9 @@
 # Reads the works with their units, and then a line `ROUND WHO WORK COUNT TIME` for each run. For each work it prints the
-# middle of the rounds in nanoseconds a unit, here, by the twin and by RE2, with the first and the third quarter in
-# brackets; then the other two's time by ours, of the same round, likewise. It says where two programs counted different
-# matches.
+# middle of the rounds in nanoseconds a unit, here, by the twin (or by the program that `other` names) and by RE2, with
+# the first and the third quarter in brackets; then the other two's time by ours, of the same round, likewise. It says
+# where two programs counted different matches.
+
+BEGIN { if (!other) other = "twin" }
 
 FNR == NR { works[++last] = $1; units[$1] = $2; unit[$1] = $3; next }
 
@@ -50,12 +52,12 @@ function ratio(who, work,    list, n, round) {
 
 END {
     line = "%-9s %-6s %22s %22s %22s %18s %18s\n"
-    printf line, "work", "ns a", "here", "twin", "re2", "twin/here", "re2/here"
+    printf line, "work", "ns a", "here", other, "re2", other "/here", "re2/here"
     for (k = 1; k <= last; k++) {
         work = works[k]
         if (!(work in met)) continue
-        printf line, work, unit[work], time("here", work), time("twin", work), time("re2", work),
-            ratio("twin", work), ratio("re2", work)
+        printf line, work, unit[work], time("here", work), time(other, work), time("re2", work),
+            ratio(other, work), ratio("re2", work)
         if (work in differs) print work ": the programs counted different numbers"
     }
 }

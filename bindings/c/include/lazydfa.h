@@ -480,7 +480,7 @@ static inline lazydfa_status lazydfa_add_unanchored_prefix(lazydfa_builder *buil
 
 /* Opens a handle on the regex of what a builder has, which stays as it is. settings may be NULL for the defaults, and
    quits lists the quit bytes. Its matches are those of the NFA's ordered paths. LAZYDFA_UNFINISHED, and every code of an
-   NFA but LAZYDFA_PATTERN_COUNTS; LAZYDFA_ARGUMENT also for a quit byte that the other settings do not allow. */
+   NFA but LAZYDFA_PATTERN_COUNTS; LAZYDFA_ARGUMENT also for a match kind that is none. */
 static inline lazydfa_status lazydfa_regex_build(lazydfa_regex *regex, lazydfa_builder *builder, lazydfa_starts starts,
                                                  const lazydfa_settings *settings, const uint8_t *quits,
                                                  size_t length) {

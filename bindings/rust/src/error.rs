@@ -7,7 +7,7 @@ use std::fmt;
 pub enum Error {
     /// An allocation failed.
     OutOfMemory,
-    /// A number is no state, pattern or quit byte that is allowed.
+    /// A number is no state, pattern or look-around assertion.
     Argument,
     /// No pattern was started, or the last one was finished.
     NoPattern,

@@ -1,0 +1,204 @@
+/* Works by the library for C: for each name of a work what was counted, and the microseconds of the processor, as
+   measure.in prints them. The work `text` writes the lines of `dates` instead, for other programs. */
+#define _POSIX_C_SOURCE 200809L
+#include <lazydfa.h>
+#include <stdio.h>
+#include <stdlib.h>
+#include <string.h>
+#include <time.h>
+
+#define TRY(call)                                        \
+    do {                                                 \
+        lazydfa_status status = (call);                  \
+        if (status.code != LAZYDFA_OK) return status;    \
+    } while (0)
+
+enum { SIZE = 1 << 24, DATES = 100 << 20, SEARCHES = 1 << 20, LINES = 200000, WORDS = 20 };
+
+static const char LINE[] = "aorax then some other text eoreX and more eorex of it, then gorgx and more morm";
+
+static uint32_t noise = 5;
+
+static uint32_t below(uint32_t count) {
+    noise = noise * 1664525 + 1013904223;
+    return (noise >> 16) * count >> 16;
+}
+
+/* Lines of ten words, of which every tenth ends in a date. */
+static char *lines_of(size_t size) {
+    char *text = malloc(size + 256);
+    size_t length = 0, line = 0;
+    while (text && length < size) {
+        for (int word = 0; word < 10; word++) {
+            for (uint32_t letters = below(8) + 2; letters > 0; letters--) text[length++] = (char)('a' + below(26));
+            text[length++] = ' ';
+        }
+        if (++line % 10 == 0) {
+            uint32_t year = below(90) + 10, month = below(12) + 1, day = below(28) + 1;
+            length += (size_t)sprintf(text + length, "20%02u-%02u-%02u", year, month, day);
+        }
+        text[length++] = '\n';
+    }
+    if (text) text[size] = '\0';
+    return text;
+}
+
+static char *text_of(const char *piece, size_t size) {
+    size_t length = strlen(piece), at = 0;
+    char *text = malloc(size + 1);
+    for (; text && at + length <= size; at += length) memcpy(text + at, piece, length);
+    if (text) text[at] = '\0';
+    return text;
+}
+
+static long now(void) {
+    struct timespec t;
+    clock_gettime(CLOCK_PROCESS_CPUTIME_ID, &t);
+    return t.tv_sec * 1000000L + t.tv_nsec / 1000;
+}
+
+/* So many bytes of a range, before a state that stands already. */
+static lazydfa_status add_bytes(lazydfa_builder *builder, char lo, char hi, int count, uint32_t *at) {
+    lazydfa_status status = { LAZYDFA_OK, 0, 0 };
+    for (; count > 0 && status.code == LAZYDFA_OK; count--)
+        status = lazydfa_add_range(builder, (uint8_t)lo, (uint8_t)hi, *at, at);
+    return status;
+}
+
+/* A pattern of as many digits as the text has, and of its other bytes. */
+static lazydfa_status add_text(lazydfa_builder *builder, const char *text, uint32_t *start) {
+    uint32_t pattern;
+    TRY(lazydfa_start_pattern(builder, &pattern));
+    TRY(lazydfa_add_match(builder, start));
+    for (size_t at = strlen(text); at > 0; at--) {
+        int is_digit = text[at - 1] == '0';
+        TRY(add_bytes(builder, text[at - 1], is_digit ? '9' : text[at - 1], 1, start));
+    }
+    return lazydfa_finish_pattern(builder, *start, &pattern);
+}
+
+/* [a-z]+ */
+static lazydfa_status add_word(lazydfa_builder *builder, uint32_t *start) {
+    uint32_t pattern, found, more, alternates[2];
+    TRY(lazydfa_start_pattern(builder, &pattern));
+    TRY(lazydfa_add_range(builder, 'a', 'z', 0, start));
+    TRY(lazydfa_add_match(builder, &found));
+    alternates[0] = *start;
+    alternates[1] = found;
+    TRY(lazydfa_add_union(builder, alternates, 2, &more));
+    TRY(lazydfa_patch(builder, *start, more));
+    return lazydfa_finish_pattern(builder, *start, &pattern);
+}
+
+/* Twenty words of five letters, a pattern each. */
+static lazydfa_status add_words(lazydfa_builder *builder, uint32_t *start) {
+    uint32_t starts[WORDS];
+    for (int word = 0; word < WORDS; word++) {
+        char first = (char)('a' + word), text[6] = { first, 'o', 'r', first, 'x', '\0' };
+        TRY(add_text(builder, text, &starts[word]));
+    }
+    return lazydfa_add_union(builder, starts, WORDS, start);
+}
+
+static lazydfa_status add_of(lazydfa_builder *builder, const char *work, uint32_t *start) {
+    if (!strcmp(work, "dates")) return add_text(builder, "0000-00-00", start);
+    if (!strcmp(work, "short")) return add_text(builder, "0000", start);
+    return strcmp(work, "dense") ? add_words(builder, start) : add_word(builder, start);
+}
+
+static lazydfa_status open_cache(lazydfa_cache *cache, const char *work) {
+    lazydfa_builder builder = LAZYDFA_INIT;
+    lazydfa_regex regex = LAZYDFA_INIT;
+    lazydfa_starts starts;
+    lazydfa_settings settings = { 0, 0, 0, 0, 0, 0, LAZYDFA_LEFTMOST_FIRST, 0, 0, 0, 0, 0, 0 };
+    if (!strcmp(work, "sets")) settings.match_kind = LAZYDFA_ALL;
+    TRY(lazydfa_builder_new(&builder));
+    TRY(add_of(&builder, work, &starts.anchored));
+    TRY(lazydfa_add_unanchored_prefix(&builder, starts.anchored, &starts.unanchored));
+    TRY(lazydfa_regex_build(&regex, &builder, starts, &settings, NULL, 0));
+    TRY(lazydfa_cache_new(cache, &regex));
+    lazydfa_builder_close(&builder);
+    return lazydfa_regex_close(&regex);
+}
+
+static lazydfa_status count_lines(lazydfa_cache *cache, const uint8_t *text, size_t length, size_t *count) {
+    lazydfa_input left = lazydfa_whole(length);
+    lazydfa_half end;
+    for (;;) {
+        const uint8_t *line;
+        TRY(lazydfa_find_end(cache, text, length, &left, &end));
+        ++*count;
+        line = memchr(text + end.offset, '\n', length - end.offset);
+        left.start = line ? (size_t)(line - text) + 1 : length;
+    }
+}
+
+static lazydfa_status count_spans(lazydfa_cache *cache, const uint8_t *text, size_t length, size_t *count) {
+    lazydfa_iteration at = lazydfa_iterate(lazydfa_whole(length));
+    lazydfa_match match;
+    for (;; ++*count) TRY(lazydfa_next(cache, text, length, &at, &match));
+}
+
+static lazydfa_status count_searches(lazydfa_cache *cache, const uint8_t *text, size_t length, size_t *count) {
+    lazydfa_input whole = lazydfa_whole(length);
+    lazydfa_status status = { LAZYDFA_NONE, 0, 0 };
+    for (int search = 0; search < SEARCHES && status.code <= LAZYDFA_NONE; search++) {
+        status = lazydfa_is_match(cache, text, length, &whole);
+        *count += status.code == LAZYDFA_OK;
+    }
+    return status;
+}
+
+static lazydfa_status count_sets(lazydfa_cache *cache, const uint8_t *text, size_t length, size_t *count) {
+    lazydfa_input whole = lazydfa_whole(length);
+    uint32_t patterns[WORDS];
+    lazydfa_status status = { LAZYDFA_OK, 0, 0 };
+    for (int line = 0; line < LINES && status.code == LAZYDFA_OK; line++) {
+        size_t found;
+        status = lazydfa_which(cache, text, length, &whole, WORDS, patterns, WORDS, &found);
+        *count += found;
+    }
+    return status;
+}
+
+static lazydfa_status count_in(lazydfa_cache *cache, const char *work, const char *text, size_t *count) {
+    const uint8_t *bytes = (const uint8_t *)text;
+    size_t length = strlen(text);
+    if (!strcmp(work, "dates")) return count_lines(cache, bytes, length, count);
+    if (!strcmp(work, "dense")) return count_spans(cache, bytes, length, count);
+    if (!strcmp(work, "short")) return count_searches(cache, bytes, length, count);
+    return count_sets(cache, bytes, length, count);
+}
+
+static char *text_for(const char *work) {
+    if (!strcmp(work, "dense")) return text_of("word ", SIZE);
+    if (!strcmp(work, "short")) return text_of("ab1cd23efghi 456", 16);
+    return strcmp(work, "sets") ? lines_of(DATES) : text_of(LINE, sizeof LINE - 1);
+}
+
+int main(int argc, char **argv) {
+    for (int n = 1; n < argc; n++) {
+        char *text = text_for(argv[n]);
+        lazydfa_cache cache = LAZYDFA_INIT;
+        lazydfa_status status;
+        size_t count = 0;
+        long start;
+        if (!text) return 2;
+        if (!strcmp(argv[n], "text")) {
+            fputs(text, stdout);
+            free(text);
+            continue;
+        }
+        status = open_cache(&cache, argv[n]);
+        start = now();
+        if (status.code == LAZYDFA_OK) status = count_in(&cache, argv[n], text, &count);
+        if (status.code > LAZYDFA_NONE) {
+            fprintf(stderr, "%s: %s\n", argv[n], lazydfa_code_text(status.code));
+            return 1;
+        }
+        printf("%s %zu %ld\n", argv[n], count, now() - start);
+        lazydfa_cache_close(&cache);
+        free(text);
+    }
+    return 0;
+}
