@@ -6,7 +6,6 @@ use Rattle.std.proofs.lemmas.Result.{IfErr-weaker}
 use Rattle.automata_base.specs.Answers.Answers.{Tries, later}
 use Rattle.automata_base.specs.Haystacks.Input.{Input}
 use Rattle.automata_base.specs.Paths.Paths.{next}
-use Rattle.automata_base.specs.Powersets.Powerset.{Powerset, dead}
 use Rattle.automata_base.specs.declared.util.search.Direction.{Direction}
 use Rattle.automata_base.specs.declared.util.search.Anchored.{Anchored}
 use Rattle.automata_base.proofs.Paths.Orders.{none_some}

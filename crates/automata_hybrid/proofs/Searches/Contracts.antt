@@ -12,7 +12,7 @@ use Rattle.automata_hybrid.specs.Cache.Stores.{Stored}
 use Rattle.automata_hybrid.specs.Cache.Caches.{CacheView, IsStoreOf}
 use Rattle.automata_hybrid.specs.Searches.Cached.{IsOfInput}
 use Rattle.automata_hybrid.specs.Machines.Machine.{Machine}
-use Rattle.automata_hybrid.specs.Searches.Contracts.{IsBased, IsHalf, IsSearchEffect, based_half, MayRefuse}
+use Rattle.automata_hybrid.specs.Searches.Contracts.{IsBased, IsHalf, IsSearchEffect, based_half}
 use Rattle.automata_hybrid.specs.Searches.Contracts.{halves}
 use Rattle.automata_hybrid.specs.Searches.Progress.{LeavesProgress}
 use Rattle.automata_hybrid.specs.Searches.Passes.{WithoutBase, with_base}

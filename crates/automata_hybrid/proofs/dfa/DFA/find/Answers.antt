@@ -3,9 +3,7 @@ use Rattle.std.proofs.Common.{ℕ, suc, ◌≡◌, ◌∙◌, ◌+◌, ◌-◌, 
 use Rattle.std.proofs.Common.{arith}
 use Rattle.automata_base.specs.Paths.Paths.{next}
 use Rattle.automata_base.specs.declared.util.search.Direction.{Direction}
-use Rattle.automata_hybrid.specs.Cache.Growth.{ClearedNothing}
-use Rattle.automata_hybrid.specs.Searches.Cached.{KnowsPass}
-use Rattle.automata_hybrid.specs.Searches.PassState.{HasLearned, IsAt}
+use Rattle.automata_hybrid.specs.Searches.PassState.{IsAt}
 use Rattle.automata_hybrid.specs.Steps.Steps.{known_step}
 use Rattle.automata_hybrid.specs.Searches.Passes.{Reads, given_up_offset, tape_in}
 use Rattle.std.proofs.lemmas.Result.{IfErr-weaker, IfOk-weaker}

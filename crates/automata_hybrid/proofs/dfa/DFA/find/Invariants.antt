@@ -1,8 +1,6 @@
 use Rattle.std.proofs.Common.{◌≤◌, ◌-◌}
 use Rattle.automata_hybrid.specs.Cache.Caches.{IsCacheOf}
-use Rattle.automata_hybrid.specs.Cache.Growth.{IsGrown, ClearedNothing}
-use Rattle.automata_hybrid.specs.Searches.Cached.{KnowsItsStart, KnowsPass}
-use Rattle.automata_hybrid.specs.Searches.PassState.{HasLearned, IsAt}
+use Rattle.automata_hybrid.specs.Searches.PassState.{IsAt}
 use Rattle.automata_hybrid.proofs.Searches.UnitsRead.{AreReadBehind}
 use Rattle.automata_hybrid.proofs.dfa.DFA.find.Given as goal
 

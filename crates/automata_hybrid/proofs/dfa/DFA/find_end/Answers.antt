@@ -4,7 +4,7 @@ use Rattle.automata_base.specs.Paths.Paths.{next}
 use Rattle.automata_base.specs.Powersets.Powerset.{Powerset}
 use Rattle.automata_base.specs.Retraced.Steps.{successor}
 use Rattle.automata_base.specs.declared.util.search.Direction.{Direction}
-use Rattle.automata_hybrid.specs.Cache.Caches.{CacheView, with_store}
+use Rattle.automata_hybrid.specs.Cache.Caches.{with_store}
 use Rattle.automata_hybrid.specs.Searches.PassState.{IsAt}
 use Rattle.automata_hybrid.specs.Searches.Progress.{before_last}
 use Rattle.automata_hybrid.specs.Cache.Stores.{with_searched}

@@ -1,6 +1,5 @@
 use Rattle.std.proofs.Common.{◌≡◌, ◌-◌, length, None, refl, sym, arith}
 use Rattle.automata_base.specs.declared.util.search.Direction.{Direction}
-use Rattle.automata_hybrid.specs.Searches.PassContracts.{IsRestEffect}
 use Rattle.automata_hybrid.specs.Searches.Passes.{tape_in}
 use Rattle.automata_hybrid.specs.Searches.Units.{IsStillProgress}
 use Rattle.automata_hybrid.proofs.Searches.Directions.{none_empty, units_in}

@@ -6,12 +6,11 @@ use Rattle.automata_base.specs.Haystacks.Input.{Allows, Input}
 use Rattle.automata_base.specs.Haystacks.Matches.{HalfMatch}
 use Rattle.automata_base.specs.declared.util.search.Direction.{Direction}
 use Rattle.automata_hybrid.specs.Cache.Caches.{CacheView, with_store, IsSoundOf}
-use Rattle.automata_hybrid.specs.Cache.Progress.{saturated, progress_started, total_len}
-use Rattle.automata_hybrid.specs.Cache.Stores.{Stored, with_searched}
+use Rattle.automata_hybrid.specs.Cache.Progress.{saturated, total_len}
+use Rattle.automata_hybrid.specs.Cache.Stores.{with_searched}
 use Rattle.automata_hybrid.specs.Machines.Machine.{Machine, slot_count}
-use Rattle.automata_hybrid.specs.Searches.PassContracts.{IsKnownUpto, IsPassEffect, IsRestEffect}
+use Rattle.automata_hybrid.specs.Searches.PassContracts.{IsKnownUpto}
 use Rattle.automata_hybrid.specs.Searches.Progress.{EndsAtLast, IsStoppedAt, with_search_begun, IsPassRun}
-use Rattle.automata_hybrid.specs.Searches.Passes.{tape_in}
 use Rattle.automata_hybrid.specs.Calls.Events.{Begin, with_progress}
 use Rattle.automata_hybrid.proofs.Searches.Directions.{begins_alive}
 use Rattle.automata_hybrid.proofs.Searches.KnownPasses.{known_ended}

@@ -7,10 +7,8 @@ use Rattle.automata_base.specs.Haystacks.Input.{Input}
 use Rattle.automata_base.specs.Haystacks.Matches.{HalfMatch}
 use Rattle.automata_base.specs.declared.util.search.Direction.{Direction}
 use Rattle.automata_base.specs.declared.util.search.Direction.TheVariants.{Forward}
-use Rattle.automata_hybrid.specs.Searches.Contracts.{IsSearchEffect, based_half}
-use Rattle.automata_hybrid.specs.Searches.Costs.{IsCostOfPasses, IsCostUpto}
+use Rattle.automata_hybrid.specs.Searches.Contracts.{based_half}
 use Rattle.automata_hybrid.specs.Searches.Passes.{Finds, IsFound, IsRefused, Skips, with_base}
-use Rattle.automata_hybrid.proofs.Cache.Growth.{grown_same}
 use Rattle.automata_hybrid.specs.Searches.PassContracts.{input_at}
 use Rattle.automata_hybrid.specs.Searches.Progress.{HaveTried, IsSearchRun}
 use Rattle.automata_hybrid.proofs.Searches.Directions.{later_none}

@@ -4,7 +4,6 @@ use Rattle.automata_hybrid.specs.Cache.Caches.{IsCacheOf}
 use Rattle.automata_hybrid.specs.Searches.Progress.{HaveEnded}
 use Rattle.automata_hybrid.specs.Searches.Passes.{Finds, Skips}
 use Rattle.automata_hybrid.specs.Machines.StartSlots.{supports}
-use Rattle.automata_hybrid.proofs.Searches.Costs.{AreCounted}
 use Rattle.automata_hybrid.proofs.Searches.Directions.{skipped}
 use Rattle.automata_hybrid.proofs.dfa.DFA.search_spans.Given as goal
 

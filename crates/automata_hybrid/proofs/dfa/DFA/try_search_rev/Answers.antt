@@ -1,5 +1,5 @@
 use Rattle.std.proofs.Common.{sym, ap, subst}
-use Rattle.std.specs.Prelude.{IfErr, IfOk}
+use Rattle.std.specs.Prelude.{IfErr}
 use Rattle.std.proofs.lemmas.Result.{IfErr-weaker, IfOk-weaker}
 use Rattle.automata_base.specs.Nfas.Nodes.{Automaton}
 use Rattle.automata_base.specs.declared.util.search.Direction.TheVariants.{Backward}
@@ -7,7 +7,7 @@ use Rattle.automata_base.specs.Answers.OfPasses.{ReportedEndsAreRight, ReportedI
 use Rattle.automata_base.specs.Answers.Within.{ReportedLiesWithin}
 use Rattle.automata_config.specs.Options.{match_kind_of}
 use Rattle.automata_hybrid.specs.Searches.Contracts.{IsHalf, IsSearchEffect, halves}
-use Rattle.automata_hybrid.specs.Searches.Passes.{IsFound, IsRefused, WithoutBase}
+use Rattle.automata_hybrid.specs.Searches.Passes.{IsFound, IsRefused}
 use Rattle.automata_hybrid.proofs.Searches.Follows.{search_follows}
 use Rattle.automata_hybrid.proofs.Searches.Reach.{refused_memory}
 use Rattle.automata_hybrid.proofs.Searches.Contracts.{halves_effect, halves_err, halves_ok, is_store}
