@@ -7,7 +7,6 @@ use Rattle.automata_base.specs.Haystacks.Input.{Input}
 use Rattle.automata_base.specs.Haystacks.Matches.{HalfMatch, Match}
 use Rattle.automata_base.specs.Nfas.Nodes.{nfa_of}
 use Rattle.automata_base.specs.Paths.Paths.{KeepsCycles}
-use Rattle.automata_base.specs.Haystacks.PatternSet.{members}
 use Rattle.automata_base.specs.Paths.Selections.{Pair}
 use Rattle.automata_base.specs.Answers.Spans.{AreSpans, IsMatch, IsSpan, Rise, TryFinds, from}
 use Rattle.automata_base.specs.declared.util.search.Direction.{Direction}
@@ -26,7 +25,7 @@ use Rattle.regex_automata.specs.Spans.Iteration.{AreCollected, IsBeginning, IsNe
 use Rattle.automata_hybrid.specs.Searches.Passes.{Skips}
 use Rattle.regex_automata.specs.Spans.IsMatch.{IsMatchReported, IsNearestThere, IsTruthFound}
 use Rattle.regex_automata.specs.Spans.Outcomes.{FindsMatch, MatchLiesIn}
-use Rattle.regex_automata.specs.Spans.Errors.{IsFree, IsOfMemory, IsRegexRefusal}
+use Rattle.regex_automata.specs.Spans.Errors.{IsFree, IsOfMemory}
 use Rattle.regex_automata.specs.Regexes.SoundPairs.{BothKeepCycles, IsSoundPair, forward_engine, reverse_engine}
 use Rattle.regex_automata.specs.declared.hybrid.regex.Regex.{Regex}
 use Rattle.regex_automata.specs.declared.hybrid.regex.caches.Cache.{Cache}

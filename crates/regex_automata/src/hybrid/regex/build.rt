@@ -2,8 +2,6 @@ ghost use Rattle.std.specs.Prelude.{◌≡◌, ◌↔◌, IfOk, IfErr, IsTrue, l
 ghost use Rattle.automata_base.specs.Nfas.Engines.{engine_of};
 ghost use Rattle.automata_base.specs.Nfas.Getters.{SkipsLazily};
 ghost use Rattle.automata_base.specs.Nfas.Mirrors.{IsReversed};
-ghost use Rattle.automata_base.specs.Nfas.Nodes.{Automaton, nfa_of};
-ghost use Rattle.automata_base.specs.Paths.Paths.{KeepsCycles};
 ghost use Rattle.automata_base.specs.declared.util.search.Direction.TheVariants.{Forward};
 ghost use Rattle.automata_base.specs.Answers.TruePairs.{IsTruePair, KeepsUtf8};
 ghost use Rattle.automata_config.specs.Options.{Options, unset, overwritten};
