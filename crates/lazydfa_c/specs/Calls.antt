@@ -62,12 +62,23 @@ OfObject Does (CacheObject s) (RegexObject r) status = ⊥
 OfObject Does (Builder b) new status = (new ≡ Builder b) × (status ≡ plain code.Kind)
 OfObject Does (RegexObject r) new status = (new ≡ RegexObject r) × (status ≡ plain code.Kind)
 
--- a call on a handle: of one that is open, on its object, which is put back; a closed one is reported
-pub record OfHandle (Does : Searcher → Searcher → Status → Type 0) (old new : Handle) (status : Status) : Type 0 where
+-- a call on a handle, which does this to the object of one that is open, and puts it back; a closed one is reported
+pub record OnHandle {R : Type 0}
+    (Does : Object → Object → R → Type 0) (is_closed : R) (old new : Handle) (result : R)
+    : Type 0 where
   pub opened :
       (o : Object) → old.live ≡ 1 → old.slot.value ≡ Some o
-      → (new.live ≡ 1) × IsSomeAnd new.slot.value (λ p. OfObject Does o p status)
-  pub closed : (old.live ≡ 1 → ⊥) → (new.live ≡ 0) × (status ≡ plain code.Closed)
+      → (new.live ≡ 1) × IsSomeAnd new.slot.value (λ p. Does o p result)
+  pub closed : (old.live ≡ 1 → ⊥) → (new.live ≡ 0) × (result ≡ is_closed)
+
+-- a call for a cache
+abbrev pub OfHandle : (Does : Searcher → Searcher → Status → Type 0) → (old new : Handle) → Status → Type 0
+OfHandle Does old new status = OnHandle (OfObject Does) (plain code.Closed) old new status
+
+-- a call that makes this of the object of a handle, which it puts back as it was
+abbrev pub Reads : {A : Type 0} → (Makes : Object → Result A Status → Type 0)
+    → (old new : Handle) → Result A Status → Type 0
+Reads Makes old new result = OnHandle (λ o p r. (p ≡ o) × Makes o r) (Err (plain code.Closed)) old new result
 
 -- `lazydfa_find`: the result of `Regex::find`, with its promises, is told
 pub record Finds (found : Found) (input : Input) (s t : Searcher) (status : Status) : Type 0 where
