@@ -1,5 +1,6 @@
 mod Codes
 mod Errors
 mod Slots
+mod States
 mod Values
 mod Written

@@ -1,13 +1,19 @@
 -- What the calls make that open a handle on a regex or on a cache, and why they fail.
-use Rattle.std.specs.Prelude.{◌≡◌, Bool, false, true, length, replicate, Some, IsSomeAnd, Result, Ok, Err}
+use Rattle.std.specs.Prelude.{◌≡◌, Bool, false, true, length, replicate, Some, IsSomeAnd, Result, Ok, Err, ℕ, zero}
+use Rattle.std.specs.Prelude.{suc, ◌⊎◌, ◌==◌, ◌&&◌, not, List, [], ◌∷◌, Option, None, IsTrue, IsFalse, if◌then◌else◌}
+use Rattle.std.specs.Prelude.{slice_set}
+use Rattle.automata_base.specs.Nfas.Drafts.{Draft}
 use Rattle.automata_base.specs.Nfas.Nodes.{Automaton}
-use Rattle.automata_config.specs.Options.{Options}
+use Rattle.automata_base.specs.declared.util.search.MatchKind.{MatchKind}
+use Rattle.automata_base.specs.declared.util.search.MatchKind.TheVariants.{All, LeftmostFirst}
+use Rattle.automata_config.specs.Options.{Options, overwritten, quits_of, unset}
 use Rattle.automata_config.specs.declared.error.BuildError.{BuildError}
 use Rattle.regex_automata.specs.Regexes.Builds.{BuildsOne, BuildsPair, IsRefusal, pair_refusal}
 use Rattle.regex_automata.specs.Regexes.Caches.{AreFresh}
 use Rattle.regex_automata.specs.declared.hybrid.regex.Regex.{Regex}
 use Rattle.regex_automata.specs.declared.hybrid.regex.build.RegexBuildError.{RegexBuildError}
-use Rattle.lazydfa_c.specs.Calls.{regex_of}
+use Rattle.lazydfa_c.specs.Calls.{Reads, regex_of}
+use Rattle.lazydfa_c.specs.Drafts.{MakesNfa, is_state}
 use Rattle.lazydfa_c.specs.Handles.{is_open}
 use Rattle.lazydfa_c.specs.Statuses.{build_status, done_status, plain, regex_status}
 use Rattle.lazydfa_c.specs.declared.code.Code.TheVariants as code
@@ -16,6 +22,8 @@ use Rattle.lazydfa_c.specs.declared.object.Object.{Object}
 use Rattle.lazydfa_c.specs.declared.object.Object.TheVariants.{Builder, Regex as RegexObject, Searcher as CacheObject}
 use Rattle.lazydfa_c.specs.declared.object.Searcher.{Searcher}
 use Rattle.lazydfa_c.specs.declared.object.Shared.{Shared}
+use Rattle.lazydfa_c.specs.declared.regex.StartStates.{StartStates}
+use Rattle.lazydfa_c.specs.declared.settings.Settings.{Settings}
 use Rattle.lazydfa_c.specs.declared.status.Status.{Status}
 
 -- what `build_from_nfa` returns of an NFA: the regex of it, which then keeps unions if it has a look cycle, and of its
@@ -47,6 +55,118 @@ pub record IsRegexIn (regex : Regex) (is_sound : Bool) (handle : Handle) : Type 
   pub opened : handle.live ≡ 1
   pub object : IsSomeAnd handle.slot.value (IsRegexObject regex is_sound)
 
+-- the NFA of a builder with these starts, or why there is none
+abbrev pub are_starts : StartStates → Bool
+are_starts starts = is_state starts.anchored && is_state starts.unanchored
+
+abbrev pub IsNfaOf : StartStates → Draft → Result Automaton Status → Type 0
+IsNfaOf starts draft result =
+    (IsTrue (are_starts starts) × MakesNfa draft starts.anchored starts.unanchored result)
+    ⊎ (IsFalse (are_starts starts) × (result ≡ Err (plain code.Argument)))
+
+abbrev pub IsNfaIn : StartStates → Object → Result Automaton Status → Type 0
+IsNfaIn starts (Builder draft) result = IsNfaOf starts draft result
+IsNfaIn starts (RegexObject r) result = result ≡ Err (plain code.Kind)
+IsNfaIn starts (CacheObject s) result = result ≡ Err (plain code.Kind)
+
+-- the settings that C gave, as options: a number of a match kind that is none is reported
+abbrev pub kind_of : ℕ → Result MatchKind Status
+kind_of zero = Ok LeftmostFirst
+kind_of (suc zero) = Ok All
+kind_of (suc (suc n)) = Err (plain code.Argument)
+
+-- a number that C gave, if it counts
+abbrev pub number_if : (has number : ℕ) → Option ℕ
+number_if has number = if has == 0 then None else Some number
+
+abbrev pub limit_if : (has number : ℕ) → Option (Option ℕ)
+limit_if has number = if has == 0 then None else Some (Some number)
+
+-- the options with these quit bytes as well
+abbrev pub with_quits : Options → List ℕ → Options
+with_quits o [] = o
+with_quits o (byte ∷ bytes) = with_quits (record o { quits = Some (slice_set (quits_of o) byte true) }) bytes
+
+abbrev pub options_in : Settings → MatchKind → Options
+options_in s kind = record {
+  match_kind = Some kind;
+  starts_for_each_pattern = Some (not (s.starts_for_each_pattern == 0));
+  byte_classes = Some (s.no_byte_classes == 0);
+  unicode_word_boundary = Some (not (s.unicode_word_boundary == 0));
+  quits = None;
+  specialize_start_states = Some (not (s.specialize_start_states == 0));
+  cache_capacity = number_if s.has_cache_capacity s.cache_capacity;
+  skip_cache_capacity_check = Some (not (s.skip_cache_capacity_check == 0));
+  minimum_cache_clear_count = limit_if s.has_minimum_cache_clear_count s.minimum_cache_clear_count;
+  minimum_bytes_per_state = limit_if s.has_minimum_bytes_per_state s.minimum_bytes_per_state;
+}
+
+abbrev pub options_of : Settings → (quits : List ℕ) → Result MatchKind Status → Result Options Status
+options_of s quits (Ok kind) = Ok (with_quits (options_in s kind) quits)
+options_of s quits (Err e) = Err e
+
+-- a handle is opened on the regex that the library's call returned, or the error of that call is told, or that there is
+-- no memory for the handle's object
+abbrev pub OpensRegex : (Makes : Regex → Type 0) → (Refuses : Status → Type 0) → (is_sound : Bool)
+    → (old new : Handle) → Result (Unit {0}) Status → Type 0
+OpensRegex Makes Refuses is_sound old new (Ok u) = (regex : Regex) × Makes regex × IsRegexIn regex is_sound new
+OpensRegex Makes Refuses is_sound old new (Err e) = (new ≡ old) × (Refuses e ⊎ (e ≡ plain code.Memory))
+
+-- the same of an NFA, if there is one
+abbrev pub OpensOf : Options → (old new : Handle) → Result Automaton Status → Result (Unit {0}) Status → Type 0
+OpensOf o old new (Ok nfa) done = OpensRegex (IsRegexOf o nfa) (IsRegexRefusal o nfa) true old new done
+OpensOf o old new (Err e) done = (new ≡ old) × (done ≡ Err e)
+
+-- and of two
+abbrev pub OpensPair : Options → (old new : Handle) → Automaton → Result Automaton Status
+    → Result (Unit {0}) Status → Type 0
+OpensPair o old new forward (Ok reverse) done =
+    OpensRegex (IsPairOf o forward reverse) (IsPairRefusal o forward reverse) false old new done
+OpensPair o old new forward (Err e) done = (new ≡ old) × (done ≡ Err e)
+
+-- a regex of the NFA of a builder, which is put back
+abbrev pub OpensIn : Options → StartStates → (old new from left : Handle) → Result (Unit {0}) Status → Type 0
+OpensIn o starts old new from left done =
+    (nfa : Result Automaton Status) × Reads (IsNfaIn starts) from left nfa × OpensOf o old new nfa done
+
+-- a regex of the NFAs of two builders, of which the second is read only if the first gave its NFA
+abbrev pub OpensAfter : Options → StartStates → (old new from left : Handle) → Result Automaton Status
+    → Result (Unit {0}) Status → Type 0
+OpensAfter o starts old new from left (Ok forward) done =
+    (reverse : Result Automaton Status) × Reads (IsNfaIn starts) from left reverse × OpensPair o old new forward reverse done
+OpensAfter o starts old new from left (Err e) done = (new ≡ old) × (left ≡ from) × (done ≡ Err e)
+
+abbrev pub OpensPairIn : Options → (forward reverse : StartStates) → (old new : Handle)
+    → (from left : Handle) → (from_reverse left_reverse : Handle) → Result (Unit {0}) Status → Type 0
+OpensPairIn o forward reverse old new from left from_reverse left_reverse done =
+    (nfa : Result Automaton Status) × Reads (IsNfaIn forward) from left nfa
+    × OpensAfter o reverse old new from_reverse left_reverse nfa done
+
+-- a regex is asked for with options: over a handle that is open, and without options, nothing is done
+abbrev pub WithOptions : (Does : Options → Result (Unit {0}) Status → Type 0) → (Stays : Type 0) → (is_taken : Bool)
+    → Result Options Status → Result (Unit {0}) Status → Type 0
+WithOptions Does Stays true options done = Stays × (done ≡ Err (plain code.Open))
+WithOptions Does Stays false (Ok o) done = Does (overwritten unset o) done
+WithOptions Does Stays false (Err e) done = Stays × (done ≡ Err e)
+
+-- `lazydfa_regex_build`
+abbrev pub BuildsRegex : Settings → (quits : List ℕ) → StartStates → (old new from left : Handle) → Status → Type 0
+BuildsRegex settings quits starts old new from left status =
+    (done : Result (Unit {0}) Status)
+    × WithOptions (λ o d. OpensIn o starts old new from left d) ((new ≡ old) × (left ≡ from)) (is_open old.live)
+    (options_of settings quits (kind_of settings.match_kind)) done
+    × (status ≡ done_status done)
+
+-- `lazydfa_regex_build_pair`
+abbrev pub BuildsRegexPair : Settings → (quits : List ℕ) → (forward reverse : StartStates) → (old new : Handle)
+    → (from left : Handle) → (from_reverse left_reverse : Handle) → Status → Type 0
+BuildsRegexPair settings quits forward reverse old new from left from_reverse left_reverse status =
+    (done : Result (Unit {0}) Status)
+    × WithOptions (λ o d. OpensPairIn o forward reverse old new from left from_reverse left_reverse d)
+    ((new ≡ old) × (left ≡ from) × (left_reverse ≡ from_reverse)) (is_open old.live)
+    (options_of settings quits (kind_of settings.match_kind)) done
+    × (status ≡ done_status done)
+
 -- the regex of an object is shared, if it is one and there is memory
 abbrev pub IsShareOf : Object → Result Shared Status → Type 0
 IsShareOf (RegexObject r) (Ok s) = s.regex.value ≡ r.regex.value
@@ -54,12 +174,9 @@ IsShareOf (RegexObject r) (Err status) = status ≡ plain code.Memory
 IsShareOf (Builder b) result = result ≡ Err (plain code.Kind)
 IsShareOf (CacheObject s) result = result ≡ Err (plain code.Kind)
 
--- the regex of a handle is shared; the object is put back, and a handle that was not open is reported
-pub record SharesRegex (old new : Handle) (result : Result Shared Status) : Type 0 where
-  pub opened :
-      (o : Object) → old.live ≡ 1 → old.slot.value ≡ Some o
-      → (new.live ≡ 1) × (new.slot.value ≡ Some o) × IsShareOf o result
-  pub closed : (old.live ≡ 1 → ⊥) → (new.live ≡ 0) × (result ≡ Err (plain code.Closed))
+-- the regex of a handle is shared
+abbrev pub SharesRegex : (old new : Handle) → Result Shared Status → Type 0
+SharesRegex old new result = Reads IsShareOf old new result
 
 -- a fresh cache of a regex, with an empty set for all its patterns
 pub record IsFreshOf (regex : Regex) (s : Searcher) : Type 0 where

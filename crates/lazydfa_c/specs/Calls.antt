@@ -1,17 +1,12 @@
 -- What the calls for a cache do, each seen by the cache before and after it and by the status that it returns.
 use Rattle.std.specs.Prelude.{ℕ, ◌≡◌, ◌==◌, Bool, true, false, List}
-use Rattle.std.specs.Prelude.{Option, Some, None, Result, Ok, Err, IfErr, IfOk, IsSomeAnd, OnOk, if◌then◌else◌}
+use Rattle.std.specs.Prelude.{Option, Some, None, Result, Ok, Err, IfErr, IfOk, IsSomeAnd, if◌then◌else◌}
 use Rattle.automata_config.specs.declared.error.SearchError.{SearchError}
 use Rattle.automata_hybrid.specs.Searches.Contracts.{IsSearchEffect}
-use Rattle.automata_hybrid.specs.Searches.Passes.{IsRefused}
 use Rattle.automata_hybrid.specs.Walks.Contracts.{IsWhichEffect}
-use Rattle.automata_hybrid.specs.Walks.Sets.{IsWhichRefusal}
-use Rattle.regex_automata.specs.Promises.{Backward, FindsMatch, Forward, HalfMatch, Input, IsFound, IsHalf, IsSpanEffect}
-use Rattle.regex_automata.specs.Promises.{IsSpanOf, IsTruthEffect, IsTruthOf, IsTruthReported, IsWhich}
-use Rattle.regex_automata.specs.Promises.{JoinsReported, Match, WithoutBase}
+use Rattle.regex_automata.specs.Promises.{Backward, Forward, HalfMatch, Input, IsHalf, IsSpanEffect, IsSpanOf}
+use Rattle.regex_automata.specs.Promises.{IsTruthEffect, IsTruthOf, IsWhich, Match}
 use Rattle.regex_automata.specs.Spans.Effects.{IsNextEffect}
-use Rattle.regex_automata.specs.Spans.Errors.{IsRegexRefusal}
-use Rattle.regex_automata.specs.Spans.IsMatch.{IsMatchRefused}
 use Rattle.regex_automata.specs.Spans.Iteration.{IsNextMatch, IsNextRefusal}
 use Rattle.regex_automata.specs.Tokens.{GivesToken, IsTokenEffect}
 use Rattle.regex_automata.specs.Tokens.{match_of as token_match}
@@ -67,20 +62,29 @@ OfObject Does (CacheObject s) (RegexObject r) status = ⊥
 OfObject Does (Builder b) new status = (new ≡ Builder b) × (status ≡ plain code.Kind)
 OfObject Does (RegexObject r) new status = (new ≡ RegexObject r) × (status ≡ plain code.Kind)
 
--- a call on a handle: of one that is open, on its object, which is put back; a closed one is reported
-pub record OfHandle (Does : Searcher → Searcher → Status → Type 0) (old new : Handle) (status : Status) : Type 0 where
+-- a call on a handle, which does this to the object of one that is open, and puts it back; a closed one is reported
+pub record OnHandle {R : Type 0}
+    (Does : Object → Object → R → Type 0) (is_closed : R) (old new : Handle) (result : R)
+    : Type 0 where
   pub opened :
       (o : Object) → old.live ≡ 1 → old.slot.value ≡ Some o
-      → (new.live ≡ 1) × IsSomeAnd new.slot.value (λ p. OfObject Does o p status)
-  pub closed : (old.live ≡ 1 → ⊥) → (new.live ≡ 0) × (status ≡ plain code.Closed)
+      → (new.live ≡ 1) × IsSomeAnd new.slot.value (λ p. Does o p result)
+  pub closed : (old.live ≡ 1 → ⊥) → (new.live ≡ 0) × (result ≡ is_closed)
+
+-- a call for a cache
+abbrev pub OfHandle : (Does : Searcher → Searcher → Status → Type 0) → (old new : Handle) → Status → Type 0
+OfHandle Does old new status = OnHandle (OfObject Does) (plain code.Closed) old new status
+
+-- a call that makes this of the object of a handle, which it puts back as it was
+abbrev pub Reads : {A : Type 0} → (Makes : Object → Result A Status → Type 0)
+    → (old new : Handle) → Result A Status → Type 0
+Reads Makes old new result = OnHandle (λ o p r. (p ≡ o) × Makes o r) (Err (plain code.Closed)) old new result
 
 -- `lazydfa_find`: the result of `Regex::find`, with its promises, is told
 pub record Finds (found : Found) (input : Input) (s t : Searcher) (status : Status) : Type 0 where
   pub result : Result (Option Match) SearchError
   pub told : IsTold (match_of found) result status
   pub returned : IsSpanOf (regex_of s) input result
-  pub passes : IfOk result (FindsMatch (regex_of s) input)
-  pub refusal : IfErr result (IsRegexRefusal (regex_of s) t.cache input)
   pub effect : IsSpanEffect (regex_of s) input s.cache t.cache result
   pub same : t.shared ≡ s.shared
 
@@ -89,8 +93,6 @@ pub record Tests (input : Input) (s t : Searcher) (status : Status) : Type 0 whe
   pub result : Result Bool SearchError
   pub told : IsTruthTold result status
   pub returned : IsTruthOf (regex_of s) input result
-  pub passes : IfOk result (IsTruthReported (regex_of s).forward input)
-  pub refusal : IfErr result (IsMatchRefused (regex_of s).forward t.cache.forward.store input)
   pub effect : IsTruthEffect (regex_of s) input s.cache t.cache result
   pub same : t.shared ≡ s.shared
 
@@ -99,8 +101,6 @@ pub record FindsEnd (found : FoundHalf) (input : Input) (s t : Searcher) (status
   pub result : Result (Option HalfMatch) SearchError
   pub told : IsTold (half_of found) result status
   pub returned : IsHalf Forward (regex_of s).forward input result
-  pub passes : IfOk result (WithoutBase (IsFound Forward (regex_of s).forward input))
-  pub refusal : IfErr result (IsRefused Forward (regex_of s).forward t.cache.forward.store input)
   pub effect : IsSearchEffect Forward (regex_of s).forward input s.cache.forward t.cache.forward result
   pub reverse : t.cache.reverse ≡ s.cache.reverse
   pub same : t.shared ≡ s.shared
@@ -110,8 +110,6 @@ pub record FindsStart (found : FoundHalf) (input : Input) (s t : Searcher) (stat
   pub result : Result (Option HalfMatch) SearchError
   pub told : IsTold (half_of found) result status
   pub returned : IsHalf Backward (regex_of s).reverse input result
-  pub passes : IfOk result (WithoutBase (IsFound Backward (regex_of s).reverse input))
-  pub refusal : IfErr result (IsRefused Backward (regex_of s).reverse t.cache.reverse.store input)
   pub effect : IsSearchEffect Backward (regex_of s).reverse input s.cache.reverse t.cache.reverse result
   pub forward : t.cache.forward ≡ s.cache.forward
   pub same : t.shared ≡ s.shared
@@ -179,9 +177,6 @@ pub record Joins (set : List Bool) (input : Input) (s t : Searcher) (status : St
   pub result : Result (Unit {0}) SearchError
   pub told : IsDoneTold result status
   pub returned : IsWhich (regex_of s).forward input set t.patterns result
-  pub passes : OnOk result (JoinsReported (regex_of s).forward input set t.patterns)
-  pub refusal :
-      IfErr result (IsWhichRefusal (regex_of s).forward t.cache.forward.store input set t.patterns)
   pub effect : IsWhichEffect (regex_of s).forward input set s.cache.forward t.cache.forward result
   pub reverse : t.cache.reverse ≡ s.cache.reverse
   pub same : t.shared ≡ s.shared

@@ -2,6 +2,7 @@ pub mod Builds
 pub mod Caches
 pub mod Calls
 pub mod Codes
+pub mod Drafts
 pub mod Errors
 pub mod Handles
 pub mod Held

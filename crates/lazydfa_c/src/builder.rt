@@ -1,11 +1,21 @@
 //! NFAs, state by state.
+ghost use Rattle.std.specs.Prelude.{◌≡◌, ◌⊎◌, ◌==◌, not, IfErr, IfOk, IsFalse, IsTrue, map, nat_lt};
+ghost use Rattle.automata_base.specs.Haystacks.LookSets.{nth_look};
+ghost use Rattle.lazydfa_c.specs.Drafts.{Adds, AddsTo, Changes, ChangesDraft, ChangesPattern, CreatesDraft, IsNumberTold};
+ghost use Rattle.lazydfa_c.specs.Drafts.{NewsDraft, OfBuilder, OfDraft, OpensDraft, are_states, is_state, lead_on, state_of};
+ghost use Rattle.lazydfa_c.specs.Drafts.{told_by, transition_of, zeroed};
+ghost use Rattle.lazydfa_c.specs.Statuses.{plain};
+ghost use Rattle.lazydfa_c.specs.declared.builder.Added.TheVariants as add;
+ghost use Rattle.lazydfa_c.specs.declared.builder.Change.TheVariants as change;
+ghost use Rattle.lazydfa_c.specs.declared.code.Code.TheVariants as code;
+
 use crate::code::Code;
 use crate::handle::Handle;
 use crate::object::Object;
 use crate::status::Status;
-use regex_automata::nfa::thompson::{Builder, Transition};
+use regex_automata::nfa::thompson::{BuildError, Builder, Transition};
 use regex_automata::util::look::Look;
-use regex_automata::util::primitives::StateID;
+use regex_automata::util::primitives::{PatternID, StateID};
 use std::alloc::Global;
 
 /// A range of bytes and the state that it leads to.
@@ -34,8 +44,10 @@ enum Added<'a> {
     UnanchoredPrefix { start: u32 },
 }
 
-/// The ID of the state of this number. It fails with `Code::Argument` if there is no such ID.
-pub fn state_id(number: u32) -> Result<StateID, Status> {
+/// A state's ID, if the number is one.
+pub fn state_id(number: u32) -> Result<StateID, Status>
+    ensures { result ≡ state_of number }
+{
     match StateID::new(number as usize) {
         Some(id) => Ok(id),
         None => Err(Status::from(Code::Argument)),
@@ -43,7 +55,12 @@ pub fn state_id(number: u32) -> Result<StateID, Status> {
 }
 
 /// The IDs of the states of these numbers. It fails with `Code::Argument` at a number that is no ID.
-fn state_ids(alloc: Global, numbers: &[u32]) -> Result<Vec<StateID>, Status> {
+fn state_ids(alloc: Global, numbers: &[u32]) -> Result<Vec<StateID>, Status>
+    ensures ok { IfOk result (λ ids. ids.items ≡ numbers.now) }
+    ensures states { IfOk result (λ ids. IsTrue (are_states numbers.now)) }
+    ensures err { IfErr result (λ s. (s ≡ plain code.Memory)
+        ⊎ ((s ≡ plain code.Argument) × IsFalse (are_states numbers.now))) }
+{
     let mut ids = Vec::new(alloc);
     for number in numbers {
         let id = state_id(*number)?;
@@ -53,7 +70,11 @@ fn state_ids(alloc: Global, numbers: &[u32]) -> Result<Vec<StateID>, Status> {
 }
 
 /// The transition of an edge as C lays it out. It fails with `Code::Argument` if the number of its state is no ID.
-fn transition(edge: Edge) -> Result<Transition, Status> {
+fn transition(edge: Edge) -> Result<Transition, Status>
+    ensures ok { IfOk result (λ t. t ≡ transition_of edge) }
+    ensures state { IfOk result (λ t. IsTrue (is_state edge.next)) }
+    ensures err { IfErr result (λ s. (s ≡ plain code.Argument) × IsFalse (is_state edge.next)) }
+{
     let next = state_id(edge.next)?;
     Ok(Transition {
         lo: edge.lo,
@@ -64,7 +85,12 @@ fn transition(edge: Edge) -> Result<Transition, Status> {
 
 /// The transitions of edges as C lays them out, in their order. It fails with `Code::Argument` if the number of a state
 /// is no ID.
-fn transitions(alloc: Global, edges: &[Edge]) -> Result<Vec<Transition>, Status> {
+fn transitions(alloc: Global, edges: &[Edge]) -> Result<Vec<Transition>, Status>
+    ensures ok { IfOk result (λ ts. ts.items ≡ map transition_of edges.now) }
+    ensures states { IfOk result (λ ts. IsTrue (lead_on edges.now)) }
+    ensures err { IfErr result (λ s. (s ≡ plain code.Memory)
+        ⊎ ((s ≡ plain code.Argument) × IsFalse (lead_on edges.now))) }
+{
     let mut transitions = Vec::new(alloc);
     for edge in edges {
         let transition = transition(*edge)?;
@@ -74,7 +100,11 @@ fn transitions(alloc: Global, edges: &[Edge]) -> Result<Vec<Transition>, Status>
 }
 
 /// The look of this number. It fails with `Code::Argument` if the number is not below 18.
-fn look_of(number: u32) -> Result<Look, Status> {
+fn look_of(number: u32) -> Result<Look, Status>
+    ensures ok { IfOk result (λ l. l ≡ nth_look number) }
+    ensures look { IfOk result (λ l. IsTrue (nat_lt number 18)) }
+    ensures err { IfErr result (λ s. (s ≡ plain code.Argument) × IsFalse (nat_lt number 18)) }
+{
     if number < 18 {
         Ok(Look::from_index(number))
     } else {
@@ -82,44 +112,99 @@ fn look_of(number: u32) -> Result<Look, Status> {
     }
 }
 
-/// Adds a state to a builder, and returns its ID. It fails with `Code::Argument` if a number is no ID or no look, and
-/// else with the status of the builder's error.
-fn add_to(alloc: Global, builder: &mut Builder, added: Added<'_>) -> Result<StateID, Status> {
-    let id = match added {
-        Added::Empty => builder.add_empty()?,
-        Added::Range(edge) => builder.add_range(transition(edge)?)?,
-        Added::Sparse(edges) => builder.add_sparse(transitions(alloc, edges)?)?,
-        Added::Look { look, next } => builder.add_look(state_id(next)?, look_of(look)?)?,
-        Added::Union(alternates) => builder.add_union(state_ids(alloc, alternates)?)?,
-        Added::UnionReverse(alternates) => {
-            builder.add_union_reverse(state_ids(alloc, alternates)?)?
-        }
-        Added::CaptureStart { next, group } => builder.add_capture_start(state_id(next)?, group)?,
-        Added::CaptureEnd { next, group } => builder.add_capture_end(state_id(next)?, group)?,
-        Added::Fail => builder.add_fail()?,
-        Added::Match => builder.add_match()?,
-        Added::UnanchoredPrefix { start } => builder.add_unanchored_prefix(state_id(start)?)?,
-    };
-    Ok(id)
+fn told_state(answer: Result<StateID, BuildError>) -> Result<u32, Status>
+    ensures { result ≡ told_by answer }
+{
+    match answer {
+        Ok(id) => Ok(id.as_u32()),
+        Err(error) => Err(Status::from(error)),
+    }
 }
 
-/// Adds a state to the builder behind a handle, and writes its ID.
-fn add(alloc: Global, handle: &mut Handle, added: Added<'_>, id: &mut u32) -> Status {
-    let Some(mut object) = handle.take(alloc) else {
-        return Status::from(Code::Closed);
-    };
-    let result = match object.as_mut() {
+fn told_pattern(answer: Result<PatternID, BuildError>) -> Result<u32, Status>
+    ensures { result ≡ told_by answer }
+{
+    match answer {
+        Ok(pattern) => Ok(pattern.as_u32()),
+        Err(error) => Err(Status::from(error)),
+    }
+}
+
+fn told_done(answer: Result<(), BuildError>) -> Result<u32, Status>
+    ensures { result ≡ told_by (zeroed answer) }
+{
+    match answer {
+        Ok(()) => Ok(0),
+        Err(error) => Err(Status::from(error)),
+    }
+}
+
+fn add_to(alloc: Global, builder: &mut Builder, added: Added<'_>) -> Result<u32, Status>
+    ensures { AddsTo added.entry builder.old builder.new result }
+{
+    match added {
+        Added::Empty => told_state(builder.add_empty()),
+        Added::Range(edge) => told_state(builder.add_range(transition(edge)?)),
+        Added::Sparse(edges) => told_state(builder.add_sparse(transitions(alloc, edges)?)),
+        Added::Look { look, next } => {
+            told_state(builder.add_look(state_id(next)?, look_of(look)?))
+        }
+        Added::Union(alternates) => told_state(builder.add_union(state_ids(alloc, alternates)?)),
+        Added::UnionReverse(alternates) => {
+            told_state(builder.add_union_reverse(state_ids(alloc, alternates)?))
+        }
+        Added::CaptureStart { next, group } => {
+            told_state(builder.add_capture_start(state_id(next)?, group))
+        }
+        Added::CaptureEnd { next, group } => {
+            told_state(builder.add_capture_end(state_id(next)?, group))
+        }
+        Added::Fail => told_state(builder.add_fail()),
+        Added::Match => told_state(builder.add_match()),
+        Added::UnanchoredPrefix { start } => {
+            told_state(builder.add_unanchored_prefix(state_id(start)?))
+        }
+    }
+}
+
+fn add_in(alloc: Global, object: &mut Object, added: Added<'_>) -> Result<u32, Status>
+    ensures { OfBuilder (AddsTo added.entry) object.old object.new result }
+{
+    match object {
         Object::Builder(builder) => add_to(alloc, builder, added),
         Object::Regex(_) | Object::Searcher(_) => Err(Status::from(Code::Kind)),
+    }
+}
+
+fn add_behind(alloc: Global, handle: &mut Handle, added: Added<'_>) -> Result<u32, Status>
+    ensures { OfDraft (AddsTo added.entry) handle.old handle.new result }
+{
+    let Some(mut object) = handle.take(alloc) else {
+        return Err(Status::from(Code::Closed));
     };
+    let result = add_in(alloc, object.as_mut(), added);
     handle.put(object);
-    match result {
-        Ok(added) => {
-            *id = added.as_u32();
+    result
+}
+
+/// Writes the number of a result, and returns its status.
+fn tell(answer: Result<u32, Status>, number: &mut u32) -> Status
+    ensures { IsNumberTold number.old number.new answer result }
+{
+    match answer {
+        Ok(it) => {
+            *number = it;
             Status::from(Code::Done)
         }
         Err(status) => status,
     }
+}
+
+/// Adds a state to the builder behind a handle, and writes its ID.
+fn add(alloc: Global, handle: &mut Handle, added: Added<'_>, id: &mut u32) -> Status
+    ensures { Adds added.entry id.old id.new handle.old handle.new result }
+{
+    tell(add_behind(alloc, handle, added), id)
 }
 
 /// A change of a builder that adds no state.
@@ -134,15 +219,19 @@ enum Change {
     LineTerminator(u8),
 }
 
-/// Changes a builder, and returns the number of a pattern if the change starts or finishes one, and 0 otherwise.
-fn change_in(builder: &mut Builder, change: Change) -> Result<u32, Status> {
+/// Changes a builder, and returns a pattern where the change has one.
+fn change_to(builder: &mut Builder, change: Change) -> Result<u32, Status>
+    ensures { Changes change builder.old builder.new result }
+{
     match change {
         Change::Clear => builder.clear(),
-        Change::StartPattern => return Ok(builder.start_pattern()?.as_u32()),
+        Change::StartPattern => return told_pattern(builder.start_pattern()),
         Change::FinishPattern { start } => {
-            return Ok(builder.finish_pattern(state_id(start)?)?.as_u32());
+            return told_pattern(builder.finish_pattern(state_id(start)?));
         }
-        Change::Patch { from, to } => builder.patch(state_id(from)?, state_id(to)?)?,
+        Change::Patch { from, to } => {
+            return told_done(builder.patch(state_id(from)?, state_id(to)?));
+        }
         Change::Utf8(yes) => builder.set_utf8(yes),
         Change::Reverse(yes) => builder.set_reverse(yes),
         Change::LineTerminator(byte) => builder.set_line_terminator(byte),
@@ -150,23 +239,31 @@ fn change_in(builder: &mut Builder, change: Change) -> Result<u32, Status> {
     Ok(0)
 }
 
-/// Changes the builder behind a handle, and returns the number of a pattern if the change starts or finishes one. It
-/// fails if the handle is closed or owns no builder.
-fn do_change(alloc: Global, handle: &mut Handle, change: Change) -> Result<u32, Status> {
+fn change_in(object: &mut Object, change: Change) -> Result<u32, Status>
+    ensures { OfBuilder (Changes change) object.old object.new result }
+{
+    match object {
+        Object::Builder(builder) => change_to(builder, change),
+        Object::Regex(_) | Object::Searcher(_) => Err(Status::from(Code::Kind)),
+    }
+}
+
+fn change_behind(alloc: Global, handle: &mut Handle, change: Change) -> Result<u32, Status>
+    ensures { OfDraft (Changes change) handle.old handle.new result }
+{
     let Some(mut object) = handle.take(alloc) else {
         return Err(Status::from(Code::Closed));
     };
-    let result = match object.as_mut() {
-        Object::Builder(builder) => change_in(builder, change),
-        Object::Regex(_) | Object::Searcher(_) => Err(Status::from(Code::Kind)),
-    };
+    let result = change_in(object.as_mut(), change);
     handle.put(object);
     result
 }
 
 /// Changes the builder behind a handle. The status says whether it was changed, and if not, why.
-fn changed(alloc: Global, handle: &mut Handle, wanted: Change) -> Status {
-    match do_change(alloc, handle, wanted) {
+fn changed(alloc: Global, handle: &mut Handle, wanted: Change) -> Status
+    ensures { ChangesDraft wanted handle.old handle.new result }
+{
+    match change_behind(alloc, handle, wanted) {
         Ok(_) => Status::from(Code::Done),
         Err(status) => status,
     }
@@ -174,40 +271,43 @@ fn changed(alloc: Global, handle: &mut Handle, wanted: Change) -> Status {
 
 /// Changes the builder behind a handle by starting or finishing a pattern, and writes the pattern's number. After an
 /// error nothing is written.
-fn changed_pattern(
-    alloc: Global,
-    handle: &mut Handle,
-    wanted: Change,
-    pattern: &mut u32,
-) -> Status {
-    match do_change(alloc, handle, wanted) {
-        Ok(number) => {
-            *pattern = number;
-            Status::from(Code::Done)
-        }
-        Err(status) => status,
-    }
+fn changed_pattern(alloc: Global, handle: &mut Handle, wanted: Change, pattern: &mut u32) -> Status
+    ensures { ChangesPattern wanted pattern.old pattern.new handle.old handle.new result }
+{
+    tell(change_behind(alloc, handle, wanted), pattern)
 }
 
-/// Opens a handle on a builder without states. It fails with `Code::Open` if the handle is open already.
-fn new_builder(alloc: Global, handle: &mut Handle) -> Result<(), Status> {
-    if handle.is_open() {
-        return Err(Status::from(Code::Open));
-    }
-    let object = Box::new(alloc, Object::Builder(Builder::new(alloc)))?;
+/// Opens a handle on a builder.
+fn open_builder(alloc: Global, handle: &mut Handle, builder: Builder) -> Result<(), Status>
+    ensures { OpensDraft builder handle.old handle.new result }
+{
+    let object = Box::new(alloc, Object::Builder(builder))?;
     handle.put(object);
     Ok(())
 }
 
+fn new_builder(alloc: Global, handle: &mut Handle) -> Result<(), Status>
+    ensures { CreatesDraft handle.old handle.new result }
+{
+    if handle.is_open() {
+        return Err(Status::from(Code::Open));
+    }
+    open_builder(alloc, handle, Builder::new(alloc))
+}
+
 /// Opens a handle on a builder without states.
 #[unsafe(no_mangle)]
-pub extern "C" fn lazydfa_raw_builder_new(alloc: Global, builder: &mut Handle) -> Status {
+pub extern "C" fn lazydfa_raw_builder_new(alloc: Global, builder: &mut Handle) -> Status
+    ensures { NewsDraft builder.old builder.new result }
+{
     Status::of(new_builder(alloc, builder))
 }
 
 /// Removes all states and patterns.
 #[unsafe(no_mangle)]
-pub extern "C" fn lazydfa_raw_builder_clear(alloc: Global, builder: &mut Handle) -> Status {
+pub extern "C" fn lazydfa_raw_builder_clear(alloc: Global, builder: &mut Handle) -> Status
+    ensures { ChangesDraft change.Clear builder.old builder.new result }
+{
     changed(alloc, builder, Change::Clear)
 }
 
@@ -217,7 +317,9 @@ pub extern "C" fn lazydfa_raw_start_pattern(
     alloc: Global,
     builder: &mut Handle,
     pattern: &mut u32,
-) -> Status {
+) -> Status
+    ensures { ChangesPattern change.StartPattern pattern.old pattern.new builder.old builder.new result }
+{
     changed_pattern(alloc, builder, Change::StartPattern, pattern)
 }
 
@@ -228,7 +330,9 @@ pub extern "C" fn lazydfa_raw_finish_pattern(
     builder: &mut Handle,
     start: u32,
     pattern: &mut u32,
-) -> Status {
+) -> Status
+    ensures { ChangesPattern (change.FinishPattern start) pattern.old pattern.new builder.old builder.new result }
+{
     changed_pattern(alloc, builder, Change::FinishPattern { start }, pattern)
 }
 
@@ -239,19 +343,25 @@ pub extern "C" fn lazydfa_raw_patch(
     builder: &mut Handle,
     from: u32,
     to: u32,
-) -> Status {
+) -> Status
+    ensures { ChangesDraft (change.Patch from to) builder.old builder.new result }
+{
     changed(alloc, builder, Change::Patch { from, to })
 }
 
 /// Sets UTF-8 mode: no match splits an encoded character.
 #[unsafe(no_mangle)]
-pub extern "C" fn lazydfa_raw_set_utf8(alloc: Global, builder: &mut Handle, yes: u32) -> Status {
+pub extern "C" fn lazydfa_raw_set_utf8(alloc: Global, builder: &mut Handle, yes: u32) -> Status
+    ensures { ChangesDraft (change.Utf8 (not (yes == 0))) builder.old builder.new result }
+{
     changed(alloc, builder, Change::Utf8(yes != 0))
 }
 
 /// Says that the NFA reads its haystack backward.
 #[unsafe(no_mangle)]
-pub extern "C" fn lazydfa_raw_set_reverse(alloc: Global, builder: &mut Handle, yes: u32) -> Status {
+pub extern "C" fn lazydfa_raw_set_reverse(alloc: Global, builder: &mut Handle, yes: u32) -> Status
+    ensures { ChangesDraft (change.Reverse (not (yes == 0))) builder.old builder.new result }
+{
     changed(alloc, builder, Change::Reverse(yes != 0))
 }
 
@@ -261,17 +371,17 @@ pub extern "C" fn lazydfa_raw_set_line_terminator(
     alloc: Global,
     builder: &mut Handle,
     byte: u8,
-) -> Status {
+) -> Status
+    ensures { ChangesDraft (change.LineTerminator byte) builder.old builder.new result }
+{
     changed(alloc, builder, Change::LineTerminator(byte))
 }
 
 /// Adds a state with one epsilon edge.
 #[unsafe(no_mangle)]
-pub extern "C" fn lazydfa_raw_add_empty(
-    alloc: Global,
-    builder: &mut Handle,
-    id: &mut u32,
-) -> Status {
+pub extern "C" fn lazydfa_raw_add_empty(alloc: Global, builder: &mut Handle, id: &mut u32) -> Status
+    ensures { Adds add.Empty id.old id.new builder.old builder.new result }
+{
     add(alloc, builder, Added::Empty, id)
 }
 
@@ -284,7 +394,10 @@ pub extern "C" fn lazydfa_raw_add_range(
     hi: u8,
     next: u32,
     id: &mut u32,
-) -> Status {
+) -> Status
+    ensures { Adds (add.Range (record { lo = lo; hi = hi; reserved = 0; next = next })) id.old id.new
+        builder.old builder.new result }
+{
     let edge = Edge {
         lo,
         hi,
@@ -301,7 +414,9 @@ pub extern "C" fn lazydfa_raw_add_sparse(
     builder: &mut Handle,
     edges: &[Edge],
     id: &mut u32,
-) -> Status {
+) -> Status
+    ensures { Adds (add.Sparse edges.entry) id.old id.new builder.old builder.new result }
+{
     add(alloc, builder, Added::Sparse(edges), id)
 }
 
@@ -313,7 +428,9 @@ pub extern "C" fn lazydfa_raw_add_look(
     next: u32,
     look: u32,
     id: &mut u32,
-) -> Status {
+) -> Status
+    ensures { Adds (add.Look look next) id.old id.new builder.old builder.new result }
+{
     add(alloc, builder, Added::Look { look, next }, id)
 }
 
@@ -324,7 +441,9 @@ pub extern "C" fn lazydfa_raw_add_union(
     builder: &mut Handle,
     alternates: &[u32],
     id: &mut u32,
-) -> Status {
+) -> Status
+    ensures { Adds (add.Union alternates.entry) id.old id.new builder.old builder.new result }
+{
     add(alloc, builder, Added::Union(alternates), id)
 }
 
@@ -335,7 +454,9 @@ pub extern "C" fn lazydfa_raw_add_union_reverse(
     builder: &mut Handle,
     alternates: &[u32],
     id: &mut u32,
-) -> Status {
+) -> Status
+    ensures { Adds (add.UnionReverse alternates.entry) id.old id.new builder.old builder.new result }
+{
     add(alloc, builder, Added::UnionReverse(alternates), id)
 }
 
@@ -347,7 +468,9 @@ pub extern "C" fn lazydfa_raw_add_capture_start(
     next: u32,
     group: u32,
     id: &mut u32,
-) -> Status {
+) -> Status
+    ensures { Adds (add.CaptureStart next group) id.old id.new builder.old builder.new result }
+{
     add(alloc, builder, Added::CaptureStart { next, group }, id)
 }
 
@@ -359,27 +482,25 @@ pub extern "C" fn lazydfa_raw_add_capture_end(
     next: u32,
     group: u32,
     id: &mut u32,
-) -> Status {
+) -> Status
+    ensures { Adds (add.CaptureEnd next group) id.old id.new builder.old builder.new result }
+{
     add(alloc, builder, Added::CaptureEnd { next, group }, id)
 }
 
 /// Adds a state from which nothing matches.
 #[unsafe(no_mangle)]
-pub extern "C" fn lazydfa_raw_add_fail(
-    alloc: Global,
-    builder: &mut Handle,
-    id: &mut u32,
-) -> Status {
+pub extern "C" fn lazydfa_raw_add_fail(alloc: Global, builder: &mut Handle, id: &mut u32) -> Status
+    ensures { Adds add.Fail id.old id.new builder.old builder.new result }
+{
     add(alloc, builder, Added::Fail, id)
 }
 
 /// Adds a match state of the pattern that was started.
 #[unsafe(no_mangle)]
-pub extern "C" fn lazydfa_raw_add_match(
-    alloc: Global,
-    builder: &mut Handle,
-    id: &mut u32,
-) -> Status {
+pub extern "C" fn lazydfa_raw_add_match(alloc: Global, builder: &mut Handle, id: &mut u32) -> Status
+    ensures { Adds add.Match id.old id.new builder.old builder.new result }
+{
     add(alloc, builder, Added::Match, id)
 }
 
@@ -390,6 +511,8 @@ pub extern "C" fn lazydfa_raw_add_unanchored_prefix(
     builder: &mut Handle,
     start: u32,
     id: &mut u32,
-) -> Status {
+) -> Status
+    ensures { Adds (add.UnanchoredPrefix start) id.old id.new builder.old builder.new result }
+{
     add(alloc, builder, Added::UnanchoredPrefix { start }, id)
 }

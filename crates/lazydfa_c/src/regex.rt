@@ -1,10 +1,13 @@
 //! Regexes and caches.
-ghost use Rattle.std.specs.Prelude.{◌≡◌, IfErr, IfOk, OnErr, OnOk, Some, true};
+ghost use Rattle.std.specs.Prelude.{◌≡◌, IfErr, IfOk, Ok, OnErr, OnOk, Some, false, true};
 ghost use Rattle.automata_base.specs.Nfas.Nodes.{Automaton};
 ghost use Rattle.automata_config.specs.Options.{overwritten, unset};
 ghost use Rattle.regex_automata.specs.Promises.{IsSoundPair};
 ghost use Rattle.lazydfa_c.specs.Builds.{IsFreshOf, IsPairOf, IsPairRefusal, IsRegexIn, IsRegexOf, IsRegexRefusal};
-ghost use Rattle.lazydfa_c.specs.Builds.{CreatesCache, NewsCache, SharesRegex};
+ghost use Rattle.lazydfa_c.specs.Builds.{BuildsRegex, BuildsRegexPair, CreatesCache, IsNfaIn, IsNfaOf, NewsCache, OpensIn};
+ghost use Rattle.lazydfa_c.specs.Builds.{OpensAfter, OpensPairIn, OpensRegex, SharesRegex, WithOptions, kind_of, options_of};
+ghost use Rattle.lazydfa_c.specs.Calls.{Reads};
+ghost use Rattle.lazydfa_c.specs.Handles.{is_open};
 ghost use Rattle.lazydfa_c.specs.Statuses.{plain};
 ghost use Rattle.lazydfa_c.specs.declared.code.Code.TheVariants as code;
 ghost use Rattle.lazydfa_c.specs.declared.object.Object.TheVariants.{Searcher as CacheObject};
@@ -32,22 +35,30 @@ pub struct StartStates {
 
 /// Builds the NFA of what a builder has, with these start states. It fails with `Code::Argument` if a start is no ID,
 /// and else with the status of the builder's error.
-fn nfa_of(builder: &Builder, starts: StartStates) -> Result<NFA, Status> {
+fn nfa_of(builder: &Builder, starts: StartStates) -> Result<NFA, Status>
+    ensures { IsNfaOf starts builder.now result }
+{
     let anchored = state_id(starts.anchored)?;
     let unanchored = state_id(starts.unanchored)?;
     Ok(builder.build(anchored, unanchored)?)
 }
 
-/// Builds the NFA of what the builder behind a handle has. It fails if the handle is closed or owns no builder; the
-/// builder stays as it is.
-fn nfa_in(alloc: Global, builder: &mut Handle, starts: StartStates) -> Result<NFA, Status> {
+fn nfa_of_object(object: &Object, starts: StartStates) -> Result<NFA, Status>
+    ensures { IsNfaIn starts object.now result }
+{
+    match object {
+        Object::Builder(builder) => nfa_of(builder, starts),
+        Object::Regex(_) | Object::Searcher(_) => Err(Status::from(Code::Kind)),
+    }
+}
+
+fn nfa_in(alloc: Global, builder: &mut Handle, starts: StartStates) -> Result<NFA, Status>
+    ensures { Reads (IsNfaIn starts) builder.old builder.new result }
+{
     let Some(object) = builder.take(alloc) else {
         return Err(Status::from(Code::Closed));
     };
-    let nfa = match object.as_ref() {
-        Object::Builder(builder) => nfa_of(builder, starts),
-        Object::Regex(_) | Object::Searcher(_) => Err(Status::from(Code::Kind)),
-    };
+    let nfa = nfa_of_object(object.as_ref(), starts);
     builder.put(object);
     nfa
 }
@@ -91,8 +102,43 @@ fn open(alloc: Global, handle: &mut Handle, regex: Regex, is_sound: bool) -> Res
     Ok(())
 }
 
-/// Opens a handle on the regex of what a builder has. It fails with `Code::Open` if the handle is open already; after
-/// an error it is as it was.
+/// Opens a handle on the regex of one NFA.
+fn open_sound(alloc: Global, handle: &mut Handle, nfa: NFA, config: Config) -> Result<(), Status>
+    ensures { OpensRegex (IsRegexOf (overwritten unset config) nfa) (IsRegexRefusal (overwritten unset config) nfa) true
+        handle.old handle.new result }
+{
+    let regex = regex_of(nfa, config)?;
+    open(alloc, handle, regex, true)
+}
+
+/// Opens a handle on the regex of two NFAs.
+fn open_pair(
+    alloc: Global,
+    handle: &mut Handle,
+    nfas: (NFA, NFA),
+    config: Config,
+) -> Result<(), Status>
+    ensures { OpensRegex (IsPairOf (overwritten unset config) nfas.0 nfas.1)
+        (IsPairRefusal (overwritten unset config) nfas.0 nfas.1) false handle.old handle.new result }
+{
+    let (forward, reverse) = nfas;
+    let regex = pair_of(forward, reverse, config)?;
+    open(alloc, handle, regex, false)
+}
+
+fn build_of(
+    alloc: Global,
+    regex: &mut Handle,
+    builder: &mut Handle,
+    starts: StartStates,
+    config: Config,
+) -> Result<(), Status>
+    ensures { OpensIn (overwritten unset config) starts regex.old regex.new builder.old builder.new result }
+{
+    let nfa = nfa_in(alloc, builder, starts)?;
+    open_sound(alloc, regex, nfa, config)
+}
+
 fn build(
     alloc: Global,
     regex: &mut Handle,
@@ -100,13 +146,49 @@ fn build(
     starts: StartStates,
     settings: &Settings,
     quits: &[u8],
-) -> Result<(), Status> {
+) -> Result<(), Status>
+    ensures { WithOptions (λ o. OpensIn o starts regex.old regex.new builder.old builder.new)
+        ((regex.new ≡ regex.old) × (builder.new ≡ builder.old)) (is_open regex.old.live)
+        (options_of settings.now quits.now (kind_of settings.now.match_kind)) result }
+{
     if regex.is_open() {
         return Err(Status::from(Code::Open));
     }
     let config = settings.config(quits)?;
-    let nfa = nfa_in(alloc, builder, starts)?;
-    open(alloc, regex, regex_of(nfa, config)?, true)
+    build_of(alloc, regex, builder, starts, config)
+}
+
+/// Opens a handle on the regex of an NFA and of that of a builder.
+fn open_after(
+    alloc: Global,
+    regex: &mut Handle,
+    reverse: &mut Handle,
+    starts: StartStates,
+    forward: NFA,
+    config: Config,
+) -> Result<(), Status>
+    ensures { OpensAfter (overwritten unset config) starts regex.old regex.new reverse.old reverse.new (Ok forward)
+        result }
+{
+    match nfa_in(alloc, reverse, starts) {
+        Ok(nfa) => open_pair(alloc, regex, (forward, nfa), config),
+        Err(status) => Err(status),
+    }
+}
+
+fn build_pair_of(
+    alloc: Global,
+    regex: &mut Handle,
+    forward: &mut Handle,
+    reverse: &mut Handle,
+    starts: (StartStates, StartStates),
+    config: Config,
+) -> Result<(), Status>
+    ensures { OpensPairIn (overwritten unset config) starts.0 starts.1 regex.old regex.new forward.old forward.new
+        reverse.old reverse.new result }
+{
+    let nfa = nfa_in(alloc, forward, starts.0)?;
+    open_after(alloc, regex, reverse, starts.1, nfa, config)
 }
 
 /// Opens a handle on the regex of what two builders have, the forward one first. It fails with `Code::Open` if the
@@ -114,18 +196,22 @@ fn build(
 fn build_pair(
     alloc: Global,
     regex: &mut Handle,
-    builders: (&mut Handle, &mut Handle),
+    forward: &mut Handle,
+    reverse: &mut Handle,
     starts: (StartStates, StartStates),
     settings: &Settings,
     quits: &[u8],
-) -> Result<(), Status> {
+) -> Result<(), Status>
+    ensures { WithOptions
+        (λ o. OpensPairIn o starts.0 starts.1 regex.old regex.new forward.old forward.new reverse.old reverse.new)
+        ((regex.new ≡ regex.old) × (forward.new ≡ forward.old) × (reverse.new ≡ reverse.old)) (is_open regex.old.live)
+        (options_of settings.now quits.now (kind_of settings.now.match_kind)) result }
+{
     if regex.is_open() {
         return Err(Status::from(Code::Open));
     }
     let config = settings.config(quits)?;
-    let forward = nfa_in(alloc, builders.0, starts.0)?;
-    let reverse = nfa_in(alloc, builders.1, starts.1)?;
-    open(alloc, regex, pair_of(forward, reverse, config)?, false)
+    build_pair_of(alloc, regex, forward, reverse, starts, config)
 }
 
 /// Opens a handle on the regex of what a builder has. The builder stays as it is.
@@ -137,7 +223,9 @@ pub extern "C" fn lazydfa_raw_regex_build(
     starts: &StartStates,
     settings: &Settings,
     quits: &[u8],
-) -> Status {
+) -> Status
+    ensures { BuildsRegex settings.now quits.now starts.now regex.old regex.new builder.old builder.new result }
+{
     Status::of(build(alloc, regex, builder, *starts, settings, quits))
 }
 
@@ -152,9 +240,12 @@ pub extern "C" fn lazydfa_raw_regex_build_pair(
     reverse_starts: &StartStates,
     settings: &Settings,
     quits: &[u8],
-) -> Status {
+) -> Status
+    ensures { BuildsRegexPair settings.now quits.now forward_starts.now reverse_starts.now regex.old regex.new
+        forward.old forward.new reverse.old reverse.new result }
+{
     let starts = (*forward_starts, *reverse_starts);
-    Status::of(build_pair(alloc, regex, (forward, reverse), starts, settings, quits))
+    Status::of(build_pair(alloc, regex, forward, reverse, starts, settings, quits))
 }
 
 /// Another owner of a shared regex.

@@ -1,4 +1,7 @@
 //! The settings of a regex, as C lays them out. Zeros are the default settings.
+ghost use Rattle.std.specs.Prelude.{◌≡◌, None};
+ghost use Rattle.lazydfa_c.specs.Builds.{kind_of, limit_if, number_if, options_of, with_quits};
+
 use crate::code::Code;
 use crate::status::Status;
 use regex_automata::MatchKind;
@@ -26,20 +29,21 @@ pub struct Settings {
 
 /// The configuration with these quit bytes. It fails with `Code::Argument` at a byte that the configuration does not
 /// allow.
-fn with_quits(config: Config, quits: &[u8]) -> Result<Config, Status> {
+fn with_quits(config: Config, quits: &[u8]) -> Config
+    ensures { result ≡ with_quits config quits.now }
+{
     let mut config = config;
     for byte in quits {
-        if !config.allows_quit(*byte, true) {
-            return Err(Status::from(Code::Argument));
-        }
         config = config.quit(*byte, true);
     }
-    Ok(config)
+    config
 }
 
 impl Settings {
     /// The match kind: 0 for leftmost-first, 1 for all. It fails with `Code::Argument` for another number.
-    fn kind(&self) -> Result<MatchKind, Status> {
+    fn kind(&self) -> Result<MatchKind, Status>
+        ensures { result ≡ kind_of self.now.match_kind }
+    {
         match self.match_kind {
             0 => Ok(MatchKind::LeftmostFirst),
             1 => Ok(MatchKind::All),
@@ -49,7 +53,17 @@ impl Settings {
 
     /// The configuration with the capacity, in bytes, and the limits of clears and of bytes for each state, those that
     /// are set.
-    fn with_limits(&self, config: Config) -> Config {
+    fn with_limits(&self, config: Config) -> Config
+        requires capacity { config.cache_capacity ≡ None }
+        requires clears { config.minimum_cache_clear_count ≡ None }
+        requires bytes { config.minimum_bytes_per_state ≡ None }
+        ensures { result ≡ record config {
+          cache_capacity = number_if self.now.has_cache_capacity self.now.cache_capacity;
+          minimum_cache_clear_count =
+              limit_if self.now.has_minimum_cache_clear_count self.now.minimum_cache_clear_count;
+          minimum_bytes_per_state = limit_if self.now.has_minimum_bytes_per_state self.now.minimum_bytes_per_state;
+        } }
+    {
         let mut config = config;
         if self.has_cache_capacity != 0 {
             config = config.cache_capacity(self.cache_capacity);
@@ -63,9 +77,10 @@ impl Settings {
         config
     }
 
-    /// The configuration that the settings stand for, with these quit bytes. It fails with `Code::Argument` if the
-    /// match kind is none or a quit byte is not allowed.
-    pub fn config(&self, quits: &[u8]) -> Result<Config, Status> {
+    /// The configuration, with these quit bytes.
+    pub fn config(&self, quits: &[u8]) -> Result<Config, Status>
+        ensures { result ≡ options_of self.now quits.now (kind_of self.now.match_kind) }
+    {
         let kind = self.kind()?;
         let config = Config::new()
             .match_kind(kind)
@@ -74,6 +89,6 @@ impl Settings {
             .unicode_word_boundary(self.unicode_word_boundary != 0)
             .specialize_start_states(self.specialize_start_states != 0)
             .skip_cache_capacity_check(self.skip_cache_capacity_check != 0);
-        with_quits(self.with_limits(config), quits)
+        Ok(with_quits(self.with_limits(config), quits))
     }
 }

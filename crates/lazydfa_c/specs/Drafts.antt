@@ -1,0 +1,222 @@
+-- What the calls on a builder do, each seen by the draft behind its handle before and after it, and by what it returns.
+use Rattle.std.specs.Prelude.{ℕ, ◌≡◌, ◌⊎◌, ◌+◌, ◌*◌, ◌<◌, ◌≤◌, ◌&&◌, List, [], ◌∷◌, Bool, true, false}
+use Rattle.std.specs.Prelude.{IsTrue, IsFalse, length, map, nat_le, nat_lt, set, slice_get}
+use Rattle.std.specs.Prelude.{Some, None, Result, Ok, Err, if◌then◌else◌, IfOk, OnOk, OnErr, IsOk, IsOkUnless}
+use Rattle.std.specs.List.{list_all}
+use Rattle.automata_base.specs.Haystacks.LookSets.{nth_look}
+use Rattle.automata_base.specs.Nfas.Drafts.{Draft, IsAdding, IsAddingOf, blank, default_flags, draft_refusal, finished}
+use Rattle.automata_base.specs.Nfas.Drafts.{built, outline, prefix_of, started, with_flags, with_states}
+use Rattle.automata_base.specs.Nfas.Nodes.{Automaton}
+use Rattle.automata_base.specs.Nfas.Shapes.{Shape, patched, EmptyShape, RangeShape, SparseShape, LookShape, UnionShape}
+use Rattle.automata_base.specs.Nfas.Shapes.{UnionReverseShape, CaptureShape, FailShape, MatchShape}
+use Rattle.automata_base.specs.declared.nfa.thompson.NfaError.{NfaError}
+use Rattle.automata_base.specs.declared.nfa.thompson.Transition.{Transition}
+use Rattle.automata_base.specs.declared.nfa.thompson.building.BuildError.{BuildError}
+use Rattle.automata_base.specs.declared.nfa.thompson.building.BuildError.TheVariants.{NoPattern, UnfinishedPattern}
+use Rattle.automata_base.specs.declared.nfa.thompson.building.BuildError.TheVariants.{StateRange, SparsePatch, TooLarge}
+use Rattle.automata_base.specs.declared.nfa.thompson.building.BuildError.TheVariants.{OutOfMemory}
+use Rattle.lazydfa_c.specs.Calls.{OnHandle}
+use Rattle.lazydfa_c.specs.Handles.{is_open}
+use Rattle.lazydfa_c.specs.Statuses.{builder_status, done_status, nfa_code, plain}
+use Rattle.lazydfa_c.specs.declared.builder.Added.{Added}
+use Rattle.lazydfa_c.specs.declared.builder.Added.TheVariants as add
+use Rattle.lazydfa_c.specs.declared.builder.Change.{Change}
+use Rattle.lazydfa_c.specs.declared.builder.Change.TheVariants as change
+use Rattle.lazydfa_c.specs.declared.builder.Edge.{Edge}
+use Rattle.lazydfa_c.specs.declared.code.Code.TheVariants as code
+use Rattle.lazydfa_c.specs.declared.handle.Handle.{Handle}
+use Rattle.lazydfa_c.specs.declared.object.Object.{Object}
+use Rattle.lazydfa_c.specs.declared.object.Object.TheVariants.{Builder, Regex as RegexObject, Searcher as CacheObject}
+use Rattle.lazydfa_c.specs.declared.status.Status.{Status}
+
+-- whether a number is one of a state, and whether all are
+abbrev pub is_state : ℕ → Bool
+is_state n = nat_le n 2147483646
+
+abbrev pub are_states : List ℕ → Bool
+are_states ns = list_all is_state ns
+
+-- the state's ID, or what is told of another number
+abbrev pub state_of : ℕ → Result ℕ Status
+state_of n = if is_state n then Ok n else Err (plain code.Argument)
+
+abbrev pub transition_of : Edge → Transition
+transition_of e = record { lo = e.lo; hi = e.hi; next = e.next }
+
+-- whether the edges of a state lead to states
+abbrev pub lead_on : List Edge → Bool
+lead_on es = list_all (λ e. is_state e.next) es
+
+-- what the library's call returned, its error as a status
+abbrev pub told_by : {A : Type 0} → Result A BuildError → Result A Status
+told_by (Ok a) = Ok a
+told_by (Err e) = Err (builder_status e)
+
+-- what the library's call does that adds this state
+abbrev pub AddsGroup : (group : ℕ) → (shape : ℕ → Shape) → Draft → Draft → Result ℕ BuildError → Type 0
+AddsGroup group shape b c r =
+    (group ≤ 2147483646 → IsAddingOf b c r shape) × (2147483646 < group → (r ≡ Err TooLarge) × (c ≡ b))
+
+abbrev pub AddsState : Added → Draft → Draft → Result ℕ BuildError → Type 0
+AddsState add.Empty b c r = IsAdding b c r (EmptyShape 0 ∷ [])
+AddsState (add.Range e) b c r = IsAdding b c r (RangeShape e.lo e.hi e.next ∷ [])
+AddsState (add.Sparse es) b c r = IsAdding b c r (SparseShape (map transition_of es.now) ∷ [])
+AddsState (add.Look look next) b c r = IsAdding b c r (LookShape (nth_look look) next ∷ [])
+AddsState (add.Union ns) b c r = IsAdding b c r (UnionShape ns.now ∷ [])
+AddsState (add.UnionReverse ns) b c r = IsAdding b c r (UnionReverseShape ns.now ∷ [])
+AddsState (add.CaptureStart next group) b c r = AddsGroup group (λ p. CaptureShape next p group (2 * group)) b c r
+AddsState (add.CaptureEnd next group) b c r = AddsGroup group (λ p. CaptureShape next p group (2 * group + 1)) b c r
+AddsState add.Fail b c r = IsAdding b c r (FailShape ∷ [])
+AddsState add.Match b c r = IsAddingOf b c r (λ p. MatchShape p)
+AddsState (add.UnanchoredPrefix start) b c r = IsAdding b c r (prefix_of b start)
+
+-- whether its numbers are those of states, and of a look
+abbrev pub allows : Added → Bool
+allows add.Empty = true
+allows (add.Range e) = is_state e.next
+allows (add.Sparse es) = lead_on es.now
+allows (add.Look look next) = is_state next && nat_lt look 18
+allows (add.Union ns) = are_states ns.now
+allows (add.UnionReverse ns) = are_states ns.now
+allows (add.CaptureStart next group) = is_state next
+allows (add.CaptureEnd next group) = is_state next
+allows add.Fail = true
+allows add.Match = true
+allows (add.UnanchoredPrefix start) = is_state start
+
+-- whether it has a list, which is copied first
+abbrev pub has_list : Added → Bool
+has_list (add.Sparse es) = true
+has_list (add.Union ns) = true
+has_list (add.UnionReverse ns) = true
+has_list add.Empty = false
+has_list (add.Range e) = false
+has_list (add.Look look next) = false
+has_list (add.CaptureStart next group) = false
+has_list (add.CaptureEnd next group) = false
+has_list add.Fail = false
+has_list add.Match = false
+has_list (add.UnanchoredPrefix start) = false
+
+-- the library's call is made, and what it returned is told
+abbrev pub IsPassed : {A : Type 0} → (Does : Result A BuildError → Type 0) → Result A Status → Type 0
+IsPassed {A = A} Does result = (r : Result A BuildError) × Does r × (result ≡ told_by r)
+
+-- a state is added to a builder: without numbers for it, or without memory for a copy of its list, the builder stays
+abbrev pub AddsTo : Added → Draft → Draft → Result ℕ Status → Type 0
+AddsTo added b c result =
+    (IsTrue (allows added) × IsPassed (AddsState added b c) result)
+    ⊎ (IsFalse (allows added) × (c ≡ b) × (result ≡ Err (plain code.Argument)))
+    ⊎ (IsTrue (has_list added) × (c ≡ b) × (result ≡ Err (plain code.Memory)))
+
+-- `Builder::start_pattern`, `Builder::finish_pattern` and `Builder::patch`
+pub record StartsPattern (old new : Draft) (result : Result ℕ BuildError) : Type 0 where
+  pub id : IfOk result (λ p. p ≡ length old.starts)
+  pub started : OnOk result (new ≡ started old)
+  pub same : OnErr result (new ≡ old)
+  pub unfinished : (p : ℕ) → old.pattern ≡ Some p → result ≡ Err UnfinishedPattern
+  pub large : old.pattern ≡ None → 2147483646 < length old.starts → result ≡ Err TooLarge
+  pub few : old.pattern ≡ None → length old.starts ≤ 2147483646 → IsOk result
+
+pub record FinishesPattern (start : ℕ) (old new : Draft) (result : Result ℕ BuildError) : Type 0 where
+  pub id : IfOk result (λ p. old.pattern ≡ Some p)
+  pub finished : OnOk result (new ≡ finished old start)
+  pub same : OnErr result (new ≡ old)
+  pub none : old.pattern ≡ None → result ≡ Err NoPattern
+  pub memory : (p : ℕ) → old.pattern ≡ Some p → IsOkUnless result OutOfMemory
+
+pub record Patches (from to : ℕ) (old new : Draft) (result : Result (Unit {0}) BuildError) : Type 0 where
+  pub placed :
+      OnOk result ((was shape : Shape) → slice_get old.states from ≡ Some was
+      → patched was to ≡ Some shape → new ≡ with_states old (set old.states from shape))
+  pub same : OnErr result (new ≡ old)
+  pub range : length old.states ≤ from → result ≡ Err StateRange
+  pub sparse :
+      (was : Shape) → slice_get old.states from ≡ Some was → patched was to ≡ None → result ≡ Err SparsePatch
+  pub memory :
+      (was shape : Shape) → slice_get old.states from ≡ Some was → patched was to ≡ Some shape
+      → IsOkUnless result OutOfMemory
+
+-- a call with numbers of states: if one is none, it is told, and the builder stays
+abbrev pub OfStates : (are : Bool) → (Does : Type 0) → Draft → Draft → Result ℕ Status → Type 0
+OfStates are Does b c result =
+    (IsTrue are × Does) ⊎ (IsFalse are × (c ≡ b) × (result ≡ Err (plain code.Argument)))
+
+-- the same result, with a number that says nothing
+abbrev pub zeroed : {E : Type 0} → Result (Unit {0}) E → Result ℕ E
+zeroed (Ok u) = Ok 0
+zeroed (Err e) = Err e
+
+-- a builder is changed, and the result has a pattern if the change does
+abbrev pub Changes : Change → Draft → Draft → Result ℕ Status → Type 0
+Changes change.Clear b c result = (c ≡ blank b.flags) × (result ≡ Ok 0)
+Changes change.StartPattern b c result = IsPassed (StartsPattern b c) result
+Changes (change.FinishPattern start) b c result =
+    OfStates (is_state start) (IsPassed (FinishesPattern start b c) result) b c result
+Changes (change.Patch from to) b c result =
+    OfStates (is_state from && is_state to)
+    ((r : Result (Unit {0}) BuildError) × Patches from to b c r × (result ≡ told_by (zeroed r))) b c result
+Changes (change.Utf8 is_on) b c result = (c ≡ with_flags b (record b.flags { utf8 = is_on })) × (result ≡ Ok 0)
+Changes (change.Reverse is_on) b c result = (c ≡ with_flags b (record b.flags { reverse = is_on })) × (result ≡ Ok 0)
+Changes (change.LineTerminator byte) b c result =
+    (c ≡ with_flags b (record b.flags { line_terminator = byte })) × (result ≡ Ok 0)
+
+-- a call on the object of a handle, which does this to a builder; any other object stays, and its kind is reported
+abbrev pub OfBuilder : (Does : Draft → Draft → Result ℕ Status → Type 0) → Object → Object → Result ℕ Status → Type 0
+OfBuilder Does (Builder b) (Builder c) result = Does b c result
+OfBuilder Does (Builder b) (RegexObject r) result = ⊥
+OfBuilder Does (Builder b) (CacheObject s) result = ⊥
+OfBuilder Does (RegexObject r) new result = (new ≡ RegexObject r) × (result ≡ Err (plain code.Kind))
+OfBuilder Does (CacheObject s) new result = (new ≡ CacheObject s) × (result ≡ Err (plain code.Kind))
+
+-- a call for a builder
+abbrev pub OfDraft : (Does : Draft → Draft → Result ℕ Status → Type 0) → (old new : Handle) → Result ℕ Status → Type 0
+OfDraft Does old new result = OnHandle (OfBuilder Does) (Err (plain code.Closed)) old new result
+
+-- the number of a result is written, or its error told and nothing written
+abbrev pub IsNumberTold : (was written : ℕ) → Result ℕ Status → Status → Type 0
+IsNumberTold was written (Ok n) status = (written ≡ n) × (status ≡ plain code.Done)
+IsNumberTold was written (Err e) status = (written ≡ was) × (status ≡ e)
+
+-- the same without the number
+abbrev pub number_status : Result ℕ Status → Status
+number_status (Ok n) = plain code.Done
+number_status (Err e) = e
+
+-- the exports that add a state, that change a builder and write a pattern, and that change a builder alone
+abbrev pub Adds : Added → (was written : ℕ) → (old new : Handle) → Status → Type 0
+Adds added was written old new status =
+    (result : Result ℕ Status) × OfDraft (AddsTo added) old new result × IsNumberTold was written result status
+
+abbrev pub ChangesPattern : Change → (was written : ℕ) → (old new : Handle) → Status → Type 0
+ChangesPattern wanted was written old new status =
+    (result : Result ℕ Status) × OfDraft (Changes wanted) old new result × IsNumberTold was written result status
+
+abbrev pub ChangesDraft : Change → (old new : Handle) → Status → Type 0
+ChangesDraft wanted old new status =
+    (result : Result ℕ Status) × OfDraft (Changes wanted) old new result × (status ≡ number_status result)
+
+-- a handle is opened on this draft, or there is no memory for it
+abbrev pub OpensDraft : Draft → (old new : Handle) → Result (Unit {0}) Status → Type 0
+OpensDraft draft old new (Ok u) = (new.live ≡ 1) × (new.slot.value ≡ Some (Builder draft))
+OpensDraft draft old new (Err e) = (new ≡ old) × (e ≡ plain code.Memory)
+
+-- a builder is asked for: over a handle that is open nothing is done
+pub record CreatesDraft (old new : Handle) (done : Result (Unit {0}) Status) : Type 0 where
+  pub taken : is_open old.live ≡ true → (new ≡ old) × (done ≡ Err (plain code.Open))
+  pub made : is_open old.live ≡ false → OpensDraft (blank default_flags) old new done
+
+-- `lazydfa_builder_new`
+abbrev pub NewsDraft : (old new : Handle) → Status → Type 0
+NewsDraft old new status =
+    (done : Result (Unit {0}) Status) × CreatesDraft old new done × (status ≡ done_status done)
+
+-- what `Builder::build` returns of these starts, its error as a status
+pub record MakesNfa (draft : Draft) (anchored unanchored : ℕ) (result : Result Automaton Status) : Type 0 where
+  pub same : IfOk result (λ nfa. outline nfa ≡ built draft anchored unanchored)
+  pub unfinished : (p : ℕ) → draft.pattern ≡ Some p → result ≡ Err (plain code.UnfinishedPattern)
+  pub refused :
+      (error : NfaError) → draft.pattern ≡ None → draft_refusal draft anchored unanchored ≡ Some error
+      → (result ≡ Err (plain (nfa_code error))) ⊎ (result ≡ Err (plain code.Memory))
+  pub memory :
+      draft.pattern ≡ None → draft_refusal draft anchored unanchored ≡ None → IsOkUnless result (plain code.Memory)
