@@ -33,9 +33,9 @@ left :
     (Has : List ℕ → Type 0) (yielded : List (Bor (List ℕ))) (found : List Line) (line : Bor (List ℕ)) (has : Bool)
     → AreMatching Has (map (λ l. l.now) yielded) (map (λ l. l.bytes.now) found) → (IsTrue has ↔ Has line.now) → has ≡ false
     → AreMatching Has (map (λ l. l.now) (yielded ++ line ∷ [])) (map (λ l. l.bytes.now) found)
-left Has yielded found line has so tells no =
+left Has yielded found line has so tells none =
     rw (map-append (λ (l : Bor (List ℕ)). l.now) yielded (line ∷ []))
-    (leaves _ _ line.now so (λ h. false_true (sym no ∙ tells.1 h)))
+    (leaves _ _ line.now so (λ h. false_true (sym none ∙ tells.1 h)))
 
 taken :
     (Has : List ℕ → Type 0) (yielded : List (Bor (List ℕ))) (found more : List Line) (line : Bor (List ℕ)) (own : Line) (has : Bool)
