@@ -80,7 +80,6 @@ enum lazydfa_code {
     LAZYDFA_PATTERN_RANGE = 17,  /* a match state has a pattern that does not exist */
     LAZYDFA_RANGES = 18,         /* the ranges of bytes of a state are not in order */
     LAZYDFA_NOT_LAZY = 20,       /* the unanchored start does not skip lazily: lazydfa_add_unanchored_prefix makes one */
-    LAZYDFA_LOOK_CYCLE = 21,     /* a cycle of states that read nothing passes a look-around assertion */
     LAZYDFA_NOT_UTF8 = 22,       /* in UTF-8 mode a match may be invalid UTF-8 */
     LAZYDFA_STARTS = 23,         /* the starts differ in the empty match, so that the NFA cannot be reversed */
     LAZYDFA_UNSUPPORTED = 24,    /* a Unicode word boundary, without the setting for it */
@@ -294,7 +293,6 @@ static inline const char *lazydfa_code_text(uint32_t code) {
     case LAZYDFA_PATTERN_RANGE: return "the pattern of a match state is out of range";
     case LAZYDFA_RANGES: return "ranges of bytes are not in order";
     case LAZYDFA_NOT_LAZY: return "the unanchored start does not skip lazily";
-    case LAZYDFA_LOOK_CYCLE: return "a cycle of states that read nothing passes a look-around assertion";
     case LAZYDFA_NOT_UTF8: return "a match may be invalid UTF-8";
     case LAZYDFA_STARTS: return "the starts differ in the empty match";
     case LAZYDFA_UNSUPPORTED: return "Unicode word boundaries are not enabled";

@@ -29,8 +29,6 @@ pub enum Error {
     Ranges,
     /// The unanchored start does not skip lazily.
     NotLazy,
-    /// A cycle of states that read nothing passes a look-around assertion.
-    LookCycle,
     /// In UTF-8 mode a match may be invalid UTF-8.
     NotUtf8,
     /// The starts differ in the empty match, so that the NFA cannot be reversed.
@@ -70,7 +68,6 @@ impl fmt::Display for Error {
             Error::PatternRange => "the pattern of a match state is out of range",
             Error::Ranges => "ranges of bytes are not in order",
             Error::NotLazy => "the unanchored start does not skip lazily",
-            Error::LookCycle => "a cycle of states that read nothing passes a look-around assertion",
             Error::NotUtf8 => "a match may be invalid UTF-8",
             Error::Starts => "the starts differ in the empty match",
             Error::Unsupported => "Unicode word boundaries are not enabled",
@@ -114,7 +111,6 @@ impl Status {
             17 => Error::PatternRange,
             18 => Error::Ranges,
             20 => Error::NotLazy,
-            21 => Error::LookCycle,
             22 => Error::NotUtf8,
             23 => Error::Starts,
             24 => Error::Unsupported,

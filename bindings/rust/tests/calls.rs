@@ -111,7 +111,29 @@ fn errors() -> Result<(), Error> {
     assert_eq!(builder.add_match(), Err(Error::NoPattern));
     let look = builder.add_look(StateID::ZERO, Look::Start)?;
     builder.patch(look, look)?;
-    assert_eq!(with(Config::new(), &builder.build(look, look)).err(), Some(Error::LookCycle));
+    let fail = builder.add_fail()?;
+    assert_eq!(with(Config::new(), &builder.build(look, fail)).err(), Some(Error::NotLazy));
+    Ok(())
+}
+
+/// `(?:\b|%)+`, whose cycle passes a look
+#[test]
+fn look_cycles() -> Result<(), Error> {
+    let mut builder = Builder::new()?;
+    builder.start_pattern()?;
+    let boundary = builder.add_look(StateID::ZERO, Look::WordAscii)?;
+    let percent = builder.add_range(Transition { start: b'%', end: b'%', next: StateID::ZERO })?;
+    let either = builder.add_union(vec![boundary, percent])?;
+    let found = builder.add_match()?;
+    let more = builder.add_union(vec![either, found])?;
+    builder.patch(boundary, more)?;
+    builder.patch(percent, more)?;
+    builder.finish_pattern(either)?;
+    let prefix = builder.add_unanchored_prefix(either)?;
+    let regex = with(Config::new(), &builder.build(either, prefix))?;
+    let mut cache = regex.create_cache()?;
+    let found: Result<Vec<_>, _> = regex.find_iter(&mut cache, "z%").map(|m| m.map(|m| m.range())).collect();
+    assert_eq!(found?, [0..0, 1..1]);
     Ok(())
 }
 

@@ -1,6 +1,6 @@
 //! Which lines of a text have a match.
 ghost use Rattle.std.specs.Prelude.{◌≡◌, ◌↔◌, IfOk, IsTrue, map};
-ghost use Rattle.regex_automata.specs.Promises.{IsCacheOf, IsLookAcyclic, nfa_of};
+ghost use Rattle.regex_automata.specs.Promises.{IsCacheOf, KeepsCycles, nfa_of};
 ghost use Rattle.example_grep.specs.Lines.{AreMatching, HasMatch, lines};
 
 use anyhow::Result;
@@ -16,7 +16,7 @@ pub struct LineSearcher {
     cache: Cache,
     searched: u64,
     ghost of: { IsCacheOf cache dfa },
-    ghost ordered: { IsLookAcyclic (nfa_of dfa.nfa) },
+    ghost ordered: { KeepsCycles (nfa_of dfa.nfa) },
 }
 
 // One call for an owner, whose proof then has no step for each part.
@@ -39,7 +39,7 @@ pub struct Line<'t> {
 
 impl LineSearcher {
     pub fn new(dfa: DFA) -> Result<LineSearcher>
-        requires { IsLookAcyclic (nfa_of dfa.nfa) }
+        requires { KeepsCycles (nfa_of dfa.nfa) }
         ensures { IfOk result (λ s. s.dfa ≡ dfa) }
     {
         let cache = dfa.create_cache()?;

@@ -48,10 +48,7 @@ fn report(rt: &HostRuntime, options: &Options<'_>, error: PatternError) -> Resul
 }
 
 fn line_searcher(nfa: NFA) -> Result<LineSearcher> {
-    let dfa = DFA::builder().build_from_nfa(nfa)?;
-    if !dfa.get_nfa().is_look_acyclic() {
-        bail!("a cycle passes a look-around assertion");
-    }
+    let dfa = DFA::builder().build_from_nfa(nfa.keeping_unions())?;
     LineSearcher::new(dfa)
 }
 

@@ -64,13 +64,14 @@ fn build_all(
     Ok(regexes)
 }
 
-/// The regex that a line defines. The NFAs of the catalogue are well formed, so for them only memory can be missing.
+/// The regex that a line defines. Its NFAs keep unions if they have cycles through looks, so that replies follow the
+/// ordered paths. The NFAs of the catalogue are well formed, so for them only memory can be missing.
 fn build(alloc: Global, definition: &Definition) -> Result<Regex, BuildError> {
     let forward = built(definition.entry.forward(alloc))?;
     let reverse = built(definition.entry.reverse(alloc))?;
     Regex::builder()
         .dfa(definition.config)
-        .build_from_nfas(forward, reverse)
+        .build_from_nfas(forward.keeping_unions(), reverse.keeping_unions())
 }
 
 fn built(nfa: Result<NFA, NfaError>) -> Result<NFA, BuildError> {

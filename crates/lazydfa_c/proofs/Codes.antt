@@ -6,7 +6,7 @@ use Rattle.lazydfa_c.specs.declared.code.Code.{Code}
 use Rattle.lazydfa_c.specs.declared.code.Code.TheVariants.{Done, Nothing, Closed, Open, Kind, Argument, Memory}
 use Rattle.lazydfa_c.specs.declared.code.Code.TheVariants.{NoPattern, UnfinishedPattern, PatchRange, SparsePatch}
 use Rattle.lazydfa_c.specs.declared.code.Code.TheVariants.{TooLarge, StateRange, StartRange, PatternRange, Ranges}
-use Rattle.lazydfa_c.specs.declared.code.Code.TheVariants.{NotLazy, LookCycle, NotUtf8, Starts, Unsupported, Capacity}
+use Rattle.lazydfa_c.specs.declared.code.Code.TheVariants.{NotLazy, NotUtf8, Starts, Unsupported, Capacity}
 use Rattle.lazydfa_c.specs.declared.code.Code.TheVariants.{StateIDs, PatternCounts, Quit, GaveUp, Anchored, NotAPair}
 use Rattle.lazydfa_c.specs.declared.code.Code.TheVariants.{NoToken}
 
@@ -30,7 +30,6 @@ code_of n =
     if n == 17 then Some PatternRange else
     if n == 18 then Some Ranges else
     if n == 20 then Some NotLazy else
-    if n == 21 then Some LookCycle else
     if n == 22 then Some NotUtf8 else
     if n == 23 then Some Starts else
     if n == 24 then Some Unsupported else
@@ -63,7 +62,6 @@ gives_back StartRange = refl
 gives_back PatternRange = refl
 gives_back Ranges = refl
 gives_back NotLazy = refl
-gives_back LookCycle = refl
 gives_back NotUtf8 = refl
 gives_back Starts = refl
 gives_back Unsupported = refl

@@ -46,7 +46,6 @@ regex_of s =
     if s.code == 6 then regex.OutOfMemory else
     if s.code == 14 then regex.TooLarge else
     if s.code == 20 then regex.NotLazy else
-    if s.code == 21 then regex.LookCycle else
     if s.code == 22 then regex.NotUtf8 else
     if s.code == 23 then regex.Starts else
     regex.Build (build_of s)
@@ -85,7 +84,6 @@ build_back (dfa.PatternCounts forward reverse) = refl
 
 regex_back : (e : RegexBuildError) → regex_of (regex_status e) ≡ told_regex e
 regex_back regex.NotLazy = refl
-regex_back regex.LookCycle = refl
 regex_back regex.NotUtf8 = refl
 regex_back regex.Starts = refl
 regex_back regex.TooLarge = refl
@@ -140,7 +138,6 @@ build_fails (dfa.PatternCounts forward reverse) = omega arith
 
 regex_fails : (e : RegexBuildError) → number_of code.Argument < (regex_status e).code
 regex_fails regex.NotLazy = omega arith
-regex_fails regex.LookCycle = omega arith
 regex_fails regex.NotUtf8 = omega arith
 regex_fails regex.Starts = omega arith
 regex_fails regex.TooLarge = omega arith

@@ -1,10 +1,9 @@
 -- What the calls make that open a handle on a regex or on a cache, and why they fail.
 use Rattle.std.specs.Prelude.{◌≡◌, Bool, false, true, length, replicate, Some, IsSomeAnd, Result, Ok, Err}
-use Rattle.automata_base.specs.Nfas.Mirrors.{IsReversed}
 use Rattle.automata_base.specs.Nfas.Nodes.{Automaton}
 use Rattle.automata_config.specs.Options.{Options}
 use Rattle.automata_config.specs.declared.error.BuildError.{BuildError}
-use Rattle.regex_automata.specs.Regexes.Builds.{BuildsPair, IsRefusal, pair_refusal}
+use Rattle.regex_automata.specs.Regexes.Builds.{BuildsOne, BuildsPair, IsRefusal, pair_refusal}
 use Rattle.regex_automata.specs.Regexes.Caches.{AreFresh}
 use Rattle.regex_automata.specs.declared.hybrid.regex.Regex.{Regex}
 use Rattle.regex_automata.specs.declared.hybrid.regex.build.RegexBuildError.{RegexBuildError}
@@ -19,9 +18,10 @@ use Rattle.lazydfa_c.specs.declared.object.Searcher.{Searcher}
 use Rattle.lazydfa_c.specs.declared.object.Shared.{Shared}
 use Rattle.lazydfa_c.specs.declared.status.Status.{Status}
 
--- what `build_from_nfa` returns of an NFA: the regex of it and of its reverse
+-- what `build_from_nfa` returns of an NFA: the regex of it, which then keeps unions if it has a look cycle, and of its
+-- reverse
 abbrev pub IsRegexOf : Options → Automaton → Regex → Type 0
-IsRegexOf o nfa regex = (reverse : Automaton) × IsReversed nfa reverse × BuildsPair o nfa reverse regex
+IsRegexOf o nfa regex = BuildsOne o nfa regex
 
 -- the status is that of an error of `build_from_nfa`
 abbrev pub IsRegexRefusal : Options → Automaton → Status → Type 0

@@ -4,7 +4,7 @@ use Rattle.lazydfa_c.specs.declared.code.Code.{Code}
 use Rattle.lazydfa_c.specs.declared.code.Code.TheVariants.{Done, Nothing, Closed, Open, Kind, Argument, Memory}
 use Rattle.lazydfa_c.specs.declared.code.Code.TheVariants.{NoPattern, UnfinishedPattern, PatchRange, SparsePatch}
 use Rattle.lazydfa_c.specs.declared.code.Code.TheVariants.{TooLarge, StateRange, StartRange, PatternRange, Ranges}
-use Rattle.lazydfa_c.specs.declared.code.Code.TheVariants.{NotLazy, LookCycle, NotUtf8, Starts, Unsupported, Capacity}
+use Rattle.lazydfa_c.specs.declared.code.Code.TheVariants.{NotLazy, NotUtf8, Starts, Unsupported, Capacity}
 use Rattle.lazydfa_c.specs.declared.code.Code.TheVariants.{StateIDs, PatternCounts, Quit, GaveUp, Anchored, NotAPair}
 use Rattle.lazydfa_c.specs.declared.code.Code.TheVariants.{NoToken}
 
@@ -27,7 +27,6 @@ number_of StartRange = 16
 number_of PatternRange = 17
 number_of Ranges = 18
 number_of NotLazy = 20
-number_of LookCycle = 21
 number_of NotUtf8 = 22
 number_of Starts = 23
 number_of Unsupported = 24

@@ -43,7 +43,6 @@ told_build (dfa.PatternCounts forward reverse) = dfa.PatternCounts 0 0
 -- why a regex was not built: out of memory is told alike wherever it comes up
 abbrev pub told_regex : RegexBuildError → RegexBuildError
 told_regex regex.NotLazy = regex.NotLazy
-told_regex regex.LookCycle = regex.LookCycle
 told_regex regex.NotUtf8 = regex.NotUtf8
 told_regex regex.Starts = regex.Starts
 told_regex regex.TooLarge = regex.TooLarge

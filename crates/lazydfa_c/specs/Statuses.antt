@@ -64,7 +64,6 @@ build_status (dfa.PatternCounts forward reverse) = plain code.PatternCounts
 -- why a regex was not built
 abbrev pub regex_status : RegexBuildError → Status
 regex_status regex.NotLazy = plain code.NotLazy
-regex_status regex.LookCycle = plain code.LookCycle
 regex_status regex.NotUtf8 = plain code.NotUtf8
 regex_status regex.Starts = plain code.Starts
 regex_status regex.TooLarge = plain code.TooLarge

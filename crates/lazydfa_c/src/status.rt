@@ -150,7 +150,6 @@ impl From<RegexBuildError> for Status {
     fn from(error: RegexBuildError) -> Status {
         match error {
             RegexBuildError::NotLazy => Status::from(Code::NotLazy),
-            RegexBuildError::LookCycle => Status::from(Code::LookCycle),
             RegexBuildError::NotUtf8 => Status::from(Code::NotUtf8),
             RegexBuildError::Starts => Status::from(Code::Starts),
             RegexBuildError::TooLarge => Status::from(Code::TooLarge),

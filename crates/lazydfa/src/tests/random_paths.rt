@@ -1,10 +1,9 @@
 //! Two hundred NFAs of a fixed generator, searched beside their listed paths: plain, by walks and by sets.
 
-use super::paths::{MODES, half, spell};
+use super::paths::{MODES, spell};
 use super::plans::{capture, dense, id, pattern_id, targets};
-use super::walk_paths::{Listed, Name, list, prepare};
+use super::walk_paths::{Listed, prepare};
 use super::{Host, same_of};
-use regex_automata::hybrid::dfa::DFA;
 use regex_automata::nfa::thompson::{Flags, NFA, State, Transition};
 use regex_automata::util::look::Look;
 use regex_automata::util::primitives::{PatternID, StateID};
@@ -287,75 +286,9 @@ fn compare_haystack(rt: &impl Host, listed: &mut Listed, haystack: &[u8], tally:
 
 /// Searches, walks and sets over caches of the least and of an ample capacity.
 fn compare(rt: &impl Host, listed: &mut Listed, input: &Input<'_>, tally: &mut Tally) {
-    if listed.ample.dfa().get_nfa().is_look_acyclic() {
-        tally.count_answer(&listed.compare_halves(rt, input));
-        listed.compare_walks(rt, input);
-    } else {
-        tally.count_answer(&compare_ends(rt, listed, input));
-        compare_members(rt, listed, input);
-    }
+    tally.count_answer(&listed.compare_halves(rt, input));
+    listed.compare_walks(rt, input);
     tally.pairs = tally.pairs.saturating_add(listed.expected.len());
-}
-
-/// What is known of ends if a cycle of epsilon edges passes a look. It returns the answer by the paths.
-fn compare_ends(rt: &impl Host, listed: &mut Listed, input: &Input<'_>) -> Half {
-    let dfa = listed.ample.dfa();
-    let kind = dfa.get_config().get_match_kind();
-    let expected = half(rt, dfa.get_nfa(), kind, input);
-    let of = (listed.name, input);
-    let found = listed.tight.find(input).expect(rt, "a search");
-    same_end(rt, listed.tight.dfa(), &of, &found, &expected);
-    let found = listed.ample.find(input).expect(rt, "a search");
-    same_end(rt, listed.ample.dfa(), &of, &found, &expected);
-    expected
-}
-
-/// The nearest end, the farthest end, or whether there is a match.
-fn same_end(rt: &impl Host, dfa: &DFA, of: &(Name, &Input<'_>), found: &Half, expected: &Half) {
-    let nfa = dfa.get_nfa();
-    let is_all = dfa.get_config().get_match_kind() == MatchKind::All;
-    if of.1.get_earliest() || is_all {
-        same_of(rt, &end_of(found), &end_of(expected), of);
-    } else if !(nfa.is_utf8() && nfa.has_empty()) {
-        same_of(rt, &found.is_some(), &expected.is_some(), of);
-    }
-}
-
-fn end_of(half: &Half) -> Option<usize> {
-    match half {
-        Some(half) => Some(half.offset()),
-        None => None,
-    }
-}
-
-/// What is known of walks there: under `MatchKind::All`, the pairs of all paths.
-fn compare_members(rt: &impl Host, listed: &mut Listed, input: &Input<'_>) {
-    let dfa = listed.ample.dfa();
-    let kind = dfa.get_config().get_match_kind();
-    listed.expected = list(rt, dfa.get_nfa(), kind, input);
-    if kind == MatchKind::All {
-        listed.tight.walk(rt, input, &mut listed.found);
-        same_members(rt, listed, input);
-        listed.ample.walk(rt, input, &mut listed.found);
-        same_members(rt, listed, input);
-    }
-}
-
-/// The same pairs, whatever their order.
-fn same_members(rt: &impl Host, listed: &Listed, input: &Input<'_>) {
-    let (found, expected) = (listed.found.as_slice(), listed.expected.as_slice());
-    let of = (listed.name, input);
-    same_of(rt, &found.len(), &expected.len(), &of);
-    same_of(rt, &are_among(found, expected), &true, &of);
-}
-
-fn are_among(found: &[HalfMatch], expected: &[HalfMatch]) -> bool {
-    for pair in found {
-        if !expected.contains(pair) {
-            return false;
-        }
-    }
-    true
 }
 
 /// Forty NFAs from this number on, in both directions and of both match kinds, and what is counted of their paths.

@@ -49,6 +49,9 @@ const ROWS: &[Row] = &[
     ("what leads nowhere", Plan { states: &[Either(1, 2), Either(3, 4), Range(b'a', b'a', 5), Union,
         Range(b'a', b'a', 3), Accept(0), Range(0, 255, 7), Either(0, 6)], starts: (0, 7), patterns: &[0] }, ["aba",
         "0 0..1; 0 2..3", "0 2..3"]),
+    ("a cycle that passes a look", Plan { states: &[Either(1, 2), Assert(Look::WordAscii, 3), Range(b'%', b'%', 3),
+        Either(0, 4), Accept(0), Range(0, 255, 6), Either(0, 5)], starts: (0, 6), patterns: &[0] }, ["a%%b",
+        "0 0..0; 0 1..1; 0 2..3; 0 4..4", "0 4..4"]),
     ("a part that isn't reached", Plan { states: &[Range(b'a', b'a', 1), Accept(0), Range(b'b', b'b', 1),
         Range(0, 255, 4), Either(0, 3)], starts: (0, 4), patterns: &[0] }, ["abab", "0 0..1; 0 2..3", "0 2..3"]),
 ];
@@ -114,8 +117,6 @@ const REFUSED: &[(Automaton, &str)] = &[
     (Automaton::Planned(&Plan { states: &[Range(b'a', b'a', 1), Accept(0), Either(0, 3), Range(b'b', b'b', 2)],
         starts: (0, 2), patterns: &[0] }),
         "the unanchored start does not skip lazily, so an unanchored match may have no start"),
-    (Automaton::Planned(&Plan { states: &[Either(1, 2), Assert(Look::Start, 0), Accept(0)], starts: (0, 0),
-        patterns: &[0] }), "a cycle of edges that read nothing passes a look, so matches may not follow the paths"),
     (Automaton::Planned(&Plan { states: &[Range(b'a', b'a', 1), Accept(0)], starts: (0, 0), patterns: &[1] }),
         "the starts differ in the empty match, so the reversed NFA would have others"),
     (Automaton::Forward(Entry::Any), "a match may be invalid UTF-8, so in UTF-8 mode it might split a character"),

@@ -149,12 +149,14 @@ impl Compared for Listed {
     }
 }
 
+/// An NFA that keeps unions, if it has a look cycle, so that each answer is that of its ordered paths.
 pub fn prepare(rt: &impl Host, name: Name, nfa: NFA, kind: MatchKind) -> Listed {
     let config = Config::new()
         .match_kind(kind)
         .unicode_word_boundary(true)
         .starts_for_each_pattern(true);
     let least = config.cache_capacity(0).skip_cache_capacity_check(true);
+    let nfa = nfa.keeping_unions();
     let tight = walker(rt, nfa.clone().expect(rt, "a copy"), least);
     let ample = walker(rt, nfa, config);
     let (expected, found) = (Vec::new(rt.alloc()), Vec::new(rt.alloc()));
