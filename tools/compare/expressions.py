@@ -94,10 +94,11 @@ def random_expression(random: Random, depth: int, utf8: bool) -> Expression:
 
 
 def random_cycle(random: Random, depth: int, utf8: bool) -> Expression:
-    """A look or another expression, again and again, as in `(?:\\b|a)*`: a cycle of edges that read nothing passes it."""
+    """A look or another expression, again and again, as in `(?:\\b|a)*`: a cycle that reads nothing passes the look."""
     look = Look(random.choice([number for number, name in enumerate(LOOKS) if "Unicode" not in name]))
-    part = (look, random_expression(random, depth, utf8))
-    return Repeat(Either(part if random.random() < 0.7 else part[::-1]), random.randint(0, 1), False, random.random() < 0.8)
+    parts = (look, random_expression(random, depth, utf8))
+    either = Either(parts if random.random() < 0.7 else parts[::-1])
+    return Repeat(either, random.randint(0, 1), False, random.random() < 0.8)
 
 
 class Compiler:
