@@ -30,6 +30,11 @@ ENTRIES = {
     "any": ("0/0,0 utf8 E1,2 M0 B00-ff:0", ""),
     "runs": ("0/7,1,3 E1,3 B61-7a:2 E1,5 B30-39:4 E3,6 M0 M1 E0,8 B00-ff:7", ""),
     "a16": ("0/0,0 " + " ".join(f"B61:{number}" for number in range(1, 17)) + " M0", ""),
+    "percents": ("0/5,0 E1,2 LWordAscii:3 B25:3 E0,4 M0 E0,6 B00-ff:5", ""),
+    "starts": ("0/5,0 E1,2 LStart:3 B61:3 E0,4 M0 E0,6 B00-ff:5", "E1,2 LEnd:3 B61:3 E0,4 M0 E0,6 B00-ff:5"),
+    "bounds": ("0/5,0 E1,4 E2,3 LWordAscii:0 B61:0 M0 E0,6 B00-ff:5", ""),
+    "knot": ("0/7,4,1 E2,1 B61-7a:6 LWordAscii:3 E0,4 B78:5 M0 M1 E0,8 B00-ff:7",
+             "E4,1 B61-7a:6 LWordAscii:3 E2,5 B78:2 M0 M1 E0,8 B00-ff:7"),
 }
 PIECES = {
     "ab": (b"a", b"b", b"x"), "always": (b"a", b"b", b"x"), "never": (b"a", b"b", b"x"),
@@ -39,7 +44,8 @@ PIECES = {
     "snow": (b"a", b"\x98", b" ", b"\xe2\x98\x83", b"x"), "snowx": (b"x", b"\x98", b" ", b"\xe2\x98\x83", b"a"),
     "bound": (b"a", b" ", b"_"), "crlf": (b"\r", b"\n", b"a"),
     "any": (b"a", b"\x98", b"\xe2", b"\xe2\x98\x83", b"\xc3\xa9"), "runs": (b"a", b"1", b" "),
-    "a16": (b"aaaaaaaaaaaaaaa", b"a", b"x"),
+    "a16": (b"aaaaaaaaaaaaaaa", b"a", b"x"), "percents": (b"z", b"%", b" "), "starts": (b"a", b"b", b"\n"),
+    "bounds": (b"a", b" ", b"%"), "knot": (b"x", b"a", b" "),
 }
 
 

@@ -85,10 +85,20 @@ def random_expression(random: Random, depth: int, utf8: bool) -> Expression:
     if kind < 0.8:
         parts = tuple(random_expression(random, depth - 1, utf8) for _ in range(random.randint(2, 3)))
         return Joined(parts) if kind < 0.55 else Either(parts)
+    if kind < 0.83:
+        return random_cycle(random, depth - 1, utf8)
     part = random_expression(random, depth - 1, utf8)
-    if kind < 0.85:
+    if kind < 0.87:
         return Group(part)
     return Repeat(part, random.randint(0, 1), random.random() < 0.3, random.random() < 0.6)
+
+
+def random_cycle(random: Random, depth: int, utf8: bool) -> Expression:
+    """A look or another expression, again and again, as in `(?:\\b|a)*`: a cycle that reads nothing passes the look."""
+    look = Look(random.choice([number for number, name in enumerate(LOOKS) if "Unicode" not in name]))
+    parts = (look, random_expression(random, depth, utf8))
+    either = Either(parts if random.random() < 0.7 else parts[::-1])
+    return Repeat(either, random.randint(0, 1), False, random.random() < 0.8)
 
 
 class Compiler:

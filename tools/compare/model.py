@@ -116,12 +116,6 @@ def is_lazy(nfa: Nfa) -> bool:
     return loops and nfa.unanchored not in nfa.reached([nfa.anchored], True)
 
 
-def has_look_cycle(nfa: Nfa) -> bool:
-    """Whether edges that read nothing lead from a look back to it."""
-    return any(isinstance(node, Ask) and state in nfa.reached([node.target], False)
-               for state, node in enumerate(nfa.states))
-
-
 @lru_cache(maxsize=None)
 def decoded(pending: bytes, byte: int) -> Optional[bytes]:
     """What of a character is read after one byte more, or None where it cannot be UTF-8."""
@@ -157,8 +151,6 @@ def refusal(nfa: Nfa, decides_words: bool) -> Optional[str]:
     """Why no regex is made of an NFA. Looks at Unicode words ask for settings that decide them."""
     if not is_lazy(nfa):
         return "NotLazy"
-    if has_look_cycle(nfa):
-        return "LookCycle"
     if not keeps_utf8(nfa):
         return "NotUtf8"
     if nfa.is_empty_from([nfa.anchored]) != nfa.is_empty_from(nfa.patterns):

@@ -18,7 +18,7 @@ from compare import bases_of
 from entries import ENTRIES, PIECES, pair_of
 from expressions import written
 from graphs import ALPHABETS, random_graph, random_text
-from model import Haystack, Mirror, Nfa, TooManyPaths, has_look_cycle, refusal
+from model import Haystack, Mirror, Nfa, TooManyPaths, refusal
 from scripts import (
     REFUSALS, Input, Options, Request, Script, asks_words, half_words, is_unsupported, mixed, numbered, random_haystack,
     random_input, random_nfa, wanted)
@@ -41,27 +41,14 @@ def random_settings(random: Random, unicode: bool, starts: float) -> Options:
     return Options(" ".join(words), "all" in words, "starts" in words, unicode, frozenset(), False)
 
 
-def decides(kind: str, nfa: Nfa, options: Options, given: Input) -> bool:
-    """Whether the paths alone decide the reply. If a cycle that reads nothing passes a look, the nearest and the
-    farthest ends are those of the paths, and not all else is."""
-    if kind == "is" or not has_look_cycle(nfa):
-        return True
-    if kind == "which":
-        return options.all_kind and not given.earliest
-    is_alone = len(nfa.patterns) == 1
-    return is_alone and (options.all_kind or kind in ("rev", "walk rev") or kind == "fwd" and given.earliest)
-
-
 Texts = list[tuple[Haystack, Haystack]]
 
 
 def random_turn(random: Random, kind: str, texts: Texts, options: Options) -> Optional[list[Request]]:
-    """A request, and the steps of the walk that it begins; or nothing where the paths do not decide its reply."""
+    """A request, and the steps of the walk that it begins; or nothing where the walk has too many."""
     forward, backward = random.choice(texts)
     haystack = backward if kind in ("rev", "walk rev") else forward
     given = random_input(random, [haystack])
-    if not decides(kind, haystack.nfa, options, given):
-        return None
     if kind.startswith("walk"):
         begin = Request(f"{kind} {given.line()}", ["walk", "%w0"])
         how = (given.span, given.mode)

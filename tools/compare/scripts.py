@@ -12,7 +12,6 @@ from model import LOOKS, Accept, Ask, Found, Free, Haystack, Mode, Nfa, Read, Sp
 
 REFUSALS = {
     "NotLazy": "the unanchored start does not skip lazily, so an unanchored match may have no start",
-    "LookCycle": "a cycle of edges that read nothing passes a look, so matches may not follow the paths",
     "NotUtf8": "a match may be invalid UTF-8, so in UTF-8 mode it might split a character",
     "Starts": "the starts differ in the empty match, so the reversed NFA would have others",
     "Build": "unsupported regex feature for DFAs: cannot build lazy DFAs for regexes with Unicode word boundaries; "

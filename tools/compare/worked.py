@@ -26,11 +26,12 @@ SPANS = (
      "0 0..2 0 2..6 0 7..13", "0 7..13"),
     ("empty matches", "0/4,0 E1,2 B61:0 M0 B00-ff:4 E0,3", b"aabaa", "0 0..2 0 3..5", "0 3..5"),
     ("what leads nowhere", "0/7,0 E1,2 E3,4 B61:5 U B61:3 M0 B00-ff:7 E0,6", b"aba", "0 0..1 0 2..3", "0 2..3"),
+    ("a cycle that passes a look", "0/6,0 E1,2 LWordAscii:3 B25:3 E0,4 M0 B00-ff:6 E0,5", b"a%%b",
+     "0 0..0 0 1..1 0 2..3 0 4..4", "0 4..4"),
     ("a part that isn't reached", "0/4,0 B61:1 M0 B62:1 B00-ff:4 E0,3", b"abab", "0 0..1 0 2..3", "0 2..3"),
 )
 # An NFA of which no regex is made, and why.
-REFUSED = (("0/2,0 B61:1 M0 E0,3 B62:2", "NotLazy"), ("0/0,0 E1,2 LStart:0 M0", "LookCycle"),
-           ("0/0,1 B61:1 M0", "Starts"), ("0/0,0 utf8 E1,2 M0 B00-ff:0", "NotUtf8"))
+REFUSED = (("0/2,0 B61:1 M0 E0,3 B62:2", "NotLazy"), ("0/0,1 B61:1 M0", "Starts"), ("0/0,0 utf8 E1,2 M0 B00-ff:0", "NotUtf8"))
 
 
 def spans_of(shows: str, nfa: str, haystack: bytes, first: str, last: str) -> Script:

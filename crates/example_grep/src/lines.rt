@@ -7,7 +7,7 @@ ghost use Rattle.example_grep.specs.Lines.{AreMatching, AreMeant, HasMatch, IsSe
 use anyhow::Result;
 use regex_automata::hybrid::SearchError;
 use regex_automata::hybrid::dfa::{Cache, DFA};
-use regex_automata::laws::start_is_right;
+use regex_automata::laws::{cycles_are_kept, start_is_right};
 use regex_automata::util::search::Input;
 use std::alloc::Global;
 
@@ -39,7 +39,6 @@ pub struct Line<'t> {
 }
 
 impl LineSearcher {
-    /// A searcher of lines over a fresh cache of the DFA. Its lines are counted from 1.
     pub fn new(dfa: DFA) -> Result<LineSearcher>
         requires { IsLookAcyclic (nfa_of dfa.nfa) }
         ensures { IfOk result (λ s. s.dfa ≡ dfa) }
@@ -60,6 +59,7 @@ impl LineSearcher {
             (is : IsSearcherOf case_insensitive texts self.old.dfa) → IsTrue truth ↔ HasPart is.0.0 line.now) }
     {
         start_is_right();
+        cycles_are_kept();
         let _haystack = Input::new(line).haystack();
         let input = Input::new(line).earliest(true);
         let found = self.dfa.try_search_fwd(&mut self.cache, &input)?;

@@ -49,7 +49,7 @@ fn patterns_nfa(alloc: Global, options: &Options<'_>) -> Result<NFA, PatternErro
     nfa_of(alloc, options.patterns.as_slice(), &how)
 }
 
-/// Shows what is wrong with a pattern, and returns exit status 2.
+/// Shows what is wrong with a pattern.
 fn report(rt: &HostRuntime, options: &Options<'_>, error: PatternError) -> Result<ExitCode> {
     let pattern = options.patterns.get(error.number).copied().unwrap_or("");
     let shown = error.show(rt.alloc(), pattern)?;
@@ -69,12 +69,10 @@ fn line_searcher(nfa: NFA) -> Result<LineSearcher>
     LineSearcher::new(dfa)
 }
 
-/// The searcher of matches in a line, for an NFA.
 fn span_searcher(nfa: &NFA) -> Result<SpanSearcher> {
     SpanSearcher::new(Regex::builder().build_from_nfa(nfa.clone()?)?)
 }
 
-/// The grep of an NFA. It searches for matches in lines if these alone are to be shown.
 fn grep_of(alloc: Global, show: Show, nfa: NFA) -> Result<Grep> {
     let spans = if show.only_matches {
         Some(span_searcher(&nfa)?)
@@ -84,7 +82,7 @@ fn grep_of(alloc: Global, show: Show, nfa: NFA) -> Result<Grep> {
     Ok(Grep::new(alloc, show, line_searcher(nfa)?, spans))
 }
 
-/// Searches standard input. The exit status is 0 if a line has a match, and 1 if none has.
+/// Searches standard input.
 fn search(rt: &HostRuntime, show: Show, nfa: NFA) -> Result<ExitCode> {
     let mut grep = grep_of(rt.alloc(), show, nfa)?;
     grep.run(&mut rt.reader(), &mut io::writer(rt))?;
@@ -95,7 +93,6 @@ fn search(rt: &HostRuntime, show: Show, nfa: NFA) -> Result<ExitCode> {
     })
 }
 
-/// The arguments after the program's name.
 fn arguments(rt: &HostRuntime) -> Result<Vec<String>> {
     let mut all = Vec::new(rt.alloc());
     for argument in env::args(rt)?.skip(1) {
@@ -104,7 +101,6 @@ fn arguments(rt: &HostRuntime) -> Result<Vec<String>> {
     Ok(all)
 }
 
-/// Searches standard input for the patterns of the arguments, and returns the exit status.
 fn run(rt: &HostRuntime) -> Result<ExitCode> {
     let arguments = arguments(rt)?;
     let options = Options::read(rt.alloc(), arguments.as_slice())?;
@@ -114,7 +110,6 @@ fn run(rt: &HostRuntime) -> Result<ExitCode> {
     }
 }
 
-/// Runs the program. An error is written to standard error, and gives the exit status 2.
 fn main(rt: HostRuntime) -> ExitCode {
     match run(&rt) {
         Ok(status) => status,

@@ -42,11 +42,19 @@ pub enum Entry {
     Runs,
     /// `a{16}`, always anchored.
     A16,
+    /// `(?:\b|%)+`.
+    Percents,
+    /// `(?:^|a)+`.
+    Starts,
+    /// `(?:\b|a)*`.
+    Bounds,
+    /// `x` behind a cycle through `\b`, and `[a-z]`.
+    Knot,
 }
 
 impl Entry {
     /// All entries of the catalogue.
-    pub const ALL: [Entry; 17] = [
+    pub const ALL: [Entry; 21] = [
         Entry::Ab,
         Entry::Always,
         Entry::Never,
@@ -64,6 +72,10 @@ impl Entry {
         Entry::Any,
         Entry::Runs,
         Entry::A16,
+        Entry::Percents,
+        Entry::Starts,
+        Entry::Bounds,
+        Entry::Knot,
     ];
 
     /// The entry with this name, or none if no entry has it.
@@ -106,11 +118,15 @@ impl Entry {
             Entry::Any => Outline::new(&ANY, 0, &[0]).utf8(),
             Entry::Runs => Outline::new(&RUNS, 7, &[1, 3]),
             Entry::A16 => Outline::new(&A16, 0, &[0]),
+            Entry::Percents => Outline::new(&PERCENTS, 5, &[0]),
+            Entry::Starts => Outline::new(&STARTS, 5, &[0]).reversed(&STARTS_REVERSED),
+            Entry::Bounds => Outline::new(&BOUNDS, 5, &[0]),
+            Entry::Knot => Outline::new(&KNOT, 7, &[4, 1]).reversed(&KNOT_REVERSED),
         }
     }
 }
 
-const NAMES: [(&[u8], Entry); 17] = [
+const NAMES: [(&[u8], Entry); 21] = [
     (b"ab", Entry::Ab),
     (b"always", Entry::Always),
     (b"never", Entry::Never),
@@ -128,6 +144,10 @@ const NAMES: [(&[u8], Entry); 17] = [
     (b"any", Entry::Any),
     (b"runs", Entry::Runs),
     (b"a16", Entry::A16),
+    (b"percents", Entry::Percents),
+    (b"starts", Entry::Starts),
+    (b"bounds", Entry::Bounds),
+    (b"knot", Entry::Knot),
 ];
 
 /// A state as the tables below write it. The last number names the next state; for `Accept` it is the pattern.
@@ -375,6 +395,70 @@ const A16: [Line; 17] = [
     Byte(b'a', 15),
     Byte(b'a', 16),
     Accept(0),
+];
+
+const PERCENTS: [Line; 7] = [
+    Either(1, 2),
+    Assert(Look::WordAscii, 3),
+    Byte(b'%', 3),
+    Either(0, 4),
+    Accept(0),
+    Either(0, 6),
+    Range(0x00, 0xFF, 5),
+];
+
+const STARTS: [Line; 7] = [
+    Either(1, 2),
+    Assert(Look::Start, 3),
+    Byte(b'a', 3),
+    Either(0, 4),
+    Accept(0),
+    Either(0, 6),
+    Range(0x00, 0xFF, 5),
+];
+
+const STARTS_REVERSED: [Line; 7] = [
+    Either(1, 2),
+    Assert(Look::End, 3),
+    Byte(b'a', 3),
+    Either(0, 4),
+    Accept(0),
+    Either(0, 6),
+    Range(0x00, 0xFF, 5),
+];
+
+const BOUNDS: [Line; 7] = [
+    Either(1, 4),
+    Either(2, 3),
+    Assert(Look::WordAscii, 0),
+    Byte(b'a', 0),
+    Accept(0),
+    Either(0, 6),
+    Range(0x00, 0xFF, 5),
+];
+
+const KNOT: [Line; 9] = [
+    Either(2, 1),
+    Range(b'a', b'z', 6),
+    Assert(Look::WordAscii, 3),
+    Either(0, 4),
+    Byte(b'x', 5),
+    Accept(0),
+    Accept(1),
+    Either(0, 8),
+    Range(0x00, 0xFF, 7),
+];
+
+const KNOT_REVERSED: [Line; 9] = [
+    Either(4, 1),
+    Range(b'a', b'z', 6),
+    Assert(Look::WordAscii, 3),
+    Either(2, 5),
+    Byte(b'x', 2),
+    Accept(0),
+    Accept(1),
+    Either(0, 8),
+    Range(0x00, 0xFF, 7),
 ];
 
 /// The tables of an entry. The anchored start is state 0.

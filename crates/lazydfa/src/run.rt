@@ -147,11 +147,12 @@ fn entry_nfa(nfa: Result<NFA, NfaError>) -> Result<NFA, Refusal> {
     }
 }
 
-/// The regex of a forward and a reverse NFA.
+/// The regex of a forward and a reverse NFA. These keep unions if they have cycles through looks, so that replies follow
+/// the ordered paths.
 fn build_pair(forward: NFA, reverse: NFA, config: Config) -> Result<Regex, Refusal> {
     match Regex::builder()
         .dfa(config)
-        .build_from_nfas(forward, reverse)
+        .build_from_nfas(forward.keeping_unions(), reverse.keeping_unions())
     {
         Ok(regex) => Ok(regex),
         Err(error) => Err(Refusal::Build(RegexBuildError::Build(error))),

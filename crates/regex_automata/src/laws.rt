@@ -2,7 +2,8 @@
 ghost use Rattle.regex_automata.specs.Spans.Agreement.{MatchesAgree, TruthIffFound, TruthsAgree};
 
 pub use automata_base::laws::{
-    passes_report_paths, reported_is_right, start_is_right, steps_are_right, walk_is_right,
+    cycles_are_kept, passes_report_paths, reported_is_right, start_is_right, steps_are_right,
+    walk_is_right,
 };
 pub use automata_hybrid::laws::{
     answers_agree, cache_is_within, costs_are_few, first_match_is_found, known_stays,

@@ -8,7 +8,7 @@ use crate::catalogue::Entry;
 use crate::script::configured;
 use regex_automata::hybrid::BuildError;
 use regex_automata::hybrid::dfa::{Config, DFA};
-use regex_automata::nfa::thompson::NFA;
+use regex_automata::nfa::thompson::{NFA, NfaError};
 use std::alloc::Global;
 use std::fmt::Write;
 
@@ -31,8 +31,8 @@ pub enum Automaton {
 impl Automaton {
     pub fn nfa(self, rt: &impl Host) -> NFA {
         match self {
-            Automaton::Forward(entry) => entry.forward(rt.alloc()).expect(rt, "an entry"),
-            Automaton::Reverse(entry) => entry.reverse(rt.alloc()).expect(rt, "an entry"),
+            Automaton::Forward(entry) => kept(rt, entry.forward(rt.alloc())),
+            Automaton::Reverse(entry) => kept(rt, entry.reverse(rt.alloc())),
             Automaton::Planned(text) => plan(rt, text),
             Automaton::Crowd(patterns) => crowd(rt, patterns),
             Automaton::Always | Automaton::Never => panic!(rt; "it is built by the library"),
@@ -50,6 +50,11 @@ impl Automaton {
                 .build_from_nfa(self.nfa(rt)),
         }
     }
+}
+
+/// The NFA of an entry, which keeps unions if it has a look cycle.
+fn kept(rt: &impl Host, nfa: Result<NFA, NfaError>) -> NFA {
+    nfa.expect(rt, "an entry").keeping_unions()
 }
 
 /// What the row shows, what is called, its options as a script has them, the calls, and what they report, or why what

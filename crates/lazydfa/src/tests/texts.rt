@@ -129,8 +129,6 @@ const REVERSES: &[(ReverseError, Text)] = &[
 #[rattlefmt::skip]
 const REGEXES: &[(RegexBuildError, Text)] = &[
     (RegexBuildError::NotLazy, "the unanchored start does not skip lazily, so an unanchored match may have no start"),
-    (RegexBuildError::LookCycle,
-        "a cycle of edges that read nothing passes a look, so matches may not follow the paths"),
     (RegexBuildError::NotUtf8, "a match may be invalid UTF-8, so in UTF-8 mode it might split a character"),
     (RegexBuildError::Starts, OTHER_STARTS),
     (RegexBuildError::TooLarge, "the reversed NFA would be too large"),

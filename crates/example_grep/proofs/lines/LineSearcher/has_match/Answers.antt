@@ -1,6 +1,6 @@
 use Rattle.std.proofs.Common.{◌≡◌, ◌∙◌, ℕ, Bool, true, false, List, Option, None, Some, ap, subst, sym}
 use Rattle.std.specs.Prelude.{◌↔◌, IsTrue, is_some}
-use Rattle.regex_automata.specs.Promises.{Forward, Half, HalfMatch, Input, IsAnswer, IsHaystack, Machine, WithoutBase, engine_of, match_kind_of, without_base}
+use Rattle.regex_automata.specs.Promises.{Forward, Half, HalfMatch, Input, IsAnswer, IsHaystack, Machine, WithoutBase, engine_of, match_kind_of, nfa_of, without_base}
 use Rattle.example_meaning.specs.Patterns.{HasPart}
 use Rattle.example_meaning.proofs.Matching.{part_of_answer}
 use Rattle.example_meaning.proofs.Options.{some_map}
@@ -41,7 +41,7 @@ returns-clause-meant c = λ case_insensitive texts is.
     tells c.args.self.now.dfa c.args.line.now c.in_ok-found.found c.is_some.result case_insensitive texts is
     (subst (λ (i : Input). IsHaystack i.haystack) c.new.ensures c.haystack-haystack.ensures.bytes)
     (subst (λ i. WithoutBase (IsAnswer Forward (engine_of c.args.self.now.dfa.nfa (match_kind_of c.args.self.now.dfa.config)) i) c.in_ok-found.found)
-    same (c.in_ok-found.ensures.half.answer c.args.self.now.ordered))
+    same (c.in_ok-found.ensures.half.answer (c.cycles_are_kept.ensures.acyclic (nfa_of c.args.self.now.dfa.nfa) c.args.self.now.ordered)))
     c.is_some.ensures
 
 pub returns-clause-found : goal.returns-clause-found
@@ -50,5 +50,5 @@ returns-clause-found c =
     decides c.args.self.now.dfa c.args.line.now c.in_ok-found.found c.is_some.result
     (c.start_is_right.ensures.one.answer Forward (engine_of c.args.self.now.dfa.nfa (match_kind_of c.args.self.now.dfa.config)) (whole c.args.line.now))
     (subst (λ i. WithoutBase (IsAnswer Forward (engine_of c.args.self.now.dfa.nfa (match_kind_of c.args.self.now.dfa.config)) i) c.in_ok-found.found)
-    same (c.in_ok-found.ensures.half.answer c.args.self.now.ordered))
+    same (c.in_ok-found.ensures.half.answer (c.cycles_are_kept.ensures.acyclic (nfa_of c.args.self.now.dfa.nfa) c.args.self.now.ordered)))
     c.is_some.ensures
