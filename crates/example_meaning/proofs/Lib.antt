@@ -8,6 +8,7 @@ pub mod Runs
 pub mod Unions
 pub mod Lists
 pub mod Loops
+pub mod Acyclic
 pub mod Texts
 pub mod Spanning
 pub mod Means

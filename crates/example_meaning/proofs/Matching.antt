@@ -11,7 +11,8 @@ use Rattle.automata_base.specs.Answers.Answers.{Half, IsAnswer}
 use Rattle.automata_base.specs.Answers.Spans.{IsSpan}
 use Rattle.automata_base.specs.Haystacks.Input.{Input}
 use Rattle.automata_base.specs.Haystacks.Matches.{Match}
-use Rattle.automata_base.specs.Haystacks.Tapes.{Forward, IsHaystack, forward_tape}
+use Rattle.automata_base.specs.Haystacks.Tapes.{IsHaystack, forward_tape}
+use Rattle.automata_base.specs.declared.util.search.Direction.TheVariants.{Forward}
 use Rattle.automata_base.specs.Nfas.Engines.{Engine, IsSkipping}
 use Rattle.automata_base.specs.Paths.Selections.{Accepts}
 use Rattle.automata_base.proofs.Answers.Tried.{ComesTo}

@@ -10,7 +10,8 @@ use Rattle.regex_hir.proofs.OptionLemmas.{option_or-None}
 use Rattle.regex_nfa.specs.declared.nfa.Nfa as kit_nfa
 use Rattle.automata_base.specs.Answers.Spans.{IsSpan}
 use Rattle.automata_base.specs.Haystacks.Matches.{HalfMatch}
-use Rattle.automata_base.specs.Haystacks.Tapes.{Forward, IsHaystack, forward_tape}
+use Rattle.automata_base.specs.Haystacks.Tapes.{IsHaystack, forward_tape}
+use Rattle.automata_base.specs.declared.util.search.Direction.TheVariants.{Forward}
 use Rattle.automata_base.specs.Answers.TruePairs.{KeepsUtf8}
 use Rattle.automata_base.specs.Paths.Paths.{IsPathFrom}
 use Rattle.automata_base.proofs.Answers.Bytes.{forward_length}

@@ -12,7 +12,8 @@ use Rattle.automata_base.specs.Answers.Answers.{later}
 use Rattle.automata_base.specs.Answers.Spans.{IsSpan, IsPathStart, Chooses}
 use Rattle.automata_base.specs.Haystacks.Input.{Input}
 use Rattle.automata_base.specs.Haystacks.Matches.{Match}
-use Rattle.automata_base.specs.Haystacks.Tapes.{Forward, forward_tape, IsHaystack, is_split}
+use Rattle.automata_base.specs.Haystacks.Tapes.{forward_tape, IsHaystack, is_split}
+use Rattle.automata_base.specs.declared.util.search.Direction.TheVariants.{Forward}
 use Rattle.automata_base.specs.Nfas.Engines.{Engine, IsSkipping, LoopsLazily}
 use Rattle.automata_base.specs.Nfas.Nfa.{Nfa}
 use Rattle.automata_base.specs.Paths.Order.{Upto}

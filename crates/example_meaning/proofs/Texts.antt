@@ -8,7 +8,8 @@ use Rattle.std.specs.Int.{is_in_range}
 use Rattle.regex_hir.specs.Text.{is_boundary, is_none_or}
 use Rattle.automata_base.specs.Answers.TruePairs.{KeepsUtf8}
 use Rattle.automata_base.specs.Haystacks.Matches.{HalfMatch}
-use Rattle.automata_base.specs.Haystacks.Tapes.{Forward, IsHaystack, between, forward_tape, is_continuation, is_split}
+use Rattle.automata_base.specs.Haystacks.Tapes.{IsHaystack, between, forward_tape, is_continuation, is_split}
+use Rattle.automata_base.specs.declared.util.search.Direction.TheVariants.{Forward}
 use Rattle.automata_base.specs.Nfas.Engines.{Engine, MatchesEmpty}
 use Rattle.automata_base.specs.Nfas.Nfa.{Nfa, Split, accepts, hop_at, accepts_at, node}
 use Rattle.automata_base.specs.Paths.Paths.{HasEpsilonPath, IsPathFrom, Tape, all_true, truth}

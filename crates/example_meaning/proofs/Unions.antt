@@ -77,7 +77,7 @@ module _ (ks : List kit_nfa.Nfa) where
   pub holds_all : HoldsAll n 0 0 ks
   holds_all = holds_from n refl refl ks 0 0 [] _ refl refl
 
-  behind : (i : ℕ) → node n (union + i) ≡ node_or_fail (slice_get (Split (starts_of 0 ks) ∷ Split (union ∷ (union + 2) ∷ []) ∷ any_byte (union + 1) ∷ []) i)
+  pub behind : (i : ℕ) → node n (union + i) ≡ node_or_fail (slice_get (Split (starts_of 0 ks) ∷ Split (union ∷ (union + 2) ∷ []) ∷ any_byte (union + 1) ∷ []) i)
   behind i = ap node_or_fail (nth_right (nodes_of_all 0 0 ks) _ (union + i) i (let c = length-nodes_of_all 0 0 ks in omega (arith, c)))
 
   pub union_is : node n union ≡ Split (starts_of 0 ks)

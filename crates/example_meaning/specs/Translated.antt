@@ -78,6 +78,7 @@ nfa_of ks = let union = size_of ks in record {
       ++ Split (starts_of 0 ks) ∷ Split (union ∷ (union + 2) ∷ []) ∷ any_byte (union + 1) ∷ [];
   terminator = 10;
   reverse = false;
+  keeps_unions = false;
 }
 
 -- It is searched leftmost first: over text if `utf8` is true, and else over bytes.

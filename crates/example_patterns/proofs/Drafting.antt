@@ -111,16 +111,24 @@ pub finished : (draft : Draft) (ks : List kit_nfa.Nfa) (a : Automaton) (utf8 : B
     ∷ any_byte (length draft.states.items + 1) ∷ [] →
     a.start_pattern ≡ draft.starts.items → a.start_anchored ≡ length draft.states.items →
     a.start_unanchored ≡ length draft.states.items + 1 → a.flags ≡ record { utf8 = utf8; reverse = false; line_terminator = 10 } →
-    engine_of a LeftmostFirst ≡ engine utf8 ks
-finished draft ks a utf8 has nodes starts anchored unanchored flags =
+    a.keeps_unions ≡ false → engine_of a LeftmostFirst ≡ engine utf8 ks
+finished draft ks a utf8 has nodes starts anchored unanchored flags dropped =
     ap₂ (λ v (f : Flags). record {
-      nfa = record { nodes = v; terminator = f.line_terminator; reverse = f.reverse };
+      nfa = record { nodes = v; terminator = f.line_terminator; reverse = f.reverse; keeps_unions = a.keeps_unions };
       anchored = a.start_anchored;
       unanchored = a.start_unanchored;
       starts = a.start_pattern;
       utf8 = f.utf8;
       kind = LeftmostFirst;
     }) (nodes ∙ all) flags
+    ∙ ap (λ v. record {
+      nfa = record { nodes = (nfa_of ks).nodes; terminator = 10; reverse = false; keeps_unions = v };
+      anchored = a.start_anchored;
+      unanchored = a.start_unanchored;
+      starts = a.start_pattern;
+      utf8 = utf8;
+      kind = LeftmostFirst;
+    }) dropped
     ∙ ap₂ (λ v w. record { nfa = nfa_of ks; anchored = v; unanchored = w; starts = a.start_pattern; utf8 = utf8; kind = LeftmostFirst })
     (anchored ∙ count) (unanchored ∙ ap (λ v. v + 1) count)
     ∙ ap (λ v. record { nfa = nfa_of ks; anchored = size_of ks; unanchored = size_of ks + 1; starts = v; utf8 = utf8; kind = LeftmostFirst })

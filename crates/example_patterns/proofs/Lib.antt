@@ -1,2 +1,3 @@
+mod Building
 mod Drafting
 pub mod Searching

@@ -14,7 +14,8 @@ use Rattle.regex_automata.specs.Spans.Outcomes.{FindsMatch}
 use Rattle.regex_automata.proofs.Spans.ByPaths.{match_right}
 use Rattle.automata_base.specs.Haystacks.Input.{Input}
 use Rattle.automata_base.specs.Haystacks.Matches.{Match}
-use Rattle.automata_base.specs.Haystacks.Tapes.{Forward, IsHaystack}
+use Rattle.automata_base.specs.Haystacks.Tapes.{IsHaystack}
+use Rattle.automata_base.specs.declared.util.search.Direction.TheVariants.{Forward}
 use Rattle.automata_base.specs.Answers.TruePairs.{KeepsUtf8}
 use Rattle.automata_config.specs.declared.error.SearchError.{SearchError}
 use Rattle.regex_automata.specs.Regexes.SoundPairs.{forward_engine}
@@ -58,7 +59,7 @@ module _ (p : Regex) (o : Options) (res : List Re) (is : IsRegexOf o res p) (hay
       IfOk r (λ truth. truth ≡ is_some (find_any o.utf8 res hay 0))
   truth_means (Err error) h = tt
   truth_means (Ok truth) h =
-      truth_is (forward_engine p) res hay (find_any o.utf8 res hay) spans 0 truth (h.answer is.0.acyclic)
+      truth_is (forward_engine p) res hay (find_any o.utf8 res hay) spans 0 truth (h.answer is.0.cycles)
 
   all_of : (utf8 : Bool) (ms : List Match) →
       ((s : ℕ) → IsSpan (forward_engine p) (span_input hay s (length hay)) (option_map (match_of res hay) (find_any utf8 res hay s))) →

@@ -3,7 +3,9 @@ ghost use Rattle.std.specs.Prelude.{◌≡◌, ◌≤◌, List, [], ◌∷◌, I
 ghost use Rattle.regex_hir.specs.Re.{Re};
 ghost use Rattle.automata_base.specs.Answers.Spans.{AreMatches};
 ghost use Rattle.regex_automata.specs.Spans.Outcomes.{FindsMatch};
-ghost use Rattle.regex_automata.specs.Promises.{AreCachesOf, IsSpanOf, IsTruthOf};
+ghost use Rattle.automata_config.specs.Options.{overwritten, unset};
+ghost use Rattle.regex_automata.specs.Promises.{AreCachesOf, IsSoundPair, IsSpanOf, IsTruthOf};
+ghost use Rattle.regex_automata.specs.Regexes.Builds.{BuildsOne};
 ghost use Rattle.example_meaning.specs.Patterns.{find_all_any, find_any, match_of, span_input};
 ghost use Rattle.example_patterns.specs.Patterns.{IsFor, IsPatternOf, IsRegexOf};
 ghost use Rattle.example_patterns.specs.declared.compile.Options as options;
@@ -11,9 +13,10 @@ ghost use Rattle.example_patterns.specs.declared.compile.Options as options;
 use crate::compile::{Options, nfa_of};
 use crate::error::{Fault, PatternError};
 use regex_automata::hybrid::SearchError;
-use regex_automata::hybrid::dfa::DFA;
-use regex_automata::hybrid::regex::{Cache, Regex};
+use regex_automata::hybrid::dfa::{Config, DFA};
+use regex_automata::hybrid::regex::{Cache, Regex, RegexBuildError};
 use regex_automata::laws::{reported_is_right, start_is_right};
+use regex_automata::nfa::thompson::NFA;
 use regex_automata::util::search::{Input, Match};
 use std::alloc::{AllocError, Global};
 
@@ -30,6 +33,16 @@ impl Drop for Pattern {
     }
 }
 
+/// The regex of an NFA, by the settings of its DFAs.
+fn regex_of(nfa: NFA, config: Config) -> Result<Regex, RegexBuildError>
+    ensures sound { IfOk result IsSoundPair }
+    ensures built { IfOk result (BuildsOne (overwritten unset config) nfa) }
+{
+    let mut builder = Regex::builder();
+    builder.dfa(config);
+    builder.build_from_nfa(nfa)
+}
+
 impl Pattern {
     /// The pattern of a text.
     pub fn new(alloc: Global, text: &str, options: &Options) -> Result<Pattern, PatternError>
@@ -44,9 +57,8 @@ impl Pattern {
             IsPatternOf options.now (map (λ text. text.now) texts.now) pattern.regex) }
     {
         let nfa = nfa_of(alloc, texts, options)?;
-        let mut builder = Regex::builder();
-        builder.dfa(DFA::config().unicode_word_boundary(options.ascii));
-        match builder.build_from_nfa(nfa) {
+        let config = DFA::config().unicode_word_boundary(options.ascii);
+        match regex_of(nfa, config) {
             Ok(regex) => Ok(Pattern { regex }),
             Err(error) => {
                 let fault = Fault::Unbuilt(error);

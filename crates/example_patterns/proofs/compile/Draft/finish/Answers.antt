@@ -17,3 +17,4 @@ returns-in-Ok c = λ ks has.
     (ap (λ (a : Automaton). a.start_anchored) same ∙ first)
     (ap (λ (a : Automaton). a.start_unanchored) same ∙ c.in_ok-unanchored.ensures.start)
     (ap (λ (a : Automaton). a.flags) same)
+    (ap (λ (a : Automaton). a.keeps_unions) same)
