@@ -491,7 +491,8 @@ static inline lazydfa_status lazydfa_regex_build(lazydfa_regex *regex, lazydfa_b
 }
 
 /* The same of two NFAs, of which the second reads the same backward (lazydfa_set_reverse). Nothing tests that it does:
-   if it does not, a search may report a wrong start, or LAZYDFA_NOT_A_PAIR. The two builders are different handles. */
+   if it does not, a search may report a wrong start, or LAZYDFA_NOT_A_PAIR. The two builders are different handles. Both
+   NFAs may have cycles that read nothing and pass an assertion, as that of `(?:\b|%)+`. */
 static inline lazydfa_status lazydfa_regex_build_pair(lazydfa_regex *regex, lazydfa_builder *forward,
                                                       lazydfa_starts forward_starts, lazydfa_builder *reverse,
                                                       lazydfa_starts reverse_starts,

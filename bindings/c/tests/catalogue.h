@@ -56,6 +56,15 @@ static const struct state runs[] = { E(1, 3), R('a', 'z', 2), E(1, 5), D(4), E(3
 static const struct state a16[] = { B('a', 1), B('a', 2), B('a', 3), B('a', 4), B('a', 5), B('a', 6), B('a', 7), B('a', 8),
                                     B('a', 9), B('a', 10), B('a', 11), B('a', 12), B('a', 13), B('a', 14), B('a', 15),
                                     B('a', 16), M(0) };
+/* Their cycles of edges that read nothing pass an assertion. */
+static const struct state percents[] = { E(1, 2), L(LAZYDFA_LOOK_WORD_ASCII, 3), B('%', 3), E(0, 4), M(0), PREFIX(0, 5) };
+static const struct state starts[] = { E(1, 2), L(LAZYDFA_LOOK_START, 3), B('a', 3), E(0, 4), M(0), PREFIX(0, 5) };
+static const struct state starts_backward[] = { E(1, 2), L(LAZYDFA_LOOK_END, 3), B('a', 3), E(0, 4), M(0), PREFIX(0, 5) };
+static const struct state bounds[] = { E(1, 4), E(2, 3), L(LAZYDFA_LOOK_WORD_ASCII, 0), B('a', 0), M(0), PREFIX(0, 5) };
+static const struct state knot[] = { E(2, 1), R('a', 'z', 6), L(LAZYDFA_LOOK_WORD_ASCII, 3), E(0, 4), B('x', 5), M(0), M(1),
+                                     PREFIX(0, 7) };
+static const struct state knot_backward[] = { E(4, 1), R('a', 'z', 6), L(LAZYDFA_LOOK_WORD_ASCII, 3), E(2, 5), B('x', 2),
+                                              M(0), M(1), PREFIX(0, 7) };
 
 /* An entry: its states in both directions, the unanchored start, how many patterns it has and where they start. The
    anchored start is state 0. */
@@ -87,6 +96,10 @@ static const struct entry catalogue[] = {
     ENTRY("any", any, any, 0, 1, 0, 0, 1),
     ENTRY("runs", runs, runs, 7, 2, 1, 3, 0),
     ENTRY("a16", a16, a16, 0, 1, 0, 0, 0),
+    ENTRY("percents", percents, percents, 5, 1, 0, 0, 0),
+    ENTRY("starts", starts, starts_backward, 5, 1, 0, 0, 0),
+    ENTRY("bounds", bounds, bounds, 5, 1, 0, 0, 0),
+    ENTRY("knot", knot, knot_backward, 7, 2, 4, 1, 0),
 };
 
 #undef B

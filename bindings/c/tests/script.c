@@ -180,7 +180,10 @@ static lazydfa_status add_word(lazydfa_builder *b, struct outline *o, char *word
     case 'E':
     case 'U': return add_union(b, rest);
     case 'L': return add_look(b, rest);
-    case 'C': return lazydfa_add_capture_start(b, (uint32_t)number(rest), 0, &id);
+    case 'C': /* The group is one of a pattern. Without one the state is written as a union of its target. */
+        if (!o->pattern_count) return add_union(b, rest);
+        if (!o->begun) TRY(begin_patterns(b, o, 1));
+        return lazydfa_add_capture_start(b, (uint32_t)number(rest), 0, &id);
     case 'F': return lazydfa_add_fail(b, &id);
     case 'M':
         pattern = (uint32_t)number(rest);
@@ -361,9 +364,6 @@ static void refuse(const struct definition *d, lazydfa_status status) {
                (unsigned long)d->settings.cache_capacity, (unsigned long)status.offset);
         break;
     case LAZYDFA_NOT_LAZY: puts("the unanchored start does not skip lazily, so an unanchored match may have no start"); break;
-    case LAZYDFA_LOOK_CYCLE:
-        puts("a cycle of edges that read nothing passes a look, so matches may not follow the paths");
-        break;
     case LAZYDFA_NOT_UTF8: puts("a match may be invalid UTF-8, so in UTF-8 mode it might split a character"); break;
     case LAZYDFA_STARTS: puts("the starts differ in the empty match, so the reversed NFA would have others"); break;
     default: puts(lazydfa_code_text(status.code));

@@ -143,27 +143,6 @@ fn look_cycles() -> Result<(), Error> {
     Ok(())
 }
 
-/// `(?:\b|%)+`, whose cycle passes a look
-#[test]
-fn look_cycles() -> Result<(), Error> {
-    let mut builder = Builder::new()?;
-    builder.start_pattern()?;
-    let boundary = builder.add_look(StateID::ZERO, Look::WordAscii)?;
-    let percent = builder.add_range(Transition { start: b'%', end: b'%', next: StateID::ZERO })?;
-    let either = builder.add_union(vec![boundary, percent])?;
-    let found = builder.add_match()?;
-    let more = builder.add_union(vec![either, found])?;
-    builder.patch(boundary, more)?;
-    builder.patch(percent, more)?;
-    builder.finish_pattern(either)?;
-    let prefix = builder.add_unanchored_prefix(either)?;
-    let regex = with(Config::new(), &builder.build(either, prefix))?;
-    let mut cache = regex.create_cache()?;
-    let found: Result<Vec<_>, _> = regex.find_iter(&mut cache, "z%").map(|m| m.map(|m| m.range())).collect();
-    assert_eq!(found?, [0..0, 1..1]);
-    Ok(())
-}
-
 /// A regex is built of two NFAs, but not of one NFA twice.
 #[test]
 fn pairs() -> Result<(), Error> {

@@ -4,3 +4,4 @@ mod Slots
 mod States
 mod Values
 mod Written
+mod Opening

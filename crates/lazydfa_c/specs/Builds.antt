@@ -4,6 +4,7 @@ use Rattle.std.specs.Prelude.{suc, ◌⊎◌, ◌==◌, ◌&&◌, not, List, [],
 use Rattle.std.specs.Prelude.{slice_set}
 use Rattle.automata_base.specs.Nfas.Drafts.{Draft}
 use Rattle.automata_base.specs.Nfas.Nodes.{Automaton}
+use Rattle.automata_base.specs.Nfas.Unions.{IsKeepingUnions}
 use Rattle.automata_base.specs.declared.util.search.MatchKind.{MatchKind}
 use Rattle.automata_base.specs.declared.util.search.MatchKind.TheVariants.{All, LeftmostFirst}
 use Rattle.automata_config.specs.Options.{Options, overwritten, quits_of, unset}
@@ -43,6 +44,20 @@ IsPairOf o forward reverse regex = BuildsPair o forward reverse regex
 abbrev pub IsPairRefusal : Options → (forward reverse : Automaton) → Status → Type 0
 IsPairRefusal o forward reverse status =
     (e : BuildError) × (pair_refusal o forward reverse ≡ Some e) × (status ≡ build_status e)
+
+-- each NFA keeps unions if it has a look cycle
+pub record AreKeeping (forward reverse front back : Automaton) : Type 0 where
+  pub ahead : IsKeepingUnions forward front
+  pub behind : IsKeepingUnions reverse back
+
+-- the same of the two, which then keep unions if they have look cycles
+abbrev pub IsKeepingPairOf : Options → (forward reverse : Automaton) → Regex → Type 0
+IsKeepingPairOf o forward reverse regex =
+    (front back : Automaton) × AreKeeping forward reverse front back × IsPairOf o front back regex
+
+abbrev pub IsKeepingPairRefusal : Options → (forward reverse : Automaton) → Status → Type 0
+IsKeepingPairRefusal o forward reverse status =
+    (front back : Automaton) × AreKeeping forward reverse front back × IsPairRefusal o front back status
 
 -- the object is this regex
 abbrev pub IsRegexObject : Regex → (is_sound : Bool) → Object → Type 0
@@ -121,7 +136,7 @@ OpensOf o old new (Err e) done = (new ≡ old) × (done ≡ Err e)
 abbrev pub OpensPair : Options → (old new : Handle) → Automaton → Result Automaton Status
     → Result (Unit {0}) Status → Type 0
 OpensPair o old new forward (Ok reverse) done =
-    OpensRegex (IsPairOf o forward reverse) (IsPairRefusal o forward reverse) false old new done
+    OpensRegex (IsKeepingPairOf o forward reverse) (IsKeepingPairRefusal o forward reverse) false old new done
 OpensPair o old new forward (Err e) done = (new ≡ old) × (done ≡ Err e)
 
 -- a regex of the NFA of a builder, which is put back

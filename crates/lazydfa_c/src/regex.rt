@@ -3,7 +3,7 @@ ghost use Rattle.std.specs.Prelude.{◌≡◌, IfErr, IfOk, Ok, OnErr, OnOk, Som
 ghost use Rattle.automata_base.specs.Nfas.Nodes.{Automaton};
 ghost use Rattle.automata_config.specs.Options.{overwritten, unset};
 ghost use Rattle.regex_automata.specs.Promises.{IsSoundPair};
-ghost use Rattle.lazydfa_c.specs.Builds.{IsFreshOf, IsPairOf, IsPairRefusal, IsRegexIn, IsRegexOf, IsRegexRefusal};
+ghost use Rattle.lazydfa_c.specs.Builds.{IsFreshOf, IsKeepingPairOf, IsKeepingPairRefusal, IsPairOf, IsPairRefusal, IsRegexIn, IsRegexOf, IsRegexRefusal};
 ghost use Rattle.lazydfa_c.specs.Builds.{BuildsRegex, BuildsRegexPair, CreatesCache, IsNfaIn, IsNfaOf, NewsCache, OpensIn};
 ghost use Rattle.lazydfa_c.specs.Builds.{OpensAfter, OpensPairIn, OpensRegex, SharesRegex, WithOptions, kind_of, options_of};
 ghost use Rattle.lazydfa_c.specs.Calls.{Reads};
@@ -111,19 +111,23 @@ fn open_sound(alloc: Global, handle: &mut Handle, nfa: NFA, config: Config) -> R
     open(alloc, handle, regex, true)
 }
 
-/// Opens a handle on the regex of two NFAs.
+/// Opens a handle on the regex of two NFAs, which keep unions if they have cycles through look-around assertions.
 fn open_pair(
     alloc: Global,
     handle: &mut Handle,
     nfas: (NFA, NFA),
     config: Config,
 ) -> Result<(), Status>
-    ensures { OpensRegex (IsPairOf (overwritten unset config) nfas.0 nfas.1)
-        (IsPairRefusal (overwritten unset config) nfas.0 nfas.1) false handle.old handle.new result }
+    ensures { OpensRegex (IsKeepingPairOf (overwritten unset config) nfas.0 nfas.1)
+        (IsKeepingPairRefusal (overwritten unset config) nfas.0 nfas.1) false handle.old handle.new result }
 {
     let (forward, reverse) = nfas;
-    let regex = pair_of(forward, reverse, config)?;
-    open(alloc, handle, regex, false)
+    let front = forward.keeping_unions();
+    let back = reverse.keeping_unions();
+    match pair_of(front, back, config) {
+        Ok(regex) => open(alloc, handle, regex, false),
+        Err(status) => Err(status),
+    }
 }
 
 fn build_of(

@@ -1,0 +1,18 @@
+use Rattle.std.proofs.Common.{false, inl, refl}
+use Rattle.lazydfa_c.specs.Builds.{AreKeeping}
+use Rattle.lazydfa_c.proofs.Opening.{opens}
+use Rattle.lazydfa_c.proofs.regex.open_pair.Goals as goal
+
+pub returns-in-Ok : goal.returns-in-Ok
+returns-in-Ok c =
+    let keeping : AreKeeping c.args.nfas.0 c.args.nfas.1 c.keeping_unions-front.result c.keeping_unions-back.result =
+    record { ahead = c.keeping_unions-front.ensures.same; behind = c.keeping_unions-back.ensures.same } in
+    opens _ _ false c.in-Ok.regex c.args.handle.now c.open.new.handle c.open.result
+    (c.keeping_unions-front.result, c.keeping_unions-back.result, keeping, c.in-Ok.ensures.built)
+    c.open.ensures.opened c.open.ensures.same c.open.ensures.err
+
+pub returns-in-Err : goal.returns-in-Err
+returns-in-Err c =
+    let keeping : AreKeeping c.args.nfas.0 c.args.nfas.1 c.keeping_unions-front.result c.keeping_unions-back.result =
+    record { ahead = c.keeping_unions-front.ensures.same; behind = c.keeping_unions-back.ensures.same } in
+    (refl, inl (c.keeping_unions-front.result, c.keeping_unions-back.result, keeping, c.in-Err.ensures.refused))
