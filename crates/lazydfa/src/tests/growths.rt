@@ -86,7 +86,6 @@ const CALLS: &[Lazy] = &[
     ("a cache", WORDS, "", &[], &[(Replace, "-"), (Find("@foo bar"), "half 1 4")], &[(0, "out of memory")]),
     ("a search", WORDS, "", &[], &[(Find("@foo bar"), "half 1 4"), (Brief, "1082")], AT_ONCE),
     ("whether an NFA keeps UTF-8", Forward(Entry::Snow), "", &[], &[(KeepsUtf8, "true")], ONCE),
-    ("and one that is read backward", Reverse(Entry::Snow), "", &[], &[(KeepsUtf8, "true")], ONCE),
     ("the reversed NFA", WORDS, "", &[], &[(PatternsOfReversed, "2")], ONCE),
     ("a cache of a reverse DFA", WORDS_BACK, "", &[], &[(Replace, "-"), (Find("@foo bar"), "half 0 5")], ONCE),
     ("a reverse search", WORDS_BACK, "", &[], &[(Find("@foo bar"), "half 0 5"), (Brief, "1087")], &[(0, "memory")]),
