@@ -47,6 +47,13 @@ PIECES = {
     "a16": (b"aaaaaaaaaaaaaaa", b"a", b"x"), "percents": (b"z", b"%", b" "), "starts": (b"a", b"b", b"\n"),
     "bounds": (b"a", b" ", b"%"), "knot": (b"x", b"a", b" "),
 }
+# A text with matches, for each entry that has a pattern.
+FOUND = {
+    "ab": b"abab", "always": b"ab", "never": b"ab", "date": b"x2018-12-24 2", "words": b"@foo bar", "abc": b"cabac",
+    "aa": b"baa", "bnum": b"a 12 3", "wordend": b"ab cd", "empty": b"a\xe2\x98\x83", "snow": b"xa\xe2\x98\x83x",
+    "snowx": b"xa\xe2\x98\x83x", "bound": b"ab c", "crlf": b"a\r\nb\n", "any": b"a\xe2\x98\x83", "runs": b"12ab 34",
+    "a16": b"a" * 16, "percents": b"a%%b", "starts": b"aaba", "bounds": b"aa-a", "knot": b"xax-x",
+}
 
 
 def ranges_of(text: str) -> tuple[tuple[int, int, int], ...]:

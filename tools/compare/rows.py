@@ -15,7 +15,7 @@ from random import Random
 from typing import Callable, Iterator, Optional
 
 from compare import bases_of
-from entries import ENTRIES, PIECES, pair_of
+from entries import ENTRIES, FOUND, PIECES, pair_of
 from expressions import written
 from graphs import ALPHABETS, random_graph, random_text
 from model import Haystack, Mirror, Nfa, TooManyPaths, refusal
@@ -30,6 +30,7 @@ SEED = 1
 MADE, PAIRS = 230, 330
 BOTH = ("fwd", "rev", "which", "is", "tok", "walk fwd", "walk rev")
 ALL = BOTH + ("find", "find", "iter", "iter")
+PLAIN = ("fwd", "rev", "find", "is", "iter", "tok", "which 2")
 
 
 def random_settings(random: Random, unicode: bool, starts: float) -> Options:
@@ -121,12 +122,44 @@ def listed(name: str, is_made: bool) -> Callable[[Random], Script]:
     return script
 
 
+def goes_through(name: str) -> Iterator[Script]:
+    """Each request to an entry of the catalogue, in each match kind, over texts of its pieces."""
+    forward, backward = pair_of(name)
+    random = Random(name)
+    texts = [b"".join(random.choices(PIECES[name], k=length))[:16] for length in (1, 3, 5)] + [FOUND[name]]
+    for line in ("", "all"):
+        words = [line] * (line != "") + ["unicode"] * asks_words(forward)
+        options = Options(" ".join(words), line == "all", False, True, frozenset(), False)
+        script = Script([Request(f"regex {name} {options.line}".rstrip(), ["regex", "%r0"])], [Request("reset %r0", ["ok"])])
+        for number, text in enumerate(texts):
+            given = (Haystack(forward, text), Mirror(backward, text))
+            script.requests += each_request(number, given, options)
+        yield script
+
+
+def each_request(number: int, texts: tuple[Haystack, Haystack], options: Options) -> list[Request]:
+    """All requests to a text. The walks that they begin have this number and the next, and give all their matches."""
+    forward, backward = texts
+    span = (0, len(forward.bytes))
+    requests = []
+    for kind in PLAIN:
+        given = Input(backward if kind == "rev" else forward, span, "unanchored", False)
+        requests.append(Request(f"{kind} {given.line()}", wanted(kind, given, options)))
+    for way, pairs in (("fwd", forward.walk(span, "unanchored", options.all_kind)),
+                       ("rev", backward.walk_back(span, "unanchored"))):
+        name = f"%w{2 * number + (way == 'rev')}"
+        requests.append(Request(f"walk {way} {forward.bytes.hex() or '-'}", ["walk", name]))
+        replies = [["half", str(pattern), str(at)] for pattern, at in pairs] + [["none"]]
+        requests += [Request(f"step {name}", reply) for reply in replies]
+    return requests
+
+
 def all_parts() -> list[Script]:
     """All parts. A random one is made again if its paths are too many."""
     random = Random(SEED)
     makers = [made] * MADE + [paired] * PAIRS
     makers += [listed(name, is_made) for name in ENTRIES for is_made in (False, False, False, name != "any")]
-    parts = worked_parts()
+    parts = worked_parts() + [script for name in ENTRIES for script in goes_through(name)]
     for make in makers:
         while True:
             try:
