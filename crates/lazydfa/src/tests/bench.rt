@@ -1,18 +1,44 @@
-//! Calls of the library over one lazy DFA and its cache, and what they report.
+//! Calls of the library over one lazy DFA and two caches of it, walks and sets among them, and what they report.
 
-ghost use Rattle.std.specs.Prelude.{◌<◌, ◌^◌, IfOk, IsTrue};
+ghost use Rattle.std.specs.Prelude.{◌<◌, ◌≡◌, ◌^◌, IfOk, IsTrue};
+ghost use Rattle.lazydfa.specs.Walks.{IsWalkOver};
 ghost use Rattle.regex_automata.specs.Promises.{HoldsRow, IsCacheOf};
 
 use super::Host;
-use super::plans::Mode;
-use super::reported::{Counted, Reported, letter};
-use super::reports::{Automaton, Caller};
-use regex_automata::hybrid::dfa::{Cache, DFA};
+use super::plans::{Mode, pattern_id};
+use super::reported::{Counted, Reported, letter, prints};
+use super::reports::{Automaton, Caller, Short, Turns, write_reported};
+use regex_automata::hybrid::dfa::{Cache, DFA, OverlappingState};
 use regex_automata::hybrid::{BuildError, LazyStateID, SearchError, StartError, StepError};
 use regex_automata::nfa::thompson::{NFA, ReverseError};
-use regex_automata::util::search::{Anchored, HalfMatch, Input};
+use regex_automata::util::search::{Anchored, HalfMatch, Input, PatternSet};
 use regex_automata::util::start;
 use std::alloc::{AllocError, Global};
+use std::mem;
+
+/// What walks and sets are over.
+#[derive(Clone, Copy)]
+pub enum Over {
+    Nothing,
+    Text(&'static str),
+    /// A haystack from an offset to an offset.
+    Span(&'static str, usize, usize),
+}
+
+impl Over {
+    /// The input that is walked over.
+    pub fn input(self) -> Input<'static> {
+        match self {
+            Over::Nothing => Input::new(b""),
+            Over::Text(haystack) => Input::new(haystack.as_bytes()),
+            Over::Span(haystack, start, end) => within(haystack.as_bytes(), start, end),
+        }
+    }
+}
+
+/// An NFA, and what its walks and sets are over.
+#[derive(Clone, Copy)]
+pub struct On(pub Automaton, pub Over);
 
 /// A call.
 #[derive(Clone, Copy)]
@@ -22,15 +48,14 @@ pub enum Call {
     FindEarliest(&'static str),
     /// Searches a haystack from an offset to an offset.
     FindIn(&'static str, usize, usize),
-    FindAnchored(&'static str, usize, usize),
+    /// As `FindIn`, forward, with the offset where the last of its spans began.
+    FindBased(&'static str, usize, usize),
     /// Searches a piece that is repeated so often.
     FindRepeated(&'static str, usize),
-    /// The same so often, each time from the last end on: what the last search found.
+    /// Searches it so often, each time from the last end on: what the last search found.
     FindEach(&'static str, usize),
     /// Searches a mebibyte of letters `a` and `b` of a fixed generator.
     FindLetters,
-    /// The same as `FindIn`, forward, with the offset where the last of its spans began.
-    FindBased(&'static str, usize, usize),
     /// The start of a search of a haystack, and whether it has a tag.
     StartOn(Mode, &'static str),
     /// The unanchored start after this byte.
@@ -40,68 +65,200 @@ pub enum Call {
     Step(u8),
     Steps(&'static str),
     End,
-    /// The cached step on a byte, if it is cached.
-    Known(u8),
-    /// The state to which was stepped.
-    State,
-    /// Its patterns.
-    Matched,
+    /// The walk's next match.
+    Next,
+    /// Begins the walk again. So does each call above but `Find`, and each one from `Replace` on.
+    Begin,
+    /// What the walk has found last.
+    Match,
+    /// What a copy of the walk has found last.
+    MatchOfCopy,
+    /// Whether the walk is printed so for debugging.
+    Prints(&'static str),
+    /// Adds a pattern to a set that is kept.
+    Insert(u8),
+    /// Adds the patterns of all matches to that set.
+    Fill,
+    /// Goes on over the other cache.
+    Switch,
+    Reset,
     /// How often the cache was cleared, its memory, the bytes searched, and whether a search is in progress.
     Counts,
-    /// The memory, and the tags of the state.
-    Brief,
-    /// Replaces the cache by a new one.
-    Replace,
-    /// The same by `Cache::new`.
-    ReplaceByNew,
-    Reset,
-    /// The same by `Cache::reset`.
-    ResetByCache,
-    /// How many patterns the NFA has, a copy of it, and a copy of the DFA.
-    Patterns,
-    PatternsOfNfaCopy,
-    PatternsOfCopy,
-    PatternsOfReversed,
-    /// The memory of the DFA beside its NFA.
-    Memory,
-    Classes,
-    /// Whether the NFA keeps UTF-8.
-    KeepsUtf8,
-    /// The least capacity that the settings may have.
-    Minimum,
     /// Whether one byte can be allocated.
     Room,
+    /// Replaces the cache by a new one.
+    Replace,
+    /// Replaces it by `Cache::new`.
+    ReplaceByNew,
+    /// Resets it by `Cache::reset`.
+    ResetByCache,
+    /// The memory, and the tags of the state to which was stepped.
+    Brief,
+    /// Whether the NFA and the DFA can be copied.
+    Copies,
+    /// How many patterns the reversed NFA has.
+    PatternsOfReversed,
+    /// Whether the NFA keeps UTF-8.
+    KeepsUtf8,
 }
 
-/// A lazy DFA with a cache of its own, the state to which was stepped, and the states that were reported.
+/// A set of some of the first three patterns, each as a digit of a number: 1, 10 and 100. Each that comes after is a
+/// thousand.
+fn digits_of(set: &PatternSet) -> usize {
+    let [zero, one, two] = [has(set, 0), has(set, 1), has(set, 2)];
+    zero + 10 * one + 100 * two + 1000 * set.len().min(4).saturating_sub(zero + one + two)
+}
+
+/// One if a set has this pattern, and else none.
+fn has(set: &PatternSet, number: u8) -> usize {
+    usize::from(set.contains(pattern_id(number)))
+}
+
+/// A lazy DFA with two caches, of which calls use the first, the state to which was stepped, a set of patterns, and
+/// what is walked over.
 #[derive(Drop)]
 pub struct Bench {
     dfa: DFA,
     cache: Cache,
+    other: Cache,
     at: LazyStateID,
-    reported: [LazyStateID; 8],
-    count: usize,
+    set: PatternSet,
+    over: Over,
     ghost of: { IsCacheOf cache dfa },
+    ghost other_of: { IsCacheOf other dfa },
 }
 
 impl Bench {
-    /// Before any start.
-    fn new(rt: &impl Host, dfa: DFA) -> Bench {
+    /// Before any call.
+    fn new(rt: &impl Host, dfa: DFA, over: Over) -> Bench {
         let cache = dfa.create_cache().expect(rt, "a cache");
-        let at = LazyStateID::default();
+        let other = dfa.create_cache().expect(rt, "a cache");
+        let set = PatternSet::new(rt.alloc(), 4).expect(rt, "a set");
         Bench {
             dfa,
             cache,
-            at,
-            reported: [at; 8],
-            count: 0,
+            other,
+            at: LazyStateID::default(),
+            set,
+            over,
         }
     }
 
-    /// What a call reports, whatever it changes.
+    /// Writes what the calls of a walk over this input report, and those between them.
+    fn report_turns(
+        &mut self,
+        rt: &impl Host,
+        input: &Input<'_>,
+        calls: &[Call],
+        walk: &mut OverlappingState,
+        text: &mut String,
+    )
+        requires { IsWalkOver self.old.dfa input.now walk.old }
+    {
+        for call in calls {
+            write_reported(rt, text, &self.report_of(rt.alloc(), input, *call, walk));
+        }
+    }
+
+    /// Makes the calls of a turn.
+    fn take_turns(
+        &mut self,
+        rt: &impl Host,
+        input: &Input<'_>,
+        row: &Short<On, Call>,
+        walk: &mut OverlappingState,
+        turns: &mut Turns,
+    )
+        requires { IsWalkOver self.old.dfa input.now walk.old }
+    {
+        for call in row.3 {
+            self.hear(rt, input, *call, walk, turns);
+        }
+        turns.lend(rt);
+        for (number, due) in row.4.iter().enumerate() {
+            self.hear(rt, input, due.0, walk, turns);
+            if turns.refuses(rt, number, due.1, row.5) {
+                self.hear(rt, input, due.0, walk, turns);
+            }
+            turns.has_reported(rt, due.1, row.0);
+        }
+    }
+
+    /// Makes a call, whose report is kept.
+    fn hear(
+        &mut self,
+        rt: &impl Host,
+        input: &Input<'_>,
+        call: Call,
+        walk: &mut OverlappingState,
+        turns: &mut Turns,
+    )
+        requires { IsWalkOver self.old.dfa input.now walk.old }
+        ensures { IsWalkOver self.new.dfa input.now walk.new }
+    {
+        turns.hear(rt, &self.report_of(rt.alloc(), input, call, walk));
+    }
+
+    /// What a call reports. A call of the walk may change it, and so may one that begins it again.
+    fn report_of(
+        &mut self,
+        alloc: Global,
+        input: &Input<'_>,
+        call: Call,
+        walk: &mut OverlappingState,
+    ) -> Reported
+        requires { IsWalkOver self.old.dfa input.now walk.old }
+        ensures { IsWalkOver self.new.dfa input.now walk.new }
+    {
+        match call {
+            Call::Next => {
+                let stepped = step(&self.dfa, &mut self.cache, input, walk);
+                reported_of_step(stepped, walk.get_match())
+            }
+            Call::Match => Reported::Half(Ok(walk.get_match())),
+            Call::MatchOfCopy => reported_of_copy(walk),
+            Call::Prints(text) => Reported::of_flag(prints(alloc, walk, text)),
+            Call::Find(_)
+            | Call::Insert(_)
+            | Call::Fill
+            | Call::Switch
+            | Call::Reset
+            | Call::Counts
+            | Call::Room => self.call_beside(alloc, input, call),
+            _ => {
+                let reported = self.call(alloc, call);
+                *walk = OverlappingState::start();
+                reported
+            }
+        }
+    }
+
+    /// A call that leaves the walk as it is.
+    fn call_beside(&mut self, alloc: Global, input: &Input<'_>, call: Call) -> Reported
+        ensures { self.new.dfa ≡ self.old.dfa }
+    {
+        match call {
+            Call::Find(haystack) => {
+                let input = Input::new(haystack.as_bytes());
+                Reported::Half(search(&self.dfa, &mut self.cache, &input))
+            }
+            Call::Insert(pattern) => {
+                Reported::of_flag(self.set.try_insert(pattern_id(pattern)) == Ok(true))
+            }
+            Call::Fill => fill(&self.dfa, &mut self.cache, input, &mut self.set),
+            Call::Switch => {
+                self.switch();
+                Reported::Word("-")
+            }
+            Call::Reset => Reported::of_growth(self.dfa.reset_cache(&mut self.cache)),
+            Call::Counts => self.counts(),
+            _ => Reported::of_flag(Vec::<u8>::with_capacity(alloc, 1).is_ok()),
+        }
+    }
+
+    /// A call that begins the walk again.
     fn call(&mut self, alloc: Global, call: Call) -> Reported {
         match call {
-            Call::Find(haystack) => self.find(&Input::new(haystack.as_bytes())),
             Call::FindEarliest(haystack) => {
                 self.find(&Input::new(haystack.as_bytes()).earliest(true))
             }
@@ -110,9 +267,6 @@ impl Bench {
                 start,
                 end,
             )),
-            Call::FindAnchored(haystack, start, end) => {
-                self.find(&within(haystack.as_bytes(), start, end).anchored(Anchored::Yes))
-            }
             Call::FindBased(haystack, start, end) => self.find_based(&within(
                 haystack.as_bytes(),
                 start,
@@ -129,45 +283,43 @@ impl Bench {
             Call::Step(byte) => Reported::of_step(self.step(byte)),
             Call::Steps(bytes) => Reported::of_step(self.steps(bytes)),
             Call::End => Reported::of_step(self.end()),
+            _ => self.renew(call),
+        }
+    }
+
+    /// A call that makes the cache as new, or does not change it.
+    fn renew(&mut self, call: Call) -> Reported {
+        match call {
             Call::Replace | Call::ReplaceByNew => {
                 let made = self.made(call);
                 self.replace(made)
             }
-            Call::Reset => Reported::of_growth(self.dfa.reset_cache(&mut self.cache)),
             Call::ResetByCache => Reported::of_growth(self.cache.reset(&self.dfa)),
-            _ => self.ask(alloc, call),
+            Call::Brief => Reported::Number("", self.cache.memory_usage(), letter(self.at)),
+            Call::Copies => {
+                let nfa: Result<NFA, AllocError> = self.dfa.get_nfa().clone();
+                let dfa: Result<DFA, AllocError> = self.dfa.clone();
+                Reported::of_flag(nfa.is_ok() && dfa.is_ok())
+            }
+            Call::PatternsOfReversed => patterns_of_reversed(self.dfa.get_nfa()),
+            Call::KeepsUtf8 => keeps_utf8(self.dfa.get_nfa()),
+            _ => Reported::Word("-"),
         }
     }
 
-    /// A call that does not change the cache.
-    fn ask(&mut self, alloc: Global, call: Call) -> Reported {
-        match call {
-            Call::Known(byte) => self.known(byte),
-            Call::State => self.state(self.at),
-            Call::Matched => self.matched(),
-            Call::Counts => self.counts(),
-            Call::Brief => self.brief(),
-            Call::Patterns => Reported::Number("", self.dfa.pattern_len(), ""),
-            Call::PatternsOfNfaCopy => patterns_of(self.dfa.get_nfa().clone()),
-            Call::PatternsOfCopy => lazy_patterns_of(self.dfa.clone()),
-            Call::PatternsOfReversed => patterns_of_reversed(self.dfa.get_nfa()),
-            Call::Memory => Reported::Number("", self.dfa.memory_usage(), ""),
-            Call::Classes => Reported::Number("", self.dfa.byte_classes().alphabet_len(), ""),
-            Call::KeepsUtf8 => keeps_utf8(self.dfa.get_nfa()),
-            Call::Minimum => self.minimum(),
-            _ => Reported::of_flag(Vec::<u8>::with_capacity(alloc, 1).is_ok()),
-        }
+    /// Puts the other cache first.
+    fn switch(&mut self)
+        ensures { self.new.dfa ≡ self.old.dfa }
+    {
+        mem::swap(&mut self.cache, &mut self.other);
     }
 
     /// Searches in the direction of the NFA.
-    fn search(&mut self, input: &Input<'_>) -> Result<Option<HalfMatch>, SearchError> {
-        search(&self.dfa, &mut self.cache, input)
-    }
-
     fn find(&mut self, input: &Input<'_>) -> Reported {
-        Reported::Half(self.search(input))
+        Reported::Half(search(&self.dfa, &mut self.cache, input))
     }
 
+    /// Searches forward, with the offset where the last span began.
     fn find_based(&mut self, input: &Input<'_>) -> Reported {
         match self.dfa.try_search_fwd_base(&mut self.cache, input) {
             Ok(Some((half, place))) => {
@@ -186,11 +338,13 @@ impl Bench {
         }
     }
 
+    /// Searches so often, each time from the end of the match before: what the last search found.
     fn find_each(&mut self, text: &[u8], times: usize) -> Result<Option<HalfMatch>, SearchError> {
         let mut found = Ok(None);
         let mut start = 0usize;
         for _ in 0..times {
-            found = self.search(&within(text, start, text.len()));
+            let input = within(text, start, text.len());
+            found = search(&self.dfa, &mut self.cache, &input);
             if let Ok(Some(half)) = found {
                 start = half.offset();
             }
@@ -198,6 +352,7 @@ impl Bench {
         found
     }
 
+    /// The start of a search of an input, and whether it has a tag.
     fn start_on(&mut self, input: &Input<'_>) -> Reported {
         match self.begin(input) {
             Ok(()) => Reported::of_flag(self.at.is_tagged()),
@@ -206,10 +361,7 @@ impl Bench {
         }
     }
 
-    fn brief(&self) -> Reported {
-        Reported::Number("", self.cache.memory_usage(), letter(self.at))
-    }
-
+    /// Goes to the start of a mode after a byte.
     fn start(&mut self, mode: Anchored, behind: Option<u8>) -> Result<(), StartError> {
         let config = start::Config::new().anchored(mode).look_behind(behind);
         self.at = self.dfa.start_state(&mut self.cache, &config)?;
@@ -232,6 +384,7 @@ impl Bench {
         Ok(())
     }
 
+    /// The steps on some bytes.
     fn steps(&mut self, bytes: &str) -> Result<(), StepError> {
         for byte in bytes.as_bytes() {
             self.step(*byte)?;
@@ -247,53 +400,14 @@ impl Bench {
         Ok(())
     }
 
-    /// The cached step on a byte, from a state that the cache has and that has no tag.
-    fn known(&mut self, byte: u8) -> Reported {
-        if self.at.is_tagged() || !self.has_state() {
-            return Reported::Word("-");
-        }
-        let id = self.dfa.next_state_untagged(&self.cache, self.at, byte);
-        self.state(id)
-    }
-
-    fn state(&mut self, id: LazyStateID) -> Reported {
-        let mut number = 0usize;
-        for reported in &self.reported {
-            if number >= self.count || *reported == id {
-                break;
-            }
-            number = number.saturating_add(1);
-        }
-        if number >= self.count && number < 8 {
-            self.reported[number] = id;
-            self.count = number + 1;
-        }
-        Reported::Number("state ", number, letter(id))
-    }
-
-    /// How many patterns match, and the last of them.
-    fn matched(&self) -> Reported {
-        if self.at.is_dead() || self.at.is_quit() || !self.has_state() {
-            return Reported::Word("-");
-        }
-        if !self.at.is_match() {
-            return Reported::Word("patterns 0");
-        }
-        let count = self.dfa.match_len(&self.cache, self.at);
-        let last = self.dfa.match_pattern(&self.cache, self.at, count - 1);
-        Reported::Patterns(count, last.as_usize())
-    }
-
+    /// What is counted of the cache, and whether a search is in progress.
     fn counts(&self) -> Reported {
-        let (clears, memory, searched, in_progress) = self.totals();
-        let behind = if in_progress { " open" } else { "" };
-        Reported::Counts((clears, memory, searched), behind)
-    }
-
-    /// How often the cache was cleared, its memory, the bytes searched, and whether a search is in progress.
-    fn totals(&self) -> (usize, usize, usize, bool) {
-        let (clears, memory, searched) = counted(&self.cache);
-        (clears, memory, searched, self.cache.in_progress())
+        let behind = if self.cache.in_progress() {
+            " open"
+        } else {
+            ""
+        };
+        Reported::Counts(counted(&self.cache), behind)
     }
 
     /// The start of a search of an input.
@@ -316,6 +430,7 @@ impl Bench {
         }
     }
 
+    /// Puts a cache that was made in the place of this one.
     fn replace(&mut self, made: Result<Cache, AllocError>) -> Reported
         requires { IfOk made (λ made. IsCacheOf made self.old.dfa) }
     {
@@ -327,36 +442,81 @@ impl Bench {
             Err(_) => Reported::Refused(BuildError::OutOfMemory),
         }
     }
+}
 
-    fn minimum(&self) -> Reported {
-        let config = self.dfa.get_config();
-        match config.get_minimum_cache_capacity(self.dfa.get_nfa()) {
-            Ok(minimum) => Reported::Number("", minimum, ""),
-            Err(error) => Reported::Refused(error),
-        }
+/// A call of a walk in the direction of the NFA.
+fn step(
+    dfa: &DFA,
+    cache: &mut Cache,
+    input: &Input<'_>,
+    walk: &mut OverlappingState,
+) -> Result<(), SearchError>
+    requires of { IsCacheOf cache.old dfa.now }
+    requires walk { IsWalkOver dfa.now input.now walk.old }
+    ensures of { IsCacheOf cache.new dfa.now }
+    ensures walk { IsWalkOver dfa.now input.now walk.new }
+{
+    if dfa.get_nfa().is_reverse() {
+        dfa.try_search_overlapping_rev(cache, input, walk)
+    } else {
+        dfa.try_search_overlapping_fwd(cache, input, walk)
     }
 }
 
+/// What a call of a walk reports. If it fails, the walk has no match.
+fn reported_of_step(stepped: Result<(), SearchError>, found: Option<HalfMatch>) -> Reported {
+    match stepped {
+        Err(_) if found.is_some() => Reported::Word("a refusal with a match"),
+        Err(error) => Reported::Half(Err(error)),
+        Ok(()) => Reported::Half(Ok(found)),
+    }
+}
+
+/// What a copy of the walk has found last; it shares the state of the walk.
+fn reported_of_copy(walk: &OverlappingState) -> Reported {
+    match walk.clone() {
+        Ok(copy) => Reported::Half(Ok(copy.get_match())),
+        Err(_) => Reported::Refused(BuildError::OutOfMemory),
+    }
+}
+
+/// Adds the patterns of all matches to a set. It reports those that the set has then, and why it has no more.
+fn fill(dfa: &DFA, cache: &mut Cache, input: &Input<'_>, set: &mut PatternSet) -> Reported
+    requires { IsCacheOf cache.old dfa.now }
+    ensures { IsCacheOf cache.new dfa.now }
+{
+    let filled = dfa.try_which_overlapping_matches(cache, input, set);
+    Reported::Set(digits_of(set), filled)
+}
+
 impl Caller for Bench {
-    type Of = Automaton;
+    type Of = On;
 
     type Call = Call;
 
-    fn make(rt: &impl Host, of: Automaton, options: &str) -> Result<Bench, BuildError> {
-        match of.build(rt, options) {
-            Ok(dfa) => Ok(Bench::new(rt, dfa)),
+    fn make(rt: &impl Host, of: On, options: &str) -> Result<Bench, BuildError> {
+        let On(automaton, over) = of;
+        match automaton.build(rt, options) {
+            Ok(dfa) => Ok(Bench::new(rt, dfa, over)),
             Err(error) => Err(error),
         }
     }
 
+    /// What a call reports that needs no walk.
     fn answer(&mut self, alloc: Global, call: Call) -> Reported {
-        let before = self.totals();
-        let reported = self.call(alloc, call);
-        let may_change = matches!(call, Call::Steps(_));
-        if reported.is_refusal() && !may_change && self.totals() != before {
-            return Reported::Word("a refusal that changed the cache");
-        }
-        reported
+        self.call(alloc, call)
+    }
+
+    fn report(&mut self, rt: &impl Host, calls: &[Call], text: &mut String) {
+        let input = self.over.input();
+        let mut walk = OverlappingState::start();
+        self.report_turns(rt, &input, calls, &mut walk, text);
+    }
+
+    fn take(&mut self, rt: &impl Host, row: &Short<On, Call>, turns: &mut Turns) {
+        let input = self.over.input();
+        let mut walk = OverlappingState::start();
+        self.take_turns(rt, &input, row, &mut walk, turns);
     }
 }
 
@@ -376,6 +536,7 @@ pub fn search(
     }
 }
 
+/// Whether an NFA keeps UTF-8.
 fn keeps_utf8(nfa: &NFA) -> Reported {
     match nfa.keeps_utf8() {
         Ok(keeps) => Reported::of_flag(keeps),
@@ -383,13 +544,7 @@ fn keeps_utf8(nfa: &NFA) -> Reported {
     }
 }
 
-fn patterns_of(copy: Result<NFA, AllocError>) -> Reported {
-    match copy {
-        Ok(nfa) => Reported::Number("", nfa.pattern_len(), ""),
-        Err(_) => Reported::Refused(BuildError::OutOfMemory),
-    }
-}
-
+/// How many patterns the reversed NFA has.
 fn patterns_of_reversed(nfa: &NFA) -> Reported {
     match nfa.reversed() {
         Ok(reversed) => Reported::Number("", reversed.pattern_len(), ""),
@@ -398,13 +553,7 @@ fn patterns_of_reversed(nfa: &NFA) -> Reported {
     }
 }
 
-fn lazy_patterns_of(copy: Result<DFA, AllocError>) -> Reported {
-    match copy {
-        Ok(dfa) => Reported::Number("", dfa.pattern_len(), ""),
-        Err(_) => Reported::Refused(BuildError::OutOfMemory),
-    }
-}
-
+/// A text that is repeated so often.
 fn repeated(alloc: Global, piece: &str, count: usize) -> Result<Vec<u8>, AllocError> {
     let mut text = Vec::new(alloc);
     for _ in 0..count {

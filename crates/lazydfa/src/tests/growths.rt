@@ -1,35 +1,31 @@
 //! Allocations that fail, by rows. Each test is a process of its own, so it may use up all memory.
 
-use super::bench::{Bench, Call};
+use super::bench::{Bench, Call, On, Over};
 use super::plans::Mode;
 use super::regex_bench::{Ask, Pair, RegexBench};
 use super::reports::{Automaton, ONCE, Refusal, Short, answer_within, refuse_each};
-use super::walker::{Over, Turn, Walked, Walker};
 use crate::catalogue::Entry;
 use Automaton::{Chain, Forward, Planned, Reverse};
 use Call::{
-    Brief, Classes, Counts, End, Find, FindIn, KeepsUtf8, Known, Matched, Memory, Minimum,
-    Patterns, PatternsOfCopy, PatternsOfNfaCopy, PatternsOfReversed, Replace, ReplaceByNew, Reset,
-    Room, Start, StartIn, StartOn, State, Step, Steps,
+    Begin, Brief, Copies, Counts, End, Fill, Find, FindIn, Insert, KeepsUtf8, Match, MatchOfCopy,
+    Next, PatternsOfReversed, Replace, ReplaceByNew, Reset, Room, Start, StartIn, StartOn, Step,
+    Steps, Switch,
 };
 use Mode::{Every, First, Of};
-use Over::{Span, Text};
-use Turn::{Begin, Fill, Insert, Match, Next, Switch, Which};
+use Over::{Nothing, Span, Text};
 
 /// Rows over a lazy DFA and its cache, and over a regex.
-type Lazy = Short<Automaton, Call>;
+type Lazy = Short<On, Call>;
 
 type Regex = Short<Pair, Ask>;
 
-type Walk = Short<Walked, Turn>;
+const AB: On = On(Forward(Entry::Ab), Nothing);
 
-const AB: Automaton = Forward(Entry::Ab);
+const WORDS: On = On(Forward(Entry::Words), Nothing);
 
-const WORDS: Automaton = Forward(Entry::Words);
+const WORDS_BACK: On = On(Reverse(Entry::Words), Nothing);
 
-const WORDS_BACK: Automaton = Reverse(Entry::Words);
-
-const A16: Automaton = Forward(Entry::A16);
+const A16: On = On(Forward(Entry::A16), Nothing);
 
 /// Sixteen bytes.
 const AS: &str = "aaaaaaaaaaaaaaaa";
@@ -42,22 +38,20 @@ const AT_ONCE: &[Refusal] = &[(0, "memory")];
 const KNOWN: &[Lazy] = &[
     ("a search over known transitions grows nothing", AB, "limit=0", &[Find("ab")], &[(Find("ab"), "half 0 2"),
         (Counts, "0 678 4"), (Room, "false")], &[]),
-    ("nor does a reverse one", Reverse(Entry::Ab), "limit=0", &[Find("ab")], &[(Find("ab"), "half 0 0"),
+    ("nor does a reverse one", On(Reverse(Entry::Ab), Nothing), "limit=0", &[Find("ab")], &[(Find("ab"), "half 0 0"),
         (Room, "false")], &[]),
-    ("nor a search over no span, though nothing is known yet", Forward(Entry::Always), "", &[],
-        &[(FindIn("ab", 2, 1), "none"), (Find("ab"), "memory")], &[]),
-    ("steps that are known take no memory, and others are refused", AB, "", &[Start(None), Steps("ab"), End, State],
-        &[(Start(None), "-"), (Steps("ab"), "-"), (End, "-"), (State, "state 0m"), (Start(None), "-"),
+    ("nor a search over no span, though nothing is known yet", On(Forward(Entry::Always), Nothing), "",
+        &[], &[(FindIn("ab", 2, 1), "none"), (Find("ab"), "memory")], &[]),
+    ("steps that are known take no memory, and others are refused", AB, "", &[Start(None), Steps("ab"), End],
+        &[(Start(None), "-"), (Steps("ab"), "-"), (End, "-"), (Brief, "678m"), (Start(None), "-"),
         (Step(b'x'), "out of memory")], &[]),
-    ("patterns of a match, a known step, and what is counted", Forward(Entry::Aa), "all", &[Start(None), State,
-        Steps("aa")], &[(Matched, "patterns 2 last 1"), (Start(None), "-"), (Known(b'a'), "state 1"),
-        (Counts, "0 651 0"), (Classes, "4"), (Minimum, "1895"), (Patterns, "2"), (Memory, "0"), (Room, "false")], &[]),
     ("copies of the NFA and of the DFA, which share what they are copies of", WORDS, "", &[],
-        &[(PatternsOfNfaCopy, "2"), (PatternsOfCopy, "2"), (Room, "false")], &[]),
+        &[(Copies, "true"), (Room, "false")], &[]),
     ("a start that is known, though the cache is full", A16, "noclasses capacity=37281", &[Find(AS)],
         &[(StartOn(Every, AS), "false"), (Counts, "1 19288 3")], &[]),
 ];
 
+/// Calls that allocate nothing answer in no memory.
 #[test]
 fn goes_known_ways_without_memory(rt: HostRuntime) {
     refuse_each::<Bench>(&rt, KNOWN);
@@ -74,6 +68,7 @@ const FRESH: &[Lazy] = &[
 /// How much memory is lent for it, in bytes.
 const LITTLE: usize = 1 << 13;
 
+/// A fresh cache takes no more than a few KB.
 #[test]
 fn makes_fresh_caches_in_little_memory(rt: HostRuntime) {
     answer_within::<Bench>(&rt, LITTLE, FRESH);
@@ -85,7 +80,7 @@ const FULL: &str = "noclasses capacity=37281";
 const CALLS: &[Lazy] = &[
     ("a cache", WORDS, "", &[], &[(Replace, "-"), (Find("@foo bar"), "half 1 4")], &[(0, "out of memory")]),
     ("a search", WORDS, "", &[], &[(Find("@foo bar"), "half 1 4"), (Brief, "1082")], AT_ONCE),
-    ("whether an NFA keeps UTF-8", Forward(Entry::Snow), "", &[], &[(KeepsUtf8, "true")], ONCE),
+    ("whether an NFA keeps UTF-8", On(Forward(Entry::Snow), Nothing), "", &[], &[(KeepsUtf8, "true")], ONCE),
     ("the reversed NFA", WORDS, "", &[], &[(PatternsOfReversed, "2")], ONCE),
     ("a cache of a reverse DFA", WORDS_BACK, "", &[], &[(Replace, "-"), (Find("@foo bar"), "half 0 5")], ONCE),
     ("a reverse search", WORDS_BACK, "", &[], &[(Find("@foo bar"), "half 0 5"), (Brief, "1087")], &[(0, "memory")]),
@@ -98,10 +93,11 @@ const CALLS: &[Lazy] = &[
         (Step(b'a'), "-"), (Counts, "0 36105 0")], ONCE),
     ("a step that clears, and two more", A16, FULL, &[Start(None), Steps("aaaaaaaaaaaaa")], &[(Step(b'a'), "-"),
         (Step(b'a'), "-"), (Step(b'a'), "-"), (Counts, "1 17187 0")], ONCE),
-    ("a start that clears", Chain("LWordAscii:1", 20), "noclasses capacity=37645", &[Start(None),
-        Steps("aaaaaaaaaaaaa"), Counts], &[(Start(Some(b'a')), "-"), (Counts, "1 10965 0")], ONCE),
+    ("a start that clears", On(Chain("LWordAscii:1", 20), Nothing), "noclasses capacity=37645",
+        &[Start(None), Steps("aaaaaaaaaaaaa")], &[(Start(Some(b'a')), "-"), (Counts, "1 10965 0")], ONCE),
 ];
 
+/// Caches, searches and steps answer right after each allocation that failed.
 #[test]
 fn calls_after_each_refused_growth(rt: HostRuntime) {
     refuse_each::<Bench>(&rt, CALLS);
@@ -143,12 +139,13 @@ const STARTS: &[Lazy] = &[
         (Step(b'@'), "-"), (Brief, "625d")], &[]),
 ];
 
+/// Start states answer right after each allocation that failed.
 #[test]
 fn starts_after_each_refused_growth(rt: HostRuntime) {
     refuse_each::<Bench>(&rt, STARTS);
 }
 
-const OVER_WORDS: Walked = Walked(WORDS, Text("@a b"));
+const OVER_WORDS: On = On(Forward(Entry::Words), Text("@a b"));
 
 /// No byte at all, and eleven bytes `a`, whose match needs more rows than a new cache has room for.
 const NONE_OR_ELEVEN: &str =
@@ -156,39 +153,41 @@ const NONE_OR_ELEVEN: &str =
 
 /// If memory runs out, a call has no match, and the next call has the one that was due.
 #[rattlefmt::skip]
-const WALKS: &[Walk] = &[
-    ("over known transitions a walk takes no memory", Walked(Forward(Entry::Aa), Text("aa")), "all", &[Next, Next,
+const WALKS: &[Lazy] = &[
+    ("over known transitions a walk takes no memory", On(Forward(Entry::Aa), Text("aa")), "all", &[Next, Next,
         Next, Next, Next], &[(Begin, "-"), (Next, "half 0 1"), (Next, "half 1 1"), (Next, "half 0 2"),
-        (Next, "half 1 2"), (Next, "none"), (Turn::Room, "false")], &[]),
-    ("nor does one in reverse", Walked(Reverse(Entry::Aa), Text("aa")), "all limit=0", &[Next, Next, Next, Next, Next],
+        (Next, "half 1 2"), (Next, "none"), (Room, "false")], &[]),
+    ("nor does one in reverse", On(Reverse(Entry::Aa), Text("aa")), "all limit=0", &[Next, Next, Next, Next, Next],
         &[(Begin, "-"), (Next, "half 0 1"), (Next, "half 1 1"), (Next, "half 0 0"), (Next, "half 1 0"), (Next, "none"),
-        (Turn::Room, "false")], &[]),
-    ("nor from a state that it holds and that the cache has, else it owes its pair", Walked(Forward(Entry::Aa),
+        (Room, "false")], &[]),
+    ("nor from a state that it holds and that the cache has, else it owes its pair", On(Forward(Entry::Aa),
         Text("aa")), "all", &[Next, Next, Next, Next, Next, Begin, Next, Next], &[(Switch, "-"), (Next, "memory"),
         (Match, "none"), (Next, "memory"), (Switch, "-"), (Next, "half 0 2"), (Next, "half 1 2"), (Next, "none"),
         (Switch, "-"), (Next, "none"), (Match, "none")], &[]),
-    ("nor for another pattern of a place", Walked(Forward(Entry::Aa), Text("aa")), "all", &[Next], &[(Switch, "-"),
-        (Next, "half 1 1"), (Next, "memory"), (Match, "none"), (Next, "memory"), (Turn::Counts, "0 481 0")], &[]),
-    ("nor for a copy", Walked(Forward(Entry::Aa), Text("aa")), "all", &[Next], &[(Turn::Copy, "half 0 1"),
-        (Turn::Room, "false")], &[]),
-    ("nor over a done span", Walked(Forward(Entry::Always), Span("ab", 2, 1)), "all", &[], &[(Next, "none"),
-        (Next, "none"), (Turn::Counts, "0 221 0")], &[]),
-    ("over known transitions a search for a set takes none", OVER_WORDS, "all", &[Which(4)], &[(Fill, "{0 1}")], &[]),
+    ("nor for another pattern of a place", On(Forward(Entry::Aa), Text("aa")), "all", &[Next], &[(Switch, "-"),
+        (Next, "half 1 1"), (Next, "memory"), (Match, "none"), (Next, "memory"), (Counts, "0 481 0")], &[]),
+    ("nor for a copy", On(Forward(Entry::Aa), Text("aa")), "all", &[Next], &[(MatchOfCopy, "half 0 1"),
+        (Room, "false")], &[]),
+    ("nor over a done span", On(Forward(Entry::Always), Span("ab", 2, 1)), "all", &[], &[(Next, "none"),
+        (Next, "none"), (Counts, "0 221 0")], &[]),
+    ("over known transitions a search for a set takes none", OVER_WORDS, "all", &[Fill], &[(Fill, "set 11")], &[]),
     ("each call over another cache", OVER_WORDS, "all", &[], &[(Next, "half 1 1"), (Switch, "-"), (Next, "half 1 2"),
         (Switch, "-"), (Next, "half 0 2"), (Switch, "-"), (Next, "half 0 4"), (Switch, "-"), (Next, "half 1 4"),
         (Switch, "-"), (Next, "none")], AT_ONCE),
-    ("each call over another cache in reverse", Walked(WORDS_BACK, Text("@a b")), "all", &[], &[(Next, "half 0 3"),
+    ("each call over another cache in reverse", On(Reverse(Entry::Words), Text("@a b")), "all", &[],
+        &[(Next, "half 0 3"),
         (Switch, "-"), (Next, "half 1 3"), (Switch, "-"), (Next, "half 0 1"), (Switch, "-"), (Next, "half 1 1"),
         (Switch, "-"), (Next, "half 1 0"), (Switch, "-"), (Next, "none")], AT_ONCE),
-    ("across a clear", Walked(A16, Text(AS)), "all noclasses capacity=37281", &[], &[(Next, "half 0 16"),
+    ("across a clear", On(Forward(Entry::A16), Text(AS)), "all noclasses capacity=37281", &[], &[(Next, "half 0 16"),
         (Switch, "-"), (Next, "none")], AT_ONCE),
-    ("a set that has a pattern keeps it, and with memory it gets the rest", Walked(Planned(NONE_OR_ELEVEN), Text(AS)),
-        "all", &[Insert(2)], &[(Fill, "{0 1 2}")], &[(0, "{2} memory"), (0, "{1 2} memory")]),
+    ("a set that has a pattern keeps it, and with memory it gets the rest", On(Planned(NONE_OR_ELEVEN), Text(AS)),
+        "all", &[Insert(2)], &[(Fill, "set 111")], &[(0, "set 100 memory"), (0, "set 110 memory")]),
 ];
 
+/// Walks and sets answer right after each allocation that failed.
 #[test]
 fn walks_after_each_refused_growth(rt: HostRuntime) {
-    refuse_each::<Walker>(&rt, WALKS);
+    refuse_each::<Bench>(&rt, WALKS);
 }
 
 const FOO: &[u8] = b"@foo bar";
@@ -252,6 +251,7 @@ const REGEXES: &[Regex] = &[
         &[(0, "1 0..1; 0 1..2; 1 2..4; memory")]),
 ];
 
+/// Regexes, iterations and tokens answer right after each allocation that failed.
 #[test]
 fn asks_after_each_refused_growth(rt: HostRuntime) {
     refuse_each::<RegexBench>(&rt, REGEXES);

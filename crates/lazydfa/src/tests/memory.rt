@@ -67,6 +67,7 @@ const RUNS: &[Short<&'static str, ()>] = &[
     ("a regex", "regex words\n", "", &[], &[((), "regex 0")], &[(0, "run memory"), (0, "regex memory")]),
 ];
 
+/// A script says which allocation failed.
 #[test]
 fn reports_each_refused_growth(rt: HostRuntime) {
     refuse_each::<Runner>(&rt, RUNS);

@@ -21,7 +21,6 @@ mod reports;
 mod rows;
 mod scripts;
 mod texts;
-mod walker;
 mod walks;
 
 /// A text in a row of a table.
@@ -42,6 +41,7 @@ struct Source<'a> {
 }
 
 impl<'a> Source<'a> {
+    /// A reader of three bytes a call that never fails.
     fn new(text: &'a [u8]) -> Source<'a> {
         Source {
             rest: text,
@@ -75,6 +75,7 @@ struct Sink {
 }
 
 impl Sink {
+    /// A writer of five bytes a call that never fails.
     fn new(alloc: Global) -> Sink {
         Sink {
             bytes: Vec::new(alloc),
@@ -110,7 +111,7 @@ fn same_of<T: PartialEq + Debug, D: Debug>(rt: &impl Host, found: &T, expected: 
     assert_eq!(rt; found, expected, "{of:?}");
 }
 
-/// The same as `same_of`, for texts.
+/// Stops the test unless a text is the expected one, and names what it belongs to.
 fn same_text(rt: &impl Host, found: &str, expected: &str, of: &str) {
     assert_eq!(rt; found, expected, "{of}");
 }

@@ -19,6 +19,7 @@ pub enum Mode {
 }
 
 impl Mode {
+    /// The anchored mode of the search.
     pub fn anchored(self) -> Anchored {
         match self {
             Mode::Every => Anchored::No,
@@ -48,17 +49,7 @@ pub fn chain(rt: &impl Host, first: Text, length: usize) -> NFA {
     plan(rt, text.as_str())
 }
 
-/// One match state, at which many patterns start.
-pub fn crowd(rt: &impl Host, patterns: usize) -> NFA {
-    let mut text = String::new(rt.alloc());
-    write!(text, "0/0").expect(rt, "memory");
-    for _ in 0..patterns {
-        write!(text, ",0").expect(rt, "memory");
-    }
-    write!(text, " M0").expect(rt, "memory");
-    plan(rt, text.as_str())
-}
-
+/// States by their numbers.
 pub fn ids_of(rt: &impl Host, numbers: &[u8]) -> Vec<StateID> {
     let mut ids = Vec::new(rt.alloc());
     for number in numbers {
@@ -67,10 +58,12 @@ pub fn ids_of(rt: &impl Host, numbers: &[u8]) -> Vec<StateID> {
     ids
 }
 
+/// A state by its number.
 pub fn id(number: u8) -> StateID {
     StateID::new(usize::from(number)).unwrap()
 }
 
+/// A pattern by its number.
 pub fn pattern_id(number: u8) -> PatternID {
     PatternID::new(usize::from(number)).unwrap()
 }

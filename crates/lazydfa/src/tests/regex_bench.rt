@@ -3,14 +3,14 @@
 ghost use Rattle.std.specs.Prelude.{◌≡◌, IfOk};
 ghost use Rattle.regex_automata.specs.Promises.{AreCachesOf, IsSoundPair};
 
+use super::Host;
 use super::bench::counted;
 use super::plans::Mode;
 use super::reported::{Counted, Item, Reported, prints};
 use super::reports::{Automaton, Caller, RowOf, config};
-use super::{Host, Text};
 use crate::catalogue::Entry;
 use regex_automata::hybrid::dfa::{Config, DFA};
-use regex_automata::hybrid::regex::{Builder, Cache, Regex, RegexBuildError};
+use regex_automata::hybrid::regex::{Cache, Regex, RegexBuildError};
 use regex_automata::hybrid::{BuildError, SearchError};
 use regex_automata::nfa::thompson::NFA;
 use regex_automata::tokens::{Token, TokenError, Tokens};
@@ -22,41 +22,21 @@ use std::alloc::{AllocError, Global};
 pub enum Pair {
     /// Both NFAs of an entry.
     Of(Entry),
-    /// The forward NFA of an entry, and the reverse one of another.
-    Mixed(Entry, Entry),
-    /// The forward NFA of an entry, and a reverse one of one pattern that it never matches.
-    Barren(Entry),
-    /// Two lazy DFAs of an entry, the reverse one of `MatchKind::All`.
-    Joined(Entry),
-    /// Two NFAs that are not in the catalogue, the forward one first.
-    Planned(Text, Text),
     /// A forward NFA, and the reverse of it.
     Turned(Automaton),
 }
 
 impl Pair {
-    /// What it searches forward by, and what it searches back by, unless that is made of the first.
-    fn parts(self) -> (Automaton, Automaton) {
-        match self {
-            Pair::Of(entry) | Pair::Joined(entry) => {
-                (Automaton::Forward(entry), Automaton::Reverse(entry))
-            }
-            Pair::Mixed(entry, other) => (Automaton::Forward(entry), Automaton::Reverse(other)),
-            Pair::Barren(entry) => (Automaton::Forward(entry), BARREN),
-            Pair::Planned(text, other) => (Automaton::Planned(text), Automaton::Planned(other)),
-            Pair::Turned(automaton) => (automaton, Automaton::Never),
-        }
-    }
-
     /// The regex with these options, or why it cannot be built.
     pub fn build(self, rt: &impl Host, options: &str) -> Result<Regex, BuildError> {
-        let (forward, reverse) = self.parts();
         match self {
-            Pair::Joined(_) => Ok(joined(rt, forward, reverse)),
-            Pair::Turned(_) => Ok(turned(rt, forward, options)),
-            _ => Regex::builder()
-                .dfa(config(rt, options))
-                .build_from_nfas(forward.nfa(rt), reverse.nfa(rt)),
+            Pair::Of(entry) => {
+                let (forward, reverse) = (Automaton::Forward(entry), Automaton::Reverse(entry));
+                Regex::builder()
+                    .dfa(config(rt, options))
+                    .build_from_nfas(forward.nfa(rt), reverse.nfa(rt))
+            }
+            Pair::Turned(automaton) => Ok(turned(rt, automaton, options)),
         }
     }
 
@@ -64,14 +44,6 @@ impl Pair {
     pub fn regex(self, rt: &impl Host, options: &str) -> Regex {
         self.build(rt, options).expect(rt, "a regex")
     }
-}
-
-/// A regex of two lazy DFAs.
-fn joined(rt: &impl Host, forward: Automaton, reverse: Automaton) -> Regex {
-    let forward = forward.build(rt, "").expect(rt, "an automaton");
-    let reverse = reverse.build(rt, "all").expect(rt, "an automaton");
-    assert!(rt; forward.pattern_len() == reverse.pattern_len());
-    Builder::default().build_from_dfas(forward, reverse)
 }
 
 /// The regex of one NFA.
@@ -87,9 +59,6 @@ pub fn alone(nfa: NFA, config: Config) -> Result<Regex, RegexBuildError>
     Regex::builder().dfa(config).build_from_nfa(nfa)
 }
 
-/// One state, which has no edges.
-const BARREN: Automaton = Automaton::Planned("0/0,0 U");
-
 /// How an iteration is printed: at first, after one item, and after two more calls.
 #[derive(Clone, Copy)]
 pub struct Printed {
@@ -104,14 +73,12 @@ pub enum Ask {
     Find(&'static [u8]),
     /// Searches from each of these offsets on, anchored or not.
     Learn(&'static [u8], &'static [usize], Mode),
-    /// The same as `Find`, by `try_search`.
+    /// Searches by `try_search`.
     Search(&'static [u8]),
     /// Whether there is a match.
     Is(&'static [u8]),
     /// The first eight items of an iteration.
     Items(&'static [u8]),
-    /// The same from an offset on.
-    ItemsFrom(&'static [u8], usize),
     /// The first eight tokens from an offset on.
     Tokens(&'static [u8], usize),
     /// A search by a part of the cache that is lent for writing.
@@ -129,10 +96,8 @@ pub enum Ask {
     ResetByCache,
     ResetForward,
     ResetReverse,
-    /// The same as `Reset`. If that fails, a search for which all is cached is made again.
+    /// Resets the cache. If that fails, a search for which all is cached is made again.
     ResetOrFind(&'static [u8]),
-    /// The memory of the cache, and of each part.
-    Memory,
     /// How often each part was cleared, its memory, and the bytes searched.
     Counts,
     /// Whether the cache is printed so for debugging.
@@ -140,8 +105,6 @@ pub enum Ask {
     /// Whether an iteration is printed so at first, after one item, and after two more calls; and one of tokens.
     ItemsPrint(&'static [u8], Printed),
     TokensPrint(&'static [u8], Printed),
-    /// How many patterns there are.
-    Patterns,
     /// How many a regex of the forward NFA alone has.
     PatternsOfAlone,
 }
@@ -170,6 +133,7 @@ fn next_token(tokens: &mut Tokens<'_, '_, '_>, haystack: &[u8]) -> Item
     }
 }
 
+/// The pattern and the span of a token, whose bytes have to be those of the span.
 fn match_of(token: &Token<'_>, haystack: &[u8]) -> Result<(usize, usize, usize), TokenError> {
     let range = token.range();
     let (start, end) = (range.start, range.end);
@@ -188,11 +152,13 @@ pub struct RegexBench {
 }
 
 impl RegexBench {
+    /// Before any call.
     pub fn new(rt: &impl Host, regex: Regex) -> RegexBench {
         let cache = regex.create_cache().expect(rt, "a cache");
         RegexBench { regex, cache }
     }
 
+    /// What a call reports, whatever it changes.
     fn call(&mut self, alloc: Global, ask: Ask) -> Reported {
         match ask {
             Ask::Find(haystack) => self.find(&Input::new(haystack)),
@@ -200,19 +166,14 @@ impl RegexBench {
             Ask::Search(haystack) => Reported::Span(self.search(&Input::new(haystack)), ""),
             Ask::Is(haystack) => Reported::Truth(self.holds(&Input::new(haystack))),
             Ask::Items(haystack) => Reported::Items(self.first_items(Input::new(haystack))),
-            Ask::ItemsFrom(haystack, start) => Reported::Items(self.first_items(from(
-                haystack, start,
-            ))),
             Ask::Tokens(haystack, start) => Reported::Items(self.first_tokens(haystack, start)),
             Ask::Forward(haystack) => self.forward(&Input::new(haystack)),
             Ask::Reverse(haystack) => self.reverse(&Input::new(haystack)),
             Ask::Both(haystack) => self.both(&Input::new(haystack)),
-            Ask::Memory => self.memory(),
             Ask::Counts => Reported::Parts(self.counts()),
             Ask::Prints(text) => Reported::of_flag(prints(alloc, &self.cache, text)),
             Ask::ItemsPrint(haystack, texts) => self.items_print(alloc, haystack, texts),
             Ask::TokensPrint(haystack, texts) => self.tokens_print(alloc, haystack, texts),
-            Ask::Patterns => Reported::Number("", self.regex.pattern_len(), ""),
             Ask::PatternsOfAlone => match self.regex.forward().get_nfa().clone() {
                 Ok(nfa) => patterns_of(alone(nfa, Config::new())),
                 Err(_) => Reported::Refused(BuildError::OutOfMemory),
@@ -247,6 +208,7 @@ impl RegexBench {
         }
     }
 
+    /// Puts a cache that was made in the place of this one.
     fn replace(&mut self, ask: Ask, made: Result<Cache, AllocError>) -> Reported
         requires { IfOk made (λ made. AreCachesOf made self.old.regex) }
     {
@@ -259,6 +221,7 @@ impl RegexBench {
         }
     }
 
+    /// Searches from each of these offsets on.
     fn learn(&mut self, haystack: &[u8], places: &[usize], mode: Mode) -> Reported {
         for place in places {
             let _ = self.search(&from(haystack, *place).anchored(mode.anchored()));
@@ -266,13 +229,10 @@ impl RegexBench {
         Reported::Word("-")
     }
 
+    /// Resets the cache, or searches again if that fails.
     fn reset_or_find(&mut self, haystack: &[u8]) -> Reported {
-        let before = self.counts();
         if self.reset().is_ok() {
             return Reported::Word("-");
-        }
-        if self.counts() != before {
-            return Reported::Word("a refusal that changed a part");
         }
         let is_forward = has_no_room(self.regex.forward());
         let found = self.regex.find(&mut self.cache, &Input::new(haystack));
@@ -284,10 +244,12 @@ impl RegexBench {
         Reported::Span(found, refused)
     }
 
+    /// Searches by `try_search`.
     fn search(&mut self, input: &Input<'_>) -> Result<Option<Match>, SearchError> {
         self.regex.try_search(&mut self.cache, input)
     }
 
+    /// Whether there is a match.
     fn holds(&mut self, input: &Input<'_>) -> Result<bool, SearchError> {
         self.regex.is_match(&mut self.cache, input)
     }
@@ -314,6 +276,7 @@ impl RegexBench {
         ]
     }
 
+    /// Whether an iteration is printed so, at first and later.
     fn items_print(&mut self, alloc: Global, haystack: &[u8], texts: Printed) -> Reported {
         let mut it = self.regex.find_iter(&mut self.cache, Input::new(haystack));
         let first = prints(alloc, &it, texts.first);
@@ -324,6 +287,7 @@ impl RegexBench {
         Reported::of_flag(first && second && prints(alloc, &it, texts.last))
     }
 
+    /// Whether an iteration over tokens is printed so, at first and later.
     fn tokens_print(&mut self, alloc: Global, haystack: &[u8], texts: Printed) -> Reported {
         let mut tokens = self.regex.tokens(&mut self.cache, Input::new(haystack));
         let first = prints(alloc, &tokens, texts.first);
@@ -334,15 +298,18 @@ impl RegexBench {
         Reported::of_flag(first && second && prints(alloc, &tokens, texts.last))
     }
 
+    /// Searches for a match.
     fn find(&mut self, input: &Input<'_>) -> Reported {
         Reported::Span(self.regex.find(&mut self.cache, input), "")
     }
 
+    /// Searches by the forward part.
     fn forward(&mut self, input: &Input<'_>) -> Reported {
         let dfa = self.regex.forward();
         Reported::Half(dfa.try_search_fwd(self.cache.forward_mut(), input))
     }
 
+    /// Searches by the reverse part.
     fn reverse(&mut self, input: &Input<'_>) -> Reported {
         let dfa = self.regex.reverse();
         Reported::Half(dfa.try_search_rev(self.cache.reverse_mut(), input))
@@ -356,14 +323,17 @@ impl RegexBench {
         }
     }
 
+    /// Resets the forward part.
     fn reset_forward(&mut self) -> Result<(), AllocError> {
         self.regex.forward().reset_cache(self.cache.forward_mut())
     }
 
+    /// Resets the reverse part.
     fn reset_reverse(&mut self) -> Result<(), AllocError> {
         self.regex.reverse().reset_cache(self.cache.reverse_mut())
     }
 
+    /// Resets both parts.
     fn reset(&mut self) -> Result<(), AllocError> {
         self.regex.reset_cache(&mut self.cache)
     }
@@ -378,12 +348,7 @@ impl RegexBench {
         }
     }
 
-    fn memory(&self) -> Reported {
-        let (forward, reverse) = self.cache.as_parts();
-        let (forward, reverse) = (forward.memory_usage(), reverse.memory_usage());
-        Reported::Counts((self.cache.memory_usage(), forward, reverse), "")
-    }
-
+    /// What is counted of each part.
     fn counts(&self) -> [Counted; 2] {
         let (forward, reverse) = self.cache.as_parts();
         [counted(forward), counted(reverse)]
@@ -403,15 +368,11 @@ impl Caller for RegexBench {
     }
 
     fn answer(&mut self, alloc: Global, ask: Ask) -> Reported {
-        let before = self.counts();
-        let reported = self.call(alloc, ask);
-        if reported.is_refusal() && self.counts() != before {
-            return Reported::Word("a refusal that changed a part");
-        }
-        reported
+        self.call(alloc, ask)
     }
 }
 
+/// How many patterns a regex has that was built, or that there was no memory for it.
 fn patterns_of(built: Result<Regex, RegexBuildError>) -> Reported {
     match built {
         Ok(regex) => Reported::Number("", regex.pattern_len(), ""),

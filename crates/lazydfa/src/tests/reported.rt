@@ -23,14 +23,12 @@ pub enum Reported {
     Span(Result<Option<Match>, SearchError>, &'static str),
     Truth(Result<bool, SearchError>),
     /// Patterns, and why there are no more.
-    Names(&'static str, SearchError),
+    Set(usize, Result<(), SearchError>),
     NoStart(StartError),
     NoStep(StepError),
     Refused(BuildError),
     /// A number, with text before it and after it.
     Number(&'static str, usize, &'static str),
-    /// How many patterns, and the last one.
-    Patterns(usize, usize),
     /// The pattern and the end of a match, and where the last of its spans began.
     Based(usize, usize, usize),
     /// Three numbers, with text after them.
@@ -42,10 +40,12 @@ pub enum Reported {
 }
 
 impl Reported {
+    /// Whether something holds.
     pub fn of_flag(yes: bool) -> Reported {
         Reported::Word(if yes { "true" } else { "false" })
     }
 
+    /// Whether there is a start.
     pub fn of_start(started: Result<(), StartError>) -> Reported {
         match started {
             Ok(()) => Reported::Word("-"),
@@ -53,6 +53,7 @@ impl Reported {
         }
     }
 
+    /// Whether a step was taken.
     pub fn of_step(stepped: Result<(), StepError>) -> Reported {
         match stepped {
             Ok(()) => Reported::Word("-"),
@@ -60,21 +61,12 @@ impl Reported {
         }
     }
 
+    /// Whether there was memory.
     pub fn of_growth(grown: Result<(), AllocError>) -> Reported {
         match grown {
             Ok(()) => Reported::Word("-"),
             Err(_) => Reported::Refused(BuildError::OutOfMemory),
         }
-    }
-
-    /// Whether an allocation failed in a call that then has to leave the cache unchanged.
-    pub fn is_refusal(&self) -> bool {
-        matches!(
-            self,
-            Reported::NoStart(StartError::OutOfMemory)
-                | Reported::NoStep(StepError::OutOfMemory)
-                | Reported::Refused(BuildError::OutOfMemory)
-        )
     }
 }
 
@@ -89,15 +81,15 @@ impl fmt::Display for Reported {
             }
             Reported::Truth(Ok(holds)) => write!(f, "{holds}"),
             Reported::Truth(Err(error)) => write_error(f, error),
-            Reported::Names(names, error) => {
-                write!(f, "{names} ")?;
+            Reported::Set(digits, Ok(())) => write!(f, "set {digits}"),
+            Reported::Set(digits, Err(error)) => {
+                write!(f, "set {digits} ")?;
                 write_error(f, error)
             }
             Reported::NoStart(error) => write!(f, "{error}"),
             Reported::NoStep(error) => write!(f, "{error}"),
             Reported::Refused(error) => write!(f, "{error}"),
             Reported::Number(before, number, behind) => write!(f, "{before}{number}{behind}"),
-            Reported::Patterns(count, last) => write!(f, "patterns {count} last {last}"),
             Reported::Based(pattern, end, place) => write!(f, "{pattern} {end} at {place}"),
             Reported::Counts((first, second, third), behind) => {
                 write!(f, "{first} {second} {third}{behind}")
@@ -128,6 +120,7 @@ fn write_items<W: fmt::Write>(f: &mut fmt::Formatter<W>, items: &[Item; 8]) -> f
     Ok(())
 }
 
+/// Writes an item or a token, or why there is none.
 fn write_item<W: fmt::Write>(
     f: &mut fmt::Formatter<W>,
     item: Result<(usize, usize, usize), TokenError>,

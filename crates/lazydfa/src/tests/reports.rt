@@ -1,7 +1,7 @@
 //! Rows of calls over one cache, with what they report: in ample memory, and while the memory that is left rises, so
 //! that each allocation fails in some turn. A test that takes turns uses up all memory.
 
-use super::plans::{chain, crowd, plan};
+use super::plans::{chain, plan};
 use super::reported::Reported;
 use super::{Host, Text, check, exhaust, same_of, same_text};
 use crate::catalogue::Entry;
@@ -19,8 +19,6 @@ pub enum Automaton {
     Reverse(Entry),
     /// One that is not in the catalogue, as a line of a script has it.
     Planned(Text),
-    /// One match state, at which so many patterns start.
-    Crowd(usize),
     /// A state, and after it so many states, of which each but the last, the one match, reads an `a`.
     Chain(Text, usize),
     /// Those of `DFA::always_match` and `DFA::never_match`.
@@ -29,17 +27,18 @@ pub enum Automaton {
 }
 
 impl Automaton {
+    /// The NFA, which can be made.
     pub fn nfa(self, rt: &impl Host) -> NFA {
         match self {
             Automaton::Forward(entry) => kept(rt, entry.forward(rt.alloc())),
             Automaton::Reverse(entry) => kept(rt, entry.reverse(rt.alloc())),
             Automaton::Planned(text) => plan(rt, text),
-            Automaton::Crowd(patterns) => crowd(rt, patterns),
             Automaton::Always | Automaton::Never => panic!(rt; "it is built by the library"),
             Automaton::Chain(first, length) => chain(rt, first, length),
         }
     }
 
+    /// A lazy DFA with these options, or why it cannot be built.
     pub fn build(self, rt: &impl Host, options: &str) -> Result<DFA, BuildError> {
         let config = config(rt, options);
         match self {
@@ -71,7 +70,7 @@ pub trait Caller: Drop {
     /// Before any call.
     fn make(rt: &impl Host, of: Self::Of, options: &str) -> Result<Self, BuildError>;
 
-    /// Makes a call. If a call fails that has to leave the cache unchanged, and does not, the report says so.
+    /// Makes a call, and says what it reports.
     fn answer(&mut self, alloc: Global, call: Self::Call) -> Reported;
 
     /// Makes calls, and writes what they report.
@@ -112,6 +111,7 @@ pub fn text_of<T: Caller>(rt: &impl Host, of: T::Of, options: &str, calls: &[T::
     text
 }
 
+/// Writes what the calls report, or why what is called cannot be built.
 fn write_calls<T: Caller>(
     rt: &impl Host,
     of: T::Of,
@@ -171,6 +171,7 @@ pub struct Turns {
 }
 
 impl Turns {
+    /// Takes all memory but these blocks.
     pub fn new(rt: &impl Host) -> Turns {
         let blocks = first_blocks(rt);
         let reported = String::with_capacity(rt.alloc(), 1 << 10).expect(rt, "memory");
@@ -246,10 +247,12 @@ impl Turns {
         );
     }
 
+    /// Stops the test unless the last call reported this.
     pub fn has_reported(&self, rt: &impl Host, due: &str, shows: &str) {
         same_text(rt, self.reported.as_str(), due, shows);
     }
 
+    /// Keeps what a call reports.
     pub fn hear(&mut self, rt: &impl Host, reported: &Reported) {
         self.reported.clear();
         write_reported(rt, &mut self.reported, reported);

@@ -36,11 +36,13 @@ const NO_START: &str = "refused a start state is out of range\n";
 const BOUND_REFUSED: &str =
     "refused unsupported regex feature for DFAs: cannot build lazy DFAs for regexes with Unicode word boundaries; switch to ASCII word boundaries, or heuristically enable Unicode word boundaries or use a different regex engine\nbad regex\n";
 
+/// What is printed for each script.
 #[test]
 fn answers_scripts(rt: HostRuntime) {
     answer_all(&rt, ANSWERED);
 }
 
+/// Runs each script, which has no fault.
 fn answer_all(rt: &impl Host, rows: &[(&'static str, &'static str)]) {
     for row in rows {
         let (script, expected) = *row;
@@ -51,52 +53,59 @@ fn answer_all(rt: &impl Host, rows: &[(&'static str, &'static str)]) {
 /// Why a script is not answered, if it is not.
 type Fault = Option<RunError>;
 
-/// A script, and its first bad line.
+/// Lines that are bad.
 #[rattlefmt::skip]
-const BAD: &[(&str, usize)] = &[
-    ("regex ab\nfwd 616", 2), ("regex ab\n\n# comment\nfwd 6\n", 4), ("triple", 1),
-    ("regex ab\nfwd 6162\nregex aa\n", 3), ("regex ab\nfwd 6g\nfwd 6g\n", 2), (" regex ab", 1), ("regex ab ", 1),
-    ("regex  ab", 1), ("regex ab\r\nfwd 6162\r\n", 1), ("regex", 1), ("regex abx", 1), ("regex AB", 1),
-    ("regex ab ab", 1), ("regex ab quit", 1), ("regex ab quit=", 1), ("regex ab quit=7", 1), ("regex ab quit=788", 1),
-    ("regex ab quit=7x", 1), ("regex ab capacity=", 1), ("regex ab capacity=-1", 1), ("regex ab capacity=+1", 1),
-    ("regex ab capacity=1x", 1), ("regex ab capacity=18446744073709551616", 1),
-    ("regex ab capacity=000000000000000000001", 1), ("regex ab limit", 1), ("regex ab perstate=", 1),
-    ("regex ab all=", 1), ("regex ab skip=1", 1), ("regex ab All", 1), ("fwd", 1), ("fwd -6", 1), ("fwd --", 1),
-    ("fwd 6162 span", 1), ("fwd 6162 span=", 1), ("fwd 6162 span=0", 1), ("fwd 6162 span=0..", 1),
-    ("fwd 6162 span=..2", 1), ("fwd 6162 span=0.2", 1), ("fwd 6162 span=0...2", 1), ("fwd 6162 span=0..1..2", 1),
-    ("fwd 6162 span=0..3", 1), ("fwd 6162 span=2..0", 1), ("fwd 6162 span=4..2", 1),
-    ("fwd 6162 span=18446744073709551615..2", 1), ("fwd 6162 span=0..3 span=0..2", 1), ("fwd 6162 anchored=yes", 1),
-    ("fwd 6162 pattern", 1), ("fwd 6162 pattern=", 1), ("fwd 6162 pattern=2147483647", 1), ("fwd 6162 pattern=x", 1),
-    ("fwd 6162 Earliest", 1), ("fwd 6162 6162", 1), ("forward 6162", 1), ("fwd \u{e9}", 1), ("rev", 1),
-    ("rev 616", 1), ("rev 6162 span=0..3", 1), ("rev 6162 pattern=2147483647", 1), ("reverse 6162", 1), ("find", 1),
-    ("find 616", 1), ("find 6162 span=0..3", 1), ("find 6162 find", 1), ("is", 1), ("is -6", 1),
-    ("is 6162 earliest=", 1), ("iter", 1), ("iter 6g", 1), ("iter 6162 pattern=2147483647", 1), ("regex ab iter", 1),
-    ("tok", 1), ("tok 616", 1), ("tok 6162 span=0..3", 1), ("tok 6162 pattern=2147483647", 1), ("tok 6162 tok", 1),
-    ("tokens 6162", 1), ("regex ab\ntok 6162\nregex aa\n", 3), ("regex ab\nfind 6162\nregex aa\n", 3), ("walk", 1),
-    ("walk fwd", 1), ("walk 6162", 1), ("walk up 6162", 1), ("walk find 6162", 1), ("walk fwd rev 6162", 1),
-    ("walk fwd 616", 1), ("walk fwd 6162 span=0..3", 1), ("walk rev 6162 pattern=2147483647", 1),
-    ("walk rev 6162 6162", 1), ("step", 1), ("step -1", 1), ("step 0 0", 1), ("step x", 1),
-    ("step 18446744073709551616", 1), ("which", 1), ("which 1", 1), ("which 6162 6g", 1), ("which - 6162", 1),
-    ("which 18446744073709551616 6162", 1), ("which 1 6162 span=2..0", 1), ("which 1 6162 which", 1), ("reset", 1),
-    ("reset -", 1), ("reset 0 earliest", 1), ("reset 000000000000000000001", 1), ("regex ab\nreset 0\nregex aa\n", 3),
-    ("regex ab\nwalk fwd 6162\nstep 0\nregex aa\n", 4), ("regex ab\nwhich 1 61\n\nstep 0 \n", 4),
-    ("regex ab\nrev 6162\nregex aa\n", 3), ("regex ab\nfwd 6162\nrev 6162 \n", 3), ("nfa", 1), ("nfa 0", 1),
-    ("nfa 0/", 1), ("nfa /0", 1), ("nfa 0/0,", 1), ("nfa 0/0,1,", 1), ("nfa 0/2147483647", 1), ("nfa x/0", 1),
-    ("nfa M0", 1), ("nfa 0/0 X", 1), ("nfa 0/0 b61:1", 1), ("nfa 0/0 B", 1), ("nfa 0/0 B61", 1), ("nfa 0/0 B61:", 1),
-    ("nfa 0/0 B6:1", 1), ("nfa 0/0 B61-:1", 1), ("nfa 0/0 B61-62-63:1", 1), ("nfa 0/0 B61:1,62:1", 1),
-    ("nfa 0/0 S61", 1), ("nfa 0/0 S61:1,", 1), ("nfa 0/0 D61-62", 1), ("nfa 0/0 E1", 1), ("nfa 0/0 E1,2,3", 1),
-    ("nfa 0/0 U1,", 1), ("nfa 0/0 Lstart:1", 1), ("nfa 0/0 LStart", 1), ("nfa 0/0 C", 1), ("nfa 0/0 M", 1),
-    ("nfa 0/0 M2147483647", 1), ("nfa 0/0 F1", 1), ("nfa 0/0 utf8=1", 1), ("nfa 0/0 line", 1), ("nfa 0/0 line=a", 1),
-    ("nfa 0/0 rev=", 1), ("nfa 0/0 all", 1), ("nfa 0/0,0 M0\nregex 0", 2), ("regex 0 x", 1), ("regex made", 1),
-    ("regex 0 made made", 1), ("regex 0 1 2", 1), ("regex ab 0", 1), ("regex ab made x", 1), ("regex -1 made", 1),
-    ("fwd 61\nnfa 0/0,0 M0\n", 2),
+const BAD: &[&str] = &[
+    "triple", " regex ab", "regex ab ", "regex  ab", "regex ab\r\nfwd 6162\r\n", "regex", "regex abx", "regex AB",
+    "regex ab ab", "regex ab quit", "regex ab quit=", "regex ab quit=7", "regex ab quit=788", "regex ab quit=7x",
+    "regex ab capacity=", "regex ab capacity=-1", "regex ab capacity=+1", "regex ab capacity=1x",
+    "regex ab capacity=18446744073709551616", "regex ab capacity=000000000000000000001", "regex ab limit",
+    "regex ab perstate=", "regex ab all=", "regex ab skip=1", "regex ab All", "fwd", "fwd -6", "fwd --",
+    "fwd 6162 span", "fwd 6162 span=", "fwd 6162 span=0", "fwd 6162 span=0..", "fwd 6162 span=..2", "fwd 6162 span=0.2",
+    "fwd 6162 span=0...2", "fwd 6162 span=0..1..2", "fwd 6162 span=0..3", "fwd 6162 span=2..0", "fwd 6162 span=4..2",
+    "fwd 6162 span=18446744073709551615..2", "fwd 6162 span=0..3 span=0..2", "fwd 6162 anchored=yes",
+    "fwd 6162 pattern", "fwd 6162 pattern=", "fwd 6162 pattern=2147483647", "fwd 6162 pattern=x", "fwd 6162 Earliest",
+    "fwd 6162 6162", "forward 6162", "fwd \u{e9}", "rev", "rev 616", "rev 6162 span=0..3",
+    "rev 6162 pattern=2147483647", "reverse 6162", "find", "find 616", "find 6162 span=0..3", "find 6162 find", "is",
+    "is -6", "is 6162 earliest=", "iter", "iter 6g", "iter 6162 pattern=2147483647", "regex ab iter", "tok", "tok 616",
+    "tok 6162 span=0..3", "tok 6162 pattern=2147483647", "tok 6162 tok", "tokens 6162", "walk", "walk fwd", "walk 6162",
+    "walk up 6162", "walk find 6162", "walk fwd rev 6162", "walk fwd 616", "walk fwd 6162 span=0..3",
+    "walk rev 6162 pattern=2147483647", "walk rev 6162 6162", "step", "step -1", "step 0 0", "step x",
+    "step 18446744073709551616", "which", "which 1", "which 6162 6g", "which - 6162", "which 18446744073709551616 6162",
+    "which 1 6162 span=2..0", "which 1 6162 which", "reset", "reset -", "reset 0 earliest",
+    "reset 000000000000000000001", "nfa", "nfa 0", "nfa 0/", "nfa /0", "nfa 0/0,", "nfa 0/0,1,", "nfa 0/2147483647",
+    "nfa x/0", "nfa M0", "nfa 0/0 X", "nfa 0/0 b61:1", "nfa 0/0 B", "nfa 0/0 B61", "nfa 0/0 B61:", "nfa 0/0 B6:1",
+    "nfa 0/0 B61-:1", "nfa 0/0 B61-62-63:1", "nfa 0/0 B61:1,62:1", "nfa 0/0 S61", "nfa 0/0 S61:1,", "nfa 0/0 D61-62",
+    "nfa 0/0 E1", "nfa 0/0 E1,2,3", "nfa 0/0 U1,", "nfa 0/0 Lstart:1", "nfa 0/0 LStart", "nfa 0/0 C", "nfa 0/0 M",
+    "nfa 0/0 M2147483647", "nfa 0/0 F1", "nfa 0/0 utf8=1", "nfa 0/0 line", "nfa 0/0 line=a", "nfa 0/0 rev=",
+    "nfa 0/0 all", "regex 0 x", "regex made", "regex 0 made made", "regex 0 1 2", "regex ab 0", "regex ab made x",
+    "regex -1 made",
+];
+
+/// A script, and its first bad line, which is not the first line.
+#[rattlefmt::skip]
+const BAD_LATER: &[(&str, usize)] = &[
+    ("regex ab\nfwd 616", 2), ("regex ab\n\n# comment\nfwd 6\n", 4), ("regex ab\nfwd 6162\nregex aa\n", 3),
+    ("regex ab\nfwd 6g\nfwd 6g\n", 2), ("regex ab\ntok 6162\nregex aa\n", 3), ("regex ab\nfind 6162\nregex aa\n", 3),
+    ("regex ab\nreset 0\nregex aa\n", 3), ("regex ab\nwalk fwd 6162\nstep 0\nregex aa\n", 4),
+    ("regex ab\nwhich 1 61\n\nstep 0 \n", 4), ("regex ab\nrev 6162\nregex aa\n", 3),
+    ("regex ab\nfwd 6162\nrev 6162 \n", 3), ("nfa 0/0,0 M0\nregex 0", 2), ("fwd 61\nnfa 0/0,0 M0\n", 2),
 ];
 
 #[test]
 fn reports_the_first_bad_line(rt: HostRuntime) {
-    refuse_all(&rt, BAD);
+    refuse_lines(&rt, BAD);
+    refuse_all(&rt, BAD_LATER);
 }
 
+/// Runs each line, which is bad.
+fn refuse_lines(rt: &impl Host, lines: &[&'static str]) {
+    for line in lines.iter().copied() {
+        ends_with(rt, line, "", Some(RunError::BadLine(1)));
+    }
+}
+
+/// Runs each script, which has a bad line.
 fn refuse_all(rt: &impl Host, rows: &[(&'static str, usize)]) {
     for row in rows {
         let (script, line) = *row;
@@ -111,28 +120,20 @@ fn ends_with(rt: &impl Host, script: &str, expected: &str, fault: Fault) {
     same_text(rt, text.as_str(), expected, script);
 }
 
-/// Lines at the edge of what is allowed.
+/// Definitions of NFAs at the edge of what is allowed.
 #[rattlefmt::skip]
 const ALLOWED: &[&str] = &[
-    "regex ab capacity=18446744073709551615", "regex ab capacity=00000000000000001735",
-    "regex ab quit=78 quit=7A quit=7a", "regex ab limit=0 perstate=0 limit=1",
-    "regex a16 all starts noclasses unicode tags skip", "fwd 6162 span=3..2", "fwd 6162 span=0..0 span=2..2",
-    "fwd - span=1..0", "fwd 6162 pattern=2147483646", "fwd 6162 anchored pattern=0 earliest anchored",
-    "rev - span=1..0", "rev 6162 anchored pattern=0 earliest span=3..2",
-    "find 6162 anchored pattern=0 earliest span=3..2", "is - span=1..0",
-    "iter 6162 earliest earliest span=0..0 span=2..2", "tok 6162 anchored pattern=0 earliest span=3..2",
-    "tok - span=1..0", "walk fwd - span=1..0", "walk rev 6162 anchored pattern=0 earliest span=3..2",
-    "which 18446744073709551615 6162 earliest anchored", "which 00000000000000000000 - span=1..0",
-    "step 18446744073709551615", "reset 18446744073709551615", "nfa 0/0", "nfa 5/7,1 U S D F", "nfa 0/0 D61-63:1,62:2",
-    "nfa 0/0 rev M0 utf8 line=FF utf8", "nfa 2147483646/0,2147483646 M2147483646", "regex 0 made",
-    "regex 18446744073709551615 made all", "regex 0 1 all", "regex ab made all",
+    "nfa 0/0", "nfa 5/7,1 U S D F", "nfa 0/0 D61-63:1,62:2", "nfa 0/0 rev M0 utf8 line=FF utf8",
+    "nfa 2147483646/0,2147483646 M2147483646",
 ];
 
+/// No line at the edge is bad.
 #[test]
 fn takes_lines_at_the_edge(rt: HostRuntime) {
     take_all(&rt, ALLOWED);
 }
 
+/// Runs each script, which has no fault, whatever it prints.
 fn take_all(rt: &impl Host, scripts: &[&'static str]) {
     for script in scripts.iter().copied() {
         let (_, fault) = printed(rt, script);
@@ -163,11 +164,13 @@ fn failed_upto(calls: usize, call: usize) -> Fault {
 #[rattlefmt::skip]
 const READ: &[(&str, usize)] = &[("regex ab\n", 4), ("regex ab\nwalk fwd 6162\nstep 0\nreset 0", 14)];
 
+/// Each read fails in turn.
 #[test]
 fn reports_failed_reads(rt: HostRuntime) {
     fail_reads(&rt, READ);
 }
 
+/// Makes each read of each script fail in turn.
 fn fail_reads(rt: &impl Host, rows: &[(&'static str, usize)]) {
     for row in rows {
         for call in 1..row.1.saturating_add(2) {
@@ -192,11 +195,13 @@ const WRITTEN: &[Written] = &[
     ("regex ab\nwalk fwd 6162\nstep 0\nreset 0\n", "regex 0\nwalk 0\nhalf 0 2\nok\n", 7),
 ];
 
+/// Each write and the flush fail in turn.
 #[test]
 fn reports_failed_writes(rt: HostRuntime) {
     fail_writes(&rt, WRITTEN);
 }
 
+/// Makes each write for each script fail in turn.
 fn fail_writes(rt: &impl Host, rows: &[Written]) {
     for row in rows {
         for call in 1..row.2.saturating_add(2) {
@@ -219,6 +224,7 @@ fn reports_faults_in_order(rt: HostRuntime) {
     writes_nothing(&rt, (2, 1), RunError::Failed);
 }
 
+/// Runs a bad script, which prints nothing.
 fn writes_nothing(rt: &impl Host, fails: (usize, usize), expected: RunError) {
     let (written, fault) = fail_at(rt, "bad\n", fails);
     let found = (fault, written.is_empty());
@@ -238,23 +244,27 @@ const LONG: &[Long] = &[
     ("regex runs\ntok ", "61623132", 1 << 18, "regex 0\ntokens", &[(0, 0, 2), (1, 2, 4)], 4),
 ];
 
+/// What is printed for each long script.
 #[test]
 fn answers_long_scripts(rt: HostRuntime) {
     answer_all_long(&rt, LONG);
 }
 
+/// Runs each long script.
 fn answer_all_long(rt: &impl Host, rows: &[Long]) {
     for row in rows {
         answer_long(rt, row);
     }
 }
 
+/// Runs a long script.
 fn answer_long(rt: &impl Host, row: &Long) {
     let script = long_script(rt, row);
     let expected = long_output(rt, row);
     ends_with(rt, script.as_str(), expected.as_str(), None);
 }
 
+/// The text of a long script.
 fn long_script(rt: &impl Host, row: &Long) -> String {
     let mut text = String::from_str(rt.alloc(), row.0).expect(rt, "memory");
     for _ in 0..row.2 {
@@ -263,6 +273,7 @@ fn long_script(rt: &impl Host, row: &Long) -> String {
     text
 }
 
+/// What a long script prints.
 fn long_output(rt: &impl Host, row: &Long) -> String {
     let mut text = String::from_str(rt.alloc(), row.3).expect(rt, "memory");
     for number in 0..row.2 {

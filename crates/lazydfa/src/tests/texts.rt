@@ -13,7 +13,7 @@ use regex_automata::util::byte_set::ByteSet;
 use regex_automata::util::search::{Anchored, MatchError, PatternSet, PatternSetInsertError};
 use std::fmt::Display;
 
-pub const UNSUPPORTED: &str =
+const UNSUPPORTED: &str =
     "unsupported regex feature for DFAs: cannot build lazy DFAs for regexes with Unicode word boundaries; switch to ASCII word boundaries, or heuristically enable Unicode word boundaries or use a different regex engine";
 
 #[rattlefmt::skip]
@@ -27,51 +27,23 @@ const BUILDS: &[(BuildError, Text)] = &[
     (BuildError::PatternCounts { forward: 2, reverse: 1 }, "forward DFA has 2 patterns and reverse DFA has 1"),
 ];
 
-/// Why there is no start. The byte of a quit start is shown as a string literal has it.
+/// Why there is no start.
 #[rattlefmt::skip]
-const STARTS: [(StartError, Text); 22] = [
+const STARTS: [(StartError, Text); 4] = [
     (StartError::Cache { err: CacheError }, "error computing start state because of cache inefficiency"),
     (StartError::OutOfMemory, "out of memory"),
     (StartError::UnsupportedAnchored { mode: Anchored::No },
         "error computing start state because unanchored searches are not supported or enabled"),
     (StartError::UnsupportedAnchored { mode: Anchored::Yes },
         "error computing start state because anchored searches are not supported or enabled"),
-    (StartError::Quit { byte: 0x20 },
-        "error computing start state because the look-behind byte ' ' triggered a quit state"),
-    (StartError::Quit { byte: 0x09 },
-        "error computing start state because the look-behind byte \\t triggered a quit state"),
-    (StartError::Quit { byte: 0x0A },
-        "error computing start state because the look-behind byte \\n triggered a quit state"),
-    (StartError::Quit { byte: 0x0D },
-        "error computing start state because the look-behind byte \\r triggered a quit state"),
-    (StartError::Quit { byte: 0x27 },
-        "error computing start state because the look-behind byte \\' triggered a quit state"),
-    (StartError::Quit { byte: 0x22 },
-        "error computing start state because the look-behind byte \\\" triggered a quit state"),
-    (StartError::Quit { byte: 0x5C },
-        "error computing start state because the look-behind byte \\\\ triggered a quit state"),
-    (StartError::Quit { byte: 0x41 },
-        "error computing start state because the look-behind byte A triggered a quit state"),
-    (StartError::Quit { byte: 0x21 },
-        "error computing start state because the look-behind byte ! triggered a quit state"),
-    (StartError::Quit { byte: 0x7E },
-        "error computing start state because the look-behind byte ~ triggered a quit state"),
-    (StartError::Quit { byte: 0x7F },
-        "error computing start state because the look-behind byte \\x7F triggered a quit state"),
-    (StartError::Quit { byte: 0x00 },
-        "error computing start state because the look-behind byte \\x00 triggered a quit state"),
-    (StartError::Quit { byte: 0x0B },
-        "error computing start state because the look-behind byte \\x0B triggered a quit state"),
-    (StartError::Quit { byte: 0x1B },
-        "error computing start state because the look-behind byte \\x1B triggered a quit state"),
-    (StartError::Quit { byte: 0x80 },
-        "error computing start state because the look-behind byte \\x80 triggered a quit state"),
-    (StartError::Quit { byte: 0xB2 },
-        "error computing start state because the look-behind byte \\xB2 triggered a quit state"),
-    (StartError::Quit { byte: 0xCE },
-        "error computing start state because the look-behind byte \\xCE triggered a quit state"),
-    (StartError::Quit { byte: 0xFF },
-        "error computing start state because the look-behind byte \\xFF triggered a quit state"),
+];
+
+/// Bytes behind which a start is refused, as its text shows them: as a string literal has them.
+#[rattlefmt::skip]
+const QUITS: &[(u8, Text)] = &[
+    (0x20, "' '"), (0x09, "\\t"), (0x0A, "\\n"), (0x0D, "\\r"), (0x27, "\\'"), (0x22, "\\\""), (0x5C, "\\\\"), (0x41, "A"),
+    (0x21, "!"), (0x7E, "~"), (0x7F, "\\x7F"), (0x00, "\\x00"), (0x0B, "\\x0B"), (0x1B, "\\x1B"), (0x80, "\\x80"),
+    (0xB2, "\\xB2"), (0xCE, "\\xCE"), (0xFF, "\\xFF"),
 ];
 
 const CLEARED: Text = "lazy DFA cache has been cleared too many times";
@@ -142,10 +114,12 @@ const RUNS: &[(RunError, Text)] = &[
     (RunError::OutOfMemory, "out of memory"),
 ];
 
+/// The texts of the errors of DFAs, tokens and scripts.
 #[test]
 fn prints_errors(rt: HostRuntime) {
     print_all(&rt, BUILDS);
     print_all(&rt, &STARTS);
+    print_quits(&rt);
     print_all(&rt, STEPS);
     print_all(&rt, &[(CacheError, CLEARED)]);
     print_all(&rt, &SEARCHES);
@@ -153,6 +127,7 @@ fn prints_errors(rt: HostRuntime) {
     print_all(&rt, RUNS);
 }
 
+/// The texts of the errors of NFAs, regexes and sets.
 #[test]
 fn prints_errors_of_nfas(rt: HostRuntime) {
     print_all(&rt, NFAS);
@@ -162,6 +137,20 @@ fn prints_errors_of_nfas(rt: HostRuntime) {
     print_misfit(&rt);
 }
 
+/// Compares the texts of starts that are refused behind a byte.
+fn print_quits(rt: &impl Host) {
+    for (byte, shown) in QUITS.iter().copied() {
+        let printed = StartError::Quit { byte }
+            .to_string(rt.alloc())
+            .expect(rt, "memory");
+        let text = printed.as_str();
+        let text = text.strip_prefix("error computing start state because the look-behind byte ");
+        let text = text.unwrap_or("").strip_suffix(" triggered a quit state");
+        same_text(rt, text.unwrap_or(""), shown, "a quit byte");
+    }
+}
+
+/// Compares the text of a pattern that does not fit into a set.
 fn print_misfit(rt: &impl Host) {
     match misfit(rt) {
         Err(error) => print(rt, &error, MISFIT),
@@ -191,11 +180,13 @@ fn prints_sets_of_bytes(rt: HostRuntime) {
     );
 }
 
+/// The texts of errors that name a byte, an offset or a mode.
 #[test]
 fn prints_errors_of_a_place(rt: HostRuntime) {
     print_places(&rt);
 }
 
+/// Compares the texts of errors that name a byte, an offset or a mode.
 fn print_places(rt: &impl Host) {
     let quit = SearchError::Match(MatchError::quit(0x78, 4));
     let text = "quit search after observing byte 0x78 at offset 4";
@@ -215,12 +206,14 @@ fn print_places(rt: &impl Host) {
     print(rt, &StartError::UnsupportedAnchored { mode }, text);
 }
 
+/// Compares the text of each error.
 fn print_all<E: Display>(rt: &impl Host, rows: &[(E, Text)]) {
     for row in rows {
         print(rt, &row.0, row.1);
     }
 }
 
+/// Compares the text of an error.
 fn print<E: Display>(rt: &impl Host, error: &E, text: &str) {
     let printed = error.to_string(rt.alloc()).expect(rt, "memory");
     same_text(rt, printed.as_str(), text, "an error");
