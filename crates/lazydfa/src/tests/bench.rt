@@ -10,7 +10,7 @@ use super::reported::{Counted, Reported, letter, prints};
 use super::reports::{Automaton, Caller, Short, Turns, write_reported};
 use regex_automata::hybrid::dfa::{Cache, DFA, OverlappingState};
 use regex_automata::hybrid::{BuildError, LazyStateID, SearchError, StartError, StepError};
-use regex_automata::nfa::thompson::{NFA, ReverseError};
+use regex_automata::nfa::thompson::NFA;
 use regex_automata::util::search::{Anchored, HalfMatch, Input, PatternSet};
 use regex_automata::util::start;
 use std::alloc::{AllocError, Global};
@@ -96,10 +96,6 @@ pub enum Call {
     Brief,
     /// Whether the NFA and the DFA can be copied.
     Copies,
-    /// How many patterns the reversed NFA has.
-    PatternsOfReversed,
-    /// Whether the NFA keeps UTF-8.
-    KeepsUtf8,
 }
 
 /// A set of some of the first three patterns, each as a digit of a number: 1, 10 and 100. Each that comes after is a
@@ -301,8 +297,6 @@ impl Bench {
                 let dfa: Result<DFA, AllocError> = self.dfa.clone();
                 Reported::of_flag(nfa.is_ok() && dfa.is_ok())
             }
-            Call::PatternsOfReversed => patterns_of_reversed(self.dfa.get_nfa()),
-            Call::KeepsUtf8 => keeps_utf8(self.dfa.get_nfa()),
             _ => Reported::Word("-"),
         }
     }
@@ -533,23 +527,6 @@ pub fn search(
         dfa.try_search_rev(cache, input)
     } else {
         dfa.try_search_fwd(cache, input)
-    }
-}
-
-/// Whether an NFA keeps UTF-8.
-fn keeps_utf8(nfa: &NFA) -> Reported {
-    match nfa.keeps_utf8() {
-        Ok(keeps) => Reported::of_flag(keeps),
-        Err(_) => Reported::Refused(BuildError::OutOfMemory),
-    }
-}
-
-/// How many patterns the reversed NFA has.
-fn patterns_of_reversed(nfa: &NFA) -> Reported {
-    match nfa.reversed() {
-        Ok(reversed) => Reported::Number("", reversed.pattern_len(), ""),
-        Err(ReverseError::OutOfMemory) => Reported::Refused(BuildError::OutOfMemory),
-        Err(_) => Reported::Word("another error"),
     }
 }
 

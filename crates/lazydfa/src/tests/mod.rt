@@ -111,11 +111,6 @@ fn same_of<T: PartialEq + Debug, D: Debug>(rt: &impl Host, found: &T, expected: 
     assert_eq!(rt; found, expected, "{of:?}");
 }
 
-/// Stops the test unless a text is the expected one, and names what it belongs to.
-fn same_text(rt: &impl Host, found: &str, expected: &str, of: &str) {
-    assert_eq!(rt; found, expected, "{of}");
-}
-
 /// Stops the test unless this holds.
 fn check(rt: &impl Host, is_right: bool) {
     assert!(rt; is_right, "another answer");

@@ -31,7 +31,7 @@ const PARTS: &[Row] = &[
         Find(WORDS), Counts],
         "half 1 4, half 1 0, (0, 1082, 5) (0, 1383, 7), match 1 0..4, (0, 1082, 10) (0, 1911, 10)"),
     ("both parts lent for writing at once, and the memory of each", Of(Entry::Words), "", &[Both(WORDS)],
-        "(1, 4, 1082) (1, 0, 1383)"),
+        "(0, 1082, 5) (0, 1383, 7)"),
     ("a part that was lent, once both were looked at", Of(Entry::Words), "", &[Forward(WORDS), Counts, Find(WORDS)],
         "half 1 4, (0, 1082, 5) (0, 577, 0), match 1 0..4"),
     ("a reset", Of(Entry::Date), "", &[Counts, Find(DATES), Counts, Reset, Counts],

@@ -9,12 +9,12 @@ use super::plans::Mode;
 use super::reported::{Counted, Item, Reported, prints};
 use super::reports::{Automaton, Caller, RowOf, config};
 use crate::catalogue::Entry;
-use regex_automata::hybrid::dfa::{Config, DFA};
+use regex_automata::hybrid::dfa::Config;
 use regex_automata::hybrid::regex::{Cache, Regex, RegexBuildError};
 use regex_automata::hybrid::{BuildError, SearchError};
 use regex_automata::nfa::thompson::NFA;
 use regex_automata::tokens::{Token, TokenError, Tokens};
-use regex_automata::util::search::{HalfMatch, Input, Match};
+use regex_automata::util::search::{Input, Match};
 use std::alloc::{AllocError, Global};
 
 /// What a regex is made of.
@@ -73,8 +73,6 @@ pub enum Ask {
     Find(&'static [u8]),
     /// Searches from each of these offsets on, anchored or not.
     Learn(&'static [u8], &'static [usize], Mode),
-    /// Searches by `try_search`.
-    Search(&'static [u8]),
     /// Whether there is a match.
     Is(&'static [u8]),
     /// The first eight items of an iteration.
@@ -84,7 +82,7 @@ pub enum Ask {
     /// A search by a part of the cache that is lent for writing.
     Forward(&'static [u8]),
     Reverse(&'static [u8]),
-    /// Searches by both parts, lent at once: of each the pattern, the offset, and the memory afterwards.
+    /// What is counted of both parts of a clone, lent at once, after a search by each.
     Both(&'static [u8]),
     /// The cache is replaced by a new one.
     Replace,
@@ -96,8 +94,6 @@ pub enum Ask {
     ResetByCache,
     ResetForward,
     ResetReverse,
-    /// Resets the cache. If that fails, a search for which all is cached is made again.
-    ResetOrFind(&'static [u8]),
     /// How often each part was cleared, its memory, and the bytes searched.
     Counts,
     /// Whether the cache is printed so for debugging.
@@ -105,8 +101,6 @@ pub enum Ask {
     /// Whether an iteration is printed so at first, after one item, and after two more calls; and one of tokens.
     ItemsPrint(&'static [u8], Printed),
     TokensPrint(&'static [u8], Printed),
-    /// How many a regex of the forward NFA alone has.
-    PatternsOfAlone,
 }
 
 /// A row of calls over a regex and its cache.
@@ -163,7 +157,6 @@ impl RegexBench {
         match ask {
             Ask::Find(haystack) => self.find(&Input::new(haystack)),
             Ask::Learn(haystack, places, mode) => self.learn(haystack, places, mode),
-            Ask::Search(haystack) => Reported::Span(self.search(&Input::new(haystack)), ""),
             Ask::Is(haystack) => Reported::Truth(self.holds(&Input::new(haystack))),
             Ask::Items(haystack) => Reported::Items(self.first_items(Input::new(haystack))),
             Ask::Tokens(haystack, start) => Reported::Items(self.first_tokens(haystack, start)),
@@ -174,10 +167,6 @@ impl RegexBench {
             Ask::Prints(text) => Reported::of_flag(prints(alloc, &self.cache, text)),
             Ask::ItemsPrint(haystack, texts) => self.items_print(alloc, haystack, texts),
             Ask::TokensPrint(haystack, texts) => self.tokens_print(alloc, haystack, texts),
-            Ask::PatternsOfAlone => match self.regex.forward().get_nfa().clone() {
-                Ok(nfa) => patterns_of(alone(nfa, Config::new())),
-                Err(_) => Reported::Refused(BuildError::OutOfMemory),
-            },
             _ => self.renew(ask),
         }
     }
@@ -187,12 +176,11 @@ impl RegexBench {
         match ask {
             Ask::Replace | Ask::ReplaceByNew | Ask::ReplaceByClone => {
                 let made = self.made(ask);
-                self.replace(ask, made)
+                self.replace(made)
             }
             Ask::ResetByCache => Reported::of_growth(self.cache.reset(&self.regex)),
             Ask::ResetForward => Reported::of_growth(self.reset_forward()),
             Ask::ResetReverse => Reported::of_growth(self.reset_reverse()),
-            Ask::ResetOrFind(haystack) => self.reset_or_find(haystack),
             _ => Reported::of_growth(self.reset()),
         }
     }
@@ -209,7 +197,7 @@ impl RegexBench {
     }
 
     /// Puts a cache that was made in the place of this one.
-    fn replace(&mut self, ask: Ask, made: Result<Cache, AllocError>) -> Reported
+    fn replace(&mut self, made: Result<Cache, AllocError>) -> Reported
         requires { IfOk made (λ made. AreCachesOf made self.old.regex) }
     {
         match made {
@@ -217,36 +205,17 @@ impl RegexBench {
                 self.cache = cache;
                 Reported::Word("-")
             }
-            Err(_) => reported_of_refusal(ask, self.regex.forward()),
+            Err(_) => Reported::Refused(BuildError::OutOfMemory),
         }
     }
 
     /// Searches from each of these offsets on.
     fn learn(&mut self, haystack: &[u8], places: &[usize], mode: Mode) -> Reported {
         for place in places {
-            let _ = self.search(&from(haystack, *place).anchored(mode.anchored()));
+            let input = from(haystack, *place).anchored(mode.anchored());
+            let _ = self.find(&input);
         }
         Reported::Word("-")
-    }
-
-    /// Resets the cache, or searches again if that fails.
-    fn reset_or_find(&mut self, haystack: &[u8]) -> Reported {
-        if self.reset().is_ok() {
-            return Reported::Word("-");
-        }
-        let is_forward = has_no_room(self.regex.forward());
-        let found = self.regex.find(&mut self.cache, &Input::new(haystack));
-        let refused = if is_forward {
-            "; memory"
-        } else {
-            "; reverse memory"
-        };
-        Reported::Span(found, refused)
-    }
-
-    /// Searches by `try_search`.
-    fn search(&mut self, input: &Input<'_>) -> Result<Option<Match>, SearchError> {
-        self.regex.try_search(&mut self.cache, input)
     }
 
     /// Whether there is a match.
@@ -372,45 +341,14 @@ impl Caller for RegexBench {
     }
 }
 
-/// How many patterns a regex has that was built, or that there was no memory for it.
-fn patterns_of(built: Result<Regex, RegexBuildError>) -> Reported {
-    match built {
-        Ok(regex) => Reported::Number("", regex.pattern_len(), ""),
-        Err(RegexBuildError::OutOfMemory) => Reported::Refused(BuildError::OutOfMemory),
-        Err(_) => Reported::Word("another error"),
-    }
-}
-
-/// Where a match ends, by the forward part, and where one starts, by the reverse part.
+/// What is counted of both parts after a search by each.
 fn halves(regex: &Regex, cache: &mut Cache, input: &Input<'_>) -> [Counted; 2]
     requires { AreCachesOf cache.old regex.now }
 {
     let (forward, reverse) = cache.as_parts_mut();
-    let end = regex.forward().try_search_fwd(forward, input);
-    let start = regex.reverse().try_search_rev(reverse, input);
-    let (end_memory, start_memory) = (forward.memory_usage(), reverse.memory_usage());
-    [half_of(end, end_memory), half_of(start, start_memory)]
-}
-
-/// The pattern and the offset of a match that there is, and the memory that was used.
-fn half_of(found: Result<Option<HalfMatch>, SearchError>, memory: usize) -> Counted {
-    match found {
-        Ok(Some(half)) => (half.pattern().as_usize(), half.offset(), memory),
-        _ => (0, 0, memory),
-    }
-}
-
-/// Why no cache was made: of two new parts, the reverse one was refused if the forward one can be made.
-fn reported_of_refusal(ask: Ask, forward: &DFA) -> Reported {
-    match ask {
-        Ask::Replace if !has_no_room(forward) => Reported::Word("reverse memory"),
-        _ => Reported::Refused(BuildError::OutOfMemory),
-    }
-}
-
-/// Whether making a cache fails.
-fn has_no_room(dfa: &DFA) -> bool {
-    dfa.create_cache().is_err()
+    let _ = regex.forward().try_search_fwd(forward, input);
+    let _ = regex.reverse().try_search_rev(reverse, input);
+    [counted(forward), counted(reverse)]
 }
 
 /// A haystack from an offset on.

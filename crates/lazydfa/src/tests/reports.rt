@@ -3,7 +3,7 @@
 
 use super::plans::{chain, plan};
 use super::reported::Reported;
-use super::{Host, Text, check, exhaust, same_of, same_text};
+use super::{Host, Text, check, exhaust, same_of};
 use crate::catalogue::Entry;
 use crate::script::configured;
 use regex_automata::hybrid::BuildError;
@@ -100,7 +100,7 @@ pub trait Caller: Drop {
 pub fn reports_all<T: Caller>(rt: &impl Host, rows: &[RowOf<T::Of, T::Call>]) {
     for row in rows {
         let text = text_of::<T>(rt, row.1, row.2, row.3);
-        same_text(rt, text.as_str(), row.4, row.0);
+        same_of(rt, &text.as_str(), &row.4, &row.0);
     }
 }
 
@@ -249,7 +249,7 @@ impl Turns {
 
     /// Stops the test unless the last call reported this.
     pub fn has_reported(&self, rt: &impl Host, due: &str, shows: &str) {
-        same_text(rt, self.reported.as_str(), due, shows);
+        same_of(rt, &self.reported.as_str(), &due, &shows);
     }
 
     /// Keeps what a call reports.

@@ -24,8 +24,6 @@ const WORDS_BACK: On = On(Reverse(Entry::Words), Nothing);
 
 const DATE: On = On(Forward(Entry::Date), Nothing);
 
-const RUNS: On = On(Forward(Entry::Runs), Nothing);
-
 const A16: On = On(Forward(Entry::A16), Nothing);
 
 const A16_BACK: On = On(Reverse(Entry::A16), Nothing);
@@ -97,30 +95,16 @@ const LONG: &[Row] = &[
 /// The memory at the start, after each byte and at the end, and whether the state is dead, quit or a match.
 #[rattlefmt::skip]
 const WALKED: &[Row] = &[
-    ("always anchored", AB, "quit=21", &[Start(None), Brief, Step(b'a'), Brief, Step(b'x'), Brief, Step(b'b'), Brief,
-        End, Brief], "-, 421, -, 507, -, 507d, -, 507d, -, 507d"),
-    ("the first of two words", WORDS, "quit=21", &[Start(None), Brief, Step(b'@'), Brief, Step(b'f'), Brief, Step(b'o'),
-        Brief, Step(b'o'), Brief, Step(b' '), Brief, Step(b'b'), Brief, Step(b'a'), Brief, Step(b'r'), Brief, End,
-        Brief], "-, 705, -, 838, -, 965m, -, 965m, -, 965m, -, 1082m, -, 1082d, -, 1082d, -, 1082d, -, 1082d"),
     ("all words", WORDS, "all quit=21", &[Start(None), Brief, Step(b'@'), Brief, Step(b'f'), Brief, Step(b'o'), Brief,
         Step(b'o'), Brief, Step(b' '), Brief, Step(b'b'), Brief, End, Brief],
         "-, 705, -, 838, -, 980m, -, 1126m, -, 1126m, -, 1262m, -, 1400, -, 1521m"),
-    ("equal patterns", On(Forward(Entry::Aa), Nothing), "all quit=21",
-        &[Start(None), Brief, Step(b'a'), Brief, Step(b'a'), Brief,
-        Step(b'b'), Brief, End, Brief], "-, 527, -, 633, -, 747m, -, 851m, -, 851d"),
-    ("ends of lines", On(Forward(Entry::Crlf), Nothing), "all quit=21",
-        &[Start(None), Brief, Step(b'\r'), Brief, Step(b'\n'), Brief,
-        Step(b'\n'), Brief, End, Brief], "-, 451, -, 546m, -, 546, -, 641m, -, 726m"),
     ("a character and its neighbours", On(Forward(Entry::Snow), Nothing), "quit=21",
         &[Start(None), Brief, Step(b'a'), Brief,
         Step(0xE2), Brief, Step(0x98), Brief, Step(0x83), Brief, Step(b'x'), Brief, End, Brief],
         "-, 970, -, 1167, -, 1364, -, 1550m, -, 1732, -, 1914, -, 2095m"),
-    ("a date", DATE, "quit=21", &[Start(None), Brief, Step(b'2'), Brief, Step(b'0'), Brief, Step(b'1'),
-        Brief, Step(b'8'), Brief, Step(b'-'), Brief, Step(b'1'), Brief, Step(b'2'), Brief, Step(b'-'), Brief,
-        Step(b'2'), Brief, Step(b'4'), Brief, End, Brief],
-        "-, 640, -, 736, -, 837, -, 943, -, 1054, -, 1150, -, 1251, -, 1357, -, 1453, -, 1554, -, 1660, -, 1745m"),
-    ("a quit byte", RUNS, "quit=21", &[Start(None), Brief, Step(b'a'), Brief, Step(b'1'), Brief,
-        Step(b'!'), Brief, Step(b'b'), Brief, End, Brief], "-, 577, -, 678, -, 763m, -, 763q, -, 763q, -, 763q"),
+    ("a quit byte", On(Forward(Entry::Runs), Nothing), "quit=21",
+        &[Start(None), Brief, Step(b'a'), Brief, Step(b'1'), Brief, Step(b'!'), Brief,
+        Step(b'b'), Brief, End, Brief], "-, 577, -, 678, -, 763m, -, 763q, -, 763q, -, 763q"),
 ];
 
 /// Twenty bytes `a` from a word boundary on, so that the starts differ by the look-behind byte.
@@ -155,7 +139,7 @@ const COUNTED: &[Row] = &[
     ("", On(Forward(Entry::Never), Nothing), "", &[Find("abc"), Counts], "none, 0 217 0"),
     ("", DATE, "", &[Find("2018-12-24 2016-10-08"), Counts], "half 0 10, 0 1745 11"),
     ("", WORDS, "", &[Find("@foo bar"), Counts], "half 1 4, 0 1082 5"),
-    ("", RUNS, "", &[Find("123 foobar 4567"), Counts], "half 1 3, 0 858 4"),
+    ("", On(Forward(Entry::Runs), Nothing), "", &[Find("123 foobar 4567"), Counts], "half 1 3, 0 858 4"),
     ("", A16, "", &[Find(AS), Counts], "half 0 16, 0 1840 16"),
     ("", AB_BACK, "all", &[Find("ab"), Counts], "half 0 0, 0 678 1"),
     ("", AB_BACK, "all", &[Find(""), Counts], "none, 0 421 0"),

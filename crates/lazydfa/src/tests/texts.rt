@@ -2,7 +2,7 @@
 
 use super::plans::pattern_id;
 use super::reported::prints;
-use super::{Host, Text, check, same_of, same_text};
+use super::{Host, Text, check, same_of};
 use crate::error::RunError;
 use regex_automata::hybrid::regex::RegexBuildError;
 use regex_automata::hybrid::{BuildError, CacheError, SearchError, StartError, StepError};
@@ -13,18 +13,12 @@ use regex_automata::util::byte_set::ByteSet;
 use regex_automata::util::search::{Anchored, MatchError, PatternSet, PatternSetInsertError};
 use std::fmt::Display;
 
-const UNSUPPORTED: &str =
-    "unsupported regex feature for DFAs: cannot build lazy DFAs for regexes with Unicode word boundaries; switch to ASCII word boundaries, or heuristically enable Unicode word boundaries or use a different regex engine";
-
+/// The texts that no reply of a script shows.
 #[rattlefmt::skip]
 const BUILDS: &[(BuildError, Text)] = &[
-    (BuildError::Unsupported, UNSUPPORTED),
-    (BuildError::InsufficientCacheCapacity { minimum: 1735, given: 1734 },
-        "given cache capacity (1734) is smaller than minimum required (1735)"),
     (BuildError::InsufficientStateIDCapacity { attempted: 134217728 },
         "failed to create LazyStateID from 134217728, which exceeds 134217727"),
     (BuildError::OutOfMemory, "out of memory"),
-    (BuildError::PatternCounts { forward: 2, reverse: 1 }, "forward DFA has 2 patterns and reverse DFA has 1"),
 ];
 
 /// Why there is no start.
@@ -41,9 +35,9 @@ const STARTS: [(StartError, Text); 4] = [
 /// Bytes behind which a start is refused, as its text shows them: as a string literal has them.
 #[rattlefmt::skip]
 const QUITS: &[(u8, Text)] = &[
-    (0x20, "' '"), (0x09, "\\t"), (0x0A, "\\n"), (0x0D, "\\r"), (0x27, "\\'"), (0x22, "\\\""), (0x5C, "\\\\"), (0x41, "A"),
-    (0x21, "!"), (0x7E, "~"), (0x7F, "\\x7F"), (0x00, "\\x00"), (0x0B, "\\x0B"), (0x1B, "\\x1B"), (0x80, "\\x80"),
-    (0xB2, "\\xB2"), (0xCE, "\\xCE"), (0xFF, "\\xFF"),
+    (0x20, "' '"), (0x09, "\\t"), (0x0A, "\\n"), (0x0D, "\\r"), (0x27, "\\'"), (0x22, "\\\""), (0x5C, "\\\\"),
+    (0x41, "A"), (0x21, "!"), (0x7E, "~"), (0x7F, "\\x7F"), (0x00, "\\x00"), (0x0B, "\\x0B"), (0x1B, "\\x1B"),
+    (0x80, "\\x80"), (0xB2, "\\xB2"), (0xCE, "\\xCE"), (0xFF, "\\xFF"),
 ];
 
 const CLEARED: Text = "lazy DFA cache has been cleared too many times";
@@ -69,10 +63,6 @@ const TOKENS: [(TokenError, Text); 2] = [
 
 #[rattlefmt::skip]
 const NFAS: &[(NfaError, Text)] = &[
-    (NfaError::StateRange, "a state leads to a state that is out of range"),
-    (NfaError::StartRange, "a start state is out of range"),
-    (NfaError::PatternRange, "a match state has a pattern that is out of range"),
-    (NfaError::Ranges, "ranges of bytes are not in order"),
     (NfaError::TooLarge, "too many states, patterns or alternates"),
     (NfaError::OutOfMemory, "out of memory"),
 ];
@@ -88,24 +78,17 @@ const NFA_BUILDS: &[(thompson::BuildError, Text)] = &[
     (thompson::BuildError::OutOfMemory, "out of memory"),
 ];
 
-const OTHER_STARTS: Text =
-    "the starts differ in the empty match, so the reversed NFA would have others";
-
 #[rattlefmt::skip]
 const REVERSES: &[(ReverseError, Text)] = &[
-    (ReverseError::Starts, OTHER_STARTS),
+    (ReverseError::Starts, "the starts differ in the empty match, so the reversed NFA would have others"),
     (ReverseError::TooLarge, "the reversed NFA would be too large"),
     (ReverseError::OutOfMemory, "out of memory"),
 ];
 
 #[rattlefmt::skip]
 const REGEXES: &[(RegexBuildError, Text)] = &[
-    (RegexBuildError::NotLazy, "the unanchored start does not skip lazily, so an unanchored match may have no start"),
-    (RegexBuildError::NotUtf8, "a match may be invalid UTF-8, so in UTF-8 mode it might split a character"),
-    (RegexBuildError::Starts, OTHER_STARTS),
     (RegexBuildError::TooLarge, "the reversed NFA would be too large"),
     (RegexBuildError::OutOfMemory, "out of memory"),
-    (RegexBuildError::Build(BuildError::Unsupported), UNSUPPORTED),
 ];
 
 const RUNS: &[(RunError, Text)] = &[
@@ -120,6 +103,7 @@ fn prints_errors(rt: HostRuntime) {
     print_all(&rt, BUILDS);
     print_all(&rt, &STARTS);
     print_quits(&rt);
+    print_places(&rt);
     print_all(&rt, STEPS);
     print_all(&rt, &[(CacheError, CLEARED)]);
     print_all(&rt, &SEARCHES);
@@ -146,7 +130,7 @@ fn print_quits(rt: &impl Host) {
         let text = printed.as_str();
         let text = text.strip_prefix("error computing start state because the look-behind byte ");
         let text = text.unwrap_or("").strip_suffix(" triggered a quit state");
-        same_text(rt, text.unwrap_or(""), shown, "a quit byte");
+        same_of(rt, &text.unwrap_or(""), &shown, &"a quit byte");
     }
 }
 
@@ -180,12 +164,6 @@ fn prints_sets_of_bytes(rt: HostRuntime) {
     );
 }
 
-/// The texts of errors that name a byte, an offset or a mode.
-#[test]
-fn prints_errors_of_a_place(rt: HostRuntime) {
-    print_places(&rt);
-}
-
 /// Compares the texts of errors that name a byte, an offset or a mode.
 fn print_places(rt: &impl Host) {
     let quit = SearchError::Match(MatchError::quit(0x78, 4));
@@ -216,5 +194,5 @@ fn print_all<E: Display>(rt: &impl Host, rows: &[(E, Text)]) {
 /// Compares the text of an error.
 fn print<E: Display>(rt: &impl Host, error: &E, text: &str) {
     let printed = error.to_string(rt.alloc()).expect(rt, "memory");
-    same_text(rt, printed.as_str(), text, "an error");
+    same_of(rt, &printed.as_str(), &text, &"an error");
 }

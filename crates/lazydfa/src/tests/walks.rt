@@ -28,7 +28,8 @@ const OVER_AA: On = On(Forward(Entry::Aa), Text("aa"));
 #[rattlefmt::skip]
 const BACK: &[Row] = &[
     ("the chosen path alone", On(Reverse(Entry::Aa), Text("aa")), "", &[Next, Next, Next], "half 0 1, none, none"),
-    ("", On(Reverse(Entry::Words), Text("@foo bar")), "", &[Next, Next, Next, Next], "half 0 7, half 0 6, half 0 5, none"),
+    ("", On(Reverse(Entry::Words), Text("@foo bar")), "", &[Next, Next, Next, Next],
+        "half 0 7, half 0 6, half 0 5, none"),
     ("", On(Reverse(Entry::Words), Text("a!")), "", &[Next, Next, Next], "half 1 1, half 1 0, none"),
     ("", On(Reverse(Entry::Abc), Text("abcab")), "", &[Next, Next, Next], "half 0 2, half 0 0, none"),
     ("", On(Reverse(Entry::Runs), Text("12ab 34")), "", &[Next, Next, Next], "half 1 6, half 1 5, none"),
@@ -66,7 +67,8 @@ const CLEARED: &[Row] = &[
     ("in reverse", On(Reverse(Entry::A16), Text(AS)), "all noclasses capacity=37281", &[Next, Counts, Next, Counts,
         Next], "half 0 0, 1 19288 2, none, 1 19288 2, none"),
     ("no clear is free, so the call gives up, and so does the next", OVER_AS, "all noclasses capacity=37281 limit=0",
-        &[Next, Match, Counts, Next, Match, Counts], "gaveup 13, none, 0 36105 13 open, gaveup 13, none, 0 36105 26 open"),
+        &[Next, Match, Counts, Next, Match, Counts],
+        "gaveup 13, none, 0 36105 13 open, gaveup 13, none, 0 36105 26 open"),
     ("in reverse", On(Reverse(Entry::A16), Text(AS)), "all noclasses capacity=37281 limit=0", &[Next, Match,
         Counts, Next, Match, Counts], "gaveup 2, none, 0 36105 13 open, gaveup 2, none, 0 36105 26 open"),
     ("the pair that a call owes is told over another cache", OVER_AS, "all noclasses capacity=37281 limit=1",
