@@ -66,7 +66,8 @@ def random_turn(random: Random, kind: str, texts: Texts, options: Options) -> Op
 
 
 def random_turns(random: Random, kinds: tuple[str, ...], count: int, texts: Texts, options: Options) -> list[Request]:
-    """Requests of one regex, with at most one walk, whose steps are made between the others."""
+    """Requests of one regex, with at most one walk, whose steps are made between the others. In the middle of an odd
+    number of them the cache is made as new, and the walk goes on."""
     plain: list[Request] = []
     walk: list[Request] = []
     for _ in range(count):
@@ -76,7 +77,9 @@ def random_turns(random: Random, kinds: tuple[str, ...], count: int, texts: Text
             walk = walk or turns
         else:
             plain += turns or []
-    return [Request("reset %r0", ["ok"])] + mixed(random, plain, walk)
+    turns, reset = mixed(random, plain, walk), [Request("reset %r0", ["ok"])]
+    middle = len(turns) // 2
+    return reset + turns[:middle] + reset * (len(turns) % 2) + turns[middle:]
 
 
 def made(random: Random) -> Script:
@@ -138,7 +141,8 @@ def goes_through(name: str) -> Iterator[Script]:
 
 
 def each_request(number: int, texts: tuple[Haystack, Haystack], options: Options) -> list[Request]:
-    """All requests to a text. The walks that they begin have this number and the next, and give all their matches."""
+    """All requests to a text. The walks that they begin are numbered by that of the text, and give all their matches;
+    those of every other text go on over a new cache after each step."""
     forward, backward = texts
     span = (0, len(forward.bytes))
     requests = []
@@ -150,7 +154,8 @@ def each_request(number: int, texts: tuple[Haystack, Haystack], options: Options
         name = f"%w{2 * number + (way == 'rev')}"
         requests.append(Request(f"walk {way} {forward.bytes.hex() or '-'}", ["walk", name]))
         replies = [["half", str(pattern), str(at)] for pattern, at in pairs] + [["none"]]
-        requests += [Request(f"step {name}", reply) for reply in replies]
+        reset = [Request("reset %r0", ["ok"])] * (number % 2)
+        requests += [part for reply in replies for part in [Request(f"step {name}", reply)] + reset]
     return requests
 
 

@@ -92,6 +92,7 @@ const BAD_LATER: &[(&str, usize)] = &[
     ("regex ab\nfwd 6162\nrev 6162 \n", 3), ("nfa 0/0,0 M0\nregex 0", 2), ("fwd 61\nnfa 0/0,0 M0\n", 2),
 ];
 
+/// A bad line is named by its number, and nothing is answered.
 #[test]
 fn reports_the_first_bad_line(rt: HostRuntime) {
     refuse_lines(&rt, BAD);
