@@ -112,7 +112,6 @@ fn look_of(number: u32) -> Result<Look, Status>
     }
 }
 
-/// The number of a state that was added, or the status of the error.
 fn told_state(answer: Result<StateID, BuildError>) -> Result<u32, Status>
     ensures { result ≡ told_by answer }
 {
@@ -122,7 +121,6 @@ fn told_state(answer: Result<StateID, BuildError>) -> Result<u32, Status>
     }
 }
 
-/// The number of a pattern, or the status of the error.
 fn told_pattern(answer: Result<PatternID, BuildError>) -> Result<u32, Status>
     ensures { result ≡ told_by answer }
 {
@@ -132,7 +130,6 @@ fn told_pattern(answer: Result<PatternID, BuildError>) -> Result<u32, Status>
     }
 }
 
-/// 0 for a call that returns nothing, or the status of the error.
 fn told_done(answer: Result<(), BuildError>) -> Result<u32, Status>
     ensures { result ≡ told_by (zeroed answer) }
 {
@@ -142,7 +139,6 @@ fn told_done(answer: Result<(), BuildError>) -> Result<u32, Status>
     }
 }
 
-/// Adds a state to a builder, and returns its number.
 fn add_to(alloc: Global, builder: &mut Builder, added: Added<'_>) -> Result<u32, Status>
     ensures { AddsTo added.entry builder.old builder.new result }
 {
@@ -171,7 +167,6 @@ fn add_to(alloc: Global, builder: &mut Builder, added: Added<'_>) -> Result<u32,
     }
 }
 
-/// Adds a state to the builder that an object is. It fails with `Code::Kind` if the object is none.
 fn add_in(alloc: Global, object: &mut Object, added: Added<'_>) -> Result<u32, Status>
     ensures { OfBuilder (AddsTo added.entry) object.old object.new result }
 {
@@ -181,7 +176,6 @@ fn add_in(alloc: Global, object: &mut Object, added: Added<'_>) -> Result<u32, S
     }
 }
 
-/// Adds a state to the builder behind a handle. It fails with `Code::Closed` if the handle is not open.
 fn add_behind(alloc: Global, handle: &mut Handle, added: Added<'_>) -> Result<u32, Status>
     ensures { OfDraft (AddsTo added.entry) handle.old handle.new result }
 {
@@ -245,7 +239,6 @@ fn change_to(builder: &mut Builder, change: Change) -> Result<u32, Status>
     Ok(0)
 }
 
-/// Changes the builder that an object is. It fails with `Code::Kind` if the object is none.
 fn change_in(object: &mut Object, change: Change) -> Result<u32, Status>
     ensures { OfBuilder (Changes change) object.old object.new result }
 {
@@ -255,7 +248,6 @@ fn change_in(object: &mut Object, change: Change) -> Result<u32, Status>
     }
 }
 
-/// Changes the builder behind a handle. It fails with `Code::Closed` if the handle is not open.
 fn change_behind(alloc: Global, handle: &mut Handle, change: Change) -> Result<u32, Status>
     ensures { OfDraft (Changes change) handle.old handle.new result }
 {
@@ -294,7 +286,6 @@ fn open_builder(alloc: Global, handle: &mut Handle, builder: Builder) -> Result<
     Ok(())
 }
 
-/// Opens a handle on a builder without states. It fails with `Code::Open` if the handle is open already.
 fn new_builder(alloc: Global, handle: &mut Handle) -> Result<(), Status>
     ensures { CreatesDraft handle.old handle.new result }
 {

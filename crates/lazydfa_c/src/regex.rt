@@ -43,7 +43,6 @@ fn nfa_of(builder: &Builder, starts: StartStates) -> Result<NFA, Status>
     Ok(builder.build(anchored, unanchored)?)
 }
 
-/// The NFA of the builder that an object is. It fails with `Code::Kind` if the object is none.
 fn nfa_of_object(object: &Object, starts: StartStates) -> Result<NFA, Status>
     ensures { IsNfaIn starts object.now result }
 {
@@ -53,7 +52,6 @@ fn nfa_of_object(object: &Object, starts: StartStates) -> Result<NFA, Status>
     }
 }
 
-/// The NFA of the builder behind a handle, which is put back. It fails with `Code::Closed` if the handle is not open.
 fn nfa_in(alloc: Global, builder: &mut Handle, starts: StartStates) -> Result<NFA, Status>
     ensures { Reads (IsNfaIn starts) builder.old builder.new result }
 {
@@ -132,7 +130,6 @@ fn open_pair(
     }
 }
 
-/// Opens a handle on the regex of the NFA of a builder.
 fn build_of(
     alloc: Global,
     regex: &mut Handle,
@@ -146,8 +143,6 @@ fn build_of(
     open_sound(alloc, regex, nfa, config)
 }
 
-/// Opens a handle on the regex of the NFA of a builder, with the settings as options. It fails with `Code::Open` if the
-/// handle is open already; after an error it is as it was.
 fn build(
     alloc: Global,
     regex: &mut Handle,
@@ -185,7 +180,6 @@ fn open_after(
     }
 }
 
-/// Opens a handle on the regex of the NFAs of two builders. The second is read only if the first gave its NFA.
 fn build_pair_of(
     alloc: Global,
     regex: &mut Handle,
