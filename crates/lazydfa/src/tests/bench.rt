@@ -98,16 +98,17 @@ pub enum Call {
     Copies,
 }
 
-/// A set of some of the first three patterns, each as a digit of a number: 1, 10 and 100. Each that comes after is a
-/// thousand.
+/// The first three patterns of a set as 1, 10 and 100, and each other one as 1000.
 fn digits_of(set: &PatternSet) -> usize {
     let [zero, one, two] = [has(set, 0), has(set, 1), has(set, 2)];
-    zero + 10 * one + 100 * two + 1000 * set.len().min(4).saturating_sub(zero + one + two)
+    let (zero, one, two) = (usize::from(zero), usize::from(one), usize::from(two));
+    let others = set.len().saturating_sub(zero + one + two);
+    zero + 10 * one + 100 * two + 1000 * others.min(4)
 }
 
-/// One if a set has this pattern, and else none.
-fn has(set: &PatternSet, number: u8) -> usize {
-    usize::from(set.contains(pattern_id(number)))
+/// Whether a set has this pattern.
+fn has(set: &PatternSet, number: u8) -> bool {
+    set.contains(pattern_id(number))
 }
 
 /// A lazy DFA with two caches, of which calls use the first, the state to which was stepped, a set of patterns, and

@@ -50,8 +50,7 @@ const SEARCHED: &[Row] = &[
     ("at the first match", WORDS_BACK, "all", &[FindEarliest("@foo bar"), Counts], "half 0 7, 0 989 1"),
 ];
 
-/// What searches from the first offset to the second answer, of which one is over a part of a character, the memory of
-/// the cache, and what a search of a byte answers.
+/// Searches by spans, one inside a character, the memory, and a search of a byte.
 const DULL: &[Call] = &[
     FindIn("abc", 1, 2),
     FindIn("\u{2603}", 1, 2),
