@@ -152,7 +152,7 @@ const WALKS: &[Lazy] = &[
         (Match, "none"), (Next, "memory"), (Switch, "-"), (Next, "half 0 2"), (Next, "half 1 2"), (Next, "none"),
         (Switch, "-"), (Next, "none"), (Match, "none")], &[]),
     ("nor for another pattern of a place", On(Forward(Entry::Aa), Text("aa")), "all", &[Next], &[(Switch, "-"),
-        (Next, "half 1 1"), (Next, "memory"), (Match, "none"), (Next, "memory"), (Counts, "0 481 0")], &[]),
+        (Next, "half 1 1"), (Next, "memory"), (Match, "none"), (Next, "memory"), (Counts, "0 481 0 open")], &[]),
     ("nor for a copy", On(Forward(Entry::Aa), Text("aa")), "all", &[Next], &[(MatchOfCopy, "half 0 1"),
         (Room, "false")], &[]),
     ("nor over a done span", On(Forward(Entry::Always), Span("ab", 2, 1)), "all", &[], &[(Next, "none"),
