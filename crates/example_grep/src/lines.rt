@@ -39,7 +39,6 @@ pub struct Line<'t> {
 }
 
 impl LineSearcher {
-    /// Searches lines by this DFA, with a cache of its own.
     pub fn new(dfa: DFA) -> Result<LineSearcher>
         requires { IsLookAcyclic (nfa_of dfa.nfa) }
         ensures { IfOk result (λ s. s.dfa ≡ dfa) }

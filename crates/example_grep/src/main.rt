@@ -69,12 +69,10 @@ fn line_searcher(nfa: NFA) -> Result<LineSearcher>
     LineSearcher::new(dfa)
 }
 
-/// What finds the spans of matches, by the regex of the NFA.
 fn span_searcher(nfa: &NFA) -> Result<SpanSearcher> {
     SpanSearcher::new(Regex::builder().build_from_nfa(nfa.clone()?)?)
 }
 
-/// A search that prints what the options ask for.
 fn grep_of(alloc: Global, show: Show, nfa: NFA) -> Result<Grep> {
     let spans = if show.only_matches {
         Some(span_searcher(&nfa)?)
@@ -95,7 +93,6 @@ fn search(rt: &HostRuntime, show: Show, nfa: NFA) -> Result<ExitCode> {
     })
 }
 
-/// The arguments after the name of the program.
 fn arguments(rt: &HostRuntime) -> Result<Vec<String>> {
     let mut all = Vec::new(rt.alloc());
     for argument in env::args(rt)?.skip(1) {
@@ -104,7 +101,6 @@ fn arguments(rt: &HostRuntime) -> Result<Vec<String>> {
     Ok(all)
 }
 
-/// Searches standard input as the arguments say, and returns the status.
 fn run(rt: &HostRuntime) -> Result<ExitCode> {
     let arguments = arguments(rt)?;
     let options = Options::read(rt.alloc(), arguments.as_slice())?;
@@ -114,7 +110,6 @@ fn run(rt: &HostRuntime) -> Result<ExitCode> {
     }
 }
 
-/// Ends with status 0 if a line matched, 1 if none did, and 2 after an error, whose text it prints.
 fn main(rt: HostRuntime) -> ExitCode {
     match run(&rt) {
         Ok(status) => status,
