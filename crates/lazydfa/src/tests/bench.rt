@@ -67,7 +67,7 @@ pub enum Call {
     End,
     /// The walk's next match.
     Next,
-    /// Begins the walk again. So does each call above but `Find`, and each one from `Replace` on.
+    /// Begins the walk again. Each call above `Next` but `Find` does so too, and each one from `Replace` on.
     Begin,
     /// What the walk has found last.
     Match,
