@@ -47,7 +47,7 @@
  *   6. malloc, realloc and free, which the library calls, are those of one allocator, as the C standard has them; a
  *      handle is used and closed in the process, and over the allocator, that opened it.
  *   7. This header is that of the archive which is linked, and the compiler passes arguments as the System V ABI of
- *      x86-64 has it. The stack has room for a call: it recurses nowhere, and 16 KiB are enough.
+ *      x86-64 has it. The stack has room for a call: no call recurses, and 16 KiB are enough, whatever the NFA.
  *
  * Nothing else is asked of the program: every number is allowed in every argument.
  */
