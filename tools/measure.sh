@@ -1,6 +1,6 @@
 #!/bin/sh
-# Measures the library beside a lean twin in unchecked Rust and beside RE2, and the library for C beside grep and RE2, in
-# a copy of the repository with one crate more, outside the gate:
+# Measures the library beside a lean twin in unchecked Rust and beside RE2, and the library for C beside grep, RE2 and the
+# Rust crate regex, in a copy of the repository with one crate more, outside the gate:
 #     tools/measure.sh [ROUNDS [WORK..]]
 # It needs rt, g++, RE2's headers and library, and rustc; without rustc the twin is left out. Seven rounds, as by
 # default, take three minutes, and on a busy machine ten. The crate `measure` is proved before that, in five minutes
@@ -15,7 +15,9 @@
 #
 # The works of the library for C stand in measure/from_c.c, and their units in measure/works_c: with all works, and with
 # `c` in place of the works, they are measured after the others, by rounds of their own. grep counts the lines with a date
-# in a file, in the locale C; the others have the same lines in memory. Its time is as fine as the shell's `times`.
+# in a file, in the locale C, and its time is that in user mode, to a thousandth of a second; the others have the same lines
+# in memory. The crate regex is built by cargo from the sources that Debian's package librust-regex-dev installs, or those
+# in the folder that REGEX_SOURCES names; without cargo or these it is left out.
 set -eu
 rounds=${1:-7}
 [ "$#" -eq 0 ] || shift
@@ -34,26 +36,40 @@ tell() { # ROUND WHO PROGRAM WORK
 }
 
 grep_dates() { # ROUND
-    found=$(LC_ALL=C grep -cE '[0-9]{4}-[0-9]{2}-[0-9]{2}' "$copy/dates.txt" && times) || return 0
-    echo "$found" | awk -v round="$1" 'function micros(t) { sub(/s$/, "", t); split(t, at, "m"); return (at[1] * 60 + at[2]) * 1e6 }
-        NR == 1 { count = $1 } END { printf "%d grep dates %d %d\n", round, count, micros($1) + micros($2) }' >> "$copy/told"
+    found=$(LC_ALL=C TIMEFORMAT=%3U bash -c 'time grep -cE "[0-9]{4}-[0-9]{2}-[0-9]{2}" "$1"' grep "$copy/dates.txt" 2>&1)
+    echo "$found" | awk -v round="$1" 'NR == 1 { count = $1 } END { print round, "grep dates", count, $1 * 1e6 }' >> "$copy/told"
+}
+
+make_regex() {
+    sources=${REGEX_SOURCES:-/usr/share/cargo/registry}
+    if ! command -v cargo > /dev/null || ! ls -d "$sources"/regex-1.* > /dev/null 2>&1; then
+        echo 'without cargo and the sources of the crate regex, its times are left out'
+        return 0
+    fi
+    mkdir -p "$copy/regex/src" "$copy/regex/.cargo"
+    cp "$top/tools/measure/regex/Cargo.toml" "$copy/regex/"
+    cp "$top/tools/measure/regex/main.rs" "$copy/regex/src/"
+    printf '[source.crates-io]\nreplace-with = "here"\n[source.here]\ndirectory = "%s"\n' "$sources" > "$copy/regex/.cargo/config.toml"
+    (cd "$copy/regex" && cargo build --release --offline) > "$copy/built_regex" 2>&1 || { cat "$copy/built_regex"; exit 1; }
 }
 
 measure_c() {
     make -C "$copy/bindings/c" > "$copy/proved_c" 2>&1 || { cat "$copy/proved_c"; exit 1; }
     cc -O2 -I"$copy/bindings/c/include" -o "$copy/from_c" "$top/tools/measure/from_c.c" "$copy/bindings/c/out/liblazydfa.a"
     "$copy/from_c" text > "$copy/dates.txt"
+    make_regex
     : > "$copy/told"
     round=1
     while [ "$round" -le "$rounds" ]; do
         for work in $(cut -d ' ' -f 1 "$top/tools/measure/works_c"); do
             tell "$round" here "$copy/from_c" "$work"
             tell "$round" re2 "$copy/re2" "$work"
+            tell "$round" regex "$copy/regex/target/release/regex_works" "$work"
         done
         grep_dates "$round"
         round=$((round + 1))
     done
-    awk -v other=grep -f "$top/tools/measure/table.awk" "$top/tools/measure/works_c" "$copy/told" | tee "$copy/table_c"
+    awk -v others='grep re2 regex' -f "$top/tools/measure/table.awk" "$top/tools/measure/works_c" "$copy/told" | tee "$copy/table_c"
 }
 
 if [ "$*" = c ]; then

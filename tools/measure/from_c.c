@@ -1,5 +1,6 @@
 /* Works by the library for C: for each name of a work what was counted, and the microseconds of the processor, as
-   measure.in prints them. The work `text` writes the lines of `dates` instead, for other programs. */
+   measure.in prints them. `batch` is `dense` with 1,024 matches a call. The work `text` writes the lines of `dates`
+   instead, for other programs. */
 #define _POSIX_C_SOURCE 200809L
 #include <lazydfa.h>
 #include <stdio.h>
@@ -13,7 +14,7 @@
         if (status.code != LAZYDFA_OK) return status;    \
     } while (0)
 
-enum { SIZE = 1 << 24, DATES = 100 << 20, SEARCHES = 1 << 20, LINES = 200000, WORDS = 20 };
+enum { SIZE = 1 << 24, DATES = 100 << 20, SEARCHES = 1 << 20, LINES = 200000, WORDS = 20, BATCH = 1024 };
 
 static const char LINE[] = "aorax then some other text eoreX and more eorex of it, then gorgx and more morm";
 
@@ -103,7 +104,7 @@ static lazydfa_status add_words(lazydfa_builder *builder, uint32_t *start) {
 static lazydfa_status add_of(lazydfa_builder *builder, const char *work, uint32_t *start) {
     if (!strcmp(work, "dates")) return add_text(builder, "0000-00-00", start);
     if (!strcmp(work, "short")) return add_text(builder, "0000", start);
-    return strcmp(work, "dense") ? add_words(builder, start) : add_word(builder, start);
+    return strcmp(work, "sets") ? add_word(builder, start) : add_words(builder, start);
 }
 
 static lazydfa_status open_cache(lazydfa_cache *cache, const char *work) {
@@ -139,6 +140,17 @@ static lazydfa_status count_spans(lazydfa_cache *cache, const uint8_t *text, siz
     for (;; ++*count) TRY(lazydfa_next(cache, text, length, &at, &match));
 }
 
+static lazydfa_status count_batches(lazydfa_cache *cache, const uint8_t *text, size_t length, size_t *count) {
+    lazydfa_iteration at = lazydfa_iterate(lazydfa_whole(length));
+    for (;;) {
+        static lazydfa_match matches[BATCH];
+        size_t found = 0;
+        lazydfa_status status = lazydfa_next_all(cache, text, length, &at, matches, BATCH, &found);
+        *count += found;
+        if (status.code != LAZYDFA_OK) return status;
+    }
+}
+
 static lazydfa_status count_searches(lazydfa_cache *cache, const uint8_t *text, size_t length, size_t *count) {
     lazydfa_input whole = lazydfa_whole(length);
     lazydfa_status status = { LAZYDFA_NONE, 0, 0 };
@@ -154,26 +166,28 @@ static lazydfa_status count_sets(lazydfa_cache *cache, const uint8_t *text, size
     uint32_t patterns[WORDS];
     lazydfa_status status = { LAZYDFA_OK, 0, 0 };
     for (int line = 0; line < LINES && status.code == LAZYDFA_OK; line++) {
-        size_t found;
+        size_t found = 0;
         status = lazydfa_which(cache, text, length, &whole, WORDS, patterns, WORDS, &found);
         *count += found;
     }
     return status;
 }
 
-static lazydfa_status count_in(lazydfa_cache *cache, const char *work, const char *text, size_t *count) {
+/* Not inlined, so that its instructions can be counted by themselves. */
+__attribute__((noinline)) static lazydfa_status count_in(lazydfa_cache *cache, const char *work, const char *text,
+                                                         size_t length, size_t *count) {
     const uint8_t *bytes = (const uint8_t *)text;
-    size_t length = strlen(text);
     if (!strcmp(work, "dates")) return count_lines(cache, bytes, length, count);
     if (!strcmp(work, "dense")) return count_spans(cache, bytes, length, count);
+    if (!strcmp(work, "batch")) return count_batches(cache, bytes, length, count);
     if (!strcmp(work, "short")) return count_searches(cache, bytes, length, count);
     return count_sets(cache, bytes, length, count);
 }
 
 static char *text_for(const char *work) {
-    if (!strcmp(work, "dense")) return text_of("word ", SIZE);
     if (!strcmp(work, "short")) return text_of("ab1cd23efghi 456", 16);
-    return strcmp(work, "sets") ? lines_of(DATES) : text_of(LINE, sizeof LINE - 1);
+    if (!strcmp(work, "sets")) return text_of(LINE, sizeof LINE - 1);
+    return strcmp(work, "dense") && strcmp(work, "batch") ? lines_of(DATES) : text_of("word ", SIZE);
 }
 
 int main(int argc, char **argv) {
@@ -181,9 +195,10 @@ int main(int argc, char **argv) {
         char *text = text_for(argv[n]);
         lazydfa_cache cache = LAZYDFA_INIT;
         lazydfa_status status;
-        size_t count = 0;
+        size_t count = 0, length;
         long start;
         if (!text) return 2;
+        length = strlen(text);
         if (!strcmp(argv[n], "text")) {
             fputs(text, stdout);
             free(text);
@@ -191,7 +206,7 @@ int main(int argc, char **argv) {
         }
         status = open_cache(&cache, argv[n]);
         start = now();
-        if (status.code == LAZYDFA_OK) status = count_in(&cache, argv[n], text, &count);
+        if (status.code == LAZYDFA_OK) status = count_in(&cache, argv[n], text, length, &count);
         if (status.code > LAZYDFA_NONE) {
             fprintf(stderr, "%s: %s\n", argv[n], lazydfa_code_text(status.code));
             return 1;

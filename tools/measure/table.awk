@@ -1,9 +1,9 @@
 # Reads the works with their units, and then a line `ROUND WHO WORK COUNT TIME` for each run. For each work it prints the
-# middle of the rounds in nanoseconds a unit, here, by the twin (or by the program that `other` names) and by RE2, with
-# the first and the third quarter in brackets; then the other two's time by ours, of the same round, likewise. It says
+# middle of the rounds in nanoseconds a unit, here, and by the twin and by RE2 (or by the programs that `others` names),
+# with the first and the third quarter in brackets; then the others' time by ours, of the same round, likewise. It says
 # where two programs counted different matches.
 
-BEGIN { if (!other) other = "twin" }
+BEGIN { most = split(others ? others : "twin re2", other, " ") }
 
 FNR == NR { works[++last] = $1; units[$1] = $2; unit[$1] = $3; next }
 
@@ -51,13 +51,17 @@ function ratio(who, work,    list, n, round) {
 }
 
 END {
-    line = "%-9s %-6s %22s %22s %22s %18s %18s\n"
-    printf line, "work", "ns a", "here", other, "re2", other "/here", "re2/here"
+    printf "%-9s %-6s %22s", "work", "ns a", "here"
+    for (o = 1; o <= most; o++) printf " %22s", other[o]
+    for (o = 1; o <= most; o++) printf " %18s", other[o] "/here"
+    print ""
     for (k = 1; k <= last; k++) {
         work = works[k]
         if (!(work in met)) continue
-        printf line, work, unit[work], time("here", work), time(other, work), time("re2", work),
-            ratio(other, work), ratio("re2", work)
+        printf "%-9s %-6s %22s", work, unit[work], time("here", work)
+        for (o = 1; o <= most; o++) printf " %22s", time(other[o], work)
+        for (o = 1; o <= most; o++) printf " %18s", ratio(other[o], work)
+        print ""
         if (work in differs) print work ": the programs counted different numbers"
     }
 }

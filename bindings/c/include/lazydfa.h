@@ -35,15 +35,19 @@
  *   1. A handle begins as LAZYDFA_INIT. The program does not write to it afterwards, and does not use a copy of an open
  *      one: to close both would free one object twice. (Moving it, as by memcpy, is allowed if the old one is no longer
  *      used.) A handle that is never closed leaks its object, and no more.
- *   2. A pointer points to what its type says, and to as many of these as the length beside it says, aligned as the type
- *      asks. What is read (a haystack, an input, settings, alternates) is initialised.
+ *   2. A pointer that is not null points to what its type says, and to as many of these as the length beside it says, in
+ *      one object of at most PTRDIFF_MAX bytes, aligned as the type asks. What is read (a haystack, an input, settings,
+ *      edges, alternates, an iteration) is initialised.
  *   3. During a call nothing else writes to what the call reads, and nothing else reads or writes what it writes. What
  *      one call writes to (a handle, an iteration, an out parameter) does not overlap anything else that it is given.
  *   4. Calls with a regex and with its caches do not overlap in time: they share counts that are not atomic. So a
  *      regex and its caches stay on one thread, or the program orders its threads. Other regexes are independent, also
  *      those of the same builder.
- *   5. No call is made from a signal handler, and none is left by longjmp.
- *   6. malloc, realloc and free, which the library calls, are those of one allocator, as the C standard has them.
+ *   5. No call is made from a signal handler, and none is left by longjmp or by an exception of a replaced malloc.
+ *   6. malloc, realloc and free, which the library calls, are those of one allocator, as the C standard has them; a
+ *      handle is used and closed in the process, and over the allocator, that opened it.
+ *   7. This header is that of the archive which is linked, and the compiler passes arguments as the System V ABI of
+ *      x86-64 has it. The stack has room for a call: no call recurses, and 16 KiB are enough, whatever the NFA.
  *
  * Nothing else is asked of the program: every number is allowed in every argument.
  */
@@ -212,6 +216,9 @@ typedef struct {
     size_t reverse_clears;  /* and the part for starts */
     size_t patterns;        /* how many patterns the regex has */
 } lazydfa_usage;
+
+/* The library is one for processors of 64 bits: elsewhere this does not compile. */
+typedef char lazydfa_has_64_bits[sizeof(size_t) == 8 && sizeof(void *) == 8 ? 1 : -1];
 
 /* The exports, by their names in the archive. They take no null pointer: call the functions below them, which have the
    same names without `raw`, and test pointers first. */
@@ -427,7 +434,7 @@ static inline lazydfa_status lazydfa_add_union(lazydfa_builder *builder, const u
     return lazydfa_raw_add_union(&builder->handle, length ? alternates : &none, length, id);
 }
 
-/* The same, of which the last is preferred. */
+/* A state that reads nothing and leads to several states, of which the last is preferred. */
 static inline lazydfa_status lazydfa_add_union_reverse(lazydfa_builder *builder, const uint32_t *alternates,
                                                        size_t length, uint32_t *id) {
     uint32_t none = 0;
@@ -490,9 +497,11 @@ static inline lazydfa_status lazydfa_regex_build(lazydfa_regex *regex, lazydfa_b
                                    lazydfa_bytes(quits, length), length);
 }
 
-/* The same of two NFAs, of which the second reads the same backward (lazydfa_set_reverse). Nothing tests that it does:
-   if it does not, a search may report a wrong start, or LAZYDFA_NOT_A_PAIR. The two builders are different handles. Both
-   NFAs may have cycles that read nothing and pass an assertion, as that of `(?:\b|%)+`. */
+/* Opens a handle on the regex of two NFAs, of which the second reads backward what the first reads forward
+   (lazydfa_set_reverse). Nothing tests that it does: if it does not, a search may report a wrong start, or
+   LAZYDFA_NOT_A_PAIR. The two builders are different handles. Both NFAs may have cycles that read nothing and pass an
+   assertion, as that of `(?:\b|%)+`. The settings and codes are those of lazydfa_regex_build, with
+   LAZYDFA_PATTERN_COUNTS and without LAZYDFA_NOT_LAZY, LAZYDFA_NOT_UTF8 and LAZYDFA_STARTS. */
 static inline lazydfa_status lazydfa_regex_build_pair(lazydfa_regex *regex, lazydfa_builder *forward,
                                                       lazydfa_starts forward_starts, lazydfa_builder *reverse,
                                                       lazydfa_starts reverse_starts,

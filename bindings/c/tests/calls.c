@@ -409,7 +409,7 @@ static void pairs(void) {
 enum { BUILDER_CALLS = 18, CACHE_CALLS = 13 };
 
 static lazydfa_status on_builder(int call, lazydfa_builder *b) {
-    uint32_t id = 0;
+    uint32_t id = 0, next = 0;
     lazydfa_edge edge = { 'a', 'z', 0, 0 };
     switch (call) {
     case 0: return lazydfa_builder_clear(b);
@@ -423,8 +423,8 @@ static lazydfa_status on_builder(int call, lazydfa_builder *b) {
     case 8: return lazydfa_add_range(b, 'a', 'z', 0, &id);
     case 9: return lazydfa_add_sparse(b, &edge, 1, &id);
     case 10: return lazydfa_add_look(b, 0, 0, &id);
-    case 11: return lazydfa_add_union(b, &id, 1, &id);
-    case 12: return lazydfa_add_union_reverse(b, &id, 1, &id);
+    case 11: return lazydfa_add_union(b, &next, 1, &id);
+    case 12: return lazydfa_add_union_reverse(b, &next, 1, &id);
     case 13: return lazydfa_add_capture_start(b, 0, 0, &id);
     case 14: return lazydfa_add_capture_end(b, 0, 0, &id);
     case 15: return lazydfa_add_fail(b, &id);

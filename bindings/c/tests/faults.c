@@ -132,6 +132,27 @@ static void take_tokens(lazydfa_cache *c, const uint8_t *hay, size_t length) {
     IS(status.code == LAZYDFA_NONE && sum == 2 && left.start == 2);
 }
 
+static void step(lazydfa_cache *c, const uint8_t *hay, size_t length) {
+    lazydfa_iteration at = lazydfa_iterate(lazydfa_whole(length));
+    lazydfa_input left = lazydfa_whole(2);
+    lazydfa_status status;
+    lazydfa_match m;
+    size_t sum = 0;
+    do {
+        status = lazydfa_next(c, hay, length, &at, &m);
+        if (status.code == LAZYDFA_OK) sum += m.end;
+        if (is_refused(status)) {
+            at.ended = 0;
+            status.code = LAZYDFA_OK;
+        }
+    } while (status.code == LAZYDFA_OK);
+    IS(status.code == LAZYDFA_NONE && sum == 1 + 2 + 8);
+    WANT(lazydfa_token(c, hay, length, &left, &m), LAZYDFA_OK);
+    IS(m.end == 1 && left.start == 1);
+    WANT(lazydfa_token(c, hay, length, &left, &m), LAZYDFA_OK);
+    WANT(lazydfa_token(c, hay, length, &left, &m), LAZYDFA_NONE);
+}
+
 static void search(lazydfa_cache *c, lazydfa_cache *every, const uint8_t *hay, size_t length) {
     lazydfa_input in = lazydfa_whole(length);
     lazydfa_match m;
@@ -160,45 +181,103 @@ static void search(lazydfa_cache *c, lazydfa_cache *every, const uint8_t *hay, s
     in.end = length;
     WANT(lazydfa_cache_reset(c), LAZYDFA_OK);
     WANT(lazydfa_is_match(c, hay, length, &in), LAZYDFA_OK);
+    WANT(lazydfa_cache_reset(c), LAZYDFA_OK);
+    step(c, hay, length);
+    WANT(lazydfa_cache_reset(every), LAZYDFA_OK);
+    WANT(lazydfa_all_starts(every, hay, length, &in, halves, 16, &count), LAZYDFA_OK);
+    IS(count == 0);
 }
 
-/* One program: a builder, two regexes, a cache of each, every search. */
-static void run(lazydfa_builder *b, lazydfa_regex *re, lazydfa_regex *all, lazydfa_cache *c, lazydfa_cache *every) {
+/* The pair of [a-z]+ with itself: it reads the same backward. */
+static void search_pair(lazydfa_builder *b, lazydfa_regex *re, lazydfa_cache *c) {
+    lazydfa_starts starts[2];
+    lazydfa_input in = lazydfa_whole(5);
+    lazydfa_match m;
+    uint32_t pattern, found, empty, both[2];
+    int i;
+    for (i = 0; i < 2; i++) {
+        WANT(lazydfa_builder_new(&b[i]), LAZYDFA_OK);
+        WANT(lazydfa_set_reverse(&b[i], (uint32_t)i), LAZYDFA_OK);
+        WANT(lazydfa_add_fail(&b[i], &empty), LAZYDFA_OK);
+        WANT(lazydfa_builder_clear(&b[i]), LAZYDFA_OK);
+        WANT(lazydfa_start_pattern(&b[i], &pattern), LAZYDFA_OK);
+        WANT(lazydfa_add_match(&b[i], &found), LAZYDFA_OK);
+        WANT(lazydfa_add_capture_end(&b[i], found, 0, &found), LAZYDFA_OK);
+        WANT(lazydfa_add_empty(&b[i], &empty), LAZYDFA_OK);
+        WANT(lazydfa_add_range(&b[i], 'a', 'z', empty, &starts[i].anchored), LAZYDFA_OK);
+        both[0] = starts[i].anchored;
+        both[1] = found;
+        WANT(lazydfa_add_union(&b[i], both, 2, &pattern), LAZYDFA_OK);
+        WANT(lazydfa_patch(&b[i], empty, pattern), LAZYDFA_OK);
+        WANT(lazydfa_finish_pattern(&b[i], starts[i].anchored, &pattern), LAZYDFA_OK);
+        WANT(lazydfa_add_unanchored_prefix(&b[i], starts[i].anchored, &starts[i].unanchored), LAZYDFA_OK);
+    }
+    WANT(lazydfa_regex_build_pair(re, &b[0], starts[0], &b[1], starts[1], NULL, NULL, 0), LAZYDFA_OK);
+    WANT(lazydfa_cache_new(c, re), LAZYDFA_OK);
+    WANT(lazydfa_find(c, (const uint8_t *)"-abc-", 5, &in, &m), LAZYDFA_OK);
+    IS(m.start == 1 && m.end == 4);
+}
+
+/* The handles of a program. */
+typedef struct {
+    lazydfa_builder builders[3];
+    lazydfa_regex regexes[3];
+    lazydfa_cache caches[3];
+} handles;
+
+/* A builder, two regexes of it and a cache of each, and every search; and a pair. */
+static void run(handles *h) {
     lazydfa_settings settings;
     lazydfa_starts starts = { 0, 0 };
     memset(&settings, 0, sizeof settings);
     settings.match_kind = LAZYDFA_ALL;
-    WANT(lazydfa_builder_new(b), LAZYDFA_OK);
-    build(b, &starts);
-    WANT(lazydfa_regex_build(re, b, starts, NULL, NULL, 0), LAZYDFA_OK);
-    WANT(lazydfa_regex_build(all, b, starts, &settings, NULL, 0), LAZYDFA_OK);
-    WANT(lazydfa_cache_new(c, re), LAZYDFA_OK);
-    WANT(lazydfa_cache_new(every, all), LAZYDFA_OK);
-    search(c, every, (const uint8_t *)"ab 1 cde-", 9);
+    WANT(lazydfa_builder_new(&h->builders[0]), LAZYDFA_OK);
+    build(&h->builders[0], &starts);
+    WANT(lazydfa_regex_build(&h->regexes[0], &h->builders[0], starts, NULL, NULL, 0), LAZYDFA_OK);
+    WANT(lazydfa_regex_build(&h->regexes[1], &h->builders[0], starts, &settings, NULL, 0), LAZYDFA_OK);
+    WANT(lazydfa_cache_new(&h->caches[0], &h->regexes[0]), LAZYDFA_OK);
+    WANT(lazydfa_cache_new(&h->caches[1], &h->regexes[1]), LAZYDFA_OK);
+    search(&h->caches[0], &h->caches[1], (const uint8_t *)"ab 1 cde-", 9);
+    search_pair(&h->builders[1], &h->regexes[2], &h->caches[2]);
 }
 
-static void cycle(long one, long first) {
-    lazydfa_builder b = LAZYDFA_INIT;
-    lazydfa_regex re = LAZYDFA_INIT, all = LAZYDFA_INIT;
-    lazydfa_cache c = LAZYDFA_INIT, every = LAZYDFA_INIT;
-    long before = refused, known = reported;
+/* Closes all, a regex before its cache or after it, while every allocation would be refused: none is asked for. */
+static void close_all(handles *h) {
+    int i;
+    only = 0;
+    from = 1;
+    calls = 0;
+    for (i = 0; i < 3; i++) {
+        lazydfa_status status[3];
+        int k;
+        if (i % 2) status[0] = lazydfa_cache_close(&h->caches[i]);
+        status[1] = lazydfa_regex_close(&h->regexes[i]);
+        if (i % 2 == 0) status[0] = lazydfa_cache_close(&h->caches[i]);
+        status[2] = lazydfa_builder_close(&h->builders[i]);
+        for (k = 0; k < 3; k++)
+            if (status[k].code != LAZYDFA_OK) complain("a handle is not closed", __LINE__);
+    }
+    if (calls) complain("closing allocates", __LINE__);
+    if (blocks) complain("a block is left", __LINE__);
+}
+
+static long cycle(long one, long first) {
+    handles h = { { LAZYDFA_INIT, LAZYDFA_INIT, LAZYDFA_INIT },
+                  { LAZYDFA_INIT, LAZYDFA_INIT, LAZYDFA_INIT },
+                  { LAZYDFA_INIT, LAZYDFA_INIT, LAZYDFA_INIT } };
+    long before = refused, known = reported, asked;
     calls = blocks = 0;
     only = one;
     from = first;
-    run(&b, &re, &all, &c, &every);
-    lazydfa_regex_close(&re);
-    lazydfa_cache_close(&every);
-    lazydfa_builder_close(&b);
-    lazydfa_regex_close(&all);
-    lazydfa_cache_close(&c);
-    if (blocks) complain("a block is left", __LINE__);
+    run(&h);
+    asked = calls;
     if (refused > before && reported == known) complain("a refusal is not reported", __LINE__);
+    close_all(&h);
+    return asked;
 }
 
 int main(void) {
-    long i, all;
-    cycle(0, 0);
-    all = calls;
+    long i, all = cycle(0, 0);
     for (i = 1; i <= all && wrong < 20; i++) {
         cycle(i, 0);
         cycle(0, i);

@@ -1,3 +1,4 @@
+mod Batches
 mod Codes
 mod Errors
 mod Slots

@@ -148,7 +148,8 @@ OpensIn o starts old new from left done =
 abbrev pub OpensAfter : Options → StartStates → (old new from left : Handle) → Result Automaton Status
     → Result (Unit {0}) Status → Type 0
 OpensAfter o starts old new from left (Ok forward) done =
-    (reverse : Result Automaton Status) × Reads (IsNfaIn starts) from left reverse × OpensPair o old new forward reverse done
+    (reverse : Result Automaton Status) × Reads (IsNfaIn starts) from left reverse
+    × OpensPair o old new forward reverse done
 OpensAfter o starts old new from left (Err e) done = (new ≡ old) × (left ≡ from) × (done ≡ Err e)
 
 abbrev pub OpensPairIn : Options → (forward reverse : StartStates) → (old new : Handle)

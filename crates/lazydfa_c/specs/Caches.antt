@@ -18,7 +18,7 @@ pub record IsKept (s t : Searcher) : Type 0 where
   pub same : t.shared ≡ s.shared
 
 -- the elements of a list, as many as there is room for, in place of those of another
-abbrev pub written_over : List ℕ → (old : List ℕ) → List ℕ
+abbrev pub written_over : {A : Type 0} → List A → (old : List A) → List A
 written_over [] old = old
 written_over (x ∷ xs) [] = []
 written_over (x ∷ xs) (o ∷ old) = x ∷ written_over xs old

@@ -13,6 +13,7 @@ use Rattle.regex_automata.specs.Tokens.{match_of as token_match}
 use Rattle.regex_automata.specs.declared.hybrid.regex.Regex.{Regex}
 use Rattle.regex_automata.specs.declared.tokens.error.TokenError.{TokenError}
 use Rattle.regex_automata.specs.declared.tokens.token.Token.{Token}
+use Rattle.lazydfa_c.specs.Codes.{number_of}
 use Rattle.lazydfa_c.specs.Requests.{half_of, input_of, match_of}
 use Rattle.lazydfa_c.specs.Statuses.{plain, search_status, token_status}
 use Rattle.lazydfa_c.specs.declared.code.Code.TheVariants as code
@@ -47,6 +48,10 @@ abbrev pub IsDoneTold : Result (Unit {0}) SearchError → Status → Type 0
 IsDoneTold (Ok u) status = status ≡ plain code.Done
 IsDoneTold (Err e) status = status ≡ search_status e
 
+-- what a call found is written only if its status says that it did what it was asked to
+abbrev pub WritesIfDone : {A : Type 0} → (was written : A) → Status → Type 0
+WritesIfDone was written status = (status.code ≡ number_of code.Done → ⊥) → written ≡ was
+
 -- a call that searches an input; without one it changes nothing, and the argument is reported
 abbrev pub OfInput :
     (Does : Input → Searcher → Searcher → Status → Type 0)
@@ -74,6 +79,18 @@ pub record OnHandle {R : Type 0}
 -- a call for a cache
 abbrev pub OfHandle : (Does : Searcher → Searcher → Status → Type 0) → (old new : Handle) → Status → Type 0
 OfHandle Does old new status = OnHandle (OfObject Does) (plain code.Closed) old new status
+
+-- what a call for a cache leaves as it is, if the object is none
+abbrev pub KeepsUnlessCache : (Stays : Type 0) → Object → Type 0
+KeepsUnlessCache Stays (CacheObject s) = Unit {0}
+KeepsUnlessCache Stays (Builder b) = Stays
+KeepsUnlessCache Stays (RegexObject r) = Stays
+
+-- and if its handle is not open on one
+pub record KeepsUnlessOpen (Stays : Type 0) (handle : Handle) : Type 0 where
+  pub opened :
+      (o : Object) → handle.live ≡ 1 → handle.slot.value ≡ Some o → KeepsUnlessCache Stays o
+  pub closed : (handle.live ≡ 1 → ⊥) → Stays
 
 -- a call that makes this of the object of a handle, which it puts back as it was
 abbrev pub Reads : {A : Type 0} → (Makes : Object → Result A Status → Type 0)
@@ -126,7 +143,8 @@ abbrev pub last_of : Iteration → Option ℕ
 last_of at = if at.has_last == 0 then None else Some at.last
 
 -- a search of an iteration that has not ended: the result of `Regex::next_match`
-pub record GoesOn (found : Found) (old new : Iteration) (input : Input) (s t : Searcher) (status : Status) : Type 0 where
+pub record GoesOn (found : Found) (old new : Iteration) (input : Input) (s t : Searcher) (status : Status)
+    : Type 0 where
   pub result : Result (Option Match) SearchError
   pub told : IsTold (match_of found) result status
   pub next : IfOk result (IsNextMatch (regex_of s) input (last_of old))
@@ -160,7 +178,8 @@ has_failed None = false
 has_failed (Some (Err e)) = true
 
 -- `lazydfa_token`: the next item of `Regex::tokens`
-pub record TakesToken (found : Found) (old new : Request) (input : Input) (s t : Searcher) (status : Status) : Type 0 where
+pub record TakesToken (found : Found) (old new : Request) (input : Input) (s t : Searcher) (status : Status)
+    : Type 0 where
   pub item : Option (Result Token TokenError)
   pub told : IsTokenTold (match_of found) item status
   pub given :

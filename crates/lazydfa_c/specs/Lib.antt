@@ -1,6 +1,8 @@
+pub mod Batches
 pub mod Builds
 pub mod Caches
 pub mod Calls
+pub mod Closing
 pub mod Codes
 pub mod Drafts
 pub mod Errors

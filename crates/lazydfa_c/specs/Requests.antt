@@ -41,3 +41,7 @@ match_of f = record { pattern = f.pattern; start = f.start; end = f.end }
 
 abbrev pub half_of : FoundHalf → HalfMatch
 half_of f = record { pattern = f.pattern; offset = f.offset }
+
+-- one end of a match as C reads it
+abbrev pub half_from : HalfMatch → FoundHalf
+half_from h = record { offset = h.offset; pattern = h.pattern; reserved = 0 }

@@ -1,9 +1,9 @@
 //! NFAs, state by state.
 ghost use Rattle.std.specs.Prelude.{◌≡◌, ◌⊎◌, ◌==◌, not, IfErr, IfOk, IsFalse, IsTrue, map, nat_lt};
 ghost use Rattle.automata_base.specs.Haystacks.LookSets.{nth_look};
-ghost use Rattle.lazydfa_c.specs.Drafts.{Adds, AddsTo, Changes, ChangesDraft, ChangesPattern, CreatesDraft, IsNumberTold};
-ghost use Rattle.lazydfa_c.specs.Drafts.{NewsDraft, OfBuilder, OfDraft, OpensDraft, are_states, is_state, lead_on, state_of};
-ghost use Rattle.lazydfa_c.specs.Drafts.{told_by, transition_of, zeroed};
+ghost use Rattle.lazydfa_c.specs.Drafts.{Adds, AddsTo, Changes, ChangesDraft, ChangesPattern, CreatesDraft};
+ghost use Rattle.lazydfa_c.specs.Drafts.{IsNumberTold, NewsDraft, OfBuilder, OfDraft, OpensDraft, are_states};
+ghost use Rattle.lazydfa_c.specs.Drafts.{is_state, lead_on, state_of, told_by, transition_of, zeroed};
 ghost use Rattle.lazydfa_c.specs.Statuses.{plain};
 ghost use Rattle.lazydfa_c.specs.declared.builder.Added.TheVariants as add;
 ghost use Rattle.lazydfa_c.specs.declared.builder.Change.TheVariants as change;
@@ -112,6 +112,7 @@ fn look_of(number: u32) -> Result<Look, Status>
     }
 }
 
+/// The number of the state that a builder's call added, or the status of that call's error.
 fn told_state(answer: Result<StateID, BuildError>) -> Result<u32, Status>
     ensures { result ≡ told_by answer }
 {
@@ -121,6 +122,7 @@ fn told_state(answer: Result<StateID, BuildError>) -> Result<u32, Status>
     }
 }
 
+/// The number of the pattern that a builder's call started or finished, or the status of that call's error.
 fn told_pattern(answer: Result<PatternID, BuildError>) -> Result<u32, Status>
     ensures { result ≡ told_by answer }
 {
@@ -130,6 +132,7 @@ fn told_pattern(answer: Result<PatternID, BuildError>) -> Result<u32, Status>
     }
 }
 
+/// Zero for a builder's call that returns no number, or the status of that call's error.
 fn told_done(answer: Result<(), BuildError>) -> Result<u32, Status>
     ensures { result ≡ told_by (zeroed answer) }
 {
@@ -139,6 +142,9 @@ fn told_done(answer: Result<(), BuildError>) -> Result<u32, Status>
     }
 }
 
+/// Adds a state to a builder, and returns its number. It fails with `Code::Argument` at a number that is no state or
+/// look-around assertion, with `Code::Memory` if a list cannot be copied, and else with the status of the builder's
+/// error. After an error the builder is unchanged.
 fn add_to(alloc: Global, builder: &mut Builder, added: Added<'_>) -> Result<u32, Status>
     ensures { AddsTo added.entry builder.old builder.new result }
 {
@@ -167,6 +173,8 @@ fn add_to(alloc: Global, builder: &mut Builder, added: Added<'_>) -> Result<u32,
     }
 }
 
+/// Adds a state to the builder that an object is, and returns its number. It fails with `Code::Kind` if the object is
+/// no builder.
 fn add_in(alloc: Global, object: &mut Object, added: Added<'_>) -> Result<u32, Status>
     ensures { OfBuilder (AddsTo added.entry) object.old object.new result }
 {
@@ -176,6 +184,8 @@ fn add_in(alloc: Global, object: &mut Object, added: Added<'_>) -> Result<u32, S
     }
 }
 
+/// Adds a state to the builder behind a handle, and returns its number. It fails with `Code::Closed` if the handle owns
+/// nothing, and with `Code::Kind` if it owns no builder.
 fn add_behind(alloc: Global, handle: &mut Handle, added: Added<'_>) -> Result<u32, Status>
     ensures { OfDraft (AddsTo added.entry) handle.old handle.new result }
 {
@@ -239,6 +249,8 @@ fn change_to(builder: &mut Builder, change: Change) -> Result<u32, Status>
     Ok(0)
 }
 
+/// Changes the builder that an object is, and returns a pattern where the change has one, else zero. It fails with
+/// `Code::Kind` if the object is no builder.
 fn change_in(object: &mut Object, change: Change) -> Result<u32, Status>
     ensures { OfBuilder (Changes change) object.old object.new result }
 {
@@ -248,6 +260,8 @@ fn change_in(object: &mut Object, change: Change) -> Result<u32, Status>
     }
 }
 
+/// Changes the builder behind a handle, and returns a pattern where the change has one, else zero. It fails with
+/// `Code::Closed` if the handle owns nothing, and with `Code::Kind` if it owns no builder.
 fn change_behind(alloc: Global, handle: &mut Handle, change: Change) -> Result<u32, Status>
     ensures { OfDraft (Changes change) handle.old handle.new result }
 {
@@ -286,6 +300,8 @@ fn open_builder(alloc: Global, handle: &mut Handle, builder: Builder) -> Result<
     Ok(())
 }
 
+/// Opens a handle on a builder without states. It fails with `Code::Open` if the handle is open already, and with
+/// `Code::Memory` if there is no memory for the builder; the handle is then unchanged.
 fn new_builder(alloc: Global, handle: &mut Handle) -> Result<(), Status>
     ensures { CreatesDraft handle.old handle.new result }
 {

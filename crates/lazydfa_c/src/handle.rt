@@ -5,10 +5,8 @@ ghost use Rattle.lazydfa_c.specs.Handles.{is_open};
 ghost use Rattle.lazydfa_c.specs.contracts.object.Object.{the_row as object_row};
 ghost use Rattle.lazydfa_c.specs.declared.object.Object.{Object};
 
-use crate::code::Code;
 use crate::loose::Loose;
 use crate::object::Object;
-use crate::status::Status;
 use std::alloc::Global;
 use std::marker::Model;
 use std::mem;
@@ -113,17 +111,5 @@ impl Handle {
         ensures value { self.new.slot.value ≡ Some object.value }
     {
         *self = Handle::of(object);
-    }
-}
-
-/// Frees what a handle owns, and closes it.
-#[unsafe(no_mangle)]
-pub extern "C" fn lazydfa_raw_close(alloc: Global, handle: &mut Handle) -> Status {
-    match handle.take(alloc) {
-        Some(object) => {
-            drop(object);
-            Status::from(Code::Done)
-        }
-        None => Status::from(Code::Closed),
     }
 }

@@ -1,6 +1,6 @@
 //! What is searched and what is found, as C lays it out.
 ghost use Rattle.std.specs.Prelude.{◌≡◌};
-ghost use Rattle.lazydfa_c.specs.Requests.{half_of, input_of, match_of, mode_of};
+ghost use Rattle.lazydfa_c.specs.Requests.{half_from, input_of, match_of, mode_of};
 
 use regex_automata::{Anchored, HalfMatch, Input, Match, PatternID};
 
@@ -89,7 +89,7 @@ impl Found {
 impl FoundHalf {
     /// A half match as C lays it out.
     pub fn of(found: HalfMatch) -> FoundHalf
-        ensures { half_of result ≡ found }
+        ensures { result ≡ half_from found }
     {
         FoundHalf {
             offset: found.offset(),

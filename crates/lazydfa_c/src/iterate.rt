@@ -1,6 +1,8 @@
 //! The matches of an input, one after another.
 ghost use Rattle.std.specs.Prelude.{◌≡◌, Ok, Some};
-ghost use Rattle.lazydfa_c.specs.Calls.{GoesOn, Iterates, OfHandle, OfObject, iterated, last_of};
+ghost use Rattle.lazydfa_c.specs.Batches.{InTurn};
+ghost use Rattle.lazydfa_c.specs.Calls.{GoesOn, Iterates, KeepsUnlessCache, KeepsUnlessOpen, OfHandle, OfObject};
+ghost use Rattle.lazydfa_c.specs.Calls.{WritesIfDone, iterated, last_of};
 ghost use Rattle.lazydfa_c.specs.Requests.{match_of};
 
 use crate::code::Code;
@@ -48,7 +50,8 @@ impl Searcher {
     /// Searches for the next match of an iteration that has not ended, and writes it. If there is none, or the search
     /// fails, the iteration has ended.
     fn go_on(&mut self, input: &Input<'_>, at: &mut Iteration, found: &mut Found) -> Status
-        ensures { GoesOn found.new at.old at.new input.now self.old self.new result }
+        ensures found { GoesOn found.new at.old at.new input.now self.old self.new result }
+        ensures written { WritesIfDone found.old found.new result }
     {
         let shared = &self.shared;
         match shared.regex.next_match(&mut self.cache, input, at.last()) {
@@ -71,7 +74,8 @@ impl Searcher {
     /// Searches for the next match of an iteration, and writes it. The status is `Code::Nothing` if the iteration has
     /// ended, and `Code::Argument` if what is left is no input of the haystack.
     fn next(&mut self, haystack: &[u8], at: &mut Iteration, found: &mut Found) -> Status
-        ensures { Iterates haystack.now found.new at.old at.new self.old self.new result }
+        ensures found { Iterates haystack.now found.new at.old at.new self.old self.new result }
+        ensures written { WritesIfDone found.old found.new result }
     {
         if at.ended != 0 {
             return Status::from(Code::Nothing);
@@ -90,7 +94,9 @@ impl Searcher {
         at: &mut Iteration,
         out: &mut [Found],
         count: &mut usize,
-    ) -> Status {
+    ) -> Status
+        ensures { InTurn (Iterates haystack.now) out.old out.new count.new at.old at.new self.old self.new result }
+    {
         *count = 0;
         for place in out {
             let status = self.next(haystack, at, place);
@@ -106,10 +112,31 @@ impl Searcher {
 /// Searches for the next match of an iteration over a cache, and writes it. The status is `Code::Kind` if the object is
 /// no cache.
 fn next_in(object: &mut Object, haystack: &[u8], at: &mut Iteration, found: &mut Found) -> Status
-    ensures { OfObject (Iterates haystack.now found.new at.old at.new) object.old object.new result }
+    ensures found { OfObject (Iterates haystack.now found.new at.old at.new) object.old object.new result }
+    ensures written { WritesIfDone found.old found.new result }
+    ensures kept { KeepsUnlessCache (at.new ≡ at.old) object.old }
 {
     match object {
         Object::Searcher(searcher) => searcher.next(haystack, at, found),
+        Object::Builder(_) | Object::Regex(_) => Status::from(Code::Kind),
+    }
+}
+
+/// Writes the next matches of an iteration over a cache, as many as there is room for, and counts them. The status is
+/// `Code::Kind` if the object is no cache.
+fn next_all_in(
+    object: &mut Object,
+    haystack: &[u8],
+    at: &mut Iteration,
+    found: &mut [Found],
+    count: &mut usize,
+) -> Status
+    ensures found { OfObject (InTurn (Iterates haystack.now) found.old found.new count.new at.old at.new)
+        object.old object.new result }
+    ensures kept { KeepsUnlessCache ((at.new ≡ at.old) × (found.new ≡ found.old) × (count.new ≡ count.old)) object.old }
+{
+    match object {
+        Object::Searcher(searcher) => searcher.next_all(haystack, at, found, count),
         Object::Builder(_) | Object::Regex(_) => Status::from(Code::Kind),
     }
 }
@@ -123,7 +150,9 @@ pub extern "C" fn lazydfa_raw_next(
     at: &mut Iteration,
     found: &mut Found,
 ) -> Status
-    ensures { OfHandle (Iterates haystack.now found.new at.old at.new) cache.old cache.new result }
+    ensures found { OfHandle (Iterates haystack.now found.new at.old at.new) cache.old cache.new result }
+    ensures written { WritesIfDone found.old found.new result }
+    ensures kept { KeepsUnlessOpen (at.new ≡ at.old) cache.old }
 {
     let Some(mut object) = cache.take(alloc) else {
         return Status::from(Code::Closed);
@@ -143,14 +172,15 @@ pub extern "C" fn lazydfa_raw_next_all(
     at: &mut Iteration,
     found: &mut [Found],
     count: &mut usize,
-) -> Status {
+) -> Status
+    ensures found { OfHandle (InTurn (Iterates haystack.now) found.old found.new count.new at.old at.new)
+        cache.old cache.new result }
+    ensures kept { KeepsUnlessOpen ((at.new ≡ at.old) × (found.new ≡ found.old) × (count.new ≡ count.old)) cache.old }
+{
     let Some(mut object) = cache.take(alloc) else {
         return Status::from(Code::Closed);
     };
-    let status = match object.as_mut() {
-        Object::Searcher(searcher) => searcher.next_all(haystack, at, found, count),
-        Object::Builder(_) | Object::Regex(_) => Status::from(Code::Kind),
-    };
+    let status = next_all_in(object.as_mut(), haystack, at, found, count);
     cache.put(object);
     status
 }

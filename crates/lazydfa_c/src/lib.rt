@@ -6,6 +6,7 @@
 #![tactic(auto)]
 
 mod builder;
+mod closing;
 mod code;
 mod handle;
 mod input;

@@ -3,9 +3,10 @@ ghost use Rattle.std.specs.Prelude.{◌≡◌, IfErr, IfOk, Ok, OnErr, OnOk, Som
 ghost use Rattle.automata_base.specs.Nfas.Nodes.{Automaton};
 ghost use Rattle.automata_config.specs.Options.{overwritten, unset};
 ghost use Rattle.regex_automata.specs.Promises.{IsSoundPair};
-ghost use Rattle.lazydfa_c.specs.Builds.{IsFreshOf, IsKeepingPairOf, IsKeepingPairRefusal, IsPairOf, IsPairRefusal, IsRegexIn, IsRegexOf, IsRegexRefusal};
-ghost use Rattle.lazydfa_c.specs.Builds.{BuildsRegex, BuildsRegexPair, CreatesCache, IsNfaIn, IsNfaOf, NewsCache, OpensIn};
-ghost use Rattle.lazydfa_c.specs.Builds.{OpensAfter, OpensPairIn, OpensRegex, SharesRegex, WithOptions, kind_of, options_of};
+ghost use Rattle.lazydfa_c.specs.Builds.{IsFreshOf, IsKeepingPairOf, IsKeepingPairRefusal, IsPairOf, IsPairRefusal};
+ghost use Rattle.lazydfa_c.specs.Builds.{IsRegexIn, IsRegexOf, IsRegexRefusal, BuildsRegex, BuildsRegexPair};
+ghost use Rattle.lazydfa_c.specs.Builds.{CreatesCache, IsNfaIn, IsNfaOf, NewsCache, OpensIn, OpensAfter, OpensPairIn};
+ghost use Rattle.lazydfa_c.specs.Builds.{OpensRegex, SharesRegex, WithOptions, kind_of, options_of};
 ghost use Rattle.lazydfa_c.specs.Calls.{Reads};
 ghost use Rattle.lazydfa_c.specs.Handles.{is_open};
 ghost use Rattle.lazydfa_c.specs.Statuses.{plain};
@@ -43,6 +44,8 @@ fn nfa_of(builder: &Builder, starts: StartStates) -> Result<NFA, Status>
     Ok(builder.build(anchored, unanchored)?)
 }
 
+/// Builds the NFA of the builder that an object is, with these start states. It fails with `Code::Kind` if the object
+/// is no builder.
 fn nfa_of_object(object: &Object, starts: StartStates) -> Result<NFA, Status>
     ensures { IsNfaIn starts object.now result }
 {
@@ -52,6 +55,8 @@ fn nfa_of_object(object: &Object, starts: StartStates) -> Result<NFA, Status>
     }
 }
 
+/// Builds the NFA of the builder behind a handle, which stays as it is. It fails with `Code::Closed` if the handle owns
+/// nothing, and with `Code::Kind` if it owns no builder.
 fn nfa_in(alloc: Global, builder: &mut Handle, starts: StartStates) -> Result<NFA, Status>
     ensures { Reads (IsNfaIn starts) builder.old builder.new result }
 {
@@ -130,6 +135,8 @@ fn open_pair(
     }
 }
 
+/// Opens a handle on the regex of the NFA in a builder behind another handle, with this configuration. After an error
+/// both handles are unchanged.
 fn build_of(
     alloc: Global,
     regex: &mut Handle,
@@ -143,6 +150,8 @@ fn build_of(
     open_sound(alloc, regex, nfa, config)
 }
 
+/// Opens a handle on the regex of the NFA in a builder behind another handle, with these settings and quit bytes. It
+/// fails with `Code::Open` if the first handle is open already, and with `Code::Argument` if the match kind is none.
 fn build(
     alloc: Global,
     regex: &mut Handle,
@@ -180,6 +189,8 @@ fn open_after(
     }
 }
 
+/// Opens a handle on the regex of the NFAs in two builders, the forward one first, with this configuration. The second
+/// builder is read only if the first gave its NFA. After an error all handles are unchanged.
 fn build_pair_of(
     alloc: Global,
     regex: &mut Handle,

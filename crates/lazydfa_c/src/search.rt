@@ -1,5 +1,5 @@
 //! Searches over a cache: the first match, whether there is one, and its two ends.
-ghost use Rattle.lazydfa_c.specs.Calls.{Finds, FindsEnd, FindsStart, OfHandle, OfInput, OfObject, Tests};
+ghost use Rattle.lazydfa_c.specs.Calls.{Finds, FindsEnd, FindsStart, OfHandle, OfInput, OfObject, Tests, WritesIfDone};
 ghost use Rattle.lazydfa_c.specs.Requests.{input_of};
 
 use crate::code::Code;
@@ -13,7 +13,8 @@ use std::alloc::Global;
 impl Searcher {
     /// Searches for the first match, and writes it. The status is `Code::Nothing` if there is none.
     fn find(&mut self, input: &Input<'_>, found: &mut Found) -> Status
-        ensures { Finds found.new input.now self.old self.new result }
+        ensures found { Finds found.new input.now self.old self.new result }
+        ensures written { WritesIfDone found.old found.new result }
     {
         let shared = &self.shared;
         match shared.regex.find(&mut self.cache, input) {
@@ -42,7 +43,8 @@ impl Searcher {
     /// Searches for the end of the first match by the forward DFA, and writes it with its pattern. The status is
     /// `Code::Nothing` if there is none.
     fn find_end(&mut self, input: &Input<'_>, found: &mut FoundHalf) -> Status
-        ensures { FindsEnd found.new input.now self.old self.new result }
+        ensures found { FindsEnd found.new input.now self.old self.new result }
+        ensures written { WritesIfDone found.old found.new result }
     {
         let shared = &self.shared;
         let dfa = shared.regex.forward();
@@ -59,7 +61,8 @@ impl Searcher {
     /// Searches by the reverse DFA for the start of a match that ends at the span's end, and writes it with its
     /// pattern. The status is `Code::Nothing` if there is none.
     fn find_start(&mut self, input: &Input<'_>, found: &mut FoundHalf) -> Status
-        ensures { FindsStart found.new input.now self.old self.new result }
+        ensures found { FindsStart found.new input.now self.old self.new result }
+        ensures written { WritesIfDone found.old found.new result }
     {
         let shared = &self.shared;
         let dfa = shared.regex.reverse();
@@ -77,7 +80,9 @@ impl Searcher {
 /// Searches for the first match of a request over a cache. The status is `Code::Kind` if the object is no cache, and
 /// `Code::Argument` if the request is no input of the haystack.
 fn find_in(object: &mut Object, haystack: &[u8], request: &Request, found: &mut Found) -> Status
-    ensures { OfObject (OfInput (Finds found.new) (input_of haystack.now request.now)) object.old object.new result }
+    ensures found { OfObject (OfInput (Finds found.new) (input_of haystack.now request.now))
+        object.old object.new result }
+    ensures written { WritesIfDone found.old found.new result }
 {
     match object {
         Object::Searcher(searcher) => match request.input(haystack) {
@@ -110,8 +115,9 @@ fn find_end_in(
     request: &Request,
     found: &mut FoundHalf,
 ) -> Status
-    ensures { OfObject (OfInput (FindsEnd found.new) (input_of haystack.now request.now))
+    ensures found { OfObject (OfInput (FindsEnd found.new) (input_of haystack.now request.now))
         object.old object.new result }
+    ensures written { WritesIfDone found.old found.new result }
 {
     match object {
         Object::Searcher(searcher) => match request.input(haystack) {
@@ -130,8 +136,9 @@ fn find_start_in(
     request: &Request,
     found: &mut FoundHalf,
 ) -> Status
-    ensures { OfObject (OfInput (FindsStart found.new) (input_of haystack.now request.now))
+    ensures found { OfObject (OfInput (FindsStart found.new) (input_of haystack.now request.now))
         object.old object.new result }
+    ensures written { WritesIfDone found.old found.new result }
 {
     match object {
         Object::Searcher(searcher) => match request.input(haystack) {
@@ -151,7 +158,9 @@ pub extern "C" fn lazydfa_raw_find(
     request: &Request,
     found: &mut Found,
 ) -> Status
-    ensures { OfHandle (OfInput (Finds found.new) (input_of haystack.now request.now)) cache.old cache.new result }
+    ensures found { OfHandle (OfInput (Finds found.new) (input_of haystack.now request.now))
+        cache.old cache.new result }
+    ensures written { WritesIfDone found.old found.new result }
 {
     let Some(mut object) = cache.take(alloc) else {
         return Status::from(Code::Closed);
@@ -189,7 +198,9 @@ pub extern "C" fn lazydfa_raw_find_end(
     request: &Request,
     found: &mut FoundHalf,
 ) -> Status
-    ensures { OfHandle (OfInput (FindsEnd found.new) (input_of haystack.now request.now)) cache.old cache.new result }
+    ensures found { OfHandle (OfInput (FindsEnd found.new) (input_of haystack.now request.now))
+        cache.old cache.new result }
+    ensures written { WritesIfDone found.old found.new result }
 {
     let Some(mut object) = cache.take(alloc) else {
         return Status::from(Code::Closed);
@@ -209,8 +220,9 @@ pub extern "C" fn lazydfa_raw_find_start(
     request: &Request,
     found: &mut FoundHalf,
 ) -> Status
-    ensures { OfHandle (OfInput (FindsStart found.new) (input_of haystack.now request.now))
+    ensures found { OfHandle (OfInput (FindsStart found.new) (input_of haystack.now request.now))
         cache.old cache.new result }
+    ensures written { WritesIfDone found.old found.new result }
 {
     let Some(mut object) = cache.take(alloc) else {
         return Status::from(Code::Closed);

@@ -1,12 +1,15 @@
 //! Overlapping matches, and sets of patterns.
-ghost use Rattle.std.specs.Prelude.{◌≡◌, false, length, replicate, IfErr, OnErr, OnOk};
+ghost use Rattle.std.specs.Prelude.{ℕ, ◌≡◌, ◌+◌, ◌-◌, ◌^◌, ◌++◌, List, [], ◌∷◌, false, length, min, replicate};
+ghost use Rattle.std.specs.Prelude.{IfErr, OnErr, OnOk};
 ghost use Rattle.automata_base.specs.Haystacks.PatternSet.{members};
-ghost use Rattle.lazydfa_c.specs.Calls.{Joins, OfHandle, OfInput, OfObject};
+ghost use Rattle.lazydfa_c.specs.Batches.{AllEnds, AllStarts, AreAll, IsStep, NoneListed};
+ghost use Rattle.lazydfa_c.specs.Calls.{Joins, KeepsUnlessCache, KeepsUnlessOpen, OfHandle, OfInput, OfObject};
 ghost use Rattle.lazydfa_c.specs.Caches.{Lists, written_over};
-ghost use Rattle.lazydfa_c.specs.Requests.{input_of};
+ghost use Rattle.lazydfa_c.specs.Requests.{half_from, input_of};
 ghost use Rattle.lazydfa_c.specs.Statuses.{plain};
 ghost use Rattle.lazydfa_c.specs.declared.code.Code.TheVariants as code;
-ghost use Rattle.regex_automata.specs.Promises.{Backward, Forward, IsCacheOf, IsWalkOf};
+ghost use Rattle.regex_automata.specs.Promises.{IsCacheOf, IsWalkOf};
+ghost use Rattle.lazydfa_c.specs.declared.input.FoundHalf.{FoundHalf};
 
 use crate::code::Code;
 use crate::handle::Handle;
@@ -15,90 +18,60 @@ use crate::object::{Object, Searcher};
 use crate::status::Status;
 use regex_automata::hybrid::SearchError;
 use regex_automata::hybrid::dfa::{Cache, DFA, OverlappingState};
-use regex_automata::{HalfMatch, Input, PatternSet};
+use regex_automata::{Direction, HalfMatch, Input, PatternSet};
 use std::alloc::Global;
 
-/// Searches forward for the next of all overlapping matches, by its end.
-fn next_end(
+/// Searches for the next of all overlapping matches in a direction: its end forward, and its start backward.
+fn next_half(
     dfa: &DFA,
     cache: &mut Cache,
     input: &Input<'_>,
-    state: &mut OverlappingState,
+    way: Direction,
+    walk: &mut OverlappingState,
 ) -> Result<Option<HalfMatch>, SearchError>
     requires of { IsCacheOf cache.old dfa.now }
-    requires walk { IsWalkOf Forward dfa.now input.now state.old }
+    requires walk { IsWalkOf way dfa.now input.now walk.old }
     ensures of { IsCacheOf cache.new dfa.now }
-    ensures walk { IsWalkOf Forward dfa.now input.now state.new }
+    ensures walk { IsWalkOf way dfa.now input.now walk.new }
+    ensures step { IsStep way dfa.now input.now walk.old walk.new cache.old cache.new result }
 {
-    match dfa.try_search_overlapping_fwd(cache, input, state) {
-        Ok(()) => Ok(state.get_match()),
-        Err(error) => Err(error),
-    }
-}
-
-/// Searches backward for the next of all overlapping matches, by its start.
-fn next_start(
-    dfa: &DFA,
-    cache: &mut Cache,
-    input: &Input<'_>,
-    state: &mut OverlappingState,
-) -> Result<Option<HalfMatch>, SearchError>
-    requires of { IsCacheOf cache.old dfa.now }
-    requires walk { IsWalkOf Backward dfa.now input.now state.old }
-    ensures of { IsCacheOf cache.new dfa.now }
-    ensures walk { IsWalkOf Backward dfa.now input.now state.new }
-{
-    match dfa.try_search_overlapping_rev(cache, input, state) {
-        Ok(()) => Ok(state.get_match()),
+    match dfa.try_search_overlapping(cache, input, way, walk) {
+        Ok(()) => Ok(walk.get_match()),
         Err(error) => Err(error),
     }
 }
 
 /// Writes a match at an index, if there is room, and counts it.
-fn write(out: &mut [FoundHalf], count: &mut usize, half: HalfMatch) {
+fn write(out: &mut [FoundHalf], count: &mut usize, half: HalfMatch)
+    ensures written { (halves : List FoundHalf) (was : List FoundHalf) → count.old ≡ length halves
+        → out.old ≡ written_over halves was → out.new ≡ written_over (halves ++ half_from half ∷ []) was }
+    ensures count { count.new ≡ min (count.old + 1) (2 ^ 64 - 1) }
+{
     let index = *count;
+    let found = FoundHalf::of(half);
     if index < out.len() {
-        out[index] = FoundHalf::of(half);
+        out[index] = found;
     }
     *count = index.saturating_add(1);
 }
 
-/// Writes the ends of all overlapping matches that there is room for, and counts all.
-fn all_ends(
+/// Writes the ends of all overlapping matches, or their starts, as many as there is room for, and counts all.
+fn all_halves(
     dfa: &DFA,
     cache: &mut Cache,
     input: &Input<'_>,
+    way: Direction,
     out: &mut [FoundHalf],
     count: &mut usize,
 ) -> Status
     requires { IsCacheOf cache.old dfa.now }
-    ensures { IsCacheOf cache.new dfa.now }
+    ensures of { IsCacheOf cache.new dfa.now }
+    ensures all { AreAll way dfa.now input.now out.old out.new count.new cache.old cache.new result }
 {
-    let mut state = OverlappingState::start();
+    *count = 0;
+    let mut walk = OverlappingState::start();
     for _at in 0..u64::MAX {
-        match next_end(dfa, cache, input, &mut state) {
-            Ok(Some(half)) => write(out, count, half),
-            Ok(None) => return Status::from(Code::Done),
-            Err(error) => return Status::from(error),
-        }
-    }
-    Status::from(Code::Done)
-}
-
-/// Writes the starts of all matches that there is room for, and counts all.
-fn all_starts(
-    dfa: &DFA,
-    cache: &mut Cache,
-    input: &Input<'_>,
-    out: &mut [FoundHalf],
-    count: &mut usize,
-) -> Status
-    requires { IsCacheOf cache.old dfa.now }
-    ensures { IsCacheOf cache.new dfa.now }
-{
-    let mut state = OverlappingState::start();
-    for _at in 0..u64::MAX {
-        match next_start(dfa, cache, input, &mut state) {
+        match next_half(dfa, cache, input, way, &mut walk) {
             Ok(Some(half)) => write(out, count, half),
             Ok(None) => return Status::from(Code::Done),
             Err(error) => return Status::from(error),
@@ -123,40 +96,36 @@ fn write_members(set: &PatternSet, out: &mut [u32]) -> usize
 }
 
 impl Searcher {
-    /// Writes the ends of all matches of a request that there is room for, and counts all. The status
-    /// is `Code::Argument` if the request is no input of the haystack.
-    fn all_ends(
-        &mut self,
-        haystack: &[u8],
-        request: &Request,
-        out: &mut [FoundHalf],
-        count: &mut usize,
-    ) -> Status {
-        *count = 0;
-        let Some(input) = request.input(haystack) else {
-            return Status::from(Code::Argument);
-        };
+    /// Writes the ends of all matches of an input that there is room for, and counts all.
+    fn all_ends(&mut self, input: &Input<'_>, out: &mut [FoundHalf], count: &mut usize) -> Status
+        ensures { AllEnds out.old out.new count.new input.now self.old self.new result }
+    {
         let shared = &self.shared;
         let dfa = shared.regex.forward();
-        all_ends(dfa, self.cache.forward_mut(), &input, out, count)
+        all_halves(
+            dfa,
+            self.cache.forward_mut(),
+            input,
+            Direction::Forward,
+            out,
+            count,
+        )
     }
 
-    /// Writes the starts of all matches of a request that there is room for, and counts all. The status
-    /// is `Code::Argument` if the request is no input of the haystack.
-    fn all_starts(
-        &mut self,
-        haystack: &[u8],
-        request: &Request,
-        out: &mut [FoundHalf],
-        count: &mut usize,
-    ) -> Status {
-        *count = 0;
-        let Some(input) = request.input(haystack) else {
-            return Status::from(Code::Argument);
-        };
+    /// Writes the starts of all matches of an input that there is room for, and counts all.
+    fn all_starts(&mut self, input: &Input<'_>, out: &mut [FoundHalf], count: &mut usize) -> Status
+        ensures { AllStarts out.old out.new count.new input.now self.old self.new result }
+    {
         let shared = &self.shared;
         let dfa = shared.regex.reverse();
-        all_starts(dfa, self.cache.reverse_mut(), &input, out, count)
+        all_halves(
+            dfa,
+            self.cache.reverse_mut(),
+            input,
+            Direction::Backward,
+            out,
+            count,
+        )
     }
 
     /// Makes the set of the searcher an empty one for the patterns below a number.
@@ -228,12 +197,70 @@ fn which_in(
     out: &mut [u32],
     count: &mut usize,
 ) -> Status
-    ensures { OfObject (OfInput (Lists below out.old out.new count.new) (input_of haystack.now request.now))
+    ensures lists { OfObject (OfInput (Lists below out.old out.new count.new) (input_of haystack.now request.now))
         object.old object.new result }
+    ensures none { OfObject (λ s t status. NoneListed (input_of haystack.now request.now) out.old out.new count.new)
+        object.old object.new result }
+    ensures kept { KeepsUnlessCache ((out.new ≡ out.old) × (count.new ≡ count.old)) object.old }
 {
     match object {
         Object::Searcher(searcher) => match request.input(haystack) {
             Some(input) => searcher.which(alloc, &input, below, out, count),
+            None => {
+                *count = 0;
+                Status::from(Code::Argument)
+            }
+        },
+        Object::Builder(_) | Object::Regex(_) => Status::from(Code::Kind),
+    }
+}
+
+/// Writes the ends of all overlapping matches of a request, over a cache, as many as there is room for, and counts all.
+/// The status is `Code::Kind` if the object is no cache, and `Code::Argument` if the request is no input of the
+/// haystack.
+fn all_ends_in(
+    object: &mut Object,
+    haystack: &[u8],
+    request: &Request,
+    out: &mut [FoundHalf],
+    count: &mut usize,
+) -> Status
+    ensures all { OfObject (OfInput (AllEnds out.old out.new count.new) (input_of haystack.now request.now))
+        object.old object.new result }
+    ensures none { OfObject (λ s t status. NoneListed (input_of haystack.now request.now) out.old out.new count.new)
+        object.old object.new result }
+    ensures kept { KeepsUnlessCache ((out.new ≡ out.old) × (count.new ≡ count.old)) object.old }
+{
+    match object {
+        Object::Searcher(searcher) => match request.input(haystack) {
+            Some(input) => searcher.all_ends(&input, out, count),
+            None => {
+                *count = 0;
+                Status::from(Code::Argument)
+            }
+        },
+        Object::Builder(_) | Object::Regex(_) => Status::from(Code::Kind),
+    }
+}
+
+/// Writes the starts of all matches of a request, over a cache, as many as there is room for, and counts all. The
+/// status is `Code::Kind` if the object is no cache, and `Code::Argument` if the request is no input of the haystack.
+fn all_starts_in(
+    object: &mut Object,
+    haystack: &[u8],
+    request: &Request,
+    out: &mut [FoundHalf],
+    count: &mut usize,
+) -> Status
+    ensures all { OfObject (OfInput (AllStarts out.old out.new count.new) (input_of haystack.now request.now))
+        object.old object.new result }
+    ensures none { OfObject (λ s t status. NoneListed (input_of haystack.now request.now) out.old out.new count.new)
+        object.old object.new result }
+    ensures kept { KeepsUnlessCache ((out.new ≡ out.old) × (count.new ≡ count.old)) object.old }
+{
+    match object {
+        Object::Searcher(searcher) => match request.input(haystack) {
+            Some(input) => searcher.all_starts(&input, out, count),
             None => {
                 *count = 0;
                 Status::from(Code::Argument)
@@ -252,14 +279,17 @@ pub extern "C" fn lazydfa_raw_all_ends(
     request: &Request,
     found: &mut [FoundHalf],
     count: &mut usize,
-) -> Status {
+) -> Status
+    ensures all { OfHandle (OfInput (AllEnds found.old found.new count.new) (input_of haystack.now request.now))
+        cache.old cache.new result }
+    ensures none { OfHandle (λ s t status. NoneListed (input_of haystack.now request.now) found.old found.new count.new)
+        cache.old cache.new result }
+    ensures kept { KeepsUnlessOpen ((found.new ≡ found.old) × (count.new ≡ count.old)) cache.old }
+{
     let Some(mut object) = cache.take(alloc) else {
         return Status::from(Code::Closed);
     };
-    let status = match object.as_mut() {
-        Object::Searcher(searcher) => searcher.all_ends(haystack, request, found, count),
-        Object::Builder(_) | Object::Regex(_) => Status::from(Code::Kind),
-    };
+    let status = all_ends_in(object.as_mut(), haystack, request, found, count);
     cache.put(object);
     status
 }
@@ -274,14 +304,17 @@ pub extern "C" fn lazydfa_raw_all_starts(
     request: &Request,
     found: &mut [FoundHalf],
     count: &mut usize,
-) -> Status {
+) -> Status
+    ensures all { OfHandle (OfInput (AllStarts found.old found.new count.new) (input_of haystack.now request.now))
+        cache.old cache.new result }
+    ensures none { OfHandle (λ s t status. NoneListed (input_of haystack.now request.now) found.old found.new count.new)
+        cache.old cache.new result }
+    ensures kept { KeepsUnlessOpen ((found.new ≡ found.old) × (count.new ≡ count.old)) cache.old }
+{
     let Some(mut object) = cache.take(alloc) else {
         return Status::from(Code::Closed);
     };
-    let status = match object.as_mut() {
-        Object::Searcher(searcher) => searcher.all_starts(haystack, request, found, count),
-        Object::Builder(_) | Object::Regex(_) => Status::from(Code::Kind),
-    };
+    let status = all_starts_in(object.as_mut(), haystack, request, found, count);
     cache.put(object);
     status
 }
@@ -298,8 +331,12 @@ pub extern "C" fn lazydfa_raw_which(
     patterns: &mut [u32],
     count: &mut usize,
 ) -> Status
-    ensures { OfHandle (OfInput (Lists below patterns.old patterns.new count.new) (input_of haystack.now request.now))
+    ensures lists { OfHandle (OfInput (Lists below patterns.old patterns.new count.new)
+        (input_of haystack.now request.now)) cache.old cache.new result }
+    ensures none { OfHandle
+        (λ s t status. NoneListed (input_of haystack.now request.now) patterns.old patterns.new count.new)
         cache.old cache.new result }
+    ensures kept { KeepsUnlessOpen ((patterns.new ≡ patterns.old) × (count.new ≡ count.old)) cache.old }
 {
     let Some(mut object) = cache.take(alloc) else {
         return Status::from(Code::Closed);

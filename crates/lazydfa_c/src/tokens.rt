@@ -1,8 +1,10 @@
 //! Tokens, one after another.
 ghost use Rattle.std.specs.Prelude.{◌≡◌};
 ghost use Rattle.regex_automata.specs.Tokens.{match_of as token_match};
-ghost use Rattle.lazydfa_c.specs.Calls.{OfHandle, OfInput, OfObject, TakesToken};
-ghost use Rattle.lazydfa_c.specs.Requests.{input_of, match_of};
+ghost use Rattle.lazydfa_c.specs.Batches.{InTurn, Takes};
+ghost use Rattle.lazydfa_c.specs.Calls.{KeepsUnlessCache, KeepsUnlessOpen, OfHandle, OfObject, TakesToken};
+ghost use Rattle.lazydfa_c.specs.Calls.{WritesIfDone};
+ghost use Rattle.lazydfa_c.specs.Requests.{match_of};
 
 use crate::code::Code;
 use crate::handle::Handle;
@@ -31,7 +33,8 @@ impl Searcher {
     /// Writes the token at the start of an input's span, and moves the start of what is left to the token's end. The
     /// status is `Code::Nothing` if the span has ended.
     fn token(&mut self, input: Input<'_>, left: &mut Request, found: &mut Found) -> Status
-        ensures { TakesToken found.new left.old left.new input.entry self.old self.new result }
+        ensures found { TakesToken found.new left.old left.new input.entry self.old self.new result }
+        ensures written { WritesIfDone found.old found.new result }
     {
         let shared = &self.shared;
         match shared.regex.tokens(&mut self.cache, input).next() {
@@ -48,8 +51,8 @@ impl Searcher {
     /// Searches for the token at the start of what is left, and writes it. The status is `Code::Argument` if what is
     /// left is no input of the haystack.
     fn next_token(&mut self, haystack: &[u8], left: &mut Request, found: &mut Found) -> Status
-        ensures { OfInput (TakesToken found.new left.old left.new) (input_of haystack.now left.old)
-            self.old self.new result }
+        ensures found { Takes haystack.now found.new left.old left.new self.old self.new result }
+        ensures written { WritesIfDone found.old found.new result }
     {
         match left.input(haystack) {
             Some(input) => self.token(input, left, found),
@@ -65,7 +68,9 @@ impl Searcher {
         left: &mut Request,
         out: &mut [Found],
         count: &mut usize,
-    ) -> Status {
+    ) -> Status
+        ensures { InTurn (Takes haystack.now) out.old out.new count.new left.old left.new self.old self.new result }
+    {
         *count = 0;
         for place in out {
             let status = self.next_token(haystack, left, place);
@@ -81,11 +86,32 @@ impl Searcher {
 /// Searches for the token at the start of what is left, over a cache, and writes it. The status is `Code::Kind` if the
 /// object is no cache.
 fn token_in(object: &mut Object, haystack: &[u8], left: &mut Request, found: &mut Found) -> Status
-    ensures { OfObject (OfInput (TakesToken found.new left.old left.new) (input_of haystack.now left.old))
-        object.old object.new result }
+    ensures found { OfObject (Takes haystack.now found.new left.old left.new) object.old object.new result }
+    ensures written { WritesIfDone found.old found.new result }
+    ensures kept { KeepsUnlessCache (left.new ≡ left.old) object.old }
 {
     match object {
         Object::Searcher(searcher) => searcher.next_token(haystack, left, found),
+        Object::Builder(_) | Object::Regex(_) => Status::from(Code::Kind),
+    }
+}
+
+/// Writes the next tokens of what is left, over a cache, as many as there is room for, and counts them. The status is
+/// `Code::Kind` if the object is no cache.
+fn tokens_in(
+    object: &mut Object,
+    haystack: &[u8],
+    left: &mut Request,
+    found: &mut [Found],
+    count: &mut usize,
+) -> Status
+    ensures found { OfObject (InTurn (Takes haystack.now) found.old found.new count.new left.old left.new)
+        object.old object.new result }
+    ensures kept { KeepsUnlessCache
+        ((left.new ≡ left.old) × (found.new ≡ found.old) × (count.new ≡ count.old)) object.old }
+{
+    match object {
+        Object::Searcher(searcher) => searcher.next_tokens(haystack, left, found, count),
         Object::Builder(_) | Object::Regex(_) => Status::from(Code::Kind),
     }
 }
@@ -99,8 +125,9 @@ pub extern "C" fn lazydfa_raw_token(
     left: &mut Request,
     found: &mut Found,
 ) -> Status
-    ensures { OfHandle (OfInput (TakesToken found.new left.old left.new) (input_of haystack.now left.old))
-        cache.old cache.new result }
+    ensures found { OfHandle (Takes haystack.now found.new left.old left.new) cache.old cache.new result }
+    ensures written { WritesIfDone found.old found.new result }
+    ensures kept { KeepsUnlessOpen (left.new ≡ left.old) cache.old }
 {
     let Some(mut object) = cache.take(alloc) else {
         return Status::from(Code::Closed);
@@ -120,14 +147,16 @@ pub extern "C" fn lazydfa_raw_tokens(
     left: &mut Request,
     found: &mut [Found],
     count: &mut usize,
-) -> Status {
+) -> Status
+    ensures found { OfHandle (InTurn (Takes haystack.now) found.old found.new count.new left.old left.new)
+        cache.old cache.new result }
+    ensures kept { KeepsUnlessOpen
+        ((left.new ≡ left.old) × (found.new ≡ found.old) × (count.new ≡ count.old)) cache.old }
+{
     let Some(mut object) = cache.take(alloc) else {
         return Status::from(Code::Closed);
     };
-    let status = match object.as_mut() {
-        Object::Searcher(searcher) => searcher.next_tokens(haystack, left, found, count),
-        Object::Builder(_) | Object::Regex(_) => Status::from(Code::Kind),
-    };
+    let status = tokens_in(object.as_mut(), haystack, left, found, count);
     cache.put(object);
     status
 }

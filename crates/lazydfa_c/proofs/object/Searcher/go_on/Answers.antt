@@ -6,8 +6,8 @@ use Rattle.regex_automata.specs.declared.hybrid.regex.Regex.{Regex}
 use Rattle.lazydfa_c.specs.Calls.{regex_of}
 use Rattle.lazydfa_c.proofs.object.Searcher.go_on.Goals as goal
 
-pub returns-in-Err : goal.returns-in-Err
-returns-in-Err c =
+pub returns-in-Err-clause-found : goal.returns-in-Err-clause-found
+returns-in-Err-clause-found c =
     let input = c.args.input.now in let old = c.args.self.now.cache in let new = c.next_match.new.cache in
     let e = c.in-Err.error in let regex = regex_of c.args.self.now in record {
       result = Err e;

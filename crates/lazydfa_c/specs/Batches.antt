@@ -1,0 +1,116 @@
+-- What the calls do that write as many matches as there is room for.
+use Rattle.std.specs.Prelude.{ℕ, ◌≡◌, ◌⊎◌, ◌<◌, ◌-◌, ◌^◌, List, [], ◌∷◌, drop, length, map, take}
+use Rattle.std.specs.Prelude.{Option, None, Some, Result, Ok, Err, IfErr, OnOk}
+use Rattle.automata_base.specs.declared.util.search.Direction.{Direction}
+use Rattle.automata_base.specs.declared.util.search.Direction.TheVariants.{Backward, Forward}
+use Rattle.automata_config.specs.declared.error.SearchError.{SearchError}
+use Rattle.automata_hybrid.specs.Walks.Answers.{HasReported, IsWalkRefusal}
+use Rattle.automata_hybrid.specs.Walks.Contracts.{IsCallEffect, IsWalkCall}
+use Rattle.automata_hybrid.specs.Walks.State.{States, Walk, fresh_walk}
+use Rattle.regex_automata.specs.Promises.{CacheView, HalfMatch, Input, Machine}
+use Rattle.lazydfa_c.specs.Caches.{written_over}
+use Rattle.lazydfa_c.specs.Calls.{OfInput, TakesToken, regex_of}
+use Rattle.lazydfa_c.specs.Codes.{number_of}
+use Rattle.lazydfa_c.specs.Requests.{half_from, input_of}
+use Rattle.lazydfa_c.specs.Statuses.{plain, search_status}
+use Rattle.lazydfa_c.specs.declared.code.Code.TheVariants as code
+use Rattle.lazydfa_c.specs.declared.input.Found.{Found}
+use Rattle.lazydfa_c.specs.declared.input.FoundHalf.{FoundHalf}
+use Rattle.lazydfa_c.specs.declared.input.Request.{Request}
+use Rattle.lazydfa_c.specs.declared.object.Searcher.{Searcher}
+use Rattle.lazydfa_c.specs.declared.status.Status.{Status}
+
+-- calls one after another, each of which wrote one of these matches
+abbrev pub AreCalls : {A : Type 0} → (Call : Found → A → A → Searcher → Searcher → Status → Type 0)
+    → List Found → (old new : A) → (s t : Searcher) → Type 0
+AreCalls Call [] old new s t = (new ≡ old) × (t ≡ s)
+AreCalls {A = A} Call (f ∷ fs) old new s t =
+    (at : A) × (u : Searcher) × (done : Status) × (done.code ≡ number_of code.Done) × Call f old at s u done
+    × AreCalls Call fs at new u t
+
+-- a call that writes as many matches as there is room for: it makes calls one after another, each of which writes the
+-- next match, until one writes none
+pub record InTurn {A : Type 0} (Call : Found → A → A → Searcher → Searcher → Status → Type 0)
+    (was written : List Found) (count : ℕ) (old new : A) (s t : Searcher) (status : Status) : Type 0 where
+  pub at : A
+  pub between : Searcher
+  -- the matches that are counted are those of the calls
+  pub calls : AreCalls Call (take count written) old at s between
+  -- there is no more room, or the next call wrote none, and its status is that of all
+  pub last :
+      ((count ≡ length written) × (status ≡ plain code.Done) × (new ≡ at) × (t ≡ between))
+      ⊎ ((count < length written) × (status.code ≡ number_of code.Done → ⊥)
+      × ((f : Found) × Call f at new between t status))
+  -- nothing else is written
+  pub rest : drop count written ≡ drop count was
+
+-- `lazydfa_token` and what is left: without an input nothing changes
+abbrev pub Takes : List ℕ → Found → (old new : Request) → (s t : Searcher) → Status → Type 0
+Takes haystack found old new s t status =
+    OfInput (TakesToken found old new) (input_of haystack old) s t status
+    × (input_of haystack old ≡ None → new ≡ old)
+
+-- the result of a call of an overlapping search, but for the match that it found
+abbrev pub done_of : Result (Option HalfMatch) SearchError → Result (Unit {0}) SearchError
+done_of (Ok half) = Ok tt
+done_of (Err e) = Err e
+
+-- a call of an overlapping search: the result of the library's call, with its promises
+pub record IsStep (way : Direction) (m : Machine) (input : Input) (walk next : Walk) (old new : CacheView)
+    (result : Result (Option HalfMatch) SearchError) : Type 0 where
+  pub found : OnOk result (result ≡ Ok next.found)
+  pub call : IsWalkCall way m input walk next (done_of result)
+  pub refusal :
+      (k : ℕ) → HasReported way m input walk k
+      → IfErr result (IsWalkRefusal States way m new.store input walk k)
+  pub effect : IsCallEffect States way m input walk next old new (done_of result)
+
+-- steps one after another, each of which found one of these matches
+abbrev pub AreSteps : Direction → Machine → Input → List HalfMatch → (walk next : Walk) → (old new : CacheView) → Type 0
+AreSteps way m input [] walk next old new = (next ≡ walk) × (new ≡ old)
+AreSteps way m input (half ∷ halves) walk next old new =
+    (w : Walk) × (c : CacheView) × IsStep way m input walk w old c (Ok (Some half))
+    × AreSteps way m input halves w next c new
+
+-- the status of the step after which there is none
+abbrev pub end_status : Result (Option HalfMatch) SearchError → Option Status
+end_status (Ok (Some half)) = None
+end_status (Ok None) = Some (plain code.Done)
+end_status (Err e) = Some (search_status e)
+
+-- a search for all overlapping matches of an input: the steps of a new walk, one after another, until one finds none
+pub record AreAll (way : Direction) (m : Machine) (input : Input) (was written : List FoundHalf) (count : ℕ)
+    (old new : CacheView) (status : Status) : Type 0 where
+  pub halves : List HalfMatch
+  pub walk : Walk
+  pub between : CacheView
+  pub steps : AreSteps way m input halves fresh_walk walk old between
+  -- the last step found none, or failed; or there were as many as can be counted
+  pub last :
+      ((next : Walk) × (result : Result (Option HalfMatch) SearchError)
+      × IsStep way m input walk next between new result × (end_status result ≡ Some status))
+      ⊎ ((count ≡ 2 ^ 64 - 1) × (status ≡ plain code.Done) × (new ≡ between))
+  -- the first ones are written, as many as there is room for, and all are counted
+  pub first : written ≡ written_over (map half_from halves) was
+  pub counted : count ≡ length halves
+
+-- `lazydfa_all_ends`: all overlapping matches by the forward DFA; the reverse cache stays
+pub record AllEnds (was written : List FoundHalf) (count : ℕ) (input : Input) (s t : Searcher) (status : Status)
+    : Type 0 where
+  pub all :
+      AreAll Forward (regex_of s).forward input was written count s.cache.forward t.cache.forward status
+  pub reverse : t.cache.reverse ≡ s.cache.reverse
+  pub same : t.shared ≡ s.shared
+
+-- `lazydfa_all_starts`: all of the reverse DFA; the forward cache stays
+pub record AllStarts (was written : List FoundHalf) (count : ℕ) (input : Input) (s t : Searcher) (status : Status)
+    : Type 0 where
+  pub all :
+      AreAll Backward (regex_of s).reverse input was written count s.cache.reverse t.cache.reverse status
+  pub forward : t.cache.forward ≡ s.cache.forward
+  pub same : t.shared ≡ s.shared
+
+-- without an input nothing is written, and none is counted
+abbrev pub NoneListed : {A : Type 0} → Option Input → (was written : List A) → (count : ℕ) → Type 0
+NoneListed None was written count = (written ≡ was) × (count ≡ 0)
+NoneListed (Some input) was written count = Unit {0}
