@@ -2,8 +2,9 @@
 # Compares what `Pattern` of `example_patterns` finds with what the kit's regex crate finds, in a copy of the repository
 # with one crate more, outside the gate:
 #     tools/patterns.sh
-# Random patterns, alone and two at once, are searched in random bytes and texts, from every offset. It prints what
-# differs, and how many searches there were. Nothing is proved: the program runs under a sanitizer.
+# It begins with the rows of the kit's own tests. Then ten thousand patterns, alone and two at once, are searched in random
+# bytes and in texts that are not ASCII: for a match and for its end alone, from every offset, and for all matches. It
+# prints what differs, and how many searches there were. Nothing is proved: the program runs under a sanitizer.
 set -eu
 tools=$(cd "$(dirname "$0")" && pwd)
 copy=$(mktemp -d)

@@ -1,15 +1,33 @@
--- Which lines have a match.
-use Rattle.std.specs.Prelude.{ℕ, ◌≡◌, ◌==◌, Bool, true, false, List, [], ◌∷◌, ◌++◌, length, Some}
+-- Which lines have a match, and their numbers.
+use Rattle.std.specs.Prelude.{ℕ, ◌≡◌, ◌==◌, ◌+◌, ◌-◌, ◌^◌, Bool, true, false, List, [], ◌∷◌, ◌++◌, length, min, Some}
 use Rattle.std.specs.List.{slice_split}
 use Rattle.regex_hir.specs.Re.{Re}
 use Rattle.regex_automata.specs.Promises.{Forward, Half, Input, IsAnswer, LeftmostFirst, Machine, No, engine_of, match_kind_of}
-use Rattle.example_meaning.specs.Patterns.{HasPart}
-use Rattle.example_patterns.specs.Patterns.{AreMeanings, IsNfaOf, config_of}
+use Rattle.example_patterns.specs.Patterns.{IsJoinedNfa}
 use Rattle.example_patterns.specs.declared.compile.Options.{Options}
+use Rattle.example_grep.specs.declared.lines.Line.{Line}
 
 -- the lines of a text: what stands between its line feeds
 abbrev pub lines : List ℕ → List (List ℕ)
 lines text = slice_split (λ byte. byte == 10) text
+
+-- one more; a count stays at the greatest number of 64 bits
+abbrev pub one_more : (count : ℕ) → ℕ
+one_more count = min (count + 1) (2 ^ 64 - 1)
+
+-- the count after these, one by one
+abbrev pub counted : {A : Type 0} → (count : ℕ) → List A → ℕ
+counted count [] = count
+counted count (x ∷ xs) = counted (one_more count) xs
+
+-- the lines with their numbers, where so many lines came before them
+abbrev pub numbered : (count : ℕ) → List (List ℕ) → List (ℕ × List ℕ)
+numbered count [] = []
+numbered count (line ∷ lines) = (one_more count, line) ∷ numbered (one_more count) lines
+
+-- a line that was found, with its number
+abbrev pub found_line : Line → ℕ × List ℕ
+found_line line = (line.number, line.bytes.now)
 
 -- a line by itself; the search may stop at the first match that it sees
 abbrev pub whole : List ℕ → Input
@@ -21,11 +39,11 @@ pub record HasMatch (m : Machine) (line : List ℕ) : Type 0 where
   pub answer : IsAnswer Forward (engine_of m.nfa (match_kind_of m.config)) (whole line) (Some half)
 
 -- these are the lines that have it, and no others, in their order
-pub data AreMatching (Has : List ℕ → Type 0) : List (List ℕ) → List (List ℕ) → Type 0 where
+pub data AreMatching {A : Type 0} (Has : A → Type 0) : List A → List A → Type 0 where
   begins : AreMatching Has [] []
-  takes : (lines found : List (List ℕ)) (line : List ℕ)
+  takes : (lines found : List A) (line : A)
       → AreMatching Has lines found → Has line → AreMatching Has (lines ++ line ∷ []) (found ++ line ∷ [])
-  leaves : (lines found : List (List ℕ)) (line : List ℕ)
+  leaves : (lines found : List A) (line : A)
       → AreMatching Has lines found → (Has line → ⊥) → AreMatching Has (lines ++ line ∷ []) found
 
 -- how patterns are read: they are searched in bytes
@@ -33,13 +51,7 @@ abbrev pub bytewise : (case_insensitive : Bool) → Options
 bytewise case_insensitive =
     record { case_insensitive = case_insensitive; utf8 = false; ascii = false; size_limit = 10485760 }
 
--- the DFA is that of the patterns of these texts
-abbrev pub IsSearcherOf : (case_insensitive : Bool) → (texts : List (List ℕ)) → Machine → Type 0
-IsSearcherOf case_insensitive texts m =
-    IsNfaOf (bytewise case_insensitive) texts m.nfa × (match_kind_of m.config ≡ LeftmostFirst)
-
--- these are the lines of which some part is a match of some pattern of these texts, by what the texts mean
-abbrev pub AreMeant : (case_insensitive : Bool) → (texts lines found : List (List ℕ)) → Type 0
-AreMeant case_insensitive texts lines found =
-    (res : List Re) × AreMeanings (config_of (bytewise case_insensitive)) texts res
-    × AreMatching (HasPart res) lines found
+-- the DFA is that of patterns with these meanings
+abbrev pub IsSearcherFor : (case_insensitive : Bool) → List Re → Machine → Type 0
+IsSearcherFor case_insensitive res m =
+    IsJoinedNfa (bytewise case_insensitive) res m.nfa × (match_kind_of m.config ≡ LeftmostFirst)

@@ -1,7 +1,13 @@
 //! Reads blocks of whole lines, and prints what is found in them.
+ghost use Rattle.std.specs.Prelude.{◌≡◌, ◌++◌, [], Bool, List, IfOk, OnOk, map, string_bytes};
+ghost use Rattle.regex_hir.specs.Re.{Re};
+ghost use Rattle.example_grep.specs.Lines.{counted, found_line, one_more};
+ghost use Rattle.example_grep.specs.Greps.{AreSpansFor, IsGrepFor, KeepsSpans, ShowsLines};
+ghost use Rattle.example_grep.specs.Shown.{count_shown, found_shown, line_shown, lines_shown, prefix_of};
+
 use crate::lines::{Line, LineSearcher};
 use crate::options::Show;
-use crate::spans::SpanSearcher;
+use crate::spans::{SpanSearcher, push_after};
 use anyhow::Result;
 use memchr::memrchr;
 use std::alloc::Global;
@@ -91,12 +97,13 @@ impl Drop for Grep {
 
 impl Grep {
     /// A grep that has found nothing so far. Without a searcher of spans it shows whole lines.
-    pub fn new(
-        alloc: Global,
-        show: Show,
-        lines: LineSearcher,
-        spans: Option<SpanSearcher>,
-    ) -> Grep {
+    pub fn new(alloc: Global, show: Show, lines: LineSearcher, spans: Option<SpanSearcher>) -> Grep
+        ensures show { result.show ≡ show }
+        ensures lines { result.lines ≡ lines }
+        ensures spans { result.spans ≡ spans }
+        ensures shown { result.shown.items ≡ [] }
+        ensures count { result.count ≡ 0 }
+    {
         Grep {
             alloc,
             show,
@@ -108,35 +115,70 @@ impl Grep {
     }
 
     /// How many lines had a match.
-    pub fn count(&self) -> u64 {
+    pub fn count(&self) -> u64
+        ensures { result ≡ self.now.count }
+    {
         self.count
     }
 
-    /// Appends what is to be shown of a line that has a match.
-    fn push_line(&mut self, line: &Line<'_>) -> Result<()> {
+    /// Counts a line that has a match, and appends what is to be shown of it.
+    fn push_line(&mut self, line: &Line<'_>) -> Result<()>
+        ensures same { OnOk result ((self.new.show ≡ self.old.show) × (self.new.lines ≡ self.old.lines)) }
+        ensures spans { OnOk result (KeepsSpans self.old.spans self.new.spans) }
+        ensures count { OnOk result (self.new.count ≡ one_more self.old.count) }
+        ensures shown { OnOk result ((case_insensitive : Bool) (res : List Re)
+            → IsGrepFor case_insensitive res self.old → self.new.shown.items ≡ self.old.shown.items
+            ++ found_shown self.old.show res (found_line line.now)) }
+    {
         self.count = self.count.saturating_add(1);
         if self.show.count {
             return Ok(());
         }
-        let number = line.number;
-        let prefix = if self.show.numbers {
-            format!(in self.alloc; "{number}:")?
-        } else {
-            String::new(self.alloc)
-        };
-        match &mut self.spans {
-            Some(spans) => spans.push_matches(prefix.as_bytes(), line.bytes, &mut self.shown),
-            None => push_whole(prefix.as_bytes(), line.bytes, &mut self.shown),
-        }
+        let prefix = prefix(self.alloc, self.show.numbers, line.number)?;
+        push_shown(
+            prefix.as_bytes(),
+            line.bytes,
+            &mut self.spans,
+            &mut self.shown,
+        )
     }
 
-    /// Searches the lines of a text, and appends what is to be shown of them.
-    fn search(&mut self, text: &[u8]) -> Result<()> {
-        let found = self.lines.matching(self.alloc, text)?;
-        for line in &found {
+    /// Counts lines that have a match, and appends what is to be shown of them.
+    fn push_lines(&mut self, lines: &[Line<'_>]) -> Result<()>
+        ensures same { OnOk result ((self.new.show ≡ self.old.show) × (self.new.lines ≡ self.old.lines)) }
+        ensures spans { OnOk result (KeepsSpans self.old.spans self.new.spans) }
+        ensures count { OnOk result (self.new.count ≡ counted self.old.count (map found_line lines.now)) }
+        ensures shown { OnOk result ((case_insensitive : Bool) (res : List Re)
+            → IsGrepFor case_insensitive res self.old → self.new.shown.items ≡ self.old.shown.items
+            ++ lines_shown self.old.show res (map found_line lines.now)) }
+    {
+        for line in lines {
             self.push_line(line)?;
         }
         Ok(())
+    }
+
+    /// Searches the lines of a text, and appends what is to be shown of them.
+    fn search(&mut self, text: &[u8]) -> Result<()>
+        ensures { OnOk result ((case_insensitive : Bool) (res : List Re) → IsGrepFor case_insensitive res self.old
+            → IsGrepFor case_insensitive res self.new × ShowsLines res text.now self.old self.new) }
+    {
+        let found = self.lines.matching(self.alloc, text)?;
+        self.push_lines(found.as_slice())?;
+        Ok(())
+    }
+
+    /// Appends the count, if it is asked for.
+    fn push_count(&mut self) -> Result<()>
+        ensures { OnOk result (self.new.shown.items ≡ self.old.shown.items
+            ++ count_shown self.old.show.count self.old.count) }
+    {
+        if !self.show.count {
+            return Ok(());
+        }
+        let count = self.count;
+        let text = format!(in self.alloc; "{count}\n")?;
+        Ok(self.shown.extend_from_slice(text.as_bytes())?)
     }
 
     /// Writes what is shown so far.
@@ -162,17 +204,36 @@ impl Grep {
         if let Some(text) = unsearched.take_last(self.alloc) {
             self.search(text.as_slice())?;
         }
-        if self.show.count {
-            writeln!(self.shown, "{}", self.count)?;
-        }
+        self.push_count()?;
         self.write(output)?;
         Ok(output.flush()?)
     }
 }
 
-/// Appends a line, after the prefix and before a line feed.
-fn push_whole(prefix: &[u8], line: &[u8], shown: &mut Vec<u8>) -> Result<()> {
-    shown.extend_from_slice(prefix)?;
-    shown.extend_from_slice(line)?;
-    Ok(shown.push(b'\n')?)
+/// The number of a line and a colon, or nothing.
+fn prefix(alloc: Global, numbers: bool, number: u64) -> Result<String>
+    ensures { IfOk result (λ prefix. string_bytes prefix ≡ prefix_of numbers number) }
+{
+    if !numbers {
+        return Ok(String::new(alloc));
+    }
+    Ok(format!(in alloc; "{number}:")?)
+}
+
+/// Appends a line or, if there is a searcher of spans, its matches.
+fn push_shown(
+    prefix: &[u8],
+    line: &[u8],
+    spans: &mut Option<SpanSearcher>,
+    shown: &mut Vec<u8>,
+) -> Result<()>
+    ensures spans { OnOk result (KeepsSpans spans.old spans.new) }
+    ensures shown { OnOk result ((case_insensitive only_matches : Bool) (res : List Re)
+        → AreSpansFor case_insensitive only_matches res spans.old
+        → shown.new.items ≡ shown.old.items ++ line_shown only_matches res prefix.now line.now) }
+{
+    match spans {
+        Some(spans) => spans.push_matches(prefix, line, shown),
+        None => push_after(prefix, line, shown),
+    }
 }

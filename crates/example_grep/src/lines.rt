@@ -1,8 +1,9 @@
 //! Which lines of a text have a match.
-ghost use Rattle.std.specs.Prelude.{ℕ, ◌≡◌, ◌↔◌, Bool, List, IfOk, IsTrue, map};
+ghost use Rattle.std.specs.Prelude.{◌≡◌, ◌↔◌, Bool, List, IfOk, IsTrue, OnOk, map};
+ghost use Rattle.regex_hir.specs.Re.{Re};
 ghost use Rattle.regex_automata.specs.Promises.{IsCacheOf, IsLookAcyclic, nfa_of};
 ghost use Rattle.example_meaning.specs.Patterns.{HasPart};
-ghost use Rattle.example_grep.specs.Lines.{AreMatching, AreMeant, HasMatch, IsSearcherOf, lines};
+ghost use Rattle.example_grep.specs.Lines.{AreMatching, HasMatch, IsSearcherFor, counted, found_line, lines, numbered};
 
 use anyhow::Result;
 use regex_automata::hybrid::SearchError;
@@ -39,9 +40,11 @@ pub struct Line<'t> {
 }
 
 impl LineSearcher {
+    /// A searcher over a fresh cache of the DFA, which has searched no line.
     pub fn new(dfa: DFA) -> Result<LineSearcher>
         requires { IsLookAcyclic (nfa_of dfa.nfa) }
-        ensures { IfOk result (λ s. s.dfa ≡ dfa) }
+        ensures dfa { IfOk result (λ s. s.dfa ≡ dfa) }
+        ensures searched { IfOk result (λ s. s.searched ≡ 0) }
     {
         let cache = dfa.create_cache()?;
         Ok(LineSearcher {
@@ -54,9 +57,10 @@ impl LineSearcher {
     /// Whether a line has a match.
     fn has_match(&mut self, line: &[u8]) -> Result<bool, SearchError>
         ensures same { self.new.dfa ≡ self.old.dfa }
+        ensures searched { self.new.searched ≡ self.old.searched }
         ensures found { IfOk result (λ truth. IsTrue truth ↔ HasMatch self.old.dfa line.now) }
-        ensures meant { IfOk result (λ truth. (case_insensitive : Bool) (texts : List (List ℕ))
-            (is : IsSearcherOf case_insensitive texts self.old.dfa) → IsTrue truth ↔ HasPart is.0.0 line.now) }
+        ensures meant { IfOk result (λ truth. (case_insensitive : Bool) (res : List Re)
+            → IsSearcherFor case_insensitive res self.old.dfa → IsTrue truth ↔ HasPart res line.now) }
     {
         start_is_right();
         cycles_are_kept();
@@ -66,14 +70,15 @@ impl LineSearcher {
         Ok(found.is_some())
     }
 
-    /// The lines of a text that have a match. Numbers go on from one text to the next.
+    /// The lines of a text that have a match, with their numbers. These go on from one text to the next.
     pub fn matching<'t>(&mut self, alloc: Global, text: &'t [u8]) -> Result<Vec<Line<'t>>>
         ensures same { self.new.dfa ≡ self.old.dfa }
-        ensures lines { IfOk result
-            (λ found. AreMatching (HasMatch self.old.dfa) (lines text.now) (map (λ line. line.bytes.now) found.items)) }
-        ensures meant { IfOk result (λ found. (case_insensitive : Bool) (texts : List (List ℕ))
-            → IsSearcherOf case_insensitive texts self.old.dfa
-            → AreMeant case_insensitive texts (lines text.now) (map (λ line. line.bytes.now) found.items)) }
+        ensures searched { OnOk result (self.new.searched ≡ counted self.old.searched (lines text.now)) }
+        ensures lines { IfOk result (λ found. AreMatching (λ line. HasMatch self.old.dfa line.1)
+            (numbered self.old.searched (lines text.now)) (map found_line found.items)) }
+        ensures meant { IfOk result (λ found. (case_insensitive : Bool) (res : List Re)
+            → IsSearcherFor case_insensitive res self.old.dfa → AreMatching (λ line. HasPart res line.1)
+            (numbered self.old.searched (lines text.now)) (map found_line found.items)) }
     {
         let mut found = Vec::new(alloc);
         for bytes in text.split(|byte| *byte == b'\n') {

@@ -1,44 +1,71 @@
 //! The matches of a line.
-ghost use Rattle.std.specs.Prelude.{◌≡◌, IfOk};
+ghost use Rattle.std.specs.Prelude.{◌≡◌, ◌++◌, Bool, false, List, None, IfOk, OnOk};
+ghost use Rattle.regex_hir.specs.Re.{Re};
 ghost use Rattle.regex_automata.specs.Promises.{AreCachesOf};
+ghost use Rattle.example_meaning.specs.Patterns.{left_any};
+ghost use Rattle.example_patterns.specs.Patterns.{IsRegexOf};
+ghost use Rattle.example_grep.specs.Lines.{bytewise};
+ghost use Rattle.example_grep.specs.Shown.{part_shown, parts_shown, shown_after};
 
 use anyhow::Result;
-use regex_automata::hybrid::regex::{Cache, Regex};
-use regex_automata::util::search::Input;
+use example_patterns::Pattern;
+use regex_automata::hybrid::regex::Cache;
 
-/// A regex and its caches.
+/// A pattern and its caches.
 pub struct SpanSearcher {
-    regex: Regex,
+    pattern: Pattern,
     caches: Cache,
-    ghost of: { AreCachesOf caches regex },
+    ghost of: { AreCachesOf caches pattern.regex },
 }
 
 // One call for an owner, whose proof then has no step for each part.
 impl Drop for SpanSearcher {
     fn drop(self) {
         let Self {
-            regex: _regex,
+            pattern: _pattern,
             caches: _caches,
         } = self;
     }
 }
 
+/// Appends some bytes, after the prefix and before a line feed.
+pub fn push_after(prefix: &[u8], bytes: &[u8], shown: &mut Vec<u8>) -> Result<()>
+    ensures { OnOk result (shown.new.items ≡ shown.old.items ++ shown_after prefix.now bytes.now) }
+{
+    shown.extend_from_slice(prefix)?;
+    shown.extend_from_slice(bytes)?;
+    Ok(shown.push(b'\n')?)
+}
+
+/// Appends a match, and nothing if it is empty.
+fn push_part(prefix: &[u8], part: &[u8], shown: &mut Vec<u8>) -> Result<()>
+    ensures { OnOk result (shown.new.items ≡ shown.old.items ++ part_shown prefix.now part.now) }
+{
+    if part.is_empty() {
+        return Ok(());
+    }
+    push_after(prefix, part, shown)
+}
+
 impl SpanSearcher {
-    /// A searcher of matches over fresh caches of the regex.
-    pub fn new(regex: Regex) -> Result<SpanSearcher> {
-        let caches = regex.create_cache()?;
-        Ok(SpanSearcher { regex, caches })
+    /// A searcher of matches over fresh caches of the pattern.
+    pub fn new(pattern: Pattern) -> Result<SpanSearcher>
+        ensures { IfOk result (λ s. s.pattern ≡ pattern) }
+    {
+        let caches = pattern.create_cache()?;
+        Ok(SpanSearcher { pattern, caches })
     }
 
     /// Appends each match of a line that is not empty, after the prefix and before a line feed.
-    pub fn push_matches(&mut self, prefix: &[u8], line: &[u8], shown: &mut Vec<u8>) -> Result<()> {
-        for found in self.regex.find_iter(&mut self.caches, Input::new(line)) {
+    pub fn push_matches(&mut self, prefix: &[u8], line: &[u8], shown: &mut Vec<u8>) -> Result<()>
+        ensures same { self.new.pattern ≡ self.old.pattern }
+        ensures shown { OnOk result ((case_insensitive : Bool) (res : List Re)
+            → IsRegexOf (bytewise case_insensitive) res self.old.pattern.regex → shown.new.items
+            ≡ shown.old.items ++ parts_shown prefix.now line.now (left_any false res line.now None)) }
+    {
+        for found in self.pattern.find_iter(&mut self.caches, line) {
             let found = found?;
-            if found.start() < found.end() {
-                shown.extend_from_slice(prefix)?;
-                shown.extend_from_slice(&line[found.start()..found.end()])?;
-                shown.push(b'\n')?;
-            }
+            push_part(prefix, &line[found.start()..found.end()], shown)?;
         }
         Ok(())
     }

@@ -1,19 +1,20 @@
--- The matches of an iteration are those that the kit's iterator yields, and a match is found exactly if there is one.
-use Rattle.std.proofs.Common.{ℕ, zero, suc, ◌≡◌, ◌+◌, ◌≤◌, ◌==◌, List, [], ◌∷◌, Option, Some, None, Bool, is_some, length, map, option_map, refl, sym, ap, ap₂, ◌∙◌, inl, inr, arith}
+-- The next match of an iteration is the one that the kit's iterator yields, and a match is found exactly if there is one.
+use Rattle.std.proofs.Common.{ℕ, zero, suc, ◌≡◌, ◌+◌, ◌<◌, ◌≤◌, ◌==◌, List, [], ◌∷◌, Option, Some, None, Bool, is_some, length, map, option_map, refl, sym, ap, ◌∙◌, subst, ⊎_elim, inl, inr, arith, add-one}
 use Rattle.std.specs.Prelude.{if◌then◌else◌}
-use Rattle.std.proofs.lemmas.Bool.{cond-true, cond-false, eq-eqb, ne_eqb}
+use Rattle.std.specs.Option.{unwrap_or}
+use Rattle.std.proofs.lemmas.Bool.{cases_lt, cond-true, cond-false, eq-eqb, ne_eqb}
 use Rattle.regex_hir.specs.Re.{Re}
 use Rattle.regex_hir.specs.Find as kit_find
 use Rattle.regex_hir.specs.Find.{find_after, matches_from}
 use Rattle.regex_hir.specs.Text.{is_some_and}
-use Rattle.automata_base.specs.Answers.Spans.{AreMatches, AreSpans, IsEmptyAt, IsMatch, IsNextItem, IsSpan}
-use Rattle.automata_base.specs.Haystacks.Input.{Input}
+use Rattle.regex_hir.proofs.OptionLemmas.{option_cases}
+use Rattle.automata_base.specs.Answers.Spans.{IsEmptyAt, IsMatch, IsNextItem, IsSpan}
 use Rattle.automata_base.specs.Haystacks.Matches.{Match}
 use Rattle.automata_base.specs.Nfas.Engines.{Engine}
 use Rattle.automata_base.proofs.Answers.Once.{match_iff_find, span_once}
-use Rattle.automata_base.proofs.Answers.Rising.{spans_inside, spans_rise}
+use Rattle.automata_base.proofs.Answers.Rising.{spans_inside}
 use Rattle.automata_base.proofs.Paths.Orders.{none_some, some_inj}
-use Rattle.example_meaning.specs.Patterns.{match_of, span_input}
+use Rattle.example_meaning.specs.Patterns.{IsFirstLeft, left_by, match_of, next_by, span_input}
 use Rattle.example_meaning.proofs.Options.{some_map}
 
 module _ (d : Engine) (res : List Re) (hay : List ℕ) (search : ℕ → Option kit_find.Match)
@@ -39,9 +40,6 @@ module _ (d : Engine) (res : List Re) (hay : List ℕ) (search : ℕ → Option 
       (k : kit_find.Match) × (o ≡ Some k) × (m ≡ own k)
   some_of None m e = absurd (none_some (sym e))
   some_of (Some k) m e = (k, refl, some_inj e)
-
-  abbrev input : Input
-  input = span_input hay 0 (length hay)
 
   module _ (start : ℕ) where
     -- what the search finds decides whether it is made again one place later
@@ -69,20 +67,21 @@ module _ (d : Engine) (res : List Re) (hay : List ℕ) (search : ℕ → Option 
         again w.0 w.1 (sym (some_inj empty.1 ∙ ap (λ (v : Match). v.end) w.2))
 
     -- the item after a match that ended here
-    next_is : (o : Option Match) → IsNextItem (IsSpan d) input start (Some start) o → o ≡ option_map (match_of res hay) (find_after search start)
-    next_is None (inl h) =
+    next_is : (begin : ℕ) (o : Option Match) → IsNextItem (IsSpan d) (span_input hay begin (length hay)) start (Some start) o →
+        o ≡ option_map (match_of res hay) (find_after search start)
+    next_is begin None (inl h) =
         let e = span_is start None h in
         e ∙ ap (option_map (match_of res hay)) (sym (stops (none_of (search start) e)))
-    next_is None (inr h) =
+    next_is begin None (inr h) =
         span_is (suc start) None h.3 ∙ ap (option_map (match_of res hay)) (sym (passed h.0 h.1 h.2))
-    next_is (Some m) (inl h) =
+    next_is begin (Some m) (inl h) =
         let e = span_is start (Some m) h.0 in
         let w = some_of (search start) m e in
         let inside = spans_inside d (span_input hay start (length hay)) m (omega arith) h.0 in
         e ∙ ap (option_map (match_of res hay)) (sym (goes_on w.0 w.1 (λ same.
         let ends : m.end ≡ start = ap (λ (v : Match). v.end) w.2 ∙ same in
         h.1 (omega (arith, ends, inside.0, inside.1), ap (λ v. Some v) (sym ends)))))
-    next_is (Some m) (inr h) =
+    next_is begin (Some m) (inr h) =
         span_is (suc start) (Some m) h.3 ∙ ap (option_map (match_of res hay)) (sym (passed h.0 h.1 h.2))
 
   yields_none : (fuel : ℕ) → matches_from search fuel None ≡ []
@@ -90,42 +89,85 @@ module _ (d : Engine) (res : List Re) (hay : List ℕ) (search : ℕ → Option 
   yields_none zero = refl
   yields_none (suc fuel) = refl
 
-  -- the matches after the first ones
-  rest_is : (ms : List Match) (fuel start : ℕ) → length ms ≤ fuel → AreMatches (IsSpan d) input start (Some start) ms →
-      ms ≡ map (match_of res hay) (matches_from search fuel (find_after search start))
+  -- the first item, and each one
+  first_is : (begin : ℕ) (o : Option Match) → IsNextItem (IsSpan d) (span_input hay begin (length hay)) 0 None o →
+      o ≡ option_map (match_of res hay) (search 0)
+  first_is begin None (inl h) = span_is 0 None h
+  first_is begin None (inr h) = absurd (none_some h.2.1)
+  first_is begin (Some m) (inl h) = span_is 0 (Some m) h.0
+  first_is begin (Some m) (inr h) = absurd (none_some h.2.1)
+
+  item_is : (begin : ℕ) (last : Option ℕ) (o : Option Match) →
+      IsNextItem (IsSpan d) (span_input hay begin (length hay)) (unwrap_or last 0) last o →
+      o ≡ option_map (match_of res hay) (next_by search last)
+  item_is begin None o h = first_is begin o h
+  item_is begin (Some end) o h = next_is end begin o h
+
+  -- what the search finds lies in what is searched
+  found_inside : (s : ℕ) (m : kit_find.Match) → search s ≡ Some m → (s ≤ m.start) × (m.start ≤ m.trace.end) × (m.trace.end ≤ length hay)
+  found_inside s m e =
+      spans_inside d (span_input hay s (length hay)) (own m) (omega arith)
+      (subst (λ o. IsSpan d (span_input hay s (length hay)) (option_map (match_of res hay) o)) e (spans s))
+
+  -- so ends rise
+  rises : (e : ℕ) (m : kit_find.Match) → find_after search e ≡ Some m → (e < m.trace.end) × (m.trace.end ≤ length hay)
+  rises e m is =
+      ⊎_elim
+      (λ (none : search e ≡ None). absurd (none_some (sym none ∙ sym (stops e none) ∙ is)))
+      (λ (w : (k : kit_find.Match) × (search e ≡ Some k)).
+      let inside = found_inside e w.0 w.1 in
+      ⊎_elim
+      (λ (l : e < w.0.trace.end).
+      let same : w.0 ≡ m = some_inj (sym w.1 ∙ sym (goes_on e w.0 w.1 (λ z. omega (arith, l, z))) ∙ is) in
+      subst (λ (k : kit_find.Match). (e < k.trace.end) × (k.trace.end ≤ length hay)) same (l, inside.2))
+      (λ (l : w.0.trace.end ≤ e).
+      let later = found_inside (suc e) m (sym (again e w.0 w.1 (omega (arith, l, inside.0, inside.1))) ∙ is) in
+      (omega (arith, later.0, later.1), later.2))
+      (cases_lt e w.0.trace.end))
+      (option_cases (search e))
+
+  -- and any count that leaves room for an end at each offset gives the same matches
+  enough : (n k e : ℕ) → length hay ≤ e + n → length hay ≤ e + k →
+      matches_from search n (find_after search e) ≡ matches_from search k (find_after search e)
   unfolding matches_from
-  rest_is [] fuel start room h =
-      sym (ap (λ o. map (match_of res hay) (matches_from search fuel o)) (none_of (find_after search start) (next_is start None h))
-      ∙ ap (map (match_of res hay)) (yields_none fuel))
-  rest_is (m ∷ ms) zero start room h = absurd (omega (arith, room))
-  rest_is (m ∷ ms) (suc fuel) start room h =
-      let w = some_of (find_after search start) m (next_is start (Some m) h.0) in
-      let ends : m.end ≡ w.0.trace.end = ap (λ (v : Match). v.end) w.2 in
-      let rest = rest_is ms fuel m.end (omega (arith, room)) h.1 in
-      ap₂ (λ v vs. v ∷ vs) w.2 (rest ∙ ap (λ v. map (match_of res hay) (matches_from search fuel (find_after search v))) ends)
-      ∙ sym (ap (λ o. map (match_of res hay) (matches_from search (suc fuel) o)) w.1)
+  enough zero k e p q =
+      ⊎_elim
+      (λ none. ap (matches_from search zero) none ∙ sym (yields_none k) ∙ sym (ap (matches_from search k) none))
+      (λ (w : (m : kit_find.Match) × (find_after search e ≡ Some m)). let l = rises e w.0 w.1 in absurd (omega (arith, l.0, l.1, p)))
+      (option_cases (find_after search e))
+  enough (suc n) zero e p q =
+      ⊎_elim
+      (λ none. ap (matches_from search (suc n)) none ∙ sym (ap (matches_from search zero) none))
+      (λ (w : (m : kit_find.Match) × (find_after search e ≡ Some m)). let l = rises e w.0 w.1 in absurd (omega (arith, l.0, l.1, q)))
+      (option_cases (find_after search e))
+  enough (suc n) (suc k) e p q =
+      ⊎_elim
+      (λ none. ap (matches_from search (suc n)) none ∙ sym (ap (matches_from search (suc k)) none))
+      (λ (w : (m : kit_find.Match) × (find_after search e ≡ Some m)).
+      let l = rises e w.0 w.1 in
+      ap (matches_from search (suc n)) w.1
+      ∙ ap (λ ms. w.0 ∷ ms) (enough n k w.0.trace.end (omega (arith, l.0, p)) (omega (arith, l.0, q)))
+      ∙ sym (ap (matches_from search (suc k)) w.1))
+      (option_cases (find_after search e))
 
-  first_is : (o : Option Match) → IsNextItem (IsSpan d) input 0 None o → o ≡ option_map (match_of res hay) (search 0)
-  first_is None (inl h) = span_is 0 None h
-  first_is None (inr h) = absurd (none_some h.2.1)
-  first_is (Some m) (inl h) = span_is 0 (Some m) h.0
-  first_is (Some m) (inr h) = absurd (none_some h.2.1)
-
-  list_is : (ms : List Match) (fuel : ℕ) → length ms ≤ suc fuel → AreSpans d input ms →
-      ms ≡ map (match_of res hay) (matches_from search (suc fuel) (search 0))
+  after : (m : kit_find.Match) → map (match_of res hay) (matches_from search (length hay + 1) (Some m)) ≡ own m ∷ left_by search res hay (Some m.trace.end)
   unfolding matches_from
-  list_is [] fuel room h =
-      sym (ap (λ o. map (match_of res hay) (matches_from search (suc fuel) o)) (none_of (search 0) (first_is None h)))
-  list_is (m ∷ ms) fuel room h =
-      let w = some_of (search 0) m (first_is (Some m) h.0) in
-      let ends : m.end ≡ w.0.trace.end = ap (λ (v : Match). v.end) w.2 in
-      let rest = rest_is ms fuel m.end (omega (arith, room)) h.1 in
-      ap₂ (λ v vs. v ∷ vs) w.2 (rest ∙ ap (λ v. map (match_of res hay) (matches_from search fuel (find_after search v))) ends)
-      ∙ sym (ap (λ o. map (match_of res hay) (matches_from search (suc fuel) o)) w.1)
+  after m =
+      ap (λ n. map (match_of res hay) (matches_from search n (Some m))) (add-one (length hay))
+      ∙ ap (λ ms. own m ∷ map (match_of res hay) ms) (enough (length hay) (length hay + 1) m.trace.end (omega arith) (omega arith))
 
-  -- all matches of the haystack
-  pub all_are : (ms : List Match) → AreSpans d input ms →
-      ms ≡ map (match_of res hay) (matches_from search (length hay + 1) (search 0))
-  all_are ms h =
-      list_is ms (length hay) (let few = (spans_rise d input ms (omega arith) h).1 in omega (arith, few)) h
-      ∙ ap (λ n. map (match_of res hay) (matches_from search n (search 0))) (omega arith)
+  first_left : (last : Option ℕ) (o : Option Match) → o ≡ option_map (match_of res hay) (next_by search last) →
+      IsFirstLeft (left_by search res hay) last o
+  first_left last None e =
+      ap (λ o. map (match_of res hay) (matches_from search (length hay + 1) o)) (none_of (next_by search last) e)
+      ∙ ap (map (match_of res hay)) (yields_none (length hay + 1))
+  first_left last (Some m) e =
+      let w = some_of (next_by search last) m e in
+      ap (λ o. map (match_of res hay) (matches_from search (length hay + 1) o)) w.1 ∙ after w.0
+      ∙ ap (λ (v : Match). v ∷ left_by search res hay (Some v.end)) (sym w.2)
+
+  -- an item is the first of the matches that are left
+  pub item_left : (begin : ℕ) (last : Option ℕ) (o : Option Match) →
+      IsNextItem (IsSpan d) (span_input hay begin (length hay)) (unwrap_or last 0) last o →
+      IsFirstLeft (left_by search res hay) last o
+  item_left begin last o h = first_left last o (item_is begin last o h)

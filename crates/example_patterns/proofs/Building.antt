@@ -1,6 +1,7 @@
 -- The regex of patterns searches their joined NFA as it is: this has no look cycle, so that it keeps no unions.
-use Rattle.std.proofs.Common.{◌≡◌, ◌∙◌, Bool, true, false, List, ℕ, ap, ap₂, sym, subst, refl}
+use Rattle.std.proofs.Common.{◌≡◌, ◌∙◌, Bool, true, false, List, ap, ap₂, sym, subst, refl}
 use Rattle.std.specs.Prelude.{IsTrue}
+use Rattle.regex_hir.specs.Re.{Re}
 use Rattle.regex_nfa.specs.declared.nfa.Nfa as kit_nfa
 use Rattle.automata_base.specs.Nfas.Engines.{Engine}
 use Rattle.automata_base.specs.Nfas.Nodes.{Automaton}
@@ -12,7 +13,7 @@ use Rattle.regex_automata.specs.Regexes.Builds.{BuildsOne, BuildsPair}
 use Rattle.regex_automata.specs.declared.hybrid.regex.Regex.{Regex}
 use Rattle.example_meaning.specs.Translated.{engine}
 use Rattle.example_meaning.proofs.Acyclic.{joined_acyclic}
-use Rattle.example_patterns.specs.Patterns.{IsNfaOf, IsPatternOf}
+use Rattle.example_patterns.specs.Patterns.{IsJoinedNfa, IsRegexOf}
 use Rattle.example_patterns.specs.declared.compile.Options.{Options}
 
 dropped : {P : Type 0} (v : Bool) → P → (IsTrue v → P → ⊥) → v ≡ false
@@ -34,9 +35,9 @@ forward_is :
 forward_is o a kept b p built same kind =
     ap (λ (m : Machine). engine_of m.nfa (match_kind_of m.config)) built.0.2 ∙ ap₂ (λ k v. engine_of k v) same kind
 
-pub pattern_is :
-    (o : settings.Options) (options : Options) (texts : List (List ℕ)) (a : Automaton) (p : Regex)
-    → settings.match_kind_of o ≡ LeftmostFirst → IsNfaOf options texts a → BuildsOne o a p → IsSoundPair p
-    → IsPatternOf options texts p
-pattern_is o options texts a p kind (res, ks, means, nfas, same) (kept, b, keeping, reversed, built) sound =
-    (res, means, (sound, (ks, nfas, forward_is o a kept b p built (kept_is a kept ks options.utf8 same keeping) kind ∙ same)))
+pub regex_is :
+    (o : settings.Options) (options : Options) (res : List Re) (a : Automaton) (p : Regex)
+    → settings.match_kind_of o ≡ LeftmostFirst → IsJoinedNfa options res a → BuildsOne o a p → IsSoundPair p
+    → IsRegexOf options res p
+regex_is o options res a p kind (ks, nfas, same) (kept, b, keeping, reversed, built) sound =
+    (sound, (ks, nfas, forward_is o a kept b p built (kept_is a kept ks options.utf8 same keeping) kind ∙ same))

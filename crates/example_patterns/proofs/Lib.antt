@@ -1,3 +1,4 @@
 mod Building
 mod Drafting
+pub mod Items
 pub mod Searching

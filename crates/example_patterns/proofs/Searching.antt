@@ -1,32 +1,39 @@
 -- What the searches for a pattern find, by what the pattern means.
-use Rattle.std.proofs.Common.{ℕ, ◌≡◌, ◌<◌, ◌≤◌, List, [], ◌∷◌, Option, None, Bool, true, false, is_some, length, map, option_map, sym, subst, ⊎_elim, All}
-use Rattle.std.specs.Prelude.{Result, Ok, Err, IfOk, IsAscii, Vec}
-use Rattle.std.specs.declared.alloc.Global.{Global}
+use Rattle.std.proofs.Common.{ℕ, ◌≡◌, ◌<◌, ◌≤◌, List, [], ◌∷◌, Option, Some, None, Bool, true, false, is_some, length, option_map, ◌∙◌, sym, ap, ap₂, subst, ⊎_elim, All}
+use Rattle.std.specs.Prelude.{Result, Ok, Err, IfOk, IsAscii}
+use Rattle.std.specs.Option.{unwrap_or}
 use Rattle.std.proofs.lemmas.Bool.{cases_Bool}
 use Rattle.regex_nfa.proofs.RunLemmas.{any_default}
+use Rattle.regex_hir.specs.Find as kit_find
 use Rattle.regex_hir.specs.Re.{Re}
 use Rattle.regex_nfa.specs.declared.nfa.Nfa as kit_nfa
 use Rattle.automata_base.specs.Answers.OfPasses.{ReportedEndsAreRight, ReportedIsRight}
-use Rattle.automata_base.specs.Answers.Spans.{AreMatches, AreSpans, IsSpan, from}
+use Rattle.automata_base.specs.Answers.Answers.{Half, IsAnswer}
+use Rattle.automata_base.specs.Answers.Spans.{IsNextItem, IsSpan, from}
 use Rattle.automata_base.specs.Laws.StartIsRight.{StartsAreRight}
-use Rattle.automata_base.proofs.Answers.Rising.{matches_right}
+use Rattle.automata_base.proofs.Answers.Once.{answer_once}
+use Rattle.automata_base.proofs.Answers.Rising.{first_right, matches_right}
 use Rattle.regex_automata.specs.Spans.Outcomes.{FindsMatch}
 use Rattle.regex_automata.proofs.Spans.ByPaths.{match_right}
 use Rattle.automata_base.specs.Haystacks.Input.{Input}
-use Rattle.automata_base.specs.Haystacks.Matches.{Match}
+use Rattle.automata_base.specs.Haystacks.Matches.{HalfMatch, Match}
 use Rattle.automata_base.specs.Haystacks.Tapes.{IsHaystack}
 use Rattle.automata_base.specs.declared.util.search.Direction.TheVariants.{Forward}
 use Rattle.automata_base.specs.Answers.TruePairs.{KeepsUtf8}
 use Rattle.automata_config.specs.declared.error.SearchError.{SearchError}
+use Rattle.automata_hybrid.specs.Searches.Contracts.{IsHalf}
+use Rattle.automata_hybrid.specs.Searches.Passes.{WithoutBase, without_base}
 use Rattle.regex_automata.specs.Regexes.SoundPairs.{forward_engine}
 use Rattle.regex_automata.specs.Spans.Contracts.{IsSpanOf, IsTruthOf}
+use Rattle.regex_automata.specs.Spans.Iteration.{IsNextMatch}
 use Rattle.regex_automata.specs.declared.hybrid.regex.Regex.{Regex}
 use Rattle.example_meaning.specs.Agreeing.{Each, HasNoUnicodeLook, HasSameLooks}
-use Rattle.example_meaning.specs.Patterns.{find_all_any, find_any, match_of, span_input}
+use Rattle.example_meaning.specs.Patterns.{IsFirstLeft, end_of, find_any, left_any, match_of, span_input}
 use Rattle.example_meaning.proofs.Ascii.{same_looks_ascii}
-use Rattle.example_meaning.proofs.Iterations.{all_are, span_is, truth_is}
+use Rattle.example_meaning.proofs.Iterations.{item_left, span_is, truth_is}
 use Rattle.example_meaning.proofs.Looking.{same_looks}
 use Rattle.example_meaning.proofs.Means.{any_means}
+use Rattle.example_patterns.specs.Iteration.{IsNextMeant, rest_of}
 use Rattle.example_patterns.specs.Patterns.{IsFor, IsRegexOf}
 use Rattle.example_patterns.specs.declared.compile.Options.{Options}
 
@@ -61,15 +68,25 @@ module _ (p : Regex) (o : Options) (res : List Re) (is : IsRegexOf o res p) (hay
   truth_means (Ok truth) h =
       truth_is (forward_engine p) res hay (find_any o.utf8 res hay) spans 0 truth (h.answer is.0.cycles)
 
-  all_of : (utf8 : Bool) (ms : List Match) →
-      ((s : ℕ) → IsSpan (forward_engine p) (span_input hay s (length hay)) (option_map (match_of res hay) (find_any utf8 res hay s))) →
-      AreSpans (forward_engine p) (span_input hay 0 (length hay)) ms → ms ≡ map (match_of res hay) (find_all_any utf8 res hay)
-  all_of true ms each h = all_are (forward_engine p) res hay (find_any true res hay) each ms h
-  all_of false ms each h = all_are (forward_engine p) res hay (find_any false res hay) each ms h
+  -- a forward search has its end
+  end_is : (s : ℕ) (answer : Option Half) → IsAnswer Forward (forward_engine p) (span_input hay s (length hay)) answer →
+      (m : Option kit_find.Match) → IsSpan (forward_engine p) (span_input hay s (length hay)) (option_map (match_of res hay) m) →
+      option_map without_base answer ≡ option_map (end_of res hay) m
+  end_is s answer a None h = ap (option_map without_base) (answer_once Forward (forward_engine p) (span_input hay s (length hay)) answer None a h)
+  end_is s answer a (Some m) h =
+      ap (option_map without_base) (answer_once Forward (forward_engine p) (span_input hay s (length hay)) answer (Some h.0) a h.5)
+      ∙ ap₂ (λ number end. Some (record { pattern = number; offset = end })) (sym h.10) (sym h.12)
 
-  pub all_mean : (ms : List Match) → AreSpans (forward_engine p) (span_input hay 0 (length hay)) ms →
-      ms ≡ map (match_of res hay) (find_all_any o.utf8 res hay)
-  all_mean ms h = all_of o.utf8 ms spans h
+  pub end_means : (s : ℕ) (found : Option HalfMatch) →
+      WithoutBase (IsAnswer Forward (forward_engine p) (span_input hay s (length hay))) found →
+      found ≡ option_map (end_of res hay) (find_any o.utf8 res hay s)
+  end_means s found (answer, a, same) = same ∙ end_is s answer a (find_any o.utf8 res hay s) (spans s)
+
+  -- the next match is the first of those that are left
+  pub next_means : (begin : ℕ) (last : Option ℕ) (found : Option Match) →
+      IsNextItem (IsSpan (forward_engine p)) (span_input hay begin (length hay)) (unwrap_or last 0) last found →
+      IsFirstLeft (left_any o.utf8 res hay) last found
+  next_means begin last found h = item_left (forward_engine p) res hay (find_any o.utf8 res hay) spans begin last found h
 
 -- for every meaning that the regex is of
 pub found_means : (p : Regex) (hay : List ℕ) (s : ℕ) (input : Input) (r : Result (Option Match) SearchError) →
@@ -90,16 +107,30 @@ truth_found p hay input (Ok truth) same bytes h = λ o res is for.
     truth_means p o res is hay for (subst (λ (v : Input). IsHaystack v.haystack) same bytes) (Ok truth)
     (subst (λ v. IsTruthOf p v (Ok truth)) same h)
 
-pub all_found : (p : Regex) → ReportedIsRight p.forward.nfa → ReportedEndsAreRight p.reverse.nfa → StartsAreRight →
-    (hay : List ℕ) (input : Input) (r : Result (Vec Match Global) SearchError) → input ≡ span_input hay 0 (length hay) →
-    IsHaystack input.haystack → input.end ≤ length input.haystack →
-    IfOk r (λ found. AreMatches (FindsMatch p) input input.start None found.items) →
+pub end_found : (p : Regex) (hay : List ℕ) (s : ℕ) (input : Input) (r : Result (Option HalfMatch) SearchError) →
+    input ≡ span_input hay s (length hay) → IsHaystack input.haystack → IsHalf Forward p.forward input r →
     IfOk r (λ found. (o : Options) (res : List Re) → IsRegexOf o res p → IsFor o hay →
-    found.items ≡ map (match_of res hay) (find_all_any o.utf8 res hay))
-all_found p front ends starts hay input (Err e) same bytes within h = tt
-all_found p front ends starts hay input (Ok found) same bytes within h = λ o res is for.
-    all_mean p o res is hay for (subst (λ (v : Input). IsHaystack v.haystack) same bytes) found.items
-    (subst (λ v. AreSpans (forward_engine p) v found.items) same
-    (matches_right (FindsMatch p) (IsSpan (forward_engine p)) input
+    found ≡ option_map (end_of res hay) (find_any o.utf8 res hay s))
+end_found p hay s input (Err e) same bytes h = tt
+end_found p hay s input (Ok found) same bytes h = λ o res is for.
+    end_means p o res is hay for (subst (λ (v : Input). IsHaystack v.haystack) same bytes) s found
+    (subst (λ v. WithoutBase (IsAnswer Forward (forward_engine p) v) found) same (h.answer is.0.cycles))
+
+-- if what searches find is right, the next item is right
+item_right : (F G : Input → Option Match → Type 0) (input : Input)
+    (right : (start : ℕ) (o : Option Match) → F (from start input) o → G (from start input) o) →
+    (start : ℕ) (last : Option ℕ) (o : Option Match) → IsNextItem F input start last o → IsNextItem G input start last o
+item_right F G input right start last None h = matches_right F G input right start last [] h
+item_right F G input right start last (Some m) h = (first_right F G input right start last (m ∷ []) (h, tt)).0
+
+pub next_found : (p : Regex) → ReportedIsRight p.forward.nfa → ReportedEndsAreRight p.reverse.nfa → StartsAreRight →
+    (hay : List ℕ) (last : Option ℕ) (input : Input) (r : Result (Option Match) SearchError) → input ≡ rest_of hay last →
+    IsHaystack input.haystack → input.end ≤ length input.haystack → IfOk r (IsNextMatch p input last) →
+    IfOk r (IsNextMeant p hay last)
+next_found p front ends starts hay last input (Err e) same bytes within h = tt
+next_found p front ends starts hay last input (Ok found) same bytes within h = λ o res is for.
+    next_means p o res is hay for (subst (λ (v : Input). IsHaystack v.haystack) same bytes) (unwrap_or last 0) last found
+    (subst (λ (v : Input). IsNextItem (IsSpan (forward_engine p)) v v.start last found) same
+    (item_right (FindsMatch p) (IsSpan (forward_engine p)) input
     (λ start m f. match_right p front ends starts is.0 (from start input) (bytes, within) m f)
-    input.start None found.items h))
+    input.start last found h))

@@ -36,11 +36,15 @@ AreMeanings config (text ∷ texts) (re ∷ res) = IsMeaning config text re × A
 abbrev pub AreNfasOf : Options → List kit_nfa.Nfa → List Re → Type 0
 AreNfasOf options ks res = ImplementAll ks res × Each (λ k. options.ascii ≡ false → HasNoUnicodeLook k) ks
 
+-- the NFA joins NFAs that find what these patterns mean
+abbrev pub IsJoinedNfa : Options → List Re → Automaton → Type 0
+IsJoinedNfa options res nfa =
+    (ks : List kit_nfa.Nfa) × AreNfasOf options ks res × (engine_of nfa LeftmostFirst ≡ engine options.utf8 ks)
+
 -- the NFA is that of the patterns of these texts
 abbrev pub IsNfaOf : Options → (texts : List (List ℕ)) → Automaton → Type 0
 IsNfaOf options texts nfa =
-    (res : List Re) × (ks : List kit_nfa.Nfa) × AreMeanings (config_of options) texts res × AreNfasOf options ks res
-    × (engine_of nfa LeftmostFirst ≡ engine options.utf8 ks)
+    (res : List Re) × AreMeanings (config_of options) texts res × IsJoinedNfa options res nfa
 
 -- the regex is a sound pair that searches for what the patterns mean
 abbrev pub IsRegexOf : Options → List Re → Regex → Type 0

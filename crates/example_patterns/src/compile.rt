@@ -26,8 +26,8 @@ pub struct Options {
     pub case_insensitive: bool,
     /// Whether text is searched: no match splits a character. Otherwise bytes are searched.
     pub utf8: bool,
-    /// Whether the text is ASCII. Then a pattern may have a word boundary of Unicode, and a search that comes to
-    /// another byte may fail. Otherwise such a pattern is refused.
+    /// Whether the text is ASCII. Then a pattern may have a word boundary of Unicode; over other text a search for it
+    /// may fail, and nothing is promised of what it finds. Otherwise such a pattern is refused.
     pub ascii: bool,
     /// How many bytes the tables of all patterns may take.
     pub size_limit: usize,

@@ -13,9 +13,11 @@
 
 mod compile;
 mod error;
+mod matches;
 mod pattern;
 mod translate;
 
 pub use compile::{Options, nfa_of};
 pub use error::{Fault, PatternError};
+pub use matches::Matches;
 pub use pattern::Pattern;

@@ -1,23 +1,26 @@
 //! Patterns, to be searched for.
-ghost use Rattle.std.specs.Prelude.{◌≡◌, ◌≤◌, List, [], ◌∷◌, IfOk, None, is_some, length, map, option_map};
+ghost use Rattle.std.specs.Prelude.{◌≡◌, ◌≤◌, List, [], ◌∷◌, IfErr, IfOk, IfSome, None, false, is_some, length, map};
+ghost use Rattle.std.specs.Prelude.{option_map};
+ghost use Rattle.std.specs.Option.{unwrap_or};
 ghost use Rattle.regex_hir.specs.Re.{Re};
-ghost use Rattle.automata_base.specs.Answers.Spans.{AreMatches};
-ghost use Rattle.regex_automata.specs.Spans.Outcomes.{FindsMatch};
+ghost use Rattle.regex_automata.specs.Spans.Iteration.{GoesPast, IsNextRefusal};
 ghost use Rattle.automata_config.specs.Options.{overwritten, unset};
-ghost use Rattle.regex_automata.specs.Promises.{AreCachesOf, IsSoundPair, IsSpanOf, IsTruthOf};
+ghost use Rattle.regex_automata.specs.Promises.{AreCachesOf, Forward, IsHalf, IsSoundPair, IsSpanOf, IsTruthOf};
 ghost use Rattle.regex_automata.specs.Regexes.Builds.{BuildsOne};
-ghost use Rattle.example_meaning.specs.Patterns.{find_all_any, find_any, match_of, span_input};
-ghost use Rattle.example_patterns.specs.Patterns.{IsFor, IsPatternOf, IsRegexOf};
+ghost use Rattle.example_meaning.specs.Patterns.{end_of, find_any, match_of, span_input};
+ghost use Rattle.example_patterns.specs.Iteration.{IsNextMeant, rest_of};
+ghost use Rattle.example_patterns.specs.Patterns.{IsFor, IsJoinedNfa, IsPatternOf, IsRegexOf};
 ghost use Rattle.example_patterns.specs.declared.compile.Options as options;
 
 use crate::compile::{Options, nfa_of};
 use crate::error::{Fault, PatternError};
+use crate::matches::Matches;
 use regex_automata::hybrid::SearchError;
 use regex_automata::hybrid::dfa::{Config, DFA};
 use regex_automata::hybrid::regex::{Cache, Regex, RegexBuildError};
 use regex_automata::laws::{reported_is_right, start_is_right};
 use regex_automata::nfa::thompson::NFA;
-use regex_automata::util::search::{Input, Match};
+use regex_automata::util::search::{HalfMatch, Input, Match};
 use std::alloc::{AllocError, Global};
 
 /// One pattern, or several. Of several a match is of the first that matches where it begins, and has that one's number.
@@ -43,6 +46,14 @@ fn regex_of(nfa: NFA, config: Config) -> Result<Regex, RegexBuildError>
     builder.build_from_nfa(nfa)
 }
 
+/// The haystack from an offset on.
+fn rest<'h>(hay: &'h [u8], start: usize) -> Input<'h>
+    requires { start ≤ length hay.now }
+    ensures { result ≡ span_input hay.now start (length hay.now) }
+{
+    Input::new(hay).range(start..hay.len())
+}
+
 impl Pattern {
     /// The pattern of a text.
     pub fn new(alloc: Global, text: &str, options: &Options) -> Result<Pattern, PatternError>
@@ -57,14 +68,23 @@ impl Pattern {
             IsPatternOf options.now (map (λ text. text.now) texts.now) pattern.regex) }
     {
         let nfa = nfa_of(alloc, texts, options)?;
-        let config = DFA::config().unicode_word_boundary(options.ascii);
-        match regex_of(nfa, config) {
-            Ok(regex) => Ok(Pattern { regex }),
+        match Pattern::from_nfa(nfa, options) {
+            Ok(pattern) => Ok(pattern),
             Err(error) => {
                 let fault = Fault::Unbuilt(error);
                 Err(PatternError { number: 0, fault })
             }
         }
+    }
+
+    /// The patterns of an NFA that `nfa_of` made under these options. It fails if no regex can be built of it.
+    pub fn from_nfa(nfa: NFA, options: &Options) -> Result<Pattern, RegexBuildError>
+        ensures { IfOk result (λ pattern. (res : List Re) → IsJoinedNfa options.now res nfa
+            → IsRegexOf options.now res pattern.regex) }
+    {
+        let config = DFA::config().unicode_word_boundary(options.ascii);
+        let regex = regex_of(nfa, config)?;
+        Ok(Pattern { regex })
     }
 
     /// A cache for its searches, which serves one search after another.
@@ -103,51 +123,73 @@ impl Pattern {
             → IsRegexOf o res self.now.regex → IsFor o hay.now
             → found ≡ option_map (match_of res hay.now) (find_any o.utf8 res hay.now start)) }
     {
-        let input = Input::new(hay).range(start..hay.len());
+        let input = rest(hay, start);
         let _haystack = input.haystack();
         self.regex.find(cache, &input)
     }
 
-    /// All matches of the haystack, one after another. An empty match at the end of the one before it is none of them.
-    pub fn find_all(
+    /// The end of the match that `find` returns, and its pattern. The forward DFA alone searches for it, so that it
+    /// costs less than `find`, and fails as a search of that DFA does. Rust's regex crate may return an earlier end.
+    pub fn shortest_match(
         &self,
-        alloc: Global,
         cache: &mut Cache,
         hay: &[u8],
-    ) -> Result<Vec<Match>, SearchError>
-        requires { AreCachesOf cache.old self.now.regex }
+        start: usize,
+    ) -> Result<Option<HalfMatch>, SearchError>
+        requires of { AreCachesOf cache.old self.now.regex }
+        requires within { start ≤ length hay.now }
         ensures of { AreCachesOf cache.new self.now.regex }
+        ensures returned { IsHalf Forward self.now.regex.forward (span_input hay.now start (length hay.now)) result }
         ensures found { IfOk result (λ found. (o : options.Options) (res : List Re)
             → IsRegexOf o res self.now.regex → IsFor o hay.now
-            → found.items ≡ map (match_of res hay.now) (find_all_any o.utf8 res hay.now)) }
+            → found ≡ option_map (end_of res hay.now) (find_any o.utf8 res hay.now start)) }
+    {
+        let left = rest(hay, start);
+        let _haystack = left.haystack();
+        self.regex
+            .forward()
+            .try_search_fwd(cache.forward_mut(), &left)
+    }
+
+    /// The match after one that ended at `last`, which is not an empty match there; the first match if `last` is none.
+    pub(crate) fn next_match(
+        &self,
+        cache: &mut Cache,
+        hay: &[u8],
+        last: Option<usize>,
+    ) -> Result<Option<Match>, SearchError>
+        requires of { AreCachesOf cache.old self.now.regex }
+        requires within { unwrap_or last 0 ≤ length hay.now }
+        ensures of { AreCachesOf cache.new self.now.regex }
+        ensures found { IfOk result (IsNextMeant self.now.regex hay.now last) }
+        ensures past { IfOk result (λ o. IfSome o (GoesPast self.now.regex (rest_of hay.now last) last)) }
+        ensures refusal { IfErr result (IsNextRefusal self.now.regex cache.new (rest_of hay.now last) last) }
     {
         reported_is_right(self.regex.forward().get_nfa());
         reported_is_right(self.regex.reverse().get_nfa());
         start_is_right();
-        let input = Input::new(hay);
+        let input = rest(hay, last.unwrap_or(0));
         let _haystack = input.haystack();
-        collect(alloc, &self.regex, cache, input)
+        self.regex.next_match(cache, &input, last)
     }
-}
 
-/// The matches of an input, by what the passes of the two DFAs report.
-fn collect(
-    alloc: Global,
-    regex: &Regex,
-    cache: &mut Cache,
-    input: Input<'_>,
-) -> Result<Vec<Match>, SearchError>
-    requires { AreCachesOf cache.old regex.now }
-    ensures of { AreCachesOf cache.new regex.now }
-    ensures found { IfOk result (λ found.
-        AreMatches (FindsMatch regex.now) input.entry input.entry.start None found.items) }
-{
-    let mut found = Vec::new(alloc);
-    for item in regex.find_iter(cache, input) {
-        match item {
-            Ok(next) => found.push(next)?,
-            Err(error) => return Err(error),
-        }
+    /// The matches of the haystack, one after another. An empty match at the end of the one before it is none of them.
+    ///
+    /// If a search fails, its error is the last item: the items before it are the first of the matches. Afterwards the
+    /// cache serves other searches as before.
+    pub fn find_iter<'p, 'c, 'h>(
+        &'p self,
+        cache: &'c mut Cache,
+        hay: &'h [u8],
+    ) -> Matches<'p, 'c, 'h>
+        requires { AreCachesOf cache.old self.now.regex }
+        ensures same_cache { result.cache.ghost_name ≡ cache.entry.ghost_name }
+        ensures cache { result.cache.now ≡ cache.old }
+        ensures pattern { result.pattern.now ≡ self.now }
+        ensures haystack { result.haystack.now ≡ hay.now }
+        ensures last { result.last ≡ None }
+        ensures ended { result.ended ≡ false }
+    {
+        Matches::new(self, cache, hay)
     }
-    Ok(found)
 }

@@ -1,9 +1,12 @@
-use Rattle.std.proofs.Common.{◌≡◌}
+use Rattle.std.proofs.Common.{◌≡◌, false}
+use Rattle.example_grep.proofs.Printing.{Prints}
 use Rattle.example_grep.proofs.spans.SpanSearcher.push_matches.Given as goal
 
 abbrev pub invariant-loop-found : goal.invariant-loop-found
 invariant-loop-found l = record {
-  regex : l.found-iterator.regex.now ≡ l.fn.self.regex;
+  shown : Prints l.fn.self.pattern.regex l.fn.prefix l.fn.line l.fn.shown.items l.shown.items l.found-iterator.last;
+  pattern : l.found-iterator.pattern.now ≡ l.fn.self.pattern;
   haystack : l.found-iterator.haystack.now ≡ l.fn.line;
+  going : l.found-iterator.ended ≡ false;
   same_cache : l.found-iterator.cache.ghost_name ≡ l.initial.found-iterator.cache.ghost_name;
 }

@@ -1,0 +1,29 @@
+use Rattle.std.proofs.Common.{◌∙◌, ap, length, subst}
+use Rattle.std.specs.Prelude.{IfErr, IfOk, IfSome}
+use Rattle.automata_base.specs.Answers.OfPasses.{ReportedEndsAreRight, ReportedIsRight}
+use Rattle.automata_base.specs.Haystacks.Input.{Input}
+use Rattle.automata_base.specs.Nfas.Nodes.{Automaton}
+use Rattle.automata_hybrid.specs.Machines.Machine.{Machine}
+use Rattle.regex_automata.specs.Spans.Iteration.{GoesPast, IsNextRefusal}
+use Rattle.example_meaning.specs.Patterns.{span_input}
+use Rattle.example_patterns.proofs.Searching.{next_found}
+use Rattle.example_patterns.proofs.pattern.Pattern.next_match.Goals as goal
+
+pub returns-clause-found : goal.returns-clause-found
+returns-clause-found c =
+    next_found c.args.self.now.regex
+    (subst (λ (a : Automaton). ReportedIsRight a) (c.get_nfa.ensures ∙ ap (λ (m : Machine). m.nfa) c.forward.ensures) c.reported_is_right.ensures.answer)
+    (subst (λ (a : Automaton). ReportedEndsAreRight a) (c.get_nfa-2.ensures ∙ ap (λ (m : Machine). m.nfa) c.reverse.ensures) c.reported_is_right-2.ensures.ends)
+    c.start_is_right.ensures.starts c.args.hay.now c.args.last c.rest-input.result c.next_match.result
+    (c.rest-input.ensures ∙ ap (λ n. span_input c.args.hay.now n (length c.args.hay.now)) c.unwrap_or.ensures)
+    c.haystack-haystack.ensures.bytes c.haystack-haystack.ensures.within.1 c.next_match.ensures.next
+
+pub returns-clause-past : goal.returns-clause-past
+returns-clause-past c =
+    subst (λ (v : Input). IfOk c.next_match.result (λ o. IfSome o (GoesPast c.args.self.now.regex v c.args.last)))
+    (c.rest-input.ensures ∙ ap (λ n. span_input c.args.hay.now n (length c.args.hay.now)) c.unwrap_or.ensures) c.next_match.ensures.goes_on
+
+pub returns-clause-refusal : goal.returns-clause-refusal
+returns-clause-refusal c =
+    subst (λ (v : Input). IfErr c.next_match.result (IsNextRefusal c.args.self.now.regex c.next_match.new.cache v c.args.last))
+    (c.rest-input.ensures ∙ ap (λ n. span_input c.args.hay.now n (length c.args.hay.now)) c.unwrap_or.ensures) c.next_match.ensures.refusal
