@@ -5,6 +5,7 @@ pub mod Agreement
 pub mod Costs
 pub mod Cached
 pub mod Progress
+pub mod Follows
 pub mod PassState
 pub mod PassContracts
 pub mod Units

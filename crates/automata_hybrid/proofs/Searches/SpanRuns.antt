@@ -1,6 +1,5 @@
 -- What a search makes of its cache, span after span.
-use Rattle.std.proofs.Common.{ℕ, suc, ◌≡◌, ◌+◌, ◌<◌, ◌≤◌, subst, arith}
-use Rattle.std.specs.Prelude.{Ok, Err}
+use Rattle.std.proofs.Common.{ℕ, suc, ◌≡◌, ◌+◌, ◌<◌, ◌≤◌, None, Some, subst, arith}
 use Rattle.automata_base.specs.Answers.Answers.{Tries, later}
 use Rattle.automata_base.specs.Haystacks.Input.{Input}
 use Rattle.automata_base.specs.declared.util.search.Direction.{Direction}
@@ -15,11 +14,8 @@ use Rattle.automata_hybrid.proofs.Searches.Progress.{spans_before, spans_tried}
 module _ (way : Direction) (m : Machine) (input : Input) (k : ℕ) (tries : Tries (Finds way m) (Skips m) way input k)
     (old between : CacheView) (ended : HaveEnded way m input k old between) where
   -- and tries no other one
-  pub run_before : {T : Type 0} (answer : T) → input.end < input.start + k → IsSearchRun way m input old between (Ok answer)
-  run_before answer past = record {
-    ended = (k, spans_before way m input k tries, (λ next. omega (arith, past, next.1)), ended);
-    left = tt;
-  }
+  pub run_before : input.end < input.start + k → IsSearchRun way m input old between None
+  run_before past = (k, spans_before way m input k tries, (λ next. omega (arith, past, next.1)), ended)
 
   -- and the pass over it
   module _ (now : Input) (same : now ≡ later way k input) (within : input.start + k ≤ input.end) (new : CacheView) where
@@ -31,23 +27,18 @@ module _ (way : Direction) (m : Machine) (input : Input) (k : ℕ) (tries : Trie
 
     -- which is the last one
     pub run_after :
-        {T : Type 0} (answer : T) → HasEnded way m now between new
+        HasEnded way m now between new
         → ((j : ℕ) → suc k ≤ j → Tries (Finds way m) (Skips m) way input j → input.start + j ≤ input.end → ⊥)
-        → IsSearchRun way m input old new (Ok answer)
-    run_after answer pass stops = record {
-      ended = (suc k, spans_tried way m input k tries within, (λ next. stops (suc k) (omega arith) next.0 next.1), spans_ended pass);
-      left = tt;
-    }
+        → IsSearchRun way m input old new None
+    run_after pass stops =
+        (suc k, spans_tried way m input k tries within, (λ next. stops (suc k) (omega arith) next.0 next.1), spans_ended pass)
 
     -- which failed
-    pub run_refused : {T : Type 0} (e : SearchError) → IsLeft way m now between new e → IsSearchRun {T = T} way m input old new (Err e)
-    run_refused e left = record {
-      ended = tt;
-      left = (
-        k,
-        between,
-        spans_tried way m input k tries within,
-        ended,
-        subst (λ (i : Input). IsLeft way m i between new e) same left,
-      );
-    }
+    pub run_refused : (e : SearchError) → IsLeft way m now between new e → IsSearchRun way m input old new (Some e)
+    run_refused e left = (
+      k,
+      between,
+      spans_tried way m input k tries within,
+      ended,
+      subst (λ (i : Input). IsLeft way m i between new e) same left,
+    )

@@ -3,14 +3,13 @@ use Rattle.std.specs.Prelude.{ℕ, zero, suc, ◌≡◌, ◌+◌, ◌-◌, ◌*�
 use Rattle.automata_base.specs.Answers.Answers.{later}
 use Rattle.automata_base.specs.Haystacks.Input.{Input}
 use Rattle.automata_base.specs.declared.util.search.Direction.{Direction}
-use Rattle.automata_base.specs.declared.util.search.Direction.TheVariants.{Forward}
 use Rattle.automata_base.specs.declared.util.search.Anchored.TheVariants.{No}
 use Rattle.automata_hybrid.specs.Cache.Caches.{CacheView}
 use Rattle.automata_hybrid.specs.Cache.Growth.{HasRoom}
 use Rattle.automata_hybrid.specs.Searches.Cached.{KnowsItsStart}
 use Rattle.automata_hybrid.specs.Machines.Machine.{Machine}
 use Rattle.automata_hybrid.specs.Searches.Passes.{Skips}
-use Rattle.automata_hybrid.specs.Searches.Progress.{TriesSpans}
+use Rattle.automata_hybrid.specs.Searches.Progress.{HaveTried, TriesSpans}
 
 -- the most determinizations of so many passes, the first over so many bytes and each later one over one byte less: a
 -- pass determinizes at most once for each byte, for its start and at its end
@@ -60,6 +59,8 @@ SearchesCostFew =
     → ((Skips m × (input.anchored ≡ No) → ⊥) → new.count ≤ old.count + (input.end - input.start + 2))
     × (new.count ≤ old.count + (input.end - input.start + 1) * (input.end - input.start + 2))
 
--- a forward search with an answer costs its passes up to the span that gave it, which begins at a base
-abbrev pub IsCostUpto : Machine → Input → (base : ℕ) → (old new : CacheView) → Type 0
-IsCostUpto m input base old new = IsCostOfPasses Forward m input (base - input.start + 1) old new
+-- What passes cost that have ended one after another, each over the next span that is tried.
+abbrev pub PassesCost : Type 0
+PassesCost =
+    (way : Direction) (m : Machine) (input : Input) (passes : ℕ) (old new : CacheView)
+    → HaveTried way m input passes old new → IsCostOfPasses way m input passes old new

@@ -12,7 +12,7 @@ ghost use Rattle.automata_hybrid.specs.Searches.PassContracts.{IsUnderway, input
 ghost use Rattle.automata_hybrid.specs.Searches.PassState.{HasRun, IsAt, IsMet};
 ghost use Rattle.automata_hybrid.specs.Searches.Units.{IsEndProgress, IsStillProgress};
 ghost use Rattle.automata_hybrid.specs.Searches.Progress.{EndsAtLast, IsPassRun, IsStoppedAt, KeepsNone};
-ghost use Rattle.automata_hybrid.specs.Searches.Passes.{IsPassRefusal, IsUnitRefusal};
+ghost use Rattle.automata_hybrid.specs.Searches.Passes.{IsUnitRefusal};
 ghost use Rattle.automata_hybrid.specs.Cache.Table.{Names};
 
 use crate::dfa::DFA;
@@ -79,7 +79,6 @@ impl DFA {
         requires open { input.now.start ≤ input.now.end }
         ensures of { IsCacheOf cache.new self.now }
         ensures answer { IfOk result (IsPassAnswer way self.now input.now) }
-        ensures refusal { IfErr result (IsPassRefusal way self.now cache.new.store input.now) }
         ensures unsupported { IsUnsupported way self.now input.now
             → result ≡ Err (unsupported_error input.now) }
         ensures effect { IsPassRun way self.now input.now cache.old cache.new result }
@@ -139,8 +138,6 @@ impl DFA {
         ensures of { IsCacheOf cache.new self.now }
         ensures answer { IfOk result (IsPassAnswer way self.now
             (input_at haystack.now span anchored earliest)) }
-        ensures refusal { IfErr result (IsPassRefusal way self.now cache.new.store
-            (input_at haystack.now span anchored earliest)) }
         ensures unsupported { let input = input_at haystack.now span anchored earliest in
             IsUnsupported way self.now input → result ≡ Err (unsupported_error input) }
         ensures effect { IsPassRun way self.now
@@ -162,7 +159,6 @@ impl DFA {
         requires open { input.now.start ≤ input.now.end }
         ensures of { IsCacheOf cache.new self.now }
         ensures answer { IfOk result (IsPassAnswer way self.now input.now) }
-        ensures refusal { IfErr result (IsPassRefusal way self.now cache.new.store input.now) }
         ensures unsupported { IsUnsupported way self.now input.now
             → result ≡ Err (unsupported_error input.now) }
         ensures effect { IsPassRun way self.now input.now cache.old cache.new result }
@@ -268,8 +264,6 @@ impl DFA {
         ensures of { IsCacheOf cache.new self.now }
         ensures answer { IfOk result (IsPassAnswer way self.now
             (input_at haystack.now span anchored earliest)) }
-        ensures refusal { IfErr result (IsPassRefusal way self.now cache.new.store
-            (input_at haystack.now span anchored earliest)) }
         ensures ended { OnOk result (EndsAtLast way self.now
             (input_at haystack.now span anchored earliest) cache.old cache.new) }
         ensures left { IfErr result (IsStoppedAt way self.now
@@ -298,7 +292,6 @@ impl DFA {
         requires at { IsKnownUpto way self.now cache.old.store input.now from start before }
         ensures of { IsCacheOf cache.new self.now }
         ensures answer { IfOk result (IsPassAnswer way self.now input.now) }
-        ensures refusal { IfErr result (IsPassRefusal way self.now cache.new.store input.now) }
         ensures ended { OnOk result (EndsAtLast way self.now input.now cache.old cache.new) }
         ensures left { IfErr result (IsStoppedAt way self.now input.now cache.old cache.new) }
     {

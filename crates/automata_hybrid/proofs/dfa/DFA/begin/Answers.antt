@@ -1,7 +1,6 @@
 use Rattle.std.proofs.Common.{◌≡◌, ◌∙◌, ap, None, refl, sym, subst, inl, inr, arith}
-use Rattle.std.specs.Prelude.{IfErr}
 use Rattle.automata_base.specs.Haystacks.Input.{Allows, Input}
-use Rattle.std.proofs.lemmas.Result.{IfErr-weaker, IfOk-weaker}
+use Rattle.std.proofs.lemmas.Result.{IfOk-weaker}
 use Rattle.automata_base.specs.Powersets.Powerset.{dead}
 use Rattle.automata_base.specs.declared.util.search.Direction.{Direction}
 use Rattle.automata_hybrid.specs.Cache.Caches.{CacheView}
@@ -9,7 +8,7 @@ use Rattle.automata_hybrid.specs.Machines.Machine.{Machine, slot_count}
 use Rattle.automata_hybrid.specs.Searches.PassContracts.{IsKnownUpto}
 use Rattle.automata_hybrid.specs.Calls.Events.{Begin, with_progress}
 use Rattle.automata_hybrid.specs.Searches.Progress.{EndsAtLast, IsPassRun, IsStoppedAt, with_search_begun, with_search_ended}
-use Rattle.automata_hybrid.specs.Searches.Passes.{IsPassRefusal, Reads, behind_offset, given_up_offset, state_in, tape_in}
+use Rattle.automata_hybrid.specs.Searches.Passes.{Reads, behind_offset, given_up_offset, state_in, tape_in}
 use Rattle.automata_hybrid.specs.Cache.Table.{Rows, Names}
 use Rattle.automata_hybrid.proofs.Searches.Directions.{begins_alive, begins_dead}
 use Rattle.automata_hybrid.proofs.Searches.PassContracts.{same_input}
@@ -19,7 +18,7 @@ use Rattle.automata_hybrid.proofs.Steps.Starts.{refusal_at}
 use Rattle.automata_base.specs.Answers.Answers.{offset_in}
 use Rattle.automata_hybrid.proofs.Searches.Reads.{at_err}
 use Rattle.automata_hybrid.proofs.Searches.UnitsRead.{ended_here, pass_dies, start_had, unstarted}
-use Rattle.automata_hybrid.proofs.Searches.PassState.{at_reads, clean_start, false_true, if_both, place_refuses, starts_at}
+use Rattle.automata_hybrid.proofs.Searches.PassState.{at_reads, clean_start, false_true, if_both, starts_at}
 use Rattle.automata_hybrid.proofs.Searches.PassState.{starts_dead, stops_start}
 use Rattle.automata_hybrid.proofs.dfa.DFA.begin.Goals as goal
 
@@ -137,16 +136,6 @@ returns-then-keeps_none-clause-effect c =
           c.find_still.ensures.refusal c.find_still.ensures.progress.left;
     }
 
-pub returns-then-keeps_none-clause-refusal : goal.returns-then-keeps_none-clause-refusal
-returns-then-keeps_none-clause-refusal c =
-    let d : Direction = c.args.way in
-    IfErr-weaker c.find_still.result _ _
-    (λ error refused. place_refuses d c.args.self.now c.walk_start.new.cache.store.table c.find_still.new.cache.store c.args.input.now 0 c.in-Ok.start None error
-    (starts_at d c.args.self.now c.walk_start.new.cache.store.table c.args.input.now c.in-Ok.start
-    (begins_alive d c.args.self.now c.walk_start.new.cache.store.table c.args.input.now c.in-Ok.start c.in-Ok.ensures.answer.named (c.see_bounds-2.ensures.sound.low c.in-Ok.start) c.see_bounds-2.ensures.sound.small (λ b. false_true (c.if-is_dead.ensures.1 b))))
-    (omega arith) (c.see_bounds-2.ensures.sound.alive c.in-Ok.start) c.in-Ok.ensures.answer.may.0 refused)
-    c.find_still.ensures.refusal
-
 pub returns-clause-effect : goal.returns-clause-effect
 returns-clause-effect c =
     let d : Direction = c.args.way in
@@ -183,9 +172,3 @@ returns-in_err-found-clause-effect c =
         ),
       );
     })
-
-pub returns-in_err-found-clause-refusal : goal.returns-in_err-found-clause-refusal
-returns-in_err-found-clause-refusal c =
-    let d : Direction = c.args.way in
-    at_err c.from_residual.result _ (λ r. IfErr r (IsPassRefusal d c.args.self.now c.rest.new.cache.store c.args.input.now)) c.from_residual.ensures.1
-    (subst (λ (i : Input). IsPassRefusal d c.args.self.now c.rest.new.cache.store i c.in_err-found.field-0.0) (same_input c.args.input.now c.haystack.result.now c.get_span.result c.get_anchored.result c.get_earliest.result c.haystack.ensures.same c.get_span.ensures.start c.get_span.ensures.end c.get_anchored.ensures c.get_earliest.ensures) c.in_err-found.ensures.refusal)

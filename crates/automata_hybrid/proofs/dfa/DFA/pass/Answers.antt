@@ -1,7 +1,6 @@
 use Rattle.std.proofs.Common.{Option, ◌≡◌, ◌∙◌, ◌+◌, ◌<◌, ◌^◌, None, inr, length, ap, subst, sym, refl, arith}
 use Rattle.std.proofs.lemmas.Grind.{common_steps}
 use Rattle.std.specs.Prelude.{Err, Ok}
-use Rattle.automata_hybrid.specs.Searches.Passes.{IsPassRefusal}
 use Rattle.automata_base.specs.Haystacks.Input.{Allows, Input}
 use Rattle.automata_base.specs.Haystacks.Matches.{HalfMatch}
 use Rattle.automata_base.specs.declared.util.search.Direction.{Direction}
@@ -64,14 +63,6 @@ rest-requires-clause-at c =
       allowed = subst (λ (i : Input). Allows i.haystack i.start i.end) (sym same) c.get_span-2.ensures.within;
       upto = subst (λ (i : Input). IsKnownUpto d c.args.self.now c.search_start.new.self.store i c.known_pass-known.result.at c.known_pass-known.result.id c.again-before.result) (sym same) upto;
     }
-
-pub returns-in-Err-clause-refusal : goal.returns-in-Err-clause-refusal
-returns-in-Err-clause-refusal c =
-    subst (λ (i : Input). IsPassRefusal c.args.way c.args.self.now c.begin_of.new.cache.store i c.in-Err.error) (same_input c.args.input.now c.haystack.result.now c.get_span.result c.get_anchored.result c.get_earliest.result c.haystack.ensures.same c.get_span.ensures.start c.get_span.ensures.end c.get_anchored.ensures c.get_earliest.ensures) c.in-Err.ensures.refusal
-
-pub returns-in-Err-rest-clause-refusal : goal.returns-in-Err-rest-clause-refusal
-returns-in-Err-rest-clause-refusal c =
-    subst (λ (i : Input). IsPassRefusal c.args.way c.args.self.now c.rest.new.cache.store i c.in-Err-rest.error) (same_input c.args.input.now c.haystack-2.result.now c.get_span-2.result c.get_anchored-2.result c.get_earliest-2.result c.haystack-2.ensures.same c.get_span-2.ensures.start c.get_span-2.ensures.end c.get_anchored-2.ensures c.get_earliest-2.ensures) c.in-Err-rest.ensures.refusal
 
 pub returns-in-Ok-rest-clause-effect : goal.returns-in-Ok-rest-clause-effect
 returns-in-Ok-rest-clause-effect c =

@@ -1,7 +1,7 @@
-use Rattle.std.proofs.Common.{rules, ℕ, Option, subst}
+use Rattle.std.proofs.Common.{rules, ℕ, Option, Some, subst}
 use Rattle.std.specs.Prelude.{Err}
-use Rattle.regex_automata.specs.Spans.Effects.{IsNextEffect}
 use Rattle.regex_automata.specs.Spans.Iteration.{IsNextRefusal}
+use Rattle.regex_automata.specs.Spans.Runs.{IsNextRun}
 use Rattle.regex_automata.specs.declared.hybrid.regex.Regex.{Regex}
 use Rattle.lazydfa_c.specs.Calls.{regex_of}
 use Rattle.lazydfa_c.proofs.object.Searcher.go_on.Goals as goal
@@ -17,8 +17,8 @@ returns-in-Err c =
           subst (λ (l : Option ℕ). IsNextRefusal regex new input l e) c.last.ensures
           (subst (λ (r : Regex). IsNextRefusal r new input c.last.result e) c.deref.ensures c.in-Err.ensures.refusal);
       effect =
-          subst (λ (l : Option ℕ). IsNextEffect regex input l old new (Err e)) c.last.ensures
-          (subst (λ (r : Regex). IsNextEffect r input c.last.result old new (Err e)) c.deref.ensures
+          subst (λ (l : Option ℕ). IsNextRun regex input l old new (Some e)) c.last.ensures
+          (subst (λ (r : Regex). IsNextRun r input c.last.result old new (Some e)) c.deref.ensures
           c.in-Err.ensures.effect);
       same = search rules;
       iterated = search rules;

@@ -63,4 +63,4 @@ returns-in-IsMatch-clause-made c = λ h a.
     let s = c.args.self.now in
     let answer = reply.Truth c.is_match.result in
     subst (λ (q : Request). IsRequestEffect s.regexes.now h q answer s.cache c.is_match.new.cache) (sym c.in-IsMatch.is)
-    (is_made s.regexes.now h (request.IsMatch c.in-IsMatch.input) s.cache c.is_match.new.cache answer s.regex.now a.regex (c.is_match.ensures.found, c.is_match.ensures.effect, c.is_match.ensures.refusal))
+    (is_made s.regexes.now h (request.IsMatch c.in-IsMatch.input) s.cache c.is_match.new.cache answer s.regex.now a.regex (c.is_match.ensures.found, c.is_match.ensures.effect))
