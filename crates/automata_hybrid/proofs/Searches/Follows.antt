@@ -30,7 +30,7 @@ use Rattle.automata_hybrid.specs.Searches.Costs.{IsCostOfPass, IsCostOfPasses, I
 use Rattle.automata_hybrid.specs.Searches.Follows.{SearchFollows, SearchesFollow}
 use Rattle.automata_hybrid.specs.Searches.PassState.{HasLearnedUnit}
 use Rattle.automata_hybrid.specs.Searches.Passes.{Finds, HasReadNoQuit, IsPassRefusal, IsRefused, IsUnitRefusal, Reads, Skips, given_up_offset, state_in, tape_in}
-use Rattle.automata_hybrid.specs.Searches.Progress.{EndsAtLast, HasEnded, HasNoStart, HaveEnded, HaveTried, IsLeft, IsLeftAt, IsPassLeftAt}
+use Rattle.automata_hybrid.specs.Searches.Progress.{EndsAtLast, PassEnds, HasNoStart, PassesEnd, HaveTried, PassFails, IsLeftAt, IsPassLeftAt}
 use Rattle.automata_hybrid.specs.Searches.Progress.{IsSearchRun, SearchEnds, SearchFails, TriesSpan, TriesSpans}
 use Rattle.automata_hybrid.specs.Searches.Progress.{start_event, unit_event, unit_events, with_search_begun, with_search_ended, with_search_moved}
 use Rattle.automata_hybrid.specs.Steps.Starts.{IsStartRefusal, IsStartRefusalAt, MayStart, quit_behind, search_refusal}
@@ -212,7 +212,7 @@ module _ (way : Direction) (m : Machine) (input : Input) (old new : CacheView) (
           )))
 
   -- a pass has ended
-  pub pass_ended : {T : Type 0} (answer : T) → HasEnded way m input old new → PassFollows way m input old new (Ok answer)
+  pub pass_ended : {T : Type 0} (answer : T) → PassEnds way m input old new → PassFollows way m input old new (Ok answer)
   pass_ended answer (begun, starts, inl (keeps, inl (reads, read))) =
       let all : DoAll m (start_event way input ∷ unit_event way m input 0 ∷ []) old new = (begun, starts, do_one m (unit_event way m input 0) begun new read) in
       pass_follows (unit_event way m input 0 ∷ []) all answer (omega arith)
@@ -358,7 +358,7 @@ module _ (way : Direction) (m : Machine) (input : Input) (old new : CacheView) (
         }
 
   -- a pass has failed
-  pub pass_left : {T : Type 0} (e : SearchError) → IsLeft way m input old new e → PassFollows {T = T} way m input old new (Err e)
+  pub pass_left : {T : Type 0} (e : SearchError) → PassFails way m input old new e → PassFollows {T = T} way m input old new (Err e)
   pass_left e (inl (why, none)) = unstarted e _ _ why none
   pass_left e (inr (begun, starts, inl (keeps, reads, refused, left))) =
       let s = still_left way m input 0 begun new left in
@@ -384,7 +384,7 @@ module _ (way : Direction) (m : Machine) (input : Input) (old new : CacheView) (
 -- why a pass failed, by its run
 left_refused :
     (way : Direction) (m : Machine) (input : Input) (old new : CacheView) (e : SearchError)
-    → IsLeft way m input old new e → IsPassRefusal way m new.store input e
+    → PassFails way m input old new e → IsPassRefusal way m new.store input e
 left_refused way m input old new e (inl (why, none)) = inl why
 left_refused way m input old new e (inr (begun, starts, inl (keeps, reads, refused, left))) =
     inr (0, starts.0.0, reads, (λ j byte l unit. absurd (omega (arith, l))), refused)
@@ -451,7 +451,7 @@ module _ (way : Direction) (m : Machine) (input : Input) where
     }
 
   pub spans_follow :
-      (passes : ℕ) (old new : CacheView) → TriesSpans way m input passes → HaveEnded way m input passes old new
+      (passes : ℕ) (old new : CacheView) → TriesSpans way m input passes → PassesEnd way m input passes old new
       → SpansFollow way m input passes old new
   spans_follow zero old new tries (sound, same) = record {
     grown = grown_same old new same;
@@ -506,7 +506,7 @@ module _ (way : Direction) (m : Machine) (input : Input) where
             (λ j more tried within. stops (tries_before (Finds way m) (Skips m) way input passes j more tried, omega (arith, more, within)));
         known = λ knows. (f.grown.idle (f.known knows), tt);
         refused = tt;
-        done = λ over. (subst (λ n. HaveEnded way m input n old new → new ≡ old) (sym (none_done passes tries over)) (λ same. same.1)) ended;
+        done = λ over. (subst (λ n. PassesEnd way m input n old new → new ≡ old) (sym (none_done passes tries over)) (λ same. same.1)) ended;
       }
 
   -- and one that fails

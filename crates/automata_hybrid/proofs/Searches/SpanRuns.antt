@@ -7,38 +7,38 @@ use Rattle.automata_config.specs.declared.error.SearchError.{SearchError}
 use Rattle.automata_hybrid.specs.Cache.Caches.{CacheView}
 use Rattle.automata_hybrid.specs.Machines.Machine.{Machine}
 use Rattle.automata_hybrid.specs.Searches.Passes.{Finds, Skips}
-use Rattle.automata_hybrid.specs.Searches.Progress.{HasEnded, HaveEnded, HaveTried, IsLeft, IsSearchRun}
+use Rattle.automata_hybrid.specs.Searches.Progress.{PassEnds, PassesEnd, HaveTried, PassFails, IsSearchRun}
 use Rattle.automata_hybrid.proofs.Searches.Progress.{spans_before, spans_tried}
 
 -- a search has made the passes over the spans before the one that begins `k` places later
 module _ (way : Direction) (m : Machine) (input : Input) (k : ℕ) (tries : Tries (Finds way m) (Skips m) way input k)
-    (old between : CacheView) (ended : HaveEnded way m input k old between) where
+    (old between : CacheView) (ended : PassesEnd way m input k old between) where
   -- and tries no other one
   pub run_before : input.end < input.start + k → IsSearchRun way m input old between None
   run_before past = (k, spans_before way m input k tries, (λ next. omega (arith, past, next.1)), ended)
 
   -- and the pass over it
   module _ (now : Input) (same : now ≡ later way k input) (within : input.start + k ≤ input.end) (new : CacheView) where
-    pub spans_ended : HasEnded way m now between new → HaveEnded way m input (suc k) old new
-    spans_ended pass = (between, ended, subst (λ (i : Input). HasEnded way m i between new) same pass)
+    pub spans_ended : PassEnds way m now between new → PassesEnd way m input (suc k) old new
+    spans_ended pass = (between, ended, subst (λ (i : Input). PassEnds way m i between new) same pass)
 
-    pub spans_run : HasEnded way m now between new → HaveTried way m input (suc k) old new
+    pub spans_run : PassEnds way m now between new → HaveTried way m input (suc k) old new
     spans_run pass = (spans_tried way m input k tries within, spans_ended pass)
 
     -- which is the last one
     pub run_after :
-        HasEnded way m now between new
+        PassEnds way m now between new
         → ((j : ℕ) → suc k ≤ j → Tries (Finds way m) (Skips m) way input j → input.start + j ≤ input.end → ⊥)
         → IsSearchRun way m input old new None
     run_after pass stops =
         (suc k, spans_tried way m input k tries within, (λ next. stops (suc k) (omega arith) next.0 next.1), spans_ended pass)
 
     -- which failed
-    pub run_refused : (e : SearchError) → IsLeft way m now between new e → IsSearchRun way m input old new (Some e)
+    pub run_refused : (e : SearchError) → PassFails way m now between new e → IsSearchRun way m input old new (Some e)
     run_refused e left = (
       k,
       between,
       spans_tried way m input k tries within,
       ended,
-      subst (λ (i : Input). IsLeft way m i between new e) same left,
+      subst (λ (i : Input). PassFails way m i between new e) same left,
     )

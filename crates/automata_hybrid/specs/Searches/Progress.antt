@@ -124,15 +124,15 @@ HasNoStart way m input old new =
     × ((MayStart m input.anchored (tape_in way input).before → ⊥) → new ≡ old)
 
 -- a pass has ended
-abbrev pub HasEnded : Direction → Machine → Input → (old new : CacheView) → Type 0
-HasEnded way m input old new =
+abbrev pub PassEnds : Direction → Machine → Input → (old new : CacheView) → Type 0
+PassEnds way m input old new =
     (begun : CacheView) × HasItsStart way m input old begun
     × ((KeepsNone way input × EndsStill way m input begun new)
     ⊎ ((KeepsNone way input → ⊥) × EndsAtLast way m input (with_search_begun way input 0 begun) new))
 
 -- a pass failed: at its start, or at a unit
-abbrev pub IsLeft : Direction → Machine → Input → (old new : CacheView) → SearchError → Type 0
-IsLeft way m input old new e =
+abbrev pub PassFails : Direction → Machine → Input → (old new : CacheView) → SearchError → Type 0
+PassFails way m input old new e =
     (IsStartRefusalAt m new.store input.anchored (tape_in way input).before
     (behind_offset way input) (offset_in way input 0) e × HasNoStart way m input old new)
     ⊎ ((begun : CacheView) × HasItsStart way m input old begun
@@ -143,8 +143,8 @@ IsLeft way m input old new e =
 -- what a pass makes of its cache, by what it returns
 pub record IsPassRun {T : Type 0} (way : Direction) (m : Machine) (input : Input) (old new : CacheView)
     (result : Result T SearchError) : Type 0 where
-  pub ended : OnOk result (HasEnded way m input old new)
-  pub left : IfErr result (IsLeft way m input old new)
+  pub ended : OnOk result (PassEnds way m input old new)
+  pub left : IfErr result (PassFails way m input old new)
 
 -- a search tries the span that begins so many places later, which is not done
 abbrev pub TriesSpan : Direction → Machine → Input → (k : ℕ) → Type 0
@@ -155,26 +155,26 @@ abbrev pub TriesSpans : Direction → Machine → Input → (passes : ℕ) → T
 TriesSpans way m input passes = (k : ℕ) → k < passes → TriesSpan way m input k
 
 -- so many passes of a search have ended, one after another, over a cache of the DFA
-abbrev pub HaveEnded : Direction → Machine → Input → (passes : ℕ) → (old new : CacheView) → Type 0
-HaveEnded way m input zero old new = IsSoundOf old.store m × (new ≡ old)
-HaveEnded way m input (suc passes) old new =
-    (mid : CacheView) × HaveEnded way m input passes old mid × HasEnded way m (later way passes input) mid new
+abbrev pub PassesEnd : Direction → Machine → Input → (passes : ℕ) → (old new : CacheView) → Type 0
+PassesEnd way m input zero old new = IsSoundOf old.store m × (new ≡ old)
+PassesEnd way m input (suc passes) old new =
+    (mid : CacheView) × PassesEnd way m input passes old mid × PassEnds way m (later way passes input) mid new
 
 -- over as many spans that it tries
 abbrev pub HaveTried : Direction → Machine → Input → (passes : ℕ) → (old new : CacheView) → Type 0
-HaveTried way m input passes old new = TriesSpans way m input passes × HaveEnded way m input passes old new
+HaveTried way m input passes old new = TriesSpans way m input passes × PassesEnd way m input passes old new
 
 -- a search that answers has ended the passes over all the spans that it tries
 abbrev pub SearchEnds : Direction → Machine → Input → (old new : CacheView) → Type 0
 SearchEnds way m input old new =
     (passes : ℕ) × TriesSpans way m input passes × (TriesSpan way m input passes → ⊥)
-    × HaveEnded way m input passes old new
+    × PassesEnd way m input passes old new
 
 -- a search that fails has ended some passes, and the next one failed
 abbrev pub SearchFails : Direction → Machine → Input → (old new : CacheView) → SearchError → Type 0
 SearchFails way m input old new e =
-    (passes : ℕ) × (mid : CacheView) × TriesSpans way m input (suc passes) × HaveEnded way m input passes old mid
-    × IsLeft way m (later way passes input) mid new e
+    (passes : ℕ) × (mid : CacheView) × TriesSpans way m input (suc passes) × PassesEnd way m input passes old mid
+    × PassFails way m (later way passes input) mid new e
 
 -- what a search makes of its cache, by the error that it returns, if it fails
 abbrev pub IsSearchRun : Direction → Machine → Input → (old new : CacheView) → Option SearchError → Type 0

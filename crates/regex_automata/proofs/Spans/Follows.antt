@@ -1,8 +1,10 @@
 -- What follows of the runs of searches over two lazy DFAs.
 use Rattle.std.proofs.Common.{ℕ, suc, ◌≡◌, ◌∙◌, ◌+◌, ◌≤◌, ◌<◌, ◌⊎◌, inl, inr, Option, Some, None, refl, sym, ap, subst, arith}
-use Rattle.std.specs.Prelude.{IfSome}
+use Rattle.std.specs.Prelude.{Result, Ok, Err, IfErr, IfSome}
+use Rattle.std.specs.Result.{result_err}
 use Rattle.automata_base.specs.Answers.Answers.{Half, IsInput}
 use Rattle.automata_base.specs.Haystacks.Input.{Input}
+use Rattle.automata_base.specs.Haystacks.Matches.{Match}
 use Rattle.automata_base.specs.Answers.Spans.{back, from}
 use Rattle.automata_base.specs.declared.util.search.Direction.TheVariants.{Backward, Forward}
 use Rattle.automata_base.proofs.Answers.Starts.{yes_no}
@@ -16,17 +18,24 @@ use Rattle.automata_hybrid.specs.Searches.Cached.{IsOfInput, KnownStays}
 use Rattle.automata_hybrid.specs.Searches.Follows.{SearchFollows}
 use Rattle.automata_hybrid.specs.Searches.Passes.{IsFound}
 use Rattle.automata_hybrid.proofs.Cache.Growth.{grown_same}
-use Rattle.automata_hybrid.proofs.Searches.Follows.{searches_follow}
+use Rattle.automata_hybrid.proofs.Searches.Follows.{search_refused, searches_follow}
 use Rattle.regex_automata.specs.Regexes.Caches.{AreCachesOf, AreGrown, KnowsBack}
 use Rattle.regex_automata.specs.Spans.Costs.{IsBackCost}
-use Rattle.regex_automata.specs.Spans.Errors.{IsOfGiven}
+use Rattle.regex_automata.specs.Spans.Errors.{HasReason, IsBackRefused, IsOfGiven}
 use Rattle.regex_automata.specs.Spans.Follows.{NextFollows, NextsFollow, SpanFollows, SpansFollow}
-use Rattle.regex_automata.specs.Spans.Runs.{IsBackRun}
+use Rattle.regex_automata.specs.Spans.Outcomes.{IsStartFound}
+use Rattle.regex_automata.specs.Spans.Runs.{IsBackRun, IsErrorOfBoth, IsSpanRun}
 use Rattle.regex_automata.specs.declared.hybrid.regex.Regex.{Regex}
 use Rattle.regex_automata.specs.declared.hybrid.regex.caches.Cache.{Cache}
 use Rattle.regex_automata.proofs.Spans.Cached.{alone, both_stays, cleared_first, cleared_second, still_both, still_twice}
 use Rattle.regex_automata.proofs.Spans.Costs.{cache_of, knows_both, knows_front}
 use Rattle.regex_automata.proofs.Spans.NextMatches.{grown_twice}
+
+-- another property of an error that may be there
+weaker :
+    {P Q : SearchError → Type 0} (error : Option SearchError) → ((e : SearchError) → P e → Q e) → IfSome error P → IfSome error Q
+weaker None f h = tt
+weaker (Some e) f h = f e h
 
 -- what follows of the search back from a forward answer
 record BackFollows (p : Regex) (input : Input) (half : Half) (old new : CacheView) (error : Option SearchError) : Type 0 where
@@ -35,6 +44,7 @@ record BackFollows (p : Regex) (input : Input) (half : Half) (old new : CacheVie
   pub grown : IsGrown old new
   pub learned : ClearedNothing old.store new.store → error ≡ None → KnowsBack p new.store input half
   pub known : KnowsBack p old.store input half → IsStill old new × IfSome error IsOfInput
+  pub refused : IfSome error (IsBackRefused p new.store input half)
 
 back_follows :
     (p : Regex) (input : Input) (half : Half) (old new : CacheView) (error : Option SearchError)
@@ -47,39 +57,53 @@ back_follows p input half old new error (inl (short, same, none)) = record {
     (grown_same old new same).idle (ap (λ (v : CacheView). v.count) same),
     subst (λ (e : Option SearchError). IfSome e IsOfInput) (sym none) tt,
   );
+  refused = subst (λ (e : Option SearchError). IfSome e (IsBackRefused p new.store input half)) (sym none) tt;
 }
 back_follows p input half old new error (inr (long, run)) = record {
   cost = inr (long, f.once (λ s. yes_no s.1));
   grown = f.grown;
   learned = λ nothing ok other. f.learned nothing ok;
   known = λ knows. f.known (knows long);
+  refused = weaker error (λ e h. (long, h)) f.refused;
 } where
   f : SearchFollows Backward p.reverse (back input half) old new error
   f = searches_follow Backward p.reverse (back input half) old new error run
 
--- an error of the input of one of the two searches
-of_given : (error : Option SearchError) → IfSome error IsOfInput → IfSome error IsOfGiven
-of_given None given = tt
-of_given (Some e) given = inl given
-
--- what both searches return, where the one back returns this
+-- the error after a search back
 of_both :
-    (error failed : Option SearchError) → (error ≡ failed) ⊎ ((failed ≡ None) × (error ≡ Some search.NotAPair))
-    → IfSome failed IsOfInput → IfSome error IsOfGiven
-of_both error failed (inl same) given = subst (λ (e : Option SearchError). IfSome e IsOfGiven) (sym same) (of_given failed given)
-of_both error failed (inr apart) given = subst (λ (e : Option SearchError). IfSome e IsOfGiven) (sym apart.1) (inr refl)
+    (p : Regex) (input : Input) (half : Half) (failed error : Option SearchError) (P : SearchError → Type 0)
+    → (IsStartFound p input half None → P search.NotAPair) → IfSome failed P → IsErrorOfBoth p input half failed error → IfSome error P
+of_both p input half failed error P apart why (inl same) = subst (λ (e : Option SearchError). IfSome e P) (sym same) why
+of_both p input half failed error P apart why (inr none) =
+    subst (λ (e : Option SearchError). IfSome e P) (sym none.2) (apart none.1)
 
 ends_both :
-    (error failed : Option SearchError) → (error ≡ failed) ⊎ ((failed ≡ None) × (error ≡ Some search.NotAPair))
-    → error ≡ None → failed ≡ None
-ends_both error failed (inl same) ok = sym same ∙ ok
-ends_both error failed (inr apart) ok = apart.0
+    (p : Regex) (input : Input) (half : Half) (failed error : Option SearchError)
+    → IsErrorOfBoth p input half failed error → error ≡ None → failed ≡ None
+ends_both p input half failed error (inl same) ok = sym same ∙ ok
+ends_both p input half failed error (inr none) ok = none.0
 
 -- in a span that is done nothing is found
 none_past : (m : Machine) (input : Input) (half : Half) → IsFound Forward m input (Some half) → input.end < input.start → ⊥
 none_past m input half found past =
     let within : input.start + found.0 ≤ input.end = found.3 in
     omega (arith, within, past)
+
+-- why a search for a span fails
+span_refused :
+    (p : Regex) (input : Input) (old new : Cache) (error : Option SearchError)
+    → IsSpanRun p input old new error → IfSome error (HasReason p new input)
+span_refused p input old new error (inl (run, same, none)) =
+    weaker error (λ e h. inl h) (search_refused Forward p.forward input old.forward new.forward error run)
+span_refused p input old new error (inr (run, (half, found, (failed, back, ends)))) =
+    of_both p input half failed error (HasReason p new input) (λ none. inr (inr (refl, (half, found, none))))
+    (weaker failed (λ e h. inr (inl (half, found, h))) (back_follows p input half old.reverse new.reverse failed back).refused) ends
+
+pub call_refused :
+    (p : Regex) (input : Input) (old new : Cache) (r : Result (Option Match) SearchError)
+    → IsSpanRun p input old new (result_err r) → IfErr r (HasReason p new input)
+call_refused p input old new (Ok o) run = tt
+call_refused p input old new (Err e) run = span_refused p input old new (Some e) run
 
 pub spans_follow : AnswersAgree → SpansFollow
 spans_follow agree p input old new error (inl (run, same, none)) = record {
@@ -89,8 +113,9 @@ spans_follow agree p input old new error (inl (run, same, none)) = record {
   known = λ knows. (
       let still = f.known knows.0 in (
         (still.0, (grown_same old.reverse new.reverse same).idle (ap (λ (v : CacheView). v.count) same)),
-        of_given error still.1,
+        weaker error (λ e h. inl h) still.1,
       ));
+  refused = span_refused p input old new error (inl (run, same, none));
   done = λ past. (ap (λ (v : CacheView). cache_of v new.reverse) (f.done past) ∙ ap (λ (v : CacheView). cache_of old.forward v) same);
 } where
   f : SearchFollows Forward p.forward input old.forward new.forward error
@@ -98,10 +123,11 @@ spans_follow agree p input old new error (inl (run, same, none)) = record {
 spans_follow agree p input old new error (inr (run, (half, found, (failed, back, ends)))) = record {
   cost = (f.cost, inr (half, found, b.cost));
   grown = (f.grown, b.grown);
-  learned = λ nothing ok. knows_both agree p input new half (f.learned nothing.0 refl) found (b.learned nothing.1 (ends_both error failed ends ok));
+  learned = λ nothing ok. knows_both agree p input new half (f.learned nothing.0 refl) found (b.learned nothing.1 (ends_both p input half failed error ends ok));
   known = λ knows. (
       let second = b.known (knows.1 half found) in
-      (((f.known knows.0).0, second.0), of_both error failed ends second.1));
+      (((f.known knows.0).0, second.0), of_both p input half failed error IsOfGiven (λ none. inr refl) (weaker failed (λ e h. inl h) second.1) ends));
+  refused = span_refused p input old new error (inr (run, (half, found, (failed, back, ends))));
   done = λ past. absurd (none_past p.forward input half found past);
 } where
   f : SearchFollows Forward p.forward input old.forward new.forward None

@@ -5,7 +5,7 @@ use Rattle.automata_base.specs.Haystacks.Input.{Input}
 use Rattle.automata_config.specs.declared.error.SearchError.{SearchError}
 use Rattle.regex_automata.specs.Regexes.Caches.{AreCachesOf, AreGrown, AreStill, KnowsBoth, NothingCleared}
 use Rattle.regex_automata.specs.Spans.Costs.{AreCostsOf, AreCostsTwice}
-use Rattle.regex_automata.specs.Spans.Errors.{IsOfGiven}
+use Rattle.regex_automata.specs.Spans.Errors.{HasReason, IsOfGiven}
 use Rattle.regex_automata.specs.Spans.Iteration.{KnowsNext}
 use Rattle.regex_automata.specs.Spans.Runs.{IsNextRun, IsSpanRun}
 use Rattle.regex_automata.specs.declared.hybrid.regex.Regex.{Regex}
@@ -21,6 +21,8 @@ pub record SpanFollows (p : Regex) (input : Input) (old new : Cache) (error : Op
   pub learned : NothingCleared old new → error ≡ None → KnowsBoth p new input
   -- with all that cached it does not run out of memory, and changes nothing but the progress
   pub known : KnowsBoth p old input → AreStill old new × IfSome error IsOfGiven
+  -- why it fails
+  pub refused : IfSome error (HasReason p new input)
   -- with a span that is done, it changes nothing at all
   pub done : input.end < input.start → new ≡ old
 

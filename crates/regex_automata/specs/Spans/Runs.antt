@@ -13,6 +13,7 @@ use Rattle.automata_hybrid.specs.Searches.Progress.{IsSearchRun}
 use Rattle.automata_hybrid.specs.Searches.Passes.{IsFound}
 use Rattle.regex_automata.specs.Spans.IsMatch.{IsAsked}
 use Rattle.regex_automata.specs.Spans.Iteration.{FindsEmptyAt}
+use Rattle.regex_automata.specs.Spans.Outcomes.{IsStartFound}
 use Rattle.regex_automata.specs.Regexes.SoundPairs.{forward_engine}
 use Rattle.regex_automata.specs.declared.hybrid.regex.Regex.{Regex}
 use Rattle.regex_automata.specs.declared.hybrid.regex.caches.Cache.{Cache}
@@ -30,13 +31,18 @@ IsFrontRun p input old new error =
     IsSearchRun Forward p.forward input old.forward new.forward error × (new.reverse ≡ old.reverse)
     × (error ≡ None → IsFound Forward p.forward input None)
 
--- the forward search has an answer, and the search back fails or ends; it may find no start, and the two are no pair
+-- the error after a search back: its own, if it has one; or, if it finds no start, that the two are no pair
+abbrev pub IsErrorOfBoth : Regex → Input → Half → (failed error : Option SearchError) → Type 0
+IsErrorOfBoth p input half failed error =
+    (error ≡ failed) ⊎ ((failed ≡ None) × IsStartFound p input half None × (error ≡ Some search.NotAPair))
+
+-- the forward search has an answer, and the search back fails or ends
 abbrev pub IsBothRun : Regex → Input → (old new : Cache) → Option SearchError → Type 0
 IsBothRun p input old new error =
     IsSearchRun Forward p.forward input old.forward new.forward None
     × ((half : Half) × IsFound Forward p.forward input (Some half)
     × ((failed : Option SearchError) × IsBackRun p input half old.reverse new.reverse failed
-    × ((error ≡ failed) ⊎ ((failed ≡ None) × (error ≡ Some search.NotAPair)))))
+    × IsErrorOfBoth p input half failed error))
 
 -- a search for a span, by the error that it returns, if it fails
 abbrev pub IsSpanRun : Regex → Input → (old new : Cache) → Option SearchError → Type 0

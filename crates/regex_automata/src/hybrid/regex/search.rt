@@ -10,7 +10,7 @@ ghost use Rattle.regex_automata.specs.Spans.Outcomes.{FindsMatch, IsStartFound};
 ghost use Rattle.regex_automata.specs.Spans.Contracts.{IsSpanOf, IsSpanReported};
 ghost use Rattle.regex_automata.specs.Spans.Runs.{IsBackRun, IsSpanRun};
 ghost use Rattle.regex_automata.specs.Regexes.Caches.{AreCachesOf};
-ghost use Rattle.regex_automata.specs.Spans.Errors.{HasReason, IsBackRefused, IsRegexRefusal};
+ghost use Rattle.regex_automata.specs.Spans.Errors.{IsRegexRefusal};
 ghost use Rattle.automata_config.specs.Options.{minimum_cache_clear_count_of};
 
 use crate::hybrid::dfa;
@@ -105,7 +105,6 @@ impl Regex {
         ensures of { IsCacheOf cache.new self.now.reverse }
         ensures found { IfOk result (IsStartFound self.now input.now (with_base half base)) }
         ensures within { IfOk result (λ o. IfSome o (λ start. (base ≤ start) × (start ≤ half.offset))) }
-        ensures refusal { IfErr result (IsBackRefused self.now cache.new.store input.now (with_base half base)) }
         ensures free { NoQuitInReach self.now.reverse input.now
             → minimum_cache_clear_count_of self.now.reverse.config ≡ None → IfErr result IsMemory }
         ensures effect { IsBackRun self.now input.now (with_base half base) cache.old cache.new (result_err result) }
@@ -126,7 +125,6 @@ impl Regex {
         requires { AreCachesOf cache.old self.now }
         ensures of { AreCachesOf cache.new self.now }
         ensures reported { IsSpanReported self.now input.now result }
-        ensures refusal { IfErr result (HasReason self.now cache.new input.now) }
         ensures effect { IsSpanRun self.now input.now cache.old cache.new (result_err result) }
     {
         let Some(front) = self.forward.try_search_fwd_base(&mut cache.forward, input)? else {

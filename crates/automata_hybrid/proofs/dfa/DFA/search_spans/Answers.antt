@@ -9,7 +9,7 @@ use Rattle.automata_base.specs.declared.util.search.Direction.{Direction}
 use Rattle.automata_base.specs.declared.util.search.Direction.TheVariants.{Forward}
 use Rattle.automata_hybrid.specs.Searches.Passes.{Finds, IsFound, Skips, with_base}
 use Rattle.automata_hybrid.specs.Machines.StartSlots.{supports}
-use Rattle.automata_hybrid.specs.Searches.Progress.{HaveEnded, HaveTried}
+use Rattle.automata_hybrid.specs.Searches.Progress.{PassesEnd, HaveTried}
 use Rattle.automata_hybrid.proofs.Searches.Directions.{later_anchored, later_none, later_on, later_start, skipped, skipped_last}
 use Rattle.automata_hybrid.proofs.Searches.Directions.{skipped_more, skipped_within}
 use Rattle.automata_hybrid.specs.Searches.Contracts.{IsUnsupported, unsupported_error}
@@ -59,7 +59,7 @@ loop-later-init c =
       few = subst (λ (i : Input). i.end + 1 - i.start ≤ c.args.input.now.end + 1 - c.args.input.now.start) (sym whole) (omega arith);
       same = subst (λ n. c.copied-later.result ≡ later d n c.args.input.now) none (whole ∙ later_none d c.args.input.now);
       first = λ u. sym none;
-      progress = subst (λ n. HaveEnded d c.args.self.now c.args.input.now n c.args.cache.now c.args.cache.now) none
+      progress = subst (λ n. PassesEnd d c.args.self.now c.args.input.now n c.args.cache.now c.args.cache.now) none
           ((is_store c.args.cache.now.store c.args.self.now c.requires c.see_bounds.ensures.bounds, c.see_bounds.ensures.sound), refl);
       tries = subst (λ n. Tries (Finds d c.args.self.now) (Skips c.args.self.now) d c.args.input.now n) none (inl refl, λ j less. absurd (omega (arith, less)));
     }
@@ -78,7 +78,7 @@ loop-later-preserved c =
       few = omega (arith, c.if-not-begin_later.ensures.shorter refl, c.loop-later.invariant.few);
       same = subst (λ n. c.begin_later.new.input ≡ later d n c.args.input.now) next (c.if-not-begin_later.ensures.later refl ∙ (ap (later d 1) same ∙ later_on d k c.args.input.now));
       first = λ u. absurd (false_true (sym u ∙ (ap (supports c.args.self.now) (sym (ap (λ (i : Input). i.anchored) same ∙ later_anchored d k c.args.input.now)) ∙ c.in-Ok.ensures.answer.supported)));
-      progress = subst (λ n. HaveEnded d c.args.self.now c.args.input.now n c.args.cache.now c.pass.new.cache) next
+      progress = subst (λ n. PassesEnd d c.args.self.now c.args.input.now n c.args.cache.now c.pass.new.cache) next
           (spans_ended d c.args.self.now c.args.input.now k c.loop-later.invariant.tries c.args.cache.now c.loop-later.cache c.loop-later.invariant.progress c.loop-later.later same within c.pass.new.cache c.in-Ok.ensures.effect.ended);
       tries = subst (λ n. Tries (Finds d c.args.self.now) (Skips c.args.self.now) d c.args.input.now n) next
           (tries_on d c.args.self.now c.args.input.now c.loop-later.later k same c.loop-later.invariant.tries within c.in-Some.half (sym c.in-Some.is ∙ c.in-Ok.ensures.answer.found) c.in-Ok.ensures.answer.clean (c.if-not-skips_at.ensures.yes refl).0 (subst (λ n. is_split c.loop-later.later.haystack n ≡ true) c.offset.ensures (c.if-not-skips_at.ensures.yes refl).1) mode);

@@ -5,9 +5,8 @@ use Rattle.automata_base.specs.Haystacks.Input.{Input}
 use Rattle.automata_base.specs.declared.util.search.Direction.TheVariants.{Backward}
 use Rattle.automata_hybrid.specs.Machines.StartSlots.{supports}
 use Rattle.automata_hybrid.specs.Searches.Progress.{IsSearchRun}
-use Rattle.automata_hybrid.specs.Searches.Passes.{IsFound, IsRefused, NoQuitInReach, with_base}
+use Rattle.automata_hybrid.specs.Searches.Passes.{IsFound, NoQuitInReach, with_base}
 use Rattle.automata_hybrid.specs.Searches.Bounds.{LiesIn}
-use Rattle.automata_hybrid.proofs.Searches.Follows.{search_refused}
 use Rattle.automata_hybrid.proofs.Searches.PassState.{if_err}
 use Rattle.regex_automata.proofs.Spans.Costs.{back_none, back_reach, back_some}
 use Rattle.regex_automata.proofs.Spans.NextMatches.{some_of}
@@ -37,14 +36,6 @@ try_search_rev-requires c = c.requires.of
 
 pub returns-in_err-found-clause-of : goal.returns-in_err-found-clause-of
 returns-in_err-found-clause-of c = c.try_search_rev.ensures.of
-
-pub returns-in_err-found-clause-refusal : goal.returns-in_err-found-clause-refusal
-returns-in_err-found-clause-refusal c =
-    if_err c.from_residual.result _ _ c.from_residual.ensures.1 (
-      c.is_short-short.ensures.no c.if-short.false,
-      subst (λ (i : Input). IsRefused Backward c.args.self.now.reverse c.try_search_rev.new.cache.store i c.in_err-found.field-0.0) c.backward-rest.ensures
-          (search_refused Backward c.args.self.now.reverse c.backward-rest.result c.args.cache.now c.try_search_rev.new.cache (Some c.in_err-found.field-0.0) c.in_err-found.ensures.effect),
-    )
 
 pub returns-in_err-found-clause-free : goal.returns-in_err-found-clause-free
 returns-in_err-found-clause-free c = λ reach free.

@@ -6,7 +6,6 @@ use Rattle.automata_hybrid.specs.Searches.Passes.{with_base}
 use Rattle.automata_hybrid.specs.Searches.Progress.{IsSearchRun}
 use Rattle.automata_base.specs.declared.util.search.Direction.TheVariants.{Forward}
 use Rattle.automata_hybrid.specs.Searches.Bounds.{LiesPast}
-use Rattle.automata_hybrid.proofs.Searches.Follows.{search_refused}
 use Rattle.automata_hybrid.proofs.Searches.PassState.{if_err}
 use Rattle.regex_automata.specs.Spans.Outcomes.{IsStartFound}
 use Rattle.regex_automata.proofs.Spans.Costs.{front_none, front_some, match_of}
@@ -32,10 +31,6 @@ returns-in_err-front-clause-reported c = record {
   free = λ free. if_err c.from_residual.result _ _ c.from_residual.ensures.1 (inl (c.in_err-front.ensures.based.free (record { reach = free.forward; supported = free.supported; clears = free.forward_clears })));
   done = λ past. absurd (err_ok (c.in_err-front.ensures.based.done past));
 }
-
-pub returns-in_err-front-clause-refusal : goal.returns-in_err-front-clause-refusal
-returns-in_err-front-clause-refusal c =
-    if_err c.from_residual.result _ _ c.from_residual.ensures.1 (inl (search_refused Forward c.args.self.now.forward c.args.input.now c.args.cache.now.forward c.try_search_fwd_base.new.cache (Some c.in_err-front.field-0.0) c.in_err-front.ensures.effect))
 
 pub returns-in_err-front-clause-effect : goal.returns-in_err-front-clause-effect
 returns-in_err-front-clause-effect c =
@@ -84,10 +79,6 @@ returns-in_err-start-clause-reported c = record {
   done = λ past. absurd (some_none (sym c.in-Some.is ∙ same_ok (c.in_ok-front.ensures.based.done past)));
 }
 
-pub returns-in_err-start-clause-refusal : goal.returns-in_err-start-clause-refusal
-returns-in_err-start-clause-refusal c =
-    if_err c.from_residual-in_err-start.result _ _ c.from_residual-in_err-start.ensures.1 (inr (inl ((with_base c.in-Some.front.0 c.in-Some.front.1), (front_some c.args.self.now.forward c.args.input.now c.in_ok-front.field-0 c.in-Some.front.0 c.in-Some.front.1 c.in_ok-front.ensures.found c.in-Some.is), c.in_err-start.ensures.refusal)))
-
 pub returns-in_err-start-clause-effect : goal.returns-in_err-start-clause-effect
 returns-in_err-start-clause-effect c =
     inr (
@@ -102,10 +93,6 @@ returns-in_err-start-clause-effect c =
 pub returns-in_default-2-clause-of : goal.returns-in_default-2-clause-of
 returns-in_default-2-clause-of c =
     (c.try_search_fwd_base.ensures.of, c.find_start.ensures.of)
-
-pub returns-in_default-2-clause-refusal : goal.returns-in_default-2-clause-refusal
-returns-in_default-2-clause-refusal c =
-    inr (inr (refl, ((with_base c.in-Some.front.0 c.in-Some.front.1), (front_some c.args.self.now.forward c.args.input.now c.in_ok-front.field-0 c.in-Some.front.0 c.in-Some.front.1 c.in_ok-front.ensures.found c.in-Some.is), subst (IsStartFound c.args.self.now c.args.input.now (with_base c.in-Some.front.0 c.in-Some.front.1)) c.in_default-2.is c.in_ok-start.ensures.found)))
 
 pub returns-in_default-2-clause-reported : goal.returns-in_default-2-clause-reported
 returns-in_default-2-clause-reported c = record {
@@ -123,7 +110,7 @@ returns-in_default-2-clause-effect c =
       (
         with_base c.in-Some.front.0 c.in-Some.front.1,
         front_some c.args.self.now.forward c.args.input.now c.in_ok-front.field-0 c.in-Some.front.0 c.in-Some.front.1 c.in_ok-front.ensures.found c.in-Some.is,
-        (None, c.in_ok-start.ensures.effect, inr (refl, refl)),
+        (None, c.in_ok-start.ensures.effect, inr (refl, subst (IsStartFound c.args.self.now c.args.input.now (with_base c.in-Some.front.0 c.in-Some.front.1)) c.in_default-2.is c.in_ok-start.ensures.found, refl)),
       ),
     )
 
