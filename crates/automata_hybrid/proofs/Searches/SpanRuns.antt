@@ -1,5 +1,7 @@
 -- What a search makes of its cache, span after span.
 use Rattle.std.proofs.Common.{ℕ, suc, ◌≡◌, ◌+◌, ◌<◌, ◌≤◌, None, Some, subst, arith}
+use Rattle.std.specs.Prelude.{Result, Ok, Err, IfErr, OnOk}
+use Rattle.std.specs.Result.{result_err}
 use Rattle.automata_base.specs.Answers.Answers.{Tries, later}
 use Rattle.automata_base.specs.Haystacks.Input.{Input}
 use Rattle.automata_base.specs.declared.util.search.Direction.{Direction}
@@ -7,8 +9,15 @@ use Rattle.automata_config.specs.declared.error.SearchError.{SearchError}
 use Rattle.automata_hybrid.specs.Cache.Caches.{CacheView}
 use Rattle.automata_hybrid.specs.Machines.Machine.{Machine}
 use Rattle.automata_hybrid.specs.Searches.Passes.{Finds, Skips}
-use Rattle.automata_hybrid.specs.Searches.Progress.{PassEnds, PassesEnd, HaveTried, PassFails, IsSearchRun}
+use Rattle.automata_hybrid.specs.Searches.Progress.{PassEnds, PassesEnd, HaveTried, PassFails, IsPassRun, IsSearchRun}
 use Rattle.automata_hybrid.proofs.Searches.Progress.{spans_before, spans_tried}
+
+-- what a pass makes of its cache, by what it returns
+pub result_run :
+    {A : Type 0} (way : Direction) (m : Machine) (input : Input) (old new : CacheView) (r : Result A SearchError)
+    → OnOk r (PassEnds way m input old new) → IfErr r (PassFails way m input old new) → IsPassRun way m input old new (result_err r)
+result_run way m input old new (Ok a) ends fails = ends
+result_run way m input old new (Err e) ends fails = fails
 
 -- a search has made the passes over the spans before the one that begins `k` places later
 module _ (way : Direction) (m : Machine) (input : Input) (k : ℕ) (tries : Tries (Finds way m) (Skips m) way input k)

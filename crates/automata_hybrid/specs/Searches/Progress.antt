@@ -1,6 +1,6 @@
 -- What the passes of a search make of their cache: their events, unit by unit, up to one that fails.
 use Rattle.std.specs.Prelude.{ℕ, zero, suc, ◌≡◌, ◌<◌, ◌≤◌, ◌+◌, ◌-◌, ◌⊎◌, List, [], ◌∷◌, ◌++◌, length}
-use Rattle.std.specs.Prelude.{Option, None, Some, Result, IfErr, OnOk}
+use Rattle.std.specs.Prelude.{Option, None, Some}
 use Rattle.automata_base.specs.Answers.Answers.{Tries, later, offset_in}
 use Rattle.automata_base.specs.Haystacks.Input.{Input}
 use Rattle.automata_base.specs.Paths.Paths.{next}
@@ -140,11 +140,10 @@ PassFails way m input old new e =
     × IsStillLeft way m input begun new)
     ⊎ ((KeepsNone way input → ⊥) × IsStoppedAt way m input (with_search_begun way input 0 begun) new e)))
 
--- what a pass makes of its cache, by what it returns
-pub record IsPassRun {T : Type 0} (way : Direction) (m : Machine) (input : Input) (old new : CacheView)
-    (result : Result T SearchError) : Type 0 where
-  pub ended : OnOk result (PassEnds way m input old new)
-  pub left : IfErr result (PassFails way m input old new)
+-- what a pass makes of its cache, by the error that it returns, if it fails
+abbrev pub IsPassRun : Direction → Machine → Input → (old new : CacheView) → Option SearchError → Type 0
+IsPassRun way m input old new None = PassEnds way m input old new
+IsPassRun way m input old new (Some e) = PassFails way m input old new e
 
 -- a search tries the span that begins so many places later, which is not done
 abbrev pub TriesSpan : Direction → Machine → Input → (k : ℕ) → Type 0

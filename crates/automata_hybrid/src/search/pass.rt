@@ -1,6 +1,7 @@
 //! One run over the span of an input, in either direction.
 ghost use Rattle.std.specs.Prelude.{◌≡◌, ◌-◌, ◌<◌, ◌≤◌, IfOk, IfErr, OnOk};
 ghost use Rattle.std.specs.Prelude.{None, Err};
+ghost use Rattle.std.specs.Result.{result_err};
 ghost use Rattle.automata_base.specs.Haystacks.Input.{Allows};
 ghost use Rattle.automata_base.specs.Paths.Paths.{next};
 ghost use Rattle.automata_base.specs.Powersets.Powerset.{Powerset, dead};
@@ -81,7 +82,7 @@ impl DFA {
         ensures answer { IfOk result (IsPassAnswer way self.now input.now) }
         ensures unsupported { IsUnsupported way self.now input.now
             → result ≡ Err (unsupported_error input.now) }
-        ensures effect { IsPassRun way self.now input.now cache.old cache.new result }
+        ensures effect { IsPassRun way self.now input.now cache.old cache.new (result_err result) }
     {
         cache.see_bounds();
         let start = self.known_start(cache, input, way);
@@ -141,7 +142,7 @@ impl DFA {
         ensures unsupported { let input = input_at haystack.now span anchored earliest in
             IsUnsupported way self.now input → result ≡ Err (unsupported_error input) }
         ensures effect { IsPassRun way self.now
-            (input_at haystack.now span anchored earliest) cache.old cache.new result }
+            (input_at haystack.now span anchored earliest) cache.old cache.new (result_err result) }
     {
         let own = input_of(haystack, span, anchored, earliest);
         self.begin(cache, &own, way)
@@ -161,7 +162,7 @@ impl DFA {
         ensures answer { IfOk result (IsPassAnswer way self.now input.now) }
         ensures unsupported { IsUnsupported way self.now input.now
             → result ≡ Err (unsupported_error input.now) }
-        ensures effect { IsPassRun way self.now input.now cache.old cache.new result }
+        ensures effect { IsPassRun way self.now input.now cache.old cache.new (result_err result) }
     {
         cache.see_bounds();
         let start = match self.walk_start(cache, input, way) {

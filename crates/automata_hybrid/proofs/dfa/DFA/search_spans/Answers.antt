@@ -79,7 +79,7 @@ loop-later-preserved c =
       same = subst (λ n. c.begin_later.new.input ≡ later d n c.args.input.now) next (c.if-not-begin_later.ensures.later refl ∙ (ap (later d 1) same ∙ later_on d k c.args.input.now));
       first = λ u. absurd (false_true (sym u ∙ (ap (supports c.args.self.now) (sym (ap (λ (i : Input). i.anchored) same ∙ later_anchored d k c.args.input.now)) ∙ c.in-Ok.ensures.answer.supported)));
       progress = subst (λ n. PassesEnd d c.args.self.now c.args.input.now n c.args.cache.now c.pass.new.cache) next
-          (spans_ended d c.args.self.now c.args.input.now k c.loop-later.invariant.tries c.args.cache.now c.loop-later.cache c.loop-later.invariant.progress c.loop-later.later same within c.pass.new.cache c.in-Ok.ensures.effect.ended);
+          (spans_ended d c.args.self.now c.args.input.now k c.loop-later.invariant.tries c.args.cache.now c.loop-later.cache c.loop-later.invariant.progress c.loop-later.later same within c.pass.new.cache c.in-Ok.ensures.effect);
       tries = subst (λ n. Tries (Finds d c.args.self.now) (Skips c.args.self.now) d c.args.input.now n) next
           (tries_on d c.args.self.now c.args.input.now c.loop-later.later k same c.loop-later.invariant.tries within c.in-Some.half (sym c.in-Some.is ∙ c.in-Ok.ensures.answer.found) c.in-Ok.ensures.answer.clean (c.if-not-skips_at.ensures.yes refl).0 (subst (λ n. is_split c.loop-later.later.haystack n ≡ true) c.offset.ensures (c.if-not-skips_at.ensures.yes refl).1) mode);
     }
@@ -111,7 +111,7 @@ returns-then-not-skips_at-clause-upto c = λ forward.
     let base : suc k ≡ c.start.result - c.args.input.now.start + 1 = omega (arith, c.start.ensures.start, later_start d k c.args.input.now c.loop-later.later same forward) in
     subst (λ n. HaveTried Forward c.args.self.now c.args.input.now n c.args.cache.now c.pass.new.cache) base
     (subst (λ (e : Direction). HaveTried e c.args.self.now c.args.input.now (suc k) c.args.cache.now c.pass.new.cache) forward
-    (spans_run d c.args.self.now c.args.input.now k c.loop-later.invariant.tries c.args.cache.now c.loop-later.cache c.loop-later.invariant.progress c.loop-later.later same within c.pass.new.cache c.in-Ok.ensures.effect.ended))
+    (spans_run d c.args.self.now c.args.input.now k c.loop-later.invariant.tries c.args.cache.now c.loop-later.cache c.loop-later.invariant.progress c.loop-later.later same within c.pass.new.cache c.in-Ok.ensures.effect))
 
 pub returns-in-Err-clause-effect : goal.returns-in-Err-clause-effect
 returns-in-Err-clause-effect c =
@@ -121,7 +121,7 @@ returns-in-Err-clause-effect c =
     let ahead : c.loop-later.later.start ≤ c.loop-later.later.end = grind (arith, common_steps, c.loop-later-test.ensures.done) in
     let within : c.args.input.now.start + k ≤ c.args.input.now.end = skipped_within c.args.input.now c.loop-later.later c.loop-later.invariant.few ahead in
     (run_refused d c.args.self.now c.args.input.now k c.loop-later.invariant.tries c.args.cache.now c.loop-later.cache c.loop-later.invariant.progress
-    c.loop-later.later same within c.pass.new.cache c.in-Err.error c.in-Err.ensures.effect.left)
+    c.loop-later.later same within c.pass.new.cache c.in-Err.error c.in-Err.ensures.effect)
 
 pub returns-in_default-clause-effect : goal.returns-in_default-clause-effect
 returns-in_default-clause-effect c =
@@ -131,7 +131,7 @@ returns-in_default-clause-effect c =
     let ahead : c.loop-later.later.start ≤ c.loop-later.later.end = grind (arith, common_steps, c.loop-later-test.ensures.done) in
     let within : c.args.input.now.start + k ≤ c.args.input.now.end = skipped_within c.args.input.now c.loop-later.later c.loop-later.invariant.few ahead in
     run_after d c.args.self.now c.args.input.now k c.loop-later.invariant.tries c.args.cache.now c.loop-later.cache c.loop-later.invariant.progress
-    c.loop-later.later same within c.pass.new.cache c.in-Ok.ensures.effect.ended
+    c.loop-later.later same within c.pass.new.cache c.in-Ok.ensures.effect
     (λ j less tried past. none_stops d c.args.self.now c.args.input.now c.loop-later.later k same c.loop-later.invariant.tries within (sym c.in_default.is ∙ c.in-Ok.ensures.answer.found) j less tried)
 
 pub returns-then-not-skips_at-clause-effect : goal.returns-then-not-skips_at-clause-effect
@@ -142,7 +142,7 @@ returns-then-not-skips_at-clause-effect c =
     let ahead : c.loop-later.later.start ≤ c.loop-later.later.end = grind (arith, common_steps, c.loop-later-test.ensures.done) in
     let within : c.args.input.now.start + k ≤ c.args.input.now.end = skipped_within c.args.input.now c.loop-later.later c.loop-later.invariant.few ahead in
     run_after d c.args.self.now c.args.input.now k c.loop-later.invariant.tries c.args.cache.now c.loop-later.cache c.loop-later.invariant.progress
-    c.loop-later.later same within c.pass.new.cache c.in-Ok.ensures.effect.ended
+    c.loop-later.later same within c.pass.new.cache c.in-Ok.ensures.effect
     (λ j less tried past. some_stops d c.args.self.now c.args.input.now c.loop-later.later k same c.loop-later.invariant.tries within c.in-Some.half (sym c.in-Some.is ∙ c.in-Ok.ensures.answer.found) (λ skips. subst (λ n. is_split c.loop-later.later.haystack n ≡ false) c.offset.ensures (c.if-not-skips_at.ensures.no refl skips)) j less tried)
 
 pub returns-then-is_anchored-clause-effect : goal.returns-then-is_anchored-clause-effect
@@ -153,7 +153,7 @@ returns-then-is_anchored-clause-effect c =
     let ahead : c.loop-later.later.start ≤ c.loop-later.later.end = grind (arith, common_steps, c.loop-later-test.ensures.done) in
     let within : c.args.input.now.start + k ≤ c.args.input.now.end = skipped_within c.args.input.now c.loop-later.later c.loop-later.invariant.few ahead in
     run_after d c.args.self.now c.args.input.now k c.loop-later.invariant.tries c.args.cache.now c.loop-later.cache c.loop-later.invariant.progress
-    c.loop-later.later same within c.pass.new.cache c.in-Ok.ensures.effect.ended
+    c.loop-later.later same within c.pass.new.cache c.in-Ok.ensures.effect
     (λ j less tried past. anchored_stops d c.args.self.now c.args.input.now c.loop-later.later k same c.loop-later.invariant.tries within (λ e. c.if-is_anchored.ensures.yes refl (c.get_anchored.ensures ∙ (ap (λ (i : Input). i.anchored) same ∙ (later_anchored d k c.args.input.now ∙ e)))) j less tried)
 
 pub returns-then-not-begin_later-clause-effect : goal.returns-then-not-begin_later-clause-effect
@@ -165,7 +165,7 @@ returns-then-not-begin_later-clause-effect c =
     let within : c.args.input.now.start + k ≤ c.args.input.now.end = skipped_within c.args.input.now c.loop-later.later c.loop-later.invariant.few ahead in
     let over : c.args.input.now.end < c.args.input.now.start + suc k = skipped_last c.args.input.now c.loop-later.later c.loop-later.invariant.few ahead (c.if-not-begin_later.ensures.over refl) in
     run_after d c.args.self.now c.args.input.now k c.loop-later.invariant.tries c.args.cache.now c.loop-later.cache c.loop-later.invariant.progress
-    c.loop-later.later same within c.pass.new.cache c.in-Ok.ensures.effect.ended
+    c.loop-later.later same within c.pass.new.cache c.in-Ok.ensures.effect
     (λ j less tried past. omega (arith, less, past, over))
 
 pub returns-clause-effect : goal.returns-clause-effect
