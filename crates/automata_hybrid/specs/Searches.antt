@@ -2,7 +2,6 @@ pub mod Passes
 pub mod Contracts
 pub mod Bounds
 pub mod Agreement
-pub mod Costs
 pub mod Cached
 pub mod Progress
 pub mod Follows

@@ -2,8 +2,7 @@
 ghost use Rattle.automata_hybrid.specs.Cache.Caches.{IsCacheOf, IsStoreOf};
 ghost use Rattle.automata_hybrid.specs.Walks.SetsByPaths.{SetsHaveMatching};
 ghost use Rattle.automata_hybrid.specs.Searches.Agreement.{AnswersAgree, WalksAgree};
-ghost use Rattle.automata_hybrid.specs.Searches.Costs.{PassesCost, SearchesCostFew};
-ghost use Rattle.automata_hybrid.specs.Searches.Follows.{SearchesFollow};
+ghost use Rattle.automata_hybrid.specs.Searches.Follows.{PassesCost, SearchesFollow};
 ghost use Rattle.automata_hybrid.specs.Searches.Cached.{KnownStays};
 ghost use Rattle.automata_hybrid.specs.Steps.BySteps.{FirstMatchIsFound};
 
@@ -42,12 +41,6 @@ pub fn cache_is_within(dfa: &DFA, cache: &Cache)
 pub fn searches_follow()
     ensures searches { SearchesFollow }
     ensures passes { PassesCost }
-{}
-
-/// Over m bytes a search determinizes at most m + 2 times if no offset is skipped or it is anchored, and never more
-/// than (m + 1)(m + 2) times.
-pub fn costs_are_few()
-    ensures { SearchesCostFew }
 {}
 
 /// If all that a search uses was cached, and no row, start state or transition was lost, it is still cached.

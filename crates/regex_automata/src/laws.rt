@@ -8,8 +8,8 @@ pub use automata_base::laws::{
     walk_is_right,
 };
 pub use automata_hybrid::laws::{
-    answers_agree, cache_is_within, costs_are_few, first_match_is_found, known_stays,
-    searches_follow, sets_have_matching, walks_agree,
+    answers_agree, cache_is_within, first_match_is_found, known_stays, searches_follow,
+    sets_have_matching, walks_agree,
 };
 
 /// Earlier searches and the capacity of the caches show in no match: two searches for one input that answer find the
@@ -36,19 +36,13 @@ pub fn truth_is_found()
     passes_report_paths();
 }
 
-/// What follows of what a search for a span makes of the two caches: how often it determinizes, and when nothing is
-/// cleared; that until the next clear nothing is lost; that all that it used is cached after an answer; and that with all
-/// that cached nothing changes but the progress. For a search of one DFA, as `is_match` and the tokens make it, this is
-/// `searches_follow`.
-pub fn spans_follow()
-    ensures { SpansFollow }
-{
-    answers_agree();
-}
-
-/// What follows of what a search for the next match of an iteration makes of the two caches, as of a search for a span.
-pub fn next_matches_follow(regex: &Regex)
-    ensures { NextsFollow regex.now }
+/// What follows of what a search for a span makes of the two caches, and one for the next match: how often it
+/// determinizes, and when nothing is cleared; that until the next clear nothing is lost; that all that it used is cached
+/// after an answer; that with all that cached nothing changes but the progress; and why it fails. For a search of one
+/// DFA, as `is_match` and the tokens make it, this is `searches_follow`.
+pub fn spans_follow(regex: &Regex)
+    ensures spans { SpansFollow }
+    ensures nexts { NextsFollow regex.now }
 {
     answers_agree();
     known_stays(regex.forward());

@@ -26,7 +26,7 @@ use Rattle.automata_hybrid.specs.Calls.Events.{AreCached, Begin, DoAll, End, Eve
 use Rattle.automata_hybrid.specs.Machines.Machine.{Machine, table_stride}
 use Rattle.automata_hybrid.specs.Machines.StartSlots.{supports}
 use Rattle.automata_hybrid.specs.Searches.Cached.{IsOfInput, Knows, KnowsItsStart, KnowsPass, KnowsUnit}
-use Rattle.automata_hybrid.specs.Searches.Costs.{IsCostOfPass, IsCostOfPasses, IsCostOfSearch, passes_most}
+use Rattle.automata_hybrid.specs.Searches.Follows.{IsCostOfPass, IsCostOfPasses, IsCostOfSearch, passes_most}
 use Rattle.automata_hybrid.specs.Searches.Follows.{SearchFollows, SearchesFollow}
 use Rattle.automata_hybrid.specs.Searches.PassState.{HasLearnedUnit}
 use Rattle.automata_hybrid.specs.Searches.Passes.{Finds, HasReadNoQuit, IsPassRefusal, IsRefused, IsUnitRefusal, Reads, Skips, given_up_offset, state_in, tape_in}
@@ -40,7 +40,7 @@ use Rattle.automata_hybrid.proofs.Calls.Laws.{Follows, all_sound, cached_idle, c
 use Rattle.automata_hybrid.proofs.Calls.Laws.{failed_count, failed_grown, first_cached, follows_all, left_count, left_grown, left_known}
 use Rattle.automata_hybrid.proofs.Calls.Laws.{makings_join, moved_sound}
 use Rattle.automata_hybrid.proofs.Searches.Cached.{HasLearnedAll, LearnedSpans, search_still, spans_all, spans_more, spans_still}
-use Rattle.automata_hybrid.proofs.Searches.Costs.{AreCounted, cost_known, cost_of_pass, cost_once, counted_more, tries_before}
+use Rattle.automata_hybrid.proofs.Searches.Costs.{AreCounted, cost_all, cost_known, cost_of_pass, cost_once, counted_more, tries_before}
 use Rattle.automata_hybrid.proofs.Searches.Directions.{none_empty}
 use Rattle.automata_hybrid.proofs.Searches.PassState.{false_true, reads_before}
 use Rattle.automata_hybrid.proofs.Steps.Steps.{no_quit_unit}
@@ -501,6 +501,7 @@ module _ (way : Direction) (m : Machine) (input : Input) where
       record {
         cost = cost;
         once = once old new cost f.grown;
+        most = cost_all way m input old new cost;
         grown = f.grown;
         learned = λ nothing ok. spans_all way m new.store input passes (f.learned nothing)
             (λ j more tried within. stops (tries_before (Finds way m) (Skips m) way input passes j more tried, omega (arith, more, within)));
@@ -520,6 +521,7 @@ module _ (way : Direction) (m : Machine) (input : Input) where
       record {
         cost = cost;
         once = once old new cost whole;
+        most = cost_all way m input old new cost;
         grown = whole;
         learned = λ nothing ok. absurd (some_none ok);
         known = λ knows. (

@@ -13,7 +13,8 @@ use Rattle.automata_hybrid.specs.Searches.Passes.{IsFound}
 use Rattle.automata_hybrid.proofs.Cache.Growth.{nothing_first, nothing_second}
 use Rattle.automata_hybrid.proofs.Searches.Bounds.{found_within}
 use Rattle.regex_automata.specs.Spans.Agreement.{AreAlike, MatchesAgree}
-use Rattle.regex_automata.specs.Spans.Iteration.{FindsEmptyAt, KnowsNext}
+use Rattle.regex_automata.specs.Spans.Follows.{KnowsNext}
+use Rattle.regex_automata.specs.Spans.Iteration.{FindsEmptyAt}
 use Rattle.regex_automata.specs.Spans.Outcomes.{FindsMatch}
 use Rattle.regex_automata.specs.Regexes.Caches.{AreCachesOf, AreGrown, AreStill, KnowsBack, KnowsBoth, NothingCleared}
 use Rattle.regex_automata.specs.declared.hybrid.regex.Regex.{Regex}

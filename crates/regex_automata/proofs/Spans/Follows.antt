@@ -20,9 +20,8 @@ use Rattle.automata_hybrid.specs.Searches.Passes.{IsFound}
 use Rattle.automata_hybrid.proofs.Cache.Growth.{grown_same}
 use Rattle.automata_hybrid.proofs.Searches.Follows.{search_refused, searches_follow}
 use Rattle.regex_automata.specs.Regexes.Caches.{AreCachesOf, AreGrown, KnowsBack}
-use Rattle.regex_automata.specs.Spans.Costs.{IsBackCost}
 use Rattle.regex_automata.specs.Spans.Errors.{HasReason, IsBackRefused, IsOfGiven}
-use Rattle.regex_automata.specs.Spans.Follows.{NextFollows, NextsFollow, SpanFollows, SpansFollow}
+use Rattle.regex_automata.specs.Spans.Follows.{IsBackCost, NextFollows, NextsFollow, SpanFollows, SpansFollow}
 use Rattle.regex_automata.specs.Spans.Outcomes.{IsStartFound}
 use Rattle.regex_automata.specs.Spans.Runs.{IsBackRun, IsErrorOfBoth, IsSpanRun}
 use Rattle.regex_automata.specs.declared.hybrid.regex.Regex.{Regex}

@@ -8,7 +8,6 @@ use Rattle.automata_base.specs.declared.util.search.Anchored.{Anchored}
 use Rattle.automata_base.specs.Answers.Spans.{AreFirst, AreMatches, IsEmptyAt, IsNextItem, from}
 use Rattle.automata_config.specs.declared.error.SearchError.{SearchError}
 use Rattle.regex_automata.specs.Spans.Outcomes.{FindsMatch, MatchLiesIn}
-use Rattle.regex_automata.specs.Regexes.Caches.{KnowsBoth}
 use Rattle.regex_automata.specs.Spans.Errors.{IsRegexRefusal}
 use Rattle.regex_automata.specs.declared.hybrid.regex.Regex.{Regex}
 use Rattle.regex_automata.specs.declared.hybrid.regex.caches.Cache.{Cache}
@@ -37,13 +36,6 @@ GoesPast p input last m = MatchLiesIn p input m × (last ≡ Some input.start �
 abbrev pub LiesInHaystack : List ℕ → Option (Result Match SearchError) → Type 0
 LiesInHaystack haystack item =
     IfSome item (λ r. IfOk r (λ (m : Match). (m.start ≤ m.end) × (m.end ≤ length haystack)))
-
--- all that the next match uses is cached: what a search uses, and, if that finds an empty match at the last end, what
--- the search from one offset later uses
-abbrev pub KnowsNext : Regex → Cache → Input → Option ℕ → Type 0
-KnowsNext p c input last =
-    KnowsBoth p c input
-    × ((m : Match) → FindsMatch p input (Some m) → IsEmptyAt last m → KnowsBoth p c (from (suc input.start) input))
 
 -- one item of an iteration, and the iteration before and after it: what is left to be searched, where the last match
 -- ended, and whether it has ended
