@@ -37,7 +37,7 @@ pub fn truth_is_found()
 }
 
 /// What follows of what a search for a span makes of the two caches, and one for the next match: how often it
-/// determinizes, and when nothing is cleared; that until the next clear nothing is lost; that all that it used is cached
+/// determinizes, and when it clears nothing; that until the next clear nothing is lost; that all that it used is cached
 /// after an answer; that with all that cached nothing changes but the progress; and why it fails. For a search of one
 /// DFA, as `is_match` and the tokens make it, this is `searches_follow`.
 pub fn spans_follow(regex: &Regex)
