@@ -1,8 +1,8 @@
 -- What follows of the runs of searches over two lazy DFAs.
-use Rattle.std.proofs.Common.{ℕ, suc, ◌≡◌, ◌∙◌, ◌+◌, ◌≤◌, ◌<◌, ◌⊎◌, inl, inr, Option, Some, None, refl, sym, ap, subst, arith}
+use Rattle.std.proofs.Common.{suc, ◌≡◌, ◌∙◌, ◌+◌, ◌≤◌, ◌<◌, inl, inr, Option, Some, None, refl, sym, ap, subst, arith}
 use Rattle.std.specs.Prelude.{Result, Ok, Err, IfErr, IfSome}
 use Rattle.std.specs.Result.{result_err}
-use Rattle.automata_base.specs.Answers.Answers.{Half, IsInput}
+use Rattle.automata_base.specs.Answers.Answers.{Half}
 use Rattle.automata_base.specs.Haystacks.Input.{Input}
 use Rattle.automata_base.specs.Haystacks.Matches.{Match}
 use Rattle.automata_base.specs.Answers.Spans.{back, from}
@@ -21,7 +21,7 @@ use Rattle.automata_hybrid.proofs.Cache.Growth.{grown_same}
 use Rattle.automata_hybrid.proofs.Searches.Follows.{search_refused, searches_follow}
 use Rattle.regex_automata.specs.Regexes.Caches.{AreCachesOf, AreGrown, KnowsBack}
 use Rattle.regex_automata.specs.Spans.Errors.{HasReason, IsBackRefused, IsOfGiven}
-use Rattle.regex_automata.specs.Spans.Follows.{IsBackCost, NextFollows, NextsFollow, SpanFollows, SpansFollow}
+use Rattle.regex_automata.specs.Spans.Follows.{IsBackCost, NextsFollow, SpanFollows, SpansFollow}
 use Rattle.regex_automata.specs.Spans.Outcomes.{IsStartFound}
 use Rattle.regex_automata.specs.Spans.Runs.{IsBackRun, IsErrorOfBoth, IsSpanRun}
 use Rattle.regex_automata.specs.declared.hybrid.regex.Regex.{Regex}

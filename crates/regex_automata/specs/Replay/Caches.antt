@@ -1,5 +1,5 @@
 -- What the requests of a replay do to its caches, one after another, and how calls over these fail.
-use Rattle.std.specs.Prelude.{ℕ, ◌≡◌, ◌⊎◌, ◌↔◌, ◌<◌, Bool, false, List, [], ◌∷◌, length, Option, Some, None}
+use Rattle.std.specs.Prelude.{ℕ, ◌≡◌, ◌⊎◌, ◌↔◌, ◌<◌, Bool, List, [], ◌∷◌, length, Option, Some, None}
 use Rattle.std.specs.Prelude.{Result, Ok, Err, IfErr, IfOk, OnOk, slice_get}
 use Rattle.std.specs.Result.{result_err}
 use Rattle.automata_base.specs.Haystacks.Input.{Input}

@@ -1,6 +1,5 @@
 use Rattle.std.proofs.Common.{Option, ◌≡◌, ◌∙◌, ◌+◌, ◌<◌, ◌^◌, None, Some, inr, length, ap, subst, sym, refl, arith}
 use Rattle.std.proofs.lemmas.Grind.{common_steps}
-use Rattle.std.specs.Prelude.{Err, Ok}
 use Rattle.automata_base.specs.Haystacks.Input.{Allows, Input}
 use Rattle.automata_base.specs.Haystacks.Matches.{HalfMatch}
 use Rattle.automata_base.specs.declared.util.search.Direction.{Direction}
