@@ -392,13 +392,18 @@ left_refused way m input old new e (inr (begun, starts, inr (keeps, (k, mid, rea
     inr (k, starts.0.0, reads, clean, refused)
 
 -- and why a search failed
+fails_refused :
+    (way : Direction) (m : Machine) (input : Input) (old new : CacheView) (e : SearchError)
+    → SearchFails way m input old new e → IsRefused way m new.store input e
+fails_refused way m input old new e (passes, mid, tries, ended, left) =
+    let last = tries passes (omega arith) in
+    (passes, last.0, last.1, left_refused way m (later way passes input) mid new e left)
+
 pub search_refused :
     (way : Direction) (m : Machine) (input : Input) (old new : CacheView) (error : Option SearchError)
     → IsSearchRun way m input old new error → IfSome error (IsRefused way m new.store input)
 search_refused way m input old new None run = tt
-search_refused way m input old new (Some e) (passes, mid, tries, ended, left) =
-    let last = tries passes (omega arith) in
-    (passes, last.0, last.1, left_refused way m (later way passes input) mid new e left)
+search_refused way m input old new (Some e) run = fails_refused way m input old new e run.run
 
 pub call_refused :
     {A : Type 0} (way : Direction) (m : Machine) (input : Input) (old new : CacheView) (r : Result A SearchError)
@@ -527,7 +532,7 @@ module _ (way : Direction) (m : Machine) (input : Input) where
         known = λ knows. (
             let here = pass.known (idle passes old mid new last f knows) in
             (whole.idle (here.0.0 ∙ f.known knows), here.1));
-        refused = search_refused way m input old new (Some e) (passes, mid, tries, ended, left);
+        refused = fails_refused way m input old new e (passes, mid, tries, ended, left);
         done = λ over. absurd (none_tried (none_done (suc passes) tries over));
       }
     where
@@ -535,5 +540,5 @@ module _ (way : Direction) (m : Machine) (input : Input) where
       none_tried e = omega (arith, e)
 
 pub searches_follow : SearchesFollow
-searches_follow way m input old new None run = search_ends way m input old new run
-searches_follow way m input old new (Some e) run = search_fails way m input e old new run
+searches_follow way m input old new None run = search_ends way m input old new run.run
+searches_follow way m input old new (Some e) run = search_fails way m input e old new run.run

@@ -24,7 +24,7 @@ module _ (way : Direction) (m : Machine) (input : Input) (k : ℕ) (tries : Trie
     (old between : CacheView) (ended : PassesEnd way m input k old between) where
   -- and tries no other one
   pub run_before : input.end < input.start + k → IsSearchRun way m input old between None
-  run_before past = (k, spans_before way m input k tries, (λ next. omega (arith, past, next.1)), ended)
+  run_before past = record { run = (k, spans_before way m input k tries, (λ next. omega (arith, past, next.1)), ended) }
 
   -- and the pass over it
   module _ (now : Input) (same : now ≡ later way k input) (within : input.start + k ≤ input.end) (new : CacheView) where
@@ -39,15 +39,12 @@ module _ (way : Direction) (m : Machine) (input : Input) (k : ℕ) (tries : Trie
         PassEnds way m now between new
         → ((j : ℕ) → suc k ≤ j → Tries (Finds way m) (Skips m) way input j → input.start + j ≤ input.end → ⊥)
         → IsSearchRun way m input old new None
-    run_after pass stops =
-        (suc k, spans_tried way m input k tries within, (λ next. stops (suc k) (omega arith) next.0 next.1), spans_ended pass)
+    run_after pass stops = record {
+      run = (suc k, spans_tried way m input k tries within, (λ next. stops (suc k) (omega arith) next.0 next.1), spans_ended pass);
+    }
 
     -- which failed
     pub run_refused : (e : SearchError) → PassFails way m now between new e → IsSearchRun way m input old new (Some e)
-    run_refused e left = (
-      k,
-      between,
-      spans_tried way m input k tries within,
-      ended,
-      subst (λ (i : Input). PassFails way m i between new e) same left,
-    )
+    run_refused e left = record {
+      run = (k, between, spans_tried way m input k tries within, ended, subst (λ (i : Input). PassFails way m i between new e) same left);
+    }

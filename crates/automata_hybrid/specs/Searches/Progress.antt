@@ -1,6 +1,6 @@
 -- What the passes of a search make of their cache: their events, unit by unit, up to one that fails.
 use Rattle.std.specs.Prelude.{ℕ, zero, suc, ◌≡◌, ◌<◌, ◌≤◌, ◌+◌, ◌-◌, ◌⊎◌, List, [], ◌∷◌, ◌++◌, length}
-use Rattle.std.specs.Prelude.{Option, None, Some}
+use Rattle.std.specs.Prelude.{Option, None, Some, MatchOption}
 use Rattle.automata_base.specs.Answers.Answers.{Tries, later, offset_in}
 use Rattle.automata_base.specs.Haystacks.Input.{Input}
 use Rattle.automata_base.specs.Paths.Paths.{next}
@@ -176,6 +176,6 @@ SearchFails way m input old new e =
     × PassFails way m (later way passes input) mid new e
 
 -- what a search makes of its cache, by the error that it returns, if it fails
-abbrev pub IsSearchRun : Direction → Machine → Input → (old new : CacheView) → Option SearchError → Type 0
-IsSearchRun way m input old new None = SearchEnds way m input old new
-IsSearchRun way m input old new (Some e) = SearchFails way m input old new e
+pub record IsSearchRun (way : Direction) (m : Machine) (input : Input) (old new : CacheView)
+    (error : Option SearchError) : Type 0 where
+  pub run : MatchOption error (SearchEnds way m input old new) (SearchFails way m input old new)

@@ -1,5 +1,5 @@
 -- What follows of the runs of searches over two lazy DFAs.
-use Rattle.std.proofs.Common.{suc, ◌≡◌, ◌∙◌, ◌+◌, ◌≤◌, ◌<◌, inl, inr, Option, Some, None, refl, sym, ap, subst, arith}
+use Rattle.std.proofs.Common.{suc, ◌≡◌, ◌∙◌, ◌+◌, ◌≤◌, ◌<◌, ◌⊎◌, inl, inr, Option, Some, None, refl, sym, ap, subst, arith}
 use Rattle.std.specs.Prelude.{Result, Ok, Err, IfErr, IfSome}
 use Rattle.std.specs.Result.{result_err}
 use Rattle.automata_base.specs.Answers.Answers.{Half}
@@ -21,9 +21,10 @@ use Rattle.automata_hybrid.proofs.Cache.Growth.{grown_same}
 use Rattle.automata_hybrid.proofs.Searches.Follows.{search_refused, searches_follow}
 use Rattle.regex_automata.specs.Regexes.Caches.{AreCachesOf, AreGrown, KnowsBack}
 use Rattle.regex_automata.specs.Spans.Errors.{HasReason, IsBackRefused, IsOfGiven}
-use Rattle.regex_automata.specs.Spans.Follows.{IsBackCost, NextsFollow, SpanFollows, SpansFollow}
+use Rattle.regex_automata.specs.Spans.Follows.{IsBackCost, NextFollows, NextsFollow, SpanFollows, SpansFollow}
 use Rattle.regex_automata.specs.Spans.Outcomes.{IsStartFound}
-use Rattle.regex_automata.specs.Spans.Runs.{IsBackRun, IsErrorOfBoth, IsSpanRun}
+use Rattle.regex_automata.specs.Spans.Runs.{IsBackRun, IsBothRun, IsErrorOfBoth, IsFrontRun, IsSpanRun}
+use Rattle.regex_automata.specs.Spans.Iteration.{FindsEmptyAt}
 use Rattle.regex_automata.specs.declared.hybrid.regex.Regex.{Regex}
 use Rattle.regex_automata.specs.declared.hybrid.regex.caches.Cache.{Cache}
 use Rattle.regex_automata.proofs.Spans.Cached.{alone, both_stays, cleared_first, cleared_second, still_both, still_twice}
@@ -91,7 +92,7 @@ none_past m input half found past =
 -- why a search for a span fails
 span_refused :
     (p : Regex) (input : Input) (old new : Cache) (error : Option SearchError)
-    → IsSpanRun p input old new error → IfSome error (HasReason p new input)
+    → IsFrontRun p input old new error ⊎ IsBothRun p input old new error → IfSome error (HasReason p new input)
 span_refused p input old new error (inl (run, same, none)) =
     weaker error (λ e h. inl h) (search_refused Forward p.forward input old.forward new.forward error run)
 span_refused p input old new error (inr (run, (half, found, (failed, back, ends)))) =
@@ -102,10 +103,12 @@ pub call_refused :
     (p : Regex) (input : Input) (old new : Cache) (r : Result (Option Match) SearchError)
     → IsSpanRun p input old new (result_err r) → IfErr r (HasReason p new input)
 call_refused p input old new (Ok o) run = tt
-call_refused p input old new (Err e) run = span_refused p input old new (Some e) run
+call_refused p input old new (Err e) run = span_refused p input old new (Some e) run.run
 
-pub spans_follow : AnswersAgree → SpansFollow
-spans_follow agree p input old new error (inl (run, same, none)) = record {
+span_follows :
+    AnswersAgree → (p : Regex) (input : Input) (old new : Cache) (error : Option SearchError)
+    → IsFrontRun p input old new error ⊎ IsBothRun p input old new error → SpanFollows p input old new error
+span_follows agree p input old new error (inl (run, same, none)) = record {
   cost = (f.cost, inl same);
   grown = (f.grown, grown_same old.reverse new.reverse same);
   learned = λ nothing ok. knows_front agree p input new (f.learned nothing.0 ok) (none ok);
@@ -119,7 +122,7 @@ spans_follow agree p input old new error (inl (run, same, none)) = record {
 } where
   f : SearchFollows Forward p.forward input old.forward new.forward error
   f = searches_follow Forward p.forward input old.forward new.forward error run
-spans_follow agree p input old new error (inr (run, (half, found, (failed, back, ends)))) = record {
+span_follows agree p input old new error (inr (run, (half, found, (failed, back, ends)))) = record {
   cost = (f.cost, inr (half, found, b.cost));
   grown = (f.grown, b.grown);
   learned = λ nothing ok. knows_both agree p input new half (f.learned nothing.0 refl) found (b.learned nothing.1 (ends_both p input half failed error ends ok));
@@ -135,36 +138,45 @@ spans_follow agree p input old new error (inr (run, (half, found, (failed, back,
   b : BackFollows p input half old.reverse new.reverse failed
   b = back_follows p input half old.reverse new.reverse failed back
 
+pub spans_follow : AnswersAgree → SpansFollow
+spans_follow agree p input old new error run = span_follows agree p input old new error run.run
+
 -- caches that have grown still belong to the regex
 grown_of : (p : Regex) (old new : Cache) → AreCachesOf old p → AreGrown old new → AreCachesOf new p
 grown_of p old new of grown = (grown.0.of ∙ of.0, grown.1.of ∙ of.1)
 
 pub nexts_follow : AnswersAgree → (p : Regex) → KnownStays p.forward → KnownStays p.reverse → NextsFollow p
-nexts_follow agree p front rear input last old new error given of (inl (run, only)) = record {
-  cost = inl f.cost;
-  grown = f.grown;
-  learned = λ nothing ok. alone p input last new (f.learned nothing ok) (only ok);
-  known = λ knows. f.known knows.0;
-} where
-  f : SpanFollows p input old new error
-  f = spans_follow agree p input old new error run
-nexts_follow agree p front rear input last old new error given of (inr (empty, (between, first, second))) = record {
-  cost = inr (empty, (between, f.cost, s.cost));
-  grown = grown_twice old between new f.grown s.grown;
-  learned = λ nothing ok. (
-      let cleared = cleared_second old between new f.grown s.grown nothing in (
-        both_stays p front rear between new input given (grown_of p old between of f.grown)
-            (grown_of p between new (grown_of p old between of f.grown) s.grown) s.grown cleared
-            (f.learned (cleared_first old between new f.grown s.grown nothing) refl),
-        λ m found there. s.learned cleared ok,
-      ));
-  known = λ knows. (
-      let still = (f.known knows.0).0 in
-      let later = s.known (still_both p old between (from (suc input.start) input) still (knows.1 empty.0 empty.1 empty.2)) in
-      (still_twice old between new still later.0, later.1));
-} where
-  f : SpanFollows p input old between None
-  f = spans_follow agree p input old between None first
+nexts_follow agree p front rear input last old new error given of run = go run.run where
+  go :
+      (IsSpanRun p input old new error × (error ≡ None → FindsEmptyAt p input last → ⊥))
+      ⊎ (FindsEmptyAt p input last
+      × ((between : Cache) × IsSpanRun p input old between None × IsSpanRun p (from (suc input.start) input) between new error))
+      → NextFollows p input last old new error
+  go (inl (run, only)) = record {
+    cost = inl f.cost;
+    grown = f.grown;
+    learned = λ nothing ok. alone p input last new (f.learned nothing ok) (only ok);
+    known = λ knows. f.known knows.0;
+  } where
+    f : SpanFollows p input old new error
+    f = spans_follow agree p input old new error run
+  go (inr (empty, (between, first, second))) = record {
+    cost = inr (empty, (between, f.cost, s.cost));
+    grown = grown_twice old between new f.grown s.grown;
+    learned = λ nothing ok. (
+        let cleared = cleared_second old between new f.grown s.grown nothing in (
+          both_stays p front rear between new input given (grown_of p old between of f.grown)
+              (grown_of p between new (grown_of p old between of f.grown) s.grown) s.grown cleared
+              (f.learned (cleared_first old between new f.grown s.grown nothing) refl),
+          λ m found there. s.learned cleared ok,
+        ));
+    known = λ knows. (
+        let still = (f.known knows.0).0 in
+        let later = s.known (still_both p old between (from (suc input.start) input) still (knows.1 empty.0 empty.1 empty.2)) in
+        (still_twice old between new still later.0, later.1));
+  } where
+    f : SpanFollows p input old between None
+    f = spans_follow agree p input old between None first
 
-  s : SpanFollows p (from (suc input.start) input) between new error
-  s = spans_follow agree p (from (suc input.start) input) between new error second
+    s : SpanFollows p (from (suc input.start) input) between new error
+    s = spans_follow agree p (from (suc input.start) input) between new error second

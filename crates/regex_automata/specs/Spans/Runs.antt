@@ -45,17 +45,18 @@ IsBothRun p input old new error =
     × IsErrorOfBoth p input half failed error))
 
 -- a search for a span, by the error that it returns, if it fails
-abbrev pub IsSpanRun : Regex → Input → (old new : Cache) → Option SearchError → Type 0
-IsSpanRun p input old new error = IsFrontRun p input old new error ⊎ IsBothRun p input old new error
+pub record IsSpanRun (p : Regex) (input : Input) (old new : Cache) (error : Option SearchError) : Type 0 where
+  pub run : IsFrontRun p input old new error ⊎ IsBothRun p input old new error
 
 -- a search for the match after another: one search, or, if that finds an empty match at the last end, another from one
 -- offset later
-abbrev pub IsNextRun : Regex → Input → Option ℕ → (old new : Cache) → Option SearchError → Type 0
-IsNextRun p input last old new error =
-    (IsSpanRun p input old new error × (error ≡ None → FindsEmptyAt p input last → ⊥))
-    ⊎ (FindsEmptyAt p input last
-    × ((between : Cache) × IsSpanRun p input old between None
-    × IsSpanRun p (from (suc input.start) input) between new error))
+pub record IsNextRun (p : Regex) (input : Input) (last : Option ℕ) (old new : Cache) (error : Option SearchError) :
+    Type 0 where
+  pub run :
+      (IsSpanRun p input old new error × (error ≡ None → FindsEmptyAt p input last → ⊥))
+      ⊎ (FindsEmptyAt p input last
+      × ((between : Cache) × IsSpanRun p input old between None
+      × IsSpanRun p (from (suc input.start) input) between new error))
 
 -- the error of an item, if it is one
 abbrev pub item_error : Option (Result Match SearchError) → Option SearchError
@@ -69,8 +70,8 @@ IsItemRun p input last true old new item = new ≡ old
 IsItemRun p input last false old new item = IsNextRun p input last old new (item_error item)
 
 -- a search for whether there is a match is one of the forward DFA
-abbrev pub IsTruthRun : Regex → Input → (old new : Cache) → Option SearchError → Type 0
-IsTruthRun p input old new error =
-    ((asked : Input) × IsAsked p.forward input asked
-    × IsSearchRun Forward p.forward asked old.forward new.forward error)
-    × (new.reverse ≡ old.reverse)
+pub record IsTruthRun (p : Regex) (input : Input) (old new : Cache) (error : Option SearchError) : Type 0 where
+  pub asked : Input
+  pub is : IsAsked p.forward input asked
+  pub run : IsSearchRun Forward p.forward asked old.forward new.forward error
+  pub reverse : new.reverse ≡ old.reverse

@@ -42,15 +42,13 @@ returns-in_err-found-clause-returned c =
     (λ past. absurd (err_ok (asked_to (λ (i : Input). i.end < i.start → ◌≡◌ {A = Result (Option HalfMatch) SearchError} (Err c.in_err-found.field-0.0) (Ok None)) c.args.self.now.forward c.args.input.now c.asked-asked.result c.asked-asked.ensures (λ x. x) (λ x. x) (λ l. c.in_err-found.ensures.half.done l) past)))
 
 pub returns-in_err-found-clause-effect : goal.returns-in_err-found-clause-effect
-returns-in_err-found-clause-effect c =
-    let error = ap result_err (is_err c.from_residual.result _ c.from_residual.ensures.1) in (
-      (
-        c.asked-asked.result,
-        c.asked-asked.ensures,
-        subst (IsSearchRun Forward c.args.self.now.forward c.asked-asked.result c.args.cache.now.forward c.try_search_fwd.new.cache) (sym error) c.in_err-found.ensures.effect,
-      ),
-      refl,
-    )
+returns-in_err-found-clause-effect c = record {
+  asked = c.asked-asked.result;
+  is = c.asked-asked.ensures;
+  run = subst (IsSearchRun Forward c.args.self.now.forward c.asked-asked.result c.args.cache.now.forward c.try_search_fwd.new.cache)
+      (sym (ap result_err (is_err c.from_residual.result _ c.from_residual.ensures.1))) c.in_err-found.ensures.effect;
+  reverse = refl;
+}
 
 pub returns-clause-of : goal.returns-clause-of
 returns-clause-of c =
@@ -81,4 +79,9 @@ returns-clause-found c = record {
 }
 
 pub returns-clause-effect : goal.returns-clause-effect
-returns-clause-effect c = ((c.asked-asked.result, c.asked-asked.ensures, c.in_ok-found.ensures.effect), refl)
+returns-clause-effect c = record {
+  asked = c.asked-asked.result;
+  is = c.asked-asked.ensures;
+  run = c.in_ok-found.ensures.effect;
+  reverse = refl;
+}

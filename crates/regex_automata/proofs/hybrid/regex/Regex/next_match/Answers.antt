@@ -33,10 +33,12 @@ returns-in_err-found-clause-ahead c =
 pub returns-in_err-found-clause-effect : goal.returns-in_err-found-clause-effect
 returns-in_err-found-clause-effect c =
     let error = ap result_err (is_err c.from_residual.result _ c.from_residual.ensures.1) in
-    inl (
-      subst (IsSpanRun c.args.self.now c.args.input.now c.args.cache.now c.try_search.new.cache) (sym error) c.in_err-found.ensures.effect,
-      λ ok. absurd (some_none (sym error ∙ ok)),
-    )
+    record {
+      run = inl (
+        subst (IsSpanRun c.args.self.now c.args.input.now c.args.cache.now c.try_search.new.cache) (sym error) c.in_err-found.ensures.effect,
+        λ ok. absurd (some_none (sym error ∙ ok)),
+      );
+    }
 
 pub returns-in_default-clause-next : goal.returns-in_default-clause-next
 returns-in_default-clause-next c =
@@ -44,11 +46,13 @@ returns-in_default-clause-next c =
 
 pub returns-in_default-clause-effect : goal.returns-in_default-clause-effect
 returns-in_default-clause-effect c =
-    inl (
-      c.in_ok-found.ensures.effect,
-      λ ok. stands_none c.matches_agree.ensures c.args.self.now c.args.input.now c.args.last
-          (subst (FindsMatch c.args.self.now c.args.input.now) c.in_default.is c.in_ok-found.ensures.found),
-    )
+    record {
+      run = inl (
+        c.in_ok-found.ensures.effect,
+        λ ok. stands_none c.matches_agree.ensures c.args.self.now c.args.input.now c.args.last
+            (subst (FindsMatch c.args.self.now c.args.input.now) c.in_default.is c.in_ok-found.ensures.found),
+      );
+    }
 
 pub returns-then-not-is_empty_at-clause-next : goal.returns-then-not-is_empty_at-clause-next
 returns-then-not-is_empty_at-clause-next c =
@@ -61,11 +65,13 @@ returns-then-not-is_empty_at-clause-goes_on c =
 
 pub returns-then-not-is_empty_at-clause-effect : goal.returns-then-not-is_empty_at-clause-effect
 returns-then-not-is_empty_at-clause-effect c =
-    inl (
-      c.in_ok-found.ensures.effect,
-      λ ok. stands_some c.matches_agree.ensures c.args.self.now c.args.input.now c.args.last c.in-Some.found
-          (subst (FindsMatch c.args.self.now c.args.input.now) c.in-Some.is c.in_ok-found.ensures.found) (c.if-not-is_empty_at.ensures.no refl),
-    )
+    record {
+      run = inl (
+        c.in_ok-found.ensures.effect,
+        λ ok. stands_some c.matches_agree.ensures c.args.self.now c.args.input.now c.args.last c.in-Some.found
+            (subst (FindsMatch c.args.self.now c.args.input.now) c.in-Some.is c.in_ok-found.ensures.found) (c.if-not-is_empty_at.ensures.no refl),
+      );
+    }
 
 pub overflow_add-start : goal.overflow_add-start
 overflow_add-start c =
@@ -112,14 +118,16 @@ returns-clause-effect c =
     let place : c.start.result + 1 ≡ suc c.args.input.now.start = omega (arith, c.start.ensures.start) in
     let rest : c.from-rest.result ≡ from (suc c.args.input.now.start) c.args.input.now = c.from-rest.ensures ∙ ap (λ n. from n c.args.input.now) place in
     let found = subst (FindsMatch c.args.self.now c.args.input.now) c.in-Some.is c.in_ok-found.ensures.found in
-    inr (
-      (c.in-Some.found, found, c.if-not-is_empty_at.ensures.yes refl),
-      (
-        c.try_search.new.cache,
-        c.in_ok-found.ensures.effect,
-        subst (λ (i : Input). IsSpanRun c.args.self.now i c.try_search.new.cache c.try_search-2.new.cache (result_err c.try_search-2.result)) rest c.try_search-2.ensures.effect,
-      ),
-    )
+    record {
+      run = inr (
+        (c.in-Some.found, found, c.if-not-is_empty_at.ensures.yes refl),
+        (
+          c.try_search.new.cache,
+          c.in_ok-found.ensures.effect,
+          subst (λ (i : Input). IsSpanRun c.args.self.now i c.try_search.new.cache c.try_search-2.new.cache (result_err c.try_search-2.result)) rest c.try_search-2.ensures.effect,
+        ),
+      );
+    }
 
 pub returns-in_err-found-clause-unsupported : goal.returns-in_err-found-clause-unsupported
 returns-in_err-found-clause-unsupported c =

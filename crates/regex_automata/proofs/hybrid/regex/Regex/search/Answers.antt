@@ -35,11 +35,13 @@ returns-in_err-front-clause-reported c = record {
 pub returns-in_err-front-clause-effect : goal.returns-in_err-front-clause-effect
 returns-in_err-front-clause-effect c =
     let error = ap result_err (is_err c.from_residual.result _ c.from_residual.ensures.1) in
-    inl (
-      subst (IsSearchRun Forward c.args.self.now.forward c.args.input.now c.args.cache.now.forward c.try_search_fwd_base.new.cache) (sym error) c.in_err-front.ensures.effect,
-      refl,
-      λ ok. absurd (some_none (sym error ∙ ok)),
-    )
+    record {
+      run = inl (
+        subst (IsSearchRun Forward c.args.self.now.forward c.args.input.now c.args.cache.now.forward c.try_search_fwd_base.new.cache) (sym error) c.in_err-front.ensures.effect,
+        refl,
+        λ ok. absurd (some_none (sym error ∙ ok)),
+      );
+    }
 
 pub returns-in_default-clause-of : goal.returns-in_default-clause-of
 returns-in_default-clause-of c =
@@ -56,7 +58,9 @@ returns-in_default-clause-reported c = record {
 
 pub returns-in_default-clause-effect : goal.returns-in_default-clause-effect
 returns-in_default-clause-effect c =
-    inl (c.in_ok-front.ensures.effect, refl, λ ok. front_none c.args.self.now.forward c.args.input.now c.in_ok-front.field-0 c.in_ok-front.ensures.found c.in_default.is)
+    record {
+      run = inl (c.in_ok-front.ensures.effect, refl, λ ok. front_none c.args.self.now.forward c.args.input.now c.in_ok-front.field-0 c.in_ok-front.ensures.found c.in_default.is);
+    }
 
 pub find_start-requires-clause-of : goal.find_start-requires-clause-of
 find_start-requires-clause-of c =
@@ -81,14 +85,16 @@ returns-in_err-start-clause-reported c = record {
 
 pub returns-in_err-start-clause-effect : goal.returns-in_err-start-clause-effect
 returns-in_err-start-clause-effect c =
-    inr (
-      c.in_ok-front.ensures.effect,
-      (
-        with_base c.in-Some.front.0 c.in-Some.front.1,
-        front_some c.args.self.now.forward c.args.input.now c.in_ok-front.field-0 c.in-Some.front.0 c.in-Some.front.1 c.in_ok-front.ensures.found c.in-Some.is,
-        (Some c.in_err-start.field-0.0, c.in_err-start.ensures.effect, inl (ap result_err (is_err c.from_residual-in_err-start.result _ c.from_residual-in_err-start.ensures.1))),
-      ),
-    )
+    record {
+      run = inr (
+        c.in_ok-front.ensures.effect,
+        (
+          with_base c.in-Some.front.0 c.in-Some.front.1,
+          front_some c.args.self.now.forward c.args.input.now c.in_ok-front.field-0 c.in-Some.front.0 c.in-Some.front.1 c.in_ok-front.ensures.found c.in-Some.is,
+          (Some c.in_err-start.field-0.0, c.in_err-start.ensures.effect, inl (ap result_err (is_err c.from_residual-in_err-start.result _ c.from_residual-in_err-start.ensures.1))),
+        ),
+      );
+    }
 
 pub returns-in_default-2-clause-of : goal.returns-in_default-2-clause-of
 returns-in_default-2-clause-of c =
@@ -105,14 +111,16 @@ returns-in_default-2-clause-reported c = record {
 
 pub returns-in_default-2-clause-effect : goal.returns-in_default-2-clause-effect
 returns-in_default-2-clause-effect c =
-    inr (
-      c.in_ok-front.ensures.effect,
-      (
-        with_base c.in-Some.front.0 c.in-Some.front.1,
-        front_some c.args.self.now.forward c.args.input.now c.in_ok-front.field-0 c.in-Some.front.0 c.in-Some.front.1 c.in_ok-front.ensures.found c.in-Some.is,
-        (None, c.in_ok-start.ensures.effect, inr (refl, subst (IsStartFound c.args.self.now c.args.input.now (with_base c.in-Some.front.0 c.in-Some.front.1)) c.in_default-2.is c.in_ok-start.ensures.found, refl)),
-      ),
-    )
+    record {
+      run = inr (
+        c.in_ok-front.ensures.effect,
+        (
+          with_base c.in-Some.front.0 c.in-Some.front.1,
+          front_some c.args.self.now.forward c.args.input.now c.in_ok-front.field-0 c.in-Some.front.0 c.in-Some.front.1 c.in_ok-front.ensures.found c.in-Some.is,
+          (None, c.in_ok-start.ensures.effect, inr (refl, subst (IsStartFound c.args.self.now c.args.input.now (with_base c.in-Some.front.0 c.in-Some.front.1)) c.in_default-2.is c.in_ok-start.ensures.found, refl)),
+        ),
+      );
+    }
 
 pub new-requires : goal.new-requires
 new-requires c =
@@ -134,11 +142,13 @@ returns-clause-reported c = record {
 
 pub returns-clause-effect : goal.returns-clause-effect
 returns-clause-effect c =
-    inr (
-      c.in_ok-front.ensures.effect,
-      (
-        with_base c.in-Some.front.0 c.in-Some.front.1,
-        front_some c.args.self.now.forward c.args.input.now c.in_ok-front.field-0 c.in-Some.front.0 c.in-Some.front.1 c.in_ok-front.ensures.found c.in-Some.is,
-        (None, c.in_ok-start.ensures.effect, inl refl),
-      ),
-    )
+    record {
+      run = inr (
+        c.in_ok-front.ensures.effect,
+        (
+          with_base c.in-Some.front.0 c.in-Some.front.1,
+          front_some c.args.self.now.forward c.args.input.now c.in_ok-front.field-0 c.in-Some.front.0 c.in-Some.front.1 c.in_ok-front.ensures.found c.in-Some.is,
+          (None, c.in_ok-start.ensures.effect, inl refl),
+        ),
+      );
+    }
