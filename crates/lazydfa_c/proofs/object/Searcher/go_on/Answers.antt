@@ -1,5 +1,5 @@
-use Rattle.std.proofs.Common.{rules, ℕ, Option, Some, subst}
-use Rattle.std.specs.Prelude.{Err}
+use Rattle.std.proofs.Common.{rules, ℕ, Option, Some, None, subst}
+use Rattle.std.specs.Prelude.{Ok, Err}
 use Rattle.regex_automata.specs.Spans.Iteration.{IsNextRefusal}
 use Rattle.regex_automata.specs.Spans.Runs.{IsNextRun}
 use Rattle.regex_automata.specs.declared.hybrid.regex.Regex.{Regex}
@@ -20,6 +20,36 @@ returns-in-Err c =
           subst (λ (l : Option ℕ). IsNextRun regex input l old new (Some e)) c.last.ensures
           (subst (λ (r : Regex). IsNextRun r input c.last.result old new (Some e)) c.deref.ensures
           c.in-Err.ensures.effect);
+      same = search rules;
+      iterated = search rules;
+    }
+
+pub returns-in-Ok-Some : goal.returns-in-Ok-Some
+returns-in-Ok-Some c =
+    let input = c.args.input.now in let old = c.args.self.now.cache in let new = c.next_match.new.cache in
+    let regex = regex_of c.args.self.now in record {
+      result = Ok (Some c.in-Ok-Some.it);
+      told = search rules;
+      next = search rules;
+      refusal = search rules;
+      effect =
+          subst (λ (l : Option ℕ). IsNextRun regex input l old new None) c.last.ensures
+          (subst (λ (r : Regex). IsNextRun r input c.last.result old new None) c.deref.ensures c.in-Ok-Some.ensures.effect);
+      same = search rules;
+      iterated = search rules;
+    }
+
+pub returns-in-Ok-None : goal.returns-in-Ok-None
+returns-in-Ok-None c =
+    let input = c.args.input.now in let old = c.args.self.now.cache in let new = c.next_match.new.cache in
+    let regex = regex_of c.args.self.now in record {
+      result = Ok None;
+      told = search rules;
+      next = search rules;
+      refusal = search rules;
+      effect =
+          subst (λ (l : Option ℕ). IsNextRun regex input l old new None) c.last.ensures
+          (subst (λ (r : Regex). IsNextRun r input c.last.result old new None) c.deref.ensures c.in-Ok-None.ensures.effect);
       same = search rules;
       iterated = search rules;
     }
