@@ -1,7 +1,8 @@
 -- The definitions by subject, in the order in which a reader needs them. To learn what a call promises, begin with the
 -- record that its contract names, and follow what its fields name:
 --
---     what a search returns, and does to its cache         Searches.Contracts: IsHalf, IsBased, IsSearchEffect
+--     what a search returns                                Searches.Contracts: IsHalf, IsBased
+--     what it does to its cache, and what follows          Searches.Progress: IsSearchRun; Searches.Follows
 --     what a call of a walk returns, and does              Walks.Contracts: IsWalkCall, IsCallEffect
 --     what a set of patterns is joined with                Walks.Contracts: IsWhich, IsWhichEffect; Walks.SetsByPaths
 --     what a step returns, when it fails, what it does     Steps.Steps: IsStepAnswer, IsStepRefused, IsStepEffect
