@@ -8,4 +8,6 @@ pub mod CachedSets
 pub mod Bounds
 pub mod Parts
 pub mod Units
+pub mod Follows
+pub mod SetsFollow
 pub mod SetsByPaths

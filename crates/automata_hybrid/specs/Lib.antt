@@ -3,8 +3,9 @@
 --
 --     what a search returns                                Searches.Contracts: IsHalf, IsBased
 --     what it does to its cache, and what follows          Searches.Progress: IsSearchRun; Searches.Follows
---     what a call of a walk returns, and does              Walks.Contracts: IsWalkCall, IsCallEffect
---     what a set of patterns is joined with                Walks.Contracts: IsWhich, IsWhichEffect; Walks.SetsByPaths
+--     what a call of a walk returns                        Walks.Contracts: IsWalkCall
+--     what a set of patterns is joined with                Walks.Contracts: IsWhich; Walks.SetsByPaths
+--     what they do to their cache, and what follows        Walks.Progress: IsWalkRun, IsSetRun; Walks.Follows
 --     what a step returns, when it fails, what it does     Steps.Steps: IsStepAnswer, IsStepRefused, IsStepEffect
 --     the same of a start state                            Steps.Starts: IsStartAnswer, IsStartRefused, IsStartEffect
 --     a search by steps                                    Steps.BySteps: StandsAt, IsStepAt; Cache.Caches: HoldsRow

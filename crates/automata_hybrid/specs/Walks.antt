@@ -6,3 +6,4 @@ pub mod SetsByPaths
 pub mod Cached
 pub mod Progress
 pub mod Parts
+pub mod Follows

@@ -1,5 +1,6 @@
 //! Laws that searches and walks stand on. The contract of each function is the law; what it does is to cite others.
 ghost use Rattle.automata_hybrid.specs.Cache.Caches.{IsCacheOf, IsStoreOf};
+ghost use Rattle.automata_hybrid.specs.Walks.Follows.{CallsFollow, SetsFollow};
 ghost use Rattle.automata_hybrid.specs.Walks.SetsByPaths.{SetsHaveMatching};
 ghost use Rattle.automata_hybrid.specs.Searches.Agreement.{AnswersAgree, WalksAgree};
 ghost use Rattle.automata_hybrid.specs.Searches.Follows.{PassesCost, SearchesFollow};
@@ -64,4 +65,21 @@ pub fn sets_have_matching(dfa: &DFA)
     ensures { SetsHaveMatching dfa.now }
 {
     walk_is_right(dfa.get_nfa());
+}
+
+/// What follows of the run of a call of an overlapping search: how often it determinizes, how the cache grows, what is
+/// cached after it, and that nothing changes but the progress if all that it uses is cached.
+pub fn calls_follow(dfa: &DFA)
+    ensures { CallsFollow dfa.now }
+{
+    let _skips = dfa.skips();
+}
+
+/// What follows of the run of the search for a set of patterns: how often it determinizes, how the cache grows, what is
+/// cached after it, and that nothing changes but the progress if all that it uses is cached.
+pub fn sets_follow(dfa: &DFA)
+    ensures { SetsFollow dfa.now }
+{
+    walk_is_right(dfa.get_nfa());
+    let _skips = dfa.skips();
 }

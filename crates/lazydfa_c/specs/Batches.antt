@@ -5,7 +5,8 @@ use Rattle.automata_base.specs.declared.util.search.Direction.{Direction}
 use Rattle.automata_base.specs.declared.util.search.Direction.TheVariants.{Backward, Forward}
 use Rattle.automata_config.specs.declared.error.SearchError.{SearchError}
 use Rattle.automata_hybrid.specs.Walks.Answers.{HasReported, IsWalkRefusal}
-use Rattle.automata_hybrid.specs.Walks.Contracts.{IsCallEffect, IsWalkCall}
+use Rattle.automata_hybrid.specs.Walks.Contracts.{IsWalkCall}
+use Rattle.automata_hybrid.specs.Walks.Progress.{IsWalkRun}
 use Rattle.automata_hybrid.specs.Walks.State.{States, Walk, fresh_walk}
 use Rattle.regex_automata.specs.Promises.{CacheView, HalfMatch, Input, Machine}
 use Rattle.lazydfa_c.specs.Caches.{written_over}
@@ -63,7 +64,7 @@ pub record IsStep (way : Direction) (m : Machine) (input : Input) (walk next : W
   pub refusal :
       (k : ℕ) → HasReported way m input walk k
       → IfErr result (IsWalkRefusal States way m new.store input walk k)
-  pub effect : IsCallEffect States way m input walk next old new (done_of result)
+  pub effect : IsWalkRun States way m input walk next old new (done_of result)
 
 -- steps one after another, each of which found one of these matches
 abbrev pub AreSteps : Direction → Machine → Input → List HalfMatch → (walk next : Walk) → (old new : CacheView) → Type 0

@@ -3,7 +3,7 @@ use Rattle.std.specs.Prelude.{ℕ, ◌≡◌, ◌==◌, Bool, true, false, List}
 use Rattle.std.specs.Prelude.{Option, Some, None, Result, Ok, Err, IfErr, IfOk, IsSomeAnd, if◌then◌else◌}
 use Rattle.std.specs.Result.{result_err}
 use Rattle.automata_config.specs.declared.error.SearchError.{SearchError}
-use Rattle.automata_hybrid.specs.Walks.Contracts.{IsWhichEffect}
+use Rattle.automata_hybrid.specs.Walks.Progress.{IsSetRun}
 use Rattle.regex_automata.specs.Promises.{Backward, Forward, HalfMatch, Input, IsHalf, IsSearchRun}
 use Rattle.regex_automata.specs.Promises.{IsSpanOf, IsSpanRun, IsTruthOf, IsTruthRun, IsWhich, Match}
 use Rattle.regex_automata.specs.Spans.Iteration.{IsNextMatch, IsNextRefusal}
@@ -196,6 +196,6 @@ pub record Joins (set : List Bool) (input : Input) (s t : Searcher) (status : St
   pub result : Result (Unit {0}) SearchError
   pub told : IsDoneTold result status
   pub returned : IsWhich (regex_of s).forward input set t.patterns result
-  pub effect : IsWhichEffect (regex_of s).forward input set s.cache.forward t.cache.forward result
+  pub effect : IsSetRun (regex_of s).forward input set s.cache.forward t.cache.forward result
   pub reverse : t.cache.reverse ≡ s.cache.reverse
   pub same : t.shared ≡ s.shared

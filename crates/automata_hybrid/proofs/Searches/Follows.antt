@@ -238,7 +238,7 @@ quit_of_input way m c input k search.OutOfMemory why quits = absurd (false_true 
 quit_of_input way m c input k search.NotAPair why quits = absurd why
 
 -- so is one of a search that may not start
-barred_of_input :
+pub barred_of_input :
     (m : Machine) (c : Stored) (input : Input) (behind : Option ℕ) (behind_at start_at : ℕ) (e : SearchError)
     → IsStartRefusalAt m c input.anchored behind behind_at start_at e → (MayStart m input.anchored behind → ⊥) → IsOfInput e
 barred_of_input m c input behind behind_at start_at e (error, why, reported, unknown) barred = subst IsOfInput (sym reported) (go error why) where
@@ -249,7 +249,7 @@ barred_of_input m c input behind behind_at start_at e (error, why, reported, unk
   go start.OutOfMemory why = absurd (barred why)
 
 -- a search may start, or it may not
-may_or_not : (m : Machine) (input : Input) (behind : Option ℕ) → MayStart m input.anchored behind ⊎ (MayStart m input.anchored behind → ⊥)
+pub may_or_not : (m : Machine) (input : Input) (behind : Option ℕ) → MayStart m input.anchored behind ⊎ (MayStart m input.anchored behind → ⊥)
 may_or_not m input behind = go (quit_behind m behind) refl (supports m input.anchored) refl where
   go :
       (o : Option ℕ) → quit_behind m behind ≡ o → (b : Bool) → supports m input.anchored ≡ b

@@ -1,10 +1,8 @@
 -- What a set of patterns took to be found is cached.
-use Rattle.std.proofs.Common.{ℕ, zero, suc, ◌≡◌, ◌<◌, ◌≤◌, ◌+◌, ◌⊎◌, inl, inr, Bool, true, List, [], ◌∷◌, ◌++◌, length}
-use Rattle.std.proofs.Common.{take, None, refl, sym, ap, ◌∙◌, subst, arith}
+use Rattle.std.proofs.Common.{ℕ, zero, suc, ◌≡◌, ◌<◌, ◌≤◌, ◌+◌, ◌⊎◌, inl, inr, Bool, List, [], ◌∷◌, ◌++◌, length}
+use Rattle.std.proofs.Common.{take, None, refl, ap, subst, arith}
 use Rattle.automata_base.specs.Answers.Answers.{AreUnsplit, HasPattern}
 use Rattle.automata_base.specs.Haystacks.Input.{Input}
-use Rattle.automata_base.specs.Lists.{In}
-use Rattle.automata_base.specs.Haystacks.PatternSet.{members}
 use Rattle.automata_base.specs.Powersets.Powerset.{Powerset}
 use Rattle.automata_base.specs.Paths.Selections.{Pair}
 use Rattle.automata_base.specs.declared.util.search.Direction.TheVariants.{Forward}
@@ -15,16 +13,13 @@ use Rattle.automata_hybrid.specs.Searches.Cached.{KnowsItsStart, KnowsUnit}
 use Rattle.automata_hybrid.specs.Walks.Cached.{HasLearnedUnits, IsOpen, IsToRead, KnowsItsState, KnowsWalk}
 use Rattle.automata_hybrid.specs.Machines.Machine.{Machine}
 use Rattle.automata_hybrid.specs.Searches.PassState.{HasLearnedUnit}
-use Rattle.automata_hybrid.specs.Searches.Passes.{HasReadNoQuit, Skips, state_in, tape_in}
+use Rattle.automata_hybrid.specs.Searches.Passes.{HasReadNoQuit, Skips, tape_in}
 use Rattle.automata_hybrid.specs.Steps.Starts.{MayStart}
-use Rattle.automata_hybrid.specs.Walks.Answers.{AreWalked, HasReported, HasReportedAt, HasReportedBy, WalkReads, half_nth, pairs_reported_in}
+use Rattle.automata_hybrid.specs.Walks.Answers.{AreWalked, HasReported, WalkReads, half_nth, pairs_reported_in}
 use Rattle.automata_hybrid.specs.Walks.State.{At, Ended, Fresh, Stage, Walk}
-use Rattle.automata_hybrid.specs.Walks.Sets.{IsJoined}
 use Rattle.automata_hybrid.proofs.Searches.Cached.{begin_still, unit_still}
-use Rattle.automata_hybrid.proofs.Searches.PassState.{false_true}
-use Rattle.automata_hybrid.proofs.Walks.Calls.{reported_place}
-use Rattle.automata_hybrid.proofs.Walks.Reports.{Begins, reported_rises, walked_begin}
-use Rattle.automata_hybrid.proofs.Walks.Sets.{flag_in, full_at}
+use Rattle.automata_hybrid.proofs.Walks.Calls.{reported_least}
+use Rattle.automata_hybrid.proofs.Walks.Reports.{Begins, walked_begin}
 use Rattle.std.proofs.lemmas.Bool.{cases_lt}
 
 -- a walk has not begun, or its start and all transitions that it took are cached
@@ -69,46 +64,25 @@ taken_front [] ys (suc n) p l h = absurd (omega (arith, l))
 taken_front (x ∷ xs) ys (suc n) p l (inl e) = inl e
 taken_front (x ∷ xs) ys (suc n) p l (inr h) = inr (taken_front xs ys n p (omega (arith, l)) h)
 
-module _ (m : Machine) (input : Input) (v : Walk) (k : ℕ) (reported : HasReported Forward m input v (suc k)) (on : v.stage ≡ Ended → ⊥) where
-  reported_least : (j n : ℕ) → v.units ≤ j → HasReportedBy Forward m input j n → suc k ≤ n
-  reported_least j n l t = go v.stage reported on where
-    go : (s : Stage) → HasReportedAt Forward m input s v.units v.reported (suc k) → (s ≡ Ended → ⊥) → suc k ≤ n
-    go Fresh (none, first) on = absurd (omega (arith, none))
-    go (At q) s on =
-        let here : Powerset = state_in Forward m input (suc s.place) in
-        let same : here ≡ q = ap (state_in Forward m input) (sym s.one_after) ∙ sym s.state in
-        let all : length here.patterns ≡ length q.patterns = ap (λ (p : Powerset). length p.patterns) same in
-        let rises : s.earlier + length here.patterns ≤ n =
-        reported_rises Forward m input (suc s.place) j (s.earlier + length here.patterns) n (omega (arith, l, s.one_after)) (reported_place Forward m input s.place s.earlier s.unskipped s.before) t in
-        omega (arith, rises, s.few, all, s.count)
-    go Ended t on = absurd (on refl)
+-- a set that is closed after the pairs that its walk has reported is closed after more
+pub closed_stops :
+    (m : Machine) (input : Input) (v : Walk) (k : ℕ) (set : List Bool) (list : List Pair) → HasReported Forward m input v k
+    → (v.stage ≡ Ended → ⊥) → input.start ≤ input.end → AreWalked Forward m input list → (IsOpen input set (take k list) → ⊥)
+    → (j : ℕ) (pairs : List Pair)
+    → v.units ≤ j → WalkReads Forward m input j → AreUnsplit (Skips m) Forward input (pairs_reported_in Forward m input j) pairs
+    → IsOpen input set pairs → ⊥
+closed_stops m input v zero set list reported on s walked closed j pairs l reads unsplit is_open = closed (inl refl)
+closed_stops m input v (suc k) set list reported on s walked closed j pairs l reads unsplit is_open = closed (go is_open) where
+  least : suc k ≤ length pairs
+  least = reported_least Forward m input v k reported on j (length pairs) l (record { pairs = pairs; unsplit = unsplit; count = refl })
 
-  -- after a pair at which it stops a set reads nothing
-  pub open_stops :
-      (old new : List Bool) (list : List Pair)
-      → input.start ≤ input.end → AreWalked Forward m input list → length new ≡ length old → IsJoined (take (suc k) list) old new
-      → (input.earliest ≡ true) ⊎ (length (members new) ≡ length new)
-      → (j : ℕ) (pairs : List Pair)
-      → v.units ≤ j → WalkReads Forward m input j → AreUnsplit (Skips m) Forward input (pairs_reported_in Forward m input j) pairs
-      → IsOpen input old pairs → ⊥
-  open_stops old new list s walked capacity joined stop j pairs l reads unsplit is_open = go is_open stop where
-    reported_by : HasReportedBy Forward m input j (length pairs)
-    reported_by = record { pairs = pairs; unsplit = unsplit; count = refl }
+  begins : Begins Forward m input pairs list
+  begins = walked_begin Forward m input j pairs list s (let few : j ≤ length (tape_in Forward input).bytes = reads.0 in omega (arith, few)) unsplit walked
 
-    least : suc k ≤ length pairs
-    least = reported_least j (length pairs) l reported_by
-
-    go : IsOpen input old pairs → (input.earliest ≡ true) ⊎ (length (members new) ≡ length new) → ⊥
-    go (inl none) stop = absurd (let z : length pairs ≡ 0 = ap (λ (ps : List Pair). length ps) none in omega (arith, least, z))
-    go (inr (e, rest)) (inl early) = false_true (sym e ∙ early)
-    go (inr (e, (p, below, absent, other))) (inr full) = among ((joined p).0 (flag_in new p (full_at new 0 p full (omega (arith, below, capacity))))) where
-      begins : Begins Forward m input pairs list
-      begins = walked_begin Forward m input j pairs list s (let few : j ≤ length (tape_in Forward input).bytes = reads.0 in omega (arith, few)) unsplit walked
-
-      among : In p (members old) ⊎ ((p < length old) × HasPattern p (take (suc k) list)) → ⊥
-      among (inl i) = absent i
-      among (inr (b, h)) =
-          other (taken_front pairs begins.rest (suc k) p least (subst (λ (ps : List Pair). HasPattern p (take (suc k) ps)) begins.joined h))
+  go : IsOpen input set pairs → IsOpen input set (take (suc k) list)
+  go (inl none) = absurd (let z : length pairs ≡ 0 = ap (λ (ps : List Pair). length ps) none in omega (arith, least, z))
+  go (inr (e, (p, below, absent, other))) =
+      inr (e, (p, below, absent, λ h. other (taken_front pairs begins.rest (suc k) p least (subst (λ (ps : List Pair). HasPattern p (take (suc k) ps)) begins.joined h))))
 
 -- a set that stops has cached all that it took
 pub set_knows :

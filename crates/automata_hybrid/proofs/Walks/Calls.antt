@@ -24,7 +24,7 @@ use Rattle.automata_hybrid.specs.Walks.State.{At, Ended, Fresh, Stage, Walk, end
 use Rattle.automata_hybrid.proofs.Cache.Growth.{clears_none, clears_none_back}
 use Rattle.automata_hybrid.proofs.Searches.PassState.{false_true}
 use Rattle.automata_hybrid.proofs.Walks.Reports.{Begins, finish_all, half_at_place, half_after, half_past, place_length}
-use Rattle.automata_hybrid.proofs.Walks.Reports.{reported_more, walked_all, walked_begin}
+use Rattle.automata_hybrid.proofs.Walks.Reports.{reported_more, reported_rises, walked_all, walked_begin}
 use Rattle.automata_config.specs.Options.{match_kind_of}
 use Rattle.std.proofs.lemmas.Bool.{cases_lt}
 
@@ -253,6 +253,22 @@ module _ (way : Direction) (m : Machine) (input : Input) where
             let first : k + 0 ≡ k = omega arith in
             (ap Some here ∙ (sym p.0 ∙ ap (half_nth pairs) first), λ l. absurd (omega (arith, p.1, l)))),
       )
+
+-- what is reported after where a walk stands is at least what it has reported
+pub reported_least :
+    (way : Direction) (m : Machine) (input : Input) (v : Walk) (k : ℕ) → HasReported way m input v (suc k) → (v.stage ≡ Ended → ⊥)
+    → (j n : ℕ) → v.units ≤ j → HasReportedBy way m input j n → suc k ≤ n
+reported_least way m input v k reported on j n l t = go v.stage reported on where
+  go : (s : Stage) → HasReportedAt way m input s v.units v.reported (suc k) → (s ≡ Ended → ⊥) → suc k ≤ n
+  go Fresh (none, first) on = absurd (omega (arith, none))
+  go (At q) s on =
+      let here : Powerset = state_in way m input (suc s.place) in
+      let same : here ≡ q = ap (state_in way m input) (sym s.one_after) ∙ sym s.state in
+      let all : length here.patterns ≡ length q.patterns = ap (λ (p : Powerset). length p.patterns) same in
+      let rises : s.earlier + length here.patterns ≤ n =
+      reported_rises way m input (suc s.place) j (s.earlier + length here.patterns) n (omega (arith, l, s.one_after)) (reported_place way m input s.place s.earlier s.unskipped s.before) t in
+      omega (arith, rises, s.few, all, s.count)
+  go Ended t on = absurd (on refl)
 
 -- nothing is cleared where there is room for the units left and a start, or a state put back
 pub walk_clears_none :

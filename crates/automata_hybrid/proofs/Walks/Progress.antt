@@ -1,5 +1,6 @@
 -- What the calls of a walk make of their cache and of the progress.
-use Rattle.std.proofs.Common.{ℕ, suc, ◌≡◌, ◌+◌, ◌≤◌, length, inl, inr, sym, subst, arith}
+use Rattle.std.proofs.Common.{ℕ, suc, ◌≡◌, ◌+◌, ◌≤◌, length, inl, inr, refl, sym, subst, arith}
+use Rattle.automata_base.specs.Answers.Answers.{AreUnsplit, with_offsets, without_split}
 use Rattle.automata_base.specs.Haystacks.Input.{Input}
 use Rattle.automata_base.specs.declared.util.search.Direction.{Direction}
 use Rattle.automata_config.specs.declared.error.SearchError.{SearchError}
@@ -9,17 +10,49 @@ use Rattle.automata_hybrid.specs.Walks.Cached.{IsToRead}
 use Rattle.automata_hybrid.specs.Machines.Machine.{Machine}
 use Rattle.automata_hybrid.specs.Searches.Progress.{AreUnitsRead, IsLeftAt}
 use Rattle.automata_hybrid.specs.Walks.Progress.{IsCallLeftAt, IsCallStopped, ReadsNoUnit}
-use Rattle.automata_hybrid.specs.Searches.Passes.{HasReadNoQuit, IsUnitRefusal}
-use Rattle.automata_hybrid.specs.Walks.Answers.{IsRefusalAt, IsSilent, WalkReads}
+use Rattle.automata_hybrid.specs.Searches.Cached.{IsOfInput}
+use Rattle.automata_hybrid.specs.Searches.Passes.{HasReadNoQuit, IsUnitRefusal, Skips}
+use Rattle.automata_hybrid.specs.Walks.Answers.{HasReportedBy, IsRefusalAt, IsSilent, WalkReads, pairs_reported_in}
+use Rattle.automata_hybrid.specs.Walks.Follows.{IsKnownRefusal}
 use Rattle.automata_hybrid.specs.Walks.State.{Ids, Keeping, States, Walk}
 use Rattle.automata_hybrid.proofs.Searches.PassState.{dead_more}
 use Rattle.automata_hybrid.proofs.Searches.UnitsRead.{AreReadTo, read_some}
+use Rattle.automata_hybrid.proofs.Walks.Reports.{reported_rises}
 
 -- a walk reads the units before one that it reads
 pub walk_reads_before :
     (way : Direction) (m : Machine) (input : Input) (j k : ℕ) → j ≤ k → WalkReads way m input k → WalkReads way m input j
 walk_reads_before way m input j k l reads =
     (omega (arith, l, reads.0), λ dies. reads.1 (dead_more way m input j k l dies))
+
+-- units that report nothing report nothing up to each place between
+pub silent_before :
+    (way : Direction) (m : Machine) (input : Input) (from j to : ℕ) → from ≤ j → j ≤ to → IsSilent way m input from to
+    → IsSilent way m input from j
+silent_before way m input from j to more less silent k t = subst (HasReportedBy way m input j) same here.1 where
+  one :
+      AreUnsplit (Skips m) way input (pairs_reported_in way m input from) t.pairs → (n : ℕ) × HasReportedBy way m input j n
+  one (inl skips) = (
+    length (without_split input.haystack (with_offsets way input (pairs_reported_in way m input j))),
+    record {
+      pairs = without_split input.haystack (with_offsets way input (pairs_reported_in way m input j));
+      unsplit = inl (skips.0, refl);
+      count = refl;
+    },
+  )
+  one (inr none) = (
+    length (with_offsets way input (pairs_reported_in way m input j)),
+    record { pairs = with_offsets way input (pairs_reported_in way m input j); unsplit = inr (none.0, refl); count = refl },
+  )
+
+  here : (n : ℕ) × HasReportedBy way m input j n
+  here = one t.unsplit
+
+  same : here.0 ≡ k
+  same =
+      let up : k ≤ here.0 = reported_rises way m input from j k here.0 more t here.1 in
+      let down : here.0 ≤ k = reported_rises way m input j to here.0 k less here.1 (silent k t) in
+      omega (arith, up, down)
 
 -- a walk has read units up to where it is
 pub arrived_read :
@@ -75,3 +108,10 @@ pub call_leaves :
     → IsCallStopped Ids way m input from old new e → IsCallStopped keeping way m input from old new e
 call_leaves keeping way m input from old new e (n, mid, reads, clean, silent, all, left) =
     (n, mid, reads, clean, silent, all, step_leaves keeping way m input (from + n) mid new e left)
+
+-- a refusal for what was given is one of a call that has cached all
+pub known_refusal :
+    (keeping : Keeping) (way : Direction) (m : Machine) (input : Input) (w : Walk) (e : SearchError) → IsOfInput e
+    → IsKnownRefusal keeping way m input w e
+known_refusal Ids way m input w e given = given
+known_refusal States way m input w e given = inl given

@@ -24,10 +24,10 @@ use Rattle.automata_hybrid.specs.Searches.Cached.{KnowsItsStart}
 use Rattle.automata_hybrid.specs.Walks.Cached.{IsOpen, KnowsItsState, KnowsWalk, KnowsWhich}
 use Rattle.automata_hybrid.specs.Machines.Machine.{Machine, greatest}
 use Rattle.automata_base.specs.Powersets.Powerset.{Powerset, cost}
-use Rattle.automata_hybrid.specs.Walks.Progress.{HaveCalled}
+use Rattle.automata_hybrid.specs.Walks.Progress.{HaveCalled, IsOpenAfter}
 use Rattle.automata_hybrid.specs.Searches.Passes.{tape_in}
 use Rattle.automata_hybrid.specs.Walks.Answers.{AreWalked, GoesOn, HasItsState, HasReported, HasReportedAt, HasReportedBy}
-use Rattle.automata_hybrid.specs.Walks.Answers.{ReportsNext, half_nth, start_count}
+use Rattle.automata_hybrid.specs.Walks.Answers.{ReportsNext, half_nth}
 use Rattle.automata_hybrid.specs.Walks.State.{At, Ended, Fresh, Stage, Walk, fresh_walk}
 use Rattle.automata_hybrid.specs.Walks.Sets.{IsJoined}
 use Rattle.automata_hybrid.proofs.Searches.PassState.{false_true}
@@ -321,7 +321,6 @@ module _ (m : Machine) (input : Input) (inside : input.end ≤ length input.hays
   pub record StandsWell (w : Walk) : Type 0 where
     pub units : w.units ≤ input.end - input.start + 1
     pub reported : w.reported ≤ greatest m
-    pub begun : start_count w.stage ≡ 0
 
   few_patterns : (q : Powerset) → cost q ≤ greatest m → length q.patterns ≤ greatest m
   few_patterns q l = omega (arith, l)
@@ -335,7 +334,6 @@ module _ (m : Machine) (input : Input) (inside : input.end ≤ length input.hays
         record {
           units = omega (arith, s.one_after, s.within, all);
           reported = omega (arith, s.few, few_patterns q s.row.cheap);
-          begun = ap start_count e;
         }
     go Ended e t on = absurd (on refl)
 
@@ -389,43 +387,21 @@ take_front : (xs ys : List Pair) → take (length xs) (xs ++ ys) ≡ xs
 take_front [] ys = refl
 take_front (x ∷ xs) ys = ap (λ (zs : List Pair). x ∷ zs) (take_front xs ys)
 
-no_pairs : (xs : List Pair) → length xs ≡ 0 → xs ≡ []
-no_pairs [] e = refl
-no_pairs (x ∷ xs) e = absurd (omega (arith, e))
-
 -- a set whose walk has cached all that it uses goes on by calls that know what they use
-module _ (m : Machine) (c : Stored) (input : Input) (walk : Walk) (old new : List Bool) (j : Joins m input walk old new)
-    (list : (pairs : List Pair) × AreWalked Forward m input pairs) where
-  still_open : (n : ℕ) (t : HasReportedBy Forward m input n j.k) → input.start ≤ input.end → n ≤ length (tape_in Forward input).bytes → IsOpen input old t.pairs
-  still_open n t s l = go j.open_at input.earliest refl where
-    none : j.k ≡ 0 → IsOpen input old t.pairs
-    none z = inl (no_pairs t.pairs (sym t.count ∙ z))
+module _ (m : Machine) (c : Stored) (input : Input) (walk : Walk) (set : List Bool) (k : ℕ) (reported : HasReported Forward m input walk k)
+    (is_open : IsOpenAfter m input set k) (list : (pairs : List Pair) × AreWalked Forward m input pairs) where
+  still_open : (n : ℕ) (t : HasReportedBy Forward m input n k) → input.start ≤ input.end → n ≤ length (tape_in Forward input).bytes → IsOpen input set t.pairs
+  still_open n t s l =
+      let b : Begins Forward m input t.pairs list.0 = walked_begin Forward m input n t.pairs list.0 s (omega (arith, l)) t.unsplit list.1 in
+      subst (IsOpen input set) (ap₂ (λ i (zs : List Pair). take i zs) t.count b.joined ∙ take_front t.pairs b.rest) (is_open list.0 list.1)
 
-    go : (j.k ≡ 0) ⊎ IsLacking new → (b : Bool) → input.earliest ≡ b → IsOpen input old t.pairs
-    go (inl z) b e = none z
-    go (inr lacks) true e = none (j.first e)
-    go (inr lacks) false e =
-        let b : Begins Forward m input t.pairs list.0 = walked_begin Forward m input n t.pairs list.0 s (omega (arith, l)) t.unsplit list.1 in
-        let front : take j.k list.0 ≡ t.pairs = ap₂ (λ i (zs : List Pair). take i zs) t.count b.joined ∙ take_front t.pairs b.rest in
-        let absent : In lacks.pattern (members new) → ⊥ = (λ i. false_true (sym lacks.absent ∙ in_flag new lacks.pattern i)) in
-        let below : lacks.pattern < length old = omega (arith, lacks.below, j.capacity) in
-        inr (
-          e,
-          (
-            lacks.pattern,
-            below,
-            λ i. absent ((j.joined list.0 list.1 lacks.pattern).1 (inl i)),
-            λ h. absent ((j.joined list.0 list.1 lacks.pattern).1 (inr (below, subst (HasPattern lacks.pattern) (sym front) h))),
-          ),
-        )
-
-  pub which_walk : HasItsState c.table walk.stage → KnowsWhich m c input old → KnowsWalk Forward m c input walk
-  which_walk holds knows k reported ready may =
-      let same : k ≡ j.k = reported_one m input walk k j.k ready.on reported j.reported in
+  pub which_walk : HasItsState c.table walk.stage → KnowsWhich m c input set → KnowsWalk Forward m c input walk
+  which_walk holds knows i begun ready may =
+      let same : i ≡ k = reported_one m input walk i k ready.on begun reported in
       let all = knows ready.undone may in (
         state walk.stage holds all.0,
         λ n l reads clean t.
-            (let t' : HasReportedBy Forward m input n j.k = subst (HasReportedBy Forward m input n) same t in
+            (let t' : HasReportedBy Forward m input n k = subst (HasReportedBy Forward m input n) same t in
             all.1 n t'.pairs reads clean t'.unsplit (still_open n t' ready.undone reads.0)),
       )
     where

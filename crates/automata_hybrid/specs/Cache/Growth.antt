@@ -1,12 +1,12 @@
 -- What steps and searches do to a cache. A reset does more.
-use Rattle.std.specs.Prelude.{◌≡◌, ℕ, ◌+◌, ◌-◌, ◌*◌, ◌^◌, ◌<◌, ◌≤◌, ◌⊎◌, ◌↔◌, length, slice_index, true}
+use Rattle.std.specs.Prelude.{◌≡◌, ℕ, ◌+◌, ◌-◌, ◌*◌, ◌^◌, ◌<◌, ◌≤◌, ◌⊎◌, ◌↔◌, length, slice_index, false, true}
 use Rattle.automata_base.specs.Powersets.Powerset.{Powerset}
 use Rattle.automata_config.specs.declared.error.StepError.{StepError}
 use Rattle.automata_hybrid.specs.Cache.Stores.{Stored, IsKnownStart, IsKnownTransition, KeepsStarts, cell_of}
 use Rattle.automata_hybrid.specs.Cache.Stores.{IsCacheError, with_searched}
-use Rattle.automata_hybrid.specs.Cache.Usage.{GivesUp, row_usage, usage}
+use Rattle.automata_hybrid.specs.Cache.Usage.{GivesUp, cleared, row_usage, usage}
 use Rattle.automata_hybrid.specs.Cache.Caches.{CacheView, counted}
-use Rattle.automata_hybrid.specs.Cache.Changes.{AreChanges}
+use Rattle.automata_hybrid.specs.Cache.Changes.{AreChanges, IsStateAdded}
 use Rattle.automata_hybrid.specs.Cache.Ids.{offset_limit, HasStartTag}
 use Rattle.automata_config.specs.Options.{specialize_start_states_of}
 use Rattle.automata_hybrid.specs.Machines.Machine.{greatest, slot_count, start_of, table_stride}
@@ -73,12 +73,14 @@ pub record IsGrown (old new : CacheView) : Type 0 where
       (states : ℕ) → HasRoom old.store (states + (new.count - old.count))
       → HasRoom new.store states × (new.store.clears ≡ old.store.clears)
 
--- what adding a state again makes of a cache: nothing is determinized, it grows as by one determinization, and the
--- progress of the search stays
-pub record IsAgainEffect (old new : CacheView) : Type 0 where
-  pub cost : new.count ≡ old.count
-  pub grown : IsGrown old (counted new)
-  pub progress : KeepsProgress old.store new.store
+-- a state that the cache lacks is added again, without the start tag; the cache is cleared for it only if it does not
+-- fit, and nothing is determinized
+pub record PutsBack (q : Powerset) (old new : CacheView) : Type 0 where
+  pub id : ℕ
+  pub named : Names new.store.table id q
+  pub added : IsStateAdded old.store (cleared old.store) (record { state = q; started = false }) new.store
+  pub starts : KeepsStarts old.store.starts new.store.starts
+  pub counted : new.count ≡ old.count
 
 -- a state could not be added: nothing changed. The call gave up exactly if it had to: out of memory comes only where
 -- the state fits, or the cache may be cleared for it

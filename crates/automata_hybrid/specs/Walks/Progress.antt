@@ -1,21 +1,23 @@
 -- What the calls of a walk make of their cache and of the progress, unit by unit.
-use Rattle.std.specs.Prelude.{ℕ, zero, suc, ◌≡◌, ◌<◌, ◌≤◌, ◌+◌, ◌⊎◌, Bool, false, List, length, take, None}
+use Rattle.std.specs.Prelude.{ℕ, zero, suc, ◌≡◌, ◌<◌, ◌≤◌, ◌+◌, ◌⊎◌, Bool, List, length, take, None}
+use Rattle.std.specs.Prelude.{Result, IfErr, OnOk}
 use Rattle.automata_base.specs.Haystacks.Input.{Input}
 use Rattle.automata_base.specs.Powersets.Powerset.{Powerset}
 use Rattle.automata_base.specs.Paths.Selections.{Pair}
 use Rattle.automata_base.specs.declared.util.search.Direction.{Direction}
 use Rattle.automata_base.specs.declared.util.search.Direction.TheVariants.{Forward}
 use Rattle.automata_config.specs.declared.error.SearchError.{SearchError}
-use Rattle.automata_hybrid.specs.Cache.Caches.{CacheView}
+use Rattle.automata_hybrid.specs.Cache.Caches.{CacheView, IsSoundOf}
 use Rattle.automata_hybrid.specs.Walks.Cached.{IsOpen}
 use Rattle.automata_hybrid.specs.Machines.Machine.{Machine}
-use Rattle.automata_hybrid.specs.Cache.Changes.{IsStateAdded}
-use Rattle.automata_hybrid.specs.Cache.Usage.{cleared}
-use Rattle.automata_hybrid.specs.Searches.Progress.{AreUnitsRead, HasEndedAfter, HasItsStart, IsLeftAt, IsUnitRead}
+use Rattle.automata_hybrid.specs.Cache.Growth.{PutsBack}
+use Rattle.automata_hybrid.specs.Searches.Progress.{AreUnitsRead, HasEndedAfter, HasItsStart, HasNoStart, IsLeftAt}
+use Rattle.automata_hybrid.specs.Searches.Progress.{IsUnitRead}
 use Rattle.automata_hybrid.specs.Searches.Progress.{with_search_begun, with_search_moved}
 use Rattle.automata_hybrid.specs.Searches.Passes.{HasReadNoQuit, IsUnitRefusal}
 use Rattle.automata_hybrid.specs.Cache.Table.{IsKnownState}
-use Rattle.automata_hybrid.specs.Walks.Answers.{AreWalked, IsResumeRefusal, IsSilent, IsUnheld, ReportsNext, WalkReads}
+use Rattle.automata_hybrid.specs.Walks.Answers.{AreWalked, HasItsState, IsResumeRefusal, IsSilent, IsUnheld}
+use Rattle.automata_hybrid.specs.Walks.Answers.{ReportsNext, WalkReads}
 use Rattle.automata_hybrid.specs.Walks.State.{At, Ended, Fresh, Ids, Keeping, Stage, States, Walk, fresh_walk}
 
 -- a call reads no unit: the walk has ended, has another pattern to report at its state, or has no unit left in its span
@@ -24,30 +26,40 @@ ReadsNoUnit input w =
     (w.stage ≡ Ended)
     ⊎ (((q : Powerset) × (w.stage ≡ At q) × (w.reported < length q.patterns)) ⊎ (input.end < input.start + w.units))
 
--- a walk has the state that it goes on from: its start; or the state where it stands, which is put back if the cache
--- lacks it
+-- the state where a walk stands is in the cache: it was, or it is put back
+abbrev pub HasItsRow : Machine → Powerset → (old new : CacheView) → Type 0
+HasItsRow m q old new =
+    IsSoundOf new.store m
+    × ((IsKnownState old.store.table q × (new ≡ old)) ⊎ ((IsKnownState old.store.table q → ⊥) × PutsBack q old new))
+
+-- a walk has the state that it goes on from: its start, or the state where it stands
 abbrev pub IsResumed : Direction → Machine → Input → Stage → (old new : CacheView) → Type 0
 IsResumed way m input Fresh old new = HasItsStart way m input old new
-IsResumed way m input (At q) old new =
-    (IsKnownState old.store.table q × (new ≡ old))
-    ⊎ ((IsKnownState old.store.table q → ⊥) × (new.count ≡ old.count)
-    × IsStateAdded old.store (cleared old.store) (record { state = q; started = false }) new.store)
+IsResumed way m input (At q) old new = HasItsRow m q old new
 IsResumed way m input Ended old new = ⊥
 
--- a call reads the units after those of the walk: up to the one after which the next match is reported, or if there is
--- none, up to the last one that can be read
+-- it has it not: its start failed; or the state where it stands is not put back, and nothing has changed
+abbrev pub IsNotResumed : Direction → Machine → Input → Stage → (old new : CacheView) → Type 0
+IsNotResumed way m input Fresh old new = HasNoStart way m input old new
+IsNotResumed way m input (At q) old new = new ≡ old
+IsNotResumed way m input Ended old new = ⊥
+
+-- a call reads the units after those of the walk: up to the one after which the next match is reported, those before
+-- reporting none; or if there is none, up to the last one that can be read
 abbrev pub ReadsItsUnits : Direction → Machine → Input → (walk next : Walk) → Type 0
 ReadsItsUnits way m input walk next =
-    ((k : ℕ) → walk.units ≤ k → k < next.units → WalkReads way m input k)
-    × (next.stage ≡ Ended → (next.found ≡ None) × (WalkReads way m input next.units → ⊥))
+    ((k : ℕ) → walk.units ≤ k → k < next.units → WalkReads way m input k × IsSilent way m input walk.units k)
+    × (next.stage ≡ Ended → WalkReads way m input next.units → ⊥)
 
--- a call that answers has read its units, and ended at the last of them; one that reads none has changed nothing
+-- a call that answers has read its units, and ended at the last of them; one that reads none has changed nothing; and a
+-- walk that has ended has no match
 abbrev pub EndsCall : Direction → Machine → Input → (walk next : Walk) → (old new : CacheView) → Type 0
 EndsCall way m input walk next old new =
-    (ReadsNoUnit input walk × (new ≡ old))
+    (next.stage ≡ Ended → next.found ≡ None)
+    × ((ReadsNoUnit input walk × (next.units ≡ walk.units) × (new ≡ old))
     ⊎ ((ReadsNoUnit input walk → ⊥) × (begun : CacheView) × (units : ℕ) × IsResumed way m input walk.stage old begun
     × (next.units ≡ walk.units + units) × ReadsItsUnits way m input walk next
-    × HasEndedAfter way m input walk.units units (with_search_begun way input walk.units begun) new)
+    × HasEndedAfter way m input walk.units units (with_search_begun way input walk.units begun) new))
 
 -- a call fails at the unit at place `k`; or the unit was read, and the state after it cannot be held
 abbrev pub IsCallLeftAt : Keeping → Direction → Machine → Input → (k : ℕ) → (old new : CacheView) → SearchError → Type 0
@@ -64,23 +76,36 @@ IsCallStopped keeping way m input from begun new e =
     × IsSilent way m input from (from + units) × AreUnitsRead way m input from units begun mid
     × IsCallLeftAt keeping way m input (from + units) mid new e
 
--- a call failed: the walk could not go on, and nothing changed; or it failed at a unit
+-- a call that is to read units failed: the walk could not go on, or it failed at a unit
 abbrev pub LeavesCall : Keeping → Direction → Machine → Input → Walk → (old new : CacheView) → SearchError → Type 0
 LeavesCall keeping way m input walk old new e =
-    (IsResumeRefusal way m new.store input walk.stage walk.units e × (new.store ≡ old.store))
+    (ReadsNoUnit input walk → ⊥)
+    × ((IsResumeRefusal way m new.store input walk.stage walk.units e
+    × IsNotResumed way m input walk.stage old new)
     ⊎ ((begun : CacheView) × IsResumed way m input walk.stage old begun
-    × IsCallStopped keeping way m input walk.units (with_search_begun way input walk.units begun) new e)
+    × IsCallStopped keeping way m input walk.units (with_search_begun way input walk.units begun) new e))
+
+-- what a call of a walk makes of a cache of its DFA, by what it returns
+pub record IsWalkRun {T : Type 0} (keeping : Keeping) (way : Direction) (m : Machine) (input : Input)
+    (walk next : Walk) (old new : CacheView) (result : Result T SearchError) : Type 0 where
+  -- it is one of the DFA before
+  pub of : IsSoundOf old.store m
+  -- a call that answers has ended; and one that fails is left so
+  pub ended : OnOk result (EndsCall way m input walk next old new)
+  pub left : IfErr result (LeavesCall keeping way m input walk old new)
 
 -- a set is still open once its walk has reported its first pairs
 abbrev pub IsOpenAfter : Machine → Input → (set : List Bool) → (reported : ℕ) → Type 0
 IsOpenAfter m input set reported =
     (pairs : List Pair) → AreWalked Forward m input pairs → IsOpen input set (take reported pairs)
 
--- so many calls of the walk of a set have ended, one after another, each while the set was open
+-- so many calls of the walk of a set have ended, one after another, each while the set was open and the cache had the
+-- state where the walk stands
 abbrev pub HaveCalled : Machine → Input → (set : List Bool) → (calls : ℕ) → CacheView → Walk → CacheView → Type 0
 HaveCalled m input set zero old walk new = (walk ≡ fresh_walk) × (new ≡ old)
 HaveCalled m input set (suc calls) old walk new =
     (before : Walk) × (mid : CacheView) × HaveCalled m input set calls old before mid × IsOpenAfter m input set calls
+    × HasItsState mid.store.table before.stage
     × ReportsNext Forward m input before walk × EndsCall Forward m input before walk mid new
 
 -- a search for a set that returns Ok has made calls of its walk, up to one that finds no match or leaves the set closed
@@ -94,4 +119,14 @@ EndsSet m input set old new =
 abbrev pub LeavesSet : Machine → Input → (set : List Bool) → (old new : CacheView) → SearchError → Type 0
 LeavesSet m input set old new e =
     (calls : ℕ) × (walk : Walk) × (mid : CacheView) × HaveCalled m input set calls old walk mid
-    × IsOpenAfter m input set calls × LeavesCall Ids Forward m input walk mid new e
+    × IsOpenAfter m input set calls × HasItsState mid.store.table walk.stage
+    × LeavesCall Ids Forward m input walk mid new e
+
+-- what the search for a set makes of a cache of its DFA, by what it returns
+pub record IsSetRun {T : Type 0} (m : Machine) (input : Input) (set : List Bool) (old new : CacheView)
+    (result : Result T SearchError) : Type 0 where
+  -- it is one of the DFA before
+  pub of : IsSoundOf old.store m
+  -- the calls of its walk have ended; or the last one failed
+  pub ended : OnOk result (EndsSet m input set old new)
+  pub left : IfErr result (LeavesSet m input set old new)

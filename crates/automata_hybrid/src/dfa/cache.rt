@@ -15,9 +15,9 @@ ghost use Rattle.automata_hybrid.specs.Cache.Table.{IsNewState, IsRowState};
 ghost use Rattle.automata_hybrid.specs.Cache.Stores.{IsSoundStore, cell_of, with_next, with_start};
 ghost use Rattle.automata_hybrid.specs.Cache.Stores.{with_searched};
 ghost use Rattle.automata_hybrid.specs.Cache.Usage.{cleared, usage, Fits};
-ghost use Rattle.automata_hybrid.specs.Cache.Changes.{AddsNext, AddsRow, IsStateAdded};
+ghost use Rattle.automata_hybrid.specs.Cache.Changes.{AddsNext, AddsRow};
 ghost use Rattle.automata_hybrid.specs.Cache.Caches.{HoldsRow, IsCacheOf, IsStoreOf, counted, fresh_cache, with_store};
-ghost use Rattle.automata_hybrid.specs.Cache.Growth.{IsAddRefused, IsAgainEffect};
+ghost use Rattle.automata_hybrid.specs.Cache.Growth.{IsAddRefused, PutsBack};
 ghost use Rattle.automata_hybrid.specs.Steps.Starts.{IsStartSlot};
 ghost use Rattle.automata_hybrid.specs.Walks.State.{IsHandle};
 ghost use Rattle.automata_hybrid.specs.Cache.Progress.{progress_finished, progress_started, progress_updated};
@@ -204,10 +204,9 @@ impl Cache {
     pub(crate) fn add_again(&mut self, dfa: &DFA, state: &State) -> Result<LazyStateID, StepError>
         requires dfa { IsCacheOf self.old dfa.now }
         requires new { IsNewState self.old.store.table state.now }
+        ensures of { IsCacheOf self.new dfa.now }
         ensures named { IfOk result (λ id. Names self.new.store.table id state.now) }
-        ensures added { OnOk result (IsStateAdded self.old.store (cleared self.old.store)
-            (record { state = state.now; started = false }) self.new.store) }
-        ensures effect { IsAgainEffect self.old self.new }
+        ensures back { OnOk result (PutsBack state.now self.old self.new) }
         ensures refused { IfErr result (IsAddRefused self.old self.new state.now) }
     {
         self.see_bounds();
@@ -216,7 +215,6 @@ impl Cache {
         }
         let state = state.clone()?;
         let id = self.add_start(dfa, state, false)?;
-        self.see_bounds();
         Ok(id)
     }
 

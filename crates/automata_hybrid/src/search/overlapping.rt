@@ -5,12 +5,13 @@ ghost use Rattle.automata_base.specs.Powersets.Powerset.{Powerset};
 ghost use Rattle.automata_base.specs.declared.util.search.Direction.TheVariants.{Forward, Backward};
 ghost use Rattle.automata_hybrid.specs.Cache.Growth.{IsAddRefused};
 ghost use Rattle.automata_hybrid.specs.Cache.Caches.{IsCacheOf};
-ghost use Rattle.automata_hybrid.specs.Walks.Contracts.{IsCallEffect, IsWalkCall};
-ghost use Rattle.automata_hybrid.specs.Walks.Parts.{HoldsOn, IsCallAnswer, IsCallRefused, IsHeldWalk, IsPutBackEffect};
-ghost use Rattle.automata_hybrid.specs.Walks.Parts.{IsKeptWalk, IsResumeAnswer, IsResumeEffect, ReadsOn};
+ghost use Rattle.automata_hybrid.specs.Walks.Contracts.{IsWalkCall};
+ghost use Rattle.automata_hybrid.specs.Walks.Parts.{HoldsOn, IsCallAnswer, IsCallRefused, IsHeldWalk, IsKeptWalk};
+ghost use Rattle.automata_hybrid.specs.Walks.Parts.{IsResumeAnswer, ReadsOn};
+ghost use Rattle.automata_hybrid.specs.Walks.Progress.{HasItsRow, IsNotResumed, IsResumed, IsWalkRun};
 ghost use Rattle.automata_hybrid.specs.Searches.Passes.{tape_in};
 ghost use Rattle.automata_hybrid.specs.Steps.Starts.{MayStart};
-ghost use Rattle.automata_hybrid.specs.Cache.Table.{IsRowState, Names};
+ghost use Rattle.automata_hybrid.specs.Cache.Table.{IsKnownState, IsRowState, Names};
 ghost use Rattle.automata_hybrid.specs.Walks.Answers.{Arrives, HasReported, HasReportedBy};
 ghost use Rattle.automata_hybrid.specs.Walks.Answers.{IsResumeRefusal, IsWalkOf, IsWalkRefusal};
 ghost use Rattle.automata_hybrid.specs.Walks.Answers.{ReportsNext};
@@ -58,7 +59,7 @@ impl DFA {
             → IfErr result (IsWalkRefusal States Forward self.now cache.new.store input.now state.old k) }
 
         // What it does to the cache.
-        ensures effect { IsCallEffect States Forward self.now input.now state.old state.new cache.old cache.new result }
+        ensures effect { IsWalkRun States Forward self.now input.now state.old state.new cache.old cache.new result }
     {
         self.try_search_overlapping(cache, input, Direction::Forward, state)
     }
@@ -82,7 +83,7 @@ impl DFA {
             → IfErr result (IsWalkRefusal States Backward self.now cache.new.store input.now state.old k) }
 
         // What it does to the cache.
-        ensures effect { IsCallEffect States Backward self.now input.now state.old state.new
+        ensures effect { IsWalkRun States Backward self.now input.now state.old state.new
             cache.old cache.new result }
     {
         self.try_search_overlapping(cache, input, Direction::Backward, state)
@@ -95,13 +96,16 @@ impl DFA {
         requires state { IsRowState self.now handle.now.state }
         ensures of { IsCacheOf cache.new self.now }
         ensures named { IfOk result (λ id. Names cache.new.store.table id handle.now.state) }
+        ensures row { OnOk result (HasItsRow self.now handle.now.state cache.old cache.new) }
         ensures refused { IfErr result (IsAddRefused cache.old cache.new handle.now.state) }
-        ensures effect { IsPutBackEffect handle.now.state cache.old cache.new result }
+        ensures lacks { OnErr result (IsKnownState cache.old.store.table handle.now.state → ⊥) }
     {
+        cache.see_bounds();
         if let Some(id) = cache.find(&handle.key) {
             return Ok(id);
         }
         let id = cache.add_again(self, &handle.state)?;
+        cache.see_bounds();
         Ok(id)
     }
 
@@ -121,10 +125,11 @@ impl DFA {
             (IsResumeAnswer way self.now input.now walk.now cache.new.store) }
         ensures refusal { IfErr result
             (IsResumeRefusal way self.now cache.new.store input.now walk.now.stage walk.now.units) }
-        ensures effect { IsResumeEffect way self.now input.now walk.now.stage cache.old cache.new result }
+        ensures resumed { OnOk result (IsResumed way self.now input.now walk.now.stage cache.old cache.new) }
+        ensures left { OnErr result (IsNotResumed way self.now input.now walk.now.stage cache.old cache.new) }
     {
+        cache.see_bounds();
         if walk.is_fresh() {
-            cache.see_bounds();
             let start = self.walk_start(cache, input, way);
             cache.see_bounds();
             return start;
@@ -152,16 +157,16 @@ impl DFA {
         requires of { IsCacheOf cache.old self.now }
         requires walk { ReadsOn way self.now input.now cache.old.store.table walk.old held.old }
         ensures of { IsCacheOf cache.new self.now }
-        ensures answer { OnOk result
-            (IsCallAnswer way self.now input.now walk.old walk.new cache.old.store cache.new.store) }
+        ensures answer { OnOk result (IsCallAnswer way self.now input.now walk.old walk.new) }
         ensures held { OnOk result (HoldsOn cache.new.store.table walk.new held.old held.new) }
         ensures err { OnErr result ((walk.new ≡ walk.old) × (held.new ≡ held.old)) }
         ensures refusal { IfErr result
             (IsCallRefused (keeping_of held.old) way self.now input.now walk.old cache.new.store) }
-        ensures effect { IsCallEffect (keeping_of held.old) way self.now input.now walk.old walk.new
+        ensures effect { IsWalkRun (keeping_of held.old) way self.now input.now walk.old walk.new
             cache.old cache.new result }
     {
         let _skips = self.skips();
+        cache.see_bounds();
         let from = self.resume(cache, input, way, walk, held)?;
         let place = span_offset(input, way, walk.units());
         cache.search_start(place);
@@ -226,7 +231,7 @@ impl DFA {
         ensures call { IsWalkCall way self.now input.now walk.old walk.new result }
         ensures refusal { (k : ℕ) → HasReported way self.now input.now walk.old k
             → IfErr result (IsWalkRefusal States way self.now cache.new.store input.now walk.old k) }
-        ensures effect { IsCallEffect States way self.now input.now walk.old walk.new
+        ensures effect { IsWalkRun States way self.now input.now walk.old walk.new
             cache.old cache.new result }
     {
         self.call_held(cache, input, way, &mut walk.cursor, &mut walk.held)
@@ -248,7 +253,7 @@ impl DFA {
         ensures call { IsWalkCall way self.now input.now walk.old walk.new result }
         ensures refusal { (k : ℕ) → HasReported way self.now input.now walk.old k
             → IfErr result (IsWalkRefusal States way self.now cache.new.store input.now walk.old k) }
-        ensures effect { IsCallEffect States way self.now input.now walk.old walk.new
+        ensures effect { IsWalkRun States way self.now input.now walk.old walk.new
             cache.old cache.new result }
     {
         walk_is_right(self.get_nfa());
@@ -274,15 +279,15 @@ impl DFA {
         requires of { IsCacheOf cache.old self.now }
         requires walk { IsHeldWalk way self.now input.now cache.old.store.table walk.old held.old }
         ensures of { IsCacheOf cache.new self.now }
-        ensures answer { OnOk result
-            (IsCallAnswer way self.now input.now walk.old walk.new cache.old.store cache.new.store) }
+        ensures answer { OnOk result (IsCallAnswer way self.now input.now walk.old walk.new) }
         ensures held { OnOk result (HoldsOn cache.new.store.table walk.new held.old held.new) }
         ensures err { OnErr result ((walk.new ≡ without_match walk.old) × (held.new ≡ held.old)) }
         ensures refusal { IfErr result
             (IsCallRefused (keeping_of held.old) way self.now input.now walk.old cache.new.store) }
-        ensures effect { IsCallEffect (keeping_of held.old) way self.now input.now walk.old walk.new
+        ensures effect { IsWalkRun (keeping_of held.old) way self.now input.now walk.old walk.new
             cache.old cache.new result }
     {
+        cache.see_bounds();
         walk.forget_match();
         if walk.has_ended() {
             return Ok(());

@@ -1,7 +1,8 @@
 //! The set of the patterns that match, found by one overlapping search forward.
 ghost use Rattle.std.specs.Prelude.{◌≤◌, IfErr, OnOk, length};
 ghost use Rattle.automata_hybrid.specs.Cache.Caches.{IsCacheOf};
-ghost use Rattle.automata_hybrid.specs.Walks.Contracts.{IsSetReported, IsWhich, IsWhichEffect, JoinsReported};
+ghost use Rattle.automata_hybrid.specs.Walks.Contracts.{IsSetReported, IsWhich, JoinsReported};
+ghost use Rattle.automata_hybrid.specs.Walks.Progress.{IsSetRun};
 ghost use Rattle.automata_hybrid.specs.Walks.Sets.{IsWhichRefusal};
 
 use crate::dfa::DFA;
@@ -38,7 +39,7 @@ impl DFA {
         ensures refusal { IfErr result (IsWhichRefusal self.now cache.new.store input.now patset.old patset.new) }
 
         // What it does to the cache.
-        ensures effect { IsWhichEffect self.now input.now patset.old cache.old cache.new result }
+        ensures effect { IsSetRun self.now input.now patset.old cache.old cache.new result }
     {
         self.collect(cache, input, patset)
     }
@@ -54,11 +55,12 @@ impl DFA {
         ensures of { IsCacheOf cache.new self.now }
         ensures reported { IsSetReported self.now input.now patset.old patset.new result }
         ensures refusal { IfErr result (IsWhichRefusal self.now cache.new.store input.now patset.old patset.new) }
-        ensures effect { IsWhichEffect self.now input.now patset.old cache.old cache.new result }
+        ensures effect { IsSetRun self.now input.now patset.old cache.old cache.new result }
         ensures inside { input.now.end ≤ length input.now.haystack }
     {
         walk_is_right(self.get_nfa());
         let _haystack = input.haystack();
+        cache.see_bounds();
         let mut walk = Cursor::start();
         let mut held = Held::Row(None);
         'walk: loop {

@@ -69,7 +69,7 @@ called_reported :
     → HasReported Forward m input walk calls × ((k : ℕ) → k < calls → IsOpenAfter m input set k)
 called_reported m input set zero old walk new (fresh, same) =
     (subst (λ (w : Walk). HasReported Forward m input w 0) (sym fresh) (refl, refl), λ k l. absurd (omega (arith, l)))
-called_reported m input set (suc calls) old walk new (before, mid, called, is_open, reports, ended) =
+called_reported m input set (suc calls) old walk new (before, mid, called, is_open, there, reports, ended) =
     let reported = called_reported m input set calls old before mid called in
     ((reports calls reported.0).0, up_to (IsOpenAfter m input set) calls reported.1 is_open)
 

@@ -14,7 +14,7 @@ use Rattle.automata_config.specs.declared.error.SearchError.TheVariants as searc
 use Rattle.automata_hybrid.specs.Cache.Caches.{CacheView}
 use Rattle.automata_hybrid.specs.Machines.Machine.{Machine}
 use Rattle.automata_hybrid.specs.Searches.Progress.{IsSearchRun}
-use Rattle.automata_hybrid.specs.Walks.Contracts.{IsCallEffect, IsWhichEffect}
+use Rattle.automata_hybrid.specs.Walks.Progress.{IsSetRun, IsWalkRun}
 use Rattle.automata_hybrid.specs.Searches.Passes.{IsFound, WithoutBase}
 use Rattle.automata_hybrid.specs.Walks.Answers.{AreWalked, HasReported, IsWalkRefusal, ReportsNext}
 use Rattle.automata_hybrid.specs.Walks.State.{Ended, States, Walk}
@@ -104,7 +104,7 @@ abbrev pub IsCalled :
 IsCalled way m input answered old new result =
     (walk : Walk) × (next : Walk) × (call : Result (Unit {0}) SearchError) × HasAnswered way m input walk answered
     × OnOk call (ReportsNext way m input walk next)
-    × IsCallEffect States way m input walk next old new call × (result_err result ≡ result_err call)
+    × IsWalkRun States way m input walk next old new call × (result_err result ≡ result_err call)
     × IfErr call (IsWalkRefusal States way m new.store input walk answered)
 
 -- the cache of the DFA of a direction, and the other one
@@ -131,7 +131,7 @@ abbrev pub ArePatternsSearched :
 ArePatternsSearched m input capacity old new found error =
     ((new ≡ old) × (found ≡ []) × (error ≡ Some search.OutOfMemory))
     ⊎ ((set : List Bool) × (result : Result (Unit {0}) SearchError)
-    × IsWhichEffect m input (empty_set capacity) old new result
+    × IsSetRun m input (empty_set capacity) old new result
     × IfErr result (IsWhichRefusal m new.store input (empty_set capacity) set)
     × (((found ≡ members set) × (error ≡ result_err result)) ⊎ ((found ≡ []) × (error ≡ Some search.OutOfMemory))))
 

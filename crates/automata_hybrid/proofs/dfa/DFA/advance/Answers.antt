@@ -1,19 +1,15 @@
-use Rattle.std.proofs.Common.{ℕ, suc, ◌≡◌, ◌∙◌, ◌<◌, ◌≤◌, ◌+◌, ◌-◌, inl, inr, length, refl, sym, subst, arith, ⊎_elim}
+use Rattle.std.proofs.Common.{ℕ, suc, ◌≡◌, ◌<◌, ◌+◌, ◌-◌, inl, inr, length, refl, sym, subst, arith, ⊎_elim}
 use Rattle.std.specs.Prelude.{Result}
 use Rattle.automata_base.specs.Powersets.Powerset.{dead}
 use Rattle.automata_base.specs.declared.util.search.Direction.{Direction}
 use Rattle.automata_config.specs.declared.error.SearchError.{SearchError}
 use Rattle.automata_hybrid.specs.declared.search.advance.Arrival.{Arrival}
-use Rattle.automata_hybrid.specs.Cache.Growth.{ClearedNothing}
-use Rattle.automata_hybrid.specs.Walks.Cached.{HasLearnedUnits}
 use Rattle.automata_hybrid.specs.Searches.PassState.{IsFollowed}
 use Rattle.automata_hybrid.specs.Walks.Parts.{IsAdvanceEffect}
 use Rattle.automata_hybrid.specs.Searches.Passes.{HasReadNoQuit, state_in, tape_in}
 use Rattle.automata_hybrid.specs.Cache.Table.{Names}
 use Rattle.automata_hybrid.specs.Walks.Answers.{IsSilent, WalkReads}
 use Rattle.automata_hybrid.proofs.Searches.Runs.{followed_clean, followed_silent}
-use Rattle.automata_hybrid.proofs.Cache.Growth.{grown_same, grown_trans, nothing_first, nothing_second}
-use Rattle.automata_hybrid.proofs.Walks.Cached.{unit_knows, units_more, units_none}
 use Rattle.automata_hybrid.proofs.Searches.Reads.{at_err}
 use Rattle.automata_hybrid.proofs.Walks.Progress.{arrived_read, call_stopped}
 use Rattle.automata_hybrid.proofs.Searches.UnitsRead.{AreReadTo, left_then, read_exactly, read_none, read_then}
@@ -29,14 +25,10 @@ loop-read-init c =
     let d : Direction = c.args.way in
     record {
       of = c.requires.of;
-      counted = omega arith;
       from = omega arith;
       within = omega (arith, c.requires.from.left);
-      grown = grown_same c.args.cache.now c.args.cache.now refl;
       named = c.requires.from.named;
       clean = c.requires.clean;
-      idle = λ n reported knows. refl;
-      learned = λ nothing. units_none d c.args.self.now c.args.cache.now.store c.args.input.now c.args.units;
       silent = silent_same d c.args.self.now c.args.input.now c.args.units;
       progress = read_none d c.args.self.now c.args.input.now c.args.units c.args.cache.now c.args.cache.now refl;
       reads = λ less. absurd (omega (arith, less));
@@ -55,23 +47,10 @@ loop-read-preserved c =
     (⊎_elim (λ s. inl s) (λ none. inr (none (state_in d c.args.self.now c.args.input.now (suc k)) named)) (c.reports.ensures.no c.if-reports.false)) in
     record {
       of = c.in_ok-next.ensures.of;
-      counted = omega (arith, c.loop-read.invariant.counted, c.in_ok-next.ensures.effect.counted, f.more);
       from = omega (arith, c.loop-read.invariant.from, f.more);
       within = omega (arith, c.follow_walk-stop.ensures.within);
-      grown = grown_trans c.args.cache.now c.loop-read.cache c.read_unit.new.cache c.loop-read.invariant.grown c.in_ok-next.ensures.effect.grown;
       named = subst (λ n. Names c.read_unit.new.cache.store.table c.in_ok-next.next (state_in d c.args.self.now c.args.input.now n)) more named;
       clean = subst (HasReadNoQuit d c.args.self.now c.args.input.now) more clean;
-      idle = λ n reported knows. (
-          let from : c.args.units ≤ k = omega (arith, c.loop-read.invariant.from, f.more) in
-          let count : c.loop-read.cache.count ≡ c.args.cache.now.count = c.loop-read.invariant.idle n reported knows in
-          let here = c.in_ok-next.ensures.effect.known (unit_knows d c.args.self.now c.args.cache.now c.loop-read.cache c.args.input.now c.args.units k n c.loop-read.invariant.grown count knows from c.in_ok-next.ensures.reads (followed_clean f c.loop-read.invariant.clean) (followed_silent f c.loop-read.invariant.silent n reported)) in
-          here.0 ∙ count);
-      learned = λ nothing. (
-          let second : ClearedNothing c.loop-read.cache.store c.read_unit.new.cache.store = nothing_second c.args.cache.now c.loop-read.cache c.read_unit.new.cache c.loop-read.invariant.grown c.in_ok-next.ensures.effect.grown nothing in
-          let first : ClearedNothing c.args.cache.now.store c.loop-read.cache.store = nothing_first c.args.cache.now c.loop-read.cache c.read_unit.new.cache c.loop-read.invariant.grown c.in_ok-next.ensures.effect.grown nothing in
-          subst (HasLearnedUnits d c.args.self.now c.read_unit.new.cache.store c.args.input.now c.args.units) more
-          (units_more d c.args.self.now c.loop-read.cache c.read_unit.new.cache c.args.input.now c.args.units c.loop-read.read k c.follow_walk-stop.result.id c.in_ok-next.ensures.effect.grown second
-          (c.loop-read.invariant.learned first) f (c.in_ok-next.ensures.effect.learned second)));
       silent = subst (IsSilent d c.args.self.now c.args.input.now c.args.units) more silent;
       progress = subst (λ n. AreReadTo d c.args.self.now c.args.input.now c.args.units n c.args.cache.now c.read_unit.new.cache) more
           (read_then d c.args.self.now c.args.input.now c.args.units c.args.cache.now (is_store c.args.cache.now.store c.args.self.now c.requires.of c.see_bounds.ensures.bounds, c.see_bounds.ensures.sound) c.loop-read.read k c.loop-read.cache c.loop-read.invariant.of (read_exactly d c.args.self.now c.args.input.now c.args.units c.args.cache.now c.loop-read.read c.loop-read.cache c.loop-read.invariant.progress) f.more (followed_clean f c.loop-read.invariant.clean) (λ j l h. (f.taken j l h).known) c.read_unit.new.cache c.in_ok-next.ensures.effect.read);
@@ -129,17 +108,8 @@ returns-in_err-next-clause-effect c =
     let d : Direction = c.args.way in
     let k : ℕ = c.follow_walk-stop.result.at in
     let f : IsFollowed d c.args.self.now c.loop-read.cache.store c.args.input.now 0 c.loop-read.read k c.follow_walk-stop.result.id = c.follow_walk-stop.ensures.followed in
-    let from : c.args.units ≤ k = omega (arith, c.loop-read.invariant.from, f.more) in
     at_err c.from_residual.result _ (λ (r : Result Arrival SearchError). IsAdvanceEffect d c.args.self.now c.args.input.now c.args.units c.args.cache.now c.read_unit.new.cache r) c.from_residual.ensures.1
     (record {
-      grown = grown_trans c.args.cache.now c.loop-read.cache c.read_unit.new.cache c.loop-read.invariant.grown c.in_err-next.ensures.effect.grown;
-      cost = tt;
-      most = omega (arith, c.in_err-next.ensures.effect.counted, c.loop-read.invariant.counted, f.more, c.follow_walk-stop.ensures.within);
-      known = λ n reported knows. (
-          let count : c.loop-read.cache.count ≡ c.args.cache.now.count = c.loop-read.invariant.idle n reported knows in
-          let here = c.in_err-next.ensures.effect.known (unit_knows d c.args.self.now c.args.cache.now c.loop-read.cache c.args.input.now c.args.units k n c.loop-read.invariant.grown count knows from c.in_err-next.ensures.reads (followed_clean f c.loop-read.invariant.clean) (followed_silent f c.loop-read.invariant.silent n reported)) in
-          (here.0 ∙ count, here.1));
-      learned = λ nothing. tt;
       read = tt;
       left =
           call_stopped d c.args.self.now c.args.input.now c.args.units k c.args.cache.now c.read_unit.new.cache c.in_err-next.field-0.0 c.in_err-next.ensures.reads
@@ -152,24 +122,9 @@ returns-then-is_dead-clause-effect c =
     let d : Direction = c.args.way in
     let k : ℕ = c.follow_walk-stop.result.at in
     let f : IsFollowed d c.args.self.now c.loop-read.cache.store c.args.input.now 0 c.loop-read.read k c.follow_walk-stop.result.id = c.follow_walk-stop.ensures.followed in
-    let from : c.args.units ≤ k = omega (arith, c.loop-read.invariant.from, f.more) in
-    let more : suc k ≡ k + 1 = omega arith in
     record {
-      grown = grown_trans c.args.cache.now c.loop-read.cache c.read_unit.new.cache c.loop-read.invariant.grown c.in_ok-next.ensures.effect.grown;
-      cost = omega (arith, c.in_ok-next.ensures.effect.counted, c.loop-read.invariant.counted, f.more);
-      most = omega (arith, c.in_ok-next.ensures.effect.counted, c.loop-read.invariant.counted, f.more, c.follow_walk-stop.ensures.within);
-      known = λ n reported knows. (
-          let count : c.loop-read.cache.count ≡ c.args.cache.now.count = c.loop-read.invariant.idle n reported knows in
-          let here = c.in_ok-next.ensures.effect.known (unit_knows d c.args.self.now c.args.cache.now c.loop-read.cache c.args.input.now c.args.units k n c.loop-read.invariant.grown count knows from c.in_ok-next.ensures.reads (followed_clean f c.loop-read.invariant.clean) (followed_silent f c.loop-read.invariant.silent n reported)) in
-          (here.0 ∙ count, tt));
-      learned = λ nothing. (
-          let second : ClearedNothing c.loop-read.cache.store c.read_unit.new.cache.store = nothing_second c.args.cache.now c.loop-read.cache c.read_unit.new.cache c.loop-read.invariant.grown c.in_ok-next.ensures.effect.grown nothing in
-          let first : ClearedNothing c.args.cache.now.store c.loop-read.cache.store = nothing_first c.args.cache.now c.loop-read.cache c.read_unit.new.cache c.loop-read.invariant.grown c.in_ok-next.ensures.effect.grown nothing in
-          subst (HasLearnedUnits d c.args.self.now c.read_unit.new.cache.store c.args.input.now c.args.units) more
-          (units_more d c.args.self.now c.loop-read.cache c.read_unit.new.cache c.args.input.now c.args.units c.loop-read.read k c.follow_walk-stop.result.id c.in_ok-next.ensures.effect.grown second
-          (c.loop-read.invariant.learned first) f (c.in_ok-next.ensures.effect.learned second)));
       read =
-          arrived_read d c.args.self.now c.args.input.now c.args.units k (k + 1) c.args.cache.now c.read_unit.new.cache from more c.in_ok-next.ensures.reads
+          arrived_read d c.args.self.now c.args.input.now c.args.units k (k + 1) c.args.cache.now c.read_unit.new.cache (omega (arith, c.loop-read.invariant.from, f.more)) (omega arith) c.in_ok-next.ensures.reads
           (read_then d c.args.self.now c.args.input.now c.args.units c.args.cache.now (is_store c.args.cache.now.store c.args.self.now c.requires.of c.see_bounds.ensures.bounds, c.see_bounds.ensures.sound) c.loop-read.read k c.loop-read.cache c.loop-read.invariant.of (read_exactly d c.args.self.now c.args.input.now c.args.units c.args.cache.now c.loop-read.read c.loop-read.cache c.loop-read.invariant.progress) f.more (followed_clean f c.loop-read.invariant.clean) (λ j l h. (f.taken j l h).known) c.read_unit.new.cache c.in_ok-next.ensures.effect.read);
       left = tt;
     }
@@ -179,24 +134,9 @@ returns-then-reports-clause-effect c =
     let d : Direction = c.args.way in
     let k : ℕ = c.follow_walk-stop.result.at in
     let f : IsFollowed d c.args.self.now c.loop-read.cache.store c.args.input.now 0 c.loop-read.read k c.follow_walk-stop.result.id = c.follow_walk-stop.ensures.followed in
-    let from : c.args.units ≤ k = omega (arith, c.loop-read.invariant.from, f.more) in
-    let more : suc k ≡ k + 1 = omega arith in
     record {
-      grown = grown_trans c.args.cache.now c.loop-read.cache c.read_unit.new.cache c.loop-read.invariant.grown c.in_ok-next.ensures.effect.grown;
-      cost = omega (arith, c.in_ok-next.ensures.effect.counted, c.loop-read.invariant.counted, f.more);
-      most = omega (arith, c.in_ok-next.ensures.effect.counted, c.loop-read.invariant.counted, f.more, c.follow_walk-stop.ensures.within);
-      known = λ n reported knows. (
-          let count : c.loop-read.cache.count ≡ c.args.cache.now.count = c.loop-read.invariant.idle n reported knows in
-          let here = c.in_ok-next.ensures.effect.known (unit_knows d c.args.self.now c.args.cache.now c.loop-read.cache c.args.input.now c.args.units k n c.loop-read.invariant.grown count knows from c.in_ok-next.ensures.reads (followed_clean f c.loop-read.invariant.clean) (followed_silent f c.loop-read.invariant.silent n reported)) in
-          (here.0 ∙ count, tt));
-      learned = λ nothing. (
-          let second : ClearedNothing c.loop-read.cache.store c.read_unit.new.cache.store = nothing_second c.args.cache.now c.loop-read.cache c.read_unit.new.cache c.loop-read.invariant.grown c.in_ok-next.ensures.effect.grown nothing in
-          let first : ClearedNothing c.args.cache.now.store c.loop-read.cache.store = nothing_first c.args.cache.now c.loop-read.cache c.read_unit.new.cache c.loop-read.invariant.grown c.in_ok-next.ensures.effect.grown nothing in
-          subst (HasLearnedUnits d c.args.self.now c.read_unit.new.cache.store c.args.input.now c.args.units) more
-          (units_more d c.args.self.now c.loop-read.cache c.read_unit.new.cache c.args.input.now c.args.units c.loop-read.read k c.follow_walk-stop.result.id c.in_ok-next.ensures.effect.grown second
-          (c.loop-read.invariant.learned first) f (c.in_ok-next.ensures.effect.learned second)));
       read =
-          arrived_read d c.args.self.now c.args.input.now c.args.units k (k + 1) c.args.cache.now c.read_unit.new.cache from more c.in_ok-next.ensures.reads
+          arrived_read d c.args.self.now c.args.input.now c.args.units k (k + 1) c.args.cache.now c.read_unit.new.cache (omega (arith, c.loop-read.invariant.from, f.more)) (omega arith) c.in_ok-next.ensures.reads
           (read_then d c.args.self.now c.args.input.now c.args.units c.args.cache.now (is_store c.args.cache.now.store c.args.self.now c.requires.of c.see_bounds.ensures.bounds, c.see_bounds.ensures.sound) c.loop-read.read k c.loop-read.cache c.loop-read.invariant.of (read_exactly d c.args.self.now c.args.input.now c.args.units c.args.cache.now c.loop-read.read c.loop-read.cache c.loop-read.invariant.progress) f.more (followed_clean f c.loop-read.invariant.clean) (λ j l h. (f.taken j l h).known) c.read_unit.new.cache c.in_ok-next.ensures.effect.read);
       left = tt;
     }
@@ -207,11 +147,6 @@ returns-clause-effect c =
     let less : c.args.units < c.loop-read.read = omega (arith, c.requires.from.left, c.loop-read-test.false, c.last_place-last.ensures.place) in
     let last : (k : ℕ) × (c.loop-read.read ≡ suc k) × WalkReads d c.args.self.now c.args.input.now k = c.loop-read.invariant.reads less in
     record {
-      grown = c.loop-read.invariant.grown;
-      cost = c.loop-read.invariant.counted;
-      most = omega (arith, c.loop-read.invariant.counted, c.loop-read.invariant.within);
-      known = λ n reported knows. (c.loop-read.invariant.idle n reported knows, tt);
-      learned = c.loop-read.invariant.learned;
       read =
           arrived_read d c.args.self.now c.args.input.now c.args.units last.0 c.loop-read.read c.args.cache.now c.loop-read.cache (omega (arith, less, last.1)) (sym last.1) last.2
           (subst (λ n. AreReadTo d c.args.self.now c.args.input.now c.args.units n c.args.cache.now c.loop-read.cache) last.1 c.loop-read.invariant.progress);

@@ -1,24 +1,18 @@
 use Rattle.std.proofs.Common.{ℕ, suc, ◌≡◌, ◌<◌, ◌≤◌, ◌+◌, ◌-◌}
 use Rattle.automata_hybrid.specs.Cache.Caches.{IsCacheOf}
-use Rattle.automata_hybrid.specs.Cache.Growth.{ClearedNothing, IsGrown}
-use Rattle.automata_hybrid.specs.Walks.Cached.{HasLearnedUnits, KnowsUnits}
 use Rattle.automata_hybrid.specs.Searches.Passes.{HasReadNoQuit, state_in}
 use Rattle.automata_hybrid.specs.Cache.Table.{Names}
-use Rattle.automata_hybrid.specs.Walks.Answers.{HasReportedBy, IsSilent, WalkReads}
+use Rattle.automata_hybrid.specs.Walks.Answers.{IsSilent, WalkReads}
 use Rattle.automata_hybrid.proofs.Searches.UnitsRead.{AreReadTo}
 use Rattle.automata_hybrid.proofs.dfa.DFA.advance.Given as goal
 
 abbrev pub invariant-loop-read : goal.invariant-loop-read
 invariant-loop-read l = record {
   of : IsCacheOf l.cache l.self;
-  counted : l.cache.count + l.units ≤ l.fn.cache.count + l.read;
   from : l.units ≤ l.read;
   within : l.read ≤ l.input.end - l.input.start + 1;
-  grown : IsGrown l.fn.cache l.cache;
   named : Names l.cache.store.table l.id (state_in l.way l.self l.input l.read);
   clean : HasReadNoQuit l.way l.self l.input l.read;
-  idle : (k : ℕ) → HasReportedBy l.way l.self l.input l.units k → KnowsUnits l.way l.self l.fn.cache.store l.input l.units k → l.cache.count ≡ l.fn.cache.count;
-  learned : ClearedNothing l.fn.cache.store l.cache.store → HasLearnedUnits l.way l.self l.cache.store l.input l.units l.read;
   silent : IsSilent l.way l.self l.input l.units l.read;
   progress : AreReadTo l.way l.self l.input l.units l.read l.fn.cache l.cache;
   reads : l.units < l.read → (k : ℕ) × (l.read ≡ suc k) × WalkReads l.way l.self l.input k;

@@ -6,7 +6,7 @@ use Rattle.automata_base.specs.Answers.Within.{WalkLiesWithin}
 use Rattle.automata_config.specs.Options.{match_kind_of}
 use Rattle.automata_config.specs.declared.error.SearchError.{SearchError}
 use Rattle.automata_hybrid.specs.Walks.State.{IsHeldItself, States, Walk}
-use Rattle.automata_hybrid.specs.Walks.Contracts.{IsCallEffect}
+use Rattle.automata_hybrid.specs.Walks.Progress.{IsWalkRun}
 use Rattle.automata_hybrid.specs.Walks.Parts.{IsCallRefused}
 use Rattle.automata_hybrid.specs.declared.search.walk.Held.{Held}
 use Rattle.automata_hybrid.proofs.Walks.Parts.{held_itself, itself_held, supported_call}
@@ -55,7 +55,7 @@ returns-in-Ok-clause-call c =
 
 pub returns-in-Ok-clause-effect : goal.returns-in-Ok-clause-effect
 returns-in-Ok-clause-effect c =
-    subst (λ k. IsCallEffect {T = Unit {0}} k c.args.way c.args.self.now c.args.input.now c.args.walk.now c.go_on.new.walk c.args.cache.now c.go_on.new.cache (Ok tt))
+    subst (λ k. IsWalkRun {T = Unit {0}} k c.args.way c.args.self.now c.args.input.now c.args.walk.now c.go_on.new.walk c.args.cache.now c.go_on.new.cache (Ok tt))
     (held_itself c.args.cache.now.store.table c.args.walk.now.stage c.args.held.now c.requires.walk.itself).1 c.in-Ok.ensures.effect
 
 pub returns-in-Err-clause-walk : goal.returns-in-Err-clause-walk
@@ -76,7 +76,7 @@ returns-in-Err-clause-refusal c = λ k reported.
 
 pub returns-in-Err-clause-effect : goal.returns-in-Err-clause-effect
 returns-in-Err-clause-effect c =
-    subst (λ k. IsCallEffect {T = Unit {0}} k c.args.way c.args.self.now c.args.input.now c.args.walk.now c.go_on.new.walk c.args.cache.now c.go_on.new.cache (Err c.in-Err.error))
+    subst (λ k. IsWalkRun {T = Unit {0}} k c.args.way c.args.self.now c.args.input.now c.args.walk.now c.go_on.new.walk c.args.cache.now c.go_on.new.cache (Err c.in-Err.error))
     (held_itself c.args.cache.now.store.table c.args.walk.now.stage c.args.held.now c.requires.walk.itself).1 c.in-Err.ensures.effect
 
 pub returns-in-Err-clause-call : goal.returns-in-Err-clause-call

@@ -1,4 +1,4 @@
-use Rattle.std.proofs.Common.{suc, inl, inr, length-set, ◌≡◌, ◌∙◌, ◌≤◌, ◌+◌, ◌-◌, List, Bool, true, length, set, Some}
+use Rattle.std.proofs.Common.{suc, inl, inr, length-set, ◌≡◌, ◌∙◌, ◌-◌, List, Bool, true, length, set, Some}
 use Rattle.std.proofs.Common.{rules, refl, sym, ap, subst, arith}
 use Rattle.std.specs.Prelude.{Err, IsTrue, Result}
 use Rattle.automata_base.specs.Answers.Answers.{ArePatterns}
@@ -9,22 +9,20 @@ use Rattle.automata_base.specs.declared.util.search.Direction.TheVariants.{Forwa
 use Rattle.automata_base.specs.Laws.Walks.{WalkIsRight, WalksAreReported}
 use Rattle.automata_config.specs.declared.error.SearchError.{SearchError}
 use Rattle.automata_hybrid.specs.Cache.Caches.{CacheView}
-use Rattle.automata_hybrid.specs.Cache.Growth.{ClearedNothing, IsGrown}
 use Rattle.automata_hybrid.specs.Machines.Machine.{Machine}
-use Rattle.automata_hybrid.specs.Walks.Contracts.{IsCallEffect, IsSetReported, IsWhichEffect}
+use Rattle.automata_hybrid.specs.Walks.Contracts.{IsSetReported}
 use Rattle.automata_hybrid.specs.Walks.Parts.{IsCallRefused}
-use Rattle.automata_hybrid.specs.Walks.Progress.{HaveCalled}
+use Rattle.automata_hybrid.specs.Walks.Progress.{HaveCalled, IsSetRun, IsWalkRun}
 use Rattle.automata_hybrid.specs.Walks.Answers.{AreWalked}
 use Rattle.automata_hybrid.specs.Walks.State.{Ended, Ids, Walk}
-use Rattle.automata_hybrid.proofs.Cache.Growth.{clears_none, grown_same, grown_trans, nothing_first, nothing_second}
-use Rattle.automata_hybrid.proofs.Walks.CachedSets.{half_none, learned_call, open_stops, set_knows}
+use Rattle.automata_hybrid.proofs.Searches.Contracts.{is_store}
+use Rattle.automata_hybrid.proofs.Walks.CachedSets.{half_none}
 use Rattle.automata_hybrid.proofs.Searches.Reads.{at_err}
-use Rattle.automata_hybrid.proofs.Walks.Parts.{supported_call}
+use Rattle.automata_hybrid.proofs.Walks.Parts.{held_there, supported_call}
 use Rattle.automata_hybrid.proofs.Searches.PassState.{false_true, if_err}
-use Rattle.automata_hybrid.proofs.Walks.Sets.{IsLacking, Joins, StandsWell, begun_state, calls_more, closes, joins_all}
+use Rattle.automata_hybrid.proofs.Walks.Sets.{IsLacking, Joins, calls_more, closes, joins_all}
 use Rattle.automata_hybrid.proofs.Walks.Sets.{joins_begin, joins_first, joins_full, joined_more, joins_more, lacking}
 use Rattle.automata_hybrid.proofs.Walks.Sets.{on_found, open_after, patterns_of, stands_well, steps_less, reported_undone}
-use Rattle.automata_hybrid.proofs.Walks.Sets.{which_still, which_walk}
 use Rattle.automata_hybrid.proofs.dfa.DFA.collect.Goals as goal
 use Rattle.automata_config.specs.Options.{match_kind_of}
 
@@ -60,37 +58,19 @@ pub returns-in_err-go_on-clause-effect : goal.returns-in_err-go_on-clause-effect
 returns-in_err-go_on-clause-effect c =
     let m : Machine = c.args.self.now in
     let input : Input = c.args.input.now in
-    let old : CacheView = c.args.cache.now in
     let mid : CacheView = c.walk.cache in
     let new : CacheView = c.go_on.new.cache in
     let walk : Walk = c.walk.walk in
     let next : Walk = c.go_on.new.walk in
     let v = c.walk.invariant in
     let j = v.joins.0 in
-    let reported : WalksAreReported m.nfa = subst WalksAreReported c.get_nfa.ensures c.walk_is_right.ensures.reported in
-    let list : (pairs : List Pair) × AreWalked Forward m input pairs = reported Forward (match_kind_of m.config) input in
-    let e : IsCallEffect {T = Unit {0}} Ids Forward m input walk next mid new (Err c.in_err-go_on.field-0.0) =
-    subst (λ k. IsCallEffect {T = Unit {0}} k Forward m input walk next mid new (Err c.in_err-go_on.field-0.0)) v.keeping c.in_err-go_on.ensures.effect in
-    let stepped : IsGrown mid new = e.there v.there in
-    let grown : IsGrown old new = grown_trans old mid new v.grown stepped in
-    let cost : new.count ≤ old.count + (input.end - input.start + 2) = omega (arith, e.most, v.counted, v.few) in
-    at_err c.from_residual.result _ (λ (r : Result (Unit {0}) SearchError). IsWhichEffect m input c.args.patset.now old new r) c.from_residual.ensures.1
+    let e : IsWalkRun {T = Unit {0}} Ids Forward m input walk next mid new (Err c.in_err-go_on.field-0.0) =
+    subst (λ k. IsWalkRun {T = Unit {0}} k Forward m input walk next mid new (Err c.in_err-go_on.field-0.0)) v.keeping c.in_err-go_on.ensures.effect in
+    at_err c.from_residual.result _ (λ (r : Result (Unit {0}) SearchError). IsSetRun m input c.args.patset.now c.args.cache.now new r) c.from_residual.ensures.1
     (record {
-      cost = cost;
-      started = λ knows. (
-          let less = (e.started (begun_state m input walk.stage old mid v.grown v.there knows)).0 in
-          omega (arith, less, v.started knows, v.few));
-      roomy = λ room. clears_none old new _ grown cost room;
-      grown = grown;
-      learned = λ nothing. tt;
-      known = λ knows. (
-          let count : mid.count ≡ old.count = v.idle knows in
-          let here = e.known (which_walk m mid.store input walk c.args.patset.now c.walk.patset j list v.there
-          (which_still m input c.args.patset.now old mid v.grown count knows)) in
-          (grown.idle (here.0.0 ∙ count), here.1));
+      of = (is_store c.args.cache.now.store c.args.self.now c.requires c.see_bounds.ensures.bounds, c.see_bounds.ensures.sound);
       ended = tt;
-      left = (j.k, walk, mid, v.joins.1, open_after m input walk c.args.patset.now c.walk.patset j, e.left);
-      done = λ past. e.ready (inr (inr (omega (arith, past)))) ∙ (v.done past).0;
+      left = (j.k, walk, mid, v.joins.1, open_after m input walk c.args.patset.now c.walk.patset j, v.there, e.left);
     })
 
 pub returns-in_default-clause-reported : goal.returns-in_default-clause-reported
@@ -111,14 +91,13 @@ returns-in_default-clause-reported c =
           (c.haystack-haystack.ensures.bytes, c.haystack-haystack.ensures.within.1) old set free found;
       capacity = j.capacity;
       unsupported = λ u. absurd (supported_call Forward m input c.walk.walk c.go_on.new.walk (j.k, j.reported) reports u);
-      done = λ past. (refl, (v.done past).1);
+      done = λ past. (refl, v.done past);
     }
 
 pub returns-in_default-clause-effect : goal.returns-in_default-clause-effect
 returns-in_default-clause-effect c =
     let m : Machine = c.args.self.now in
     let input : Input = c.args.input.now in
-    let old : CacheView = c.args.cache.now in
     let mid : CacheView = c.walk.cache in
     let new : CacheView = c.go_on.new.cache in
     let walk : Walk = c.walk.walk in
@@ -127,39 +106,18 @@ returns-in_default-clause-effect c =
     let j = v.joins.0 in
     let reported : WalksAreReported m.nfa = subst WalksAreReported c.get_nfa.ensures c.walk_is_right.ensures.reported in
     let list : (pairs : List Pair) × AreWalked Forward m input pairs = reported Forward (match_kind_of m.config) input in
-    let e = c.in_ok-go_on.ensures.effect in
-    let stepped : IsGrown mid new = e.there v.there in
-    let grown : IsGrown old new = grown_trans old mid new v.grown stepped in
-    let cost : new.count ≤ old.count + (input.end - input.start + 2) = omega (arith, e.most, v.counted, v.few) in
     let a = c.in_ok-go_on.ensures.answer in
     let after = (a.reports j.k j.reported).1 list.0 list.1 in
     let last : next.stage ≡ Ended = after.1 (half_none list.0 j.k (sym after.0 ∙ (sym c.get_match.ensures ∙ c.in_default.«is»))) in
     record {
-      cost = cost;
-      started = λ knows. (
-          let less = (e.started (begun_state m input walk.stage old mid v.grown v.there knows)).0 in
-          omega (arith, less, v.started knows, v.few));
-      roomy = λ room. clears_none old new _ grown cost room;
-      grown = grown;
-      learned = λ nothing undone may. (
-          let first : ClearedNothing old.store mid.store = nothing_first old mid new v.grown stepped nothing in
-          let second : ClearedNothing mid.store new.store = nothing_second old mid new v.grown stepped nothing in
-          let all = learned_call m input mid new walk next j.k stepped second j.reported undone may (v.learned first undone may) (e.learned second) (a.learned second) in
-          set_knows m new.store input c.args.patset.now next all
-          (λ n pairs l reads unsplit is_open. a.stops undone v.on last n l reads));
-      known = λ knows. (
-          let count : mid.count ≡ old.count = v.idle knows in
-          let here = e.known (which_walk m mid.store input walk c.args.patset.now c.walk.patset j list v.there
-          (which_still m input c.args.patset.now old mid v.grown count knows)) in
-          (grown.idle (here.0.0 ∙ count), tt));
+      of = (is_store c.args.cache.now.store c.args.self.now c.requires c.see_bounds.ensures.bounds, c.see_bounds.ensures.sound);
       ended = (
         suc j.k,
         next,
-        (walk, mid, v.joins.1, open_after m input walk c.args.patset.now c.walk.patset j, a.reports, e.ended),
+        (walk, mid, v.joins.1, open_after m input walk c.args.patset.now c.walk.patset j, v.there, a.reports, c.in_ok-go_on.ensures.effect.ended),
         inl last,
       );
       left = tt;
-      done = λ past. e.ready (inr (inr (omega (arith, past)))) ∙ (v.done past).0;
     }
 
 pub returns-then-is_full-clause-reported : goal.returns-then-is_full-clause-reported
@@ -195,56 +153,27 @@ pub returns-then-is_full-clause-effect : goal.returns-then-is_full-clause-effect
 returns-then-is_full-clause-effect c =
     let m : Machine = c.args.self.now in
     let input : Input = c.args.input.now in
-    let old : CacheView = c.args.cache.now in
     let mid : CacheView = c.walk.cache in
     let new : CacheView = c.go_on.new.cache in
     let walk : Walk = c.walk.walk in
     let next : Walk = c.go_on.new.walk in
     let v = c.walk.invariant in
     let j = v.joins.0 in
-    let reported : WalksAreReported m.nfa = subst WalksAreReported c.get_nfa.ensures c.walk_is_right.ensures.reported in
-    let list : (pairs : List Pair) × AreWalked Forward m input pairs = reported Forward (match_kind_of m.config) input in
-    let e = c.in_ok-go_on.ensures.effect in
-    let stepped : IsGrown mid new = e.there v.there in
-    let grown : IsGrown old new = grown_trans old mid new v.grown stepped in
-    let cost : new.count ≤ old.count + (input.end - input.start + 2) = omega (arith, e.most, v.counted, v.few) in
     let a = c.in_ok-go_on.ensures.answer in
     let found : next.found ≡ Some c.in-Some.half = sym c.get_match.ensures ∙ c.in-Some.«is» in
-    let put : c.try_insert.new.self ≡ set c.walk.patset c.in-Some.half.pattern true = c.try_insert.ensures.inserted ∙ ap (λ n. set c.walk.patset n true) c.pattern.ensures in
-    let on = on_found walk next c.in-Some.half a.goes_on found in
-    let capacity = length-set c.walk.patset c.in-Some.half.pattern true ∙ j.capacity in
     record {
-      cost = cost;
-      started = λ knows. (
-          let less = (e.started (begun_state m input walk.stage old mid v.grown v.there knows)).0 in
-          omega (arith, less, v.started knows, v.few));
-      roomy = λ room. clears_none old new _ grown cost room;
-      grown = grown;
-      learned = λ nothing undone may. (
-          let first : ClearedNothing old.store mid.store = nothing_first old mid new v.grown stepped nothing in
-          let second : ClearedNothing mid.store new.store = nothing_second old mid new v.grown stepped nothing in
-          let all = learned_call m input mid new walk next j.k stepped second j.reported undone may (v.learned first undone may) (e.learned second) (a.learned second) in
-          set_knows m new.store input c.args.patset.now next all
-          (open_stops m input next j.k (a.reports j.k j.reported).0 on.0 c.args.patset.now (set c.walk.patset c.in-Some.half.pattern true) list.0 undone list.1 capacity
-          (joined_more m input c.args.patset.now walk next c.walk.patset j a.reports list c.in-Some.half found)
-          (inr (subst (λ (s : List Bool). length (members s) ≡ length s) put (c.is_full.ensures.0 c.if-is_full.true)))));
-      known = λ knows. (
-          let count : mid.count ≡ old.count = v.idle knows in
-          let here = e.known (which_walk m mid.store input walk c.args.patset.now c.walk.patset j list v.there
-          (which_still m input c.args.patset.now old mid v.grown count knows)) in
-          (grown.idle (here.0.0 ∙ count), tt));
+      of = (is_store c.args.cache.now.store c.args.self.now c.requires c.see_bounds.ensures.bounds, c.see_bounds.ensures.sound);
       ended = (
         suc j.k,
         next,
-        (walk, mid, v.joins.1, open_after m input walk c.args.patset.now c.walk.patset j, a.reports, e.ended),
+        (walk, mid, v.joins.1, open_after m input walk c.args.patset.now c.walk.patset j, v.there, a.reports, c.in_ok-go_on.ensures.effect.ended),
         inr (λ pairs walked.
             closes input c.args.patset.now (set c.walk.patset c.in-Some.half.pattern true) pairs j.k c.in-Some.half
-            (sym ((a.reports j.k j.reported).1 pairs walked).0 ∙ found) capacity
+            (sym ((a.reports j.k j.reported).1 pairs walked).0 ∙ found) (length-set c.walk.patset c.in-Some.half.pattern true ∙ j.capacity)
             (joined_more m input c.args.patset.now walk next c.walk.patset j a.reports (pairs, walked) c.in-Some.half found)
-            (inr (subst (λ (s : List Bool). length (members s) ≡ length s) put (c.is_full.ensures.0 c.if-is_full.true)))),
+            (inr (subst (λ (s : List Bool). length (members s) ≡ length s) (c.try_insert.ensures.inserted ∙ ap (λ n. set c.walk.patset n true) c.pattern.ensures) (c.is_full.ensures.0 c.if-is_full.true)))),
       );
       left = tt;
-      done = λ past. e.ready (inr (inr (omega (arith, past)))) ∙ (v.done past).0;
     }
 
 pub returns-then-get_earliest-clause-reported : goal.returns-then-get_earliest-clause-reported
@@ -279,56 +208,27 @@ pub returns-then-get_earliest-clause-effect : goal.returns-then-get_earliest-cla
 returns-then-get_earliest-clause-effect c =
     let m : Machine = c.args.self.now in
     let input : Input = c.args.input.now in
-    let old : CacheView = c.args.cache.now in
     let mid : CacheView = c.walk.cache in
     let new : CacheView = c.go_on.new.cache in
     let walk : Walk = c.walk.walk in
     let next : Walk = c.go_on.new.walk in
     let v = c.walk.invariant in
     let j = v.joins.0 in
-    let reported : WalksAreReported m.nfa = subst WalksAreReported c.get_nfa.ensures c.walk_is_right.ensures.reported in
-    let list : (pairs : List Pair) × AreWalked Forward m input pairs = reported Forward (match_kind_of m.config) input in
-    let e = c.in_ok-go_on.ensures.effect in
-    let stepped : IsGrown mid new = e.there v.there in
-    let grown : IsGrown old new = grown_trans old mid new v.grown stepped in
-    let cost : new.count ≤ old.count + (input.end - input.start + 2) = omega (arith, e.most, v.counted, v.few) in
     let a = c.in_ok-go_on.ensures.answer in
     let found : next.found ≡ Some c.in-Some.half = sym c.get_match.ensures ∙ c.in-Some.«is» in
-    let put : c.try_insert.new.self ≡ set c.walk.patset c.in-Some.half.pattern true = c.try_insert.ensures.inserted ∙ ap (λ n. set c.walk.patset n true) c.pattern.ensures in
-    let on = on_found walk next c.in-Some.half a.goes_on found in
-    let capacity = length-set c.walk.patset c.in-Some.half.pattern true ∙ j.capacity in
     record {
-      cost = cost;
-      started = λ knows. (
-          let less = (e.started (begun_state m input walk.stage old mid v.grown v.there knows)).0 in
-          omega (arith, less, v.started knows, v.few));
-      roomy = λ room. clears_none old new _ grown cost room;
-      grown = grown;
-      learned = λ nothing undone may. (
-          let first : ClearedNothing old.store mid.store = nothing_first old mid new v.grown stepped nothing in
-          let second : ClearedNothing mid.store new.store = nothing_second old mid new v.grown stepped nothing in
-          let all = learned_call m input mid new walk next j.k stepped second j.reported undone may (v.learned first undone may) (e.learned second) (a.learned second) in
-          set_knows m new.store input c.args.patset.now next all
-          (open_stops m input next j.k (a.reports j.k j.reported).0 on.0 c.args.patset.now (set c.walk.patset c.in-Some.half.pattern true) list.0 undone list.1 capacity
-          (joined_more m input c.args.patset.now walk next c.walk.patset j a.reports list c.in-Some.half found)
-          (inl (sym c.get_earliest.ensures ∙ c.if-get_earliest.true))));
-      known = λ knows. (
-          let count : mid.count ≡ old.count = v.idle knows in
-          let here = e.known (which_walk m mid.store input walk c.args.patset.now c.walk.patset j list v.there
-          (which_still m input c.args.patset.now old mid v.grown count knows)) in
-          (grown.idle (here.0.0 ∙ count), tt));
+      of = (is_store c.args.cache.now.store c.args.self.now c.requires c.see_bounds.ensures.bounds, c.see_bounds.ensures.sound);
       ended = (
         suc j.k,
         next,
-        (walk, mid, v.joins.1, open_after m input walk c.args.patset.now c.walk.patset j, a.reports, e.ended),
+        (walk, mid, v.joins.1, open_after m input walk c.args.patset.now c.walk.patset j, v.there, a.reports, c.in_ok-go_on.ensures.effect.ended),
         inr (λ pairs walked.
             closes input c.args.patset.now (set c.walk.patset c.in-Some.half.pattern true) pairs j.k c.in-Some.half
-            (sym ((a.reports j.k j.reported).1 pairs walked).0 ∙ found) capacity
+            (sym ((a.reports j.k j.reported).1 pairs walked).0 ∙ found) (length-set c.walk.patset c.in-Some.half.pattern true ∙ j.capacity)
             (joined_more m input c.args.patset.now walk next c.walk.patset j a.reports (pairs, walked) c.in-Some.half found)
             (inl (sym c.get_earliest.ensures ∙ c.if-get_earliest.true))),
       );
       left = tt;
-      done = λ past. e.ready (inr (inr (omega (arith, past)))) ∙ (v.done past).0;
     }
 
 pub walk-smaller : goal.walk-smaller
@@ -343,18 +243,12 @@ walk-smaller c =
 pub walk-init : goal.walk-init
 walk-init c = record {
   of = search rules;
-  grown = grown_same c.args.cache.now c.args.cache.now refl;
   there = search rules;
-  counted = search rules;
-  few = search rules;
-  started = λ knows. omega arith;
   begins = λ u. (ap (λ (w : Walk). w.stage) c.start-walk.ensures, refl);
-  done = λ past. (refl, refl);
-  idle = λ knows. refl;
+  done = λ past. refl;
   on = search rules;
   holds = search rules;
   keeping = search rules;
-  learned = search rules;
   joins = joins_begin c.args.self.now c.args.input.now c.start-walk.result c.args.patset.now c.args.cache.now c.start-walk.ensures;
 }
 
@@ -366,36 +260,17 @@ walk-preserved c =
     let put : c.try_insert.new.self ≡ set c.walk.patset c.in-Some.half.pattern true = c.try_insert.ensures.inserted ∙ ap (λ n. set c.walk.patset n true) c.pattern.ensures in
     let on = on_found c.walk.walk c.go_on.new.walk c.in-Some.half c.in_ok-go_on.ensures.answer.goes_on found in
     let j = c.walk.invariant.joins.0 in
-    let well : StandsWell c.args.self.now c.args.input.now c.haystack-haystack.ensures.within.1 c.go_on.new.walk =
-    stands_well c.args.self.now c.args.input.now c.haystack-haystack.ensures.within.1 c.go_on.new.walk j.k (c.in_ok-go_on.ensures.answer.reports j.k j.reported).0 on.0 in
     let lacks : IsLacking (set c.walk.patset c.in-Some.half.pattern true) = lacking _ 0 (λ full.
     let whole : IsTrue c.is_full.result = c.is_full.ensures.1 (subst (λ (s : List Bool). length (members s) ≡ length s) (sym put) full) in
     false_true (sym c.if-is_full.false ∙ whole)) in
     record {
       of = c.in_ok-go_on.ensures.of;
-      grown = grown_trans c.args.cache.now c.walk.cache c.go_on.new.cache c.walk.invariant.grown (c.in_ok-go_on.ensures.effect.there c.walk.invariant.there);
-      there = c.in_ok-go_on.ensures.answer.there c.walk.invariant.there;
-      counted = omega (arith, well.begun, c.in_ok-go_on.ensures.effect.cost, c.walk.invariant.counted);
-      few = well.units;
-      idle = λ knows. (
-          let reported : WalksAreReported c.args.self.now.nfa = subst WalksAreReported c.get_nfa.ensures c.walk_is_right.ensures.reported in
-          let list : (pairs : List Pair) × AreWalked Forward c.args.self.now c.args.input.now pairs = reported Forward (match_kind_of c.args.self.now.config) c.args.input.now in
-          let count : c.walk.cache.count ≡ c.args.cache.now.count = c.walk.invariant.idle knows in
-          let here = c.in_ok-go_on.ensures.effect.known (which_walk c.args.self.now c.walk.cache.store c.args.input.now c.walk.walk c.args.patset.now c.walk.patset c.walk.invariant.joins.0 list c.walk.invariant.there
-          (which_still c.args.self.now c.args.input.now c.args.patset.now c.args.cache.now c.walk.cache c.walk.invariant.grown count knows)) in
-          here.0.0 ∙ count);
+      there =
+          held_there c.go_on.new.cache.store.table c.go_on.new.walk.stage c.go_on.new.held c.in_ok-go_on.ensures.held.holds
+          (c.in_ok-go_on.ensures.held.keeping ∙ c.walk.invariant.keeping);
       on = on.0;
       holds = c.in_ok-go_on.ensures.held.holds;
       keeping = c.in_ok-go_on.ensures.held.keeping ∙ c.walk.invariant.keeping;
-      learned = λ nothing undone may. (
-          let stepped : IsGrown c.walk.cache c.go_on.new.cache = c.in_ok-go_on.ensures.effect.there c.walk.invariant.there in
-          let first : ClearedNothing c.args.cache.now.store c.walk.cache.store = nothing_first c.args.cache.now c.walk.cache c.go_on.new.cache c.walk.invariant.grown stepped nothing in
-          let second : ClearedNothing c.walk.cache.store c.go_on.new.cache.store = nothing_second c.args.cache.now c.walk.cache c.go_on.new.cache c.walk.invariant.grown stepped nothing in
-          let all = learned_call c.args.self.now c.args.input.now c.walk.cache c.go_on.new.cache c.walk.walk c.go_on.new.walk j.k stepped second j.reported undone may (c.walk.invariant.learned first undone may) (c.in_ok-go_on.ensures.effect.learned second) (c.in_ok-go_on.ensures.answer.learned second) in
-          inr all);
-      started = λ knows. (
-          let less = (c.in_ok-go_on.ensures.effect.started (begun_state c.args.self.now c.args.input.now c.walk.walk.stage c.args.cache.now c.walk.cache c.walk.invariant.grown c.walk.invariant.there knows)).1 in
-          omega (arith, less, c.walk.invariant.started knows));
       done = λ past. (
           let undone = reported_undone c.args.self.now c.args.input.now c.go_on.new.walk j.k (c.in_ok-go_on.ensures.answer.reports j.k j.reported).0 on.0 in
           absurd (omega (arith, past, undone)));
@@ -404,6 +279,6 @@ walk-preserved c =
           subst (λ (s : List Bool). (i : Joins c.args.self.now c.args.input.now c.go_on.new.walk c.args.patset.now s) × HaveCalled c.args.self.now c.args.input.now c.args.patset.now i.k c.args.cache.now c.go_on.new.walk c.go_on.new.cache) (sym put) (
             joins_more c.args.self.now c.args.input.now c.args.patset.now c.walk.walk c.go_on.new.walk c.walk.patset c.walk.invariant.joins.0 c.in_ok-go_on.ensures.answer.reports list c.in-Some.half found (sym c.get_earliest.ensures ∙ c.if-get_earliest.false) lacks,
             calls_more c.args.self.now c.args.input.now c.args.patset.now c.walk.walk c.go_on.new.walk c.walk.patset c.walk.invariant.joins.0 c.in_ok-go_on.ensures.answer.reports list c.in-Some.half found (sym c.get_earliest.ensures ∙ c.if-get_earliest.false) lacks c.args.cache.now c.go_on.new.cache
-                (c.walk.walk, c.walk.cache, c.walk.invariant.joins.1, open_after c.args.self.now c.args.input.now c.walk.walk c.args.patset.now c.walk.patset j, c.in_ok-go_on.ensures.answer.reports, c.in_ok-go_on.ensures.effect.ended),
+                (c.walk.walk, c.walk.cache, c.walk.invariant.joins.1, open_after c.args.self.now c.args.input.now c.walk.walk c.args.patset.now c.walk.patset j, c.walk.invariant.there, c.in_ok-go_on.ensures.answer.reports, c.in_ok-go_on.ensures.effect.ended),
           );
     }

@@ -2,11 +2,8 @@ use Rattle.std.proofs.Common.{◌∙◌, sym, ap, subst}
 use Rattle.std.proofs.lemmas.Result.{IfErr-weaker, IfOk-weaker}
 use Rattle.automata_base.specs.Retraced.Steps.{successor}
 use Rattle.automata_base.specs.declared.util.search.Direction.{Direction}
-use Rattle.automata_hybrid.specs.Searches.Passes.{state_in, IsStepRefusal, tape_in, unit_offset}
-use Rattle.automata_base.specs.Paths.Paths.{next}
-use Rattle.automata_hybrid.proofs.Searches.Contracts.{is_store}
+use Rattle.automata_hybrid.specs.Searches.Passes.{state_in}
 use Rattle.automata_hybrid.specs.Cache.Table.{Leads}
-use Rattle.automata_hybrid.proofs.Walks.Parts.{unit_effect}
 use Rattle.automata_hybrid.proofs.Searches.PassState.{state_more}
 use Rattle.automata_hybrid.proofs.Searches.UnitsRead.{refused_here, taken_here}
 use Rattle.automata_hybrid.proofs.dfa.DFA.read_unit.Goals as goal
@@ -23,18 +20,13 @@ returns-clause-leads c =
 pub returns-clause-effect : goal.returns-clause-effect
 returns-clause-effect c =
     let d : Direction = c.args.way in
-    unit_effect d c.args.self.now c.args.input.now c.args.place c.args.cache.now c.read.new.cache c.read.result
-    (is_store c.args.cache.now.store c.args.self.now c.requires.of c.see_bounds.ensures.bounds, c.see_bounds.ensures.sound)
-    (IfOk-weaker c.read.result _ _
-    (λ _ taken. taken_here d c.args.self.now c.args.input.now c.args.place c.args.id c.unit_at.result (sym c.unit_at.ensures) c.span_offset-at.result c.args.cache.now c.requires.at.named (sym c.span_offset-at.ensures.value) c.read.new.cache taken)
-    c.read.ensures.effect.taken)
-    (IfErr-weaker c.read.result _ _
-    (λ _ left. refused_here d c.args.self.now c.args.input.now c.args.place c.args.id c.unit_at.result (sym c.unit_at.ensures) c.span_offset-at.result c.args.cache.now c.requires.at.named (sym c.span_offset-at.ensures.value) c.read.new.cache left)
-    c.read.ensures.effect.left)
-    (IfErr-weaker c.read.result _ _
-    (λ e h.
-    subst (λ a. IsStepRefusal c.args.self.now c.read.new.cache.store (state_in d c.args.self.now c.args.input.now c.args.place) (next (tape_in d c.args.input.now) c.args.place) (unit_offset d c.args.input.now c.args.place) a e) c.span_offset-at.ensures.value
-    (subst (λ b. IsStepRefusal c.args.self.now c.read.new.cache.store (state_in d c.args.self.now c.args.input.now c.args.place) (next (tape_in d c.args.input.now) c.args.place) b c.span_offset-at.result e) c.unit_offset-quit_at.ensures
-    (subst (λ u. IsStepRefusal c.args.self.now c.read.new.cache.store (state_in d c.args.self.now c.args.input.now c.args.place) u c.unit_offset-quit_at.result c.span_offset-at.result e) c.unit_at.ensures
-    (h (state_in d c.args.self.now c.args.input.now c.args.place) c.requires.at.named))))
-    c.read.ensures.refusal)
+    record {
+      read =
+          IfOk-weaker c.read.result _ _
+          (λ _ taken. taken_here d c.args.self.now c.args.input.now c.args.place c.args.id c.unit_at.result (sym c.unit_at.ensures) c.span_offset-at.result c.args.cache.now c.requires.at.named (sym c.span_offset-at.ensures.value) c.read.new.cache taken)
+          c.read.ensures.effect.taken;
+      left =
+          IfErr-weaker c.read.result _ _
+          (λ _ left. refused_here d c.args.self.now c.args.input.now c.args.place c.args.id c.unit_at.result (sym c.unit_at.ensures) c.span_offset-at.result c.args.cache.now c.requires.at.named (sym c.span_offset-at.ensures.value) c.read.new.cache left)
+          c.read.ensures.effect.left;
+    }

@@ -1,7 +1,8 @@
-use Rattle.std.proofs.Common.{ℕ, ◌≡◌, ◌∙◌, Option, Some, ap}
+use Rattle.std.proofs.Common.{ℕ, ◌∙◌, Option, ap}
 use Rattle.automata_hybrid.specs.Machines.Machine.{Machine, slot_count}
 use Rattle.automata_hybrid.proofs.Searches.Contracts.{is_store}
-use Rattle.automata_hybrid.proofs.Walks.Parts.{back_effect, back_refusal, row_effect, start_answer, start_effect, start_refusal}
+use Rattle.automata_hybrid.proofs.Walks.Parts.{back_left, back_refusal, back_resumed, row_resumed, start_answer, start_left, start_refusal}
+use Rattle.automata_hybrid.proofs.Walks.Parts.{start_resumed}
 use Rattle.automata_hybrid.specs.Searches.Passes.{given_up_offset}
 use Rattle.automata_hybrid.specs.Searches.PassState.{step_refusal}
 use Rattle.automata_hybrid.specs.declared.search.walk.Handle.{Handle}
@@ -18,29 +19,44 @@ returns-then-is_fresh-clause-refusal c =
     start_refusal c.args.way c.args.self.now c.args.input.now c.args.walk.now c.args.cache.now c.walk_start-start.new.cache c.walk_start-start.result
     (c.is_fresh.ensures.yes c.if-is_fresh.true) c.walk_start-start.ensures.refusal
 
-pub returns-then-is_fresh-clause-effect : goal.returns-then-is_fresh-clause-effect
-returns-then-is_fresh-clause-effect c =
-    start_effect c.args.way c.args.self.now c.args.input.now c.args.walk.now c.args.cache.now c.walk_start-start.new.cache c.walk_start-start.result
-    (c.is_fresh.ensures.yes c.if-is_fresh.true) c.requires.walk.reported c.walk_start-start.ensures.answer (c.see_bounds.ensures.bounds.slots ∙ ap (λ (m : Machine). slot_count m) c.requires.of)
-    (is_store c.walk_start-start.new.cache.store c.args.self.now c.walk_start-start.ensures.of c.see_bounds-then-is_fresh.ensures.bounds, c.see_bounds-then-is_fresh.ensures.sound) c.walk_start-start.ensures.refusal c.walk_start-start.ensures.effect
+pub returns-then-is_fresh-clause-resumed : goal.returns-then-is_fresh-clause-resumed
+returns-then-is_fresh-clause-resumed c =
+    start_resumed c.args.way c.args.self.now c.args.input.now c.args.walk.now c.args.cache.now c.walk_start-start.new.cache c.walk_start-start.result
+    (c.is_fresh.ensures.yes c.if-is_fresh.true) (c.see_bounds.ensures.bounds.slots ∙ ap (λ (m : Machine). slot_count m) c.requires.of) c.walk_start-start.ensures.effect
+    (is_store c.walk_start-start.new.cache.store c.args.self.now c.walk_start-start.ensures.of c.see_bounds-then-is_fresh.ensures.bounds, c.see_bounds-then-is_fresh.ensures.sound)
+    c.walk_start-start.ensures.answer
 
-pub returns-in-Ok-clause-effect : goal.returns-in-Ok-clause-effect
-returns-in-Ok-clause-effect c =
-    back_effect c.args.way c.args.self.now c.args.input.now c.args.cache.now.store.table c.args.walk.now c.args.held.now c.in-State-Some.handle
-    c.args.cache.now c.put_back.new.cache c.in-Ok.id
-    c.requires.walk.reported (c.is_fresh.ensures.no c.if-is_fresh.false) c.requires.walk.reads.on c.requires.walk.holds (c.in-State-Some.is ∙ ap (λ (h : Option Handle). held.State h) (rw c.in-State-Some.is at c.in-State-Some.field-0-is))
-    (record { id = c.in-Ok.id; named = c.in-Ok.ensures.named }) c.in-Ok.ensures.effect
+pub returns-then-is_fresh-clause-left : goal.returns-then-is_fresh-clause-left
+returns-then-is_fresh-clause-left c =
+    start_left c.args.way c.args.self.now c.args.input.now c.args.walk.now c.args.cache.now c.walk_start-start.new.cache c.walk_start-start.result
+    (c.is_fresh.ensures.yes c.if-is_fresh.true) (c.see_bounds.ensures.bounds.slots ∙ ap (λ (m : Machine). slot_count m) c.requires.of) c.walk_start-start.ensures.effect
+    c.walk_start-start.ensures.refusal
 
-pub returns-in-Row-Some-clause-effect : goal.returns-in-Row-Some-clause-effect
-returns-in-Row-Some-clause-effect c =
-    let row : c.args.held.now ≡ held.Row (Some c.in-Row-Some.id) =
-    c.in-Row-Some.is ∙ ap (λ (h : Option ℕ). held.Row h) (rw c.in-Row-Some.is at c.in-Row-Some.field-0-is) in
-    row_effect c.args.way c.args.self.now c.args.input.now c.args.cache.now c.args.walk.now c.args.held.now c.in-Row-Some.id
-    (c.is_fresh.ensures.no c.if-is_fresh.false) c.requires.walk.reads.on c.requires.walk.holds row
+pub returns-in-Row-Some-clause-resumed : goal.returns-in-Row-Some-clause-resumed
+returns-in-Row-Some-clause-resumed c =
+    row_resumed c.args.way c.args.self.now c.args.input.now c.args.cache.now c.args.walk.now c.args.held.now c.in-Row-Some.id
+    (is_store c.args.cache.now.store c.args.self.now c.requires.of c.see_bounds.ensures.bounds, c.see_bounds.ensures.sound)
+    (c.is_fresh.ensures.no c.if-is_fresh.false) c.requires.walk.reads.on c.requires.walk.holds
+    (c.in-Row-Some.is ∙ ap (λ (h : Option ℕ). held.Row h) (rw c.in-Row-Some.is at c.in-Row-Some.field-0-is))
+
+pub returns-in-Ok-clause-resumed : goal.returns-in-Ok-clause-resumed
+returns-in-Ok-clause-resumed c =
+    back_resumed c.args.way c.args.self.now c.args.input.now c.args.cache.now.store.table c.args.walk.now c.args.held.now c.in-State-Some.handle
+    c.args.cache.now c.put_back.new.cache
+    (c.is_fresh.ensures.no c.if-is_fresh.false) c.requires.walk.reads.on c.requires.walk.holds (c.in-State-Some.is ∙ ap (λ (h : Option Handle). held.State h) (rw c.in-State-Some.is at c.in-State-Some.field-0-is))
+    c.in-Ok.ensures.row
+
+pub returns-in-Err-clause-left : goal.returns-in-Err-clause-left
+returns-in-Err-clause-left c =
+    back_left c.args.way c.args.self.now c.args.input.now c.args.cache.now.store.table c.args.walk.now c.args.held.now c.in-State-Some.handle
+    c.args.cache.now c.put_back.new.cache
+    (c.is_fresh.ensures.no c.if-is_fresh.false) c.requires.walk.reads.on c.requires.walk.holds (c.in-State-Some.is ∙ ap (λ (h : Option Handle). held.State h) (rw c.in-State-Some.is at c.in-State-Some.field-0-is))
+    c.in-Err.ensures.refused.kept
 
 pub returns-in-Err-clause-refusal : goal.returns-in-Err-clause-refusal
 returns-in-Err-clause-refusal c =
-    back_refusal {T = ℕ} c.args.way c.args.self.now c.args.input.now c.args.cache.now.store.table c.args.walk.now c.args.held.now c.in-State-Some.handle
-    c.args.cache.now c.put_back.new.cache c.in-Err.error c.refusal.result
+    back_refusal c.args.way c.args.self.now c.args.input.now c.args.cache.now.store.table c.args.walk.now c.args.held.now c.in-State-Some.handle
+    c.args.cache.now c.put_back.new.cache
     (c.is_fresh.ensures.no c.if-is_fresh.false) c.requires.walk.reads.on c.requires.walk.holds (c.in-State-Some.is ∙ ap (λ (h : Option Handle). held.State h) (rw c.in-State-Some.is at c.in-State-Some.field-0-is))
-    c.in-Err.ensures.refused c.in-Err.ensures.effect (c.refusal.ensures ∙ ap (step_refusal c.in-Err.error) (c.span_offset.ensures.value ∙ ap (given_up_offset c.args.way c.args.input.now) c.units.ensures))
+    c.in-Err.error c.refusal.result c.in-Err.ensures.refused c.in-Err.ensures.lacks
+    (c.refusal.ensures ∙ ap (step_refusal c.in-Err.error) (c.span_offset.ensures.value ∙ ap (given_up_offset c.args.way c.args.input.now) c.units.ensures))

@@ -1,6 +1,7 @@
 use Rattle.std.proofs.Common.{ℕ, sym, subst}
 use Rattle.std.specs.Prelude.{IfErr}
-use Rattle.automata_hybrid.specs.Walks.Contracts.{IsCallEffect, IsWalkCall}
+use Rattle.automata_hybrid.specs.Walks.Contracts.{IsWalkCall}
+use Rattle.automata_hybrid.specs.Walks.Progress.{IsWalkRun}
 use Rattle.automata_hybrid.specs.Walks.Answers.{HasReported, IsWalkOf, IsWalkRefusal}
 use Rattle.automata_hybrid.specs.Walks.State.{States, Walk}
 use Rattle.automata_hybrid.proofs.dfa.DFA.try_search_overlapping.Goals as goal
@@ -27,5 +28,5 @@ returns-clause-refusal c =
 
 pub returns-clause-effect : goal.returns-clause-effect
 returns-clause-effect c =
-    subst (λ (w : Walk). IsCallEffect States c.args.way c.args.self.now c.args.input.now w c.call_held.new.walk c.args.cache.now c.call_held.new.cache c.call_held.result) c.walk.view_is
+    subst (λ (w : Walk). IsWalkRun States c.args.way c.args.self.now c.args.input.now w c.call_held.new.walk c.args.cache.now c.call_held.new.cache c.call_held.result) c.walk.view_is
     c.call_held.ensures.effect

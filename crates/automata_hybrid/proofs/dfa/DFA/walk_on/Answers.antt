@@ -1,4 +1,4 @@
-use Rattle.std.proofs.Common.{ℕ, ◌≡◌, ◌∙◌, ◌+◌, ◌-◌, ◌≤◌, inl, inr, length, Option, refl, sym, ap, subst, arith}
+use Rattle.std.proofs.Common.{ℕ, ◌≡◌, ◌∙◌, ◌+◌, ◌-◌, inl, inr, length, Option, refl, sym, ap, subst, arith}
 use Rattle.std.specs.Prelude.{Err, Ok, Result}
 use Rattle.automata_base.specs.Haystacks.Input.{Input}
 use Rattle.automata_base.specs.Powersets.Powerset.{dead}
@@ -6,34 +6,30 @@ use Rattle.automata_base.specs.declared.util.search.Direction.{Direction}
 use Rattle.automata_config.specs.declared.error.SearchError.{SearchError}
 use Rattle.automata_config.specs.declared.error.SearchError.TheVariants as search
 use Rattle.automata_hybrid.specs.Cache.Caches.{CacheView, with_store}
-use Rattle.automata_hybrid.specs.Cache.Growth.{IsGrown}
 use Rattle.automata_hybrid.specs.Machines.Machine.{Machine}
-use Rattle.automata_hybrid.specs.Walks.Contracts.{IsCallEffect}
 use Rattle.automata_hybrid.specs.Cache.Progress.{progress_started}
 use Rattle.automata_hybrid.specs.Walks.Parts.{IsAdvanceEffect, IsCallAnswer, IsCallRefused}
 use Rattle.automata_hybrid.specs.Searches.Progress.{HasEndedAfter, with_search_begun}
 use Rattle.automata_hybrid.specs.Calls.Events.{Begin, with_progress}
 use Rattle.automata_hybrid.proofs.Searches.Contracts.{is_store}
-use Rattle.automata_hybrid.specs.Walks.Progress.{IsCallStopped}
+use Rattle.automata_hybrid.specs.Walks.Progress.{IsCallStopped, IsWalkRun}
 use Rattle.automata_hybrid.specs.Searches.Passes.{HasReadNoQuit, given_up_offset, state_in, tape_in}
 use Rattle.automata_hybrid.specs.Cache.Stores.{with_searched}
 use Rattle.automata_hybrid.specs.Cache.Table.{Rows, Leads, Names}
-use Rattle.automata_hybrid.specs.Walks.Answers.{Arrives, Finishes, HasItsState, HasReportedBy, IsAdvanceRefusal, IsArrival}
+use Rattle.automata_hybrid.specs.Walks.Answers.{Arrives, Finishes, IsAdvanceRefusal, IsArrival}
 use Rattle.automata_hybrid.specs.Walks.State.{Holds, Ids, IsHeldAt, Stage, Walk, ended_walk, keeping_of}
 use Rattle.automata_hybrid.specs.declared.search.advance.Arrival.{Arrival}
-use Rattle.automata_hybrid.proofs.Cache.Growth.{grown_after, grown_moved, grown_trans}
-use Rattle.automata_hybrid.proofs.Walks.Cached.{has_state, state_after, still_same, unit_knows, units_none}
 use Rattle.automata_hybrid.proofs.Searches.Reads.{at_err}
 use Rattle.automata_hybrid.proofs.Searches.Skips.{skips_or_not}
-use Rattle.automata_hybrid.proofs.Walks.Parts.{known_refusal, refused_on}
+use Rattle.automata_hybrid.proofs.Walks.Parts.{refused_on}
 use Rattle.automata_hybrid.proofs.Walks.Progress.{call_leaves, reads_some, step_refuses}
 use Rattle.automata_hybrid.proofs.Searches.UnitsRead.{ended_after, ended_here}
-use Rattle.automata_hybrid.proofs.Searches.PassState.{dead_more, if_err}
+use Rattle.automata_hybrid.proofs.Searches.PassState.{if_err}
 use Rattle.automata_hybrid.proofs.Steps.Ids.{dead_tagged}
-use Rattle.automata_hybrid.proofs.Walks.Calls.{clean_here, ended_at, next_finishes, reported_here, walk_clears_none}
+use Rattle.automata_hybrid.proofs.Walks.Calls.{clean_here, ended_at, next_finishes, reported_here}
 use Rattle.automata_hybrid.proofs.Walks.Reports.{finish_start}
 use Rattle.automata_hybrid.proofs.Searches.Directions.{units_in}
-use Rattle.automata_hybrid.proofs.Walks.Units.{effect_on, effect_unheld, learned_on, refused_unheld}
+use Rattle.automata_hybrid.proofs.Walks.Units.{refused_unheld, run_on, run_unheld}
 use Rattle.automata_hybrid.proofs.dfa.DFA.walk_on.Goals as goal
 
 pub returns-in_err-from-clause-refusal : goal.returns-in_err-from-clause-refusal
@@ -52,25 +48,8 @@ returns-in_err-from-clause-effect c =
     let input : Input = c.args.input.now in
     let w : Walk = c.args.walk.now in
     let r = c.requires.walk.reads in
-    let e = c.in_err-from.ensures.effect in
-    at_err c.from_residual.result _ (λ (x : Result (Unit {0}) SearchError). IsCallEffect (keeping_of c.args.held.now) d m input w w c.args.cache.now c.resume.new.cache x) c.from_residual.ensures.1
-    (record {
-      rises = tt;
-      cost = tt;
-      most = omega (arith, e.cost, r.left);
-      started = λ knows. (
-          let count : c.resume.new.cache.count ≡ c.args.cache.now.count = ap (λ (v : CacheView). v.count) (e.known (λ may. knows)).0 in
-          (omega (arith, count), tt));
-      roomy = λ room. walk_clears_none c.args.cache.now c.resume.new.cache w.stage _ e.grown e.there (omega (arith, e.cost, r.left)) room;
-      grown = e.grown;
-      there = e.there;
-      put_back = λ q at lacks. inl (e.put_back q at lacks).1;
-      learned = λ nothing. tt;
-      known = λ knows. (let same = e.known (λ may. (knows c.requires.walk.reported.0 c.requires.walk.reported.1 r may).0) in (still_same c.args.cache.now c.resume.new.cache same.0, known_refusal (keeping_of c.args.held.now) d m input w c.in_err-from.field-0.0 same.1));
-      ended = tt;
-      left = inl (c.in_err-from.ensures.refusal, e.err);
-      ready = λ none. absurd (reads_some input w r none);
-    })
+    at_err c.from_residual.result _ (λ (x : Result (Unit {0}) SearchError). IsWalkRun (keeping_of c.args.held.now) d m input w w c.args.cache.now c.resume.new.cache x) c.from_residual.ensures.1
+    (record { of = (is_store c.args.cache.now.store c.args.self.now c.requires.of c.see_bounds.ensures.bounds, c.see_bounds.ensures.sound); ended = tt; left = (reads_some input w r, inl (c.in_err-from.ensures.refusal, c.in_err-from.ensures.left)) })
 
 pub returns-then-is_dead-clause-answer : goal.returns-then-is_dead-clause-answer
 returns-then-is_dead-clause-answer c =
@@ -81,19 +60,14 @@ returns-then-is_dead-clause-answer c =
     let r = c.requires.walk.reads in
     let units : input.end - input.start ≡ length (tape_in d input).bytes = units_in d input r.undone c.span_offset-place.ensures.inside in
     let leads : Leads c.search_start.new.self.store.table c.in_ok-from.from (state_in d m input w.units) = subst (λ (t : Rows). Leads t c.in_ok-from.from (state_in d m input w.units)) (sym c.search_start.ensures.table) c.in_ok-from.ensures.answer.leads in
-    let dies : state_in d m input w.units ≡ dead = (dead_tagged c.search_start.new.self.store.table c.in_ok-from.from (c.see_bounds.ensures.sound.low c.in_ok-from.from) c.see_bounds.ensures.sound.small _ leads).0 (c.if-is_dead.ensures.0 refl) in
+    let dies : state_in d m input w.units ≡ dead = (dead_tagged c.search_start.new.self.store.table c.in_ok-from.from (c.see_bounds-2.ensures.sound.low c.in_ok-from.from) c.see_bounds-2.ensures.sound.small _ leads).0 (c.if-is_dead.ensures.0 refl) in
     let clean : HasReadNoQuit d m input w.units = clean_here d m input w c.requires.walk.reported.0 c.requires.walk.reported.1 r.on in
     let ends : Finishes d m input w.units w.units = finish_start d m input w.units (omega (arith, units, r.left)) clean dies in
     let same : c.end.new.self ≡ ended_walk w w.units = c.end.ensures ∙ ap (ended_walk w) c.units-then-is_dead.ensures in
-    subst (λ (x : Walk). IsCallAnswer d m input w x c.args.cache.now.store c.end_search.new.self.store) (sym same)
+    subst (λ (x : Walk). IsCallAnswer d m input w x) (sym same)
     (record {
-      reports =
-          next_finishes d m input w w w.units r.undone c.in_ok-from.ensures.answer.may
-          (λ k t. reported_here d m input w k (skips_or_not c.skips-skips.result c.skips-skips.ensures.yes c.skips-skips.ensures.no) t r.on r.all_reported) ends;
+      reports = next_finishes d m input w w w.units r.undone c.in_ok-from.ensures.answer.may (λ k t. reported_here d m input w k (skips_or_not c.skips-skips.result c.skips-skips.ensures.yes c.skips-skips.ensures.no) t r.on r.all_reported) ends;
       goes_on = inl refl;
-      stops = λ undone on ended. ends.stops;
-      there = λ there. tt;
-      learned = λ nothing. units_none d m c.end_search.new.self.store input w.units;
     })
 
 pub returns-then-is_dead-clause-effect : goal.returns-then-is_dead-clause-effect
@@ -103,57 +77,34 @@ returns-then-is_dead-clause-effect c =
     let input : Input = c.args.input.now in
     let w : Walk = c.args.walk.now in
     let r = c.requires.walk.reads in
-    let e = c.in_ok-from.ensures.effect in
-    let old : CacheView = c.args.cache.now in
+    let first : c.span_offset-place.result ≡ given_up_offset d input w.units = c.span_offset-place.ensures.value ∙ ap (given_up_offset d input) c.units.ensures in
     let between : CacheView = c.resume.new.cache in
     let new : CacheView = c.end_search.new.self in
-    let first : c.span_offset-place.result ≡ given_up_offset d input w.units = c.span_offset-place.ensures.value ∙ ap (given_up_offset d input) c.units.ensures in
     let same : c.end.new.self ≡ ended_walk w w.units = c.end.ensures ∙ ap (ended_walk w) c.units-then-is_dead.ensures in
     let leads : Leads c.search_start.new.self.store.table c.in_ok-from.from (state_in d m input w.units) = subst (λ (t : Rows). Leads t c.in_ok-from.from (state_in d m input w.units)) (sym c.search_start.ensures.table) c.in_ok-from.ensures.answer.leads in
-    let dies : state_in d m input w.units ≡ dead = (dead_tagged c.search_start.new.self.store.table c.in_ok-from.from (c.see_bounds.ensures.sound.low c.in_ok-from.from) c.see_bounds.ensures.sound.small _ leads).0 (c.if-is_dead.ensures.0 refl) in
+    let dies : state_in d m input w.units ≡ dead = (dead_tagged c.search_start.new.self.store.table c.in_ok-from.from (c.see_bounds-2.ensures.sound.low c.in_ok-from.from) c.see_bounds-2.ensures.sound.small _ leads).0 (c.if-is_dead.ensures.0 refl) in
     let begins : c.search_start.new.self ≡ with_search_begun d input w.units between =
     subst (λ at. c.search_start.new.self ≡ with_progress (Begin at) between) first c.search_start.ensures.value in
-    let moved : IsGrown between new = grown_trans between c.search_start.new.self new
-    (grown_moved between c.search_start.new.self c.search_start.ensures.value)
-    (grown_moved c.search_start.new.self new c.end_search.ensures.value) in
-    let count : new.count ≡ between.count = c.end_search.ensures.counted ∙ c.search_start.ensures.counted in
-    let grown = grown_after old between new e.grown moved in
-    let there : HasItsState old.store.table w.stage → IsGrown old new = (λ there. grown_trans old between new (e.there there) moved) in
-    subst (λ (x : Walk). IsCallEffect {T = Unit {0}} (keeping_of c.args.held.now) d m input w x old new (Ok tt)) (sym same)
+    subst (λ (x : Walk). IsWalkRun {T = Unit {0}} (keeping_of c.args.held.now) d m input w x c.args.cache.now new (Ok tt)) (sym same)
     (record {
-      rises = omega arith;
-      cost = omega (arith, e.cost, count);
-      most = omega (arith, e.cost, count);
-      started = λ knows. (
-          let still : between.count ≡ old.count = ap (λ (v : CacheView). v.count) (e.known (λ may. knows)).0 in
-          (omega (arith, still, count), omega (arith, still, count)));
-      roomy = λ room. walk_clears_none old new w.stage _ grown there (omega (arith, e.cost, count)) room;
-      grown = grown;
-      there = there;
-      put_back = λ q at lacks. inr (between, (e.put_back q at lacks).0, moved);
-      learned = λ nothing k reported ready may. (
-        state_after d m old between new input w.stage e.grown moved nothing c.in_ok-from.ensures.answer.learned,
-        λ j l reads clean by. absurd (reads.1 (dead_more d m input w.units j l dies)),
-      );
-      known = λ knows. (
-          let all = knows c.requires.walk.reported.0 c.requires.walk.reported.1 r c.in_ok-from.ensures.answer.may in
-          let still = e.known (λ may. all.0) in
-          ((there (has_state d m old.store input w.stage all.0)).idle (count ∙ ap (λ (v : CacheView). v.count) still.0), tt));
-      ended = inr (
-        reads_some input w r,
-        between,
-        0,
-        e.resumed,
-        omega arith,
-        (λ k more less. absurd (omega (arith, more, less)), λ ended. (refl, λ reads. reads.1 dies)),
-        subst (λ (v : CacheView). HasEndedAfter d m input w.units 0 v new) begins
-            (ended_after d m input w.units 0 c.search_start.new.self c.search_start.new.self new
-            (is_store c.search_start.new.self.store c.args.self.now (ap (λ (t : Rows). t.of) c.search_start.ensures.table ∙ c.in_ok-from.ensures.of) c.see_bounds.ensures.bounds, c.see_bounds.ensures.sound) refl
-            (ended_here d input (w.units + (0 - 1)) c.span_offset-place.result c.search_start.new.self new
-            (ap (given_up_offset d input) (omega arith) ∙ sym first) c.end_search.ensures.value)),
+      of = (is_store c.args.cache.now.store c.args.self.now c.requires.of c.see_bounds.ensures.bounds, c.see_bounds.ensures.sound);
+      ended = (
+        λ over. refl,
+        inr (
+          reads_some input w r,
+          between,
+          0,
+          c.in_ok-from.ensures.resumed,
+          omega arith,
+          (λ k more less. absurd (omega (arith, more, less)), λ over reads. reads.1 dies),
+          subst (λ (v : CacheView). HasEndedAfter d m input w.units 0 v new) begins
+              (ended_after d m input w.units 0 c.search_start.new.self c.search_start.new.self new
+              (is_store c.search_start.new.self.store c.args.self.now (ap (λ (t : Rows). t.of) c.search_start.ensures.table ∙ c.in_ok-from.ensures.of) c.see_bounds-2.ensures.bounds, c.see_bounds-2.ensures.sound) refl
+              (ended_here d input (w.units + (0 - 1)) c.span_offset-place.result c.search_start.new.self new
+              (ap (given_up_offset d input) (omega arith) ∙ sym first) c.end_search.ensures.value)),
+        ),
       );
       left = tt;
-      ready = λ none. absurd (reads_some input w r none);
     })
 
 pub returns-in_err-arrival-clause-refusal : goal.returns-in_err-arrival-clause-refusal
@@ -173,53 +124,27 @@ returns-in_err-arrival-clause-effect c =
     let input : Input = c.args.input.now in
     let w : Walk = c.args.walk.now in
     let r = c.requires.walk.reads in
-    let e = c.in_ok-from.ensures.effect in
-    let a = c.in_err-arrival.ensures.effect in
-    let old : CacheView = c.args.cache.now in
+    let first : c.span_offset-place.result ≡ given_up_offset d input w.units = c.span_offset-place.ensures.value ∙ ap (given_up_offset d input) c.units.ensures in
     let between : CacheView = c.resume.new.cache in
     let begun : CacheView = c.search_start.new.self in
     let new : CacheView = c.advance.new.cache in
-    let first : c.span_offset-place.result ≡ given_up_offset d input w.units = c.span_offset-place.ensures.value ∙ ap (given_up_offset d input) c.units.ensures in
     let begins : begun ≡ with_search_begun d input w.units between =
     subst (λ at. begun ≡ with_progress (Begin at) between) first c.search_start.ensures.value in
-    let began : IsGrown between begun = grown_moved between begun c.search_start.ensures.value in
-    let moved : IsGrown between new = grown_trans between begun new began a.grown in
-    let grown = grown_after old between new e.grown moved in
-    let there : HasItsState old.store.table w.stage → IsGrown old new = (λ there. grown_trans old between new (e.there there) moved) in
     let left : IsCallStopped Ids d m input w.units (with_search_begun d input w.units between) new c.in_err-arrival.field-0.0 =
     subst (λ (b : CacheView). IsCallStopped Ids d m input w.units b new c.in_err-arrival.field-0.0) begins
-    (subst (λ n. IsCallStopped Ids d m input n begun new c.in_err-arrival.field-0.0) c.units-2.ensures a.left) in
-    at_err c.from_residual-in_err-arrival.result _ (λ (x : Result (Unit {0}) SearchError). IsCallEffect (keeping_of c.args.held.now) d m input w w old new x) c.from_residual-in_err-arrival.ensures.1
+    (subst (λ n. IsCallStopped Ids d m input n begun new c.in_err-arrival.field-0.0) c.units-2.ensures c.in_err-arrival.ensures.effect.left) in
+    at_err c.from_residual-in_err-arrival.result _ (λ (x : Result (Unit {0}) SearchError). IsWalkRun (keeping_of c.args.held.now) d m input w w c.args.cache.now new x) c.from_residual-in_err-arrival.ensures.1
     (record {
-      rises = tt;
-      cost = tt;
-      most = omega (arith, a.most, e.cost, c.search_start.ensures.counted, c.units-2.ensures, r.left);
-      started = λ knows. (
-          let still : between.count ≡ old.count = ap (λ (v : CacheView). v.count) (e.known (λ may. knows)).0 in
-          (omega (arith, still, a.most, c.search_start.ensures.counted, c.units-2.ensures, r.left), tt));
-      roomy = λ room. walk_clears_none old new w.stage _ grown there (omega (arith, a.most, e.cost, c.search_start.ensures.counted, c.units-2.ensures, r.left)) room;
-      grown = grown;
-      there = there;
-      put_back = λ q at lacks. inr (between, (e.put_back q at lacks).0, moved);
-      learned = λ nothing. tt;
-      known = λ knows. (
-          let k : ℕ = c.requires.walk.reported.0 in
-          let all = knows k c.requires.walk.reported.1 r c.in_ok-from.ensures.answer.may in
-          let same = e.known (λ may. all.0) in
-          let count : begun.count ≡ old.count = c.search_start.ensures.counted ∙ ap (λ (v : CacheView). v.count) same.0 in
-          let has = has_state d m old.store input w.stage all.0 in
-          let to : IsGrown old begun = grown_trans old between begun (e.there has) began in
-          let here : HasReportedBy d m input c.units-2.result k = subst (λ n. HasReportedBy d m input n k) (sym c.units-2.ensures) (reported_here d m input w k (skips_or_not c.skips-skips.result c.skips-skips.ensures.yes c.skips-skips.ensures.no) c.requires.walk.reported.1 r.on r.all_reported) in
-          let idle = a.known k here (λ j l reads clean reported. unit_knows d m old begun input w.units j k to count all.1 (subst (λ n. n ≤ j) c.units-2.ensures l) reads clean reported) in
-          ((there has).idle (idle.0 ∙ count), known_refusal (keeping_of c.args.held.now) d m input w c.in_err-arrival.field-0.0 idle.1));
+      of = (is_store c.args.cache.now.store c.args.self.now c.requires.of c.see_bounds.ensures.bounds, c.see_bounds.ensures.sound);
       ended = tt;
-      left =
-          inr (
-            between,
-            e.resumed,
-            call_leaves (keeping_of c.args.held.now) d m input w.units (with_search_begun d input w.units between) new c.in_err-arrival.field-0.0 left,
-          );
-      ready = λ none. absurd (reads_some input w r none);
+      left = (
+        reads_some input w r,
+        inr (
+          between,
+          c.in_ok-from.ensures.resumed,
+          call_leaves (keeping_of c.args.held.now) d m input w.units (with_search_begun d input w.units between) new c.in_err-arrival.field-0.0 left,
+        ),
+      );
     })
 
 pub returns-in_default-clause-answer : goal.returns-in_default-clause-answer
@@ -230,25 +155,13 @@ returns-in_default-clause-answer c =
     let w : Walk = c.args.walk.now in
     let r = c.requires.walk.reads in
     let arrival : Arrival = c.in_ok-arrival.arrival in
-    let first : c.span_offset-place.result ≡ given_up_offset d input w.units = c.span_offset-place.ensures.value ∙ ap (given_up_offset d input) c.units.ensures in
-    let begins : c.search_start.new.self ≡ with_store c.resume.new.cache (with_searched c.resume.new.cache.store (progress_started c.resume.new.cache.store.searched (given_up_offset d input w.units))) =
-    subst (λ at. c.search_start.new.self ≡ with_store c.resume.new.cache (with_searched c.resume.new.cache.store (progress_started c.resume.new.cache.store.searched at))) first c.search_start.ensures.value in
-    let advanced : IsAdvanceEffect d m input w.units c.search_start.new.self c.advance.new.cache (Ok arrival) =
-    subst (λ n. IsAdvanceEffect d m input n c.search_start.new.self c.advance.new.cache (Ok arrival)) c.units-2.ensures c.in_ok-arrival.ensures.effect in
     let arrives : IsArrival d m c.advance.new.cache.store.table input w.units arrival.id arrival.units =
     subst (λ n. IsArrival d m c.advance.new.cache.store.table input n arrival.id arrival.units) c.units-2.ensures c.in_ok-arrival.ensures.arrives in
-    let ended : c.end-in_default.new.self ≡ ended_walk w arrival.units = c.end-in_default.ensures in
     let finish : Finishes d m input w.units arrival.units = subst (λ (o : Option ℕ). IsArrival d m c.advance.new.cache.store.table input w.units o arrival.units) c.in_default.«is» arrives in
-    subst (λ (x : Walk). IsCallAnswer d m input w x c.args.cache.now.store c.end_search-in_default.new.self.store) (sym ended)
+    subst (λ (x : Walk). IsCallAnswer d m input w x) (sym c.end-in_default.ensures)
     (record {
       reports = next_finishes d m input w w arrival.units r.undone c.in_ok-from.ensures.answer.may (λ k t. reported_here d m input w k (skips_or_not c.skips-skips.result c.skips-skips.ensures.yes c.skips-skips.ensures.no) t r.on r.all_reported) finish;
       goes_on = inl refl;
-      stops = λ undone on ends. finish.stops;
-      there = λ there. tt;
-      learned =
-          learned_on d m input w c.in_ok-from.from c.args.cache.now c.resume.new.cache c.search_start.new.self c.advance.new.cache
-          c.span_offset-place.ensures.inside (skips_or_not c.skips-skips.result c.skips-skips.ensures.yes c.skips-skips.ensures.no) c.requires.walk.reported r c.in_ok-from.ensures.effect c.in_ok-from.ensures.answer begins (is_store c.search_start.new.self.store c.args.self.now (ap (λ (t : Rows). t.of) c.search_start.ensures.table ∙ c.in_ok-from.ensures.of) c.see_bounds.ensures.bounds, c.see_bounds.ensures.sound) arrival advanced arrives
-          arrival.units c.end_search-in_default.new.self refl c.end_search-in_default.ensures.value;
     })
 
 pub returns-in_default-clause-effect : goal.returns-in_default-clause-effect
@@ -266,16 +179,13 @@ returns-in_default-clause-effect c =
     subst (λ n. IsAdvanceEffect d m input n c.search_start.new.self c.advance.new.cache (Ok arrival)) c.units-2.ensures c.in_ok-arrival.ensures.effect in
     let arrives : IsArrival d m c.advance.new.cache.store.table input w.units arrival.id arrival.units =
     subst (λ n. IsArrival d m c.advance.new.cache.store.table input n arrival.id arrival.units) c.units-2.ensures c.in_ok-arrival.ensures.arrives in
-    let ended : c.end-in_default.new.self ≡ ended_walk w arrival.units = c.end-in_default.ensures in
     let finish : Finishes d m input w.units arrival.units = subst (λ (o : Option ℕ). IsArrival d m c.advance.new.cache.store.table input w.units o arrival.units) c.in_default.«is» arrives in
-    subst (λ (x : Walk). IsCallEffect {T = Unit {0}} (keeping_of c.args.held.now) d m input w x c.args.cache.now c.end_search-in_default.new.self (Ok tt)) (sym ended)
-    (effect_on d m input w c.in_ok-from.from c.args.cache.now c.resume.new.cache c.search_start.new.self c.advance.new.cache
-    c.span_offset-place.ensures.inside (skips_or_not c.skips-skips.result c.skips-skips.ensures.yes c.skips-skips.ensures.no) c.requires.walk.reported r c.in_ok-from.ensures.effect c.in_ok-from.ensures.answer begins (is_store c.search_start.new.self.store c.args.self.now (ap (λ (t : Rows). t.of) c.search_start.ensures.table ∙ c.in_ok-from.ensures.of) c.see_bounds.ensures.bounds, c.see_bounds.ensures.sound) arrival advanced arrives
+    subst (λ (x : Walk). IsWalkRun {T = Unit {0}} (keeping_of c.args.held.now) d m input w x c.args.cache.now c.end_search-in_default.new.self (Ok tt)) (sym c.end-in_default.ensures)
+    (run_on d m input w c.args.cache.now c.resume.new.cache c.search_start.new.self c.advance.new.cache
+    (is_store c.args.cache.now.store c.args.self.now c.requires.of c.see_bounds.ensures.bounds, c.see_bounds.ensures.sound) (skips_or_not c.skips-skips.result c.skips-skips.ensures.yes c.skips-skips.ensures.no) c.requires.walk.reported r c.in_ok-from.ensures.resumed begins
+    (is_store c.search_start.new.self.store c.args.self.now (ap (λ (t : Rows). t.of) c.search_start.ensures.table ∙ c.in_ok-from.ensures.of) c.see_bounds-2.ensures.bounds, c.see_bounds-2.ensures.sound) arrival advanced arrives
     (keeping_of c.args.held.now) (ended_walk w arrival.units) c.end_search-in_default.new.self c.span_offset-last.result refl c.span_offset-last.ensures.value c.end_search-in_default.ensures.value
-    (λ e. (
-      refl,
-      finish.stops arrival.units (omega arith),
-    )))
+    (λ over. (refl, finish.stops arrival.units (omega arith))))
 
 pub returns-in_err-move_to-clause-refusal : goal.returns-in_err-move_to-clause-refusal
 returns-in_err-move_to-clause-refusal c =
@@ -295,8 +205,9 @@ returns-in_err-move_to-clause-refusal c =
     let arrived : Arrives d m c.advance.new.cache.store.table input w.units c.in-Some.id arrival.units = subst (λ (o : Option ℕ). IsArrival d m c.advance.new.cache.store.table input w.units o arrival.units) c.in-Some.«is» arrives in
     if_err c.from_residual-in_err-move_to.result search.OutOfMemory _ c.from_residual-in_err-move_to.ensures.1
     (subst (λ k. IsCallRefused k d m input w c.advance.new.cache.store search.OutOfMemory) (sym c.in_err-move_to.ensures.refused)
-    (refused_unheld d m input w c.in_ok-from.from c.args.cache.now c.resume.new.cache c.search_start.new.self c.advance.new.cache
-    c.span_offset-place.ensures.inside (skips_or_not c.skips-skips.result c.skips-skips.ensures.yes c.skips-skips.ensures.no) c.requires.walk.reported r c.in_ok-from.ensures.effect c.in_ok-from.ensures.answer begins (is_store c.search_start.new.self.store c.args.self.now (ap (λ (t : Rows). t.of) c.search_start.ensures.table ∙ c.in_ok-from.ensures.of) c.see_bounds.ensures.bounds, c.see_bounds.ensures.sound) arrival advanced arrives c.in-Some.id arrived))
+    (refused_unheld d m input w c.args.cache.now c.resume.new.cache c.search_start.new.self c.advance.new.cache
+    (is_store c.args.cache.now.store c.args.self.now c.requires.of c.see_bounds.ensures.bounds, c.see_bounds.ensures.sound) (skips_or_not c.skips-skips.result c.skips-skips.ensures.yes c.skips-skips.ensures.no) c.requires.walk.reported r c.in_ok-from.ensures.resumed begins
+    (is_store c.search_start.new.self.store c.args.self.now (ap (λ (t : Rows). t.of) c.search_start.ensures.table ∙ c.in_ok-from.ensures.of) c.see_bounds-2.ensures.bounds, c.see_bounds-2.ensures.sound) arrival advanced arrives c.in-Some.id arrived c.in_ok-from.ensures.answer.may))
 
 pub returns-in_err-move_to-clause-effect : goal.returns-in_err-move_to-clause-effect
 returns-in_err-move_to-clause-effect c =
@@ -314,10 +225,11 @@ returns-in_err-move_to-clause-effect c =
     let arrives : IsArrival d m c.advance.new.cache.store.table input w.units arrival.id arrival.units =
     subst (λ n. IsArrival d m c.advance.new.cache.store.table input n arrival.id arrival.units) c.units-2.ensures c.in_ok-arrival.ensures.arrives in
     let arrived : Arrives d m c.advance.new.cache.store.table input w.units c.in-Some.id arrival.units = subst (λ (o : Option ℕ). IsArrival d m c.advance.new.cache.store.table input w.units o arrival.units) c.in-Some.«is» arrives in
-    at_err c.from_residual-in_err-move_to.result search.OutOfMemory (λ (x : Result (Unit {0}) SearchError). IsCallEffect (keeping_of c.args.held.now) d m input w w c.args.cache.now c.advance.new.cache x) c.from_residual-in_err-move_to.ensures.1
-    (subst (λ k. IsCallEffect {T = Unit {0}} k d m input w w c.args.cache.now c.advance.new.cache (Err search.OutOfMemory)) (sym c.in_err-move_to.ensures.refused)
-    (effect_unheld d m input w c.in_ok-from.from c.args.cache.now c.resume.new.cache c.search_start.new.self c.advance.new.cache
-    c.span_offset-place.ensures.inside (skips_or_not c.skips-skips.result c.skips-skips.ensures.yes c.skips-skips.ensures.no) c.requires.walk.reported r c.in_ok-from.ensures.effect c.in_ok-from.ensures.answer begins (is_store c.search_start.new.self.store c.args.self.now (ap (λ (t : Rows). t.of) c.search_start.ensures.table ∙ c.in_ok-from.ensures.of) c.see_bounds.ensures.bounds, c.see_bounds.ensures.sound) arrival advanced arrives c.in-Some.id arrived w))
+    at_err c.from_residual-in_err-move_to.result search.OutOfMemory (λ (x : Result (Unit {0}) SearchError). IsWalkRun (keeping_of c.args.held.now) d m input w w c.args.cache.now c.advance.new.cache x) c.from_residual-in_err-move_to.ensures.1
+    (subst (λ k. IsWalkRun {T = Unit {0}} k d m input w w c.args.cache.now c.advance.new.cache (Err search.OutOfMemory)) (sym c.in_err-move_to.ensures.refused)
+    (run_unheld d m input w c.args.cache.now c.resume.new.cache c.search_start.new.self c.advance.new.cache
+    (is_store c.args.cache.now.store c.args.self.now c.requires.of c.see_bounds.ensures.bounds, c.see_bounds.ensures.sound) (skips_or_not c.skips-skips.result c.skips-skips.ensures.yes c.skips-skips.ensures.no) c.requires.walk.reported r c.in_ok-from.ensures.resumed begins
+    (is_store c.search_start.new.self.store c.args.self.now (ap (λ (t : Rows). t.of) c.search_start.ensures.table ∙ c.in_ok-from.ensures.of) c.see_bounds-2.ensures.bounds, c.see_bounds-2.ensures.sound) arrival advanced arrives c.in-Some.id arrived w))
 
 pub stand-requires-clause-here : goal.stand-requires-clause-here
 stand-requires-clause-here c = λ k t.
@@ -331,11 +243,6 @@ stand-requires-clause-arrives c =
     let w : Walk = c.args.walk.now in
     let r = c.requires.walk.reads in
     let arrival : Arrival = c.in_ok-arrival.arrival in
-    let first : c.span_offset-place.result ≡ given_up_offset d input w.units = c.span_offset-place.ensures.value ∙ ap (given_up_offset d input) c.units.ensures in
-    let begins : c.search_start.new.self ≡ with_store c.resume.new.cache (with_searched c.resume.new.cache.store (progress_started c.resume.new.cache.store.searched (given_up_offset d input w.units))) =
-    subst (λ at. c.search_start.new.self ≡ with_store c.resume.new.cache (with_searched c.resume.new.cache.store (progress_started c.resume.new.cache.store.searched at))) first c.search_start.ensures.value in
-    let advanced : IsAdvanceEffect d m input w.units c.search_start.new.self c.advance.new.cache (Ok arrival) =
-    subst (λ n. IsAdvanceEffect d m input n c.search_start.new.self c.advance.new.cache (Ok arrival)) c.units-2.ensures c.in_ok-arrival.ensures.effect in
     let arrives : IsArrival d m c.advance.new.cache.store.table input w.units arrival.id arrival.units =
     subst (λ n. IsArrival d m c.advance.new.cache.store.table input n arrival.id arrival.units) c.units-2.ensures c.in_ok-arrival.ensures.arrives in
     subst (λ (t : Rows). Arrives d m t input w.units c.in-Some.id arrival.units) (sym c.end_search-2.ensures.table)
@@ -349,24 +256,13 @@ returns-clause-answer c =
     let w : Walk = c.args.walk.now in
     let r = c.requires.walk.reads in
     let arrival : Arrival = c.in_ok-arrival.arrival in
-    let first : c.span_offset-place.result ≡ given_up_offset d input w.units = c.span_offset-place.ensures.value ∙ ap (given_up_offset d input) c.units.ensures in
-    let begins : c.search_start.new.self ≡ with_store c.resume.new.cache (with_searched c.resume.new.cache.store (progress_started c.resume.new.cache.store.searched (given_up_offset d input w.units))) =
-    subst (λ at. c.search_start.new.self ≡ with_store c.resume.new.cache (with_searched c.resume.new.cache.store (progress_started c.resume.new.cache.store.searched at))) first c.search_start.ensures.value in
-    let advanced : IsAdvanceEffect d m input w.units c.search_start.new.self c.advance.new.cache (Ok arrival) =
-    subst (λ n. IsAdvanceEffect d m input n c.search_start.new.self c.advance.new.cache (Ok arrival)) c.units-2.ensures c.in_ok-arrival.ensures.effect in
     let arrives : IsArrival d m c.advance.new.cache.store.table input w.units arrival.id arrival.units =
     subst (λ n. IsArrival d m c.advance.new.cache.store.table input n arrival.id arrival.units) c.units-2.ensures c.in_ok-arrival.ensures.arrives in
-    let s = c.stand.ensures in
     let arrived : Arrives d m c.advance.new.cache.store.table input w.units c.in-Some.id arrival.units = subst (λ (o : Option ℕ). IsArrival d m c.advance.new.cache.store.table input w.units o arrival.units) c.in-Some.«is» arrives in
+    let s = c.stand.ensures in
     record {
       reports = s.reports;
       goes_on = inr (λ ended. ended_at s.at.0 (sym ended ∙ s.at.1), inl (omega (arith, s.units, arrived.one_after, arrived.more)));
-      stops = λ undone on ended. absurd (ended_at s.at.0 (sym ended ∙ s.at.1));
-      there = λ there. subst (λ (x : Stage). HasItsState c.end_search-2.new.self.store.table x) (sym s.at.1) (record { id = c.in-Some.id; named = s.at.2 });
-      learned =
-          learned_on d m input w c.in_ok-from.from c.args.cache.now c.resume.new.cache c.search_start.new.self c.advance.new.cache
-          c.span_offset-place.ensures.inside (skips_or_not c.skips-skips.result c.skips-skips.ensures.yes c.skips-skips.ensures.no) c.requires.walk.reported r c.in_ok-from.ensures.effect c.in_ok-from.ensures.answer begins (is_store c.search_start.new.self.store c.args.self.now (ap (λ (t : Rows). t.of) c.search_start.ensures.table ∙ c.in_ok-from.ensures.of) c.see_bounds.ensures.bounds, c.see_bounds.ensures.sound) arrival advanced arrives
-          c.stand.new.walk.units c.end_search-2.new.self s.units c.end_search-2.ensures.value;
     }
 
 pub returns-clause-effect : goal.returns-clause-effect
@@ -385,8 +281,9 @@ returns-clause-effect c =
     let arrives : IsArrival d m c.advance.new.cache.store.table input w.units arrival.id arrival.units =
     subst (λ n. IsArrival d m c.advance.new.cache.store.table input n arrival.id arrival.units) c.units-2.ensures c.in_ok-arrival.ensures.arrives in
     let s = c.stand.ensures in
-    effect_on d m input w c.in_ok-from.from c.args.cache.now c.resume.new.cache c.search_start.new.self c.advance.new.cache
-    c.span_offset-place.ensures.inside (skips_or_not c.skips-skips.result c.skips-skips.ensures.yes c.skips-skips.ensures.no) c.requires.walk.reported r c.in_ok-from.ensures.effect c.in_ok-from.ensures.answer begins (is_store c.search_start.new.self.store c.args.self.now (ap (λ (t : Rows). t.of) c.search_start.ensures.table ∙ c.in_ok-from.ensures.of) c.see_bounds.ensures.bounds, c.see_bounds.ensures.sound) arrival advanced arrives
+    run_on d m input w c.args.cache.now c.resume.new.cache c.search_start.new.self c.advance.new.cache
+    (is_store c.args.cache.now.store c.args.self.now c.requires.of c.see_bounds.ensures.bounds, c.see_bounds.ensures.sound) (skips_or_not c.skips-skips.result c.skips-skips.ensures.yes c.skips-skips.ensures.no) c.requires.walk.reported r c.in_ok-from.ensures.resumed begins
+    (is_store c.search_start.new.self.store c.args.self.now (ap (λ (t : Rows). t.of) c.search_start.ensures.table ∙ c.in_ok-from.ensures.of) c.see_bounds-2.ensures.bounds, c.see_bounds-2.ensures.sound) arrival advanced arrives
     (keeping_of c.args.held.now) c.stand.new.walk c.end_search-2.new.self c.span_offset-last.result s.units c.span_offset-last.ensures.value c.end_search-2.ensures.value
     (λ ended. absurd (ended_at s.at.0 (sym ended ∙ s.at.1)))
 

@@ -7,7 +7,7 @@ use Rattle.automata_base.specs.Haystacks.PatternSet.{members}
 use Rattle.automata_base.specs.declared.util.search.Direction.TheVariants.{Forward}
 use Rattle.automata_config.specs.declared.error.SearchError.{SearchError}
 use Rattle.automata_hybrid.specs.Searches.Contracts.{IsMemory}
-use Rattle.automata_hybrid.specs.Walks.Contracts.{IsWhichEffect}
+use Rattle.automata_hybrid.specs.Walks.Progress.{IsSetRun}
 use Rattle.automata_hybrid.specs.Walks.Progress.{EndsSet}
 use Rattle.automata_hybrid.specs.Walks.Answers.{AreWalked}
 use Rattle.automata_hybrid.specs.Walks.Sets.{IsWhichRefusal}
@@ -55,7 +55,7 @@ returns-in-Ok-list_members-clause-made c =
     inr (
       reported.new.patset,
       reported.result,
-      subst (λ (set : List Bool). IsWhichEffect c.args.dfa.now c.args.input.now set c.args.cache.now reported.new.cache reported.result) c.in-Ok.ensures.capacity reported.ensures.effect,
+      subst (λ (set : List Bool). IsSetRun c.args.dfa.now c.args.input.now set c.args.cache.now reported.new.cache reported.result) c.in-Ok.ensures.capacity reported.ensures.effect,
       subst (λ (set : List Bool). IfErr reported.result (IsWhichRefusal c.args.dfa.now reported.new.cache.store c.args.input.now set reported.new.patset)) c.in-Ok.ensures.capacity reported.ensures.refusal,
       inl (c.in-Ok-list_members.ensures, c.err.ensures.value),
     )
@@ -66,7 +66,7 @@ returns-clause-made c =
     inr (
       reported.new.patset,
       reported.result,
-      subst (λ (set : List Bool). IsWhichEffect c.args.dfa.now c.args.input.now set c.args.cache.now reported.new.cache reported.result) c.in-Ok.ensures.capacity reported.ensures.effect,
+      subst (λ (set : List Bool). IsSetRun c.args.dfa.now c.args.input.now set c.args.cache.now reported.new.cache reported.result) c.in-Ok.ensures.capacity reported.ensures.effect,
       subst (λ (set : List Bool). IfErr reported.result (IsWhichRefusal c.args.dfa.now reported.new.cache.store c.args.input.now set reported.new.patset)) c.in-Ok.ensures.capacity reported.ensures.refusal,
       inr (c.new-in-Err.ensures.items, refl),
     )

@@ -1,0 +1,523 @@
+-- What follows of what a call of a walk makes of its cache.
+use Rattle.std.proofs.Common.{ℕ, zero, suc, ◌≡◌, ◌∙◌, ◌+◌, ◌-◌, ◌<◌, ◌≤◌, ◌⊎◌, List, [], ◌∷◌, ◌++◌, length, Option, None}
+use Rattle.std.proofs.Common.{Some, false, true, inl, inr, refl, sym, ap, subst, arith}
+use Rattle.std.proofs.lemmas.Bool.{cases_lt}
+use Rattle.std.specs.Prelude.{Err, Ok}
+use Rattle.automata_base.specs.ByteClasses.Classes.{is_quit}
+use Rattle.automata_base.specs.Haystacks.Input.{Input}
+use Rattle.automata_base.specs.Paths.Paths.{next as unit_at}
+use Rattle.automata_base.specs.Powersets.Powerset.{Powerset}
+use Rattle.automata_base.specs.declared.util.search.Direction.{Direction}
+use Rattle.automata_base.proofs.Paths.Orders.{none_some}
+use Rattle.automata_config.specs.declared.error.SearchError.{SearchError}
+use Rattle.automata_hybrid.specs.Cache.Caches.{CacheView, IsSoundOf, counted}
+use Rattle.automata_hybrid.specs.Cache.Growth.{ClearedNothing, IsGrown, PutsBack}
+use Rattle.automata_hybrid.specs.Cache.Table.{IsKnownState, IsNewState, IsRowState, id_of}
+use Rattle.automata_hybrid.specs.Calls.Events.{AreCached, Begin, DoAll, End, Event, Move, makings}
+use Rattle.automata_hybrid.specs.Machines.Machine.{Machine, table_stride}
+use Rattle.automata_hybrid.specs.Searches.Cached.{IsOfInput, KnowsItsStart, KnowsUnit}
+use Rattle.automata_hybrid.specs.Searches.Passes.{HasReadNoQuit, IsUnitRefusal, Skips, given_up_offset, tape_in}
+use Rattle.automata_hybrid.specs.Searches.Progress.{HasItsStart, IsLeftAt, IsUnitRead, start_event, unit_event}
+use Rattle.automata_hybrid.specs.Searches.Progress.{unit_events, with_search_begun, with_search_moved}
+use Rattle.automata_hybrid.specs.Steps.Starts.{MayStart}
+use Rattle.automata_hybrid.specs.Steps.Steps.{quits_on, unit_class}
+use Rattle.automata_hybrid.specs.Walks.Answers.{HasItsState, HasReported, HasReportedAt, HasReportedBy, IsResumeRefusal, IsSilent}
+use Rattle.automata_hybrid.specs.Walks.Answers.{ReportsNext, WalkReads, start_count}
+use Rattle.automata_hybrid.specs.Walks.Cached.{HasLearnedUnits, IsToRead, KnowsItsState, KnowsUnits, KnowsWalk}
+use Rattle.automata_hybrid.specs.Walks.Follows.{CallFollows, CallsFollow, IsKnownRefusal}
+use Rattle.automata_hybrid.specs.Walks.Progress.{EndsCall, IsCallLeftAt, IsNotResumed, IsResumed, LeavesCall, ReadsItsUnits}
+use Rattle.automata_hybrid.specs.Walks.Progress.{ReadsNoUnit}
+use Rattle.automata_hybrid.specs.Walks.State.{At, Ended, Fresh, Ids, Keeping, Stage, States, Walk}
+use Rattle.automata_hybrid.specs.declared.dfa.row.Row.{Row}
+use Rattle.automata_hybrid.proofs.Cache.Additions.{new_state}
+use Rattle.automata_hybrid.proofs.Cache.Growth.{grown_after, grown_again, grown_less, grown_same, grown_trans, nothing_second}
+use Rattle.automata_hybrid.proofs.Calls.Laws.{Follows, all_sound, cached_join, cached_split, do_join, do_split, failed_count}
+use Rattle.automata_hybrid.proofs.Calls.Laws.{failed_grown, follows_all, follows_one, makings_join, moved_sound}
+use Rattle.automata_hybrid.proofs.Searches.Follows.{barred_of_input, may_or_not, moved_left, quit_of_input, tape_few, units_asked}
+use Rattle.automata_hybrid.proofs.Searches.Follows.{units_cached, units_known, units_makings}
+use Rattle.automata_hybrid.proofs.Searches.UnitsRead.{moved_and_read}
+use Rattle.automata_hybrid.proofs.Steps.StartTags.{again_adds, again_keeps, tagged_none}
+use Rattle.automata_hybrid.proofs.Steps.Steps.{no_quit_unit}
+use Rattle.automata_hybrid.proofs.Walks.Cached.{has_state, nothing_after, state_after, still_same, unit_knows}
+use Rattle.automata_hybrid.proofs.Walks.Calls.{clean_here, ended_at, fresh_at, reported_here, reported_least, walk_clears_none}
+use Rattle.automata_hybrid.proofs.Walks.Progress.{known_refusal, reads_some, silent_before, walk_reads_before}
+
+-- a state that is put back counts as one that is determinized
+pub back_grown :
+    (m : Machine) (q : Powerset) (old new : CacheView) → IsSoundOf old.store m → IsSoundOf new.store m → IsRowState m q
+    → (IsKnownState old.store.table q → ⊥) → PutsBack q old new → IsGrown old (counted new)
+back_grown m q old new sound after state lacks back =
+    grown_again old new q absent.lacks absent.own.reached back.added back.counted (after.0.of ∙ sym sound.0.of) back.starts
+    (tagged_none old.store.table new.store.table
+    (again_keeps old.store new.store r sound.1.ids after.1.ids absent.lacks.0 back.added)
+    (again_adds old.store new.store r sound.1.ids after.1.ids absent.lacks.0 back.added))
+    sound.1.cells sound.1.wide sound.1.clears absent.cheap
+  where
+    r : Row
+    r = record { state = q; started = false }
+
+    none : (o : Option ℕ) → id_of old.store.table q ≡ o → id_of old.store.table q ≡ None
+    none None is = is
+    none (Some id) is = absurd (lacks (record { id = id; named = is }))
+
+    absent : IsNewState old.store.table q
+    absent = new_state m old.store.table q sound.0.of (none (id_of old.store.table q) refl, state.alive) state.cheap state.own
+
+abbrev pub at_state : Powerset → Stage → Powerset
+at_state q Fresh = q
+at_state q (At p) = p
+at_state q Ended = q
+
+module _ (way : Direction) (m : Machine) (input : Input) (skips : Skips m ⊎ (Skips m → ⊥)) (w : Walk) (k : ℕ)
+    (reported : HasReported way m input w k) where
+  -- a call that is to read units
+  pub to_read : (ReadsNoUnit input w → ⊥) → IsToRead input w.stage w.units w.reported
+  to_read reads = record {
+    undone = omega (arith, within (cases_lt input.end (input.start + w.units)));
+    on = λ ended. reads (inl ended);
+    all_reported = λ q at. few q at (cases_lt w.reported (length q.patterns));
+    left = omega (arith, within (cases_lt input.end (input.start + w.units)));
+  } where
+    within : (input.end < input.start + w.units) ⊎ (input.start + w.units ≤ input.end) → input.start + w.units ≤ input.end
+    within (inl past) = absurd (reads (inr (inr past)))
+    within (inr fits) = fits
+
+    few : (q : Powerset) → w.stage ≡ At q → (w.reported < length q.patterns) ⊎ (length q.patterns ≤ w.reported) → length q.patterns ≤ w.reported
+    few q at (inl less) = absurd (reads (inr (inl (q, at, less))))
+    few q at (inr all) = all
+
+  -- a walk has what it goes on from
+  pub record Resumed (s : Stage) (old begun : CacheView) : Type 0 where
+    pub may : MayStart m input.anchored (tape_in way input).before
+    pub sound : IsSoundOf begun.store m
+    pub cost : begun.count ≤ old.count + start_count s
+    pub grown : IsGrown old (counted begun)
+    pub there : HasItsState old.store.table s → IsGrown old begun
+    pub same : KnowsItsState way m old.store input s → begun ≡ old
+    pub back : (q : Powerset) → s ≡ At q → (IsKnownState old.store.table q → ⊥) → PutsBack q old begun
+    pub learned : KnowsItsState way m begun.store input s
+
+  -- it has it not
+  record Unresumed (s : Stage) (old new : CacheView) (e : SearchError) : Type 0 where
+    pub cost : new.count ≤ old.count + start_count s
+    pub grown : IsGrown old new
+    pub same : KnowsItsState way m old.store input s → new.count ≡ old.count
+    pub back : (q : Powerset) → s ≡ At q → new ≡ old
+    pub known : (MayStart m input.anchored (tape_in way input).before → KnowsItsState way m old.store input s) → (new.count ≡ old.count) × IsOfInput e
+
+  module _ (old begun : CacheView) (sound : IsSoundOf old.store m) where
+    pub has_resumed : (s : Stage) → HasReportedAt way m input s w.units w.reported k → IsResumed way m input s old begun → Resumed s old begun
+    has_resumed Fresh at starts = record {
+      may = starts.0;
+      sound = starts.1;
+      cost = (let c : begun.count ≤ old.count + 1 = f.counted in omega (arith, c));
+      grown = grown_less old begun f.grown;
+      there = λ _. f.grown;
+      same = λ knows. still starts knows;
+      back = λ q is. absurd (fresh_at q is);
+      learned = cached starts;
+    } where
+      f : Follows m (start_event way input ∷ []) old begun
+      f = follows_one m (start_event way input) old begun sound.0.of sound.1 starts
+
+      still : HasItsStart way m input old begun → KnowsItsStart way m old.store input → begun ≡ old
+      still (asked, after, inl (known, same)) knows = same
+      still (asked, after, inr (not, made)) knows = absurd (not knows)
+
+      cached : HasItsStart way m input old begun → KnowsItsStart way m begun.store input
+      cached (asked, after, inl (known, same)) = subst (λ (v : CacheView). KnowsItsStart way m v.store input) (sym same) known
+      cached (asked, after, inr (not, made)) = λ within. made.cached
+    has_resumed (At q) at (after, inl (known, same)) =
+        let count : begun.count ≡ old.count = ap (λ (v : CacheView). v.count) same in
+        record {
+          may = at.may;
+          sound = after;
+          cost = omega (arith, count);
+          grown = grown_less old begun (grown_same old begun same);
+          there = λ _. grown_same old begun same;
+          same = λ _. same;
+          back = λ p is lacks. absurd (lacks (subst (IsKnownState old.store.table) (ap (at_state q) is) known));
+          learned = subst (λ (v : CacheView). IsKnownState v.store.table q) (sym same) known;
+        }
+    has_resumed (At q) at (after, inr (lacks, made)) =
+        let count : begun.count ≡ old.count = made.counted in
+        record {
+          may = at.may;
+          sound = after;
+          cost = omega (arith, count);
+          grown = back_grown m q old begun sound after at.row lacks made;
+          there = λ has. absurd (lacks has);
+          same = λ has. absurd (lacks has);
+          back = λ p is none. subst (λ (x : Powerset). PutsBack x old begun) (ap (at_state q) is) made;
+          learned = record { id = made.id; named = made.named };
+        }
+    has_resumed Ended at none = absurd none
+
+  module _ (old new : CacheView) (e : SearchError) where
+    not_resumed :
+        (s : Stage) → HasReportedAt way m input s w.units w.reported k → IsResumeRefusal way m new.store input s w.units e
+        → IsNotResumed way m input s old new → Unresumed s old new e
+    not_resumed Fresh at why none = go (may_or_not m input (tape_in way input).before) where
+      go :
+          MayStart m input.anchored (tape_in way input).before ⊎ (MayStart m input.anchored (tape_in way input).before → ⊥)
+          → Unresumed Fresh old new e
+      go (inl starts) =
+          let fails = none.0 starts in
+          let once = failed_count m (start_event way input) old new fails in
+          record {
+            cost = omega (arith, once);
+            grown = failed_grown m (start_event way input) old new fails;
+            same = λ knows. absurd (fails.unknown knows);
+            back = λ q is. absurd (fresh_at q is);
+            known = λ knows. absurd (fails.unknown (knows starts));
+          }
+      go (inr barred) =
+          let same = none.1 barred in
+          let count : new.count ≡ old.count = ap (λ (v : CacheView). v.count) same in
+          record {
+            cost = omega (arith, count);
+            grown = grown_same old new same;
+            same = λ knows. count;
+            back = λ q is. absurd (fresh_at q is);
+            known = λ knows. (count, barred_of_input m new.store input (tape_in way input).before _ _ e why barred);
+          }
+    not_resumed (At q) at why same =
+        let count : new.count ≡ old.count = ap (λ (v : CacheView). v.count) same in
+        record {
+          cost = omega (arith, count);
+          grown = grown_same old new same;
+          same = λ knows. count;
+          back = λ p is. same;
+          known = λ knows. absurd (lacks why (subst (λ (v : CacheView). IsKnownState v.store.table q) (sym same) (knows at.may)));
+        } where
+          lacks : IsResumeRefusal way m new.store input (At q) w.units e → IsKnownState new.store.table q → ⊥
+          lacks (inl (none, gives, memory)) has = none has
+          lacks (inr (gives, reported_at)) has = none_some (sym gives.0.0 ∙ has.named)
+    not_resumed Ended at why none = absurd none
+
+  -- a call that went on from there, and stepped over so many units at most
+  module _ (old begun new : CacheView) (r : Resumed w.stage old begun) (reads : IsToRead input w.stage w.units w.reported)
+      (grown : IsGrown begun new) (n : ℕ) (few : new.count ≤ begun.count + n) (within : w.units + n ≤ input.end - input.start + 1) where
+    whole : IsGrown old (counted new)
+    whole = grown_after old begun new r.grown grown
+
+    there : HasItsState old.store.table w.stage → IsGrown old new
+    there has = grown_trans old begun new (r.there has) grown
+
+    most : new.count ≤ old.count + (input.end - input.start + 1 - w.units) + start_count w.stage
+    most = omega (arith, few, within, r.cost)
+
+    begun_count : KnowsItsState way m old.store input w.stage → begun.count ≡ old.count
+    begun_count knows = ap (λ (v : CacheView). v.count) (r.same knows)
+
+    known_then :
+        {A : Type 0} → (KnowsUnits way m begun.store input w.units k → (new.count ≡ begun.count) × A) → KnowsWalk way m old.store input w
+        → ((new.count ≡ old.count) × HasItsState old.store.table w.stage) × A
+    known_then known knows =
+        let all = knows k reported reads r.may in
+        let same : begun ≡ old = r.same all.0 in
+        let idle = known (subst (λ (v : CacheView). KnowsUnits way m v.store input w.units k) (sym same) all.1) in
+        ((idle.0 ∙ ap (λ (v : CacheView). v.count) same, has_state way m old.store input w.stage all.0), idle.1)
+
+    follows_ok :
+        {T : Type 0} (u : T) (keeping : Keeping) (next : Walk) → next.units ≡ w.units + n
+        → (ClearedNothing begun.store new.store → (j : ℕ) → HasReported way m input w j → KnowsUnits way m new.store input w.units j)
+        → (KnowsUnits way m begun.store input w.units k → new.count ≡ begun.count)
+        → CallFollows keeping way m input w next old new (Ok u)
+    follows_ok u keeping next units learned known = record {
+      rises = omega (arith, units);
+      cost = omega (arith, units, few, r.cost);
+      most = most;
+      started = λ knows. (let c = begun_count knows in (omega (arith, c, few, within), omega (arith, c, few, units)));
+      roomy = λ room. walk_clears_none old new w.stage _ whole there most room;
+      grown = whole;
+      there = there;
+      put_back = λ q at lacks. inr (begun, r.back q at lacks, grown);
+      learned = λ nothing j t again may. (
+        state_after way m old begun new input w.stage r.grown grown nothing r.learned,
+        learned (nothing_after old begun new r.grown grown nothing) j t,
+      );
+      known = λ knows. (let all = known_then {A = Unit {0}} (λ units. (known units, tt)) knows in ((there all.0.1).idle all.0.0, tt));
+      ready = λ none. absurd (reads_some input w reads none);
+    }
+
+    follows_err :
+        {T : Type 0} (keeping : Keeping) (next : Walk) (e : SearchError)
+        → (KnowsUnits way m begun.store input w.units k → (new.count ≡ begun.count) × IsKnownRefusal keeping way m input w e)
+        → CallFollows {T = T} keeping way m input w next old new (Err e)
+    follows_err keeping next e known = record {
+      rises = tt;
+      cost = tt;
+      most = most;
+      started = λ knows. (let c = begun_count knows in (omega (arith, c, few, within), tt));
+      roomy = λ room. walk_clears_none old new w.stage _ whole there most room;
+      grown = whole;
+      there = there;
+      put_back = λ q at lacks. inr (begun, r.back q at lacks, grown);
+      learned = λ nothing. tt;
+      known = λ knows. (let all = known_then known knows in ((there all.0.1).idle all.0.0, all.1));
+      ready = λ none. absurd (reads_some input w reads none);
+    }
+
+  -- after where it stands then a walk reads no unit, or has reported a pair more
+  next_stops :
+      (next : Walk) (j : ℕ) → HasReported way m input next (suc j) → (next.stage ≡ Ended → WalkReads way m input next.units → ⊥)
+      → (i : ℕ) → next.units ≤ i → WalkReads way m input i → HasReportedBy way m input i j → ⊥
+  next_stops next j t ends i more reads by = go next.stage refl t where
+    go : (s : Stage) → next.stage ≡ s → HasReportedAt way m input s next.units next.reported (suc j) → ⊥
+    go Fresh is none = omega (arith, none.0)
+    go (At q) is at =
+        let l : suc j ≤ j = reported_least way m input next j t (λ ended. ended_at q (sym ended ∙ is)) i j more by in
+        omega (arith, l)
+    go Ended is all = ends is (walk_reads_before way m input next.units i more reads)
+
+  module _ (old begun : CacheView) (r : Resumed w.stage old begun) (reads : IsToRead input w.stage w.units w.reported) where
+    here : HasReportedBy way m input w.units k
+    here = reported_here way m input w k skips reported reads.on reads.all_reported
+
+    begin :
+        (es : List Event) (new : CacheView) → DoAll m es (with_search_begun way input w.units begun) new
+        → DoAll m (Begin (given_up_offset way input w.units) ∷ es) begun new
+    begin es new all = (
+      with_search_begun way input w.units begun,
+      (tt, moved_sound m (Begin (given_up_offset way input w.units)) begun r.sound, inl (tt, refl)),
+      all,
+    )
+
+    -- no unit is a quit byte up to where it has read
+    clean_to :
+        (n : ℕ) (a b : CacheView) → DoAll m (unit_events way m input w.units n) a b → HasReadNoQuit way m input (w.units + n)
+    clean_to n a b all j byte less unit = go (cases_lt j w.units) where
+      go : (j < w.units) ⊎ (w.units ≤ j) → is_quit m.quits byte ≡ false
+      go (inl before) = clean_here way m input w k reported reads.on j byte before unit
+      go (inr behind) = no_quit_unit m (unit_at (tape_in way input) j) (units_asked way m input w.units n a b all j behind less).0 byte unit
+
+    -- what so many units ask for is cached, where each is that is read
+    use_cached :
+        (n : ℕ) → ((j : ℕ) → w.units ≤ j → j < w.units + n → WalkReads way m input j × IsSilent way m input w.units j)
+        → ((j : ℕ) → j < w.units + n → HasReadNoQuit way m input j) → KnowsUnits way m begun.store input w.units k
+        → AreCached m begun.store (unit_events way m input w.units n)
+    use_cached n each clean knows =
+        units_cached way m input begun.store w.units n
+        (λ j more less. knows j more (each j more less).0 (clean j less) ((each j more less).1 k here))
+
+    -- the units were read, and then no more were
+    call_reads :
+        {T : Type 0} (u : T) (keeping : Keeping) (next : Walk) (new : CacheView) (n : ℕ) → ReportsNext way m input w next
+        → next.units ≡ w.units + n → ReadsItsUnits way m input w next
+        → DoAll m (unit_events way m input w.units n ++ (End (given_up_offset way input (w.units + (n - 1))) ∷ [])) (with_search_begun way input w.units begun) new
+        → CallFollows keeping way m input w next old new (Ok u)
+    call_reads u keeping next new n reports count its all =
+        follows_ok old begun new r reads f.grown n (omega (arith, f.counted, made)) (within n refl) u keeping next count
+        (λ nothing j t i more walks clean by. known j t i more walks by (f.learned nothing).1 (cases_lt i next.units))
+        (λ knows. f.known (
+          tt,
+          cached_join m begun.store (unit_events way m input w.units n) last
+              (use_cached n (λ j more less. its.0 j more (omega (arith, less, count))) (λ j less i byte l unit. clean i byte (omega (arith, l, less)) unit) knows) (tt, tt),
+        ))
+      where
+        last : List Event
+        last = End (given_up_offset way input (w.units + (n - 1))) ∷ []
+
+        f : Follows m (Begin (given_up_offset way input w.units) ∷ (unit_events way m input w.units n ++ last)) begun new
+        f = follows_all m (Begin (given_up_offset way input w.units) ∷ (unit_events way m input w.units n ++ last)) begun new r.sound (begin (unit_events way m input w.units n ++ last) new all)
+
+        made : makings (Begin (given_up_offset way input w.units) ∷ (unit_events way m input w.units n ++ last)) ≡ n
+        made =
+            let both : makings (unit_events way m input w.units n ++ last) ≡ makings (unit_events way m input w.units n) + 0 = makings_join (unit_events way m input w.units n) last in
+            omega (arith, both, units_makings way m input w.units n)
+
+        clean : HasReadNoQuit way m input (w.units + n)
+        clean =
+            let parts = do_split m (unit_events way m input w.units n) last (with_search_begun way input w.units begun) new all in
+            clean_to n (with_search_begun way input w.units begun) parts.0 parts.1
+
+        within : (i : ℕ) → i ≡ n → w.units + n ≤ input.end - input.start + 1
+        within zero is = omega (arith, is, reads.left)
+        within (suc i) is =
+            let one : w.units + i ≤ length (tape_in way input).bytes = (its.0 (w.units + i) (omega arith) (omega (arith, is, count))).0.0 in
+            omega (arith, is, one, tape_few way input)
+
+        known :
+            (j : ℕ) → HasReported way m input w j → (i : ℕ) → w.units ≤ i → WalkReads way m input i → HasReportedBy way m input i j
+            → AreCached m new.store (unit_events way m input w.units n ++ last) → (i < next.units) ⊎ (next.units ≤ i) → KnowsUnit way m new.store input i
+        known j t i more walks by cached (inl less) =
+            units_known way m input new.store w.units n (cached_split m new.store (unit_events way m input w.units n) last cached).0 i more (omega (arith, less, count))
+        known j t i more walks by cached (inr past) =
+            absurd (next_stops next j (reports j t).0 its.1 i past walks by)
+
+    -- it failed after so many units
+    module _ (keeping : Keeping) (next : Walk) (new mid : CacheView) (e : SearchError) (n : ℕ)
+        (walks : WalkReads way m input (w.units + n)) (clean : HasReadNoQuit way m input (w.units + n))
+        (silent : IsSilent way m input w.units (w.units + n))
+        (all : DoAll m (unit_events way m input w.units n) (with_search_begun way input w.units begun) mid) where
+      within_left : w.units + suc n ≤ input.end - input.start + 1
+      within_left = let one : w.units + n ≤ length (tape_in way input).bytes = walks.0 in omega (arith, one, tape_few way input)
+
+      each : (j : ℕ) → w.units ≤ j → j < w.units + suc n → WalkReads way m input j × IsSilent way m input w.units j
+      each j more less = (
+        walk_reads_before way m input j (w.units + n) (omega (arith, less)) walks,
+        silent_before way m input w.units j (w.units + n) more (omega (arith, less)) silent,
+      )
+
+      clean_before : (j : ℕ) → j < w.units + suc n → HasReadNoQuit way m input j
+      clean_before j less i byte l unit = clean i byte (omega (arith, l, less)) unit
+
+      -- at the next one
+      call_stops :
+          {T : Type 0} → IsUnitRefusal way m new.store input (w.units + n) e → IsLeftAt way m input (w.units + n) mid new
+          → CallFollows {T = T} keeping way m input w next old new (Err e)
+      call_stops refused left =
+          follows_err old begun new r reads (grown_trans begun mid new f.grown s.0) (suc n) (omega (arith, f.counted, made, s.1)) within_left keeping next e
+          (λ knows. (
+          let idle : mid.count ≡ begun.count = f.known (tt, use_cached n (λ j more less. each j more (omega (arith, less))) (λ j less. clean_before j (omega (arith, less))) knows) in
+          let quit = s.2 (unit_knows way m begun mid input w.units (w.units + n) k f.grown idle knows (omega arith) walks clean (silent k here)) in
+          (quit.1 ∙ idle, known_refusal keeping way m input w e (quit_of_input way m new.store input (w.units + n) e refused quit.0))))
+        where
+          f : Follows m (Begin (given_up_offset way input w.units) ∷ unit_events way m input w.units n) begun mid
+          f = follows_all m (Begin (given_up_offset way input w.units) ∷ unit_events way m input w.units n) begun mid r.sound (begin (unit_events way m input w.units n) mid all)
+
+          made : makings (Begin (given_up_offset way input w.units) ∷ unit_events way m input w.units n) ≡ n
+          made = units_makings way m input w.units n
+
+          s :
+              IsGrown mid new × (new.count ≤ mid.count + 1)
+              × (KnowsUnit way m mid.store input (w.units + n)
+              → (quits_on m (unit_at (tape_in way input) (w.units + n)) ≡ true) × (new.count ≡ mid.count))
+          s = moved_left way m input (w.units + n) mid new left
+
+      -- or after it, since the state cannot be held
+      call_unheld :
+          {T : Type 0} → IsUnitRead way m input (w.units + n) (with_search_moved way input (w.units + n) mid) new → IsKnownRefusal keeping way m input w e
+          → CallFollows {T = T} keeping way m input w next old new (Err e)
+      call_unheld read unheld =
+          follows_err old begun new r reads f.grown (suc n) (omega (arith, f.counted, made)) within_left keeping next e
+          (λ knows. (f.known (tt, use_cached (suc n) each clean_before knows), unheld))
+        where
+          unit : List Event
+          unit = Move (given_up_offset way input (w.units + n)) ∷ unit_event way m input (w.units + n) ∷ []
+
+          sound : IsSoundOf mid.store m
+          sound =
+              all_sound m (unit_events way m input w.units n) (with_search_begun way input w.units begun) mid
+              (moved_sound m (Begin (given_up_offset way input w.units)) begun r.sound) all
+
+          f : Follows m (Begin (given_up_offset way input w.units) ∷ unit_events way m input w.units (suc n)) begun new
+          f =
+              follows_all m (Begin (given_up_offset way input w.units) ∷ unit_events way m input w.units (suc n)) begun new r.sound
+              (begin (unit_events way m input w.units (suc n)) new
+              (do_join m (unit_events way m input w.units n) unit (with_search_begun way input w.units begun) mid new all
+              (moved_and_read way m input (w.units + n) mid new sound read)))
+
+          made : makings (Begin (given_up_offset way input w.units) ∷ unit_events way m input w.units (suc n)) ≡ suc n
+          made = units_makings way m input w.units (suc n)
+
+  -- a call that answered
+  pub call_ended :
+      {T : Type 0} (u : T) (keeping : Keeping) (next : Walk) (old new : CacheView) → IsSoundOf old.store m → ReportsNext way m input w next
+      → EndsCall way m input w next old new → CallFollows keeping way m input w next old new (Ok u)
+  call_ended u keeping next old new sound reports (over, inl (none, same, still)) =
+      let count : new.count ≡ old.count = ap (λ (v : CacheView). v.count) still in
+      record {
+        rises = omega (arith, same);
+        cost = omega (arith, same, count);
+        most = omega (arith, count);
+        started = λ _. (omega (arith, count), omega (arith, same, count));
+        roomy = λ _. ap (λ (v : CacheView). v.store.clears) still;
+        grown = grown_less old new (grown_same old new still);
+        there = λ _. grown_same old new still;
+        put_back = λ q at lacks. inl still;
+        learned = λ nothing j t ready may. absurd (reads_some input w ready none);
+        known = λ _. (still_same old new still, tt);
+        ready = λ _. still;
+      }
+  call_ended u keeping next old new sound reports (over, inr (reads, begun, n, resumed, count, its, all)) =
+      let r = to_read reads in
+      call_reads old begun (has_resumed old begun sound w.stage reported resumed) r u keeping next new n reports count its all
+
+  -- it leaves a cache of the DFA, and has cached each unit that it read; and those lie in the span
+  pub record Leaves (next : Walk) (old new : CacheView) : Type 0 where
+    pub sound : IsSoundOf new.store m
+    pub few : w.units ≤ input.end - input.start + 1 → next.units ≤ input.end - input.start + 1
+    pub learned : (HasItsState old.store.table w.stage) → ClearedNothing old.store new.store → HasLearnedUnits way m new.store input w.units next.units
+
+  pub call_leaves_units :
+      (next : Walk) (old new : CacheView) → IsSoundOf old.store m → EndsCall way m input w next old new → Leaves next old new
+  call_leaves_units next old new sound (over, inl (none, same, still)) = record {
+    sound = subst (λ (v : CacheView). IsSoundOf v.store m) (sym still) sound;
+    few = λ l. omega (arith, l, same);
+    learned = λ there nothing j more less. absurd (omega (arith, more, less, same));
+  }
+  call_leaves_units next old new sound (over, inr (reads, begun, n, resumed, count, its, all)) = record {
+    sound = after;
+    few = within n refl;
+    learned = λ there nothing j more less. (
+        let inside : j < w.units + n = omega (arith, less, count) in
+        let cached = f.learned (nothing_second old begun new (r.there there) f.grown nothing) in (
+          units_known way m input new.store w.units n (cached_split m new.store (unit_events way m input w.units n) last cached.1).0 j more inside,
+          subst (λ (d : Machine). unit_class m (unit_at (tape_in way input) j) < table_stride d) (sym after.0.of)
+              (units_asked way m input w.units n (with_search_begun way input w.units begun) parts.0 parts.1 j more inside).1,
+        ));
+  } where
+    last : List Event
+    last = End (given_up_offset way input (w.units + (n - 1))) ∷ []
+
+    r : Resumed w.stage old begun
+    r = has_resumed old begun sound w.stage reported resumed
+
+    whole : DoAll m (Begin (given_up_offset way input w.units) ∷ (unit_events way m input w.units n ++ last)) begun new
+    whole = begin old begun r (to_read reads) (unit_events way m input w.units n ++ last) new all
+
+    f : Follows m (Begin (given_up_offset way input w.units) ∷ (unit_events way m input w.units n ++ last)) begun new
+    f = follows_all m (Begin (given_up_offset way input w.units) ∷ (unit_events way m input w.units n ++ last)) begun new r.sound whole
+
+    after : IsSoundOf new.store m
+    after = all_sound m (Begin (given_up_offset way input w.units) ∷ (unit_events way m input w.units n ++ last)) begun new r.sound whole
+
+    parts : (mid : CacheView) × DoAll m (unit_events way m input w.units n) (with_search_begun way input w.units begun) mid × DoAll m last mid new
+    parts = do_split m (unit_events way m input w.units n) last (with_search_begun way input w.units begun) new all
+
+    within : (i : ℕ) → i ≡ n → w.units ≤ input.end - input.start + 1 → next.units ≤ input.end - input.start + 1
+    within zero is l = omega (arith, is, count, l)
+    within (suc i) is l =
+        let one : w.units + i ≤ length (tape_in way input).bytes = (its.0 (w.units + i) (omega arith) (omega (arith, is, count))).0.0 in
+        omega (arith, is, count, one, tape_few way input)
+
+  -- a call that failed
+  pub call_left :
+      {T : Type 0} (keeping : Keeping) (next : Walk) (old new : CacheView) (e : SearchError) → IsSoundOf old.store m
+      → LeavesCall keeping way m input w old new e → CallFollows {T = T} keeping way m input w next old new (Err e)
+  call_left keeping next old new e sound (reads, inl (why, none)) =
+      let r = to_read reads in
+      let u = not_resumed old new e w.stage reported why none in
+      record {
+        rises = tt;
+        cost = tt;
+        most = omega (arith, u.cost, r.left);
+        started = λ knows. (let c = u.same knows in (omega (arith, c), tt));
+        roomy = λ room. walk_clears_none old new w.stage _ (grown_less old new u.grown) (λ _. u.grown) (omega (arith, u.cost, r.left)) room;
+        grown = grown_less old new u.grown;
+        there = λ _. u.grown;
+        put_back = λ q at lacks. inl (u.back q at);
+        learned = λ nothing. tt;
+        known = λ knows. (let x = u.known (λ may. (knows k reported r may).0) in (u.grown.idle x.0, known_refusal keeping way m input w e x.1));
+        ready = λ none. absurd (reads none);
+      }
+  call_left {T} keeping next old new e sound (reads, inr (begun, resumed, (n, mid, walks, clean, silent, all, left))) = go keeping left where
+    r : IsToRead input w.stage w.units w.reported
+    r = to_read reads
+
+    has : Resumed w.stage old begun
+    has = has_resumed old begun sound w.stage reported resumed
+
+    go : (keeping : Keeping) → IsCallLeftAt keeping way m input (w.units + n) mid new e → CallFollows {T = T} keeping way m input w next old new (Err e)
+    go Ids (refused, left) = call_stops old begun has r Ids next new mid e n walks clean silent all refused left
+    go States (inl (refused, left)) = call_stops old begun has r States next new mid e n walks clean silent all refused left
+    go States (inr (unheld, read)) = call_unheld old begun has r States next new mid e n walks clean silent all read (inr (w.units + n, omega arith, unheld))
+
+-- each call
+pub calls_follow : (m : Machine) → Skips m ⊎ (Skips m → ⊥) → CallsFollow m
+calls_follow m skips keeping way input walk next old new (Ok u) (k, reported) reports run =
+    call_ended way m input skips walk k reported u keeping next old new run.of reports run.ended
+calls_follow m skips keeping way input walk next old new (Err e) (k, reported) reports run =
+    call_left way m input skips walk k reported keeping next old new e run.of run.left

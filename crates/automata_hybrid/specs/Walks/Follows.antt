@@ -1,0 +1,86 @@
+-- What follows of what the calls of a walk, and the search for a set, make of their cache.
+use Rattle.std.specs.Prelude.{ℕ, ◌≡◌, ◌<◌, ◌≤◌, ◌+◌, ◌-◌, ◌⊎◌, Bool, List, Result, IfErr, OnOk}
+use Rattle.automata_base.specs.Haystacks.Input.{Input}
+use Rattle.automata_base.specs.Powersets.Powerset.{Powerset}
+use Rattle.automata_base.specs.declared.util.search.Direction.{Direction}
+use Rattle.automata_base.specs.declared.util.search.Direction.TheVariants.{Forward}
+use Rattle.automata_config.specs.declared.error.SearchError.{SearchError}
+use Rattle.automata_hybrid.specs.Cache.Caches.{CacheView, counted}
+use Rattle.automata_hybrid.specs.Cache.Growth.{ClearedNothing, HasRoom, IsGrown, IsStill, PutsBack}
+use Rattle.automata_hybrid.specs.Cache.Table.{IsKnownState}
+use Rattle.automata_hybrid.specs.Machines.Machine.{Machine}
+use Rattle.automata_hybrid.specs.Searches.Cached.{IsOfInput, KnowsItsStart}
+use Rattle.automata_hybrid.specs.Walks.Answers.{HasItsState, IsUnheld, IsWalkOf, ReportsNext, start_count}
+use Rattle.automata_hybrid.specs.Walks.Cached.{KnowsItsState, KnowsWalk, KnowsWhich}
+use Rattle.automata_hybrid.specs.Walks.Progress.{IsSetRun, IsWalkRun, ReadsNoUnit}
+use Rattle.automata_hybrid.specs.Walks.State.{At, Ids, Keeping, States, Walk}
+
+-- why a call fails though all that it uses is cached: because of its input; or, if states are kept, since the one
+-- that reports the next pair cannot be held
+abbrev pub IsKnownRefusal : Keeping → Direction → Machine → Input → Walk → SearchError → Type 0
+IsKnownRefusal Ids way m input walk e = IsOfInput e
+IsKnownRefusal States way m input walk e = IsOfInput e ⊎ ((j : ℕ) × (walk.units ≤ j) × IsUnheld way m input j e)
+
+-- what follows of a call of a walk, by what it returns
+pub record CallFollows {T : Type 0} (keeping : Keeping) (way : Direction) (m : Machine) (input : Input)
+    (walk next : Walk) (old new : CacheView) (result : Result T SearchError) : Type 0 where
+  -- it determinizes at most once for each unit by which the units read rise, and once for a start state; a call that
+  -- fails at most once for each unit left
+  pub rises : OnOk result (walk.units ≤ next.units)
+  pub cost : OnOk result (new.count + walk.units ≤ old.count + next.units + start_count walk.stage)
+  pub most : new.count ≤ old.count + (input.end - input.start + 1 - walk.units) + start_count walk.stage
+  -- a start state that is cached is not determinized again
+  pub started :
+      KnowsItsState way m old.store input walk.stage
+      → (new.count ≤ old.count + (input.end - input.start + 1 - walk.units))
+      × OnOk result (new.count + walk.units ≤ old.count + next.units)
+  -- nothing is cleared if there is room for as many states, and for the walk's own
+  pub roomy : HasRoom old.store (input.end - input.start + 1 - walk.units + 1) → new.store.clears ≡ old.store.clears
+  -- the cache has grown as by one determinization more; if it had the walk's state, as by those that were made
+  pub grown : IsGrown old (counted new)
+  pub there : HasItsState old.store.table walk.stage → IsGrown old new
+  -- a held state that the cache lacks is put back first, and the cache grows from there
+  pub put_back :
+      (q : Powerset) → walk.stage ≡ At q → (IsKnownState old.store.table q → ⊥)
+      → (new ≡ old) ⊎ ((between : CacheView) × PutsBack q old between × IsGrown between new)
+  -- if nothing was cleared, what it used is cached
+  pub learned : ClearedNothing old.store new.store → OnOk result (KnowsWalk way m new.store input walk)
+  -- with all that cached, it fails because of its input alone, or since its state cannot be held, and changes nothing
+  -- but the progress
+  pub known :
+      KnowsWalk way m old.store input walk
+      → IsStill old new × IfErr result (IsKnownRefusal keeping way m input walk)
+  -- one that reads no unit changes nothing at all
+  pub ready : ReadsNoUnit input walk → new ≡ old
+
+-- what follows of the search for a set
+pub record SetFollows {T : Type 0} (m : Machine) (input : Input) (set : List Bool) (old new : CacheView)
+    (result : Result T SearchError) : Type 0 where
+  -- over a span of n bytes it determinizes at most n + 2 times, and clears nothing if there is room for as many states
+  pub cost : new.count ≤ old.count + (input.end - input.start + 2)
+  pub roomy : HasRoom old.store (input.end - input.start + 2) → new.store.clears ≡ old.store.clears
+  -- a start state that is cached is not determinized again
+  pub started : KnowsItsStart Forward m old.store input → new.count ≤ old.count + (input.end - input.start + 1)
+  -- until the next clear nothing is lost
+  pub grown : IsGrown old new
+  -- and all that it used is cached
+  pub learned : ClearedNothing old.store new.store → OnOk result (KnowsWhich m new.store input set)
+  -- with all that cached, it fails because of its input alone, and changes nothing but the progress
+  pub known : KnowsWhich m old.store input set → IsStill old new × IfErr result IsOfInput
+  -- with a span that is done, nothing at all
+  pub done : input.end < input.start → new ≡ old
+
+-- each call of a walk over an input has such consequences
+abbrev pub CallsFollow : Machine → Type 0
+CallsFollow m =
+    (keeping : Keeping) (way : Direction) (input : Input) (walk next : Walk) (old new : CacheView)
+    (result : Result (Unit {0}) SearchError)
+    → IsWalkOf way m input walk → OnOk result (ReportsNext way m input walk next)
+    → IsWalkRun keeping way m input walk next old new result
+    → CallFollows keeping way m input walk next old new result
+
+-- and so has each search for a set
+abbrev pub SetsFollow : Machine → Type 0
+SetsFollow m =
+    (input : Input) (set : List Bool) (old new : CacheView) (result : Result (Unit {0}) SearchError)
+    → IsSetRun m input set old new result → SetFollows m input set old new result
