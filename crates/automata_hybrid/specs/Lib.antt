@@ -1,7 +1,8 @@
 -- The definitions by subject, in the order in which a reader needs them. To learn what a call promises, begin with the
 -- record that its contract names, and follow what its fields name:
 --
---     what a search returns, and does to its cache         Searches.Contracts: IsHalf, IsBased, IsSearchEffect
+--     what a search returns                                Searches.Contracts: IsHalf, IsBased
+--     what it does to its cache, and what follows          Searches.Progress: IsSearchRun; Searches.Follows
 --     what a call of a walk returns                        Walks.Contracts: IsWalkCall
 --     what a set of patterns is joined with                Walks.Contracts: IsWhich; Walks.SetsByPaths
 --     what they do to their cache, and what follows        Walks.Progress: IsWalkRun, IsSetRun; Walks.Follows

@@ -2,9 +2,9 @@ pub mod Passes
 pub mod Contracts
 pub mod Bounds
 pub mod Agreement
-pub mod Costs
 pub mod Cached
 pub mod Progress
+pub mod Follows
 pub mod PassState
 pub mod PassContracts
 pub mod Units

@@ -3,7 +3,7 @@ ghost use Rattle.automata_hybrid.specs.Cache.Caches.{IsCacheOf, IsStoreOf};
 ghost use Rattle.automata_hybrid.specs.Walks.Follows.{CallsFollow, SetsFollow};
 ghost use Rattle.automata_hybrid.specs.Walks.SetsByPaths.{SetsHaveMatching};
 ghost use Rattle.automata_hybrid.specs.Searches.Agreement.{AnswersAgree, WalksAgree};
-ghost use Rattle.automata_hybrid.specs.Searches.Costs.{SearchesCostFew};
+ghost use Rattle.automata_hybrid.specs.Searches.Follows.{PassesCost, SearchesFollow};
 ghost use Rattle.automata_hybrid.specs.Searches.Cached.{KnownStays};
 ghost use Rattle.automata_hybrid.specs.Steps.BySteps.{FirstMatchIsFound};
 
@@ -36,10 +36,12 @@ pub fn cache_is_within(dfa: &DFA, cache: &Cache)
     cache.see_bounds();
 }
 
-/// Over m bytes a search determinizes at most m + 2 times if no offset is skipped or it is anchored, and never more
-/// than (m + 1)(m + 2) times.
-pub fn costs_are_few()
-    ensures { SearchesCostFew }
+/// What follows of what a search makes of its cache: how often it determinizes, and when it clears nothing; that until
+/// the next clear nothing is lost; that all that it used is cached after an answer; that with all that cached nothing
+/// changes but the progress; and why it fails. And what passes cost that have ended one after another.
+pub fn searches_follow()
+    ensures searches { SearchesFollow }
+    ensures passes { PassesCost }
 {}
 
 /// If all that a search uses was cached, and no row, start state or transition was lost, it is still cached.

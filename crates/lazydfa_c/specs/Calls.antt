@@ -1,14 +1,14 @@
 -- What the calls for a cache do, each seen by the cache before and after it and by the status that it returns.
 use Rattle.std.specs.Prelude.{ℕ, ◌≡◌, ◌==◌, Bool, true, false, List}
 use Rattle.std.specs.Prelude.{Option, Some, None, Result, Ok, Err, IfErr, IfOk, IsSomeAnd, if◌then◌else◌}
+use Rattle.std.specs.Result.{result_err}
 use Rattle.automata_config.specs.declared.error.SearchError.{SearchError}
-use Rattle.automata_hybrid.specs.Searches.Contracts.{IsSearchEffect}
 use Rattle.automata_hybrid.specs.Walks.Progress.{IsSetRun}
-use Rattle.regex_automata.specs.Promises.{Backward, Forward, HalfMatch, Input, IsHalf, IsSpanEffect, IsSpanOf}
-use Rattle.regex_automata.specs.Promises.{IsTruthEffect, IsTruthOf, IsWhich, Match}
-use Rattle.regex_automata.specs.Spans.Effects.{IsNextEffect}
+use Rattle.regex_automata.specs.Promises.{Backward, Forward, HalfMatch, Input, IsHalf, IsSearchRun}
+use Rattle.regex_automata.specs.Promises.{IsSpanOf, IsSpanRun, IsTruthOf, IsTruthRun, IsWhich, Match}
 use Rattle.regex_automata.specs.Spans.Iteration.{IsNextMatch, IsNextRefusal}
-use Rattle.regex_automata.specs.Tokens.{GivesToken, IsTokenEffect}
+use Rattle.regex_automata.specs.Spans.Runs.{IsNextRun}
+use Rattle.regex_automata.specs.Tokens.{GivesToken, IsTokenRun}
 use Rattle.regex_automata.specs.Tokens.{match_of as token_match}
 use Rattle.regex_automata.specs.declared.hybrid.regex.Regex.{Regex}
 use Rattle.regex_automata.specs.declared.tokens.error.TokenError.{TokenError}
@@ -85,7 +85,7 @@ pub record Finds (found : Found) (input : Input) (s t : Searcher) (status : Stat
   pub result : Result (Option Match) SearchError
   pub told : IsTold (match_of found) result status
   pub returned : IsSpanOf (regex_of s) input result
-  pub effect : IsSpanEffect (regex_of s) input s.cache t.cache result
+  pub effect : IsSpanRun (regex_of s) input s.cache t.cache (result_err result)
   pub same : t.shared ≡ s.shared
 
 -- `lazydfa_is_match`: the result of `Regex::is_match`
@@ -93,7 +93,7 @@ pub record Tests (input : Input) (s t : Searcher) (status : Status) : Type 0 whe
   pub result : Result Bool SearchError
   pub told : IsTruthTold result status
   pub returned : IsTruthOf (regex_of s) input result
-  pub effect : IsTruthEffect (regex_of s) input s.cache t.cache result
+  pub effect : IsTruthRun (regex_of s) input s.cache t.cache (result_err result)
   pub same : t.shared ≡ s.shared
 
 -- `lazydfa_find_end`: the result of a search of the forward DFA; the reverse cache stays
@@ -101,7 +101,7 @@ pub record FindsEnd (found : FoundHalf) (input : Input) (s t : Searcher) (status
   pub result : Result (Option HalfMatch) SearchError
   pub told : IsTold (half_of found) result status
   pub returned : IsHalf Forward (regex_of s).forward input result
-  pub effect : IsSearchEffect Forward (regex_of s).forward input s.cache.forward t.cache.forward result
+  pub effect : IsSearchRun Forward (regex_of s).forward input s.cache.forward t.cache.forward (result_err result)
   pub reverse : t.cache.reverse ≡ s.cache.reverse
   pub same : t.shared ≡ s.shared
 
@@ -110,7 +110,7 @@ pub record FindsStart (found : FoundHalf) (input : Input) (s t : Searcher) (stat
   pub result : Result (Option HalfMatch) SearchError
   pub told : IsTold (half_of found) result status
   pub returned : IsHalf Backward (regex_of s).reverse input result
-  pub effect : IsSearchEffect Backward (regex_of s).reverse input s.cache.reverse t.cache.reverse result
+  pub effect : IsSearchRun Backward (regex_of s).reverse input s.cache.reverse t.cache.reverse (result_err result)
   pub forward : t.cache.forward ≡ s.cache.forward
   pub same : t.shared ≡ s.shared
 
@@ -131,7 +131,7 @@ pub record GoesOn (found : Found) (old new : Iteration) (input : Input) (s t : S
   pub told : IsTold (match_of found) result status
   pub next : IfOk result (IsNextMatch (regex_of s) input (last_of old))
   pub refusal : IfErr result (IsNextRefusal (regex_of s) t.cache input (last_of old))
-  pub effect : IsNextEffect (regex_of s) input (last_of old) s.cache t.cache result
+  pub effect : IsNextRun (regex_of s) input (last_of old) s.cache t.cache (result_err result)
   pub same : t.shared ≡ s.shared
   pub iterated : new ≡ iterated old result
 
@@ -167,7 +167,7 @@ pub record TakesToken (found : Found) (old new : Request) (input : Input) (s t :
       GivesToken (regex_of s).forward t.cache.forward.store input.haystack input.end item
       input.start (offset_after input.start item) false (has_failed item)
   pub effect :
-      IsTokenEffect (regex_of s).forward input.haystack input.end input.start s.cache.forward t.cache.forward item
+      IsTokenRun (regex_of s).forward input.haystack input.end input.start s.cache.forward t.cache.forward item
   pub reverse : t.cache.reverse ≡ s.cache.reverse
   pub same : t.shared ≡ s.shared
   pub left : new ≡ record old { start = offset_after old.start item }

@@ -3,11 +3,11 @@ pub mod Quits
 pub mod Lists
 pub mod Costs
 pub mod Items
-pub mod Progress
 pub mod Truths
 pub mod NextMatches
 pub mod Cached
 pub mod ByPaths
 pub mod Ends
 pub mod Effects
+pub mod Follows
 pub mod Reports

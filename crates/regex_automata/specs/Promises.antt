@@ -64,10 +64,13 @@ pub use Rattle.automata_hybrid.specs.Cache.Caches.{HoldsRow}
 -- unit at an offset; what a step over it means; the first pattern of a match state; the first match, or none.
 pub use Rattle.automata_hybrid.specs.Steps.BySteps.{StandsAt, IsUnitAt, IsStepAt, IsFirstPattern, HasPatterns}
 pub use Rattle.automata_hybrid.specs.Steps.BySteps.{IsFirstMatch, FirstMatchIsFound}
--- Nothing but a lack of memory prevents an answer. All that a search uses is cached. What a search does to its cache:
--- among others, until the next clear nothing is lost, and if all that it uses is cached, nothing changes but the
--- progress.
-pub use Rattle.automata_hybrid.specs.Searches.Contracts.{IsMemory, IsSearchEffect, IsUnhindered}
+-- Nothing but a lack of memory prevents an answer. What a search makes of its cache, event by event; and what follows
+-- of it, by `laws::searches_follow` and `laws::spans_follow`: among others, until the next clear nothing is lost, and if
+-- all that a search uses is cached, nothing changes but the progress.
+pub use Rattle.automata_hybrid.specs.Searches.Contracts.{IsMemory, IsUnhindered}
+pub use Rattle.automata_hybrid.specs.Searches.Progress.{IsSearchRun}
+pub use Rattle.automata_hybrid.specs.Searches.Follows.{SearchFollows, SearchesFollow}
 pub use Rattle.automata_hybrid.specs.Searches.Cached.{Knows}
 pub use Rattle.automata_hybrid.specs.Cache.Growth.{ClearedNothing, IsGrown, IsStill}
-pub use Rattle.regex_automata.specs.Spans.Effects.{IsSpanEffect, IsTruthEffect}
+pub use Rattle.regex_automata.specs.Spans.Runs.{IsSpanRun, IsTruthRun}
+pub use Rattle.regex_automata.specs.Spans.Follows.{SpanFollows, SpansFollow}

@@ -4,6 +4,5 @@ pub mod Agreement
 pub mod IsMatch
 pub mod Iteration
 pub mod Errors
-pub mod Effects
-pub mod Costs
-pub mod Progress
+pub mod Runs
+pub mod Follows

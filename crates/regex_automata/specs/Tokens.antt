@@ -1,6 +1,6 @@
 -- The tokens of an input, one after another.
 use Rattle.std.specs.Prelude.{ℕ, ◌≡◌, ◌<◌, ◌≤◌, ◌⊎◌, ◌-◌, ◌++◌, Bool, true, false, if◌then◌else◌, nat_lt, List, [], ◌∷◌}
-use Rattle.std.specs.Prelude.{length, Option, None, Some, Result, Ok, Err, IfErr, IfOk, IfSome, slice_range}
+use Rattle.std.specs.Prelude.{length, Option, None, Some, Result, Ok, Err, IfOk, IfSome, slice_range}
 use Rattle.automata_base.specs.Answers.Answers.{IsAnswer}
 use Rattle.automata_base.specs.Nfas.Engines.{engine_of}
 use Rattle.automata_base.specs.Haystacks.Input.{Input}
@@ -12,14 +12,11 @@ use Rattle.automata_base.specs.declared.util.search.Anchored.TheVariants.{Yes}
 use Rattle.automata_config.specs.declared.error.SearchError.{SearchError}
 use Rattle.automata_config.specs.declared.error.SearchError.TheVariants as search
 use Rattle.automata_hybrid.specs.Cache.Caches.{CacheView}
-use Rattle.automata_hybrid.specs.Cache.Growth.{ClearedNothing, IsGrown, IsStill}
-use Rattle.automata_hybrid.specs.Searches.Cached.{IsOfInput, Knows}
 use Rattle.automata_hybrid.specs.Cache.Stores.{Stored}
 use Rattle.automata_hybrid.specs.Machines.Machine.{Machine}
 use Rattle.automata_hybrid.specs.Searches.Contracts.{IsHalf, IsMemory, IsUnhindered}
-use Rattle.automata_hybrid.specs.Searches.Progress.{EndsProgress, LeavesProgress}
+use Rattle.automata_hybrid.specs.Searches.Progress.{IsSearchRun}
 use Rattle.automata_hybrid.specs.Searches.Passes.{IsFound, IsRefused, WithoutBase}
-use Rattle.automata_hybrid.specs.Searches.Costs.{IsCostOfPass}
 use Rattle.regex_automata.specs.declared.tokens.error.TokenError.{TokenError}
 use Rattle.regex_automata.specs.declared.tokens.error.TokenError.TheVariants.{NoToken, Search}
 use Rattle.regex_automata.specs.declared.tokens.token.Token.{Token}
@@ -104,44 +101,18 @@ GivesToken m c h end (Some (Ok t)) offset offset' failed failed' =
 GivesToken m c h end (Some (Err e)) offset offset' failed failed' =
     IsGivenAt m c h end offset (Err e) × (offset' ≡ offset) × (failed ≡ false) × (failed' ≡ true)
 
--- the search at an offset has ended, or was left where it failed; if none is made nothing changes
-abbrev pub LeavesAt :
-    Machine → List ℕ → (end offset : ℕ) → (old new : CacheView) → Result Token TokenError → Type 0
-LeavesAt m h end offset old new (Ok t) = EndsProgress Forward m (asked h end offset) old new
-LeavesAt m h end offset old new (Err (NoToken at)) = EndsProgress Forward m (asked h end offset) old new
-LeavesAt m h end offset old new (Err (Search e)) = LeavesProgress Forward m (asked h end offset) old new e
+-- the error of the search for a token, if it failed
+abbrev pub search_error : Result Token TokenError → Option SearchError
+search_error (Ok t) = None
+search_error (Err (NoToken at)) = None
+search_error (Err (Search e)) = Some e
 
-abbrev pub LeavesToken :
+-- what an item makes of the forward cache: it is a search at the offset; without an item nothing changes
+abbrev pub IsTokenRun :
     Machine → List ℕ → (end offset : ℕ) → (old new : CacheView) → Option (Result Token TokenError) → Type 0
-LeavesToken m h end offset old new None = new ≡ old
-LeavesToken m h end offset old new (Some r) = LeavesAt m h end offset old new r
-
--- no token, or a search that fails by what it was given, and not for lack of room
-abbrev pub IsTokenOfInput : TokenError → Type 0
-IsTokenOfInput (NoToken at) = Unit {0}
-IsTokenOfInput (Search e) = IsOfInput e
-
--- all that the search at an offset uses is cached, unless it failed
-abbrev pub HasLearnedAt : Machine → Stored → List ℕ → (end offset : ℕ) → Result Token TokenError → Type 0
-HasLearnedAt m c h end offset (Ok t) = Knows Forward m c (asked h end offset)
-HasLearnedAt m c h end offset (Err (NoToken at)) = Knows Forward m c (asked h end offset)
-HasLearnedAt m c h end offset (Err (Search e)) = Unit {0}
-
--- what an item does to the forward cache
-pub record IsTokenEffect (m : Machine) (h : List ℕ) (end offset : ℕ) (old new : CacheView)
-    (item : Option (Result Token TokenError)) : Type 0 where
-  -- it is one pass at most
-  pub cost : IsCostOfPass Forward m (asked h end offset) old new
-  -- until the next clear nothing is lost
-  pub grown : IsGrown old new
-  -- and what it used is cached
-  pub learned : ClearedNothing old.store new.store → IfSome item (HasLearnedAt m new.store h end offset)
-  -- with all that cached it does not run out of memory, and changes nothing but the progress
-  pub known :
-      Knows Forward m old.store (asked h end offset)
-      → IsStill old new × IfSome item (λ r. IfErr r IsTokenOfInput)
-  -- the searched bytes, and the search that is open: what its pass leaves
-  pub progress : LeavesToken m h end offset old new item
+IsTokenRun m h end offset old new None = new ≡ old
+IsTokenRun m h end offset old new (Some r) =
+    IsSearchRun Forward m (asked h end offset) old new (search_error r)
 
 -- how many items may come
 abbrev pub most_tokens : (failed : Bool) → (end offset : ℕ) → ℕ

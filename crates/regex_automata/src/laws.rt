@@ -1,12 +1,14 @@
 //! Laws about searches over two lazy DFAs. The contract of each function is the law; its body only cites other laws.
 ghost use Rattle.regex_automata.specs.Spans.Agreement.{MatchesAgree, TruthIffFound, TruthsAgree};
+ghost use Rattle.regex_automata.specs.Spans.Follows.{NextsFollow, SpansFollow};
 
+use crate::hybrid::regex::Regex;
 pub use automata_base::laws::{
     cycles_are_kept, passes_report_paths, reported_is_right, start_is_right, steps_are_right,
     walk_is_right,
 };
 pub use automata_hybrid::laws::{
-    answers_agree, cache_is_within, costs_are_few, first_match_is_found, known_stays,
+    answers_agree, cache_is_within, first_match_is_found, known_stays, searches_follow,
     sets_have_matching, walks_agree,
 };
 
@@ -32,4 +34,17 @@ pub fn truth_is_found()
     ensures { TruthIffFound }
 {
     passes_report_paths();
+}
+
+/// What follows of what a search for a span makes of the two caches, and one for the next match: how often it
+/// determinizes, and when it clears nothing; that until the next clear nothing is lost; that all that it used is cached
+/// after an answer; that with all that cached nothing changes but the progress; and why it fails. For a search of one
+/// DFA, as `is_match` and the tokens make it, this is `searches_follow`.
+pub fn spans_follow(regex: &Regex)
+    ensures spans { SpansFollow }
+    ensures nexts { NextsFollow regex.now }
+{
+    answers_agree();
+    known_stays(regex.forward());
+    known_stays(regex.reverse());
 }

@@ -1,20 +1,17 @@
--- What searches return whatever the cache, and what they make of it.
+-- What searches return whatever the cache.
 use Rattle.std.proofs.Common.{ℕ, ◌≡◌, Option, Some, None, refl, sym, ap, subst}
 use Rattle.std.specs.Prelude.{Result, Ok, Err, IfErr, IfOk}
-use Rattle.std.specs.Result.{IsErrAnd}
+use Rattle.std.specs.Result.{IsErrAnd, result_err}
 use Rattle.automata_base.specs.Answers.Answers.{Half}
 use Rattle.automata_base.specs.Haystacks.Input.{Input}
 use Rattle.automata_base.specs.Haystacks.Matches.{HalfMatch}
-use Rattle.automata_base.specs.declared.util.search.Direction.{Direction}
 use Rattle.automata_base.specs.declared.util.search.Direction.TheVariants.{Forward}
 use Rattle.automata_config.specs.declared.error.SearchError.{SearchError}
 use Rattle.automata_hybrid.specs.Cache.Stores.{Stored}
-use Rattle.automata_hybrid.specs.Cache.Caches.{CacheView, IsStoreOf}
-use Rattle.automata_hybrid.specs.Searches.Cached.{IsOfInput}
+use Rattle.automata_hybrid.specs.Cache.Caches.{IsStoreOf}
 use Rattle.automata_hybrid.specs.Machines.Machine.{Machine}
-use Rattle.automata_hybrid.specs.Searches.Contracts.{IsBased, IsHalf, IsSearchEffect, based_half}
+use Rattle.automata_hybrid.specs.Searches.Contracts.{IsBased, IsHalf, based_half}
 use Rattle.automata_hybrid.specs.Searches.Contracts.{halves}
-use Rattle.automata_hybrid.specs.Searches.Progress.{LeavesProgress}
 use Rattle.automata_hybrid.specs.Searches.Passes.{WithoutBase, with_base}
 use Rattle.automata_hybrid.proofs.Cases.{err_ok, ok_err, same_err}
 
@@ -91,34 +88,10 @@ pub found_err :
 found_err P (Ok o) e is = absurd is
 found_err P (Err x) e is = tt
 
--- what is made of the cache, by another answer of the same kind
-module _ {T U : Type 0} (way : Direction) (m : Machine) (input : Input) (old new : CacheView) where
-  pub effect_ok :
-      (a : T) (b : U) → IsSearchEffect way m input old new (Ok a)
-      → IsSearchEffect way m input old new (Ok b)
-  effect_ok a b s = record {
-    cost = s.cost;
-    grown = s.grown;
-    learned = s.learned;
-    known = λ knows. ((s.known knows).0, tt);
-    ended = s.ended;
-    left = tt;
-    done = s.done;
-  }
-
-  pub effect_err :
-      (r : Result U SearchError) (e : SearchError) → IsErrAnd r (λ x. x ≡ e)
-      → IsSearchEffect {T = T} way m input old new (Err e) → IsSearchEffect way m input old new r
-  effect_err (Ok b) e is s = absurd is
-  effect_err (Err x) e is s = record {
-    cost = s.cost;
-    grown = s.grown;
-    learned = λ nothing. tt;
-    known = λ knows. ((s.known knows).0, subst IsOfInput (sym is) (s.known knows).1);
-    ended = tt;
-    left = subst (LeavesProgress way m input old new) (sym is) s.left;
-    done = s.done;
-  }
+-- the error of what is returned
+pub err_is : {A : Type 0} (r : Result A SearchError) (e : SearchError) → IsErrAnd r (λ x. x ≡ e) → result_err r ≡ Some e
+err_is (Ok a) e is = absurd is
+err_is (Err x) e is = ap (λ (v : SearchError). Some v) is
 
 -- answers without their bases
 pub halves_ok :
@@ -133,9 +106,6 @@ pub halves_err :
 halves_err Q (Ok o) h = tt
 halves_err Q (Err e) h = h
 
-pub halves_effect :
-    (way : Direction) (m : Machine) (input : Input) (old new : CacheView)
-    (r : Result (Option (HalfMatch × ℕ)) SearchError)
-    → IsSearchEffect way m input old new r → IsSearchEffect way m input old new (halves r)
-halves_effect way m input old new (Ok o) s = effect_ok way m input old new o _ s
-halves_effect way m input old new (Err e) s = effect_err way m input old new (Err e) e refl s
+pub halves_error : (r : Result (Option (HalfMatch × ℕ)) SearchError) → result_err (halves r) ≡ result_err r
+halves_error (Ok o) = refl
+halves_error (Err e) = refl

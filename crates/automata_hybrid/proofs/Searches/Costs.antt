@@ -8,8 +8,8 @@ use Rattle.automata_base.specs.Paths.Selections.{Pair}
 use Rattle.automata_base.specs.declared.util.search.Direction.{Direction}
 use Rattle.automata_base.specs.declared.util.search.Direction.TheVariants.{Forward, Backward}
 use Rattle.automata_hybrid.specs.Cache.Caches.{CacheView}
-use Rattle.automata_hybrid.specs.Searches.Costs.{AreCostsInTurn, IsCostOfPass, IsCostOfPasses, IsCostOfSearch}
-use Rattle.automata_hybrid.specs.Searches.Costs.{SearchesCostFew, passes_most}
+use Rattle.automata_hybrid.specs.Searches.Follows.{AreCostsInTurn, IsCostOfPass, IsCostOfPasses, IsCostOfSearch}
+use Rattle.automata_hybrid.specs.Searches.Follows.{passes_most}
 use Rattle.automata_hybrid.specs.Cache.Growth.{IsGrown}
 use Rattle.automata_hybrid.specs.Searches.Cached.{KnowsItsStart}
 use Rattle.automata_hybrid.specs.Machines.Machine.{Machine}
@@ -174,7 +174,3 @@ module _ (way : Direction) (m : Machine) (input : Input) (old new : CacheView) w
       let times : passes_most (input.end - input.start + 1) (input.end - input.start) ≤ (input.end - input.start + 1) * (input.end - input.start + 2) =
       most_times (input.end - input.start + 1) (input.end - input.start) in
       omega (arith, spans, times)
-
--- by the bytes of its span alone
-pub costs_are_few : SearchesCostFew
-costs_are_few way m input old new cost = (cost_once way m input old new cost, cost_all way m input old new cost)

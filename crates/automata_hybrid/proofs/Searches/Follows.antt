@@ -3,17 +3,18 @@ use Rattle.std.proofs.Common.{ℕ, zero, suc, ◌≡◌, ◌∙◌, ◌+◌, ◌
 use Rattle.std.proofs.Common.{None, Some, inl, inr, refl, sym, ap, subst, arith, drop}
 use Rattle.std.proofs.lemmas.Bool.{cases_lt}
 use Rattle.std.proofs.lemmas.List.{length-reverse, length-take}
-use Rattle.std.specs.Prelude.{Result, Ok, Err, IfErr, IfOk, IfSome, OnOk}
-use Rattle.automata_base.specs.Haystacks.Matches.{HalfMatch}
+use Rattle.std.specs.Prelude.{Result, Ok, Err, IfErr, IfSome, OnOk}
+use Rattle.std.specs.Result.{result_err}
 use Rattle.automata_base.specs.Answers.Answers.{later}
 use Rattle.automata_base.specs.Haystacks.Input.{Input}
 use Rattle.automata_base.specs.Haystacks.Tapes.{between}
+use Rattle.automata_base.specs.declared.util.search.Anchored.TheVariants.{No}
 use Rattle.automata_base.specs.declared.util.search.Direction.{Direction}
 use Rattle.automata_base.specs.declared.util.search.Direction.TheVariants.{Forward, Backward}
 use Rattle.automata_base.specs.Paths.Paths.{next}
 use Rattle.automata_base.specs.declared.util.search.MatchErrorKind.TheVariants.{Quit as QuitAt, GaveUp}
 use Rattle.automata_base.specs.declared.util.search.MatchErrorKind.TheVariants.{UnsupportedAnchored as UnsupportedMode}
-use Rattle.automata_base.proofs.Paths.Orders.{none_some}
+use Rattle.automata_base.proofs.Paths.Orders.{none_some, some_none}
 use Rattle.automata_config.specs.declared.error.StartError.{StartError}
 use Rattle.automata_config.specs.declared.error.StartError.TheVariants as start
 use Rattle.automata_config.specs.declared.error.SearchError.{SearchError}
@@ -25,12 +26,12 @@ use Rattle.automata_hybrid.specs.Calls.Events.{AreCached, Begin, DoAll, End, Eve
 use Rattle.automata_hybrid.specs.Machines.Machine.{Machine, table_stride}
 use Rattle.automata_hybrid.specs.Machines.StartSlots.{supports}
 use Rattle.automata_hybrid.specs.Searches.Cached.{IsOfInput, Knows, KnowsItsStart, KnowsPass, KnowsUnit}
-use Rattle.automata_hybrid.specs.Searches.Contracts.{IsSearchEffect}
-use Rattle.automata_hybrid.specs.Searches.Costs.{IsCostOfPasses, IsCostUpto, passes_most}
+use Rattle.automata_hybrid.specs.Searches.Follows.{IsCostOfPass, IsCostOfPasses, IsCostOfSearch, passes_most}
+use Rattle.automata_hybrid.specs.Searches.Follows.{SearchFollows, SearchesFollow}
 use Rattle.automata_hybrid.specs.Searches.PassState.{HasLearnedUnit}
-use Rattle.automata_hybrid.specs.Searches.Passes.{Finds, HasReadNoQuit, IsUnitRefusal, Reads, Skips, given_up_offset, state_in, tape_in}
-use Rattle.automata_hybrid.specs.Searches.Progress.{EndsAtLast, EndsProgress, HasEnded, HasNoStart, HaveEnded, HaveTried, IsLeft, IsLeftAt, IsPassLeftAt}
-use Rattle.automata_hybrid.specs.Searches.Progress.{IsSearchRun, LeavesProgress, TriesSpan, TriesSpans}
+use Rattle.automata_hybrid.specs.Searches.Passes.{Finds, HasReadNoQuit, IsPassRefusal, IsRefused, IsUnitRefusal, Reads, Skips, given_up_offset, state_in, tape_in}
+use Rattle.automata_hybrid.specs.Searches.Progress.{EndsAtLast, PassEnds, HasNoStart, PassesEnd, HaveTried, PassFails, IsLeftAt, IsPassLeftAt}
+use Rattle.automata_hybrid.specs.Searches.Progress.{IsSearchRun, SearchEnds, SearchFails, TriesSpan, TriesSpans}
 use Rattle.automata_hybrid.specs.Searches.Progress.{start_event, unit_event, unit_events, with_search_begun, with_search_ended, with_search_moved}
 use Rattle.automata_hybrid.specs.Steps.Starts.{IsStartRefusal, IsStartRefusalAt, MayStart, quit_behind, search_refusal}
 use Rattle.automata_hybrid.specs.Steps.Steps.{quits_on, unit_class}
@@ -39,7 +40,7 @@ use Rattle.automata_hybrid.proofs.Calls.Laws.{Follows, all_sound, cached_idle, c
 use Rattle.automata_hybrid.proofs.Calls.Laws.{failed_count, failed_grown, first_cached, follows_all, left_count, left_grown, left_known}
 use Rattle.automata_hybrid.proofs.Calls.Laws.{makings_join, moved_sound}
 use Rattle.automata_hybrid.proofs.Searches.Cached.{HasLearnedAll, LearnedSpans, search_still, spans_all, spans_more, spans_still}
-use Rattle.automata_hybrid.proofs.Searches.Costs.{AreCounted, cost_of_pass, counted_more, tries_before}
+use Rattle.automata_hybrid.proofs.Searches.Costs.{AreCounted, cost_all, cost_known, cost_of_pass, cost_once, counted_more, tries_before}
 use Rattle.automata_hybrid.proofs.Searches.Directions.{none_empty}
 use Rattle.automata_hybrid.proofs.Searches.PassState.{false_true, reads_before}
 use Rattle.automata_hybrid.proofs.Steps.Steps.{no_quit_unit}
@@ -211,7 +212,7 @@ module _ (way : Direction) (m : Machine) (input : Input) (old new : CacheView) (
           )))
 
   -- a pass has ended
-  pub pass_ended : {T : Type 0} (answer : T) → HasEnded way m input old new → PassFollows way m input old new (Ok answer)
+  pub pass_ended : {T : Type 0} (answer : T) → PassEnds way m input old new → PassFollows way m input old new (Ok answer)
   pass_ended answer (begun, starts, inl (keeps, inl (reads, read))) =
       let all : DoAll m (start_event way input ∷ unit_event way m input 0 ∷ []) old new = (begun, starts, do_one m (unit_event way m input 0) begun new read) in
       pass_follows (unit_event way m input 0 ∷ []) all answer (omega arith)
@@ -357,7 +358,7 @@ module _ (way : Direction) (m : Machine) (input : Input) (old new : CacheView) (
         }
 
   -- a pass has failed
-  pub pass_left : {T : Type 0} (e : SearchError) → IsLeft way m input old new e → PassFollows {T = T} way m input old new (Err e)
+  pub pass_left : {T : Type 0} (e : SearchError) → PassFails way m input old new e → PassFollows {T = T} way m input old new (Err e)
   pass_left e (inl (why, none)) = unstarted e _ _ why none
   pass_left e (inr (begun, starts, inl (keeps, reads, refused, left))) =
       let s = still_left way m input 0 begun new left in
@@ -379,6 +380,36 @@ module _ (way : Direction) (m : Machine) (input : Input) (old new : CacheView) (
             (λ i byte l unit. clean i byte (omega (arith, l, less)) unit)),
       ))
       s.0 s.1 s.2
+
+-- why a pass failed, by its run
+left_refused :
+    (way : Direction) (m : Machine) (input : Input) (old new : CacheView) (e : SearchError)
+    → PassFails way m input old new e → IsPassRefusal way m new.store input e
+left_refused way m input old new e (inl (why, none)) = inl why
+left_refused way m input old new e (inr (begun, starts, inl (keeps, reads, refused, left))) =
+    inr (0, starts.0.0, reads, (λ j byte l unit. absurd (omega (arith, l))), refused)
+left_refused way m input old new e (inr (begun, starts, inr (keeps, (k, mid, reads, clean, refused, units, left)))) =
+    inr (k, starts.0.0, reads, clean, refused)
+
+-- and why a search failed
+fails_refused :
+    (way : Direction) (m : Machine) (input : Input) (old new : CacheView) (e : SearchError)
+    → SearchFails way m input old new e → IsRefused way m new.store input e
+fails_refused way m input old new e (passes, mid, tries, ended, left) =
+    let last = tries passes (omega arith) in
+    (passes, last.0, last.1, left_refused way m (later way passes input) mid new e left)
+
+pub search_refused :
+    (way : Direction) (m : Machine) (input : Input) (old new : CacheView) (error : Option SearchError)
+    → IsSearchRun way m input old new error → IfSome error (IsRefused way m new.store input)
+search_refused way m input old new None run = tt
+search_refused way m input old new (Some e) run = fails_refused way m input old new e run.run
+
+pub call_refused :
+    {A : Type 0} (way : Direction) (m : Machine) (input : Input) (old new : CacheView) (r : Result A SearchError)
+    → IsSearchRun way m input old new (result_err r) → IfErr r (IsRefused way m new.store input)
+call_refused way m input old new (Ok a) run = tt
+call_refused way m input old new (Err e) run = search_refused way m input old new (Some e) run
 
 -- what follows of so many passes that ended
 pub record SpansFollow (way : Direction) (m : Machine) (input : Input) (passes : ℕ) (old new : CacheView) : Type 0 where
@@ -425,9 +456,9 @@ module _ (way : Direction) (m : Machine) (input : Input) where
     }
 
   pub spans_follow :
-      (passes : ℕ) (old new : CacheView) → IsSoundOf old.store m → TriesSpans way m input passes → HaveEnded way m input passes old new
+      (passes : ℕ) (old new : CacheView) → TriesSpans way m input passes → PassesEnd way m input passes old new
       → SpansFollow way m input passes old new
-  spans_follow zero old new sound tries same = record {
+  spans_follow zero old new tries (sound, same) = record {
     grown = grown_same old new same;
     known = λ knows. ap (λ (v : CacheView). v.count) same;
     learned = λ nothing j less. absurd (omega (arith, less));
@@ -436,8 +467,8 @@ module _ (way : Direction) (m : Machine) (input : Input) where
   } where
     count : new.count ≡ old.count
     count = ap (λ (v : CacheView). v.count) same
-  spans_follow (suc passes) old new sound tries (mid, before, pass) =
-      let first = spans_follow passes old mid sound (λ k less. tries k (omega (arith, less))) before in
+  spans_follow (suc passes) old new tries (mid, before, pass) =
+      let first = spans_follow passes old mid (λ k less. tries k (omega (arith, less))) before in
       one_more passes old mid new (tries passes (omega arith)) first {T = Unit {0}} (tt {0})
       (pass_ended way m (later way passes input) mid new first.sound {T = Unit {0}} (tt {0}) pass)
 
@@ -453,11 +484,14 @@ module _ (way : Direction) (m : Machine) (input : Input) where
     room = λ room. clears_none old new (passes_most passes (input.end - input.start)) grown counted.most room;
   }
 
-  pub cost_ended :
-      (passes : ℕ) (old new : CacheView) → IsSoundOf old.store m → TriesSpans way m input passes → HaveEnded way m input passes old new
-      → IsCostOfPasses way m input passes old new
-  cost_ended passes old new sound tries ended =
-      let f = spans_follow passes old new sound tries ended in cost_of passes old new tries f.grown f.counted
+  pub passes_cost : (passes : ℕ) (old new : CacheView) → HaveTried way m input passes old new → IsCostOfPasses way m input passes old new
+  passes_cost passes old new tried =
+      let f = spans_follow passes old new tried.0 tried.1 in cost_of passes old new tried.0 f.grown f.counted
+
+  -- if no place is skipped or the search is anchored, one pass costs a search no more
+  once : (old new : CacheView) → IsCostOfSearch way m input old new → IsGrown old new → (Skips m × (input.anchored ≡ No) → ⊥) → IsCostOfPass way m input old new
+  once old new cost grown whole =
+      cost_of_pass way m input old new grown (cost_once way m input old new cost whole) (cost_known way m input old new cost whole)
 
   -- a span that is done has no pass
   none_done : (passes : ℕ) → TriesSpans way m input passes → input.end < input.start → passes ≡ 0
@@ -465,57 +499,46 @@ module _ (way : Direction) (m : Machine) (input : Input) where
   none_done (suc passes) tries over = let first = (tries 0 (omega arith)).1 in absurd (omega (arith, first, over))
 
   -- a search that answers
-  pub search_ended :
-      {T : Type 0} (answer : T) (old new : CacheView) → IsSoundOf old.store m → EndsProgress way m input old new
-      → IsSearchEffect way m input old new (Ok answer)
-  search_ended answer old new sound (passes, tries, stops, ended) =
-      let f = spans_follow passes old new sound tries ended in
+  search_ends : (old new : CacheView) → SearchEnds way m input old new → SearchFollows way m input old new None
+  search_ends old new (passes, tries, stops, ended) =
+      let f = spans_follow passes old new tries ended in
+      let cost : IsCostOfSearch way m input old new = (passes, cost_of passes old new tries f.grown f.counted) in
       record {
-        cost = (passes, cost_of passes old new tries f.grown f.counted);
+        cost = cost;
+        once = once old new cost f.grown;
+        most = cost_all way m input old new cost;
         grown = f.grown;
-        learned = λ nothing. spans_all way m new.store input passes (f.learned nothing)
+        learned = λ nothing ok. spans_all way m new.store input passes (f.learned nothing)
             (λ j more tried within. stops (tries_before (Finds way m) (Skips m) way input passes j more tried, omega (arith, more, within)));
         known = λ knows. (f.grown.idle (f.known knows), tt);
-        ended = (passes, tries, stops, ended);
-        left = tt;
-        done = λ over. (subst (λ n. HaveEnded way m input n old new → new ≡ old) (sym (none_done passes tries over)) (λ same. same)) ended;
+        refused = tt;
+        done = λ over. (subst (λ n. PassesEnd way m input n old new → new ≡ old) (sym (none_done passes tries over)) (λ same. same.1)) ended;
       }
 
   -- and one that fails
-  pub search_left :
-      {T : Type 0} (e : SearchError) (old new : CacheView) → IsSoundOf old.store m → LeavesProgress way m input old new e
-      → IsSearchEffect {T = T} way m input old new (Err e)
-  search_left e old new sound (passes, mid, tries, ended, left) =
-      let f = spans_follow passes old mid sound (λ k less. tries k (omega (arith, less))) ended in
+  search_fails : (e : SearchError) (old new : CacheView) → SearchFails way m input old new e → SearchFollows way m input old new (Some e)
+  search_fails e old new (passes, mid, tries, ended, left) =
+      let f = spans_follow passes old mid (λ k less. tries k (omega (arith, less))) ended in
       let pass = pass_left way m (later way passes input) mid new f.sound {T = Unit {0}} e left in
       let last = tries passes (omega arith) in
       let whole = grown_trans old mid new f.grown pass.grown in
+      let cost : IsCostOfSearch way m input old new = (suc passes, cost_of (suc passes) old new tries whole (counts passes old mid new last f pass)) in
       record {
-        cost = (suc passes, cost_of (suc passes) old new tries whole (counts passes old mid new last f pass));
+        cost = cost;
+        once = once old new cost whole;
+        most = cost_all way m input old new cost;
         grown = whole;
-        learned = λ nothing. tt;
+        learned = λ nothing ok. absurd (some_none ok);
         known = λ knows. (
             let here = pass.known (idle passes old mid new last f knows) in
             (whole.idle (here.0.0 ∙ f.known knows), here.1));
-        ended = tt;
-        left = (passes, mid, tries, ended, left);
+        refused = fails_refused way m input old new e (passes, mid, tries, ended, left);
         done = λ over. absurd (none_tried (none_done (suc passes) tries over));
       }
     where
       none_tried : suc passes ≡ 0 → ⊥
       none_tried e = omega (arith, e)
 
-  pub search_follows :
-      {T : Type 0} (old new : CacheView) (result : Result T SearchError) → IsSoundOf old.store m
-      → IsSearchRun way m input old new result → IsSearchEffect way m input old new result
-  search_follows old new (Ok answer) sound run = search_ended answer old new sound run.ended
-  search_follows old new (Err e) sound run = search_left e old new sound run.left
-
--- a forward search with an answer costs its passes up to the span that gave it
-pub cost_upto :
-    (m : Machine) (input : Input) (old new : CacheView) → IsSoundOf old.store m → (result : Result (Option (HalfMatch × ℕ)) SearchError)
-    → IfOk result (λ o. IfSome o (λ p. HaveTried Forward m input (p.1 - input.start + 1) old new))
-    → IfOk result (λ o. IfSome o (λ p. IsCostUpto m input p.1 old new))
-cost_upto m input old new sound (Ok None) tried = tt
-cost_upto m input old new sound (Ok (Some p)) tried = cost_ended Forward m input (p.1 - input.start + 1) old new sound tried.0 tried.1
-cost_upto m input old new sound (Err e) tried = tt
+pub searches_follow : SearchesFollow
+searches_follow way m input old new None run = search_ends way m input old new run.run
+searches_follow way m input old new (Some e) run = search_fails way m input e old new run.run

@@ -10,11 +10,9 @@ use Rattle.automata_base.specs.Haystacks.Tapes.{is_split}
 use Rattle.automata_base.specs.declared.util.search.Direction.{Direction}
 use Rattle.automata_base.specs.Answers.OfPasses.{ReportsOver, IsReported, reported_over}
 use Rattle.automata_base.proofs.Answers.Turning.{turn_answers}
-use Rattle.automata_config.specs.declared.error.SearchError.{SearchError}
-use Rattle.automata_hybrid.specs.Cache.Stores.{Stored}
 use Rattle.automata_hybrid.specs.Machines.Machine.{Machine}
 use Rattle.automata_hybrid.specs.Searches.PassState.{half_of, found_over}
-use Rattle.automata_hybrid.specs.Searches.Passes.{Finds, Skips, IsFound, IsRefused, IsPassRefusal, MeetsNoQuit}
+use Rattle.automata_hybrid.specs.Searches.Passes.{Finds, Skips, IsFound, MeetsNoQuit}
 use Rattle.automata_hybrid.specs.Searches.Passes.{with_base}
 use Rattle.automata_hybrid.proofs.Searches.PassState.{false_true, half_none}
 use Rattle.automata_config.specs.Options.{match_kind_of}
@@ -136,11 +134,6 @@ module _ (way : Direction) (m : Machine) (input now : Input) (k : ℕ) (same : n
     go : (j ≡ 0) ⊎ (Skips m × (input.anchored ≡ No)) → ⊥
     go (inl z) = omega (arith, z, less)
     go (inr skips) = anchored skips.1
-
-  -- or it failed
-  pub refuses :
-      (c : Stored) (e : SearchError) → IsPassRefusal way m c now e → IsRefused way m c input e
-  refuses c e r = (k, tries, within, subst (λ i. IsPassRefusal way m c i e) same r)
 
 -- no span is left
 pub finds_no_more :

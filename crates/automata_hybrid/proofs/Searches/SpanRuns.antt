@@ -1,6 +1,7 @@
 -- What a search makes of its cache, span after span.
-use Rattle.std.proofs.Common.{ℕ, suc, ◌≡◌, ◌+◌, ◌<◌, ◌≤◌, subst, arith}
-use Rattle.std.specs.Prelude.{Ok, Err}
+use Rattle.std.proofs.Common.{ℕ, suc, ◌≡◌, ◌+◌, ◌<◌, ◌≤◌, None, Some, subst, arith}
+use Rattle.std.specs.Prelude.{Result, Ok, Err, IfErr, OnOk}
+use Rattle.std.specs.Result.{result_err}
 use Rattle.automata_base.specs.Answers.Answers.{Tries, later}
 use Rattle.automata_base.specs.Haystacks.Input.{Input}
 use Rattle.automata_base.specs.declared.util.search.Direction.{Direction}
@@ -8,46 +9,42 @@ use Rattle.automata_config.specs.declared.error.SearchError.{SearchError}
 use Rattle.automata_hybrid.specs.Cache.Caches.{CacheView}
 use Rattle.automata_hybrid.specs.Machines.Machine.{Machine}
 use Rattle.automata_hybrid.specs.Searches.Passes.{Finds, Skips}
-use Rattle.automata_hybrid.specs.Searches.Progress.{HasEnded, HaveEnded, HaveTried, IsLeft, IsSearchRun}
+use Rattle.automata_hybrid.specs.Searches.Progress.{PassEnds, PassesEnd, HaveTried, PassFails, IsPassRun, IsSearchRun}
 use Rattle.automata_hybrid.proofs.Searches.Progress.{spans_before, spans_tried}
+
+-- what a pass makes of its cache, by what it returns
+pub result_run :
+    {A : Type 0} (way : Direction) (m : Machine) (input : Input) (old new : CacheView) (r : Result A SearchError)
+    → OnOk r (PassEnds way m input old new) → IfErr r (PassFails way m input old new) → IsPassRun way m input old new (result_err r)
+result_run way m input old new (Ok a) ends fails = ends
+result_run way m input old new (Err e) ends fails = fails
 
 -- a search has made the passes over the spans before the one that begins `k` places later
 module _ (way : Direction) (m : Machine) (input : Input) (k : ℕ) (tries : Tries (Finds way m) (Skips m) way input k)
-    (old between : CacheView) (ended : HaveEnded way m input k old between) where
+    (old between : CacheView) (ended : PassesEnd way m input k old between) where
   -- and tries no other one
-  pub run_before : {T : Type 0} (answer : T) → input.end < input.start + k → IsSearchRun way m input old between (Ok answer)
-  run_before answer past = record {
-    ended = (k, spans_before way m input k tries, (λ next. omega (arith, past, next.1)), ended);
-    left = tt;
-  }
+  pub run_before : input.end < input.start + k → IsSearchRun way m input old between None
+  run_before past = record { run = (k, spans_before way m input k tries, (λ next. omega (arith, past, next.1)), ended) }
 
   -- and the pass over it
   module _ (now : Input) (same : now ≡ later way k input) (within : input.start + k ≤ input.end) (new : CacheView) where
-    pub spans_ended : HasEnded way m now between new → HaveEnded way m input (suc k) old new
-    spans_ended pass = (between, ended, subst (λ (i : Input). HasEnded way m i between new) same pass)
+    pub spans_ended : PassEnds way m now between new → PassesEnd way m input (suc k) old new
+    spans_ended pass = (between, ended, subst (λ (i : Input). PassEnds way m i between new) same pass)
 
-    pub spans_run : HasEnded way m now between new → HaveTried way m input (suc k) old new
+    pub spans_run : PassEnds way m now between new → HaveTried way m input (suc k) old new
     spans_run pass = (spans_tried way m input k tries within, spans_ended pass)
 
     -- which is the last one
     pub run_after :
-        {T : Type 0} (answer : T) → HasEnded way m now between new
+        PassEnds way m now between new
         → ((j : ℕ) → suc k ≤ j → Tries (Finds way m) (Skips m) way input j → input.start + j ≤ input.end → ⊥)
-        → IsSearchRun way m input old new (Ok answer)
-    run_after answer pass stops = record {
-      ended = (suc k, spans_tried way m input k tries within, (λ next. stops (suc k) (omega arith) next.0 next.1), spans_ended pass);
-      left = tt;
+        → IsSearchRun way m input old new None
+    run_after pass stops = record {
+      run = (suc k, spans_tried way m input k tries within, (λ next. stops (suc k) (omega arith) next.0 next.1), spans_ended pass);
     }
 
     -- which failed
-    pub run_refused : {T : Type 0} (e : SearchError) → IsLeft way m now between new e → IsSearchRun {T = T} way m input old new (Err e)
+    pub run_refused : (e : SearchError) → PassFails way m now between new e → IsSearchRun way m input old new (Some e)
     run_refused e left = record {
-      ended = tt;
-      left = (
-        k,
-        between,
-        spans_tried way m input k tries within,
-        ended,
-        subst (λ (i : Input). IsLeft way m i between new e) same left,
-      );
+      run = (k, between, spans_tried way m input k tries within, ended, subst (λ (i : Input). PassFails way m i between new e) same left);
     }

@@ -1,6 +1,6 @@
--- What a search answers by its DFA and its input alone, whatever the cache, and what it makes of its cache.
+-- What a search answers by its DFA and its input alone, whatever the cache.
 use Rattle.std.specs.Prelude.{ℕ, ◌≡◌, ◌<◌, ◌≤◌, true, false, Option, None, option_map, Result, Ok, Err, IfOk}
-use Rattle.std.specs.Prelude.{IfErr, IfSome, OnOk}
+use Rattle.std.specs.Prelude.{IfErr, IfSome}
 use Rattle.automata_base.specs.Answers.Answers.{Half, IsAnswer}
 use Rattle.automata_base.specs.Nfas.Engines.{engine_of}
 use Rattle.automata_base.specs.Haystacks.Input.{Input}
@@ -14,12 +14,7 @@ use Rattle.automata_base.specs.declared.util.search.MatchErrorKind.TheVariants.{
 use Rattle.automata_base.specs.declared.util.search.MatchKind.TheVariants.{All as KindAll}
 use Rattle.automata_config.specs.declared.error.SearchError.{SearchError}
 use Rattle.automata_config.specs.declared.error.SearchError.TheVariants as search
-use Rattle.automata_hybrid.specs.Cache.Caches.{CacheView}
-use Rattle.automata_hybrid.specs.Searches.Costs.{IsCostOfSearch}
-use Rattle.automata_hybrid.specs.Cache.Growth.{ClearedNothing, IsGrown, IsStill}
-use Rattle.automata_hybrid.specs.Searches.Cached.{IsOfInput, Knows}
 use Rattle.automata_hybrid.specs.Machines.Machine.{Machine}
-use Rattle.automata_hybrid.specs.Searches.Progress.{EndsProgress, LeavesProgress}
 use Rattle.automata_hybrid.specs.Searches.Passes.{NoQuitInReach, WithoutBase, tape_in, with_base}
 use Rattle.automata_hybrid.specs.Machines.StartSlots.{supports}
 use Rattle.automata_hybrid.specs.Steps.Starts.{quit_behind}
@@ -85,21 +80,3 @@ halves (Err e) = Err e
 abbrev pub IsBased : Machine → Input → Result (Option (HalfMatch × ℕ)) SearchError → Type 0
 IsBased m input result =
     IsAnswered (λ P o. P (based_half o)) (λ o. IfSome o (λ p. LiesPast m input p.0 p.1)) Forward m input result
-
--- what a search in a direction makes of its cache
-pub record IsSearchEffect {T : Type 0} (way : Direction) (m : Machine) (input : Input) (old new : CacheView)
-    (result : Result T SearchError) : Type 0 where
-  -- a pass over n bytes determinizes at most n + 2 times, and each is over another span that is tried: one, if no place
-  -- is skipped or the search is anchored; nothing is cleared if there is room for as many states
-  pub cost : IsCostOfSearch way m input old new
-  -- until the next clear nothing is lost
-  pub grown : IsGrown old new
-  -- and all that it used is cached
-  pub learned : ClearedNothing old.store new.store → OnOk result (Knows way m new.store input)
-  -- with all that cached, it fails because of its input alone, and changes nothing but the progress
-  pub known : Knows way m old.store input → IsStill old new × IfErr result IsOfInput
-  -- the searched bytes, and the search that is open: what its passes leave one after another
-  pub ended : OnOk result (EndsProgress way m input old new)
-  pub left : IfErr result (LeavesProgress way m input old new)
-  -- with a span that is done, nothing at all
-  pub done : input.end < input.start → new ≡ old

@@ -1,6 +1,6 @@
 -- What the passes of a search make of their cache: their events, unit by unit, up to one that fails.
 use Rattle.std.specs.Prelude.{ℕ, zero, suc, ◌≡◌, ◌<◌, ◌≤◌, ◌+◌, ◌-◌, ◌⊎◌, List, [], ◌∷◌, ◌++◌, length}
-use Rattle.std.specs.Prelude.{Result, IfErr, OnOk}
+use Rattle.std.specs.Prelude.{Option, None, Some, MatchOption}
 use Rattle.automata_base.specs.Answers.Answers.{Tries, later, offset_in}
 use Rattle.automata_base.specs.Haystacks.Input.{Input}
 use Rattle.automata_base.specs.Paths.Paths.{next}
@@ -8,7 +8,7 @@ use Rattle.automata_base.specs.declared.util.search.Direction.{Direction}
 use Rattle.automata_base.specs.declared.util.search.Direction.TheVariants.{Forward, Backward}
 use Rattle.automata_config.specs.declared.error.SearchError.{SearchError}
 use Rattle.automata_hybrid.specs.declared.dfa.progress.Searched.{Searched}
-use Rattle.automata_hybrid.specs.Cache.Caches.{CacheView}
+use Rattle.automata_hybrid.specs.Cache.Caches.{CacheView, IsSoundOf}
 use Rattle.automata_hybrid.specs.Cache.Progress.{progress_finished}
 use Rattle.automata_hybrid.specs.Calls.Events.{Begin, DoAll, Does, End, Event, Fails, IsStepLeft, Move, Start, Step}
 use Rattle.automata_hybrid.specs.Calls.Events.{with_progress}
@@ -124,15 +124,15 @@ HasNoStart way m input old new =
     × ((MayStart m input.anchored (tape_in way input).before → ⊥) → new ≡ old)
 
 -- a pass has ended
-abbrev pub HasEnded : Direction → Machine → Input → (old new : CacheView) → Type 0
-HasEnded way m input old new =
+abbrev pub PassEnds : Direction → Machine → Input → (old new : CacheView) → Type 0
+PassEnds way m input old new =
     (begun : CacheView) × HasItsStart way m input old begun
     × ((KeepsNone way input × EndsStill way m input begun new)
     ⊎ ((KeepsNone way input → ⊥) × EndsAtLast way m input (with_search_begun way input 0 begun) new))
 
 -- a pass failed: at its start, or at a unit
-abbrev pub IsLeft : Direction → Machine → Input → (old new : CacheView) → SearchError → Type 0
-IsLeft way m input old new e =
+abbrev pub PassFails : Direction → Machine → Input → (old new : CacheView) → SearchError → Type 0
+PassFails way m input old new e =
     (IsStartRefusalAt m new.store input.anchored (tape_in way input).before
     (behind_offset way input) (offset_in way input 0) e × HasNoStart way m input old new)
     ⊎ ((begun : CacheView) × HasItsStart way m input old begun
@@ -140,11 +140,10 @@ IsLeft way m input old new e =
     × IsStillLeft way m input begun new)
     ⊎ ((KeepsNone way input → ⊥) × IsStoppedAt way m input (with_search_begun way input 0 begun) new e)))
 
--- what a pass makes of its cache, by what it returns
-pub record IsPassRun {T : Type 0} (way : Direction) (m : Machine) (input : Input) (old new : CacheView)
-    (result : Result T SearchError) : Type 0 where
-  pub ended : OnOk result (HasEnded way m input old new)
-  pub left : IfErr result (IsLeft way m input old new)
+-- what a pass makes of its cache, by the error that it returns, if it fails
+abbrev pub IsPassRun : Direction → Machine → Input → (old new : CacheView) → Option SearchError → Type 0
+IsPassRun way m input old new None = PassEnds way m input old new
+IsPassRun way m input old new (Some e) = PassFails way m input old new e
 
 -- a search tries the span that begins so many places later, which is not done
 abbrev pub TriesSpan : Direction → Machine → Input → (k : ℕ) → Type 0
@@ -154,30 +153,29 @@ TriesSpan way m input k = Tries (Finds way m) (Skips m) way input k × (input.st
 abbrev pub TriesSpans : Direction → Machine → Input → (passes : ℕ) → Type 0
 TriesSpans way m input passes = (k : ℕ) → k < passes → TriesSpan way m input k
 
--- so many passes of a search have ended, one after another
-abbrev pub HaveEnded : Direction → Machine → Input → (passes : ℕ) → (old new : CacheView) → Type 0
-HaveEnded way m input zero old new = new ≡ old
-HaveEnded way m input (suc passes) old new =
-    (mid : CacheView) × HaveEnded way m input passes old mid × HasEnded way m (later way passes input) mid new
+-- so many passes of a search have ended, one after another, over a cache of the DFA
+abbrev pub PassesEnd : Direction → Machine → Input → (passes : ℕ) → (old new : CacheView) → Type 0
+PassesEnd way m input zero old new = IsSoundOf old.store m × (new ≡ old)
+PassesEnd way m input (suc passes) old new =
+    (mid : CacheView) × PassesEnd way m input passes old mid × PassEnds way m (later way passes input) mid new
 
 -- over as many spans that it tries
 abbrev pub HaveTried : Direction → Machine → Input → (passes : ℕ) → (old new : CacheView) → Type 0
-HaveTried way m input passes old new = TriesSpans way m input passes × HaveEnded way m input passes old new
+HaveTried way m input passes old new = TriesSpans way m input passes × PassesEnd way m input passes old new
 
 -- a search that answers has ended the passes over all the spans that it tries
-abbrev pub EndsProgress : Direction → Machine → Input → (old new : CacheView) → Type 0
-EndsProgress way m input old new =
+abbrev pub SearchEnds : Direction → Machine → Input → (old new : CacheView) → Type 0
+SearchEnds way m input old new =
     (passes : ℕ) × TriesSpans way m input passes × (TriesSpan way m input passes → ⊥)
-    × HaveEnded way m input passes old new
+    × PassesEnd way m input passes old new
 
 -- a search that fails has ended some passes, and the next one failed
-abbrev pub LeavesProgress : Direction → Machine → Input → (old new : CacheView) → SearchError → Type 0
-LeavesProgress way m input old new e =
-    (passes : ℕ) × (mid : CacheView) × TriesSpans way m input (suc passes) × HaveEnded way m input passes old mid
-    × IsLeft way m (later way passes input) mid new e
+abbrev pub SearchFails : Direction → Machine → Input → (old new : CacheView) → SearchError → Type 0
+SearchFails way m input old new e =
+    (passes : ℕ) × (mid : CacheView) × TriesSpans way m input (suc passes) × PassesEnd way m input passes old mid
+    × PassFails way m (later way passes input) mid new e
 
--- what a search makes of its cache, by what it returns
-pub record IsSearchRun {T : Type 0} (way : Direction) (m : Machine) (input : Input) (old new : CacheView)
-    (result : Result T SearchError) : Type 0 where
-  pub ended : OnOk result (EndsProgress way m input old new)
-  pub left : IfErr result (LeavesProgress way m input old new)
+-- what a search makes of its cache, by the error that it returns, if it fails
+pub record IsSearchRun (way : Direction) (m : Machine) (input : Input) (old new : CacheView)
+    (error : Option SearchError) : Type 0 where
+  pub run : MatchOption error (SearchEnds way m input old new) (SearchFails way m input old new)

@@ -1,14 +1,14 @@
 //! Searches for one end of a match: one span after another, as long as offsets inside a character are skipped.
-ghost use Rattle.std.specs.Prelude.{◌≡◌, ◌+◌, ◌-◌, ◌<◌, IfOk, IfErr, IfSome};
+ghost use Rattle.std.specs.Prelude.{◌≡◌, ◌+◌, ◌-◌, ◌<◌, IfOk, IfSome};
 ghost use Rattle.std.specs.Prelude.{None, Err, Ok};
+ghost use Rattle.std.specs.Result.{result_err};
 ghost use Rattle.automata_base.specs.declared.util.search.Direction.TheVariants.{Forward, Backward};
 ghost use Rattle.automata_hybrid.specs.Cache.Caches.{IsCacheOf};
-ghost use Rattle.automata_hybrid.specs.Searches.Costs.{IsCostUpto};
-ghost use Rattle.automata_hybrid.specs.Searches.Contracts.{IsBased, IsHalf, IsSearchEffect, IsUnsupported, based_half};
+ghost use Rattle.automata_hybrid.specs.Searches.Contracts.{IsBased, IsHalf, IsUnsupported, based_half};
 ghost use Rattle.automata_hybrid.specs.Searches.Contracts.{halves};
 ghost use Rattle.automata_hybrid.specs.Searches.Contracts.{unsupported_error};
 ghost use Rattle.automata_hybrid.specs.Searches.PassContracts.{MayBegin, input_at};
-ghost use Rattle.automata_hybrid.specs.Searches.Passes.{IsFound, IsRefused, WithoutBase};
+ghost use Rattle.automata_hybrid.specs.Searches.Passes.{IsFound, WithoutBase};
 ghost use Rattle.automata_hybrid.specs.Searches.Progress.{HaveTried, IsSearchRun};
 
 use crate::dfa::DFA;
@@ -55,13 +55,12 @@ impl DFA {
         requires { IsCacheOf cache.old self.now }
         ensures of { IsCacheOf cache.new self.now }
 
-        // What it returns by paths, and by passes, whatever the cache; and why it fails.
+        // What it returns by paths, and by passes, whatever the cache.
         ensures half { IsHalf Forward self.now input.now result }
         ensures found { IfOk result (WithoutBase (IsFound Forward self.now input.now)) }
-        ensures refusal { IfErr result (IsRefused Forward self.now cache.new.store input.now) }
 
-        // What it does to the cache.
-        ensures effect { IsSearchEffect Forward self.now input.now cache.old cache.new result }
+        // What it does to the cache, and why it fails.
+        ensures effect { IsSearchRun Forward self.now input.now cache.old cache.new (result_err result) }
     {
         match self.try_search_fwd_base(cache, input)? {
             Some((half, _)) => Ok(Some(half)),
@@ -80,18 +79,18 @@ impl DFA {
         requires { IsCacheOf cache.old self.now }
         ensures of { IsCacheOf cache.new self.now }
 
-        // What it returns by paths, and by passes, whatever the cache; and why it fails.
+        // What it returns by paths, and by passes, whatever the cache.
         ensures based { IsBased self.now input.now result }
         ensures found { IfOk result (λ o. IsFound Forward self.now input.now (based_half o)) }
-        ensures refusal { IfErr result (IsRefused Forward self.now cache.new.store input.now) }
 
-        // What it does to the cache; with an answer it makes no pass after the one over the span that gave it.
-        ensures effect { IsSearchEffect Forward self.now input.now cache.old cache.new result }
-        ensures upto { IfOk result (λ o. IfSome o (λ p. IsCostUpto self.now input.now p.1 cache.old cache.new)) }
+        // What it does to the cache, and why it fails; with an answer it makes no pass after the one over the span that
+        // gave it.
+        ensures effect { IsSearchRun Forward self.now input.now cache.old cache.new (result_err result) }
+        ensures upto { IfOk result (λ o. IfSome o (λ p. HaveTried Forward self.now input.now
+            (p.1 - input.now.start + 1) cache.old cache.new)) }
     {
         reported_is_right(self.get_nfa());
         let _haystack = input.haystack();
-        cache.see_bounds();
         self.search(cache, input, Direction::Forward)
     }
 
@@ -115,17 +114,15 @@ impl DFA {
         requires { IsCacheOf cache.old self.now }
         ensures of { IsCacheOf cache.new self.now }
 
-        // What it returns by paths, and by passes, whatever the cache; and why it fails.
+        // What it returns by paths, and by passes, whatever the cache.
         ensures half { IsHalf Backward self.now input.now result }
         ensures found { IfOk result (WithoutBase (IsFound Backward self.now input.now)) }
-        ensures refusal { IfErr result (IsRefused Backward self.now cache.new.store input.now) }
 
-        // What it does to the cache.
-        ensures effect { IsSearchEffect Backward self.now input.now cache.old cache.new result }
+        // What it does to the cache, and why it fails.
+        ensures effect { IsSearchRun Backward self.now input.now cache.old cache.new (result_err result) }
     {
         reported_is_right(self.get_nfa());
         let _haystack = input.haystack();
-        cache.see_bounds();
         let found = self.search(cache, input, Direction::Backward);
         without_base(found)
     }
@@ -141,8 +138,7 @@ impl DFA {
         requires { IsCacheOf cache.old self.now }
         ensures of { IsCacheOf cache.new self.now }
         ensures found { IfOk result (λ o. IsFound way self.now input.now (based_half o)) }
-        ensures refusal { IfErr result (IsRefused way self.now cache.new.store input.now) }
-        ensures effect { IsSearchRun way self.now input.now cache.old cache.new result }
+        ensures effect { IsSearchRun way self.now input.now cache.old cache.new (result_err result) }
         ensures upto { way ≡ Forward
             → IfOk result (λ o. IfSome o (λ p. HaveTried Forward self.now input.now (p.1 - input.now.start + 1)
             cache.old cache.new)) }
@@ -150,6 +146,7 @@ impl DFA {
             → result ≡ Err (unsupported_error input.now) }
         ensures done { input.now.end < input.now.start → result ≡ Ok None }
     {
+        cache.see_bounds();
         if self.skips() {
             return match self.search_skipping(
                 cache,
@@ -189,10 +186,8 @@ impl DFA {
         ensures of { IsCacheOf cache.new self.now }
         ensures found { IfOk result (λ o. IsFound way self.now
             (input_at haystack.now span anchored earliest) (based_half o)) }
-        ensures refusal { IfErr result (IsRefused way self.now cache.new.store
-            (input_at haystack.now span anchored earliest)) }
         ensures effect { IsSearchRun way self.now
-            (input_at haystack.now span anchored earliest) cache.old cache.new result }
+            (input_at haystack.now span anchored earliest) cache.old cache.new (result_err result) }
         ensures upto { way ≡ Forward
             → IfOk result (λ o. IfSome o (λ p. HaveTried Forward self.now
             (input_at haystack.now span anchored earliest) (p.1 - span.start + 1) cache.old cache.new)) }
@@ -218,8 +213,7 @@ impl DFA {
         requires { IsCacheOf cache.old self.now }
         ensures of { IsCacheOf cache.new self.now }
         ensures found { IfOk result (λ o. IsFound way self.now input.now (based_half o)) }
-        ensures refusal { IfErr result (IsRefused way self.now cache.new.store input.now) }
-        ensures effect { IsSearchRun way self.now input.now cache.old cache.new result }
+        ensures effect { IsSearchRun way self.now input.now cache.old cache.new (result_err result) }
         ensures upto { way ≡ Forward
             → IfOk result (λ o. IfSome o (λ p. HaveTried Forward self.now input.now (p.1 - input.now.start + 1)
             cache.old cache.new)) }
@@ -227,6 +221,7 @@ impl DFA {
             → result ≡ Err (unsupported_error input.now) }
         ensures done { input.now.end < input.now.start → result ≡ Ok None }
     {
+        cache.see_bounds();
         let mut later = input.copied();
         while !later.is_done() {
             // No `?`: it sends each value through memory, also where there is no error.

@@ -1,6 +1,7 @@
 //! One run over the span of an input, in either direction.
 ghost use Rattle.std.specs.Prelude.{◌≡◌, ◌-◌, ◌<◌, ◌≤◌, IfOk, IfErr, OnOk};
 ghost use Rattle.std.specs.Prelude.{None, Err};
+ghost use Rattle.std.specs.Result.{result_err};
 ghost use Rattle.automata_base.specs.Haystacks.Input.{Allows};
 ghost use Rattle.automata_base.specs.Paths.Paths.{next};
 ghost use Rattle.automata_base.specs.Powersets.Powerset.{Powerset, dead};
@@ -12,7 +13,7 @@ ghost use Rattle.automata_hybrid.specs.Searches.PassContracts.{IsUnderway, input
 ghost use Rattle.automata_hybrid.specs.Searches.PassState.{HasRun, IsAt, IsMet};
 ghost use Rattle.automata_hybrid.specs.Searches.Units.{IsEndProgress, IsStillProgress};
 ghost use Rattle.automata_hybrid.specs.Searches.Progress.{EndsAtLast, IsPassRun, IsStoppedAt, KeepsNone};
-ghost use Rattle.automata_hybrid.specs.Searches.Passes.{IsPassRefusal, IsUnitRefusal};
+ghost use Rattle.automata_hybrid.specs.Searches.Passes.{IsUnitRefusal};
 ghost use Rattle.automata_hybrid.specs.Cache.Table.{Names};
 
 use crate::dfa::DFA;
@@ -79,10 +80,9 @@ impl DFA {
         requires open { input.now.start ≤ input.now.end }
         ensures of { IsCacheOf cache.new self.now }
         ensures answer { IfOk result (IsPassAnswer way self.now input.now) }
-        ensures refusal { IfErr result (IsPassRefusal way self.now cache.new.store input.now) }
         ensures unsupported { IsUnsupported way self.now input.now
             → result ≡ Err (unsupported_error input.now) }
-        ensures effect { IsPassRun way self.now input.now cache.old cache.new result }
+        ensures effect { IsPassRun way self.now input.now cache.old cache.new (result_err result) }
     {
         cache.see_bounds();
         let start = self.known_start(cache, input, way);
@@ -139,12 +139,10 @@ impl DFA {
         ensures of { IsCacheOf cache.new self.now }
         ensures answer { IfOk result (IsPassAnswer way self.now
             (input_at haystack.now span anchored earliest)) }
-        ensures refusal { IfErr result (IsPassRefusal way self.now cache.new.store
-            (input_at haystack.now span anchored earliest)) }
         ensures unsupported { let input = input_at haystack.now span anchored earliest in
             IsUnsupported way self.now input → result ≡ Err (unsupported_error input) }
         ensures effect { IsPassRun way self.now
-            (input_at haystack.now span anchored earliest) cache.old cache.new result }
+            (input_at haystack.now span anchored earliest) cache.old cache.new (result_err result) }
     {
         let own = input_of(haystack, span, anchored, earliest);
         self.begin(cache, &own, way)
@@ -162,10 +160,9 @@ impl DFA {
         requires open { input.now.start ≤ input.now.end }
         ensures of { IsCacheOf cache.new self.now }
         ensures answer { IfOk result (IsPassAnswer way self.now input.now) }
-        ensures refusal { IfErr result (IsPassRefusal way self.now cache.new.store input.now) }
         ensures unsupported { IsUnsupported way self.now input.now
             → result ≡ Err (unsupported_error input.now) }
-        ensures effect { IsPassRun way self.now input.now cache.old cache.new result }
+        ensures effect { IsPassRun way self.now input.now cache.old cache.new (result_err result) }
     {
         cache.see_bounds();
         let start = match self.walk_start(cache, input, way) {
@@ -268,8 +265,6 @@ impl DFA {
         ensures of { IsCacheOf cache.new self.now }
         ensures answer { IfOk result (IsPassAnswer way self.now
             (input_at haystack.now span anchored earliest)) }
-        ensures refusal { IfErr result (IsPassRefusal way self.now cache.new.store
-            (input_at haystack.now span anchored earliest)) }
         ensures ended { OnOk result (EndsAtLast way self.now
             (input_at haystack.now span anchored earliest) cache.old cache.new) }
         ensures left { IfErr result (IsStoppedAt way self.now
@@ -298,7 +293,6 @@ impl DFA {
         requires at { IsKnownUpto way self.now cache.old.store input.now from start before }
         ensures of { IsCacheOf cache.new self.now }
         ensures answer { IfOk result (IsPassAnswer way self.now input.now) }
-        ensures refusal { IfErr result (IsPassRefusal way self.now cache.new.store input.now) }
         ensures ended { OnOk result (EndsAtLast way self.now input.now cache.old cache.new) }
         ensures left { IfErr result (IsStoppedAt way self.now input.now cache.old cache.new) }
     {

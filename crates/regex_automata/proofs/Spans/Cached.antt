@@ -1,12 +1,10 @@
 -- What is cached from item to item.
-use Rattle.std.proofs.Common.{ℕ, suc, ◌≡◌, ◌∙◌, ◌≤◌, length, Option, Some, None, refl, sym, ap, subst, arith}
-use Rattle.std.specs.Prelude.{Result, Ok, Err, IfErr, OnOk}
+use Rattle.std.proofs.Common.{ℕ, ◌≡◌, ◌∙◌, ◌≤◌, length, Option, Some, None, refl, sym, ap, subst, arith}
 use Rattle.automata_base.specs.Answers.Answers.{Half, IsInput}
 use Rattle.automata_base.specs.Haystacks.Input.{Input}
 use Rattle.automata_base.specs.Haystacks.Matches.{Match}
-use Rattle.automata_base.specs.Answers.Spans.{IsEmptyAt, back, from}
+use Rattle.automata_base.specs.Answers.Spans.{IsEmptyAt, back}
 use Rattle.automata_base.specs.declared.util.search.Direction.TheVariants.{Backward, Forward}
-use Rattle.automata_config.specs.declared.error.SearchError.{SearchError}
 use Rattle.automata_hybrid.specs.Cache.Stores.{Stored, with_searched}
 use Rattle.automata_hybrid.specs.Cache.Caches.{CacheView}
 use Rattle.automata_hybrid.specs.Cache.Growth.{IsStill}
@@ -15,10 +13,10 @@ use Rattle.automata_hybrid.specs.Searches.Passes.{IsFound}
 use Rattle.automata_hybrid.proofs.Cache.Growth.{nothing_first, nothing_second}
 use Rattle.automata_hybrid.proofs.Searches.Bounds.{found_within}
 use Rattle.regex_automata.specs.Spans.Agreement.{AreAlike, MatchesAgree}
-use Rattle.regex_automata.specs.Spans.Iteration.{FindsEmptyAt, KnowsNext}
+use Rattle.regex_automata.specs.Spans.Follows.{KnowsNext}
+use Rattle.regex_automata.specs.Spans.Iteration.{FindsEmptyAt}
 use Rattle.regex_automata.specs.Spans.Outcomes.{FindsMatch}
 use Rattle.regex_automata.specs.Regexes.Caches.{AreCachesOf, AreGrown, AreStill, KnowsBack, KnowsBoth, NothingCleared}
-use Rattle.regex_automata.specs.Spans.Errors.{IsOfGiven}
 use Rattle.regex_automata.specs.declared.hybrid.regex.Regex.{Regex}
 use Rattle.regex_automata.specs.declared.hybrid.regex.caches.Cache.{Cache}
 use Rattle.automata_base.proofs.Paths.Orders.{none_some, some_inj}
@@ -86,22 +84,3 @@ pub alone :
     (p : Regex) (input : Input) (last : Option ℕ) (c : Cache) → KnowsBoth p c input → (FindsEmptyAt p input last → ⊥)
     → KnowsNext p c input last
 alone p input last c knows only = (knows, λ m found empty. absurd (only (m, found, empty)))
-
--- and what two searches did
-pub next_learned :
-    (p : Regex) (input rest : Input) (last : Option ℕ) (c : Cache) (r : Result (Option Match) SearchError)
-    → rest ≡ from (suc input.start) input → KnowsBoth p c input → OnOk r (KnowsBoth p c rest) → OnOk r (KnowsNext p c input last)
-next_learned p input rest last c (Ok o) same knows later =
-    (knows, λ m f empty. subst (λ (i : Input). KnowsBoth p c i) same later)
-next_learned p input rest last c (Err e) same knows later = tt
-
-pub next_known :
-    (p : Regex) (input rest : Input) (last : Option ℕ) (old between new : Cache) (r : Result (Option Match) SearchError) (m : Match)
-    → rest ≡ from (suc input.start) input → FindsMatch p input (Some m) → IsEmptyAt last m → KnowsNext p old input last
-    → AreStill old between → (KnowsBoth p between rest → AreStill between new × IfErr r IsOfGiven)
-    → AreStill old new × IfErr r IsOfGiven
-next_known p input rest last old between new r m same found empty knows still second =
-    let s =
-    second
-    (still_both p old between rest still (subst (λ (i : Input). KnowsBoth p old i) (sym same) (knows.1 m found empty))) in
-    (still_twice old between new still s.0, s.1)

@@ -1,61 +1,30 @@
--- What the search back costs, and what is cached for it.
+-- What the search back finds, and what is cached for it.
 use Rattle.std.specs.Prelude.{IfSome}
-use Rattle.std.proofs.Common.{ℕ, ◌≡◌, ◌∙◌, ◌+◌, ◌-◌, ◌≤◌, inr, length, Option, Some, None, refl, sym, ap, subst, arith}
+use Rattle.std.proofs.Common.{ℕ, ◌≡◌, ◌∙◌, ◌≤◌, length, Option, Some, None, refl, sym, ap, subst, arith}
 use Rattle.std.specs.Option.{option_map}
 use Rattle.automata_base.specs.Answers.Answers.{Half}
 use Rattle.automata_base.specs.Haystacks.Input.{Input}
 use Rattle.automata_base.specs.Haystacks.Matches.{HalfMatch, Match}
-use Rattle.automata_base.specs.Answers.Spans.{IsShort, back}
-use Rattle.automata_base.specs.declared.util.search.Direction.{Direction}
+use Rattle.automata_base.specs.Answers.Spans.{back}
 use Rattle.automata_base.specs.declared.util.search.Direction.TheVariants.{Backward, Forward}
-use Rattle.automata_base.specs.declared.util.search.Anchored.TheVariants.{No, Yes}
 use Rattle.automata_hybrid.specs.Searches.Agreement.{AnswersAgree}
 use Rattle.automata_hybrid.specs.Cache.Caches.{CacheView}
-use Rattle.automata_hybrid.specs.Searches.Costs.{IsCostOfPass, IsCostOfSearch}
-use Rattle.automata_hybrid.specs.Cache.Growth.{IsGrown}
 use Rattle.automata_hybrid.specs.Searches.Cached.{Knows}
 use Rattle.automata_hybrid.specs.Machines.Machine.{Machine}
-use Rattle.automata_hybrid.specs.Searches.Passes.{IsFound, NoQuitInReach, Skips, WithoutBase, with_base}
+use Rattle.automata_hybrid.specs.Searches.Passes.{IsFound, NoQuitInReach, WithoutBase, with_base}
 use Rattle.automata_hybrid.specs.Searches.Bounds.{LiesPast}
-use Rattle.automata_hybrid.proofs.Searches.Costs.{cost_known, cost_once}
-use Rattle.automata_hybrid.proofs.Cache.Growth.{clears_none}
 use Rattle.automata_hybrid.proofs.Searches.Bounds.{found_within}
-use Rattle.regex_automata.specs.Spans.Costs.{IsBackCost}
 use Rattle.regex_automata.specs.Spans.Outcomes.{FindsMatch, IsStartFound, MatchLiesIn}
 use Rattle.regex_automata.specs.Regexes.Caches.{KnowsBack, KnowsBoth}
-use Rattle.regex_automata.specs.Regexes.SoundPairs.{forward_engine}
 use Rattle.regex_automata.specs.declared.hybrid.regex.Regex.{Regex}
 use Rattle.regex_automata.specs.declared.hybrid.regex.caches.Cache.{Cache}
 use Rattle.automata_base.proofs.Paths.Orders.{none_some, some_inj, some_none}
-use Rattle.automata_base.proofs.Answers.Starts.{yes_no}
-
--- an anchored search is one pass
-pub cost_anchored :
-    (way : Direction) (m : Machine) (input : Input) (old new : CacheView) → input.anchored ≡ Yes
-    → IsCostOfSearch way m input old new → IsGrown old new → IsCostOfPass way m input old new
-cost_anchored way m input old new anchored passes grown =
-    let whole : Skips m × (input.anchored ≡ No) → ⊥ = (λ s. yes_no (sym anchored ∙ s.1)) in
-    let once = cost_once way m input old new passes whole in
-    record {
-      counted = once;
-      started = cost_known way m input old new passes whole;
-      room = λ r. clears_none old new (input.end - input.start + 2) grown once r;
-    }
 
 -- nothing is in reach of the search back that was not in reach before
 pub back_reach :
     (m : Machine) (input : Input) (half : Half) → input.start ≤ half.base → half.offset ≤ input.end
     → NoQuitInReach m input → NoQuitInReach m (back input half)
 back_reach m input half from within reach = λ at byte s e n. reach at byte (omega (arith, from, s)) (omega (arith, within, e)) n
-
--- the search back is one pass, from the answer's end to its base
-pub cost_back :
-    (p : Regex) (input rest : Input) (half : Half) (old new : CacheView) → rest ≡ back input half
-    → (IsShort (forward_engine p) input half → ⊥)
-    → IsCostOfSearch Backward p.reverse rest old new → IsGrown old new → IsBackCost p input half old new
-cost_back p input rest half old new same long passes grown =
-    let here = subst (λ (i : Input). IsCostOfSearch Backward p.reverse i old new) same passes in
-    inr (long, cost_anchored Backward p.reverse (back input half) old new refl here grown)
 
 -- what the search back found, as a half match with its base
 pub back_some :

@@ -9,20 +9,20 @@ use Rattle.automata_config.specs.declared.error.SearchError.{SearchError}
 use Rattle.automata_hybrid.specs.Machines.Machine.{Machine}
 use Rattle.regex_automata.specs.Replay.Caches.{AreSearched, AreSearchedLast, AreTokensSearched, IsTokenMade}
 use Rattle.regex_automata.specs.Replay.Caches.{IsTokenSearchedLast}
-use Rattle.regex_automata.specs.Spans.Effects.{IsItemEffect}
+use Rattle.regex_automata.specs.Spans.Runs.{IsItemRun, IsNextRun, item_error}
 use Rattle.regex_automata.specs.Tokens.{match_of}
 use Rattle.regex_automata.specs.declared.hybrid.regex.Regex.{Regex}
 use Rattle.regex_automata.specs.declared.hybrid.regex.caches.Cache.{Cache}
 use Rattle.regex_automata.specs.declared.tokens.error.TokenError.{TokenError}
 use Rattle.regex_automata.specs.declared.tokens.token.Token.{Token}
 
--- what an item does to the caches, of the regex that the loop was given
-pub effect_turn :
+-- what an item makes of the caches, by the regex that the loop was given
+pub run_turn :
     (p q : Regex) (now : Input) (last : Option ℕ) (ended : Bool) (at next : Cache) (item : Option (Result Match SearchError))
-    → p ≡ q → ended ≡ false → IsItemEffect p now last ended at next item → IsItemEffect q now last false at next item
-effect_turn p q now last ended at next item regex going effect =
-    subst (λ (r : Regex). IsItemEffect r now last false at next item) regex
-    (subst (λ b. IsItemEffect p now last b at next item) going effect)
+    → p ≡ q → ended ≡ false → IsItemRun p now last ended at next item → IsNextRun q now last at next (item_error item)
+run_turn p q now last ended at next item regex going run =
+    subst (λ (r : Regex). IsItemRun r now last false at next item) regex
+    (subst (λ b. IsItemRun p now last b at next item) going run)
 
 -- the searches after the matches so far complete those of the list
 abbrev pub Searches :
@@ -33,7 +33,7 @@ Searches p first input found at now last =
 
 pub searches_turn :
     (p : Regex) (first at next : Cache) (input now rest : Input) (last last' : Option ℕ) (found more : List Match) (m : Match)
-    → Searches p first input found at now last → IsItemEffect p now last false at next (Some (Ok m))
+    → Searches p first input found at now last → IsNextRun p now last at next None
     → rest ≡ from m.end now → last' ≡ Some m.end → more ≡ found ++ m ∷ []
     → Searches p first input more next rest last'
 searches_turn p first at next input now rest last last' found more m all effect same past items =

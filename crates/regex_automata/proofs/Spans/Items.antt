@@ -1,19 +1,18 @@
 -- One item after another.
 use Rattle.std.proofs.Common.{ℕ, ◌≡◌, ◌∙◌, ◌+◌, ◌-◌, ◌<◌, ◌≤◌, Bool, true, false, cond, eqb, eq-eqb, eqb-true, Option}
 use Rattle.std.proofs.Common.{Some, None, refl, sym, ap, subst, arith}
-use Rattle.std.specs.Prelude.{Result, Ok, Err, IfErr, IfSome, IsOk, length}
+use Rattle.std.specs.Prelude.{Result, Ok, Err, length}
 use Rattle.automata_base.specs.Haystacks.Input.{Input}
 use Rattle.automata_base.specs.Haystacks.Matches.{Match}
 use Rattle.automata_base.specs.Answers.Spans.{from}
 use Rattle.automata_base.specs.declared.util.search.Direction.TheVariants.{Forward}
 use Rattle.automata_config.specs.declared.error.SearchError.{SearchError}
 use Rattle.automata_hybrid.specs.Searches.Contracts.{IsUnsupported, unsupported_error}
-use Rattle.regex_automata.specs.Spans.Iteration.{GivesItem, GoesPast, IsNextMatch, IsNextRefusal, KnowsNext, LearnsItem}
+use Rattle.regex_automata.specs.Spans.Iteration.{GivesItem, GoesPast, IsNextMatch, IsNextRefusal}
 use Rattle.regex_automata.specs.Spans.Iteration.{LiesInHaystack, most_items}
 use Rattle.regex_automata.specs.Spans.Outcomes.{MatchLiesIn}
 use Rattle.regex_automata.specs.Spans.Contracts.{ReportsUnsupported}
-use Rattle.regex_automata.specs.Regexes.Caches.{AreStill, NothingCleared}
-use Rattle.regex_automata.specs.Spans.Errors.{IsOfGiven}
+use Rattle.regex_automata.specs.Spans.Runs.{IsItemRun, IsNextRun, item_error}
 use Rattle.regex_automata.specs.declared.hybrid.regex.Regex.{Regex}
 use Rattle.regex_automata.specs.declared.hybrid.regex.caches.Cache.{Cache}
 use Rattle.regex_automata.proofs.Results.{ok_err, same_err}
@@ -48,19 +47,13 @@ pub gives_error :
 gives_error p c input last true e still refused = absurd (false_true (sym still))
 gives_error p c input last false e still refused = (refused, refl, refl, refl)
 
--- what an item that searches does to what is cached
-pub learns_next :
-    (p : Regex) (old new : Cache) (asked input : Input) (last : Option ℕ) (ended : Bool) (item : Option (Result Match SearchError))
-    → ended ≡ false → asked ≡ input
-    → (KnowsNext p old asked last → AreStill old new × IfSome item (λ r. IfErr r IsOfGiven))
-    → (NothingCleared old new → IfSome item (λ r. IsOk r) → KnowsNext p new asked last)
-    → LearnsItem p old new input last ended item
-learns_next p old new asked input last true item still same known learned = absurd (false_true (sym still))
-learns_next p old new asked input last false item still same known learned =
-    record {
-      known = λ knows. known (subst (λ (i : Input). KnowsNext p old i last) (sym same) knows);
-      learned = λ nothing good. subst (λ (i : Input). KnowsNext p new i last) same (learned nothing good);
-    }
+-- what an item of an iteration that goes on makes of the caches
+pub item_run :
+    (p : Regex) (asked input : Input) (last : Option ℕ) (ended : Bool) (old new : Cache) (item : Option (Result Match SearchError))
+    → ended ≡ false → asked ≡ input → IsNextRun p asked last old new (item_error item) → IsItemRun p input last ended old new item
+item_run p asked input last true old new item going same run = absurd (false_true (sym going))
+item_run p asked input last false old new item going same run =
+    subst (λ (i : Input). IsNextRun p i last old new (item_error item)) same run
 
 -- an item that is no error implies that the anchored mode is supported, and the error of a mode says that it is not
 pub reports_found :

@@ -6,8 +6,7 @@ use Rattle.automata_base.specs.Haystacks.Matches.{Match}
 use Rattle.automata_base.specs.Answers.Spans.{IsEmptyAt, from}
 use Rattle.automata_config.specs.declared.error.SearchError.{SearchError}
 use Rattle.automata_hybrid.proofs.Cache.Growth.{grown_trans}
-use Rattle.regex_automata.specs.Spans.Costs.{AreCostsOf}
-use Rattle.regex_automata.specs.Spans.Iteration.{AreCostsTwice, FindsEmptyAt, GoesPast, IsNextMatch, IsNextRefusal}
+use Rattle.regex_automata.specs.Spans.Iteration.{GoesPast, IsNextMatch, IsNextRefusal}
 use Rattle.regex_automata.specs.Spans.Outcomes.{FindsMatch, MatchLiesIn}
 use Rattle.regex_automata.specs.Regexes.Caches.{AreGrown}
 use Rattle.regex_automata.specs.Spans.Errors.{IsRegexRefusal}
@@ -73,13 +72,6 @@ goes_later p input last (Ok (Some n)) h =
     ((omega (arith, a), b, h.2, h.3), λ same. omega (arith, a, b))
 goes_later p input last (Err e) h = tt
 
--- what two searches cost
-pub costs_twice :
-    (p : Regex) (input rest : Input) (last : Option ℕ) (old between new : Cache) → rest ≡ from (suc input.start) input
-    → FindsEmptyAt p input last → AreCostsOf p input old between → AreCostsOf p rest between new
-    → AreCostsTwice p input last old new
-costs_twice p input rest last old between new same empty first second =
-    inr (empty, (between, first, subst (λ (i : Input). AreCostsOf p i between new) same second))
-
+-- two searches grow the caches as one does
 pub grown_twice : (a b c : Cache) → AreGrown a b → AreGrown b c → AreGrown a c
 grown_twice a b c f g = (grown_trans a.forward b.forward c.forward f.0 g.0, grown_trans a.reverse b.reverse c.reverse f.1 g.1)

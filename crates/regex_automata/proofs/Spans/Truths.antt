@@ -103,12 +103,6 @@ pub asked_from :
 asked_from P m input asked (inl a) f g = subst P (sym a.1) f
 asked_from P m input asked (inr a) f g = subst P (sym a.1) g
 
-pub same_asked : (m : Machine) (input a b : Input) → IsAsked m input a → IsAsked m input b → a ≡ b
-same_asked m input a b (inl f) (inl g) = f.1 ∙ sym g.1
-same_asked m input a b (inl f) (inr g) = absurd (g.0 f.0)
-same_asked m input a b (inr f) (inl g) = absurd (f.0 g.0)
-same_asked m input a b (inr f) (inr g) = f.1 ∙ sym g.1
-
 same_some : (o : Option HalfMatch) (answer : Option Half) → o ≡ option_map without_base answer → is_some o ≡ is_some answer
 same_some o None e = ap (λ (v : Option HalfMatch). is_some v) e
 same_some o (Some half) e = ap (λ (v : Option HalfMatch). is_some v) e

@@ -1,5 +1,5 @@
 -- What the requests of a replay do to its caches, one after another, and how calls over these fail.
-use Rattle.std.specs.Prelude.{ℕ, ◌≡◌, ◌⊎◌, ◌↔◌, ◌<◌, Bool, false, List, [], ◌∷◌, length, Option, Some, None}
+use Rattle.std.specs.Prelude.{ℕ, ◌≡◌, ◌⊎◌, ◌↔◌, ◌<◌, Bool, List, [], ◌∷◌, length, Option, Some, None}
 use Rattle.std.specs.Prelude.{Result, Ok, Err, IfErr, IfOk, OnOk, slice_get}
 use Rattle.std.specs.Result.{result_err}
 use Rattle.automata_base.specs.Haystacks.Input.{Input}
@@ -13,23 +13,22 @@ use Rattle.automata_config.specs.declared.error.SearchError.{SearchError}
 use Rattle.automata_config.specs.declared.error.SearchError.TheVariants as search
 use Rattle.automata_hybrid.specs.Cache.Caches.{CacheView}
 use Rattle.automata_hybrid.specs.Machines.Machine.{Machine}
-use Rattle.automata_hybrid.specs.Searches.Contracts.{IsSearchEffect}
+use Rattle.automata_hybrid.specs.Searches.Progress.{IsSearchRun}
 use Rattle.automata_hybrid.specs.Walks.Progress.{IsSetRun, IsWalkRun}
-use Rattle.automata_hybrid.specs.Searches.Passes.{IsFound, IsRefused, WithoutBase}
+use Rattle.automata_hybrid.specs.Searches.Passes.{IsFound, WithoutBase}
 use Rattle.automata_hybrid.specs.Walks.Answers.{AreWalked, HasReported, IsWalkRefusal, ReportsNext}
 use Rattle.automata_hybrid.specs.Walks.State.{Ended, States, Walk}
 use Rattle.automata_hybrid.specs.Walks.Sets.{IsWhichRefusal}
 use Rattle.regex_automata.specs.Replay.Histories.{Begun, History, after, start}
-use Rattle.regex_automata.specs.Spans.Iteration.{AreCollected, IsNextRefusal}
+use Rattle.regex_automata.specs.Spans.Iteration.{AreCollected, IsNextMatch, IsNextRefusal}
 use Rattle.regex_automata.specs.Spans.Outcomes.{FindsMatch}
-use Rattle.regex_automata.specs.Spans.IsMatch.{IsMatchRefused}
 use Rattle.regex_automata.specs.Regexes.Caches.{AreStoresOf}
 use Rattle.regex_automata.specs.Spans.Contracts.{ArePatternsReported, IsTruthReported, empty_set}
 use Rattle.regex_automata.specs.Regexes.Caches.{AreFresh}
-use Rattle.regex_automata.specs.Spans.Effects.{IsItemEffect, IsSpanEffect, IsTruthEffect}
+use Rattle.regex_automata.specs.Spans.Runs.{IsNextRun, IsSpanRun, IsTruthRun}
 use Rattle.regex_automata.specs.Spans.Errors.{IsRegexRefusal}
 use Rattle.regex_automata.specs.Replay.Replies.{OnHalf, OnPatterns, OnSpan, OnSpans, OnTokens, OnTruth, dfa_of}
-use Rattle.regex_automata.specs.Tokens.{AreTokensReported, IsRefusedAt, IsTokenEffect, match_of}
+use Rattle.regex_automata.specs.Tokens.{AreTokensReported, IsRefusedAt, IsTokenRun, match_of}
 use Rattle.regex_automata.specs.declared.hybrid.regex.Regex.{Regex}
 use Rattle.regex_automata.specs.declared.hybrid.regex.caches.Cache.{Cache}
 use Rattle.regex_automata.specs.declared.replay.requests.Reply.{Reply}
@@ -40,43 +39,43 @@ use Rattle.regex_automata.specs.declared.tokens.error.TokenError.{TokenError}
 use Rattle.regex_automata.specs.declared.tokens.error.TokenError.TheVariants.{Search}
 use Rattle.regex_automata.specs.declared.tokens.token.Token.{Token}
 
--- a search of one DFA over a cache: what its passes report, what it does to the cache, and why it fails
+-- a search of one DFA over a cache: what its passes report, and what it makes of the cache
 abbrev pub IsSearched :
     Direction → Machine → Input → (old new : CacheView) → Result (Option HalfMatch) SearchError → Type 0
 IsSearched way m input old new result =
-    IfOk result (WithoutBase (IsFound way m input)) × IsSearchEffect way m input old new result
-    × IfErr result (IsRefused way m new.store input)
+    IfOk result (WithoutBase (IsFound way m input)) × IsSearchRun way m input old new (result_err result)
 
 -- the same of a search for a span, and of one for whether there is a match
 abbrev pub IsSpanSearched : Regex → Input → (old new : Cache) → Result (Option Match) SearchError → Type 0
 IsSpanSearched p input old new result =
-    IfOk result (FindsMatch p input) × IsSpanEffect p input old new result × IfErr result (IsRegexRefusal p new input)
+    IfOk result (FindsMatch p input) × IsSpanRun p input old new (result_err result)
+    × IfErr result (IsRegexRefusal p new input)
 
 abbrev pub IsTruthSearched : Regex → Input → (old new : Cache) → Result Bool SearchError → Type 0
 IsTruthSearched p input old new result =
-    IfOk result (IsTruthReported p.forward input) × IsTruthEffect p input old new result
-    × IfErr result (IsMatchRefused p.forward new.forward.store input)
+    IfOk result (IsTruthReported p.forward input) × IsTruthRun p input old new (result_err result)
 
 -- the search after the last match of a list, and why that match is the last: there is no further one, the search fails
 -- over these caches, or there is no memory for the list
 abbrev pub AreSearchedLast : Regex → (old new : Cache) → Input → Option ℕ → Option SearchError → Type 0
-AreSearchedLast p old new input last None = IsItemEffect p input last false old new None
+AreSearchedLast p old new input last None = IsNextRun p input last old new None
 AreSearchedLast p old new input last (Some e) =
-    (IsItemEffect p input last false old new (Some (Err e)) × IsNextRefusal p new input last e)
-    ⊎ ((e ≡ search.OutOfMemory) × ((m : Match) × IsItemEffect p input last false old new (Some (Ok m))))
+    (IsNextRun p input last old new (Some e) × IsNextRefusal p new input last e)
+    ⊎ ((e ≡ search.OutOfMemory)
+    × ((m : Match) × IsNextMatch p input last (Some m) × IsNextRun p input last old new None))
 
 -- the searches for a list of matches, one after another, each over the caches that the one before left
 abbrev pub AreSearched : Regex → (old new : Cache) → Input → Option ℕ → List Match → Option SearchError → Type 0
 AreSearched p old new input last [] error = AreSearchedLast p old new input last error
 AreSearched p old new input last (m ∷ ms) error =
-    (next : Cache) × IsItemEffect p input last false old next (Some (Ok m))
+    (next : Cache) × IsNextRun p input last old next None
     × AreSearched p next new (from m.end input) (Some m.end) ms error
 
 -- what the search for a token does to the caches: it leaves the reverse one unchanged
 abbrev pub IsTokenMade :
     Machine → List ℕ → (end place : ℕ) → (old new : Cache) → Option (Result Token TokenError) → Type 0
 IsTokenMade m h end place old new item =
-    IsTokenEffect m h end place old.forward new.forward item × (new.reverse ≡ old.reverse)
+    IsTokenRun m h end place old.forward new.forward item × (new.reverse ≡ old.reverse)
 
 -- the same of tokens
 abbrev pub IsTokenSearchedLast :

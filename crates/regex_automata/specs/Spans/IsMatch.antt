@@ -6,14 +6,8 @@ use Rattle.automata_base.specs.Haystacks.Input.{Input}
 use Rattle.automata_base.specs.Answers.Spans.{in_full}
 use Rattle.automata_base.specs.declared.util.search.Direction.TheVariants.{Forward}
 use Rattle.automata_base.specs.Answers.OfPasses.{IsNearestAnswer, IsReported}
-use Rattle.automata_config.specs.declared.error.SearchError.{SearchError}
-use Rattle.automata_hybrid.specs.Cache.Caches.{CacheView}
-use Rattle.automata_hybrid.specs.Searches.Costs.{IsCostOfSearch}
-use Rattle.automata_hybrid.specs.Cache.Stores.{Stored}
-use Rattle.automata_hybrid.specs.Searches.Cached.{Knows}
 use Rattle.automata_hybrid.specs.Machines.Machine.{Machine}
-use Rattle.automata_hybrid.specs.Searches.Progress.{EndsProgress, LeavesProgress}
-use Rattle.automata_hybrid.specs.Searches.Passes.{IsFound, IsRefused, Skips}
+use Rattle.automata_hybrid.specs.Searches.Passes.{IsFound, Skips}
 use Rattle.automata_config.specs.Options.{match_kind_of}
 
 -- the input, earliest
@@ -39,21 +33,3 @@ abbrev pub IsNearestThere : Machine → Input → Bool → Type 0
 IsNearestThere m input truth =
     (o : Option Half) × IsNearestAnswer Forward (engine_of m.nfa (match_kind_of m.config)) (in_part input) o
     × (truth ≡ is_some o)
-
--- why it fails
-abbrev pub IsMatchRefused : Machine → Stored → Input → SearchError → Type 0
-IsMatchRefused m c input e = (asked : Input) × IsAsked m input asked × IsRefused Forward m c asked e
-
--- all that it uses is cached
-abbrev pub KnowsMatch : Machine → Stored → Input → Type 0
-KnowsMatch m c input = (asked : Input) → IsAsked m input asked → Knows Forward m c asked
-
--- what it costs, and what progress it leaves
-abbrev pub IsMatchCost : Machine → Input → (old new : CacheView) → Type 0
-IsMatchCost m input old new = (asked : Input) × IsAsked m input asked × IsCostOfSearch Forward m asked old new
-
-abbrev pub EndsMatch : Machine → Input → (old new : CacheView) → Type 0
-EndsMatch m input old new = (asked : Input) × IsAsked m input asked × EndsProgress Forward m asked old new
-
-abbrev pub LeavesMatch : Machine → Input → (old new : CacheView) → SearchError → Type 0
-LeavesMatch m input old new e = (asked : Input) × IsAsked m input asked × LeavesProgress Forward m asked old new e

@@ -1,16 +1,14 @@
 -- The matches of an input, one after another.
 use Rattle.std.specs.Prelude.{ℕ, suc, ◌≡◌, ◌+◌, ◌-◌, ◌<◌, ◌≤◌, ◌⊎◌, ◌==◌, Bool, true, false, cond, List}
 use Rattle.std.specs.Prelude.{◌++◌, length}
-use Rattle.std.specs.Prelude.{Option, None, Some, Result, Ok, Err, IfErr, IfOk, IfSome, IsOk, MatchOption}
+use Rattle.std.specs.Prelude.{Option, None, Some, Result, Ok, Err, IfOk, IfSome, MatchOption}
 use Rattle.automata_base.specs.Haystacks.Input.{Input}
 use Rattle.automata_base.specs.Haystacks.Matches.{Match}
 use Rattle.automata_base.specs.declared.util.search.Anchored.{Anchored}
 use Rattle.automata_base.specs.Answers.Spans.{AreFirst, AreMatches, IsEmptyAt, IsNextItem, from}
 use Rattle.automata_config.specs.declared.error.SearchError.{SearchError}
-use Rattle.regex_automata.specs.Spans.Costs.{AreCostsOf}
 use Rattle.regex_automata.specs.Spans.Outcomes.{FindsMatch, MatchLiesIn}
-use Rattle.regex_automata.specs.Regexes.Caches.{AreStill, KnowsBoth, NothingCleared}
-use Rattle.regex_automata.specs.Spans.Errors.{IsOfGiven, IsRegexRefusal}
+use Rattle.regex_automata.specs.Spans.Errors.{IsRegexRefusal}
 use Rattle.regex_automata.specs.declared.hybrid.regex.Regex.{Regex}
 use Rattle.regex_automata.specs.declared.hybrid.regex.caches.Cache.{Cache}
 
@@ -38,34 +36,6 @@ GoesPast p input last m = MatchLiesIn p input m × (last ≡ Some input.start �
 abbrev pub LiesInHaystack : List ℕ → Option (Result Match SearchError) → Type 0
 LiesInHaystack haystack item =
     IfSome item (λ r. IfOk r (λ (m : Match). (m.start ≤ m.end) × (m.end ≤ length haystack)))
-
--- the cost of one search; or, if it finds an empty match at the last end, of that and the search from one offset later
-abbrev pub AreCostsTwice : Regex → Input → Option ℕ → Cache → Cache → Type 0
-AreCostsTwice p input last old new =
-    AreCostsOf p input old new
-    ⊎ (FindsEmptyAt p input last
-    × ((between : Cache) × AreCostsOf p input old between × AreCostsOf p (from (suc input.start) input) between new))
-
--- all that the next match uses is cached: what a search uses, and, if that finds an empty match at the last end, what
--- the search from one offset later uses
-abbrev pub KnowsNext : Regex → Cache → Input → Option ℕ → Type 0
-KnowsNext p c input last =
-    KnowsBoth p c input
-    × ((m : Match) → FindsMatch p input (Some m) → IsEmptyAt last m → KnowsBoth p c (from (suc input.start) input))
-
--- and what an item uses: nothing, if the iteration has ended
-abbrev pub KnowsItem : Regex → Cache → Input → Option ℕ → (ended : Bool) → Type 0
-KnowsItem p c input last true = Unit {0}
-KnowsItem p c input last false = KnowsNext p c input last
-
--- what an item does to what is cached
-pub record LearnsItem
-    (p : Regex) (old new : Cache) (input : Input) (last : Option ℕ) (ended : Bool)
-    (item : Option (Result Match SearchError)) : Type 0 where
-  -- if all that it uses is cached, nothing is determinized, and it fails only by what it was given
-  pub known : KnowsItem p old input last ended → AreStill old new × IfSome item (λ r. IfErr r IsOfGiven)
-  -- if it is no error and nothing was cleared, what it used is cached
-  pub learned : NothingCleared old new → IfSome item (λ r. IsOk r) → KnowsItem p new input last ended
 
 -- one item of an iteration, and the iteration before and after it: what is left to be searched, where the last match
 -- ended, and whether it has ended

@@ -2,7 +2,7 @@ ghost use Rattle.std.specs.Prelude.{◌≡◌, ◌<◌, Some, false};
 ghost use Rattle.std.specs.Iterator.{at_most};
 ghost use Rattle.automata_base.specs.Haystacks.Input.{Allows};
 ghost use Rattle.regex_automata.specs.Regexes.Caches.{AreCachesOf};
-ghost use Rattle.regex_automata.specs.Tokens.{GivesToken, IsGivenAt, IsTokenEffect, asked, item_of, most_tokens};
+ghost use Rattle.regex_automata.specs.Tokens.{GivesToken, IsGivenAt, IsTokenRun, asked, item_of, most_tokens};
 
 use crate::hybrid::dfa;
 use crate::hybrid::dfa::DFA;
@@ -52,7 +52,7 @@ fn token_at<'h>(
     requires within { Allows haystack.now offset end }
     ensures of { AreCachesOf cache.new regex.now }
     ensures item { IsGivenAt regex.now.forward cache.new.forward.store haystack.now end offset result }
-    ensures effect { IsTokenEffect regex.now.forward haystack.now end offset cache.old.forward cache.new.forward
+    ensures effect { IsTokenRun regex.now.forward haystack.now end offset cache.old.forward cache.new.forward
         (Some result) }
     ensures reverse { cache.new.reverse ≡ cache.old.reverse }
 {
@@ -138,7 +138,7 @@ impl<'r, 'c, 'h> Iterator for Tokens<'r, 'c, 'h> {
         s.offset t.offset s.failed t.failed
         × (t.regex.now ≡ s.regex.now) × (t.cache.ghost_name ≡ s.cache.ghost_name)
         × (t.haystack.now ≡ s.haystack.now) × (t.end ≡ s.end)
-        × IsTokenEffect s.regex.now.forward s.haystack.now s.end s.offset s.cache.now.forward t.cache.now.forward r
+        × IsTokenRun s.regex.now.forward s.haystack.now s.end s.offset s.cache.now.forward t.cache.now.forward r
         × (t.cache.now.reverse ≡ s.cache.now.reverse) };
 
     ghost remaining = { λ s. at_most (most_tokens s.failed s.end s.offset) };

@@ -1,5 +1,6 @@
 ghost use Rattle.std.specs.Prelude.{◌≡◌, ◌≤◌, ◌+◌, IfOk, IfErr, IfSome, OnErr, None, Err, false, true};
 ghost use Rattle.std.specs.Iterator.{at_most};
+ghost use Rattle.std.specs.Result.{result_err};
 ghost use Rattle.automata_base.specs.Haystacks.Input.{Allows};
 ghost use Rattle.automata_base.specs.Answers.Spans.{IsEmptyAt, from};
 ghost use Rattle.automata_base.specs.declared.util.search.Direction.TheVariants.{Forward};
@@ -7,14 +8,13 @@ ghost use Rattle.automata_hybrid.specs.Searches.Contracts.{IsUnsupported, unsupp
 ghost use Rattle.regex_automata.specs.Spans.Iteration.{GivesItem, GoesPast, IsNextMatch, IsNextRefusal};
 ghost use Rattle.regex_automata.specs.Spans.Iteration.{LiesInHaystack, input_over, most_items};
 ghost use Rattle.regex_automata.specs.Spans.Contracts.{ReportsUnsupported};
-ghost use Rattle.regex_automata.specs.Spans.Effects.{IsItemEffect, IsNextEffect};
+ghost use Rattle.regex_automata.specs.Spans.Runs.{IsItemRun, IsNextRun};
 ghost use Rattle.regex_automata.specs.Regexes.Caches.{AreCachesOf};
 
 use crate::hybrid::regex::{Cache, Regex};
 use crate::laws::matches_agree;
 use automata_base::util::search::{Anchored, Input, Match};
 use automata_config::error::SearchError;
-use automata_hybrid::laws::known_stays;
 use std::fmt;
 
 /// The input from a later offset on.
@@ -53,11 +53,9 @@ impl Regex {
         ensures unsupported { IsUnsupported Forward self.now.forward input.now
             → result ≡ Err (unsupported_error input.now) }
         ensures ahead { OnErr result (input.now.start ≤ input.now.end) }
-        ensures effect { IsNextEffect self.now input.now last cache.old cache.new result }
+        ensures effect { IsNextRun self.now input.now last cache.old cache.new (result_err result) }
     {
         matches_agree();
-        known_stays(&self.forward);
-        known_stays(&self.reverse);
         let _haystack = input.haystack();
         let Some(found) = self.try_search(cache, input)? else {
             return Ok(None);
@@ -157,7 +155,7 @@ impl<'r, 'c, 'h> Iterator for FindMatches<'r, 'c, 'h> {
         (input_over t.haystack.now t.start t.end t.anchored t.earliest)
         s.last t.last s.ended t.ended
         × (t.regex.now ≡ s.regex.now) × (t.cache.ghost_name ≡ s.cache.ghost_name)
-        × IsItemEffect s.regex.now (input_over s.haystack.now s.start s.end s.anchored s.earliest) s.last s.ended
+        × IsItemRun s.regex.now (input_over s.haystack.now s.start s.end s.anchored s.earliest) s.last s.ended
         s.cache.now t.cache.now r
         × ReportsUnsupported s.regex.now (input_over s.haystack.now s.start s.end s.anchored s.earliest) s.ended r
         × (t.haystack.now ≡ s.haystack.now) × LiesInHaystack s.haystack.now r };

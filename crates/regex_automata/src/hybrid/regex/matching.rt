@@ -1,7 +1,8 @@
-ghost use Rattle.std.specs.Prelude.{IfErr, IfOk};
-ghost use Rattle.regex_automata.specs.Spans.IsMatch.{IsAsked, IsMatchRefused};
+ghost use Rattle.std.specs.Prelude.{IfOk};
+ghost use Rattle.std.specs.Result.{result_err};
+ghost use Rattle.regex_automata.specs.Spans.IsMatch.{IsAsked};
 ghost use Rattle.regex_automata.specs.Spans.Contracts.{IsTruthOf, IsTruthReported};
-ghost use Rattle.regex_automata.specs.Spans.Effects.{IsTruthEffect};
+ghost use Rattle.regex_automata.specs.Spans.Runs.{IsTruthRun};
 ghost use Rattle.regex_automata.specs.Regexes.Caches.{AreCachesOf};
 
 use crate::hybrid::regex::{Cache, Regex};
@@ -24,13 +25,12 @@ impl Regex {
         requires { AreCachesOf cache.old self.now }
         ensures of { AreCachesOf cache.new self.now }
 
-        // What it returns by paths, and by passes, whatever the caches; and why it fails.
+        // What it returns by paths, and by passes, whatever the caches.
         ensures returned { IsTruthOf self.now input.now result }
         ensures found { IfOk result (IsTruthReported self.now.forward input.now) }
-        ensures refusal { IfErr result (IsMatchRefused self.now.forward cache.new.forward.store input.now) }
 
-        // What it does to the caches.
-        ensures effect { IsTruthEffect self.now input.now cache.old cache.new result }
+        // What it does to the caches, and why it fails.
+        ensures effect { IsTruthRun self.now input.now cache.old cache.new (result_err result) }
     {
         reported_is_right(self.forward.get_nfa());
         let _haystack = input.haystack();

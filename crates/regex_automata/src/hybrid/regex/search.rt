@@ -1,4 +1,5 @@
 ghost use Rattle.std.specs.Prelude.{◌≡◌, ◌-◌, ◌≤◌, IfOk, IfErr, IfSome, None, false, true};
+ghost use Rattle.std.specs.Result.{result_err};
 ghost use Rattle.automata_base.specs.Answers.Spans.{IsShort, back};
 ghost use Rattle.automata_hybrid.specs.Cache.Caches.{IsCacheOf};
 ghost use Rattle.automata_hybrid.specs.Searches.Contracts.{IsMemory};
@@ -7,9 +8,9 @@ ghost use Rattle.automata_hybrid.specs.Searches.Bounds.{LiesPast};
 ghost use Rattle.regex_automata.specs.Regexes.SoundPairs.{forward_engine};
 ghost use Rattle.regex_automata.specs.Spans.Outcomes.{FindsMatch, IsStartFound};
 ghost use Rattle.regex_automata.specs.Spans.Contracts.{IsSpanOf, IsSpanReported};
-ghost use Rattle.regex_automata.specs.Spans.Effects.{IsBackEffect, IsSpanEffect};
+ghost use Rattle.regex_automata.specs.Spans.Runs.{IsBackRun, IsSpanRun};
 ghost use Rattle.regex_automata.specs.Regexes.Caches.{AreCachesOf};
-ghost use Rattle.regex_automata.specs.Spans.Errors.{HasReason, IsBackRefused, IsRegexRefusal};
+ghost use Rattle.regex_automata.specs.Spans.Errors.{IsRegexRefusal};
 ghost use Rattle.automata_config.specs.Options.{minimum_cache_clear_count_of};
 
 use crate::hybrid::dfa;
@@ -17,7 +18,6 @@ use crate::hybrid::regex::{Cache, Regex};
 use automata_base::laws::{reported_is_right, start_is_right};
 use automata_base::util::search::{Anchored, HalfMatch, Input, Match, Span};
 use automata_config::error::SearchError;
-use automata_hybrid::laws::answers_agree;
 
 /// The input of a search back: from the base to the match's end, anchored and not earliest.
 fn backward<'h>(input: &Input<'h>, half: HalfMatch, base: usize) -> Input<'h>
@@ -52,7 +52,7 @@ impl Regex {
         ensures refusal { IfErr result (IsRegexRefusal self.now cache.new input.now) }
 
         // What it does to the caches.
-        ensures effect { IsSpanEffect self.now input.now cache.old cache.new result }
+        ensures effect { IsSpanRun self.now input.now cache.old cache.new (result_err result) }
     {
         reported_is_right(self.forward.get_nfa());
         reported_is_right(self.reverse.get_nfa());
@@ -72,7 +72,7 @@ impl Regex {
         ensures refusal { IfErr result (IsRegexRefusal self.now cache.new input.now) }
 
         // What it does to the caches.
-        ensures effect { IsSpanEffect self.now input.now cache.old cache.new result }
+        ensures effect { IsSpanRun self.now input.now cache.old cache.new (result_err result) }
     {
         self.try_search(cache, input)
     }
@@ -105,10 +105,9 @@ impl Regex {
         ensures of { IsCacheOf cache.new self.now.reverse }
         ensures found { IfOk result (IsStartFound self.now input.now (with_base half base)) }
         ensures within { IfOk result (λ o. IfSome o (λ start. (base ≤ start) × (start ≤ half.offset))) }
-        ensures refusal { IfErr result (IsBackRefused self.now cache.new.store input.now (with_base half base)) }
         ensures free { NoQuitInReach self.now.reverse input.now
             → minimum_cache_clear_count_of self.now.reverse.config ≡ None → IfErr result IsMemory }
-        ensures effect { IsBackEffect self.now input.now (with_base half base) cache.old cache.new result }
+        ensures effect { IsBackRun self.now input.now (with_base half base) cache.old cache.new (result_err result) }
     {
         let short = self.is_short(input, half, base);
         if short {
@@ -126,10 +125,8 @@ impl Regex {
         requires { AreCachesOf cache.old self.now }
         ensures of { AreCachesOf cache.new self.now }
         ensures reported { IsSpanReported self.now input.now result }
-        ensures refusal { IfErr result (HasReason self.now cache.new input.now) }
-        ensures effect { IsSpanEffect self.now input.now cache.old cache.new result }
+        ensures effect { IsSpanRun self.now input.now cache.old cache.new (result_err result) }
     {
-        answers_agree();
         let Some(front) = self.forward.try_search_fwd_base(&mut cache.forward, input)? else {
             return Ok(None);
         };

@@ -6,12 +6,12 @@ use Rattle.automata_base.specs.declared.util.search.Direction.{Direction}
 use Rattle.automata_hybrid.specs.Searches.PassState.{IsAt}
 use Rattle.automata_hybrid.specs.Steps.Steps.{known_step}
 use Rattle.automata_hybrid.specs.Searches.Passes.{Reads, given_up_offset, tape_in}
-use Rattle.std.proofs.lemmas.Result.{IfErr-weaker, IfOk-weaker}
+use Rattle.std.proofs.lemmas.Result.{IfOk-weaker}
 use Rattle.automata_hybrid.proofs.Searches.PassContracts.{dead_answer, first_answer}
 use Rattle.automata_hybrid.proofs.Searches.UnitsRead.{AreReadTo, ended_here, pass_last, pass_left_then, pass_stopped, read_exactly}
 use Rattle.automata_hybrid.proofs.Searches.UnitsRead.{read_known, read_none, read_then, refused_here, taken_here}
 use Rattle.automata_hybrid.proofs.Searches.PassState.{at_reads, stops_dead, stops_ends, stops_last, more_leads, more_at}
-use Rattle.automata_hybrid.proofs.Searches.PassState.{place_refuses, step_refuses, unit_refuses, if_both, false_true}
+use Rattle.automata_hybrid.proofs.Searches.PassState.{unit_refuses, if_both, false_true}
 use Rattle.automata_hybrid.proofs.Searches.PassState.{some_is, none_is}
 use Rattle.automata_hybrid.proofs.Searches.Directions.{not_behind, quit_free, span_unit, units_in}
 use Rattle.automata_hybrid.proofs.Steps.Ids.{dead_tagged}
@@ -56,18 +56,6 @@ find_end-requires-2-clause-at c =
       may = c.requires.at.at.may;
       at = subst (λ k. IsAt d c.args.self.now c.loop-at.cache.store.table c.args.input.now k c.loop-at.id c.loop-at.found) same c.loop-at.invariant.at;
     }
-
-pub returns-in-Err-clause-refusal : goal.returns-in-Err-clause-refusal
-returns-in-Err-clause-refusal c =
-    let d : Direction = c.args.way in
-    let k : ℕ = c.run-run.result.at in
-    let inside : k < c.args.input.now.end - c.args.input.now.start = omega (arith, c.if-run-last.false, c.last_place-last.ensures.place) in
-    let at : IsAt d c.args.self.now c.loop-at.cache.store.table c.args.input.now k c.run-run.result.id c.run-run.result.found = c.run-run.ensures.at in
-    let given : given_up_offset d c.args.input.now k ≡ c.byte_offset-offset.result = span_unit d c.args.input.now k inside ∙ sym c.byte_offset-offset.ensures.unit in
-    let read : next (tape_in d c.args.input.now) k ≡ Some c.byte_at-byte.result = c.byte_at-byte.ensures in
-    let few : k ≤ length (tape_in d c.args.input.now).bytes = (let u = units_in d c.args.input.now c.requires.at.at.undone c.last_place-last.ensures.inside in omega (arith, u, inside)) in
-    (step_refuses d c.args.self.now c.loop-at.cache.store.table c.read_met.new.cache.store c.args.input.now k c.run-run.result.id c.byte_offset-offset.result c.byte_offset-offset.result _ c.run-run.result.found c.in-Err.error
-    at few c.in-Err.ensures.effect.alive read (sym c.byte_offset-offset.ensures.unit) given c.in-Err.ensures.refusal c.requires.at.at.may.0)
 
 pub returns-then-is_dead-clause-answer : goal.returns-then-is_dead-clause-answer
 returns-then-is_dead-clause-answer c =
@@ -232,25 +220,3 @@ returns-clause-left c =
     (at_reads d c.args.self.now c.loop-at.cache.store.table c.args.input.now k c.loop-at.id c.loop-at.found at (omega (arith, units)) c.find_end-2.ensures.alive) at.clean refused
     (pass_left_then d c.args.self.now c.args.input.now 0 c.args.cache.now (is_store c.args.cache.now.store c.args.self.now c.requires.of c.see_bounds.ensures.bounds, c.see_bounds.ensures.sound) c.loop-at.at k c.loop-at.cache c.loop-at.invariant.of c.loop-at.invariant.progress (omega (arith, same)) at.clean (λ j from below. absurd (omega (arith, from, below, same))) c.find_end-2.new.cache left))
     c.find_end-2.ensures.refusal c.find_end-2.ensures.progress.left
-
-pub returns-then-run-last-clause-refusal : goal.returns-then-run-last-clause-refusal
-returns-then-run-last-clause-refusal c =
-    let d : Direction = c.args.way in
-    let same : c.run-run.result.at ≡ c.args.input.now.end - c.args.input.now.start = omega (arith, c.if-run-last.true, c.run-run.ensures.run.within, c.last_place-last.ensures.place) in
-    let k : ℕ = c.args.input.now.end - c.args.input.now.start in
-    let at : IsAt d c.args.self.now c.loop-at.cache.store.table c.args.input.now k c.run-run.result.id c.run-run.result.found = subst (λ k. IsAt d c.args.self.now c.loop-at.cache.store.table c.args.input.now k c.run-run.result.id c.run-run.result.found) same c.run-run.ensures.at in
-    let units : k ≡ length (tape_in d c.args.input.now).bytes = units_in d c.args.input.now c.requires.at.at.undone c.last_place-last.ensures.inside in
-    IfErr-weaker c.find_end.result _ _
-    (λ error refused. place_refuses d c.args.self.now c.loop-at.cache.store.table c.find_end.new.cache.store c.args.input.now k c.run-run.result.id c.run-run.result.found error at (omega (arith, units)) c.find_end.ensures.alive c.requires.at.at.may.0 refused)
-    c.find_end.ensures.refusal
-
-pub returns-clause-refusal : goal.returns-clause-refusal
-returns-clause-refusal c =
-    let d : Direction = c.args.way in
-    let same : c.loop-at.at ≡ c.args.input.now.end - c.args.input.now.start = omega (arith, c.loop-at-test.false, c.loop-at.invariant.within, c.last_place-last.ensures.place) in
-    let k : ℕ = c.args.input.now.end - c.args.input.now.start in
-    let at : IsAt d c.args.self.now c.loop-at.cache.store.table c.args.input.now k c.loop-at.id c.loop-at.found = subst (λ k. IsAt d c.args.self.now c.loop-at.cache.store.table c.args.input.now k c.loop-at.id c.loop-at.found) same c.loop-at.invariant.at in
-    let units : k ≡ length (tape_in d c.args.input.now).bytes = units_in d c.args.input.now c.requires.at.at.undone c.last_place-last.ensures.inside in
-    IfErr-weaker c.find_end-2.result _ _
-    (λ error refused. place_refuses d c.args.self.now c.loop-at.cache.store.table c.find_end-2.new.cache.store c.args.input.now k c.loop-at.id c.loop-at.found error at (omega (arith, units)) c.find_end-2.ensures.alive c.requires.at.at.may.0 refused)
-    c.find_end-2.ensures.refusal

@@ -1,7 +1,5 @@
-use Rattle.std.proofs.Common.{Option, ◌≡◌, ◌∙◌, ◌+◌, ◌<◌, ◌^◌, None, inr, length, ap, subst, sym, refl, arith}
+use Rattle.std.proofs.Common.{Option, ◌≡◌, ◌∙◌, ◌+◌, ◌<◌, ◌^◌, None, Some, inr, length, ap, subst, sym, refl, arith}
 use Rattle.std.proofs.lemmas.Grind.{common_steps}
-use Rattle.std.specs.Prelude.{Err, Ok}
-use Rattle.automata_hybrid.specs.Searches.Passes.{IsPassRefusal}
 use Rattle.automata_base.specs.Haystacks.Input.{Allows, Input}
 use Rattle.automata_base.specs.Haystacks.Matches.{HalfMatch}
 use Rattle.automata_base.specs.declared.util.search.Direction.{Direction}
@@ -42,15 +40,11 @@ returns-then-known-clause-effect c =
     let sound : IsSoundOf c.args.cache.now.store c.args.self.now = (is_store c.args.cache.now.store c.args.self.now c.requires.of c.see_bounds.ensures.bounds, c.see_bounds.ensures.sound) in
     let end = c.known_pass-known.ensures.ended c.if-known.true in
     let counted = subst (λ n. c.count_search.new.self ≡ with_store c.args.cache.now (with_searched c.args.cache.now.store (record { bytes = saturated (total_len c.args.cache.now.store.searched + n); running = None })))
-    c.bytes_read.ensures c.count_search.ensures.value in
-    record {
-      ended = (
-        c.args.cache.now,
-        start_had d c.args.self.now c.args.input.now c.args.cache.now c.args.cache.now c.known_start-start.result slots sound (c.known_start-start.ensures.effect low) (c.known_start-start.ensures.answer low),
-        inr (c.if-keeps_none.ensures.no refl, known_ended d c.args.self.now c.args.input.now c.known_pass-known.result.at c.known_pass-known.result.id c.args.cache.now c.known_pass-known.result.found c.count_search.new.self end sound counted),
-      );
-      left = tt;
-    }
+    c.bytes_read.ensures c.count_search.ensures.value in (
+      c.args.cache.now,
+      start_had d c.args.self.now c.args.input.now c.args.cache.now c.args.cache.now c.known_start-start.result slots sound (c.known_start-start.ensures.effect low) (c.known_start-start.ensures.answer low),
+      inr (c.if-keeps_none.ensures.no refl, known_ended d c.args.self.now c.args.input.now c.known_pass-known.result.at c.known_pass-known.result.id c.args.cache.now c.known_pass-known.result.found c.count_search.new.self end sound counted),
+    )
 
 pub rest-requires-clause-at : goal.rest-requires-clause-at
 rest-requires-clause-at c =
@@ -65,14 +59,6 @@ rest-requires-clause-at c =
       upto = subst (λ (i : Input). IsKnownUpto d c.args.self.now c.search_start.new.self.store i c.known_pass-known.result.at c.known_pass-known.result.id c.again-before.result) (sym same) upto;
     }
 
-pub returns-in-Err-clause-refusal : goal.returns-in-Err-clause-refusal
-returns-in-Err-clause-refusal c =
-    subst (λ (i : Input). IsPassRefusal c.args.way c.args.self.now c.begin_of.new.cache.store i c.in-Err.error) (same_input c.args.input.now c.haystack.result.now c.get_span.result c.get_anchored.result c.get_earliest.result c.haystack.ensures.same c.get_span.ensures.start c.get_span.ensures.end c.get_anchored.ensures c.get_earliest.ensures) c.in-Err.ensures.refusal
-
-pub returns-in-Err-rest-clause-refusal : goal.returns-in-Err-rest-clause-refusal
-returns-in-Err-rest-clause-refusal c =
-    subst (λ (i : Input). IsPassRefusal c.args.way c.args.self.now c.rest.new.cache.store i c.in-Err-rest.error) (same_input c.args.input.now c.haystack-2.result.now c.get_span-2.result c.get_anchored-2.result c.get_earliest-2.result c.haystack-2.ensures.same c.get_span-2.ensures.start c.get_span-2.ensures.end c.get_anchored-2.ensures c.get_earliest-2.ensures) c.in-Err-rest.ensures.refusal
-
 pub returns-in-Ok-rest-clause-effect : goal.returns-in-Ok-rest-clause-effect
 returns-in-Ok-rest-clause-effect c =
     let d : Direction = c.args.way in
@@ -81,19 +67,15 @@ returns-in-Ok-rest-clause-effect c =
     let sound : IsSoundOf c.args.cache.now.store c.args.self.now = (is_store c.args.cache.now.store c.args.self.now c.requires.of c.see_bounds.ensures.bounds, c.see_bounds.ensures.sound) in
     let had = start_had d c.args.self.now c.args.input.now c.args.cache.now c.args.cache.now c.known_start-start.result slots sound (c.known_start-start.ensures.effect low) (c.known_start-start.ensures.answer low) in
     let begins : c.search_start.new.self ≡ with_search_begun d c.args.input.now 0 c.args.cache.now =
-    subst (λ at. c.search_start.new.self ≡ with_progress (Begin at) c.args.cache.now) c.span_offset.ensures.value c.search_start.ensures.value in
-    record {
-      ended = (
-        c.args.cache.now,
-        had,
-        inr (
-          c.if-keeps_none.ensures.no refl,
-          subst (λ (v : CacheView). EndsAtLast d c.args.self.now c.args.input.now v c.rest.new.cache) begins
-              (subst (λ (i : Input). EndsAtLast d c.args.self.now i c.search_start.new.self c.rest.new.cache) (same_input c.args.input.now c.haystack-2.result.now c.get_span-2.result c.get_anchored-2.result c.get_earliest-2.result c.haystack-2.ensures.same c.get_span-2.ensures.start c.get_span-2.ensures.end c.get_anchored-2.ensures c.get_earliest-2.ensures) c.in-Ok-rest.ensures.ended),
-        ),
-      );
-      left = tt;
-    }
+    subst (λ at. c.search_start.new.self ≡ with_progress (Begin at) c.args.cache.now) c.span_offset.ensures.value c.search_start.ensures.value in (
+      c.args.cache.now,
+      had,
+      inr (
+        c.if-keeps_none.ensures.no refl,
+        subst (λ (v : CacheView). EndsAtLast d c.args.self.now c.args.input.now v c.rest.new.cache) begins
+            (subst (λ (i : Input). EndsAtLast d c.args.self.now i c.search_start.new.self c.rest.new.cache) (same_input c.args.input.now c.haystack-2.result.now c.get_span-2.result c.get_anchored-2.result c.get_earliest-2.result c.haystack-2.ensures.same c.get_span-2.ensures.start c.get_span-2.ensures.end c.get_anchored-2.ensures c.get_earliest-2.ensures) c.in-Ok-rest.ensures.ended),
+      ),
+    )
 
 pub returns-in-Err-rest-clause-effect : goal.returns-in-Err-rest-clause-effect
 returns-in-Err-rest-clause-effect c =
@@ -104,23 +86,20 @@ returns-in-Err-rest-clause-effect c =
     let had = start_had d c.args.self.now c.args.input.now c.args.cache.now c.args.cache.now c.known_start-start.result slots sound (c.known_start-start.ensures.effect low) (c.known_start-start.ensures.answer low) in
     let begins : c.search_start.new.self ≡ with_search_begun d c.args.input.now 0 c.args.cache.now =
     subst (λ at. c.search_start.new.self ≡ with_progress (Begin at) c.args.cache.now) c.span_offset.ensures.value c.search_start.ensures.value in
-    record {
-      ended = tt;
-      left = inr (
-        c.args.cache.now,
-        had,
-        inr (
-          c.if-keeps_none.ensures.no refl,
-          subst (λ (v : CacheView). IsStoppedAt d c.args.self.now c.args.input.now v c.rest.new.cache c.in-Err-rest.error) begins
-              (subst (λ (i : Input). IsStoppedAt d c.args.self.now i c.search_start.new.self c.rest.new.cache c.in-Err-rest.error) (same_input c.args.input.now c.haystack-2.result.now c.get_span-2.result c.get_anchored-2.result c.get_earliest-2.result c.haystack-2.ensures.same c.get_span-2.ensures.start c.get_span-2.ensures.end c.get_anchored-2.ensures c.get_earliest-2.ensures) c.in-Err-rest.ensures.left),
-        ),
-      );
-    }
+    inr (
+      c.args.cache.now,
+      had,
+      inr (
+        c.if-keeps_none.ensures.no refl,
+        subst (λ (v : CacheView). IsStoppedAt d c.args.self.now c.args.input.now v c.rest.new.cache c.in-Err-rest.error) begins
+            (subst (λ (i : Input). IsStoppedAt d c.args.self.now i c.search_start.new.self c.rest.new.cache c.in-Err-rest.error) (same_input c.args.input.now c.haystack-2.result.now c.get_span-2.result c.get_anchored-2.result c.get_earliest-2.result c.haystack-2.ensures.same c.get_span-2.ensures.start c.get_span-2.ensures.end c.get_anchored-2.ensures c.get_earliest-2.ensures) c.in-Err-rest.ensures.left),
+      ),
+    )
 
 pub returns-in-Ok-clause-effect : goal.returns-in-Ok-clause-effect
 returns-in-Ok-clause-effect c =
-    subst (λ (i : Input). IsPassRun {T = Option HalfMatch} c.args.way c.args.self.now i c.args.cache.now c.begin_of.new.cache (Ok c.in-Ok.found)) (same_input c.args.input.now c.haystack.result.now c.get_span.result c.get_anchored.result c.get_earliest.result c.haystack.ensures.same c.get_span.ensures.start c.get_span.ensures.end c.get_anchored.ensures c.get_earliest.ensures) c.in-Ok.ensures.effect
+    subst (λ (i : Input). IsPassRun c.args.way c.args.self.now i c.args.cache.now c.begin_of.new.cache None) (same_input c.args.input.now c.haystack.result.now c.get_span.result c.get_anchored.result c.get_earliest.result c.haystack.ensures.same c.get_span.ensures.start c.get_span.ensures.end c.get_anchored.ensures c.get_earliest.ensures) c.in-Ok.ensures.effect
 
 pub returns-in-Err-clause-effect : goal.returns-in-Err-clause-effect
 returns-in-Err-clause-effect c =
-    subst (λ (i : Input). IsPassRun {T = Option HalfMatch} c.args.way c.args.self.now i c.args.cache.now c.begin_of.new.cache (Err c.in-Err.error)) (same_input c.args.input.now c.haystack.result.now c.get_span.result c.get_anchored.result c.get_earliest.result c.haystack.ensures.same c.get_span.ensures.start c.get_span.ensures.end c.get_anchored.ensures c.get_earliest.ensures) c.in-Err.ensures.effect
+    subst (λ (i : Input). IsPassRun c.args.way c.args.self.now i c.args.cache.now c.begin_of.new.cache (Some c.in-Err.error)) (same_input c.args.input.now c.haystack.result.now c.get_span.result c.get_anchored.result c.get_earliest.result c.haystack.ensures.same c.get_span.ensures.start c.get_span.ensures.end c.get_anchored.ensures c.get_earliest.ensures) c.in-Err.ensures.effect

@@ -4,7 +4,6 @@ use Rattle.automata_base.specs.declared.util.search.Direction.TheVariants.{Forwa
 use Rattle.std.specs.Prelude.{IfErr, IfOk, OnOk}
 use Rattle.automata_base.specs.Haystacks.Input.{Input}
 use Rattle.automata_hybrid.specs.Searches.PassContracts.{IsPassAnswer, input_at}
-use Rattle.automata_hybrid.specs.Searches.Passes.{IsPassRefusal}
 use Rattle.automata_hybrid.specs.Searches.Progress.{EndsAtLast, IsStoppedAt}
 use Rattle.automata_hybrid.proofs.dfa.DFA.rest.Goals as goal
 
@@ -12,11 +11,6 @@ pub returns-in-Forward-clause-answer : goal.returns-in-Forward-clause-answer
 returns-in-Forward-clause-answer c =
     subst (λ (w : Direction). IfOk c.find.result (IsPassAnswer w c.args.self.now (input_at c.args.haystack.now c.args.span c.args.anchored c.args.earliest))) (sym c.in-Forward.is)
     (subst (λ (i : Input). IfOk c.find.result (IsPassAnswer Forward c.args.self.now i)) c.input_of-own.ensures c.find.ensures.answer)
-
-pub returns-in-Forward-clause-refusal : goal.returns-in-Forward-clause-refusal
-returns-in-Forward-clause-refusal c =
-    subst (λ (w : Direction). IfErr c.find.result (IsPassRefusal w c.args.self.now c.find.new.cache.store (input_at c.args.haystack.now c.args.span c.args.anchored c.args.earliest))) (sym c.in-Forward.is)
-    (subst (λ (i : Input). IfErr c.find.result (IsPassRefusal Forward c.args.self.now c.find.new.cache.store i)) c.input_of-own.ensures c.find.ensures.refusal)
 
 pub returns-in-Forward-clause-ended : goal.returns-in-Forward-clause-ended
 returns-in-Forward-clause-ended c =
@@ -32,11 +26,6 @@ pub returns-in-Backward-clause-answer : goal.returns-in-Backward-clause-answer
 returns-in-Backward-clause-answer c =
     subst (λ (w : Direction). IfOk c.find-in-Backward.result (IsPassAnswer w c.args.self.now (input_at c.args.haystack.now c.args.span c.args.anchored c.args.earliest))) (sym c.in-Backward.is)
     (subst (λ (i : Input). IfOk c.find-in-Backward.result (IsPassAnswer Backward c.args.self.now i)) c.input_of-own.ensures c.find-in-Backward.ensures.answer)
-
-pub returns-in-Backward-clause-refusal : goal.returns-in-Backward-clause-refusal
-returns-in-Backward-clause-refusal c =
-    subst (λ (w : Direction). IfErr c.find-in-Backward.result (IsPassRefusal w c.args.self.now c.find-in-Backward.new.cache.store (input_at c.args.haystack.now c.args.span c.args.anchored c.args.earliest))) (sym c.in-Backward.is)
-    (subst (λ (i : Input). IfErr c.find-in-Backward.result (IsPassRefusal Backward c.args.self.now c.find-in-Backward.new.cache.store i)) c.input_of-own.ensures c.find-in-Backward.ensures.refusal)
 
 pub returns-in-Backward-clause-ended : goal.returns-in-Backward-clause-ended
 returns-in-Backward-clause-ended c =

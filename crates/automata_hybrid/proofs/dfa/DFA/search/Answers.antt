@@ -1,19 +1,19 @@
-use Rattle.std.proofs.Common.{ℕ, ◌≡◌, ◌∙◌, ◌+◌, ◌-◌, ◌≤◌, Option, inl, refl, sym, subst}
+use Rattle.std.proofs.Common.{◌≡◌, ◌∙◌, ◌+◌, ◌-◌, ◌≤◌, inl, refl, sym, subst}
 use Rattle.std.proofs.Common.{arith}
 use Rattle.std.proofs.lemmas.Grind.{common_steps}
-use Rattle.std.specs.Prelude.{Err, IfSome, Ok, Some}
+use Rattle.std.specs.Prelude.{IfSome, None, Some}
 use Rattle.automata_base.specs.Answers.Answers.{Tries, later}
 use Rattle.automata_base.specs.Haystacks.Input.{Input}
-use Rattle.automata_base.specs.Haystacks.Matches.{HalfMatch}
 use Rattle.automata_base.specs.declared.util.search.Direction.{Direction}
 use Rattle.automata_base.specs.declared.util.search.Direction.TheVariants.{Forward}
 use Rattle.automata_hybrid.specs.Searches.Contracts.{based_half}
-use Rattle.automata_hybrid.specs.Searches.Passes.{Finds, IsFound, IsRefused, Skips, with_base}
+use Rattle.automata_hybrid.specs.Searches.Passes.{Finds, IsFound, Skips, with_base}
 use Rattle.automata_hybrid.specs.Searches.PassContracts.{input_at}
 use Rattle.automata_hybrid.specs.Searches.Progress.{HaveTried, IsSearchRun}
+use Rattle.automata_hybrid.proofs.Searches.Contracts.{is_store}
 use Rattle.automata_hybrid.proofs.Searches.Directions.{later_none}
 use Rattle.automata_hybrid.proofs.Searches.PassContracts.{same_input}
-use Rattle.automata_hybrid.proofs.Searches.Skips.{finds_none, finds_some, none_stops, refuses, some_stops}
+use Rattle.automata_hybrid.proofs.Searches.Skips.{finds_none, finds_some, none_stops, some_stops}
 use Rattle.automata_hybrid.proofs.Searches.SpanRuns.{run_after, run_refused, spans_run}
 use Rattle.automata_hybrid.proofs.dfa.DFA.search.Goals as goal
 
@@ -23,7 +23,7 @@ returns-in-Ok-clause-found c =
 
 pub returns-in-Ok-clause-effect : goal.returns-in-Ok-clause-effect
 returns-in-Ok-clause-effect c =
-    subst (λ (i : Input). IsSearchRun {T = Option (HalfMatch × ℕ)} c.args.way c.args.self.now i c.args.cache.now c.search_skipping.new.cache (Ok c.in-Ok.found)) (same_input c.args.input.now c.haystack.result.now c.get_span.result c.get_anchored.result c.get_earliest.result c.haystack.ensures.same c.get_span.ensures.start c.get_span.ensures.end c.get_anchored.ensures c.get_earliest.ensures) c.in-Ok.ensures.effect
+    subst (λ (i : Input). IsSearchRun c.args.way c.args.self.now i c.args.cache.now c.search_skipping.new.cache None) (same_input c.args.input.now c.haystack.result.now c.get_span.result c.get_anchored.result c.get_earliest.result c.haystack.ensures.same c.get_span.ensures.start c.get_span.ensures.end c.get_anchored.ensures c.get_earliest.ensures) c.in-Ok.ensures.effect
 
 pub returns-in-Ok-clause-upto : goal.returns-in-Ok-clause-upto
 returns-in-Ok-clause-upto c = λ forward.
@@ -32,13 +32,9 @@ returns-in-Ok-clause-upto c = λ forward.
     (subst (λ n. IfSome c.in-Ok.found (λ p. HaveTried Forward c.args.self.now (input_at c.haystack.result.now c.get_span.result c.get_anchored.result c.get_earliest.result) (p.1 - n + 1) c.args.cache.now c.search_skipping.new.cache)) base
     (c.in-Ok.ensures.upto forward))
 
-pub returns-in-Err-clause-refusal : goal.returns-in-Err-clause-refusal
-returns-in-Err-clause-refusal c =
-    subst (λ (i : Input). IsRefused c.args.way c.args.self.now c.search_skipping.new.cache.store i c.in-Err.error) (same_input c.args.input.now c.haystack.result.now c.get_span.result c.get_anchored.result c.get_earliest.result c.haystack.ensures.same c.get_span.ensures.start c.get_span.ensures.end c.get_anchored.ensures c.get_earliest.ensures) c.in-Err.ensures.refusal
-
 pub returns-in-Err-clause-effect : goal.returns-in-Err-clause-effect
 returns-in-Err-clause-effect c =
-    subst (λ (i : Input). IsSearchRun {T = Option (HalfMatch × ℕ)} c.args.way c.args.self.now i c.args.cache.now c.search_skipping.new.cache (Err c.in-Err.error)) (same_input c.args.input.now c.haystack.result.now c.get_span.result c.get_anchored.result c.get_earliest.result c.haystack.ensures.same c.get_span.ensures.start c.get_span.ensures.end c.get_anchored.ensures c.get_earliest.ensures) c.in-Err.ensures.effect
+    subst (λ (i : Input). IsSearchRun c.args.way c.args.self.now i c.args.cache.now c.search_skipping.new.cache (Some c.in-Err.error)) (same_input c.args.input.now c.haystack.result.now c.get_span.result c.get_anchored.result c.get_earliest.result c.haystack.ensures.same c.get_span.ensures.start c.get_span.ensures.end c.get_anchored.ensures c.get_earliest.ensures) c.in-Err.ensures.effect
 
 pub returns-in-Ok-Some-clause-found : goal.returns-in-Ok-Some-clause-found
 returns-in-Ok-Some-clause-found c =
@@ -58,8 +54,8 @@ returns-in-Ok-Some-clause-effect c =
     let ahead : c.args.input.now.start ≤ c.args.input.now.end = grind (arith, common_steps, c.if-is_done.ensures) in
     let within : c.args.input.now.start + 0 ≤ c.args.input.now.end = omega (arith, ahead) in
     let tries : Tries (Finds d c.args.self.now) (Skips c.args.self.now) d c.args.input.now 0 = (inl refl, λ j less. absurd (omega (arith, less))) in
-    run_after d c.args.self.now c.args.input.now 0 tries c.args.cache.now c.args.cache.now refl
-    c.args.input.now same within c.pass.new.cache _ c.in-Ok-Some.ensures.effect.ended
+    run_after d c.args.self.now c.args.input.now 0 tries c.args.cache.now c.args.cache.now ((is_store c.args.cache.now.store c.args.self.now c.requires c.see_bounds.ensures.bounds, c.see_bounds.ensures.sound), refl)
+    c.args.input.now same within c.pass.new.cache c.in-Ok-Some.ensures.effect
     (λ j less tried past. some_stops d c.args.self.now c.args.input.now c.args.input.now 0 same tries within c.in-Ok-Some.half (sym c.in-Ok-Some.field-0-is ∙ c.in-Ok-Some.ensures.answer.found) (λ skips. absurd (c.if-skips.ensures.no refl skips)) j less tried)
 
 pub returns-in-Ok-Some-clause-upto : goal.returns-in-Ok-Some-clause-upto
@@ -72,8 +68,8 @@ returns-in-Ok-Some-clause-upto c = λ forward.
     let base : 1 ≡ c.start.result - c.args.input.now.start + 1 = omega (arith, c.start.ensures.start) in
     subst (λ n. HaveTried Forward c.args.self.now c.args.input.now n c.args.cache.now c.pass.new.cache) base
     (subst (λ (e : Direction). HaveTried e c.args.self.now c.args.input.now 1 c.args.cache.now c.pass.new.cache) forward
-    (spans_run d c.args.self.now c.args.input.now 0 tries c.args.cache.now c.args.cache.now refl
-    c.args.input.now same within c.pass.new.cache c.in-Ok-Some.ensures.effect.ended))
+    (spans_run d c.args.self.now c.args.input.now 0 tries c.args.cache.now c.args.cache.now ((is_store c.args.cache.now.store c.args.self.now c.requires c.see_bounds.ensures.bounds, c.see_bounds.ensures.sound), refl)
+    c.args.input.now same within c.pass.new.cache c.in-Ok-Some.ensures.effect))
 
 pub returns-in-Ok-None-clause-found : goal.returns-in-Ok-None-clause-found
 returns-in-Ok-None-clause-found c =
@@ -91,18 +87,9 @@ returns-in-Ok-None-clause-effect c =
     let ahead : c.args.input.now.start ≤ c.args.input.now.end = grind (arith, common_steps, c.if-is_done.ensures) in
     let within : c.args.input.now.start + 0 ≤ c.args.input.now.end = omega (arith, ahead) in
     let tries : Tries (Finds d c.args.self.now) (Skips c.args.self.now) d c.args.input.now 0 = (inl refl, λ j less. absurd (omega (arith, less))) in
-    run_after d c.args.self.now c.args.input.now 0 tries c.args.cache.now c.args.cache.now refl
-    c.args.input.now same within c.pass.new.cache _ c.in-Ok-None.ensures.effect.ended
+    run_after d c.args.self.now c.args.input.now 0 tries c.args.cache.now c.args.cache.now ((is_store c.args.cache.now.store c.args.self.now c.requires c.see_bounds.ensures.bounds, c.see_bounds.ensures.sound), refl)
+    c.args.input.now same within c.pass.new.cache c.in-Ok-None.ensures.effect
     (λ j less tried past. none_stops d c.args.self.now c.args.input.now c.args.input.now 0 same tries within (sym c.in-Ok-None.field-0-is ∙ c.in-Ok-None.ensures.answer.found) j less tried)
-
-pub returns-in-Err-pass-clause-refusal : goal.returns-in-Err-pass-clause-refusal
-returns-in-Err-pass-clause-refusal c =
-    let d : Direction = c.args.way in
-    let same : c.args.input.now ≡ later d 0 c.args.input.now = later_none d c.args.input.now in
-    let ahead : c.args.input.now.start ≤ c.args.input.now.end = grind (arith, common_steps, c.if-is_done.ensures) in
-    let within : c.args.input.now.start + 0 ≤ c.args.input.now.end = omega (arith, ahead) in
-    let tries : Tries (Finds d c.args.self.now) (Skips c.args.self.now) d c.args.input.now 0 = (inl refl, λ j less. absurd (omega (arith, less))) in
-    refuses d c.args.self.now c.args.input.now c.args.input.now 0 same tries within c.pass.new.cache.store c.in-Err-pass.error c.in-Err-pass.ensures.refusal
 
 pub returns-in-Err-pass-clause-effect : goal.returns-in-Err-pass-clause-effect
 returns-in-Err-pass-clause-effect c =
@@ -111,5 +98,5 @@ returns-in-Err-pass-clause-effect c =
     let ahead : c.args.input.now.start ≤ c.args.input.now.end = grind (arith, common_steps, c.if-is_done.ensures) in
     let within : c.args.input.now.start + 0 ≤ c.args.input.now.end = omega (arith, ahead) in
     let tries : Tries (Finds d c.args.self.now) (Skips c.args.self.now) d c.args.input.now 0 = (inl refl, λ j less. absurd (omega (arith, less))) in
-    run_refused d c.args.self.now c.args.input.now 0 tries c.args.cache.now c.args.cache.now refl
-    c.args.input.now same within c.pass.new.cache c.in-Err-pass.error c.in-Err-pass.ensures.effect.left
+    run_refused d c.args.self.now c.args.input.now 0 tries c.args.cache.now c.args.cache.now ((is_store c.args.cache.now.store c.args.self.now c.requires c.see_bounds.ensures.bounds, c.see_bounds.ensures.sound), refl)
+    c.args.input.now same within c.pass.new.cache c.in-Err-pass.error c.in-Err-pass.ensures.effect

@@ -9,26 +9,17 @@ use Rattle.automata_base.specs.declared.util.search.Direction.{Direction}
 use Rattle.automata_base.specs.declared.util.search.Direction.TheVariants.{Forward}
 use Rattle.automata_hybrid.specs.Searches.Passes.{Finds, IsFound, Skips, with_base}
 use Rattle.automata_hybrid.specs.Machines.StartSlots.{supports}
-use Rattle.automata_hybrid.specs.Searches.Progress.{HaveEnded, HaveTried}
+use Rattle.automata_hybrid.specs.Searches.Progress.{PassesEnd, HaveTried}
 use Rattle.automata_hybrid.proofs.Searches.Directions.{later_anchored, later_none, later_on, later_start, skipped, skipped_last}
 use Rattle.automata_hybrid.proofs.Searches.Directions.{skipped_more, skipped_within}
 use Rattle.automata_hybrid.specs.Searches.Contracts.{IsUnsupported, unsupported_error}
 use Rattle.std.specs.Prelude.{Err}
-use Rattle.automata_hybrid.proofs.Searches.Contracts.{err_to}
+use Rattle.automata_hybrid.proofs.Searches.Contracts.{err_to, is_store}
 use Rattle.automata_hybrid.proofs.Searches.PassState.{false_true}
 use Rattle.automata_hybrid.proofs.Searches.Skips.{anchored_stops, none_stops, some_stops, finds_none, finds_no_more}
-use Rattle.automata_hybrid.proofs.Searches.Skips.{finds_some, finds_split, tries_on, refuses}
+use Rattle.automata_hybrid.proofs.Searches.Skips.{finds_some, finds_split, tries_on}
 use Rattle.automata_hybrid.proofs.Searches.SpanRuns.{run_after, run_before, run_refused, spans_ended, spans_run}
 use Rattle.automata_hybrid.proofs.dfa.DFA.search_spans.Goals as goal
-
-pub returns-in-Err-clause-refusal : goal.returns-in-Err-clause-refusal
-returns-in-Err-clause-refusal c =
-    let d : Direction = c.args.way in
-    let k : ℕ = skipped c.args.input.now c.loop-later.later in
-    let same : c.loop-later.later ≡ later d k c.args.input.now = c.loop-later.invariant.same in
-    let ahead : c.loop-later.later.start ≤ c.loop-later.later.end = grind (arith, common_steps, c.loop-later-test.ensures.done) in
-    let within : c.args.input.now.start + k ≤ c.args.input.now.end = skipped_within c.args.input.now c.loop-later.later c.loop-later.invariant.few ahead in
-    (refuses d c.args.self.now c.args.input.now c.loop-later.later k same c.loop-later.invariant.tries within c.pass.new.cache.store c.in-Err.error c.in-Err.ensures.refusal)
 
 pub returns-in_default-clause-found : goal.returns-in_default-clause-found
 returns-in_default-clause-found c =
@@ -68,7 +59,8 @@ loop-later-init c =
       few = subst (λ (i : Input). i.end + 1 - i.start ≤ c.args.input.now.end + 1 - c.args.input.now.start) (sym whole) (omega arith);
       same = subst (λ n. c.copied-later.result ≡ later d n c.args.input.now) none (whole ∙ later_none d c.args.input.now);
       first = λ u. sym none;
-      progress = subst (λ n. HaveEnded d c.args.self.now c.args.input.now n c.args.cache.now c.args.cache.now) none refl;
+      progress = subst (λ n. PassesEnd d c.args.self.now c.args.input.now n c.args.cache.now c.args.cache.now) none
+          ((is_store c.args.cache.now.store c.args.self.now c.requires c.see_bounds.ensures.bounds, c.see_bounds.ensures.sound), refl);
       tries = subst (λ n. Tries (Finds d c.args.self.now) (Skips c.args.self.now) d c.args.input.now n) none (inl refl, λ j less. absurd (omega (arith, less)));
     }
 
@@ -86,8 +78,8 @@ loop-later-preserved c =
       few = omega (arith, c.if-not-begin_later.ensures.shorter refl, c.loop-later.invariant.few);
       same = subst (λ n. c.begin_later.new.input ≡ later d n c.args.input.now) next (c.if-not-begin_later.ensures.later refl ∙ (ap (later d 1) same ∙ later_on d k c.args.input.now));
       first = λ u. absurd (false_true (sym u ∙ (ap (supports c.args.self.now) (sym (ap (λ (i : Input). i.anchored) same ∙ later_anchored d k c.args.input.now)) ∙ c.in-Ok.ensures.answer.supported)));
-      progress = subst (λ n. HaveEnded d c.args.self.now c.args.input.now n c.args.cache.now c.pass.new.cache) next
-          (spans_ended d c.args.self.now c.args.input.now k c.loop-later.invariant.tries c.args.cache.now c.loop-later.cache c.loop-later.invariant.progress c.loop-later.later same within c.pass.new.cache c.in-Ok.ensures.effect.ended);
+      progress = subst (λ n. PassesEnd d c.args.self.now c.args.input.now n c.args.cache.now c.pass.new.cache) next
+          (spans_ended d c.args.self.now c.args.input.now k c.loop-later.invariant.tries c.args.cache.now c.loop-later.cache c.loop-later.invariant.progress c.loop-later.later same within c.pass.new.cache c.in-Ok.ensures.effect);
       tries = subst (λ n. Tries (Finds d c.args.self.now) (Skips c.args.self.now) d c.args.input.now n) next
           (tries_on d c.args.self.now c.args.input.now c.loop-later.later k same c.loop-later.invariant.tries within c.in-Some.half (sym c.in-Some.is ∙ c.in-Ok.ensures.answer.found) c.in-Ok.ensures.answer.clean (c.if-not-skips_at.ensures.yes refl).0 (subst (λ n. is_split c.loop-later.later.haystack n ≡ true) c.offset.ensures (c.if-not-skips_at.ensures.yes refl).1) mode);
     }
@@ -119,7 +111,7 @@ returns-then-not-skips_at-clause-upto c = λ forward.
     let base : suc k ≡ c.start.result - c.args.input.now.start + 1 = omega (arith, c.start.ensures.start, later_start d k c.args.input.now c.loop-later.later same forward) in
     subst (λ n. HaveTried Forward c.args.self.now c.args.input.now n c.args.cache.now c.pass.new.cache) base
     (subst (λ (e : Direction). HaveTried e c.args.self.now c.args.input.now (suc k) c.args.cache.now c.pass.new.cache) forward
-    (spans_run d c.args.self.now c.args.input.now k c.loop-later.invariant.tries c.args.cache.now c.loop-later.cache c.loop-later.invariant.progress c.loop-later.later same within c.pass.new.cache c.in-Ok.ensures.effect.ended))
+    (spans_run d c.args.self.now c.args.input.now k c.loop-later.invariant.tries c.args.cache.now c.loop-later.cache c.loop-later.invariant.progress c.loop-later.later same within c.pass.new.cache c.in-Ok.ensures.effect))
 
 pub returns-in-Err-clause-effect : goal.returns-in-Err-clause-effect
 returns-in-Err-clause-effect c =
@@ -129,7 +121,7 @@ returns-in-Err-clause-effect c =
     let ahead : c.loop-later.later.start ≤ c.loop-later.later.end = grind (arith, common_steps, c.loop-later-test.ensures.done) in
     let within : c.args.input.now.start + k ≤ c.args.input.now.end = skipped_within c.args.input.now c.loop-later.later c.loop-later.invariant.few ahead in
     (run_refused d c.args.self.now c.args.input.now k c.loop-later.invariant.tries c.args.cache.now c.loop-later.cache c.loop-later.invariant.progress
-    c.loop-later.later same within c.pass.new.cache c.in-Err.error c.in-Err.ensures.effect.left)
+    c.loop-later.later same within c.pass.new.cache c.in-Err.error c.in-Err.ensures.effect)
 
 pub returns-in_default-clause-effect : goal.returns-in_default-clause-effect
 returns-in_default-clause-effect c =
@@ -139,7 +131,7 @@ returns-in_default-clause-effect c =
     let ahead : c.loop-later.later.start ≤ c.loop-later.later.end = grind (arith, common_steps, c.loop-later-test.ensures.done) in
     let within : c.args.input.now.start + k ≤ c.args.input.now.end = skipped_within c.args.input.now c.loop-later.later c.loop-later.invariant.few ahead in
     run_after d c.args.self.now c.args.input.now k c.loop-later.invariant.tries c.args.cache.now c.loop-later.cache c.loop-later.invariant.progress
-    c.loop-later.later same within c.pass.new.cache _ c.in-Ok.ensures.effect.ended
+    c.loop-later.later same within c.pass.new.cache c.in-Ok.ensures.effect
     (λ j less tried past. none_stops d c.args.self.now c.args.input.now c.loop-later.later k same c.loop-later.invariant.tries within (sym c.in_default.is ∙ c.in-Ok.ensures.answer.found) j less tried)
 
 pub returns-then-not-skips_at-clause-effect : goal.returns-then-not-skips_at-clause-effect
@@ -150,7 +142,7 @@ returns-then-not-skips_at-clause-effect c =
     let ahead : c.loop-later.later.start ≤ c.loop-later.later.end = grind (arith, common_steps, c.loop-later-test.ensures.done) in
     let within : c.args.input.now.start + k ≤ c.args.input.now.end = skipped_within c.args.input.now c.loop-later.later c.loop-later.invariant.few ahead in
     run_after d c.args.self.now c.args.input.now k c.loop-later.invariant.tries c.args.cache.now c.loop-later.cache c.loop-later.invariant.progress
-    c.loop-later.later same within c.pass.new.cache _ c.in-Ok.ensures.effect.ended
+    c.loop-later.later same within c.pass.new.cache c.in-Ok.ensures.effect
     (λ j less tried past. some_stops d c.args.self.now c.args.input.now c.loop-later.later k same c.loop-later.invariant.tries within c.in-Some.half (sym c.in-Some.is ∙ c.in-Ok.ensures.answer.found) (λ skips. subst (λ n. is_split c.loop-later.later.haystack n ≡ false) c.offset.ensures (c.if-not-skips_at.ensures.no refl skips)) j less tried)
 
 pub returns-then-is_anchored-clause-effect : goal.returns-then-is_anchored-clause-effect
@@ -161,7 +153,7 @@ returns-then-is_anchored-clause-effect c =
     let ahead : c.loop-later.later.start ≤ c.loop-later.later.end = grind (arith, common_steps, c.loop-later-test.ensures.done) in
     let within : c.args.input.now.start + k ≤ c.args.input.now.end = skipped_within c.args.input.now c.loop-later.later c.loop-later.invariant.few ahead in
     run_after d c.args.self.now c.args.input.now k c.loop-later.invariant.tries c.args.cache.now c.loop-later.cache c.loop-later.invariant.progress
-    c.loop-later.later same within c.pass.new.cache _ c.in-Ok.ensures.effect.ended
+    c.loop-later.later same within c.pass.new.cache c.in-Ok.ensures.effect
     (λ j less tried past. anchored_stops d c.args.self.now c.args.input.now c.loop-later.later k same c.loop-later.invariant.tries within (λ e. c.if-is_anchored.ensures.yes refl (c.get_anchored.ensures ∙ (ap (λ (i : Input). i.anchored) same ∙ (later_anchored d k c.args.input.now ∙ e)))) j less tried)
 
 pub returns-then-not-begin_later-clause-effect : goal.returns-then-not-begin_later-clause-effect
@@ -173,7 +165,7 @@ returns-then-not-begin_later-clause-effect c =
     let within : c.args.input.now.start + k ≤ c.args.input.now.end = skipped_within c.args.input.now c.loop-later.later c.loop-later.invariant.few ahead in
     let over : c.args.input.now.end < c.args.input.now.start + suc k = skipped_last c.args.input.now c.loop-later.later c.loop-later.invariant.few ahead (c.if-not-begin_later.ensures.over refl) in
     run_after d c.args.self.now c.args.input.now k c.loop-later.invariant.tries c.args.cache.now c.loop-later.cache c.loop-later.invariant.progress
-    c.loop-later.later same within c.pass.new.cache _ c.in-Ok.ensures.effect.ended
+    c.loop-later.later same within c.pass.new.cache c.in-Ok.ensures.effect
     (λ j less tried past. omega (arith, less, past, over))
 
 pub returns-clause-effect : goal.returns-clause-effect
@@ -181,7 +173,7 @@ returns-clause-effect c =
     let d : Direction = c.args.way in
     let k : ℕ = skipped c.args.input.now c.loop-later.later in
     let done : c.loop-later.later.end < c.loop-later.later.start = grind (arith, common_steps, c.loop-later-test.ensures.done) in
-    run_before d c.args.self.now c.args.input.now k c.loop-later.invariant.tries c.args.cache.now c.loop-later.cache c.loop-later.invariant.progress _ (omega (arith, done))
+    run_before d c.args.self.now c.args.input.now k c.loop-later.invariant.tries c.args.cache.now c.loop-later.cache c.loop-later.invariant.progress (omega (arith, done))
 
 pub returns-in-Err-clause-unsupported : goal.returns-in-Err-clause-unsupported
 returns-in-Err-clause-unsupported c = λ u.

@@ -1,10 +1,11 @@
-use Rattle.std.proofs.Common.{Some, rules, subst}
+use Rattle.std.proofs.Common.{Some, rules, sym, subst}
 use Rattle.std.specs.Prelude.{Ok}
 use Rattle.automata_base.specs.Haystacks.Matches.{HalfMatch}
 use Rattle.automata_base.specs.declared.util.search.Direction.TheVariants.{Forward}
 use Rattle.automata_hybrid.specs.Searches.Contracts.{IsHalf}
 use Rattle.automata_hybrid.specs.Searches.Passes.{IsFound, WithoutBase}
-use Rattle.automata_hybrid.proofs.Searches.Contracts.{effect_err, effect_ok, found_err, found_none, found_some}
+use Rattle.automata_hybrid.specs.Searches.Progress.{IsSearchRun}
+use Rattle.automata_hybrid.proofs.Searches.Contracts.{err_is, found_err, found_none, found_some}
 use Rattle.automata_hybrid.proofs.Searches.Contracts.{half_err, half_none, half_some}
 use Rattle.automata_hybrid.proofs.dfa.DFA.try_search_fwd.Goals as goal
 
@@ -14,24 +15,17 @@ returns-in_err-half-clause-half c =
 
 pub returns-in_err-half-clause-effect : goal.returns-in_err-half-clause-effect
 returns-in_err-half-clause-effect c =
-    effect_err Forward c.args.self.now c.args.input.now _ _ c.from_residual.result _ c.from_residual.ensures.1 c.in_err-half.ensures.effect
+    subst (IsSearchRun Forward c.args.self.now c.args.input.now c.args.cache.now c.try_search_fwd_base.new.cache) (sym (err_is c.from_residual.result _ c.from_residual.ensures.1))
+    c.in_err-half.ensures.effect
 
 pub returns-in-Some-clause-half : goal.returns-in-Some-clause-half
 returns-in-Some-clause-half c =
     subst (λ (half : HalfMatch). IsHalf Forward c.args.self.now c.args.input.now (Ok (Some half))) (search rules)
     (half_some c.args.self.now c.args.input.now _ _ c.in-Some.is c.in_ok-half.ensures.based)
 
-pub returns-in-Some-clause-effect : goal.returns-in-Some-clause-effect
-returns-in-Some-clause-effect c =
-    effect_ok Forward c.args.self.now c.args.input.now _ _ _ _ c.in_ok-half.ensures.effect
-
 pub returns-in-None-clause-half : goal.returns-in-None-clause-half
 returns-in-None-clause-half c =
     half_none c.args.self.now c.args.input.now _ c.in-None.is c.in_ok-half.ensures.based
-
-pub returns-in-None-clause-effect : goal.returns-in-None-clause-effect
-returns-in-None-clause-effect c =
-    effect_ok Forward c.args.self.now c.args.input.now _ _ _ _ c.in_ok-half.ensures.effect
 
 pub returns-in_err-half-clause-found : goal.returns-in_err-half-clause-found
 returns-in_err-half-clause-found c =

@@ -4,8 +4,7 @@ use Rattle.automata_base.specs.Nfas.Nodes.{Automaton}
 use Rattle.automata_base.specs.declared.util.search.Direction.TheVariants.{Forward}
 use Rattle.automata_base.specs.Answers.OfPasses.{ReportedEndsAreRight, ReportedIsRight}
 use Rattle.automata_base.specs.Answers.Within.{ReportedLiesWithin}
-use Rattle.automata_hybrid.proofs.Searches.Contracts.{is_store}
-use Rattle.automata_hybrid.proofs.Searches.Follows.{cost_upto, search_follows}
+use Rattle.automata_hybrid.proofs.Searches.Follows.{call_refused}
 use Rattle.automata_hybrid.proofs.Searches.Reach.{refused_memory}
 use Rattle.automata_hybrid.proofs.Searches.Skips.{found_reported}
 use Rattle.automata_hybrid.proofs.Searches.Bounds.{lies_past}
@@ -40,17 +39,9 @@ returns-clause-based c =
       unsupported = s.unsupported;
       free = λ f.
           IfErr-weaker r _ _ (λ e x. refused_memory Forward m cache input e haystack.within.1 s.of f.reach f.supported f.clears x)
-          s.refusal;
+          (call_refused Forward m input c.args.cache.now c.search.new.cache r s.effect);
       done = s.done;
     }
 
-pub returns-clause-effect : goal.returns-clause-effect
-returns-clause-effect c =
-    search_follows Forward c.args.self.now c.args.input.now c.args.cache.now c.search.new.cache c.search.result
-    (is_store c.args.cache.now.store c.args.self.now c.requires c.see_bounds.ensures.bounds, c.see_bounds.ensures.sound) c.search.ensures.effect
-
 pub returns-clause-upto : goal.returns-clause-upto
-returns-clause-upto c =
-    cost_upto c.args.self.now c.args.input.now c.args.cache.now c.search.new.cache
-    (is_store c.args.cache.now.store c.args.self.now c.requires c.see_bounds.ensures.bounds, c.see_bounds.ensures.sound) c.search.result
-    (c.search.ensures.upto refl)
+returns-clause-upto c = c.search.ensures.upto refl

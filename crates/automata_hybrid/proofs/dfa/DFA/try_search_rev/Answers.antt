@@ -1,16 +1,17 @@
-use Rattle.std.proofs.Common.{sym, ap, subst}
-use Rattle.std.specs.Prelude.{IfErr}
+use Rattle.std.proofs.Common.{◌∙◌, sym, ap, subst}
+use Rattle.std.specs.Result.{result_err}
 use Rattle.std.proofs.lemmas.Result.{IfErr-weaker, IfOk-weaker}
 use Rattle.automata_base.specs.Nfas.Nodes.{Automaton}
 use Rattle.automata_base.specs.declared.util.search.Direction.TheVariants.{Backward}
 use Rattle.automata_base.specs.Answers.OfPasses.{ReportedEndsAreRight, ReportedIsRight}
 use Rattle.automata_base.specs.Answers.Within.{ReportedLiesWithin}
 use Rattle.automata_config.specs.Options.{match_kind_of}
-use Rattle.automata_hybrid.specs.Searches.Contracts.{IsHalf, IsSearchEffect, halves}
-use Rattle.automata_hybrid.specs.Searches.Passes.{IsFound, IsRefused}
-use Rattle.automata_hybrid.proofs.Searches.Follows.{search_follows}
+use Rattle.automata_hybrid.specs.Searches.Contracts.{IsHalf, halves}
+use Rattle.automata_hybrid.specs.Searches.Passes.{IsFound}
+use Rattle.automata_hybrid.specs.Searches.Progress.{IsSearchRun}
+use Rattle.automata_hybrid.proofs.Searches.Follows.{call_refused}
 use Rattle.automata_hybrid.proofs.Searches.Reach.{refused_memory}
-use Rattle.automata_hybrid.proofs.Searches.Contracts.{halves_effect, halves_err, halves_ok, is_store}
+use Rattle.automata_hybrid.proofs.Searches.Contracts.{halves_err, halves_error, halves_ok}
 use Rattle.automata_hybrid.proofs.Searches.Skips.{found_reported}
 use Rattle.automata_hybrid.proofs.Searches.Bounds.{lies_in}
 use Rattle.automata_hybrid.proofs.dfa.DFA.try_search_rev.Goals as goal
@@ -46,18 +47,11 @@ returns-clause-half c =
       free = λ f.
           halves_err _ r
           (IfErr-weaker r _ _ (λ e x. refused_memory Backward m cache input e haystack.within.1 s.of f.reach f.supported f.clears x)
-          s.refusal);
+          (call_refused Backward m input c.args.cache.now c.search-found.new.cache r s.effect));
       done = λ past. ap halves (s.done past);
     })
 
-pub returns-clause-refusal : goal.returns-clause-refusal
-returns-clause-refusal c =
-    subst (λ v. IfErr v (IsRefused Backward c.args.self.now c.search-found.new.cache.store c.args.input.now)) (sym c.without_base.ensures)
-    (halves_err _ c.search-found.result c.search-found.ensures.refusal)
-
 pub returns-clause-effect : goal.returns-clause-effect
 returns-clause-effect c =
-    subst (λ v. IsSearchEffect Backward c.args.self.now c.args.input.now c.args.cache.now c.search-found.new.cache v) (sym c.without_base.ensures)
-    (halves_effect Backward c.args.self.now c.args.input.now c.args.cache.now c.search-found.new.cache c.search-found.result
-    (search_follows Backward c.args.self.now c.args.input.now c.args.cache.now c.search-found.new.cache c.search-found.result
-    (is_store c.args.cache.now.store c.args.self.now c.requires c.see_bounds.ensures.bounds, c.see_bounds.ensures.sound) c.search-found.ensures.effect))
+    subst (IsSearchRun Backward c.args.self.now c.args.input.now c.args.cache.now c.search-found.new.cache)
+    (sym (ap result_err c.without_base.ensures ∙ halves_error c.search-found.result)) c.search-found.ensures.effect

@@ -1,7 +1,7 @@
-use Rattle.std.proofs.Common.{rules, ℕ, Option, subst}
-use Rattle.std.specs.Prelude.{Err}
-use Rattle.regex_automata.specs.Spans.Effects.{IsNextEffect}
+use Rattle.std.proofs.Common.{rules, ℕ, Option, Some, None, subst}
+use Rattle.std.specs.Prelude.{Ok, Err}
 use Rattle.regex_automata.specs.Spans.Iteration.{IsNextRefusal}
+use Rattle.regex_automata.specs.Spans.Runs.{IsNextRun}
 use Rattle.regex_automata.specs.declared.hybrid.regex.Regex.{Regex}
 use Rattle.lazydfa_c.specs.Calls.{regex_of}
 use Rattle.lazydfa_c.proofs.object.Searcher.go_on.Goals as goal
@@ -17,9 +17,39 @@ returns-in-Err c =
           subst (λ (l : Option ℕ). IsNextRefusal regex new input l e) c.last.ensures
           (subst (λ (r : Regex). IsNextRefusal r new input c.last.result e) c.deref.ensures c.in-Err.ensures.refusal);
       effect =
-          subst (λ (l : Option ℕ). IsNextEffect regex input l old new (Err e)) c.last.ensures
-          (subst (λ (r : Regex). IsNextEffect r input c.last.result old new (Err e)) c.deref.ensures
+          subst (λ (l : Option ℕ). IsNextRun regex input l old new (Some e)) c.last.ensures
+          (subst (λ (r : Regex). IsNextRun r input c.last.result old new (Some e)) c.deref.ensures
           c.in-Err.ensures.effect);
+      same = search rules;
+      iterated = search rules;
+    }
+
+pub returns-in-Ok-Some : goal.returns-in-Ok-Some
+returns-in-Ok-Some c =
+    let input = c.args.input.now in let old = c.args.self.now.cache in let new = c.next_match.new.cache in
+    let regex = regex_of c.args.self.now in record {
+      result = Ok (Some c.in-Ok-Some.it);
+      told = search rules;
+      next = search rules;
+      refusal = search rules;
+      effect =
+          subst (λ (l : Option ℕ). IsNextRun regex input l old new None) c.last.ensures
+          (subst (λ (r : Regex). IsNextRun r input c.last.result old new None) c.deref.ensures c.in-Ok-Some.ensures.effect);
+      same = search rules;
+      iterated = search rules;
+    }
+
+pub returns-in-Ok-None : goal.returns-in-Ok-None
+returns-in-Ok-None c =
+    let input = c.args.input.now in let old = c.args.self.now.cache in let new = c.next_match.new.cache in
+    let regex = regex_of c.args.self.now in record {
+      result = Ok None;
+      told = search rules;
+      next = search rules;
+      refusal = search rules;
+      effect =
+          subst (λ (l : Option ℕ). IsNextRun regex input l old new None) c.last.ensures
+          (subst (λ (r : Regex). IsNextRun r input c.last.result old new None) c.deref.ensures c.in-Ok-None.ensures.effect);
       same = search rules;
       iterated = search rules;
     }

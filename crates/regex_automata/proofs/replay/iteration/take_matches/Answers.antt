@@ -2,7 +2,7 @@ use Rattle.std.proofs.Common.{◌≡◌, ◌∙◌, [], ◌∷◌, ◌++◌, Non
 use Rattle.automata_base.specs.Haystacks.Input.{Input}
 use Rattle.automata_base.specs.Haystacks.Matches.{Match}
 use Rattle.automata_config.specs.declared.error.SearchError.TheVariants as search
-use Rattle.regex_automata.specs.Spans.Iteration.{IsNextRefusal, input_over}
+use Rattle.regex_automata.specs.Spans.Iteration.{IsNextMatch, IsNextRefusal, input_over}
 use Rattle.automata_base.specs.Answers.Spans.{AreFirst}
 use Rattle.regex_automata.specs.Spans.Outcomes.{FindsMatch}
 use Rattle.regex_automata.proofs.Spans.Lists.{collected, comes_first, comes_turn, input_turn, item_match, item_none}
@@ -10,7 +10,7 @@ use Rattle.regex_automata.proofs.Spans.Lists.{turn}
 use Rattle.regex_automata.proofs.Replies.MatchLists.{item_refused, match_error, none_error, refused_after, same_error}
 use Rattle.regex_automata.proofs.Replies.MatchLists.{unreported_turn}
 use Rattle.regex_automata.specs.declared.hybrid.regex.Regex.{Regex}
-use Rattle.regex_automata.proofs.Spans.Effects.{effect_turn, searches_end, searches_turn}
+use Rattle.regex_automata.proofs.Spans.Effects.{run_turn, searches_end, searches_turn}
 use Rattle.regex_automata.proofs.replay.iteration.take_matches.Goals as goal
 
 pub loop-item-preserved : goal.loop-item-preserved
@@ -32,7 +32,7 @@ loop-item-preserved c =
           i.regex i.input i.going steps.4 i.unreported u).1);
       going = step.4;
       made = searches_turn c.args.regex.now c.args.cache.now s.cache.now t.cache.now c.args.input now rest s.last t.last c.loop-item.found.items c.push.new.self.items c.in-Ok.next i.made
-          (effect_turn s.regex.now c.args.regex.now now s.last s.ended s.cache.now t.cache.now (Some (Ok c.in-Ok.next)) i.regex i.going steps.3) step.1 step.2 items;
+          (run_turn s.regex.now c.args.regex.now now s.last s.ended s.cache.now t.cache.now (Some (Ok c.in-Ok.next)) i.regex i.going steps.3) step.1 step.2 items;
       same_cache = steps.2 ∙ i.same_cache;
     }
 
@@ -105,9 +105,11 @@ returns-in_default-clause-made c =
     let t = c.next.new.self in
     let now = input_over s.haystack.now s.start s.end s.anchored s.earliest in
     let steps = rw c.in-Ok.is at c.in-Some.ensures.steps in
-    let effect = effect_turn s.regex.now c.args.regex.now now s.last s.ended s.cache.now t.cache.now (Some (Ok c.in-Ok.next)) i.regex i.going steps.3 in
+    let rest = input_over t.haystack.now t.start t.end t.anchored t.earliest in
+    let run = run_turn s.regex.now c.args.regex.now now s.last s.ended s.cache.now t.cache.now (Some (Ok c.in-Ok.next)) i.regex i.going steps.3 in
+    let next = (item_match s.regex.now t.cache.now now rest s.last t.last s.ended t.ended c.in-Ok.next steps.0).0 in
     searches_end c.args.regex.now c.args.cache.now s.cache.now t.cache.now _ c.args.input now s.last c.loop-item.found.items _ (Some search.OutOfMemory) i.made
-    (inr (refl, (c.in-Ok.next, effect))) c.in_default.ensures.items (search rules)
+    (inr (refl, (c.in-Ok.next, subst (λ (r : Regex). IsNextMatch r now s.last (Some c.in-Ok.next)) i.regex next, run))) c.in_default.ensures.items (search rules)
 
 pub returns-in-Err-clause-made : goal.returns-in-Err-clause-made
 returns-in-Err-clause-made c =
@@ -120,7 +122,7 @@ returns-in-Err-clause-made c =
     let e = c.in-Err.error in
     searches_end c.args.regex.now c.args.cache.now s.cache.now t.cache.now _ c.args.input now s.last c.loop-item.found.items c.loop-item.found.items (Some e) i.made
     (inl (
-      effect_turn s.regex.now c.args.regex.now now s.last s.ended s.cache.now t.cache.now (Some (Err e)) i.regex i.going steps.3,
+      run_turn s.regex.now c.args.regex.now now s.last s.ended s.cache.now t.cache.now (Some (Err e)) i.regex i.going steps.3,
       subst (λ (r : Regex). IsNextRefusal r t.cache.now now s.last e) i.regex
           (item_refused s.regex.now t.cache.now now rest s.last t.last s.ended t.ended e steps.0 i.going),
     )) refl (search rules)
@@ -132,4 +134,4 @@ returns-clause-made c =
     let t = c.next.new.self in
     let now = input_over s.haystack.now s.start s.end s.anchored s.earliest in
     searches_end c.args.regex.now c.args.cache.now s.cache.now t.cache.now _ c.args.input now s.last c.loop-item.found.items c.loop-item.found.items None i.made
-    (effect_turn s.regex.now c.args.regex.now now s.last s.ended s.cache.now t.cache.now None i.regex i.going c.in-None.ensures.steps.3) refl (search rules)
+    (run_turn s.regex.now c.args.regex.now now s.last s.ended s.cache.now t.cache.now None i.regex i.going c.in-None.ensures.steps.3) refl (search rules)

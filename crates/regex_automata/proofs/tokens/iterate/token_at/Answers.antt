@@ -1,18 +1,19 @@
-use Rattle.std.proofs.Common.{◌≡◌, ◌∙◌, refl, sym, ap, subst}
+use Rattle.std.proofs.Common.{◌≡◌, ◌∙◌, sym, ap, subst}
 use Rattle.std.specs.Prelude.{IfErr, IfOk, Ok}
+use Rattle.std.specs.Result.{result_err}
 use Rattle.automata_base.specs.Haystacks.Input.{Input}
 use Rattle.automata_base.specs.Haystacks.Matches.{Match}
 use Rattle.automata_base.specs.declared.util.search.Direction.TheVariants.{Forward}
 use Rattle.automata_hybrid.specs.Cache.Caches.{CacheView}
 use Rattle.automata_hybrid.specs.Machines.Machine.{Machine}
-use Rattle.automata_hybrid.specs.Searches.Contracts.{IsHalf, IsSearchEffect}
+use Rattle.automata_hybrid.specs.Searches.Contracts.{IsHalf}
 use Rattle.automata_hybrid.specs.Searches.Passes.{IsFound, IsRefused, WithoutBase}
-use Rattle.regex_automata.specs.Tokens.{HasLearnedAt, IsGivenAt, LeavesAt, asked, match_of}
-use Rattle.automata_hybrid.proofs.Searches.PassState.{if_err}
-use Rattle.regex_automata.proofs.Spans.Costs.{cost_anchored}
+use Rattle.automata_hybrid.specs.Searches.Progress.{IsSearchRun}
+use Rattle.regex_automata.specs.Tokens.{IsGivenAt, asked, match_of, search_error}
+use Rattle.automata_hybrid.proofs.Searches.Follows.{call_refused}
 use Rattle.regex_automata.proofs.Results.{is_err}
 use Rattle.regex_automata.proofs.TokenLists.Tiling.{error_is_given, token_is_given}
-use Rattle.regex_automata.proofs.TokenLists.Refusals.{error_learns, error_leaves, error_of_input, token_learns, token_leaves}
+use Rattle.regex_automata.proofs.TokenLists.Refusals.{error_is, no_error_is}
 use Rattle.automata_base.proofs.Answers.Once.{match_is}
 use Rattle.regex_automata.proofs.tokens.iterate.token_at.Goals as goal
 
@@ -29,7 +30,8 @@ returns-in_err-token-clause-item c =
     (c.try_search_fwd-found.ensures.half, c.try_search_fwd-found.ensures.found)) in
     let errors =
     subst (λ i. IfErr found (IsRefused Forward m store i)) c.asked-input.ensures
-    (subst (λ n. IfErr found (IsRefused Forward n store c.asked-input.result)) c.forward-dfa.ensures c.try_search_fwd-found.ensures.refusal) in
+    (subst (λ n. IfErr found (IsRefused Forward n store c.asked-input.result)) c.forward-dfa.ensures
+    (call_refused Forward c.forward-dfa.result.now c.asked-input.result _ _ found c.try_search_fwd-found.ensures.effect)) in
     let given =
     error_is_given m h c.args.end c.requires.within.1 store offset found c.in_err-token.field-0.0 c.requires.ahead returned errors
     (sym c.in_err-token.was ∙ c.item.ensures) in
@@ -54,45 +56,22 @@ pub returns-in_err-token-clause-effect : goal.returns-in_err-token-clause-effect
 returns-in_err-token-clause-effect c =
     let new = c.try_search_fwd-found.new.cache in
     let found = c.try_search_fwd-found.result in
-    let s : IsSearchEffect Forward c.args.regex.now.forward (asked c.args.haystack.now c.args.end c.args.offset) c.args.cache.now.forward new found =
-    subst (λ (m : Machine). IsSearchEffect Forward m (asked c.args.haystack.now c.args.end c.args.offset) c.args.cache.now.forward new found) c.forward-dfa.ensures
-    (subst (λ (i : Input). IsSearchEffect Forward c.forward-dfa.result.now i c.args.cache.now.forward new found) c.asked-input.ensures
-    (subst (λ (old : CacheView). IsSearchEffect Forward c.forward-dfa.result.now c.asked-input.result old new found) c.forward_mut.ensures.value c.try_search_fwd-found.ensures.effect)) in
-    record {
-      cost = cost_anchored Forward c.args.regex.now.forward (asked c.args.haystack.now c.args.end c.args.offset) c.args.cache.now.forward new refl s.cost s.grown;
-      grown = s.grown;
-      learned = λ nothing.
-          subst (HasLearnedAt c.args.regex.now.forward new.store c.args.haystack.now c.args.end c.args.offset)
-          (sym (is_err c.from_residual.result _ c.from_residual.ensures.1))
-          (error_learns c.args.regex.now.forward new.store c.args.haystack.now c.args.end c.args.offset found c.in_err-token.field-0.0
-          (s.learned nothing) (sym c.in_err-token.was ∙ c.item.ensures));
-      known = λ knows. (
-          let still = s.known knows in (
-            still.0,
-            if_err c.from_residual.result _ _ c.from_residual.ensures.1
-                (error_of_input c.args.offset found c.in_err-token.field-0.0 still.1 (sym c.in_err-token.was ∙ c.item.ensures)),
-          ));
-      progress = subst (LeavesAt c.args.regex.now.forward c.args.haystack.now c.args.end c.args.offset c.args.cache.now.forward new)
-          (sym (is_err c.from_residual.result _ c.from_residual.ensures.1))
-          (error_leaves c.args.regex.now.forward c.args.haystack.now c.args.end c.args.offset c.args.cache.now.forward new found c.in_err-token.field-0.0
-          s.ended s.left (sym c.in_err-token.was ∙ c.item.ensures));
-    }
+    let run : IsSearchRun Forward c.args.regex.now.forward (asked c.args.haystack.now c.args.end c.args.offset) c.args.cache.now.forward new (result_err found) =
+    subst (λ (m : Machine). IsSearchRun Forward m (asked c.args.haystack.now c.args.end c.args.offset) c.args.cache.now.forward new (result_err found)) c.forward-dfa.ensures
+    (subst (λ (i : Input). IsSearchRun Forward c.forward-dfa.result.now i c.args.cache.now.forward new (result_err found)) c.asked-input.ensures
+    (subst (λ (old : CacheView). IsSearchRun Forward c.forward-dfa.result.now c.asked-input.result old new (result_err found)) c.forward_mut.ensures.value c.try_search_fwd-found.ensures.effect)) in
+    subst (λ r. IsSearchRun Forward c.args.regex.now.forward (asked c.args.haystack.now c.args.end c.args.offset) c.args.cache.now.forward new (search_error r))
+    (sym (is_err c.from_residual.result _ c.from_residual.ensures.1))
+    (subst (IsSearchRun Forward c.args.regex.now.forward (asked c.args.haystack.now c.args.end c.args.offset) c.args.cache.now.forward new)
+    (error_is c.args.offset found c.in_err-token.field-0.0 (sym c.in_err-token.was ∙ c.item.ensures)) run)
 
 pub returns-clause-effect : goal.returns-clause-effect
 returns-clause-effect c =
     let new = c.try_search_fwd-found.new.cache in
     let found = c.try_search_fwd-found.result in
-    let s : IsSearchEffect Forward c.args.regex.now.forward (asked c.args.haystack.now c.args.end c.args.offset) c.args.cache.now.forward new found =
-    subst (λ (m : Machine). IsSearchEffect Forward m (asked c.args.haystack.now c.args.end c.args.offset) c.args.cache.now.forward new found) c.forward-dfa.ensures
-    (subst (λ (i : Input). IsSearchEffect Forward c.forward-dfa.result.now i c.args.cache.now.forward new found) c.asked-input.ensures
-    (subst (λ (old : CacheView). IsSearchEffect Forward c.forward-dfa.result.now c.asked-input.result old new found) c.forward_mut.ensures.value c.try_search_fwd-found.ensures.effect)) in
-    record {
-      cost = cost_anchored Forward c.args.regex.now.forward (asked c.args.haystack.now c.args.end c.args.offset) c.args.cache.now.forward new refl s.cost s.grown;
-      grown = s.grown;
-      learned = λ nothing.
-          token_learns c.args.regex.now.forward new.store c.args.haystack.now c.args.end c.args.offset found c.new.result c.in_ok-token.token
-          (s.learned nothing) (sym c.in_ok-token.was ∙ c.item.ensures);
-      known = λ knows. ((s.known knows).0, tt);
-      progress = token_leaves c.args.regex.now.forward c.args.haystack.now c.args.end c.args.offset c.args.cache.now.forward new found c.new.result c.in_ok-token.token
-          s.ended (sym c.in_ok-token.was ∙ c.item.ensures);
-    }
+    let run : IsSearchRun Forward c.args.regex.now.forward (asked c.args.haystack.now c.args.end c.args.offset) c.args.cache.now.forward new (result_err found) =
+    subst (λ (m : Machine). IsSearchRun Forward m (asked c.args.haystack.now c.args.end c.args.offset) c.args.cache.now.forward new (result_err found)) c.forward-dfa.ensures
+    (subst (λ (i : Input). IsSearchRun Forward c.forward-dfa.result.now i c.args.cache.now.forward new (result_err found)) c.asked-input.ensures
+    (subst (λ (old : CacheView). IsSearchRun Forward c.forward-dfa.result.now c.asked-input.result old new (result_err found)) c.forward_mut.ensures.value c.try_search_fwd-found.ensures.effect)) in
+    subst (IsSearchRun Forward c.args.regex.now.forward (asked c.args.haystack.now c.args.end c.args.offset) c.args.cache.now.forward new)
+    (no_error_is c.args.offset found c.in_ok-token.token (sym c.in_ok-token.was ∙ c.item.ensures)) run

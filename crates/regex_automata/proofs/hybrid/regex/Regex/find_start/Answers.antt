@@ -1,16 +1,16 @@
-use Rattle.std.proofs.Common.{rules, ◌≡◌, ◌∙◌, Some, None, inl, inr, refl, sym, ap, subst, arith}
+use Rattle.std.specs.Result.{result_err}
+use Rattle.std.proofs.Common.{◌≡◌, ◌∙◌, Some, None, inl, inr, refl, sym, ap, subst, arith}
+use Rattle.automata_base.specs.Answers.Spans.{back}
 use Rattle.automata_base.specs.Haystacks.Input.{Input}
 use Rattle.automata_base.specs.declared.util.search.Direction.TheVariants.{Backward}
-use Rattle.automata_hybrid.specs.Searches.Cached.{Knows}
 use Rattle.automata_hybrid.specs.Machines.StartSlots.{supports}
-use Rattle.automata_hybrid.specs.Searches.Progress.{EndsProgress, LeavesProgress}
-use Rattle.automata_hybrid.specs.Searches.Passes.{IsFound, IsRefused, NoQuitInReach, with_base}
+use Rattle.automata_hybrid.specs.Searches.Progress.{IsSearchRun}
+use Rattle.automata_hybrid.specs.Searches.Passes.{IsFound, NoQuitInReach, with_base}
 use Rattle.automata_hybrid.specs.Searches.Bounds.{LiesIn}
-use Rattle.automata_hybrid.proofs.Cache.Growth.{grown_same}
 use Rattle.automata_hybrid.proofs.Searches.PassState.{if_err}
-use Rattle.regex_automata.proofs.Spans.Costs.{back_none, back_reach, back_some, cost_back}
+use Rattle.regex_automata.proofs.Spans.Costs.{back_none, back_reach, back_some}
 use Rattle.regex_automata.proofs.Spans.NextMatches.{some_of}
-use Rattle.regex_automata.proofs.Results.{on_ok}
+use Rattle.regex_automata.proofs.Results.{is_err}
 use Rattle.regex_automata.proofs.hybrid.regex.Regex.find_start.Goals as goal
 
 pub returns-then-short-clause-of : goal.returns-then-short-clause-of
@@ -23,14 +23,7 @@ pub returns-then-short-clause-within : goal.returns-then-short-clause-within
 returns-then-short-clause-within c = (omega arith, c.requires.past.past)
 
 pub returns-then-short-clause-effect : goal.returns-then-short-clause-effect
-returns-then-short-clause-effect c = record {
-  cost = inl (c.is_short-short.ensures.yes c.if-short.true, refl);
-  grown = grown_same c.args.cache.now c.args.cache.now refl;
-  learned = λ nothing long. absurd (long (c.is_short-short.ensures.yes c.if-short.true));
-  known = λ knows. ((refl, refl), tt);
-  ended = inl (c.is_short-short.ensures.yes c.if-short.true, refl);
-  left = search rules;
-}
+returns-then-short-clause-effect c = inl (c.is_short-short.ensures.yes c.if-short.true, refl, refl)
 
 pub backward-rest-requires-clause-ordered : goal.backward-rest-requires-clause-ordered
 backward-rest-requires-clause-ordered c = c.requires.past.past
@@ -44,13 +37,6 @@ try_search_rev-requires c = c.requires.of
 pub returns-in_err-found-clause-of : goal.returns-in_err-found-clause-of
 returns-in_err-found-clause-of c = c.try_search_rev.ensures.of
 
-pub returns-in_err-found-clause-refusal : goal.returns-in_err-found-clause-refusal
-returns-in_err-found-clause-refusal c =
-    if_err c.from_residual.result _ _ c.from_residual.ensures.1 (
-      c.is_short-short.ensures.no c.if-short.false,
-      subst (λ (i : Input). IsRefused Backward c.args.self.now.reverse c.try_search_rev.new.cache.store i c.in_err-found.field-0.0) c.backward-rest.ensures c.in_err-found.ensures.refusal,
-    )
-
 pub returns-in_err-found-clause-free : goal.returns-in_err-found-clause-free
 returns-in_err-found-clause-free c = λ reach free.
     if_err c.from_residual.result _ _ c.from_residual.ensures.1
@@ -62,21 +48,13 @@ returns-in_err-found-clause-free c = λ reach free.
     }))
 
 pub returns-in_err-found-clause-effect : goal.returns-in_err-found-clause-effect
-returns-in_err-found-clause-effect c = record {
-  cost = cost_back c.args.self.now c.args.input.now c.backward-rest.result (with_base c.args.half c.args.base) c.args.cache.now c.try_search_rev.new.cache c.backward-rest.ensures
-      (c.is_short-short.ensures.no c.if-short.false) c.try_search_rev.ensures.effect.cost c.try_search_rev.ensures.effect.grown;
-  grown = c.try_search_rev.ensures.effect.grown;
-  learned = search rules;
-  known = λ knows.
-      let long = c.is_short-short.ensures.no c.if-short.false in
-      let known = c.in_err-found.ensures.effect.known (subst (Knows Backward c.args.self.now.reverse c.args.cache.now.store) (sym c.backward-rest.ensures) (knows long)) in
-      (known.0, if_err c.from_residual.result _ _ c.from_residual.ensures.1 known.1);
-  ended = on_ok c.from_residual.result _ _ c.from_residual.ensures.1;
-  left = if_err c.from_residual.result _ _ c.from_residual.ensures.1 (
-    c.is_short-short.ensures.no c.if-short.false,
-    subst (λ (i : Input). LeavesProgress Backward c.args.self.now.reverse i c.args.cache.now c.try_search_rev.new.cache c.in_err-found.field-0.0) c.backward-rest.ensures c.in_err-found.ensures.effect.left,
-  );
-}
+returns-in_err-found-clause-effect c =
+    let error = is_err c.from_residual.result _ c.from_residual.ensures.1 in
+    inr (
+      c.is_short-short.ensures.no c.if-short.false,
+      subst (IsSearchRun Backward c.args.self.now.reverse (back c.args.input.now (with_base c.args.half c.args.base)) c.args.cache.now c.try_search_rev.new.cache) (sym (ap result_err error))
+          (subst (λ (i : Input). IsSearchRun Backward c.args.self.now.reverse i c.args.cache.now c.try_search_rev.new.cache (Some c.in_err-found.field-0.0)) c.backward-rest.ensures c.in_err-found.ensures.effect),
+    )
 
 pub returns-in-Some-clause-of : goal.returns-in-Some-clause-of
 returns-in-Some-clause-of c = c.try_search_rev.ensures.of
@@ -97,21 +75,11 @@ returns-in-Some-clause-within c =
     (omega (arith, c.offset.ensures, lies.from, start), omega (arith, c.offset.ensures, lies.upto, end))
 
 pub returns-in-Some-clause-effect : goal.returns-in-Some-clause-effect
-returns-in-Some-clause-effect c = record {
-  cost = cost_back c.args.self.now c.args.input.now c.backward-rest.result (with_base c.args.half c.args.base) c.args.cache.now c.try_search_rev.new.cache c.backward-rest.ensures
-      (c.is_short-short.ensures.no c.if-short.false) c.try_search_rev.ensures.effect.cost c.try_search_rev.ensures.effect.grown;
-  grown = c.try_search_rev.ensures.effect.grown;
-  learned = λ nothing long.
-      subst (Knows Backward c.args.self.now.reverse c.try_search_rev.new.cache.store) c.backward-rest.ensures (c.in_ok-found.ensures.effect.learned nothing);
-  known = λ knows.
-      let long = c.is_short-short.ensures.no c.if-short.false in
-      c.in_ok-found.ensures.effect.known (subst (Knows Backward c.args.self.now.reverse c.args.cache.now.store) (sym c.backward-rest.ensures) (knows long));
-  ended = inr (
-    c.is_short-short.ensures.no c.if-short.false,
-    subst (λ (i : Input). EndsProgress Backward c.args.self.now.reverse i c.args.cache.now c.try_search_rev.new.cache) c.backward-rest.ensures c.in_ok-found.ensures.effect.ended,
-  );
-  left = search rules;
-}
+returns-in-Some-clause-effect c =
+    inr (
+      c.is_short-short.ensures.no c.if-short.false,
+      subst (λ (i : Input). IsSearchRun Backward c.args.self.now.reverse i c.args.cache.now c.try_search_rev.new.cache None) c.backward-rest.ensures c.in_ok-found.ensures.effect,
+    )
 
 pub returns-in-None-clause-of : goal.returns-in-None-clause-of
 returns-in-None-clause-of c = c.try_search_rev.ensures.of
@@ -124,18 +92,8 @@ returns-in-None-clause-found c = (
 )
 
 pub returns-in-None-clause-effect : goal.returns-in-None-clause-effect
-returns-in-None-clause-effect c = record {
-  cost = cost_back c.args.self.now c.args.input.now c.backward-rest.result (with_base c.args.half c.args.base) c.args.cache.now c.try_search_rev.new.cache c.backward-rest.ensures
-      (c.is_short-short.ensures.no c.if-short.false) c.try_search_rev.ensures.effect.cost c.try_search_rev.ensures.effect.grown;
-  grown = c.try_search_rev.ensures.effect.grown;
-  learned = λ nothing long.
-      subst (Knows Backward c.args.self.now.reverse c.try_search_rev.new.cache.store) c.backward-rest.ensures (c.in_ok-found.ensures.effect.learned nothing);
-  known = λ knows.
-      let long = c.is_short-short.ensures.no c.if-short.false in
-      c.in_ok-found.ensures.effect.known (subst (Knows Backward c.args.self.now.reverse c.args.cache.now.store) (sym c.backward-rest.ensures) (knows long));
-  ended = inr (
-    c.is_short-short.ensures.no c.if-short.false,
-    subst (λ (i : Input). EndsProgress Backward c.args.self.now.reverse i c.args.cache.now c.try_search_rev.new.cache) c.backward-rest.ensures c.in_ok-found.ensures.effect.ended,
-  );
-  left = search rules;
-}
+returns-in-None-clause-effect c =
+    inr (
+      c.is_short-short.ensures.no c.if-short.false,
+      subst (λ (i : Input). IsSearchRun Backward c.args.self.now.reverse i c.args.cache.now c.try_search_rev.new.cache None) c.backward-rest.ensures c.in_ok-found.ensures.effect,
+    )

@@ -1,5 +1,6 @@
-use Rattle.std.proofs.Common.{◌≡◌, ◌∙◌, ◌≤◌, ◌<◌, Bool, true, false, Option, None, refl, ap, subst}
+use Rattle.std.proofs.Common.{◌≡◌, ◌∙◌, ◌≤◌, ◌<◌, Bool, true, false, Option, None, refl, sym, ap, subst}
 use Rattle.std.specs.Prelude.{Result, Ok, Err, is_some}
+use Rattle.std.specs.Result.{result_err}
 use Rattle.automata_base.specs.Haystacks.Input.{Input}
 use Rattle.automata_base.specs.Haystacks.Matches.{HalfMatch}
 use Rattle.automata_base.specs.Nfas.Nodes.{Automaton}
@@ -9,26 +10,20 @@ use Rattle.automata_base.specs.declared.util.search.MatchErrorKind.TheVariants.{
 use Rattle.automata_base.specs.Answers.OfPasses.{ReportedIsRight}
 use Rattle.automata_config.specs.declared.error.SearchError.{SearchError}
 use Rattle.automata_config.specs.declared.error.SearchError.TheVariants as search
-use Rattle.automata_hybrid.specs.Searches.Cached.{Knows}
+use Rattle.automata_hybrid.specs.Searches.Progress.{IsSearchRun}
 use Rattle.automata_hybrid.specs.Searches.Passes.{NoQuitInReach}
 use Rattle.automata_hybrid.specs.Machines.StartSlots.{supports}
 use Rattle.automata_hybrid.specs.Steps.Starts.{quit_behind}
-use Rattle.automata_hybrid.proofs.Cache.Growth.{grown_same}
 use Rattle.automata_hybrid.proofs.Searches.PassState.{if_err}
-use Rattle.regex_automata.proofs.Spans.Costs.{cache_of}
-use Rattle.regex_automata.proofs.Spans.Truths.{asked_from, asked_to, match_right, same_asked, truth_found, truth_nearest}
+use Rattle.regex_automata.proofs.Spans.Truths.{asked_from, asked_to, match_right, truth_found, truth_nearest}
 use Rattle.regex_automata.proofs.Spans.Truths.{truth_reported}
 use Rattle.regex_automata.proofs.Replies.Contracts.{truth_returned}
-use Rattle.regex_automata.proofs.Results.{err_ok, if_ok, is_err, ok_err, on_ok, same_err, same_ok}
+use Rattle.regex_automata.proofs.Results.{err_ok, if_ok, is_err, ok_err, same_err, same_ok}
 use Rattle.regex_automata.proofs.hybrid.regex.Regex.is_match.Goals as goal
 
 pub returns-in_err-found-clause-of : goal.returns-in_err-found-clause-of
 returns-in_err-found-clause-of c =
     (c.try_search_fwd.ensures.of, c.requires.1)
-
-pub returns-in_err-found-clause-refusal : goal.returns-in_err-found-clause-refusal
-returns-in_err-found-clause-refusal c =
-    if_err c.from_residual.result _ _ c.from_residual.ensures.1 (c.asked-asked.result, c.asked-asked.ensures, c.in_err-found.ensures.refusal)
 
 pub returns-in_err-found-clause-returned : goal.returns-in_err-found-clause-returned
 returns-in_err-found-clause-returned c =
@@ -47,17 +42,13 @@ returns-in_err-found-clause-returned c =
     (λ past. absurd (err_ok (asked_to (λ (i : Input). i.end < i.start → ◌≡◌ {A = Result (Option HalfMatch) SearchError} (Err c.in_err-found.field-0.0) (Ok None)) c.args.self.now.forward c.args.input.now c.asked-asked.result c.asked-asked.ensures (λ x. x) (λ x. x) (λ l. c.in_err-found.ensures.half.done l) past)))
 
 pub returns-in_err-found-clause-effect : goal.returns-in_err-found-clause-effect
-returns-in_err-found-clause-effect c =
-    record {
-      cost = (c.asked-asked.result, c.asked-asked.ensures, c.try_search_fwd.ensures.effect.cost);
-      grown = (c.try_search_fwd.ensures.effect.grown, grown_same c.args.cache.now.reverse c.args.cache.now.reverse refl);
-      reverse = refl;
-      learned = λ nothing. on_ok c.from_residual.result _ _ c.from_residual.ensures.1;
-      known = λ knows. (let known = c.in_err-found.ensures.effect.known (knows c.asked-asked.result c.asked-asked.ensures) in ((known.0, (refl, refl)), if_err c.from_residual.result _ _ c.from_residual.ensures.1 known.1));
-      ended = on_ok c.from_residual.result _ _ c.from_residual.ensures.1;
-      left = if_err c.from_residual.result _ _ c.from_residual.ensures.1 (c.asked-asked.result, c.asked-asked.ensures, c.in_err-found.ensures.effect.left);
-      done = λ past. absurd (err_ok (asked_to (λ (i : Input). i.end < i.start → ◌≡◌ {A = Result (Option HalfMatch) SearchError} (Err c.in_err-found.field-0.0) (Ok None)) c.args.self.now.forward c.args.input.now c.asked-asked.result c.asked-asked.ensures (λ x. x) (λ x. x) (λ l. c.in_err-found.ensures.half.done l) past));
-    }
+returns-in_err-found-clause-effect c = record {
+  asked = c.asked-asked.result;
+  is = c.asked-asked.ensures;
+  run = subst (IsSearchRun Forward c.args.self.now.forward c.asked-asked.result c.args.cache.now.forward c.try_search_fwd.new.cache)
+      (sym (ap result_err (is_err c.from_residual.result _ c.from_residual.ensures.1))) c.in_err-found.ensures.effect;
+  reverse = refl;
+}
 
 pub returns-clause-of : goal.returns-clause-of
 returns-clause-of c =
@@ -88,16 +79,9 @@ returns-clause-found c = record {
 }
 
 pub returns-clause-effect : goal.returns-clause-effect
-returns-clause-effect c =
-    record {
-      cost = (c.asked-asked.result, c.asked-asked.ensures, c.try_search_fwd.ensures.effect.cost);
-      grown = (c.try_search_fwd.ensures.effect.grown, grown_same c.args.cache.now.reverse c.args.cache.now.reverse refl);
-      reverse = refl;
-      learned = λ nothing. λ other is. subst (Knows Forward c.args.self.now.forward c.try_search_fwd.new.cache.store) (same_asked c.args.self.now.forward c.args.input.now c.asked-asked.result other c.asked-asked.ensures is) (c.in_ok-found.ensures.effect.learned nothing);
-      known = λ knows. (((c.in_ok-found.ensures.effect.known (knows c.asked-asked.result c.asked-asked.ensures)).0, (refl, refl)), tt);
-      ended = (c.asked-asked.result, c.asked-asked.ensures, c.in_ok-found.ensures.effect.ended);
-      left = tt;
-      done = λ past.
-          let past' = asked_from (λ (i : Input). i.end < i.start) c.args.self.now.forward c.args.input.now c.asked-asked.result c.asked-asked.ensures past past in
-          ap (λ f. cache_of f c.args.cache.now.reverse) (c.in_ok-found.ensures.effect.done past');
-    }
+returns-clause-effect c = record {
+  asked = c.asked-asked.result;
+  is = c.asked-asked.ensures;
+  run = c.in_ok-found.ensures.effect;
+  reverse = refl;
+}

@@ -1,4 +1,6 @@
-use Rattle.std.proofs.Common.{rules, suc, ◌≡◌, ◌∙◌, ◌+◌, None, inl, refl, ap, subst, arith}
+use Rattle.std.specs.Result.{result_err}
+use Rattle.automata_base.proofs.Paths.Orders.{some_none}
+use Rattle.std.proofs.Common.{suc, ◌≡◌, ◌∙◌, ◌+◌, None, inl, inr, refl, sym, ap, subst, arith}
 use Rattle.std.specs.Prelude.{Err, IfOk, IfErr, IfSome}
 use Rattle.automata_base.specs.Haystacks.Input.{Input}
 use Rattle.automata_base.specs.Answers.Spans.{from}
@@ -6,13 +8,11 @@ use Rattle.automata_config.specs.declared.error.SearchError.{SearchError}
 use Rattle.automata_hybrid.proofs.Searches.PassState.{if_err}
 use Rattle.regex_automata.specs.Spans.Outcomes.{FindsMatch, MatchLiesIn}
 use Rattle.regex_automata.specs.Spans.Errors.{IsRegexRefusal}
-use Rattle.regex_automata.specs.Spans.Progress.{EndsSpan}
-use Rattle.regex_automata.proofs.Spans.Progress.{ends_later, leaves_later}
-use Rattle.regex_automata.proofs.Spans.NextMatches.{ahead_of, costs_twice, goes_first, goes_later, grown_twice, next_later, on_err}
+use Rattle.regex_automata.specs.Spans.Runs.{IsSpanRun}
+use Rattle.regex_automata.proofs.Spans.NextMatches.{ahead_of, goes_first, goes_later, next_later, on_err}
 use Rattle.regex_automata.proofs.Spans.NextMatches.{refused_later, some_of}
-use Rattle.regex_automata.proofs.Spans.Cached.{alone, both_stays, cleared_first, cleared_second, next_known}
-use Rattle.regex_automata.proofs.Spans.Cached.{next_learned, stands_none, stands_some}
-use Rattle.regex_automata.proofs.Results.{if_ok, is_err, ok_err, on_ok, same_err}
+use Rattle.regex_automata.proofs.Spans.Cached.{stands_none, stands_some}
+use Rattle.regex_automata.proofs.Results.{if_ok, is_err, ok_err, same_err}
 use Rattle.regex_automata.proofs.hybrid.regex.Regex.next_match.Goals as goal
 
 pub returns-in_err-found-clause-refusal : goal.returns-in_err-found-clause-refusal
@@ -31,34 +31,28 @@ returns-in_err-found-clause-ahead c =
     c.try_search.ensures.returned.done c.in_err-found.was)
 
 pub returns-in_err-found-clause-effect : goal.returns-in_err-found-clause-effect
-returns-in_err-found-clause-effect c = record {
-  cost = inl c.try_search.ensures.effect.cost;
-  grown = search rules;
-  learned = λ nothing. on_ok c.from_residual.result _ _ c.from_residual.ensures.1;
-  known = λ knows. (let known = c.in_err-found.ensures.effect.known knows.0 in (known.0, if_err c.from_residual.result _ _ c.from_residual.ensures.1 known.1));
-  ended = if_ok c.from_residual.result _ _ c.from_residual.ensures.1;
-  left = if_err c.from_residual.result _ _ c.from_residual.ensures.1 (inl c.in_err-found.ensures.effect.left);
-}
+returns-in_err-found-clause-effect c =
+    let error = ap result_err (is_err c.from_residual.result _ c.from_residual.ensures.1) in
+    record {
+      run = inl (
+        subst (IsSpanRun c.args.self.now c.args.input.now c.args.cache.now c.try_search.new.cache) (sym error) c.in_err-found.ensures.effect,
+        λ ok. absurd (some_none (sym error ∙ ok)),
+      );
+    }
 
 pub returns-in_default-clause-next : goal.returns-in_default-clause-next
 returns-in_default-clause-next c =
     inl (subst (FindsMatch c.args.self.now c.args.input.now) c.in_default.is c.in_ok-found.ensures.found)
 
 pub returns-in_default-clause-effect : goal.returns-in_default-clause-effect
-returns-in_default-clause-effect c = record {
-  cost = inl c.try_search.ensures.effect.cost;
-  grown = search rules;
-  learned = λ nothing. alone c.args.self.now c.args.input.now c.args.last c.try_search.new.cache (c.in_ok-found.ensures.effect.learned nothing)
-      (stands_none c.matches_agree.ensures c.args.self.now c.args.input.now c.args.last
-      (subst (FindsMatch c.args.self.now c.args.input.now) c.in_default.is c.in_ok-found.ensures.found));
-  known = λ knows. ((c.in_ok-found.ensures.effect.known knows.0).0, tt);
-  ended = inl (
-    stands_none c.matches_agree.ensures c.args.self.now c.args.input.now c.args.last
-        (subst (FindsMatch c.args.self.now c.args.input.now) c.in_default.is c.in_ok-found.ensures.found),
-    subst (EndsSpan c.args.self.now c.args.input.now c.args.cache.now c.try_search.new.cache) c.in_default.is c.in_ok-found.ensures.effect.ended,
-  );
-  left = search rules;
-}
+returns-in_default-clause-effect c =
+    record {
+      run = inl (
+        c.in_ok-found.ensures.effect,
+        λ ok. stands_none c.matches_agree.ensures c.args.self.now c.args.input.now c.args.last
+            (subst (FindsMatch c.args.self.now c.args.input.now) c.in_default.is c.in_ok-found.ensures.found),
+      );
+    }
 
 pub returns-then-not-is_empty_at-clause-next : goal.returns-then-not-is_empty_at-clause-next
 returns-then-not-is_empty_at-clause-next c =
@@ -70,20 +64,14 @@ returns-then-not-is_empty_at-clause-goes_on c =
     (some_of c.in_ok-found.field-0 c.in-Some.found (MatchLiesIn c.args.self.now c.args.input.now) c.in_ok-found.ensures.returned.within c.in-Some.is) (c.if-not-is_empty_at.ensures.no refl)
 
 pub returns-then-not-is_empty_at-clause-effect : goal.returns-then-not-is_empty_at-clause-effect
-returns-then-not-is_empty_at-clause-effect c = record {
-  cost = inl c.try_search.ensures.effect.cost;
-  grown = search rules;
-  learned = λ nothing. alone c.args.self.now c.args.input.now c.args.last c.try_search.new.cache (c.in_ok-found.ensures.effect.learned nothing)
-      (stands_some c.matches_agree.ensures c.args.self.now c.args.input.now c.args.last c.in-Some.found
-      (subst (FindsMatch c.args.self.now c.args.input.now) c.in-Some.is c.in_ok-found.ensures.found) (c.if-not-is_empty_at.ensures.no refl));
-  known = λ knows. ((c.in_ok-found.ensures.effect.known knows.0).0, tt);
-  ended = inl (
-    stands_some c.matches_agree.ensures c.args.self.now c.args.input.now c.args.last c.in-Some.found
-        (subst (FindsMatch c.args.self.now c.args.input.now) c.in-Some.is c.in_ok-found.ensures.found) (c.if-not-is_empty_at.ensures.no refl),
-    subst (EndsSpan c.args.self.now c.args.input.now c.args.cache.now c.try_search.new.cache) c.in-Some.is c.in_ok-found.ensures.effect.ended,
-  );
-  left = search rules;
-}
+returns-then-not-is_empty_at-clause-effect c =
+    record {
+      run = inl (
+        c.in_ok-found.ensures.effect,
+        λ ok. stands_some c.matches_agree.ensures c.args.self.now c.args.input.now c.args.last c.in-Some.found
+            (subst (FindsMatch c.args.self.now c.args.input.now) c.in-Some.is c.in_ok-found.ensures.found) (c.if-not-is_empty_at.ensures.no refl),
+      );
+    }
 
 pub overflow_add-start : goal.overflow_add-start
 overflow_add-start c =
@@ -126,49 +114,20 @@ returns-clause-ahead c =
     on_err c.try_search-2.result _ (omega (arith, lies.0, lies.1, lies.2))
 
 pub returns-clause-effect : goal.returns-clause-effect
-returns-clause-effect c = record {
-  cost = let place : c.start.result + 1 ≡ suc c.args.input.now.start = omega (arith, c.start.ensures.start) in
-      let rest : c.from-rest.result ≡ from (suc c.args.input.now.start) c.args.input.now = c.from-rest.ensures ∙ ap (λ n. from n c.args.input.now) place in
-      let found = subst (FindsMatch c.args.self.now c.args.input.now) c.in-Some.is c.in_ok-found.ensures.found in
-      costs_twice c.args.self.now c.args.input.now c.from-rest.result c.args.last c.args.cache.now c.try_search.new.cache c.try_search-2.new.cache rest
-      (c.in-Some.found, found, c.if-not-is_empty_at.ensures.yes refl) c.try_search.ensures.effect.cost c.try_search-2.ensures.effect.cost;
-  grown = grown_twice c.args.cache.now c.try_search.new.cache c.try_search-2.new.cache c.try_search.ensures.effect.grown c.try_search-2.ensures.effect.grown;
-  learned = let place : c.start.result + 1 ≡ suc c.args.input.now.start = omega (arith, c.start.ensures.start) in
-      let rest : c.from-rest.result ≡ from (suc c.args.input.now.start) c.args.input.now = c.from-rest.ensures ∙ ap (λ n. from n c.args.input.now) place in
-      λ nothing. (
-      let first = cleared_first c.args.cache.now c.try_search.new.cache c.try_search-2.new.cache c.try_search.ensures.effect.grown c.try_search-2.ensures.effect.grown nothing in
-      let second = cleared_second c.args.cache.now c.try_search.new.cache c.try_search-2.new.cache c.try_search.ensures.effect.grown c.try_search-2.ensures.effect.grown nothing in
-      next_learned c.args.self.now c.args.input.now c.from-rest.result c.args.last c.try_search-2.new.cache c.try_search-2.result rest
-      (both_stays c.args.self.now c.known_stays.ensures c.known_stays-2.ensures c.try_search.new.cache c.try_search-2.new.cache c.args.input.now
-      (c.haystack-haystack.ensures.bytes, c.haystack-haystack.ensures.within.1) c.try_search.ensures.of c.try_search-2.ensures.of c.try_search-2.ensures.effect.grown second
-      (c.in_ok-found.ensures.effect.learned first))
-      (c.try_search-2.ensures.effect.learned second));
-  known = let place : c.start.result + 1 ≡ suc c.args.input.now.start = omega (arith, c.start.ensures.start) in
-      let rest : c.from-rest.result ≡ from (suc c.args.input.now.start) c.args.input.now = c.from-rest.ensures ∙ ap (λ n. from n c.args.input.now) place in
-      let found = subst (FindsMatch c.args.self.now c.args.input.now) c.in-Some.is c.in_ok-found.ensures.found in
-      λ knows. next_known c.args.self.now c.args.input.now c.from-rest.result c.args.last c.args.cache.now c.try_search.new.cache c.try_search-2.new.cache c.try_search-2.result
-      c.in-Some.found rest found (c.if-not-is_empty_at.ensures.yes refl) knows (c.in_ok-found.ensures.effect.known knows.0).0 c.try_search-2.ensures.effect.known;
-  ended = let place : c.start.result + 1 ≡ suc c.args.input.now.start = omega (arith, c.start.ensures.start) in
-      let rest : c.from-rest.result ≡ from (suc c.args.input.now.start) c.args.input.now = c.from-rest.ensures ∙ ap (λ n. from n c.args.input.now) place in
-      let found = subst (FindsMatch c.args.self.now c.args.input.now) c.in-Some.is c.in_ok-found.ensures.found in
-      ends_later c.args.self.now c.args.input.now c.from-rest.result c.args.last c.args.cache.now c.try_search.new.cache c.try_search-2.new.cache rest (
-        c.in-Some.found,
-        found,
-        c.if-not-is_empty_at.ensures.yes refl,
-        subst (EndsSpan c.args.self.now c.args.input.now c.args.cache.now c.try_search.new.cache) c.in-Some.is c.in_ok-found.ensures.effect.ended,
-      )
-      c.try_search-2.result c.try_search-2.ensures.effect.ended;
-  left = let place : c.start.result + 1 ≡ suc c.args.input.now.start = omega (arith, c.start.ensures.start) in
-      let rest : c.from-rest.result ≡ from (suc c.args.input.now.start) c.args.input.now = c.from-rest.ensures ∙ ap (λ n. from n c.args.input.now) place in
-      let found = subst (FindsMatch c.args.self.now c.args.input.now) c.in-Some.is c.in_ok-found.ensures.found in
-      leaves_later c.args.self.now c.args.input.now c.from-rest.result c.args.last c.args.cache.now c.try_search.new.cache c.try_search-2.new.cache rest (
-        c.in-Some.found,
-        found,
-        c.if-not-is_empty_at.ensures.yes refl,
-        subst (EndsSpan c.args.self.now c.args.input.now c.args.cache.now c.try_search.new.cache) c.in-Some.is c.in_ok-found.ensures.effect.ended,
-      )
-      c.try_search-2.result c.try_search-2.ensures.effect.left;
-}
+returns-clause-effect c =
+    let place : c.start.result + 1 ≡ suc c.args.input.now.start = omega (arith, c.start.ensures.start) in
+    let rest : c.from-rest.result ≡ from (suc c.args.input.now.start) c.args.input.now = c.from-rest.ensures ∙ ap (λ n. from n c.args.input.now) place in
+    let found = subst (FindsMatch c.args.self.now c.args.input.now) c.in-Some.is c.in_ok-found.ensures.found in
+    record {
+      run = inr (
+        (c.in-Some.found, found, c.if-not-is_empty_at.ensures.yes refl),
+        (
+          c.try_search.new.cache,
+          c.in_ok-found.ensures.effect,
+          subst (λ (i : Input). IsSpanRun c.args.self.now i c.try_search.new.cache c.try_search-2.new.cache (result_err c.try_search-2.result)) rest c.try_search-2.ensures.effect,
+        ),
+      );
+    }
 
 pub returns-in_err-found-clause-unsupported : goal.returns-in_err-found-clause-unsupported
 returns-in_err-found-clause-unsupported c =

@@ -1,15 +1,17 @@
-use Rattle.std.proofs.Common.{rules, ◌∙◌, ◌≤◌, inl, inr, refl, sym, ap, subst}
+use Rattle.std.specs.Result.{result_err}
+use Rattle.std.proofs.Common.{rules, ◌∙◌, ◌≤◌, Some, None, inl, inr, refl, sym, ap, subst}
 use Rattle.std.specs.Prelude.{Err}
 use Rattle.automata_config.specs.declared.error.SearchError.{SearchError}
 use Rattle.automata_hybrid.specs.Searches.Passes.{with_base}
+use Rattle.automata_hybrid.specs.Searches.Progress.{IsSearchRun}
+use Rattle.automata_base.specs.declared.util.search.Direction.TheVariants.{Forward}
 use Rattle.automata_hybrid.specs.Searches.Bounds.{LiesPast}
-use Rattle.automata_hybrid.proofs.Cache.Growth.{grown_same}
 use Rattle.automata_hybrid.proofs.Searches.PassState.{if_err}
 use Rattle.regex_automata.specs.Spans.Outcomes.{IsStartFound}
-use Rattle.regex_automata.proofs.Spans.Costs.{cache_of, front_none, front_some, knows_both, knows_front, match_of}
+use Rattle.regex_automata.proofs.Spans.Costs.{front_none, front_some, match_of}
 use Rattle.regex_automata.proofs.Spans.Costs.{match_within, start_within}
 use Rattle.regex_automata.proofs.Spans.NextMatches.{some_of}
-use Rattle.regex_automata.proofs.Results.{err_ok, if_ok, is_err, ok_err, on_ok, same_err, same_ok}
+use Rattle.regex_automata.proofs.Results.{err_ok, if_ok, is_err, ok_err, same_err, same_ok}
 use Rattle.automata_base.proofs.Paths.Orders.{some_none}
 use Rattle.regex_automata.proofs.hybrid.regex.Regex.search.Goals as goal
 
@@ -30,20 +32,16 @@ returns-in_err-front-clause-reported c = record {
   done = λ past. absurd (err_ok (c.in_err-front.ensures.based.done past));
 }
 
-pub returns-in_err-front-clause-refusal : goal.returns-in_err-front-clause-refusal
-returns-in_err-front-clause-refusal c =
-    if_err c.from_residual.result _ _ c.from_residual.ensures.1 (inl c.in_err-front.ensures.refusal)
-
 pub returns-in_err-front-clause-effect : goal.returns-in_err-front-clause-effect
-returns-in_err-front-clause-effect c = record {
-  cost = (c.try_search_fwd_base.ensures.effect.cost, inl refl);
-  grown = (c.try_search_fwd_base.ensures.effect.grown, grown_same c.args.cache.now.reverse c.args.cache.now.reverse refl);
-  learned = λ nothing. on_ok c.from_residual.result _ _ c.from_residual.ensures.1;
-  known = λ knows. (let known = c.in_err-front.ensures.effect.known knows.0 in ((known.0, (refl, refl)), if_err c.from_residual.result _ _ c.from_residual.ensures.1 (inl known.1)));
-  ended = if_ok c.from_residual.result _ _ c.from_residual.ensures.1;
-  left = if_err c.from_residual.result _ _ c.from_residual.ensures.1 (inl (c.in_err-front.ensures.effect.left, refl));
-  done = λ past. absurd (err_ok (c.in_err-front.ensures.based.done past));
-}
+returns-in_err-front-clause-effect c =
+    let error = ap result_err (is_err c.from_residual.result _ c.from_residual.ensures.1) in
+    record {
+      run = inl (
+        subst (IsSearchRun Forward c.args.self.now.forward c.args.input.now c.args.cache.now.forward c.try_search_fwd_base.new.cache) (sym error) c.in_err-front.ensures.effect,
+        refl,
+        λ ok. absurd (some_none (sym error ∙ ok)),
+      );
+    }
 
 pub returns-in_default-clause-of : goal.returns-in_default-clause-of
 returns-in_default-clause-of c =
@@ -59,15 +57,10 @@ returns-in_default-clause-reported c = record {
 }
 
 pub returns-in_default-clause-effect : goal.returns-in_default-clause-effect
-returns-in_default-clause-effect c = record {
-  cost = (c.try_search_fwd_base.ensures.effect.cost, inl refl);
-  grown = (c.try_search_fwd_base.ensures.effect.grown, grown_same c.args.cache.now.reverse c.args.cache.now.reverse refl);
-  learned = λ nothing. knows_front c.answers_agree.ensures c.args.self.now c.args.input.now (record { forward = c.try_search_fwd_base.new.cache; reverse = c.args.cache.now.reverse }) (c.in_ok-front.ensures.effect.learned nothing.0) (front_none c.args.self.now.forward c.args.input.now c.in_ok-front.field-0 c.in_ok-front.ensures.found c.in_default.is);
-  known = λ knows. (let known = c.in_ok-front.ensures.effect.known knows.0 in ((known.0, (refl, refl)), tt));
-  ended = (c.in_ok-front.ensures.effect.ended, refl);
-  left = search rules;
-  done = λ past. ap (λ f. cache_of f c.args.cache.now.reverse) (c.in_ok-front.ensures.effect.done past);
-}
+returns-in_default-clause-effect c =
+    record {
+      run = inl (c.in_ok-front.ensures.effect, refl, λ ok. front_none c.args.self.now.forward c.args.input.now c.in_ok-front.field-0 c.in_ok-front.ensures.found c.in_default.is);
+    }
 
 pub find_start-requires-clause-of : goal.find_start-requires-clause-of
 find_start-requires-clause-of c =
@@ -90,36 +83,22 @@ returns-in_err-start-clause-reported c = record {
   done = λ past. absurd (some_none (sym c.in-Some.is ∙ same_ok (c.in_ok-front.ensures.based.done past)));
 }
 
-pub returns-in_err-start-clause-refusal : goal.returns-in_err-start-clause-refusal
-returns-in_err-start-clause-refusal c =
-    if_err c.from_residual-in_err-start.result _ _ c.from_residual-in_err-start.ensures.1 (inr (inl ((with_base c.in-Some.front.0 c.in-Some.front.1), (front_some c.args.self.now.forward c.args.input.now c.in_ok-front.field-0 c.in-Some.front.0 c.in-Some.front.1 c.in_ok-front.ensures.found c.in-Some.is), c.in_err-start.ensures.refusal)))
-
 pub returns-in_err-start-clause-effect : goal.returns-in_err-start-clause-effect
-returns-in_err-start-clause-effect c = record {
-  cost = (
-    c.try_search_fwd_base.ensures.effect.cost,
-    inr (
-      with_base c.in-Some.front.0 c.in-Some.front.1,
-      front_some c.args.self.now.forward c.args.input.now c.in_ok-front.field-0 c.in-Some.front.0 c.in-Some.front.1 c.in_ok-front.ensures.found c.in-Some.is,
-      c.find_start.ensures.effect.cost,
-    ),
-  );
-  grown = (c.try_search_fwd_base.ensures.effect.grown, c.find_start.ensures.effect.grown);
-  learned = λ nothing. on_ok c.from_residual-in_err-start.result _ _ c.from_residual-in_err-start.ensures.1;
-  known = λ knows. (let first = c.in_ok-front.ensures.effect.known knows.0 in let second = c.in_err-start.ensures.effect.known (knows.1 (with_base c.in-Some.front.0 c.in-Some.front.1) (front_some c.args.self.now.forward c.args.input.now c.in_ok-front.field-0 c.in-Some.front.0 c.in-Some.front.1 c.in_ok-front.ensures.found c.in-Some.is)) in ((first.0, second.0), if_err c.from_residual-in_err-start.result _ _ c.from_residual-in_err-start.ensures.1 (inl second.1)));
-  ended = if_ok c.from_residual-in_err-start.result _ _ c.from_residual-in_err-start.ensures.1;
-  left = if_err c.from_residual-in_err-start.result _ _ c.from_residual-in_err-start.ensures.1
-      (inr (c.in_ok-front.ensures.effect.ended, ((with_base c.in-Some.front.0 c.in-Some.front.1), (front_some c.args.self.now.forward c.args.input.now c.in_ok-front.field-0 c.in-Some.front.0 c.in-Some.front.1 c.in_ok-front.ensures.found c.in-Some.is), inl c.in_err-start.ensures.effect.left)));
-  done = λ past. absurd (some_none (sym c.in-Some.is ∙ same_ok (c.in_ok-front.ensures.based.done past)));
-}
+returns-in_err-start-clause-effect c =
+    record {
+      run = inr (
+        c.in_ok-front.ensures.effect,
+        (
+          with_base c.in-Some.front.0 c.in-Some.front.1,
+          front_some c.args.self.now.forward c.args.input.now c.in_ok-front.field-0 c.in-Some.front.0 c.in-Some.front.1 c.in_ok-front.ensures.found c.in-Some.is,
+          (Some c.in_err-start.field-0.0, c.in_err-start.ensures.effect, inl (ap result_err (is_err c.from_residual-in_err-start.result _ c.from_residual-in_err-start.ensures.1))),
+        ),
+      );
+    }
 
 pub returns-in_default-2-clause-of : goal.returns-in_default-2-clause-of
 returns-in_default-2-clause-of c =
     (c.try_search_fwd_base.ensures.of, c.find_start.ensures.of)
-
-pub returns-in_default-2-clause-refusal : goal.returns-in_default-2-clause-refusal
-returns-in_default-2-clause-refusal c =
-    inr (inr (refl, ((with_base c.in-Some.front.0 c.in-Some.front.1), (front_some c.args.self.now.forward c.args.input.now c.in_ok-front.field-0 c.in-Some.front.0 c.in-Some.front.1 c.in_ok-front.ensures.found c.in-Some.is), subst (IsStartFound c.args.self.now c.args.input.now (with_base c.in-Some.front.0 c.in-Some.front.1)) c.in_default-2.is c.in_ok-start.ensures.found)))
 
 pub returns-in_default-2-clause-reported : goal.returns-in_default-2-clause-reported
 returns-in_default-2-clause-reported c = record {
@@ -131,22 +110,17 @@ returns-in_default-2-clause-reported c = record {
 }
 
 pub returns-in_default-2-clause-effect : goal.returns-in_default-2-clause-effect
-returns-in_default-2-clause-effect c = record {
-  cost = (
-    c.try_search_fwd_base.ensures.effect.cost,
-    inr (
-      with_base c.in-Some.front.0 c.in-Some.front.1,
-      front_some c.args.self.now.forward c.args.input.now c.in_ok-front.field-0 c.in-Some.front.0 c.in-Some.front.1 c.in_ok-front.ensures.found c.in-Some.is,
-      c.find_start.ensures.effect.cost,
-    ),
-  );
-  grown = (c.try_search_fwd_base.ensures.effect.grown, c.find_start.ensures.effect.grown);
-  learned = search rules;
-  known = λ knows. (let first = c.in_ok-front.ensures.effect.known knows.0 in let second = c.in_ok-start.ensures.effect.known (knows.1 (with_base c.in-Some.front.0 c.in-Some.front.1) (front_some c.args.self.now.forward c.args.input.now c.in_ok-front.field-0 c.in-Some.front.0 c.in-Some.front.1 c.in_ok-front.ensures.found c.in-Some.is)) in ((first.0, second.0), inr refl));
-  ended = search rules;
-  left = inr (c.in_ok-front.ensures.effect.ended, ((with_base c.in-Some.front.0 c.in-Some.front.1), (front_some c.args.self.now.forward c.args.input.now c.in_ok-front.field-0 c.in-Some.front.0 c.in-Some.front.1 c.in_ok-front.ensures.found c.in-Some.is), inr (refl, c.in_ok-start.ensures.effect.ended)));
-  done = λ past. absurd (some_none (sym c.in-Some.is ∙ same_ok (c.in_ok-front.ensures.based.done past)));
-}
+returns-in_default-2-clause-effect c =
+    record {
+      run = inr (
+        c.in_ok-front.ensures.effect,
+        (
+          with_base c.in-Some.front.0 c.in-Some.front.1,
+          front_some c.args.self.now.forward c.args.input.now c.in_ok-front.field-0 c.in-Some.front.0 c.in-Some.front.1 c.in_ok-front.ensures.found c.in-Some.is,
+          (None, c.in_ok-start.ensures.effect, inr (refl, subst (IsStartFound c.args.self.now c.args.input.now (with_base c.in-Some.front.0 c.in-Some.front.1)) c.in_default-2.is c.in_ok-start.ensures.found, refl)),
+        ),
+      );
+    }
 
 pub new-requires : goal.new-requires
 new-requires c =
@@ -167,19 +141,14 @@ returns-clause-reported c = record {
 }
 
 pub returns-clause-effect : goal.returns-clause-effect
-returns-clause-effect c = record {
-  cost = (
-    c.try_search_fwd_base.ensures.effect.cost,
-    inr (
-      with_base c.in-Some.front.0 c.in-Some.front.1,
-      front_some c.args.self.now.forward c.args.input.now c.in_ok-front.field-0 c.in-Some.front.0 c.in-Some.front.1 c.in_ok-front.ensures.found c.in-Some.is,
-      c.find_start.ensures.effect.cost,
-    ),
-  );
-  grown = (c.try_search_fwd_base.ensures.effect.grown, c.find_start.ensures.effect.grown);
-  learned = λ nothing. knows_both c.answers_agree.ensures c.args.self.now c.args.input.now (cache_of c.try_search_fwd_base.new.cache c.find_start.new.cache) (with_base c.in-Some.front.0 c.in-Some.front.1) (c.in_ok-front.ensures.effect.learned nothing.0) (front_some c.args.self.now.forward c.args.input.now c.in_ok-front.field-0 c.in-Some.front.0 c.in-Some.front.1 c.in_ok-front.ensures.found c.in-Some.is) (c.in_ok-start.ensures.effect.learned nothing.1);
-  known = λ knows. (let first = c.in_ok-front.ensures.effect.known knows.0 in let second = c.in_ok-start.ensures.effect.known (knows.1 (with_base c.in-Some.front.0 c.in-Some.front.1) (front_some c.args.self.now.forward c.args.input.now c.in_ok-front.field-0 c.in-Some.front.0 c.in-Some.front.1 c.in_ok-front.ensures.found c.in-Some.is)) in ((first.0, second.0), tt));
-  ended = (c.in_ok-front.ensures.effect.ended, ((with_base c.in-Some.front.0 c.in-Some.front.1), (front_some c.args.self.now.forward c.args.input.now c.in_ok-front.field-0 c.in-Some.front.0 c.in-Some.front.1 c.in_ok-front.ensures.found c.in-Some.is), c.in_ok-start.ensures.effect.ended));
-  left = search rules;
-  done = λ past. absurd (some_none (sym c.in-Some.is ∙ same_ok (c.in_ok-front.ensures.based.done past)));
-}
+returns-clause-effect c =
+    record {
+      run = inr (
+        c.in_ok-front.ensures.effect,
+        (
+          with_base c.in-Some.front.0 c.in-Some.front.1,
+          front_some c.args.self.now.forward c.args.input.now c.in_ok-front.field-0 c.in-Some.front.0 c.in-Some.front.1 c.in_ok-front.ensures.found c.in-Some.is,
+          (None, c.in_ok-start.ensures.effect, inl refl),
+        ),
+      );
+    }

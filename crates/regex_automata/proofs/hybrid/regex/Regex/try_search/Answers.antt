@@ -5,6 +5,7 @@ use Rattle.automata_base.specs.Answers.Spans.{Found}
 use Rattle.automata_base.specs.Answers.OfPasses.{ReportedEndsAreRight, ReportedIsRight}
 use Rattle.regex_automata.proofs.Replies.Contracts.{span_returned}
 use Rattle.regex_automata.proofs.Spans.ByPaths.{match_right, outcome_right, refusals}
+use Rattle.regex_automata.proofs.Spans.Follows.{call_refused}
 use Rattle.regex_automata.proofs.hybrid.regex.Regex.try_search.Goals as goal
 
 pub returns-clause-of : goal.returns-clause-of
@@ -16,7 +17,9 @@ returns-clause-refusal c =
     let rear = subst (λ (a : Automaton). ReportedIsRight a) c.get_nfa-2.ensures c.reported_is_right-2.ensures.answer in
     let ends = subst (λ (a : Automaton). ReportedEndsAreRight a) c.get_nfa-2.ensures c.reported_is_right-2.ensures.ends in
     refusals c.args.self.now front rear ends c.start_is_right.ensures.starts c.start_is_right.ensures.quits c.search.new.cache c.args.input.now
-    (c.haystack-haystack.ensures.bytes, c.haystack-haystack.ensures.within.1) c.search.result c.search.ensures.refusal c.search.ensures.reported.free
+    (c.haystack-haystack.ensures.bytes, c.haystack-haystack.ensures.within.1) c.search.result
+    (call_refused c.args.self.now c.args.input.now c.args.cache.now c.search.new.cache c.search.result c.search.ensures.effect)
+    c.search.ensures.reported.free
 
 pub returns-clause-returned : goal.returns-clause-returned
 returns-clause-returned c =

@@ -1,8 +1,9 @@
 use Rattle.std.proofs.Common.{refl, sym, subst}
+use Rattle.automata_base.specs.declared.util.search.Direction.TheVariants.{Backward, Forward}
 use Rattle.automata_hybrid.specs.Cache.Caches.{CacheView}
 use Rattle.automata_hybrid.specs.Machines.Machine.{Machine}
 use Rattle.regex_automata.specs.Spans.Contracts.{ArePatternsReported, ArePatternsUpto}
-use Rattle.regex_automata.specs.Replay.Caches.{IsRequestEffect, ArePatternsSearched}
+use Rattle.regex_automata.specs.Replay.Caches.{IsRequestEffect, IsSearched, ArePatternsSearched}
 use Rattle.regex_automata.specs.Replay.Replies.{IsReply}
 use Rattle.regex_automata.specs.declared.hybrid.regex.caches.Cache.{Cache}
 use Rattle.regex_automata.specs.declared.replay.requests.Request.{Request}
@@ -63,4 +64,34 @@ returns-in-IsMatch-clause-made c = λ h a.
     let s = c.args.self.now in
     let answer = reply.Truth c.is_match.result in
     subst (λ (q : Request). IsRequestEffect s.regexes.now h q answer s.cache c.is_match.new.cache) (sym c.in-IsMatch.is)
-    (is_made s.regexes.now h (request.IsMatch c.in-IsMatch.input) s.cache c.is_match.new.cache answer s.regex.now a.regex (c.is_match.ensures.found, c.is_match.ensures.effect, c.is_match.ensures.refusal))
+    (is_made s.regexes.now h (request.IsMatch c.in-IsMatch.input) s.cache c.is_match.new.cache answer s.regex.now a.regex (c.is_match.ensures.found, c.is_match.ensures.effect))
+
+pub returns-in-SearchFwd-clause-made : goal.returns-in-SearchFwd-clause-made
+returns-in-SearchFwd-clause-made c = λ h a.
+    let s = c.args.self.now in
+    let input = c.in-SearchFwd.input in
+    let result = c.try_search_fwd.result in
+    let next = c.try_search_fwd.new.cache in
+    let new : Cache = record { forward = next; reverse = s.cache.reverse } in
+    subst (λ (q : Request). IsRequestEffect s.regexes.now h q (reply.Half result) s.cache new) (sym c.in-SearchFwd.is)
+    (is_made s.regexes.now h (request.SearchFwd input) s.cache new (reply.Half result) s.regex.now a.regex (
+      subst (λ (m : Machine). IsSearched Forward m input s.cache.forward next result) c.forward.ensures
+          (subst (λ (v : CacheView). IsSearched Forward c.forward.result.now input v next result) c.forward_mut.ensures.value
+          (c.try_search_fwd.ensures.found, c.try_search_fwd.ensures.effect)),
+      refl,
+    ))
+
+pub returns-in-SearchRev-clause-made : goal.returns-in-SearchRev-clause-made
+returns-in-SearchRev-clause-made c = λ h a.
+    let s = c.args.self.now in
+    let input = c.in-SearchRev.input in
+    let result = c.try_search_rev.result in
+    let next = c.try_search_rev.new.cache in
+    let new : Cache = record { reverse = next; forward = s.cache.forward } in
+    subst (λ (q : Request). IsRequestEffect s.regexes.now h q (reply.Half result) s.cache new) (sym c.in-SearchRev.is)
+    (is_made s.regexes.now h (request.SearchRev input) s.cache new (reply.Half result) s.regex.now a.regex (
+      subst (λ (m : Machine). IsSearched Backward m input s.cache.reverse next result) c.reverse.ensures
+          (subst (λ (v : CacheView). IsSearched Backward c.reverse.result.now input v next result) c.reverse_mut.ensures.value
+          (c.try_search_rev.ensures.found, c.try_search_rev.ensures.effect)),
+      refl,
+    ))

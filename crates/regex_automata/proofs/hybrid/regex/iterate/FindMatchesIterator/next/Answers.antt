@@ -2,13 +2,11 @@ use Rattle.std.proofs.Common.{◌≤◌, Some, None, refl, subst}
 use Rattle.std.specs.Prelude.{Ok, Err}
 use Rattle.automata_base.specs.Haystacks.Input.{Input}
 use Rattle.automata_base.specs.Answers.Spans.{from}
-use Rattle.regex_automata.specs.Spans.Iteration.{AreCostsTwice, GoesPast, IsNextMatch, IsNextRefusal, input_over}
-use Rattle.regex_automata.proofs.Spans.Items.{fewer_left, gives_error, gives_match, gives_none, learns_next, lies_in_haystack, some_left}
+use Rattle.regex_automata.specs.Spans.Iteration.{GoesPast, IsNextMatch, IsNextRefusal, input_over}
+use Rattle.regex_automata.proofs.Spans.Items.{fewer_left, gives_error, gives_match, gives_none, item_run, lies_in_haystack, some_left}
 use Rattle.regex_automata.proofs.Spans.Items.{reports_error, reports_found}
-use Rattle.regex_automata.proofs.Spans.Progress.{item_error, item_match, item_none}
 use Rattle.regex_automata.proofs.Spans.NextMatches.{some_of}
 use Rattle.regex_automata.proofs.hybrid.regex.iterate.FindMatchesIterator.next.Goals as goal
-use Rattle.automata_hybrid.proofs.Searches.PassState.{false_true}
 
 pub returns-in-Ok-Some-clause-steps : goal.returns-in-Ok-Some-clause-steps
 returns-in-Ok-Some-clause-steps c =
@@ -21,13 +19,8 @@ returns-in-Ok-Some-clause-steps c =
           goes.0 refl c.end-self.ensures.end c.end.ensures.end,
       refl,
       refl,
-      record {
-        cost = subst (λ (i : Input). AreCostsTwice s.regex.now i s.last s.cache.now c.next_match.new.cache) c.input-input.ensures c.next_match.ensures.effect.cost;
-        grown = c.next_match.ensures.effect.grown;
-        learns = learns_next s.regex.now s.cache.now c.next_match.new.cache c.input-input.result now s.last s.ended (Some (Ok c.in-Ok-Some.found)) c.if-self.false c.input-input.ensures
-            c.in-Ok-Some.ensures.effect.known (λ nothing good. c.in-Ok-Some.ensures.effect.learned nothing);
-        progress = item_match s.regex.now c.input-input.result now s.last s.cache.now c.next_match.new.cache c.input-input.ensures s.ended c.in-Ok-Some.field-0 c.in-Ok-Some.found c.if-self.false c.in-Ok-Some.field-0-is c.in-Ok-Some.ensures.effect.ended;
-      },
+      item_run s.regex.now c.input-input.result now s.last s.ended s.cache.now c.next_match.new.cache (Some (Ok c.in-Ok-Some.found)) c.if-self.false c.input-input.ensures
+          c.in-Ok-Some.ensures.effect,
       reports_found s.regex.now c.input-input.result now s.ended _ (Some (Ok c.in-Ok-Some.found)) c.input-input.ensures c.in-Ok-Some.ensures.unsupported,
       refl,
       lies_in_haystack s.regex.now now c.in-Ok-Some.found goes.0 s.within.1,
@@ -52,13 +45,8 @@ returns-in-Err-clause-steps c =
           (subst (λ (i : Input). IsNextRefusal s.regex.now c.next_match.new.cache i s.last c.in-Err.error) c.input-input.ensures c.in-Err.ensures.refusal),
       refl,
       refl,
-      record {
-        cost = subst (λ (i : Input). AreCostsTwice s.regex.now i s.last s.cache.now c.next_match.new.cache) c.input-input.ensures c.next_match.ensures.effect.cost;
-        grown = c.next_match.ensures.effect.grown;
-        learns = learns_next s.regex.now s.cache.now c.next_match.new.cache c.input-input.result now s.last s.ended (Some (Err c.in-Err.error)) c.if-self.false c.input-input.ensures
-            c.in-Err.ensures.effect.known (λ nothing good. absurd (false_true good));
-        progress = item_error s.regex.now c.input-input.result now s.last s.cache.now c.next_match.new.cache c.input-input.ensures s.ended c.in-Err.error c.if-self.false c.in-Err.ensures.effect.left;
-      },
+      item_run s.regex.now c.input-input.result now s.last s.ended s.cache.now c.next_match.new.cache (Some (Err c.in-Err.error)) c.if-self.false c.input-input.ensures
+          c.in-Err.ensures.effect,
       reports_error s.regex.now c.input-input.result now s.ended c.in-Err.error c.input-input.ensures c.in-Err.ensures.unsupported,
       refl,
       tt,
@@ -80,13 +68,8 @@ returns-in-Ok-None-clause-steps c =
           (subst (IsNextMatch s.regex.now c.input-input.result s.last) c.in-Ok-None.field-0-is c.in-Ok-None.ensures.next)),
       refl,
       refl,
-      record {
-        cost = subst (λ (i : Input). AreCostsTwice s.regex.now i s.last s.cache.now c.next_match.new.cache) c.input-input.ensures c.next_match.ensures.effect.cost;
-        grown = c.next_match.ensures.effect.grown;
-        learns = learns_next s.regex.now s.cache.now c.next_match.new.cache c.input-input.result now s.last s.ended (None) c.if-self.false c.input-input.ensures
-            c.in-Ok-None.ensures.effect.known (λ nothing good. c.in-Ok-None.ensures.effect.learned nothing);
-        progress = item_none s.regex.now c.input-input.result now s.last s.cache.now c.next_match.new.cache c.input-input.ensures s.ended c.in-Ok-None.field-0 c.if-self.false c.in-Ok-None.field-0-is c.in-Ok-None.ensures.effect.ended;
-      },
+      item_run s.regex.now c.input-input.result now s.last s.ended s.cache.now c.next_match.new.cache None c.if-self.false c.input-input.ensures
+          c.in-Ok-None.ensures.effect,
       reports_found s.regex.now c.input-input.result now s.ended _ None c.input-input.ensures c.in-Ok-None.ensures.unsupported,
       refl,
       tt,

@@ -1,16 +1,17 @@
--- How often searches determinize, and when they clear nothing.
-use Rattle.std.specs.Prelude.{ℕ, zero, suc, ◌≡◌, ◌+◌, ◌-◌, ◌*◌, ◌<◌, ◌≤◌}
+-- What follows of what passes and searches make of their cache: how often they determinize, when they clear nothing,
+-- how it grows, and what is cached.
+use Rattle.std.specs.Prelude.{ℕ, zero, suc, ◌≡◌, ◌+◌, ◌-◌, ◌*◌, ◌<◌, ◌≤◌, Option, None, IfSome}
 use Rattle.automata_base.specs.Answers.Answers.{later}
 use Rattle.automata_base.specs.Haystacks.Input.{Input}
 use Rattle.automata_base.specs.declared.util.search.Direction.{Direction}
-use Rattle.automata_base.specs.declared.util.search.Direction.TheVariants.{Forward}
 use Rattle.automata_base.specs.declared.util.search.Anchored.TheVariants.{No}
 use Rattle.automata_hybrid.specs.Cache.Caches.{CacheView}
-use Rattle.automata_hybrid.specs.Cache.Growth.{HasRoom}
-use Rattle.automata_hybrid.specs.Searches.Cached.{KnowsItsStart}
+use Rattle.automata_hybrid.specs.Cache.Growth.{HasRoom, ClearedNothing, IsGrown, IsStill}
+use Rattle.automata_hybrid.specs.Searches.Cached.{KnowsItsStart, IsOfInput, Knows}
 use Rattle.automata_hybrid.specs.Machines.Machine.{Machine}
-use Rattle.automata_hybrid.specs.Searches.Passes.{Skips}
-use Rattle.automata_hybrid.specs.Searches.Progress.{TriesSpans}
+use Rattle.automata_hybrid.specs.Searches.Passes.{Skips, IsRefused}
+use Rattle.automata_hybrid.specs.Searches.Progress.{HaveTried, TriesSpans, IsSearchRun}
+use Rattle.automata_config.specs.declared.error.SearchError.{SearchError}
 
 -- the most determinizations of so many passes, the first over so many bytes and each later one over one byte less: a
 -- pass determinizes at most once for each byte, for its start and at its end
@@ -52,14 +53,35 @@ pub record IsCostOfPasses (way : Direction) (m : Machine) (input : Input) (passe
 abbrev pub IsCostOfSearch : Direction → Machine → Input → CacheView → CacheView → Type 0
 IsCostOfSearch way m input old new = (passes : ℕ) × IsCostOfPasses way m input passes old new
 
--- How often a search determinizes by the bytes of its span alone: as one pass may, if no place is skipped or the search
--- is anchored; and else no more than a pass over the whole span for each of its places.
-abbrev pub SearchesCostFew : Type 0
-SearchesCostFew =
-    (way : Direction) (m : Machine) (input : Input) (old new : CacheView) → IsCostOfSearch way m input old new
-    → ((Skips m × (input.anchored ≡ No) → ⊥) → new.count ≤ old.count + (input.end - input.start + 2))
-    × (new.count ≤ old.count + (input.end - input.start + 1) * (input.end - input.start + 2))
+-- What passes cost that have ended one after another, each over the next span that is tried.
+abbrev pub PassesCost : Type 0
+PassesCost =
+    (way : Direction) (m : Machine) (input : Input) (passes : ℕ) (old new : CacheView)
+    → HaveTried way m input passes old new → IsCostOfPasses way m input passes old new
 
--- a forward search with an answer costs its passes up to the span that gave it, which begins at a base
-abbrev pub IsCostUpto : Machine → Input → (base : ℕ) → (old new : CacheView) → Type 0
-IsCostUpto m input base old new = IsCostOfPasses Forward m input (base - input.start + 1) old new
+-- what follows of a search that returns this error, or none
+pub record SearchFollows (way : Direction) (m : Machine) (input : Input) (old new : CacheView)
+    (error : Option SearchError) : Type 0 where
+  -- a pass over n bytes determinizes at most n + 2 times, and each is over another span that is tried; nothing is
+  -- cleared if there is room for as many states
+  pub cost : IsCostOfSearch way m input old new
+  -- it is one pass at most, if no place is skipped or the search is anchored
+  pub once : (Skips m × (input.anchored ≡ No) → ⊥) → IsCostOfPass way m input old new
+  -- and never more than a pass over the whole span for each of its places
+  pub most : new.count ≤ old.count + (input.end - input.start + 1) * (input.end - input.start + 2)
+  -- until the next clear nothing is lost
+  pub grown : IsGrown old new
+  -- and if it answers, all that it used is cached
+  pub learned : ClearedNothing old.store new.store → error ≡ None → Knows way m new.store input
+  -- with all that cached, it fails because of its input alone, and changes nothing but the progress
+  pub known : Knows way m old.store input → IsStill old new × IfSome error IsOfInput
+  -- why it fails: one of the passes that it makes does
+  pub refused : IfSome error (IsRefused way m new.store input)
+  -- with a span that is done, it changes nothing at all
+  pub done : input.end < input.start → new ≡ old
+
+-- All this follows of each search.
+abbrev pub SearchesFollow : Type 0
+SearchesFollow =
+    (way : Direction) (m : Machine) (input : Input) (old new : CacheView) (error : Option SearchError)
+    → IsSearchRun way m input old new error → SearchFollows way m input old new error

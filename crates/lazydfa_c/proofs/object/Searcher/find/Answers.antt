@@ -1,0 +1,32 @@
+use Rattle.std.proofs.Common.{rules, true, false, Option, Some, None, subst}
+use Rattle.std.specs.Prelude.{Ok, Err}
+use Rattle.regex_automata.specs.Spans.Runs.{IsSpanRun}
+use Rattle.regex_automata.specs.declared.hybrid.regex.Regex.{Regex}
+use Rattle.lazydfa_c.proofs.object.Searcher.find.Goals as goal
+
+pub returns-in-Ok-Some : goal.returns-in-Ok-Some
+returns-in-Ok-Some c = record {
+  result = Ok (Some c.in-Ok-Some.it);
+  told = search rules;
+  returned = search rules;
+  effect = subst (λ (r : Regex). IsSpanRun r c.args.input.now c.args.self.now.cache c.find.new.cache None) c.deref.ensures c.in-Ok-Some.ensures.effect;
+  same = search rules;
+}
+
+pub returns-in-Ok-None : goal.returns-in-Ok-None
+returns-in-Ok-None c = record {
+  result = Ok None;
+  told = search rules;
+  returned = search rules;
+  effect = subst (λ (r : Regex). IsSpanRun r c.args.input.now c.args.self.now.cache c.find.new.cache None) c.deref.ensures c.in-Ok-None.ensures.effect;
+  same = search rules;
+}
+
+pub returns-in-Err : goal.returns-in-Err
+returns-in-Err c = record {
+  result = Err c.in-Err.error;
+  told = search rules;
+  returned = search rules;
+  effect = subst (λ (r : Regex). IsSpanRun r c.args.input.now c.args.self.now.cache c.find.new.cache (Some c.in-Err.error)) c.deref.ensures c.in-Err.ensures.effect;
+  same = search rules;
+}

@@ -1,0 +1,44 @@
+use Rattle.std.proofs.Common.{rules, true, false, Option, Some, None, subst}
+use Rattle.std.specs.Prelude.{Ok, Err}
+use Rattle.automata_base.specs.declared.util.search.Direction.TheVariants.{Backward}
+use Rattle.automata_hybrid.specs.Cache.Caches.{CacheView}
+use Rattle.automata_hybrid.specs.Machines.Machine.{Machine}
+use Rattle.automata_hybrid.specs.Searches.Progress.{IsSearchRun}
+use Rattle.regex_automata.specs.declared.hybrid.regex.Regex.{Regex}
+use Rattle.lazydfa_c.proofs.object.Searcher.find_start.Goals as goal
+
+pub returns-in-Ok-Some : goal.returns-in-Ok-Some
+returns-in-Ok-Some c = record {
+  result = Ok (Some c.in-Ok-Some.half);
+  told = search rules;
+  returned = search rules;
+  effect = subst (λ (r : Regex). IsSearchRun Backward r.reverse c.args.input.now c.args.self.now.cache.reverse c.try_search_rev.new.cache None) c.deref.ensures
+      (subst (λ (m : Machine). IsSearchRun Backward m c.args.input.now c.args.self.now.cache.reverse c.try_search_rev.new.cache None) c.reverse-dfa.ensures
+      (subst (λ (v : CacheView). IsSearchRun Backward c.reverse-dfa.result.now c.args.input.now v c.try_search_rev.new.cache None) c.reverse_mut.ensures.value c.in-Ok-Some.ensures.effect));
+  forward = search rules;
+  same = search rules;
+}
+
+pub returns-in-Ok-None : goal.returns-in-Ok-None
+returns-in-Ok-None c = record {
+  result = Ok None;
+  told = search rules;
+  returned = search rules;
+  effect = subst (λ (r : Regex). IsSearchRun Backward r.reverse c.args.input.now c.args.self.now.cache.reverse c.try_search_rev.new.cache None) c.deref.ensures
+      (subst (λ (m : Machine). IsSearchRun Backward m c.args.input.now c.args.self.now.cache.reverse c.try_search_rev.new.cache None) c.reverse-dfa.ensures
+      (subst (λ (v : CacheView). IsSearchRun Backward c.reverse-dfa.result.now c.args.input.now v c.try_search_rev.new.cache None) c.reverse_mut.ensures.value c.in-Ok-None.ensures.effect));
+  forward = search rules;
+  same = search rules;
+}
+
+pub returns-in-Err : goal.returns-in-Err
+returns-in-Err c = record {
+  result = Err c.in-Err.error;
+  told = search rules;
+  returned = search rules;
+  effect = subst (λ (r : Regex). IsSearchRun Backward r.reverse c.args.input.now c.args.self.now.cache.reverse c.try_search_rev.new.cache (Some c.in-Err.error)) c.deref.ensures
+      (subst (λ (m : Machine). IsSearchRun Backward m c.args.input.now c.args.self.now.cache.reverse c.try_search_rev.new.cache (Some c.in-Err.error)) c.reverse-dfa.ensures
+      (subst (λ (v : CacheView). IsSearchRun Backward c.reverse-dfa.result.now c.args.input.now v c.try_search_rev.new.cache (Some c.in-Err.error)) c.reverse_mut.ensures.value c.in-Err.ensures.effect));
+  forward = search rules;
+  same = search rules;
+}

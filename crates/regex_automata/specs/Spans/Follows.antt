@@ -1,0 +1,84 @@
+-- What follows of what searches over two lazy DFAs make of their caches: how often they determinize, how the caches
+-- grow, and what is cached.
+use Rattle.std.specs.Prelude.{ℕ, suc, ◌≡◌, ◌<◌, ◌⊎◌, Option, Some, None, IfSome}
+use Rattle.automata_base.specs.Answers.Answers.{Half, IsInput}
+use Rattle.automata_base.specs.Haystacks.Input.{Input}
+use Rattle.automata_base.specs.Haystacks.Matches.{Match}
+use Rattle.automata_base.specs.Answers.Spans.{IsEmptyAt, IsShort, back, from}
+use Rattle.automata_base.specs.declared.util.search.Direction.TheVariants.{Backward, Forward}
+use Rattle.automata_hybrid.specs.Cache.Caches.{CacheView}
+use Rattle.automata_hybrid.specs.Searches.Follows.{IsCostOfPass, IsCostOfSearch}
+use Rattle.automata_hybrid.specs.Searches.Passes.{IsFound}
+use Rattle.regex_automata.specs.Regexes.SoundPairs.{forward_engine}
+use Rattle.regex_automata.specs.Spans.Iteration.{FindsEmptyAt}
+use Rattle.regex_automata.specs.Spans.Outcomes.{FindsMatch}
+use Rattle.regex_automata.specs.declared.hybrid.regex.Regex.{Regex}
+use Rattle.regex_automata.specs.declared.hybrid.regex.caches.Cache.{Cache}
+use Rattle.automata_config.specs.declared.error.SearchError.{SearchError}
+use Rattle.regex_automata.specs.Regexes.Caches.{AreCachesOf, AreGrown, AreStill, KnowsBoth, NothingCleared}
+use Rattle.regex_automata.specs.Spans.Errors.{HasReason, IsOfGiven}
+use Rattle.regex_automata.specs.Spans.Runs.{IsNextRun, IsSpanRun}
+
+-- what that search costs: one pass from the answer's end to its base, if it is made, and otherwise nothing
+abbrev pub IsBackCost : Regex → Input → Half → (old new : CacheView) → Type 0
+IsBackCost p input half old new =
+    (IsShort (forward_engine p) input half × (new ≡ old))
+    ⊎ ((IsShort (forward_engine p) input half → ⊥)
+    × IsCostOfPass Backward p.reverse (back input half) old new)
+
+-- what a search costs the two caches of a regex: the forward one its passes, and the reverse one the search back, if
+-- there is a forward answer
+abbrev pub AreCostsOf : Regex → Input → Cache → Cache → Type 0
+AreCostsOf p input old new =
+    IsCostOfSearch Forward p.forward input old.forward new.forward
+    × ((new.reverse ≡ old.reverse)
+    ⊎ ((half : Half) × IsFound Forward p.forward input (Some half) × IsBackCost p input half old.reverse new.reverse))
+
+-- the cost of one search; or, if it finds an empty match at the last end, of that and the search from one offset later
+abbrev pub AreCostsTwice : Regex → Input → Option ℕ → Cache → Cache → Type 0
+AreCostsTwice p input last old new =
+    AreCostsOf p input old new
+    ⊎ (FindsEmptyAt p input last
+    × ((between : Cache) × AreCostsOf p input old between × AreCostsOf p (from (suc input.start) input) between new))
+
+-- all that the next match uses is cached: what a search uses, and, if that finds an empty match at the last end, what
+-- the search from one offset later uses
+abbrev pub KnowsNext : Regex → Cache → Input → Option ℕ → Type 0
+KnowsNext p c input last =
+    KnowsBoth p c input
+    × ((m : Match) → FindsMatch p input (Some m) → IsEmptyAt last m → KnowsBoth p c (from (suc input.start) input))
+
+-- what follows of a search for a span that returns this error, or none
+pub record SpanFollows (p : Regex) (input : Input) (old new : Cache) (error : Option SearchError) : Type 0 where
+  -- how often it determinizes; and if there is room for as many states, nothing is cleared
+  pub cost : AreCostsOf p input old new
+  -- until the next clear nothing is lost
+  pub grown : AreGrown old new
+  -- and if it answers, what it used is cached
+  pub learned : NothingCleared old new → error ≡ None → KnowsBoth p new input
+  -- with all that cached it does not run out of memory, and changes nothing but the progress
+  pub known : KnowsBoth p old input → AreStill old new × IfSome error IsOfGiven
+  -- why it fails
+  pub refused : IfSome error (HasReason p new input)
+  -- with a span that is done, it changes nothing at all
+  pub done : input.end < input.start → new ≡ old
+
+-- what follows of a search for the match after another
+pub record NextFollows (p : Regex) (input : Input) (last : Option ℕ) (old new : Cache) (error : Option SearchError) :
+    Type 0 where
+  pub cost : AreCostsTwice p input last old new
+  pub grown : AreGrown old new
+  pub learned : NothingCleared old new → error ≡ None → KnowsNext p new input last
+  pub known : KnowsNext p old input last → AreStill old new × IfSome error IsOfGiven
+
+-- All this follows of each search for a span.
+abbrev pub SpansFollow : Type 0
+SpansFollow =
+    (p : Regex) (input : Input) (old new : Cache) (error : Option SearchError)
+    → IsSpanRun p input old new error → SpanFollows p input old new error
+
+-- And of each search for the next match of an iteration.
+abbrev pub NextsFollow : Regex → Type 0
+NextsFollow p =
+    (input : Input) (last : Option ℕ) (old new : Cache) (error : Option SearchError) → IsInput input → AreCachesOf old p
+    → IsNextRun p input last old new error → NextFollows p input last old new error

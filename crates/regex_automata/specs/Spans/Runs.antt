@@ -1,0 +1,77 @@
+-- What searches over two lazy DFAs make of their caches: runs of the forward DFA, and of the reverse one.
+use Rattle.std.specs.Prelude.{ℕ, suc, ◌≡◌, ◌⊎◌, Option, Some, None, Result, Bool, true, false}
+use Rattle.std.specs.Result.{result_err}
+use Rattle.automata_base.specs.Answers.Answers.{Half}
+use Rattle.automata_base.specs.Haystacks.Input.{Input}
+use Rattle.automata_base.specs.Haystacks.Matches.{Match}
+use Rattle.automata_base.specs.Answers.Spans.{IsShort, back, from}
+use Rattle.automata_base.specs.declared.util.search.Direction.TheVariants.{Backward, Forward}
+use Rattle.automata_config.specs.declared.error.SearchError.{SearchError}
+use Rattle.automata_config.specs.declared.error.SearchError.TheVariants as search
+use Rattle.automata_hybrid.specs.Cache.Caches.{CacheView}
+use Rattle.automata_hybrid.specs.Searches.Progress.{IsSearchRun}
+use Rattle.automata_hybrid.specs.Searches.Passes.{IsFound}
+use Rattle.regex_automata.specs.Spans.IsMatch.{IsAsked}
+use Rattle.regex_automata.specs.Spans.Iteration.{FindsEmptyAt}
+use Rattle.regex_automata.specs.Spans.Outcomes.{IsStartFound}
+use Rattle.regex_automata.specs.Regexes.SoundPairs.{forward_engine}
+use Rattle.regex_automata.specs.declared.hybrid.regex.Regex.{Regex}
+use Rattle.regex_automata.specs.declared.hybrid.regex.caches.Cache.{Cache}
+
+-- the search back from a forward answer, if it is made; otherwise its cache is unchanged
+abbrev pub IsBackRun : Regex → Input → Half → (old new : CacheView) → Option SearchError → Type 0
+IsBackRun p input half old new error =
+    (IsShort (forward_engine p) input half × (new ≡ old) × (error ≡ None))
+    ⊎ ((IsShort (forward_engine p) input half → ⊥)
+    × IsSearchRun Backward p.reverse (back input half) old new error)
+
+-- the forward search alone: it fails, or it finds no match
+abbrev pub IsFrontRun : Regex → Input → (old new : Cache) → Option SearchError → Type 0
+IsFrontRun p input old new error =
+    IsSearchRun Forward p.forward input old.forward new.forward error × (new.reverse ≡ old.reverse)
+    × (error ≡ None → IsFound Forward p.forward input None)
+
+-- the error after a search back: its own, if it has one; or, if it finds no start, that the two are no pair
+abbrev pub IsErrorOfBoth : Regex → Input → Half → (failed error : Option SearchError) → Type 0
+IsErrorOfBoth p input half failed error =
+    (error ≡ failed) ⊎ ((failed ≡ None) × IsStartFound p input half None × (error ≡ Some search.NotAPair))
+
+-- the forward search has an answer, and the search back fails or ends
+abbrev pub IsBothRun : Regex → Input → (old new : Cache) → Option SearchError → Type 0
+IsBothRun p input old new error =
+    IsSearchRun Forward p.forward input old.forward new.forward None
+    × ((half : Half) × IsFound Forward p.forward input (Some half)
+    × ((failed : Option SearchError) × IsBackRun p input half old.reverse new.reverse failed
+    × IsErrorOfBoth p input half failed error))
+
+-- a search for a span, by the error that it returns, if it fails
+pub record IsSpanRun (p : Regex) (input : Input) (old new : Cache) (error : Option SearchError) : Type 0 where
+  pub run : IsFrontRun p input old new error ⊎ IsBothRun p input old new error
+
+-- a search for the match after another: one search, or, if that finds an empty match at the last end, another from one
+-- offset later
+pub record IsNextRun (p : Regex) (input : Input) (last : Option ℕ) (old new : Cache) (error : Option SearchError) :
+    Type 0 where
+  pub run :
+      (IsSpanRun p input old new error × (error ≡ None → FindsEmptyAt p input last → ⊥))
+      ⊎ (FindsEmptyAt p input last
+      × ((between : Cache) × IsSpanRun p input old between None
+      × IsSpanRun p (from (suc input.start) input) between new error))
+
+-- the error of an item, if it is one
+abbrev pub item_error : Option (Result Match SearchError) → Option SearchError
+item_error None = None
+item_error (Some r) = result_err r
+
+-- an item of an iteration is such a search; nothing changes once the iteration has ended
+abbrev pub IsItemRun :
+    Regex → Input → Option ℕ → (ended : Bool) → (old new : Cache) → Option (Result Match SearchError) → Type 0
+IsItemRun p input last true old new item = new ≡ old
+IsItemRun p input last false old new item = IsNextRun p input last old new (item_error item)
+
+-- a search for whether there is a match is one of the forward DFA
+pub record IsTruthRun (p : Regex) (input : Input) (old new : Cache) (error : Option SearchError) : Type 0 where
+  pub asked : Input
+  pub is : IsAsked p.forward input asked
+  pub run : IsSearchRun Forward p.forward asked old.forward new.forward error
+  pub reverse : new.reverse ≡ old.reverse
