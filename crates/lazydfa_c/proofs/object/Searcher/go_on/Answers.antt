@@ -1,6 +1,6 @@
 use Rattle.std.proofs.Common.{rules, ℕ, Option, Some, None, subst}
 use Rattle.std.specs.Prelude.{Ok, Err}
-use Rattle.regex_automata.specs.Spans.Iteration.{IsNextRefusal}
+use Rattle.regex_automata.specs.Spans.Iteration.{IsNextMatch, IsNextRefusal}
 use Rattle.regex_automata.specs.Spans.Runs.{IsNextRun}
 use Rattle.regex_automata.specs.declared.hybrid.regex.Regex.{Regex}
 use Rattle.lazydfa_c.specs.Calls.{regex_of}
@@ -30,7 +30,10 @@ returns-in-Ok-Some c =
     let regex = regex_of c.args.self.now in record {
       result = Ok (Some c.in-Ok-Some.it);
       told = search rules;
-      next = search rules;
+      next =
+          subst (λ (l : Option ℕ). IsNextMatch regex input l (Some c.in-Ok-Some.it)) c.last.ensures
+          (subst (λ (r : Regex). IsNextMatch r input c.last.result (Some c.in-Ok-Some.it)) c.deref.ensures
+          (subst (IsNextMatch c.deref.result.now input c.last.result) c.in-Ok-Some.field-0-is c.in-Ok-Some.ensures.next));
       refusal = search rules;
       effect =
           subst (λ (l : Option ℕ). IsNextRun regex input l old new None) c.last.ensures
@@ -45,7 +48,10 @@ returns-in-Ok-None c =
     let regex = regex_of c.args.self.now in record {
       result = Ok None;
       told = search rules;
-      next = search rules;
+      next =
+          subst (λ (l : Option ℕ). IsNextMatch regex input l None) c.last.ensures
+          (subst (λ (r : Regex). IsNextMatch r input c.last.result None) c.deref.ensures
+          (subst (IsNextMatch c.deref.result.now input c.last.result) c.in-Ok-None.field-0-is c.in-Ok-None.ensures.next));
       refusal = search rules;
       effect =
           subst (λ (l : Option ℕ). IsNextRun regex input l old new None) c.last.ensures
