@@ -1,30 +1,19 @@
 -- Searches whose start and transitions are all cached.
-use Rattle.std.proofs.Common.{ℕ, suc, ◌≡◌, ◌∙◌, ◌+◌, ◌^◌, ◌<◌, ◌≤◌, ◌⊎◌, inl, inr, Bool, true, false, length, Option}
-use Rattle.std.proofs.Common.{Some, None, refl, sym, subst, arith}
-use Rattle.std.specs.Prelude.{Result, IfErr}
-use Rattle.std.proofs.lemmas.Result.{IfErr-weaker}
+use Rattle.std.proofs.Common.{ℕ, suc, ◌≡◌, ◌+◌, ◌^◌, ◌<◌, ◌≤◌, ◌⊎◌, inl, inr}
+use Rattle.std.proofs.Common.{sym, subst, arith}
 use Rattle.automata_base.specs.Answers.Answers.{Tries, later}
 use Rattle.automata_base.specs.Haystacks.Input.{Input}
 use Rattle.automata_base.specs.Paths.Paths.{next}
 use Rattle.automata_base.specs.declared.util.search.Direction.{Direction}
-use Rattle.automata_base.specs.declared.util.search.Anchored.{Anchored}
-use Rattle.automata_base.proofs.Paths.Orders.{none_some}
-use Rattle.automata_config.specs.declared.error.StartError.{StartError}
-use Rattle.automata_config.specs.declared.error.StartError.TheVariants as start
-use Rattle.automata_config.specs.declared.error.SearchError.{SearchError}
-use Rattle.automata_hybrid.specs.Cache.Stores.{Stored, IsKnownStart}
+use Rattle.automata_hybrid.specs.Cache.Stores.{Stored}
 use Rattle.automata_hybrid.specs.Cache.Caches.{CacheView}
 use Rattle.automata_hybrid.specs.Cache.Growth.{IsGrown, Keeps}
-use Rattle.automata_hybrid.specs.Searches.Cached.{IsOfInput, Knows, KnowsItsStart, KnowsPass, KnowsUnit}
+use Rattle.automata_hybrid.specs.Searches.Cached.{Knows, KnowsItsStart, KnowsPass, KnowsUnit}
 use Rattle.automata_hybrid.specs.Steps.Steps.{unit_class}
-use Rattle.automata_hybrid.specs.Machines.Machine.{Machine, table_stride, slot_count}
+use Rattle.automata_hybrid.specs.Machines.Machine.{Machine, table_stride}
 use Rattle.automata_hybrid.specs.Searches.PassState.{HasLearnedUnit}
 use Rattle.automata_hybrid.specs.Searches.Passes.{Finds, Reads, Skips, state_in, tape_in}
-use Rattle.automata_hybrid.specs.Machines.StartSlots.{slot_behind, supports}
-use Rattle.automata_hybrid.specs.Steps.Starts.{HasSlot, IsStartEffect, IsStartRefusal, IsStartRefusedAt, KnowsStart}
-use Rattle.automata_hybrid.specs.Steps.Starts.{MayStart, quit_behind, search_refusal}
 use Rattle.automata_hybrid.specs.Cache.Table.{Names}
-use Rattle.automata_hybrid.proofs.Searches.PassState.{false_true}
 use Rattle.std.proofs.lemmas.Bool.{cases_lt}
 
 -- all that a pass used is cached: its start state, and each transition that it took
@@ -51,40 +40,6 @@ module _ (way : Direction) (m : Machine) (old new : Stored) (input : Input) (of 
 -- what a pass has learned it has cached
 pub learned_knows : (way : Direction) (m : Machine) (c : Stored) (input : Input) → HasLearnedAll way m c input → KnowsPass way m c input
 learned_knows way m c input all = λ may. (all.0, λ k reads clean. (all.1 k reads).0)
-
--- a start state that is cached, where it may be asked for, changes nothing and does not fail for lack of room
-module _ (m : Machine) (old new : CacheView) (mode : Anchored) (behind : Option ℕ) (r : Result ℕ SearchError) (behind_at start_at : ℕ)
-    (slots : length old.store.starts ≡ slot_count m)
-    (refusal : IfErr r (IsStartRefusedAt m mode behind behind_at start_at old new))
-    (effect : IsStartEffect m mode behind old new)
-    (begin : MayStart m mode behind → HasSlot m mode behind → IsKnownStart old.store (slot_behind m mode behind)) where
-  knows : MayStart m mode behind → HasSlot m mode behind → KnowsStart m old.store mode behind
-  knows may l = (may, (omega (arith, l, slots), begin may l))
-
-  of_input : (e : SearchError) → IsStartRefusedAt m mode behind behind_at start_at old new e → IsOfInput e
-  of_input e h = subst IsOfInput (sym h.reported) (go h.error h.refused.why) where
-    not : MayStart m mode behind → ⊥
-    not may = h.refused.unknown (knows may (h.refused.slot may))
-
-    go : (error : StartError) → IsStartRefusal m old.store mode behind error → IsOfInput (search_refusal error behind_at start_at)
-    go (start.Quit byte) why = tt
-    go (start.UnsupportedAnchored reported) why = tt
-    go (start.Cache err) why = absurd (not why.0)
-    go start.OutOfMemory why = absurd (not why)
-
-  same : new ≡ old
-  same = go (quit_behind m behind) refl (supports m mode) refl where
-    in_slot : MayStart m mode behind → (slot_behind m mode behind < slot_count m) ⊎ (slot_count m ≤ slot_behind m mode behind) → new ≡ old
-    in_slot may (inl l) = effect.known (knows may l)
-    in_slot may (inr l) = effect.past may l
-
-    go : (o : Option ℕ) → quit_behind m behind ≡ o → (b : Bool) → supports m mode ≡ b → new ≡ old
-    go None e true f = in_slot (e, f) (cases_lt (slot_behind m mode behind) (slot_count m))
-    go None e false f = effect.barred (λ may. false_true (sym f ∙ may.1))
-    go (Some byte) e b f = effect.barred (λ may. none_some (sym may.0 ∙ e))
-
-  pub start_idle : (new ≡ old) × IfErr r IsOfInput
-  start_idle = (same, IfErr-weaker r _ _ of_input refusal)
 
 -- what a search has learned over the spans that it tried so far
 abbrev pub LearnedSpans : Direction → Machine → Stored → Input → ℕ → Type 0

@@ -6,8 +6,7 @@ use Rattle.automata_base.specs.Powersets.Powerset.{Powerset}
 use Rattle.automata_base.specs.declared.util.search.Direction.{Direction}
 use Rattle.automata_hybrid.specs.declared.dfa.row.Row.{Row}
 use Rattle.automata_hybrid.specs.Cache.Stores.{Stored}
-use Rattle.automata_hybrid.specs.Cache.Changes.{IsStateAdded, IsComputed, IsStarted}
-use Rattle.automata_hybrid.specs.Cache.Usage.{cleared}
+use Rattle.automata_hybrid.specs.Cache.Changes.{IsComputed, IsStarted}
 use Rattle.automata_hybrid.specs.Cache.Growth.{KeepsProgress}
 use Rattle.automata_hybrid.specs.Machines.Machine.{Machine}
 use Rattle.automata_hybrid.specs.Cache.Progress.{progress_cleared, saturated}
@@ -42,11 +41,6 @@ started_progress old new slot id r (inr (lacks, between, inl (fits, g), to, e)) 
 started_progress old new slot id r (inr (lacks, between, inr (full, may, g), to, e)) =
     clears_progress old new (ap (λ (s : Stored). s.clears) e ∙ ap (λ (s : Stored). s.clears) g)
     (ap (λ (s : Stored). s.searched) e ∙ ap (λ (s : Stored). s.searched) g)
-
-pub added_progress : (old new : Stored) (r : Row) → IsStateAdded old (cleared old) r new → KeepsProgress old new
-added_progress old new r (inl (fits, e)) = inl (ap (λ (s : Stored). s.clears) e, ap (λ (s : Stored). s.searched) e)
-added_progress old new r (inr (full, may, e)) =
-    clears_progress old new (ap (λ (s : Stored). s.clears) e) (ap (λ (s : Stored). s.searched) e)
 
 -- the spans before one that a search tries
 pub spans_before :

@@ -58,7 +58,7 @@ module _ (m : Machine) (skips : Skips m ⊎ (Skips m → ⊥)) (input : Input) (
       (there : HasItsState mid.store.table before.stage) (reports : ReportsNext Forward m input before walk)
       (ended : EndsCall Forward m input before walk mid new) where
     c : CallFollows {T = Unit {0}} Ids Forward m input before walk mid new (Ok tt)
-    c = call_ended {T = Unit {0}} Forward m input skips before k made.reported tt Ids walk mid new made.of reports ended
+    c = call_ended Forward m input skips before k made.reported tt Ids walk mid new made.of reports ended
 
     leaves : Leaves Forward m input skips before k made.reported walk mid new
     leaves = call_leaves_units Forward m input skips before k made.reported walk mid new made.of ended
