@@ -1,5 +1,5 @@
 //! Overlapping matches, and sets of patterns.
-ghost use Rattle.std.specs.Prelude.{ℕ, ◌≡◌, ◌+◌, ◌-◌, ◌^◌, ◌++◌, List, [], ◌∷◌, false, length, min, replicate};
+ghost use Rattle.std.specs.Prelude.{◌≡◌, ◌+◌, ◌-◌, ◌^◌, ◌++◌, List, [], ◌∷◌, false, length, min, replicate};
 ghost use Rattle.std.specs.Prelude.{IfErr, OnErr, OnOk};
 ghost use Rattle.automata_base.specs.Haystacks.PatternSet.{members};
 ghost use Rattle.lazydfa_c.specs.Batches.{AllEnds, AllStarts, AreAll, IsStep, NoneListed};
