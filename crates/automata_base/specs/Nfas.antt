@@ -5,6 +5,7 @@ pub mod Engines
 pub mod Getters
 pub mod Shapes
 pub mod Errors
+pub mod Totals
 pub mod Accepted
 pub mod Drafts
 pub mod Unions

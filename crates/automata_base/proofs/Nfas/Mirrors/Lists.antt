@@ -135,7 +135,7 @@ pub some_id : (b : Bool) (n id : ℕ) → cond b (Some n) None ≡ Some id → i
 some_id true n id e = sym (some_inj e)
 some_id false n id e = absurd (none_some e)
 
-pub nothing : (o : Option ℕ) → ((x : ℕ) → o ≡ Some x → ⊥) → o ≡ None
+pub nothing : {A : Type 0} (o : Option A) → ((x : A) → o ≡ Some x → ⊥) → o ≡ None
 nothing None f = refl
 nothing (Some x) f = absurd (f x refl)
 

@@ -1,7 +1,7 @@
 -- What the tests of `NFA::from_states` mean.
 use Rattle.std.proofs.Common.{ℕ, ◌≡◌, ◌<◌, ◌≤◌, ◌+◌, ◌-◌, ◌^◌, ◌&&◌, Bool, true, false, leb, ltb, List, [], ◌∷◌, length, map}
 use Rattle.std.proofs.Common.{Option, Some, None, Result, Ok, Err, refl, sym, ap, ◌∙◌, arith}
-use Rattle.std.specs.Prelude.{sum_by}
+use Rattle.std.specs.Prelude.{sum_by, IsOk}
 use Rattle.std.proofs.lemmas.Bool.{leb-true, ltb-true}
 use Rattle.std.proofs.lemmas.List.{length-map}
 use Rattle.std.proofs.lemmas.List.Sums.{sum_by-cons}
@@ -9,6 +9,7 @@ use Rattle.automata_base.specs.declared.nfa.thompson.NfaError.{NfaError}
 use Rattle.automata_base.specs.declared.nfa.thompson.NfaError.TheVariants.{TooLarge, StartRange, StateRange, Ranges}
 use Rattle.automata_base.specs.declared.nfa.thompson.NfaError.TheVariants.{PatternRange}
 use Rattle.automata_base.specs.declared.nfa.thompson.State.{State}
+use Rattle.automata_base.specs.declared.nfa.thompson.checks.Totals.{Totals}
 use Rattle.automata_base.specs.Nfas.Nodes.{extra_of, stack_room}
 use Rattle.automata_base.specs.Nfas.Errors.{alternates_of, is_small, is_narrow, starts_below, states_below}
 use Rattle.automata_base.specs.Nfas.Errors.{states_ordered, matches_below, unless, states_refusal, refusal_of, every}
@@ -91,14 +92,14 @@ same_error : {x y : NfaError} → ◌≡◌ {A = Option NfaError} (Some x) (Some
 same_error e = cc
 
 -- If the first test that fails is known, its error is returned.
-abbrev pub IsReported : Option NfaError → ℕ → Result ℕ NfaError → Type 0
-IsReported o room r = ((e : NfaError) → o ≡ Some e → r ≡ Err e) × (o ≡ None → r ≡ Ok room)
+abbrev pub IsReported : Option NfaError → Result Totals NfaError → Type 0
+IsReported o r = ((e : NfaError) → o ≡ Some e → r ≡ Err e) × (o ≡ None → IsOk r)
 
-pub reported : (o : Option NfaError) (room : ℕ) (x : NfaError) → o ≡ Some x → IsReported o room (Err x)
-reported o room x h = (λ e k. ap (λ z. Err z) (same_error (sym h ∙ k)), λ k. absurd (some_apart (sym h ∙ k)))
+pub reported : (o : Option NfaError) (x : NfaError) → o ≡ Some x → IsReported o (Err x)
+reported o x h = (λ e k. ap (λ z. Err z) (same_error (sym h ∙ k)), λ k. absurd (some_apart (sym h ∙ k)))
 
-pub reported_none : (o : Option NfaError) (room room' : ℕ) → o ≡ None → room' ≡ room → IsReported o room (Ok room')
-reported_none o room room' h s = (λ e k. absurd (some_apart (sym k ∙ h)), λ k. ap (λ z. Ok z) s)
+pub reported_none : (o : Option NfaError) (totals : Totals) → o ≡ None → IsReported o (Ok totals)
+reported_none o totals h = (λ e k. absurd (some_apart (sym k ∙ h)), λ k. refl)
 
 pub all_passed :
     (a b c d e f : Bool) → chain a b c d e f ≡ None
@@ -130,38 +131,38 @@ room_small xs h =
     all
 
 module _ (s : List State) (a u : ℕ) (t : List ℕ) where
-  pub refused_small : is_small s t ≡ false → IsReported (states_refusal s a u t) (stack_room s) (Err TooLarge)
+  pub refused_small : is_small s t ≡ false → IsReported (states_refusal s a u t) (Err TooLarge)
   refused_small h =
-      reported (states_refusal s a u t) (stack_room s) TooLarge
+      reported (states_refusal s a u t) TooLarge
       (refusal_is s a u t
       ∙ stops_small (is_small s t) (is_narrow s) (starts_below (length s) a u t) (states_below (length s) s) (states_ordered s) (matches_below (length t) s) h)
 
-  pub refused_wide : is_small s t ≡ true → is_narrow s ≡ false → IsReported (states_refusal s a u t) (stack_room s) (Err TooLarge)
+  pub refused_wide : is_small s t ≡ true → is_narrow s ≡ false → IsReported (states_refusal s a u t) (Err TooLarge)
   refused_wide h i =
-      reported (states_refusal s a u t) (stack_room s) TooLarge
+      reported (states_refusal s a u t) TooLarge
       (refusal_is s a u t
       ∙ stops_narrow (is_small s t) (is_narrow s) (starts_below (length s) a u t) (states_below (length s) s) (states_ordered s) (matches_below (length t) s) h i)
 
   pub refused_starts :
-      is_small s t ≡ true → is_narrow s ≡ true → starts_below (length s) a u t ≡ false → IsReported (states_refusal s a u t) (stack_room s) (Err StartRange)
+      is_small s t ≡ true → is_narrow s ≡ true → starts_below (length s) a u t ≡ false → IsReported (states_refusal s a u t) (Err StartRange)
   refused_starts h i j =
-      reported (states_refusal s a u t) (stack_room s) StartRange
+      reported (states_refusal s a u t) StartRange
       (refusal_is s a u t
       ∙ stops_starts (is_small s t) (is_narrow s) (starts_below (length s) a u t) (states_below (length s) s) (states_ordered s) (matches_below (length t) s) h i j)
 
   pub refused_targets :
       is_small s t ≡ true → is_narrow s ≡ true → starts_below (length s) a u t ≡ true → states_below (length s) s ≡ false
-      → IsReported (states_refusal s a u t) (stack_room s) (Err StateRange)
+      → IsReported (states_refusal s a u t) (Err StateRange)
   refused_targets h i j k =
-      reported (states_refusal s a u t) (stack_room s) StateRange
+      reported (states_refusal s a u t) StateRange
       (refusal_is s a u t
       ∙ stops_targets (is_small s t) (is_narrow s) (starts_below (length s) a u t) (states_below (length s) s) (states_ordered s) (matches_below (length t) s) h i j k)
 
   pub refused_ranges :
       is_small s t ≡ true → is_narrow s ≡ true → starts_below (length s) a u t ≡ true → states_below (length s) s ≡ true → states_ordered s ≡ false
-      → IsReported (states_refusal s a u t) (stack_room s) (Err Ranges)
+      → IsReported (states_refusal s a u t) (Err Ranges)
   refused_ranges h i j k l =
-      reported (states_refusal s a u t) (stack_room s) Ranges
+      reported (states_refusal s a u t) Ranges
       (refusal_is s a u t
       ∙ stops_ranges (is_small s t) (is_narrow s) (starts_below (length s) a u t) (states_below (length s) s) (states_ordered s) (matches_below (length t) s) h i j k l)
 
@@ -174,15 +175,15 @@ module _ (s : List State) (a u : ℕ) (t : List ℕ) where
 
   pub refused_patterns :
       is_small s t ≡ true → is_narrow s ≡ true → starts_below (length s) a u t ≡ true → states_below (length s) s ≡ true → states_ordered s ≡ true
-      → matches_below (length t) s ≡ false → IsReported (states_refusal s a u t) (stack_room s) (Err PatternRange)
+      → matches_below (length t) s ≡ false → IsReported (states_refusal s a u t) (Err PatternRange)
   refused_patterns h i j k l m =
-      reported (states_refusal s a u t) (stack_room s) PatternRange (last_test h i j k l ∙ ap (λ z. unless z PatternRange None) m)
+      reported (states_refusal s a u t) PatternRange (last_test h i j k l ∙ ap (λ z. unless z PatternRange None) m)
 
   pub refused_none :
-      (room : ℕ) → is_small s t ≡ true → is_narrow s ≡ true → starts_below (length s) a u t ≡ true → states_below (length s) s ≡ true → states_ordered s ≡ true
-      → matches_below (length t) s ≡ true → room ≡ stack_room s → IsReported (states_refusal s a u t) (stack_room s) (Ok room)
-  refused_none room h i j k l m r =
-      reported_none (states_refusal s a u t) (stack_room s) room (last_test h i j k l ∙ ap (λ z. unless z PatternRange None) m) r
+      (totals : Totals) → is_small s t ≡ true → is_narrow s ≡ true → starts_below (length s) a u t ≡ true → states_below (length s) s ≡ true → states_ordered s ≡ true
+      → matches_below (length t) s ≡ true → IsReported (states_refusal s a u t) (Ok totals)
+  refused_none totals h i j k l m =
+      reported_none (states_refusal s a u t) totals (last_test h i j k l ∙ ap (λ z. unless z PatternRange None) m)
 
 -- What holds if all tests passed.
 pub record IsPassed (s : List State) (a u : ℕ) (t : List ℕ) : Type 0 where

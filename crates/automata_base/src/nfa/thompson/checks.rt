@@ -1,16 +1,12 @@
 //! The tests of `NFA::from_states`.
 ghost use Rattle.std.specs.Prelude.{◌≡◌, ◌<◌, ◌-◌, ◌+◌, ltb, leb, ◌&&◌, ℕ, Some};
 ghost use Rattle.automata_base.specs.Lists.{all_below};
-ghost use Rattle.automata_base.specs.Nfas.Nfa.{any_node};
-ghost use Rattle.automata_base.specs.Haystacks.Looks.{look_index};
-ghost use Rattle.automata_base.specs.Nfas.Nodes.{nodes_of, stack_room};
+ghost use Rattle.automata_base.specs.Nfas.Totals.{AreTotals};
 ghost use Rattle.automata_base.specs.Nfas.Errors.{transitions_below, state_below, states_below, match_below};
 ghost use Rattle.automata_base.specs.Nfas.Errors.{matches_below};
 ghost use Rattle.automata_base.specs.Nfas.Errors.{ordered_from, state_ordered, states_ordered, alternates_of};
 ghost use Rattle.automata_base.specs.Nfas.Errors.{is_small, is_narrow, starts_below, states_refusal};
-ghost use Rattle.automata_base.specs.Haystacks.LookSets.{truth_of};
-ghost use Rattle.automata_base.specs.Haystacks.Looks.{Look};
-ghost use Rattle.std.specs.Prelude.{eqb, false, true, None, Option, IsTrue};
+ghost use Rattle.std.specs.Prelude.{false, true, None, IsTrue, IsOk, IfOk, IfSome, OnSome};
 
 use crate::nfa::thompson::reading::add_look;
 use crate::nfa::thompson::{NfaError, State, Transition};
@@ -119,6 +115,26 @@ fn are_matches_below(states: &[State], n: usize) -> bool
     true
 }
 
+/// Whether the state passes the tests of targets, which are below `n`, of ranges, and of patterns, which are below
+/// `patterns`.
+fn is_sound(state: &State, n: usize, patterns: usize) -> bool
+    ensures below { IsTrue result → state_below n state.now ≡ true }
+    ensures ordered { IsTrue result → state_ordered state.now ≡ true }
+    ensures matches { IsTrue result → match_below patterns state.now ≡ true }
+{
+    match state {
+        State::ByteRange { lo, hi, next } => is_below(*next, n) && is_range(*lo, *hi),
+        State::Sparse(transitions) => targets_below(transitions, n) && is_ordered(transitions),
+        State::Dense(targets) => ids_below(targets.as_slice(), n),
+        State::Look { next, .. } => is_below(*next, n),
+        State::Union { alternates } => ids_below(alternates, n),
+        State::BinaryUnion { alt1, alt2 } => is_below(*alt1, n) && is_below(*alt2, n),
+        State::Capture { next, .. } => is_below(*next, n),
+        State::Fail => true,
+        State::Match { pattern } => pattern_below(*pattern, patterns),
+    }
+}
+
 /// Whether all states pass the tests of targets, which are below `n`, of ranges, and of patterns, which are below
 /// `patterns`. It reads each state once.
 fn are_sound(states: &[State], n: usize, patterns: usize) -> bool
@@ -127,29 +143,11 @@ fn are_sound(states: &[State], n: usize, patterns: usize) -> bool
     ensures matches { IsTrue result → matches_below patterns states.now ≡ true }
 {
     for i in 0..states.len() {
-        if !is_state_below(&states[i], n) {
-            return false;
-        }
-        if !is_state_ordered(&states[i]) {
-            return false;
-        }
-        if !is_match_below(&states[i], patterns) {
+        if !is_sound(&states[i], n, patterns) {
             return false;
         }
     }
     true
-}
-
-/// The looks that occur in these states.
-pub fn looks_of(states: &[State]) -> LookSet
-    ensures { (other : Look) → truth_of result other
-        ≡ any_node (λ look. eqb (look_index look) (look_index other)) (nodes_of states.now) }
-{
-    let mut looks = LookSet::empty();
-    for i in 0..states.len() {
-        looks = add_look(looks, &states[i]);
-    }
-    looks
 }
 
 /// Whether the range begins at byte `low` or after it, and does not end before it begins.
@@ -222,14 +220,24 @@ fn count_alternates(state: &State) -> usize
     }
 }
 
-/// The room that the stack of a closure needs, if the unions have at most 2^31 alternates in all.
-pub fn room_of(states: &[State]) -> Option<usize>
-    ensures some { (room : ℕ) → result ≡ Some room → room ≡ stack_room states.now }
-    ensures few { (room : ℕ) → result ≡ Some room → is_narrow states.now ≡ true }
+/// What the states of an NFA come to.
+#[derive(Clone, Copy, Debug)]
+pub struct Totals {
+    /// The room that the stack of a closure needs, in states.
+    pub room: usize,
+    /// The looks that occur.
+    pub looks: LookSet,
+}
+
+/// The totals of these states, if the unions have at most 2^31 alternates in all. It reads each state once.
+pub fn totals_of(states: &[State]) -> Option<Totals>
+    ensures totals { IfSome result (AreTotals states.now) }
+    ensures few { OnSome result (is_narrow states.now ≡ true) }
     ensures none { result ≡ None → is_narrow states.now ≡ false }
 {
     let mut total: usize = 0;
     let mut room: usize = 1;
+    let mut looks = LookSet::empty();
     for i in 0..states.len() {
         let more = count_alternates(&states[i]);
         if more > MAX_ALTERNATES - total {
@@ -237,8 +245,9 @@ pub fn room_of(states: &[State]) -> Option<usize>
         }
         total = total + more;
         room = room + more.saturating_sub(1);
+        looks = add_look(looks, &states[i]);
     }
-    Some(room)
+    Some(Totals { room, looks })
 }
 
 /// Whether there are at most 2^27 states and at most 2^27 patterns.
@@ -255,22 +264,22 @@ fn are_starts(n: usize, anchored: StateID, unanchored: StateID, starts: &[StateI
     is_below(anchored, n) && is_below(unanchored, n) && ids_below(starts, n)
 }
 
-/// Makes the tests of `NFA::from_states`, one after another, and returns the room that the stack of a closure needs.
+/// Makes the tests of `NFA::from_states`, one after another, and returns the totals of the states.
 pub fn test(
     states: &[State],
     anchored: StateID,
     unanchored: StateID,
     starts: &[StateID],
-) -> Result<usize, NfaError>
+) -> Result<Totals, NfaError>
     ensures refused { (error : NfaError)
         → states_refusal states.now anchored unanchored starts.now ≡ Some error → result ≡ Err error }
-    ensures passed { states_refusal states.now anchored unanchored starts.now ≡ None
-        → result ≡ Ok (stack_room states.now) }
+    ensures totals { IfOk result (AreTotals states.now) }
+    ensures passed { states_refusal states.now anchored unanchored starts.now ≡ None → IsOk result }
 {
     if !has_few(states, starts) {
         return Err(NfaError::TooLarge);
     }
-    let Some(room) = room_of(states) else {
+    let Some(totals) = totals_of(states) else {
         return Err(NfaError::TooLarge);
     };
     if !are_starts(states.len(), anchored, unanchored, starts) {
@@ -278,7 +287,7 @@ pub fn test(
     }
     // Most lists pass. Only one that does not is read test by test, for the first that fails.
     if are_sound(states, states.len(), starts.len()) {
-        return Ok(room);
+        return Ok(totals);
     }
     if !are_below(states, states.len()) {
         return Err(NfaError::StateRange);
@@ -289,5 +298,5 @@ pub fn test(
     if !are_matches_below(states, starts.len()) {
         return Err(NfaError::PatternRange);
     }
-    Ok(room)
+    Ok(totals)
 }

@@ -15,7 +15,7 @@ mod utf8;
 
 pub use crate::nfa::thompson::builder::Builder;
 pub use crate::nfa::thompson::building::BuildError;
-use crate::nfa::thompson::checks::{looks_of, room_of, test};
+use crate::nfa::thompson::checks::{Totals, test, totals_of};
 use crate::nfa::thompson::cycles::are_looks_acyclic;
 use crate::nfa::thompson::reach::{reaches_match, reaches_match_in, set_for, skips_lazily};
 use crate::nfa::thompson::reverse::{Mirror, reverse_error, reverse_states};
@@ -310,6 +310,7 @@ impl NFA {
     ghost use Rattle.automata_base.specs.Powersets.Passes.{Occurs};
     ghost use Rattle.automata_base.specs.Paths.Paths.{IsLookAcyclic, KeepsCycles};
     ghost use Rattle.automata_base.specs.Nfas.Errors.{states_refusal};
+    ghost use Rattle.automata_base.specs.Nfas.Totals.{AreTotals};
     ghost use Rattle.automata_base.specs.Nfas.ReversedSizes.{most_states, most_alternates, MayBeTooLarge};
     ghost use Rattle.automata_base.specs.Paths.Starts.{mode_start};
     ghost use Rattle.automata_base.specs.Haystacks.Tapes.{Forward};
@@ -339,7 +340,7 @@ impl NFA {
         ensures memory { states_refusal states.items start_anchored start_unanchored start_pattern.items ≡ None
             → IsOkUnless result NfaError.OutOfMemory }
     {
-        let room = test(
+        let totals = test(
             states.as_slice(),
             start_anchored,
             start_unanchored,
@@ -352,12 +353,12 @@ impl NFA {
             start_unanchored,
             start_pattern,
             flags,
-            room,
+            totals,
         )
     }
 
     /// Makes the NFA of lists that have passed the tests of `from_states`, and computes what it keeps beside them.
-    /// `room` is how many states may wait on the stack of a closure. The only error is out of memory.
+    /// The totals are those of the states. The only error is out of memory.
     fn make(
         alloc: Global,
         states: Vec<State>,
@@ -365,10 +366,10 @@ impl NFA {
         start_unanchored: StateID,
         start_pattern: Vec<StateID>,
         flags: Flags,
-        room: usize,
+        totals: Totals,
     ) -> Result<NFA, NfaError>
         requires passed { states_refusal states.items start_anchored start_unanchored start_pattern.items ≡ None }
-        requires room { room ≡ stack_room states.items }
+        requires totals { AreTotals states.items totals }
         ensures same { IfOk result (λ nfa. nfa ≡ automaton
             states.items start_anchored start_unanchored start_pattern.items flags) }
         ensures memory { IsOkUnless result NfaError.OutOfMemory }
@@ -381,7 +382,7 @@ impl NFA {
             start_anchored,
             start_unanchored,
         );
-        let looks = looks_of(states.as_slice());
+        let Totals { room, looks } = totals;
         let is_look_acyclic = are_looks_acyclic(alloc, states.as_slice(), looks)?;
         let data = Data {
             states,
@@ -695,7 +696,7 @@ impl NFA {
             entries,
             root,
         } = mirror;
-        let Some(room) = room_of(states.as_slice()) else {
+        let Some(totals) = totals_of(states.as_slice()) else {
             return Err(ReverseError::TooLarge);
         };
         let given = self.flags();
@@ -703,7 +704,7 @@ impl NFA {
             reverse: !given.reverse,
             ..given
         };
-        match NFA::make(self.alloc, states, root, root, entries, flags, room) {
+        match NFA::make(self.alloc, states, root, root, entries, flags, totals) {
             Ok(nfa) => Ok(nfa),
             Err(_) => Err(ReverseError::OutOfMemory),
         }

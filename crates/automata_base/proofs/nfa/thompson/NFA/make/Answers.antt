@@ -46,9 +46,9 @@ pub are_looks_acyclic-requires : goal.are_looks_acyclic-requires
 are_looks_acyclic-requires c =
     let tests = passing c.args.states.items c.args.start_anchored c.args.start_unanchored c.args.start_pattern.items c.requires.passed in
     record {
-      few = subst (λ s. length s ≤ 134217728) (sym c.as_slice-6.ensures.value) tests.small;
-      range = subst (λ s. states_below (length s) s ≡ true) (sym c.as_slice-6.ensures.value) tests.range;
-      looks = λ look. c.looks_of-looks.ensures look ∙ ap (λ z. any_node (λ other. eqb (look_index other) (look_index look)) (nodes_of z)) (c.as_slice-5.ensures.value ∙ sym c.as_slice-6.ensures.value);
+      few = subst (λ s. length s ≤ 134217728) (sym c.as_slice-5.ensures.value) tests.small;
+      range = subst (λ s. states_below (length s) s ≡ true) (sym c.as_slice-5.ensures.value) tests.range;
+      looks = λ look. c.requires.totals.looks look ∙ ap (λ z. any_node (λ other. eqb (look_index other) (look_index look)) (nodes_of z)) (sym c.as_slice-5.ensures.value);
     }
 
 pub invariant_of-result : goal.invariant_of-result
@@ -59,19 +59,19 @@ invariant_of-result c =
       start_unanchored = c.args.start_unanchored;
       start_pattern = c.args.start_pattern;
       flags = c.args.flags;
-      looks = c.looks_of-looks.result;
-      room = c.args.room;
+      looks = c.args.totals.looks;
+      room = c.args.totals.room;
       has_empty = c.reaches_match_in-has_empty.result;
       skips_lazily = c.skips_lazily-skips_lazily.result;
       is_look_acyclic = c.in_ok-is_look_acyclic.is_look_acyclic;
     } in
     subst (λ (d : Data). IsConsistent d false) (sym c.in-Ok.ensures.ok)
     (sound d false c.requires.passed
-    (λ look. c.looks_of-looks.ensures look ∙ ap (λ z. any_node (λ other. eqb (look_index other) (look_index look)) (nodes_of z)) c.as_slice-5.ensures.value)
-    c.requires.room
+    c.requires.totals.looks
+    c.requires.totals.room
     (subst (λ s. IsTrue c.reaches_match_in-has_empty.result ↔ ReachesMatch s c.args.start_pattern.items) c.as_slice-2.ensures.value
     (subst (λ t. IsTrue c.reaches_match_in-has_empty.result ↔ ReachesMatch c.as_slice-2.result.now t) c.as_slice-3.ensures.value c.reaches_match_in-has_empty.ensures.found))
     (subst (λ s. IsTrue c.skips_lazily-skips_lazily.result ↔ SkipsLazily (automaton s c.args.start_anchored c.args.start_unanchored c.args.start_pattern.items c.args.flags)) c.as_slice-4.ensures.value
     (c.skips_lazily-skips_lazily.ensures c.args.start_pattern.items c.args.flags))
-    (subst (λ s. IsTrue c.in_ok-is_look_acyclic.is_look_acyclic ↔ AreLooksAcyclic s) c.as_slice-6.ensures.value
+    (subst (λ s. IsTrue c.in_ok-is_look_acyclic.is_look_acyclic ↔ AreLooksAcyclic s) c.as_slice-5.ensures.value
     c.in_ok-is_look_acyclic.ensures))
