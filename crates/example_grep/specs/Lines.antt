@@ -2,7 +2,8 @@
 use Rattle.std.specs.Prelude.{ℕ, ◌≡◌, ◌==◌, ◌+◌, ◌-◌, ◌^◌, Bool, true, false, List, [], ◌∷◌, ◌++◌, length, min, Some}
 use Rattle.std.specs.List.{slice_split}
 use Rattle.regex_hir.specs.Re.{Re}
-use Rattle.regex_automata.specs.Promises.{Forward, Half, Input, IsAnswer, LeftmostFirst, Machine, No, engine_of, match_kind_of}
+use Rattle.regex_automata.specs.Promises.{Forward, Half, Input, IsAnswer, LeftmostFirst, Machine, No, engine_of}
+use Rattle.regex_automata.specs.Promises.{match_kind_of}
 use Rattle.example_patterns.specs.Patterns.{IsJoinedNfa}
 use Rattle.example_patterns.specs.declared.compile.Options.{Options}
 use Rattle.example_grep.specs.declared.lines.Line.{Line}

@@ -38,7 +38,8 @@ ImplementAll [] (re ∷ res) = ⊥
 ImplementAll (k ∷ ks) [] = ⊥
 ImplementAll (k ∷ ks) (re ∷ res) = Implements k re × ImplementAll ks res
 
--- The NFA has the states of the kit's one, behind `base` others, as pattern `p`; it reads forward, and lines end at `\n`.
+-- The NFA has the states of the kit's one, behind `base` others, as pattern `p`; it reads forward, and lines end at
+-- `\n`.
 pub record Holds (n : Nfa) (base p : ℕ) (k : kit_nfa.Nfa) : Type 0 where
   pub nodes :
       (q : ℕ) → q < length k.states.items

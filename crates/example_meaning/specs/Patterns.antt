@@ -31,7 +31,8 @@ end_of res hay m = record { pattern = first_at res hay m.start; offset = m.trace
 abbrev pub find_any : (utf8 : Bool) → List Re → List ℕ → ℕ → Option kit.Match
 find_any utf8 res hay start = cond utf8 (kit.find_str (any_of res) hay start) (kit.find (any_of res) hay start)
 
--- What a search finds after a match that ended at `last`, where an empty match at `last` is skipped; and before any match.
+-- What a search finds after a match that ended at `last`, where an empty match at `last` is skipped; and before any
+-- match.
 abbrev pub next_by : (search : ℕ → Option kit.Match) → (last : Option ℕ) → Option kit.Match
 next_by search None = search 0
 next_by search (Some end) = kit.find_after search end

@@ -7,9 +7,11 @@ use Rattle.automata_base.specs.Haystacks.LookSets.{truth_of}
 use Rattle.automata_base.specs.Nfas.Nfa.{any_node}
 use Rattle.automata_base.specs.Nfas.Nodes.{nodes_of, stack_room}
 
+-- what one pass over the states counts
 pub record AreTotals (states : List State) (totals : Totals) : Type 0 where
   -- the room that the stack of a closure needs
   pub room : totals.room ≡ stack_room states
   -- the looks that occur
   pub looks :
-      (other : Look) → truth_of totals.looks other ≡ any_node (λ look. eqb (look_index look) (look_index other)) (nodes_of states)
+      (other : Look)
+      → truth_of totals.looks other ≡ any_node (λ look. eqb (look_index look) (look_index other)) (nodes_of states)
