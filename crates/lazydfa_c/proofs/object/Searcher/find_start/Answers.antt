@@ -7,8 +7,8 @@ use Rattle.automata_hybrid.specs.Searches.Progress.{IsSearchRun}
 use Rattle.regex_automata.specs.declared.hybrid.regex.Regex.{Regex}
 use Rattle.lazydfa_c.proofs.object.Searcher.find_start.Goals as goal
 
-pub returns-in-Ok-Some : goal.returns-in-Ok-Some
-returns-in-Ok-Some c = record {
+pub returns-in-Ok-Some-clause-found : goal.returns-in-Ok-Some-clause-found
+returns-in-Ok-Some-clause-found c = record {
   result = Ok (Some c.in-Ok-Some.half);
   told = search rules;
   returned = search rules;
@@ -19,8 +19,8 @@ returns-in-Ok-Some c = record {
   same = search rules;
 }
 
-pub returns-in-Ok-None : goal.returns-in-Ok-None
-returns-in-Ok-None c = record {
+pub returns-in-Ok-None-clause-found : goal.returns-in-Ok-None-clause-found
+returns-in-Ok-None-clause-found c = record {
   result = Ok None;
   told = search rules;
   returned = search rules;
@@ -31,8 +31,8 @@ returns-in-Ok-None c = record {
   same = search rules;
 }
 
-pub returns-in-Err : goal.returns-in-Err
-returns-in-Err c = record {
+pub returns-in-Err-clause-found : goal.returns-in-Err-clause-found
+returns-in-Err-clause-found c = record {
   result = Err c.in-Err.error;
   told = search rules;
   returned = search rules;

@@ -24,8 +24,8 @@ returns-in-Err-clause-found c =
       iterated = search rules;
     }
 
-pub returns-in-Ok-Some : goal.returns-in-Ok-Some
-returns-in-Ok-Some c =
+pub returns-in-Ok-Some-clause-found : goal.returns-in-Ok-Some-clause-found
+returns-in-Ok-Some-clause-found c =
     let input = c.args.input.now in let old = c.args.self.now.cache in let new = c.next_match.new.cache in
     let regex = regex_of c.args.self.now in record {
       result = Ok (Some c.in-Ok-Some.it);
@@ -42,8 +42,8 @@ returns-in-Ok-Some c =
       iterated = search rules;
     }
 
-pub returns-in-Ok-None : goal.returns-in-Ok-None
-returns-in-Ok-None c =
+pub returns-in-Ok-None-clause-found : goal.returns-in-Ok-None-clause-found
+returns-in-Ok-None-clause-found c =
     let input = c.args.input.now in let old = c.args.self.now.cache in let new = c.next_match.new.cache in
     let regex = regex_of c.args.self.now in record {
       result = Ok None;
