@@ -556,11 +556,12 @@ static lazydfa_status run_walk(struct walk *w) {
 static void step(size_t at) {
     lazydfa_status status = { LAZYDFA_NONE, 0, 0 }, found = { LAZYDFA_OK, 0, 0 };
     lazydfa_half none = { 0, 0, 0 };
-    struct walk *w = &walks[at];
+    struct walk *w;
     if (at >= walk_count) {
         fputs("bad walk", stdout);
         return;
     }
+    w = &walks[at];
     if (w->regex != current) {
         fputs("bad other", stdout);
         return;
