@@ -7,7 +7,7 @@ ghost use Rattle.automata_base.specs.Paths.Paths.{next};
 ghost use Rattle.automata_base.specs.Powersets.Powerset.{Powerset};
 ghost use Rattle.automata_base.specs.Haystacks.Tapes.{is_split};
 ghost use Rattle.automata_hybrid.specs.Cache.Caches.{IsCacheOf};
-ghost use Rattle.automata_hybrid.specs.Searches.PassState.{IsFollowed};
+ghost use Rattle.automata_hybrid.specs.Searches.PassState.{IsFollowed, IsMet};
 ghost use Rattle.automata_hybrid.specs.Walks.Parts.{IsAdvanceEffect, IsUnitEffect, StandsAfterUnits};
 ghost use Rattle.automata_hybrid.specs.Searches.Passes.{HasReadNoQuit, IsUnitRefusal, Skips};
 ghost use Rattle.automata_hybrid.specs.Searches.Passes.{state_in, tape_in, unit_offset};
@@ -30,17 +30,21 @@ pub(crate) struct Arrival {
 }
 
 impl DFA {
-    /// The state after what a walk reads at a place, to which the search moves.
+    /// The state after what a walk reads at a place, to which the search moves. `met` is the next ID if the caller has
+    /// seen it, and else unknown.
+    #[inline(always)]
     fn read_unit(
         &self,
         cache: &mut Cache,
         input: &Input<'_>,
         way: Direction,
         id: LazyStateID,
+        met: LazyStateID,
         place: usize,
     ) -> Result<LazyStateID, SearchError>
         requires of { IsCacheOf cache.old self.now }
         requires at { StandsAfterUnits way self.now cache.old.store.table input.now place id }
+        requires met { IsMet way self.now cache.old.store input.now place id met }
         ensures of { IsCacheOf cache.new self.now }
         ensures leads { IfOk result (λ n. Leads cache.new.store.table n
             (state_in way self.now input.now (suc place))) }
@@ -53,10 +57,11 @@ impl DFA {
         cache.see_bounds();
         let at = span_offset(input, way, place);
         let quit_at = unit_offset(input, way, place);
-        self.read(cache, id, unit_at(input, way, place), quit_at, at)
+        self.read(cache, id, met, unit_at(input, way, place), quit_at, at)
     }
 
     /// Whether a state's patterns match at a place of a walk that is not skipped.
+    #[inline(always)]
     fn reports(
         &self,
         cache: &Cache,
@@ -84,6 +89,7 @@ impl DFA {
     }
 
     /// Follows cached transitions without a tag: each direction has its own loop.
+    #[inline(always)]
     fn follow_walk(
         &self,
         cache: &Cache,
@@ -98,6 +104,7 @@ impl DFA {
         requires named { Names cache.now.store.table from (state_in way self.now input.now start) }
         ensures within { result.at ≤ input.now.end - input.now.start }
         ensures followed { IsFollowed way self.now cache.now.store input.now 0 start result.at result.id }
+        ensures met { IsMet way self.now cache.now.store input.now result.at result.id result.next }
     {
         match way {
             Direction::Forward => self.follow(cache, input, Direction::Forward, start, from),
@@ -107,6 +114,7 @@ impl DFA {
 
     /// Goes on with a walk from its state to the next one whose patterns match. The search stays open at the last byte
     /// that is read.
+    #[inline(always)]
     pub(crate) fn advance(
         &self,
         cache: &mut Cache,
@@ -131,7 +139,7 @@ impl DFA {
         let mut read = units;
         while read <= last {
             let stop = self.follow_walk(cache, input, way, read, id);
-            let next = self.read_unit(cache, input, way, stop.id, stop.at)?;
+            let next = self.read_unit(cache, input, way, stop.id, stop.next, stop.at)?;
             cache.see_bounds();
             if next.is_dead() {
                 return Ok(Arrival {

@@ -171,18 +171,21 @@ impl DFA {
         Ok(next)
     }
 
-    /// The state after a unit, to which the search moves. A quit byte ends it, and is an error at its own offset.
+    /// The state after a unit, to which the search moves. `met` is the next ID if the caller has seen it, and else
+    /// unknown. A quit byte ends the search, and is an error at its own offset.
     #[inline(always)]
     fn read(
         &self,
         cache: &mut Cache,
         id: LazyStateID,
+        met: LazyStateID,
         unit: Option<u8>,
         quit_at: usize,
         at: usize,
     ) -> Result<LazyStateID, SearchError>
         requires of { IsCacheOf cache.old self.now }
         requires valid { IsRowId cache.old.store.table id }
+        requires met { met < unknown_id → met ≡ known_step self.now cache.old.store id unit }
         ensures of { IsCacheOf cache.new self.now }
         ensures answer { IfOk result (IsReadAnswer self.now id unit cache.old cache.new) }
         ensures refusal { IfErr result (IsReadRefusal self.now id unit quit_at at cache.old cache.new) }
@@ -190,7 +193,7 @@ impl DFA {
             (with_progress (End at) cache.old) cache.new result }
     {
         match unit {
-            Some(byte) => self.read_met(cache, id, LazyStateID::UNKNOWN, byte, quit_at, at),
+            Some(byte) => self.read_met(cache, id, met, byte, quit_at, at),
             None => {
                 cache.move_search(at);
                 self.read_end(cache, id, at)

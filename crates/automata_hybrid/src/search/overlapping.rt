@@ -110,6 +110,7 @@ impl DFA {
     }
 
     /// The ID of the state that a walk goes on from: its start state, or what is held of its state.
+    #[inline(always)]
     fn resume(
         &self,
         cache: &mut Cache,
@@ -146,6 +147,7 @@ impl DFA {
 
     /// Goes on with a walk that has reported all patterns of its state, to the next match. Its new state is held before
     /// the search ends.
+    #[inline(always)]
     fn walk_on(
         &self,
         cache: &mut Cache,
@@ -190,6 +192,7 @@ impl DFA {
     }
 
     /// Takes a walk to a state whose patterns match, and reports the first one.
+    #[inline(always)]
     fn stand(
         &self,
         cache: &Cache,
@@ -268,6 +271,7 @@ impl DFA {
     }
 
     /// One call of a walk, by what is held of its state.
+    #[inline(always)]
     pub(crate) fn go_on(
         &self,
         cache: &mut Cache,
@@ -309,6 +313,7 @@ impl DFA {
     }
 
     /// The pattern that a walk reports next at its state.
+    #[inline(always)]
     fn next_pattern(&self, cache: &Cache, walk: &Cursor, held: &Held) -> Option<PatternID>
         requires on { walk.now.stage ≡ Ended → ⊥ }
         requires held { IsHeldAt cache.now.store.table walk.now.stage held.now }

@@ -354,7 +354,8 @@ impl DFA {
         let at = span_offset(input, way, last);
         end_before_last(cache, way, at);
         let unit = unit_at(input, way, last);
-        let next = match self.read(cache, id, unit, unit_offset(input, way, last), at) {
+        let met = LazyStateID::UNKNOWN;
+        let next = match self.read(cache, id, met, unit, unit_offset(input, way, last), at) {
             Ok(next) => next,
             Err(error) => return Err(error),
         };

@@ -71,6 +71,7 @@ impl Held {
     }
 
     /// Holds the state of a row in place of its own, in the same way. If that cannot be held, nothing has changed.
+    #[inline(always)]
     pub(crate) fn move_to(&mut self, cache: &Cache, id: LazyStateID) -> Result<(), AllocError>
         requires { IsRowId cache.now.store.table id }
         ensures holds { OnOk result ((q : Powerset) → Names cache.now.store.table id q

@@ -4,10 +4,15 @@ use Rattle.automata_base.specs.Retraced.Steps.{successor}
 use Rattle.automata_base.specs.declared.util.search.Direction.{Direction}
 use Rattle.automata_hybrid.specs.Searches.Passes.{state_in}
 use Rattle.automata_hybrid.specs.Cache.Table.{Leads}
+use Rattle.automata_hybrid.specs.Steps.Steps.{known_step}
 use Rattle.automata_hybrid.proofs.Searches.PassState.{state_more}
 use Rattle.automata_hybrid.proofs.Searches.UnitsRead.{refused_here, taken_here}
 use Rattle.automata_hybrid.proofs.dfa.DFA.read_unit.Goals as goal
 use Rattle.automata_config.specs.Options.{match_kind_of}
+
+pub read-requires-clause-met : goal.read-requires-clause-met
+read-requires-clause-met c = λ low.
+    (c.requires.met low).cached ∙ ap (known_step c.args.self.now c.args.cache.now.store c.args.id) (sym c.unit_at.ensures)
 
 pub returns-clause-leads : goal.returns-clause-leads
 returns-clause-leads c =
