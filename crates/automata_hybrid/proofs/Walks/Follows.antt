@@ -22,7 +22,7 @@ use Rattle.automata_hybrid.specs.Steps.Starts.{MayStart}
 use Rattle.automata_hybrid.specs.Steps.Steps.{quits_on, unit_class}
 use Rattle.automata_hybrid.specs.Walks.Answers.{HasItsState, HasReported, HasReportedAt, HasReportedBy, IsRefusalAt, IsResumeRefusal, IsSilent, IsWalkRefusal}
 use Rattle.automata_hybrid.specs.Walks.Answers.{ReportsNext, WalkReads, start_count}
-use Rattle.automata_hybrid.specs.Walks.Cached.{HasLearnedUnits, IsToRead, KnowsItsState, KnowsUnits, KnowsWalk}
+use Rattle.automata_hybrid.specs.Walks.Cached.{IsToRead, KnowsItsState, KnowsUnits, KnowsWalk}
 use Rattle.automata_hybrid.specs.Walks.Follows.{CallFollows, CallsFollow, IsKnownRefusal}
 use Rattle.automata_hybrid.specs.Walks.Progress.{EndsCall, IsCallLeftAt, IsNotResumed, IsResumed, LeavesCall, ReadsItsUnits}
 use Rattle.automata_hybrid.specs.Walks.Progress.{ReadsNoUnit}
@@ -37,7 +37,7 @@ use Rattle.automata_hybrid.proofs.Searches.Follows.{units_cached, units_known, u
 use Rattle.automata_hybrid.proofs.Searches.UnitsRead.{moved_and_read}
 use Rattle.automata_hybrid.proofs.Steps.StartTags.{again_adds, again_keeps, tagged_none}
 use Rattle.automata_hybrid.proofs.Steps.Steps.{no_quit_unit}
-use Rattle.automata_hybrid.proofs.Walks.Cached.{has_state, nothing_after, state_after, still_same, unit_knows}
+use Rattle.automata_hybrid.proofs.Walks.Cached.{HasLearnedUnits, has_state, nothing_after, state_after, still_same, unit_knows}
 use Rattle.automata_hybrid.proofs.Walks.Calls.{clean_here, ended_at, fresh_at, reported_here, reported_least, walk_clears_none}
 use Rattle.automata_hybrid.proofs.Walks.Progress.{known_refusal, reads_some, silent_before, step_refuses, walk_reads_before}
 
