@@ -1,7 +1,6 @@
 pub mod State
 pub mod Answers
 pub mod Contracts
-pub mod Sets
 pub mod SetsByPaths
 pub mod Cached
 pub mod Progress

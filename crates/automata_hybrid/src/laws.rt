@@ -68,7 +68,7 @@ pub fn sets_have_matching(dfa: &DFA)
 }
 
 /// What follows of the run of a call of an overlapping search: how often it determinizes, how the cache grows, what is
-/// cached after it, and that nothing changes but the progress if all that it uses is cached.
+/// cached after it, that nothing changes but the progress if all that it uses is cached, and why it fails.
 pub fn calls_follow(dfa: &DFA)
     ensures { CallsFollow dfa.now }
 {
@@ -76,7 +76,7 @@ pub fn calls_follow(dfa: &DFA)
 }
 
 /// What follows of the run of the search for a set of patterns: how often it determinizes, how the cache grows, what is
-/// cached after it, and that nothing changes but the progress if all that it uses is cached.
+/// cached after it, that nothing changes but the progress if all that it uses is cached, and why it fails.
 pub fn sets_follow(dfa: &DFA)
     ensures { SetsFollow dfa.now }
 {

@@ -1,11 +1,13 @@
 -- One item of an iteration after another.
 use Rattle.std.proofs.Common.{ℕ, ◌≡◌, ◌<◌, ◌≤◌, Bool, true, false, List, Option, Some, None, length, refl, ap, subst, arith}
-use Rattle.std.specs.Prelude.{Ok, Err, IfSome}
+use Rattle.std.specs.Prelude.{Result, Ok, Err, IfErr, IfSome}
+use Rattle.std.specs.Result.{result_err}
 use Rattle.std.specs.Option.{unwrap_or}
 use Rattle.automata_base.specs.Haystacks.Matches.{Match}
 use Rattle.automata_base.proofs.Paths.Orders.{none_some, some_inj}
 use Rattle.automata_config.specs.declared.error.SearchError.{SearchError}
-use Rattle.regex_automata.specs.Spans.Iteration.{GoesPast, IsNextRefusal}
+use Rattle.regex_automata.specs.Spans.Errors.{IsNextRefusal}
+use Rattle.regex_automata.specs.Spans.Iteration.{GoesPast}
 use Rattle.regex_automata.specs.Spans.Outcomes.{MatchLiesIn}
 use Rattle.regex_automata.specs.declared.hybrid.regex.Regex.{Regex}
 use Rattle.regex_automata.specs.declared.hybrid.regex.caches.Cache.{Cache}
@@ -15,6 +17,11 @@ use Rattle.example_patterns.specs.Iteration.{GivesMatch, IsNextMeant, most_left,
 pub given : {A : Type 0} {a : A} {o : Option A} (P : A → Type 0) → o ≡ Some a → IfSome o P → P a
 given {o = None} P is h = absurd (none_some is)
 given {o = Some b} P is h = subst P (some_inj is) h
+
+-- what is said of the error that a call returns, if it returns one
+pub refused : {A : Type 0} (r : Result A SearchError) (P : SearchError → Type 0) → IfSome (result_err r) P → IfErr r P
+refused (Ok a) P h = tt
+refused (Err e) P h = h
 
 open_is : {P : Type 0} → true ≡ false → P
 open_is e = absurd (cc)

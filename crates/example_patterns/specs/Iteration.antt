@@ -5,7 +5,7 @@ use Rattle.regex_hir.specs.Re.{Re}
 use Rattle.automata_base.specs.Haystacks.Input.{Input}
 use Rattle.automata_base.specs.Haystacks.Matches.{Match}
 use Rattle.automata_config.specs.declared.error.SearchError.{SearchError}
-use Rattle.regex_automata.specs.Spans.Iteration.{IsNextRefusal}
+use Rattle.regex_automata.specs.Spans.Errors.{IsNextRefusal}
 use Rattle.regex_automata.specs.Spans.Outcomes.{MatchLiesIn}
 use Rattle.regex_automata.specs.declared.hybrid.regex.Regex.{Regex}
 use Rattle.regex_automata.specs.declared.hybrid.regex.caches.Cache.{Cache}

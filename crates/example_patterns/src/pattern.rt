@@ -3,7 +3,8 @@ ghost use Rattle.std.specs.Prelude.{◌≡◌, ◌≤◌, List, [], ◌∷◌, I
 ghost use Rattle.std.specs.Prelude.{option_map};
 ghost use Rattle.std.specs.Option.{unwrap_or};
 ghost use Rattle.regex_hir.specs.Re.{Re};
-ghost use Rattle.regex_automata.specs.Spans.Iteration.{GoesPast, IsNextRefusal};
+ghost use Rattle.regex_automata.specs.Spans.Errors.{IsNextRefusal};
+ghost use Rattle.regex_automata.specs.Spans.Iteration.{GoesPast};
 ghost use Rattle.automata_config.specs.Options.{overwritten, unset};
 ghost use Rattle.regex_automata.specs.Promises.{AreCachesOf, Forward, IsHalf, IsSoundPair, IsSpanOf, IsTruthOf};
 ghost use Rattle.regex_automata.specs.Regexes.Builds.{BuildsOne};
@@ -18,7 +19,7 @@ use crate::matches::Matches;
 use regex_automata::hybrid::SearchError;
 use regex_automata::hybrid::dfa::{Config, DFA};
 use regex_automata::hybrid::regex::{Cache, Regex, RegexBuildError};
-use regex_automata::laws::{reported_is_right, start_is_right};
+use regex_automata::laws::{reported_is_right, spans_follow, start_is_right};
 use regex_automata::nfa::thompson::NFA;
 use regex_automata::util::search::{HalfMatch, Input, Match};
 use std::alloc::{AllocError, Global};
@@ -168,6 +169,7 @@ impl Pattern {
         reported_is_right(self.regex.forward().get_nfa());
         reported_is_right(self.regex.reverse().get_nfa());
         start_is_right();
+        spans_follow(&self.regex);
         let input = rest(hay, last.unwrap_or(0));
         let _haystack = input.haystack();
         self.regex.next_match(cache, &input, last)

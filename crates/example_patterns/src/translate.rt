@@ -39,7 +39,7 @@ pub(crate) fn shifted(origin: &Origin, number: u32) -> Result<StateID, Fault>
     }
 }
 
-/// The same assertion, as the library names it.
+/// The library's name of an assertion of the kit's.
 fn look_of(look: regex_hir::Look) -> Look
     ensures { result ≡ translated.look_of look }
 {

@@ -1,10 +1,10 @@
 -- What the calls do that write as many matches as there is room for.
 use Rattle.std.specs.Prelude.{ℕ, ◌≡◌, ◌⊎◌, ◌<◌, ◌-◌, ◌^◌, List, [], ◌∷◌, drop, length, map, take}
-use Rattle.std.specs.Prelude.{Option, None, Some, Result, Ok, Err, IfErr, OnOk}
+use Rattle.std.specs.Prelude.{Option, None, Some, Result, Ok, Err, OnOk}
+use Rattle.std.specs.Result.{result_err}
 use Rattle.automata_base.specs.declared.util.search.Direction.{Direction}
 use Rattle.automata_base.specs.declared.util.search.Direction.TheVariants.{Backward, Forward}
 use Rattle.automata_config.specs.declared.error.SearchError.{SearchError}
-use Rattle.automata_hybrid.specs.Walks.Answers.{HasReported, IsWalkRefusal}
 use Rattle.automata_hybrid.specs.Walks.Contracts.{IsWalkCall}
 use Rattle.automata_hybrid.specs.Walks.Progress.{IsWalkRun}
 use Rattle.automata_hybrid.specs.Walks.State.{States, Walk, fresh_walk}
@@ -61,10 +61,7 @@ pub record IsStep (way : Direction) (m : Machine) (input : Input) (walk next : W
     (result : Result (Option HalfMatch) SearchError) : Type 0 where
   pub found : OnOk result (result ≡ Ok next.found)
   pub call : IsWalkCall way m input walk next (done_of result)
-  pub refusal :
-      (k : ℕ) → HasReported way m input walk k
-      → IfErr result (IsWalkRefusal States way m new.store input walk k)
-  pub effect : IsWalkRun States way m input walk next old new (done_of result)
+  pub effect : IsWalkRun States way m input walk next old new (result_err result)
 
 -- steps one after another, each of which found one of these matches
 abbrev pub AreSteps : Direction → Machine → Input → List HalfMatch → (walk next : Walk) → (old new : CacheView) → Type 0

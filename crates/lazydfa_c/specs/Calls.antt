@@ -1,12 +1,12 @@
 -- What the calls for a cache do, each seen by the cache before and after it and by the status that it returns.
 use Rattle.std.specs.Prelude.{ℕ, ◌≡◌, ◌==◌, Bool, true, false, List}
-use Rattle.std.specs.Prelude.{Option, Some, None, Result, Ok, Err, IfErr, IfOk, IsSomeAnd, if◌then◌else◌}
+use Rattle.std.specs.Prelude.{Option, Some, None, Result, Ok, Err, IfOk, IsSomeAnd, if◌then◌else◌}
 use Rattle.std.specs.Result.{result_err}
 use Rattle.automata_config.specs.declared.error.SearchError.{SearchError}
 use Rattle.automata_hybrid.specs.Walks.Progress.{IsSetRun}
 use Rattle.regex_automata.specs.Promises.{Backward, Forward, HalfMatch, Input, IsHalf, IsSearchRun}
 use Rattle.regex_automata.specs.Promises.{IsSpanOf, IsSpanRun, IsTruthOf, IsTruthRun, IsWhich, Match}
-use Rattle.regex_automata.specs.Spans.Iteration.{IsNextMatch, IsNextRefusal}
+use Rattle.regex_automata.specs.Spans.Iteration.{IsNextMatch}
 use Rattle.regex_automata.specs.Spans.Runs.{IsNextRun}
 use Rattle.regex_automata.specs.Tokens.{GivesToken, IsTokenRun}
 use Rattle.regex_automata.specs.Tokens.{match_of as token_match}
@@ -148,7 +148,6 @@ pub record GoesOn (found : Found) (old new : Iteration) (input : Input) (s t : S
   pub result : Result (Option Match) SearchError
   pub told : IsTold (match_of found) result status
   pub next : IfOk result (IsNextMatch (regex_of s) input (last_of old))
-  pub refusal : IfErr result (IsNextRefusal (regex_of s) t.cache input (last_of old))
   pub effect : IsNextRun (regex_of s) input (last_of old) s.cache t.cache (result_err result)
   pub same : t.shared ≡ s.shared
   pub iterated : new ≡ iterated old result
@@ -183,7 +182,7 @@ pub record TakesToken (found : Found) (old new : Request) (input : Input) (s t :
   pub item : Option (Result Token TokenError)
   pub told : IsTokenTold (match_of found) item status
   pub given :
-      GivesToken (regex_of s).forward t.cache.forward.store input.haystack input.end item
+      GivesToken (regex_of s).forward input.haystack input.end item
       input.start (offset_after input.start item) false (has_failed item)
   pub effect :
       IsTokenRun (regex_of s).forward input.haystack input.end input.start s.cache.forward t.cache.forward item
@@ -196,6 +195,6 @@ pub record Joins (set : List Bool) (input : Input) (s t : Searcher) (status : St
   pub result : Result (Unit {0}) SearchError
   pub told : IsDoneTold result status
   pub returned : IsWhich (regex_of s).forward input set t.patterns result
-  pub effect : IsSetRun (regex_of s).forward input set s.cache.forward t.cache.forward result
+  pub effect : IsSetRun (regex_of s).forward input set t.patterns s.cache.forward t.cache.forward (result_err result)
   pub reverse : t.cache.reverse ≡ s.cache.reverse
   pub same : t.shared ≡ s.shared

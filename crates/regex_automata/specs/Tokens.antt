@@ -12,11 +12,10 @@ use Rattle.automata_base.specs.declared.util.search.Anchored.TheVariants.{Yes}
 use Rattle.automata_config.specs.declared.error.SearchError.{SearchError}
 use Rattle.automata_config.specs.declared.error.SearchError.TheVariants as search
 use Rattle.automata_hybrid.specs.Cache.Caches.{CacheView}
-use Rattle.automata_hybrid.specs.Cache.Stores.{Stored}
 use Rattle.automata_hybrid.specs.Machines.Machine.{Machine}
 use Rattle.automata_hybrid.specs.Searches.Contracts.{IsHalf, IsMemory, IsUnhindered}
 use Rattle.automata_hybrid.specs.Searches.Progress.{IsSearchRun}
-use Rattle.automata_hybrid.specs.Searches.Passes.{IsFound, IsRefused, WithoutBase}
+use Rattle.automata_hybrid.specs.Searches.Passes.{IsFound, WithoutBase}
 use Rattle.regex_automata.specs.declared.tokens.error.TokenError.{TokenError}
 use Rattle.regex_automata.specs.declared.tokens.error.TokenError.TheVariants.{NoToken, Search}
 use Rattle.regex_automata.specs.declared.tokens.token.Token.{Token}
@@ -79,27 +78,27 @@ pub record IsNoTokenAt (m : Machine) (h : List ℕ) (end offset : ℕ) : Type 0 
       ⊎ ((pattern : ℕ)
       × SearchReturns m h end offset (Ok (Some (record { pattern = pattern; offset = offset }))))
 
--- an error names this offset, or is that of a search that fails over this cache
-abbrev pub IsRefusedAt : Machine → Stored → List ℕ → (end offset : ℕ) → TokenError → Type 0
-IsRefusedAt m c h end offset (NoToken at) = (at ≡ offset) × IsNoTokenAt m h end offset
-IsRefusedAt m c h end offset (Search e) = IsRefused Forward m c (asked h end offset) e
+-- an error names this offset, or is that of the search there, whose run says why it failed
+abbrev pub IsErrorAt : Machine → List ℕ → (end offset : ℕ) → TokenError → Type 0
+IsErrorAt m h end offset (NoToken at) = (at ≡ offset) × IsNoTokenAt m h end offset
+IsErrorAt m h end offset (Search e) = Unit {0}
 
 -- a token at an offset, or the error there
-abbrev pub IsGivenAt : Machine → Stored → List ℕ → (end offset : ℕ) → Result Token TokenError → Type 0
-IsGivenAt m c h end offset (Ok t) = IsTokenAt m h end offset t
-IsGivenAt m c h end offset (Err e) = IsItemAt m h end offset (Err e) × IsRefusedAt m c h end offset e
+abbrev pub IsGivenAt : Machine → List ℕ → (end offset : ℕ) → Result Token TokenError → Type 0
+IsGivenAt m h end offset (Ok t) = IsTokenAt m h end offset t
+IsGivenAt m h end offset (Err e) = IsItemAt m h end offset (Err e) × IsErrorAt m h end offset e
 
 -- one item, and the iteration before and after it: the offset, and whether an error was reported. There is no item at
 -- the span's end, and none after an error
 abbrev pub GivesToken :
-    Machine → Stored → List ℕ → (end : ℕ) → Option (Result Token TokenError)
+    Machine → List ℕ → (end : ℕ) → Option (Result Token TokenError)
     → (offset offset' : ℕ) → (failed failed' : Bool) → Type 0
-GivesToken m c h end None offset offset' failed failed' =
+GivesToken m h end None offset offset' failed failed' =
     ((failed ≡ true) ⊎ (end ≤ offset)) × (offset' ≡ offset) × (failed' ≡ failed)
-GivesToken m c h end (Some (Ok t)) offset offset' failed failed' =
+GivesToken m h end (Some (Ok t)) offset offset' failed failed' =
     IsTokenAt m h end offset t × (offset' ≡ t.span.end) × (failed ≡ false) × (failed' ≡ false)
-GivesToken m c h end (Some (Err e)) offset offset' failed failed' =
-    IsGivenAt m c h end offset (Err e) × (offset' ≡ offset) × (failed ≡ false) × (failed' ≡ true)
+GivesToken m h end (Some (Err e)) offset offset' failed failed' =
+    IsGivenAt m h end offset (Err e) × (offset' ≡ offset) × (failed ≡ false) × (failed' ≡ true)
 
 -- the error of the search for a token, if it failed
 abbrev pub search_error : Result Token TokenError → Option SearchError

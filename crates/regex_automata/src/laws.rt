@@ -1,6 +1,6 @@
 //! Laws about searches over two lazy DFAs. The contract of each function is the law; its body only cites other laws.
 ghost use Rattle.regex_automata.specs.Spans.Agreement.{MatchesAgree, TruthIffFound, TruthsAgree};
-ghost use Rattle.regex_automata.specs.Spans.Follows.{NextsFollow, SpansFollow};
+ghost use Rattle.regex_automata.specs.Spans.Follows.{NextsFollow, RefusalsFollow, SpansFollow};
 
 use crate::hybrid::regex::Regex;
 pub use automata_base::laws::{
@@ -8,8 +8,8 @@ pub use automata_base::laws::{
     walk_is_right,
 };
 pub use automata_hybrid::laws::{
-    answers_agree, cache_is_within, first_match_is_found, known_stays, searches_follow,
-    sets_have_matching, walks_agree,
+    answers_agree, cache_is_within, calls_follow, first_match_is_found, known_stays,
+    searches_follow, sets_follow, sets_have_matching, walks_agree,
 };
 
 /// Earlier searches and the capacity of the caches show in no match: two searches for one input that answer find the
@@ -42,9 +42,13 @@ pub fn truth_is_found()
 /// DFA, as `is_match` and the tokens make it, this is `searches_follow`.
 pub fn spans_follow(regex: &Regex)
     ensures spans { SpansFollow }
+    ensures refusals { RefusalsFollow regex.now }
     ensures nexts { NextsFollow regex.now }
 {
     answers_agree();
     known_stays(regex.forward());
     known_stays(regex.reverse());
+    reported_is_right(regex.forward().get_nfa());
+    reported_is_right(regex.reverse().get_nfa());
+    start_is_right();
 }

@@ -1,5 +1,5 @@
 -- Walk calls whose start or held state, and whose transitions, are all cached.
-use Rattle.std.proofs.Common.{ℕ, ◌≡◌, ◌≤◌, sym, ap, subst}
+use Rattle.std.proofs.Common.{ℕ, ◌≡◌, ◌<◌, ◌≤◌, sym, ap, subst}
 use Rattle.automata_base.specs.Haystacks.Input.{Input}
 use Rattle.automata_base.specs.declared.util.search.Direction.{Direction}
 use Rattle.automata_hybrid.specs.Cache.Stores.{Stored}
@@ -9,10 +9,15 @@ use Rattle.automata_hybrid.specs.Searches.Cached.{KnowsUnit}
 use Rattle.automata_hybrid.specs.Walks.Cached.{KnowsItsState, KnowsUnits}
 use Rattle.automata_hybrid.specs.Machines.Machine.{Machine}
 use Rattle.automata_hybrid.specs.Searches.Passes.{HasReadNoQuit}
+use Rattle.automata_hybrid.specs.Searches.PassState.{HasLearnedUnit}
 use Rattle.automata_hybrid.specs.Walks.Answers.{HasItsState, HasReportedBy, WalkReads}
 use Rattle.automata_hybrid.specs.Walks.State.{At, Ended, Fresh, Stage}
 use Rattle.automata_hybrid.proofs.Cache.Growth.{grown_both, grown_same, nothing_second}
 use Rattle.automata_hybrid.proofs.Searches.Cached.{begin_still}
+
+-- the transitions on the units from one place of a pass to another are cached, at classes that rows have
+abbrev pub HasLearnedUnits : Direction → Machine → Stored → Input → (from to : ℕ) → Type 0
+HasLearnedUnits way m c input from to = (j : ℕ) → from ≤ j → j < to → HasLearnedUnit way m c input j
 
 -- with nothing determinized what is cached stays cached
 pub unit_knows :

@@ -10,13 +10,14 @@ use Rattle.automata_hybrid.specs.Cache.Stores.{Stored}
 use Rattle.automata_hybrid.specs.Cache.Caches.{CacheView}
 use Rattle.automata_hybrid.specs.Cache.Growth.{ClearedNothing, IsGrown}
 use Rattle.automata_hybrid.specs.Searches.Cached.{KnowsItsStart, KnowsUnit}
-use Rattle.automata_hybrid.specs.Walks.Cached.{HasLearnedUnits, IsOpen, IsToRead, KnowsItsState, KnowsWalk}
+use Rattle.automata_hybrid.specs.Walks.Cached.{IsOpen, IsToRead, KnowsItsState, KnowsWalk}
 use Rattle.automata_hybrid.specs.Machines.Machine.{Machine}
 use Rattle.automata_hybrid.specs.Searches.PassState.{HasLearnedUnit}
 use Rattle.automata_hybrid.specs.Searches.Passes.{HasReadNoQuit, Skips, tape_in}
 use Rattle.automata_hybrid.specs.Steps.Starts.{MayStart}
 use Rattle.automata_hybrid.specs.Walks.Answers.{AreWalked, HasReported, WalkReads, half_nth, pairs_reported_in}
 use Rattle.automata_hybrid.specs.Walks.State.{At, Ended, Fresh, Stage, Walk}
+use Rattle.automata_hybrid.proofs.Walks.Cached.{HasLearnedUnits}
 use Rattle.automata_hybrid.proofs.Searches.Cached.{begin_still, unit_still}
 use Rattle.automata_hybrid.proofs.Walks.Calls.{reported_least}
 use Rattle.automata_hybrid.proofs.Walks.Reports.{Begins, walked_begin}

@@ -2,7 +2,6 @@
 use Rattle.std.proofs.Common.{ℕ, zero, suc, ◌≡◌, ◌∙◌, ◌+◌, ◌-◌, ◌<◌, ◌≤◌, ◌⊎◌, List, [], ◌∷◌, ◌++◌, length, Option, None}
 use Rattle.std.proofs.Common.{Some, false, true, inl, inr, refl, sym, ap, subst, arith}
 use Rattle.std.proofs.lemmas.Bool.{cases_lt}
-use Rattle.std.specs.Prelude.{Err, Ok}
 use Rattle.automata_base.specs.ByteClasses.Classes.{is_quit}
 use Rattle.automata_base.specs.Haystacks.Input.{Input}
 use Rattle.automata_base.specs.Paths.Paths.{next as unit_at}
@@ -21,9 +20,9 @@ use Rattle.automata_hybrid.specs.Searches.Progress.{HasItsStart, IsLeftAt, IsUni
 use Rattle.automata_hybrid.specs.Searches.Progress.{unit_events, with_search_begun, with_search_moved}
 use Rattle.automata_hybrid.specs.Steps.Starts.{MayStart}
 use Rattle.automata_hybrid.specs.Steps.Steps.{quits_on, unit_class}
-use Rattle.automata_hybrid.specs.Walks.Answers.{HasItsState, HasReported, HasReportedAt, HasReportedBy, IsResumeRefusal, IsSilent}
+use Rattle.automata_hybrid.specs.Walks.Answers.{HasItsState, HasReported, HasReportedAt, HasReportedBy, IsRefusalAt, IsResumeRefusal, IsSilent, IsWalkRefusal}
 use Rattle.automata_hybrid.specs.Walks.Answers.{ReportsNext, WalkReads, start_count}
-use Rattle.automata_hybrid.specs.Walks.Cached.{HasLearnedUnits, IsToRead, KnowsItsState, KnowsUnits, KnowsWalk}
+use Rattle.automata_hybrid.specs.Walks.Cached.{IsToRead, KnowsItsState, KnowsUnits, KnowsWalk}
 use Rattle.automata_hybrid.specs.Walks.Follows.{CallFollows, CallsFollow, IsKnownRefusal}
 use Rattle.automata_hybrid.specs.Walks.Progress.{EndsCall, IsCallLeftAt, IsNotResumed, IsResumed, LeavesCall, ReadsItsUnits}
 use Rattle.automata_hybrid.specs.Walks.Progress.{ReadsNoUnit}
@@ -38,9 +37,9 @@ use Rattle.automata_hybrid.proofs.Searches.Follows.{units_cached, units_known, u
 use Rattle.automata_hybrid.proofs.Searches.UnitsRead.{moved_and_read}
 use Rattle.automata_hybrid.proofs.Steps.StartTags.{again_adds, again_keeps, tagged_none}
 use Rattle.automata_hybrid.proofs.Steps.Steps.{no_quit_unit}
-use Rattle.automata_hybrid.proofs.Walks.Cached.{has_state, nothing_after, state_after, still_same, unit_knows}
+use Rattle.automata_hybrid.proofs.Walks.Cached.{HasLearnedUnits, has_state, nothing_after, state_after, still_same, unit_knows}
 use Rattle.automata_hybrid.proofs.Walks.Calls.{clean_here, ended_at, fresh_at, reported_here, reported_least, walk_clears_none}
-use Rattle.automata_hybrid.proofs.Walks.Progress.{known_refusal, reads_some, silent_before, walk_reads_before}
+use Rattle.automata_hybrid.proofs.Walks.Progress.{known_refusal, reads_some, silent_before, step_refuses, walk_reads_before}
 
 -- a state that is put back counts as one that is determinized
 pub back_grown :
@@ -220,11 +219,11 @@ module _ (way : Direction) (m : Machine) (input : Input) (skips : Skips m ⊎ (S
         ((idle.0 ∙ ap (λ (v : CacheView). v.count) same, has_state way m old.store input w.stage all.0), idle.1)
 
     follows_ok :
-        {T : Type 0} (u : T) (keeping : Keeping) (next : Walk) → next.units ≡ w.units + n
+        (keeping : Keeping) (next : Walk) → next.units ≡ w.units + n
         → (ClearedNothing begun.store new.store → (j : ℕ) → HasReported way m input w j → KnowsUnits way m new.store input w.units j)
         → (KnowsUnits way m begun.store input w.units k → new.count ≡ begun.count)
-        → CallFollows keeping way m input w next old new (Ok u)
-    follows_ok u keeping next units learned known = record {
+        → CallFollows keeping way m input w next old new None
+    follows_ok keeping next units learned known = record {
       rises = omega (arith, units);
       cost = omega (arith, units, few, r.cost);
       most = most;
@@ -238,14 +237,16 @@ module _ (way : Direction) (m : Machine) (input : Input) (skips : Skips m ⊎ (S
         learned (nothing_after old begun new r.grown grown nothing) j t,
       );
       known = λ knows. (let all = known_then {A = Unit {0}} (λ units. (known units, tt)) knows in ((there all.0.1).idle all.0.0, tt));
+      refused = λ i t. tt;
       ready = λ none. absurd (reads_some input w reads none);
     }
 
     follows_err :
-        {T : Type 0} (keeping : Keeping) (next : Walk) (e : SearchError)
+        (keeping : Keeping) (next : Walk) (e : SearchError)
+        → ((i : ℕ) → HasReported way m input w i → IsWalkRefusal keeping way m new.store input w i e)
         → (KnowsUnits way m begun.store input w.units k → (new.count ≡ begun.count) × IsKnownRefusal keeping way m input w e)
-        → CallFollows {T = T} keeping way m input w next old new (Err e)
-    follows_err keeping next e known = record {
+        → CallFollows keeping way m input w next old new (Some e)
+    follows_err keeping next e why known = record {
       rises = tt;
       cost = tt;
       most = most;
@@ -256,6 +257,7 @@ module _ (way : Direction) (m : Machine) (input : Input) (skips : Skips m ⊎ (S
       put_back = λ q at lacks. inr (begun, r.back q at lacks, grown);
       learned = λ nothing. tt;
       known = λ knows. (let all = known_then known knows in ((there all.0.1).idle all.0.0, all.1));
+      refused = why;
       ready = λ none. absurd (reads_some input w reads none);
     }
 
@@ -303,12 +305,12 @@ module _ (way : Direction) (m : Machine) (input : Input) (skips : Skips m ⊎ (S
 
     -- the units were read, and then no more were
     call_reads :
-        {T : Type 0} (u : T) (keeping : Keeping) (next : Walk) (new : CacheView) (n : ℕ) → ReportsNext way m input w next
+        (keeping : Keeping) (next : Walk) (new : CacheView) (n : ℕ) → ReportsNext way m input w next
         → next.units ≡ w.units + n → ReadsItsUnits way m input w next
         → DoAll m (unit_events way m input w.units n ++ (End (given_up_offset way input (w.units + (n - 1))) ∷ [])) (with_search_begun way input w.units begun) new
-        → CallFollows keeping way m input w next old new (Ok u)
-    call_reads u keeping next new n reports count its all =
-        follows_ok old begun new r reads f.grown n (omega (arith, f.counted, made)) (within n refl) u keeping next count
+        → CallFollows keeping way m input w next old new None
+    call_reads keeping next new n reports count its all =
+        follows_ok old begun new r reads f.grown n (omega (arith, f.counted, made)) (within n refl) keeping next count
         (λ nothing j t i more walks clean by. known j t i more walks by (f.learned nothing).1 (cases_lt i next.units))
         (λ knows. f.known (
           tt,
@@ -363,12 +365,19 @@ module _ (way : Direction) (m : Machine) (input : Input) (skips : Skips m ⊎ (S
       clean_before : (j : ℕ) → j < w.units + suc n → HasReadNoQuit way m input j
       clean_before j less i byte l unit = clean i byte (omega (arith, l, less)) unit
 
+      why : IsRefusalAt keeping way m new.store input (w.units + n) e → (i : ℕ) → HasReported way m input w i → IsWalkRefusal keeping way m new.store input w i e
+      why refused i t = (
+        reads.undone,
+        inr (r.may, (w.units + n, omega arith, walks, clean, silent i (reported_here way m input w i skips t reads.on reads.all_reported), refused)),
+      )
+
       -- at the next one
       call_stops :
-          {T : Type 0} → IsUnitRefusal way m new.store input (w.units + n) e → IsLeftAt way m input (w.units + n) mid new
-          → CallFollows {T = T} keeping way m input w next old new (Err e)
+          IsUnitRefusal way m new.store input (w.units + n) e → IsLeftAt way m input (w.units + n) mid new
+          → CallFollows keeping way m input w next old new (Some e)
       call_stops refused left =
           follows_err old begun new r reads (grown_trans begun mid new f.grown s.0) (suc n) (omega (arith, f.counted, made, s.1)) within_left keeping next e
+          (why (step_refuses keeping way m new.store input (w.units + n) e refused))
           (λ knows. (
           let idle : mid.count ≡ begun.count = f.known (tt, use_cached n (λ j more less. each j more (omega (arith, less))) (λ j less. clean_before j (omega (arith, less))) knows) in
           let quit = s.2 (unit_knows way m begun mid input w.units (w.units + n) k f.grown idle knows (omega arith) walks clean (silent k here)) in
@@ -388,10 +397,11 @@ module _ (way : Direction) (m : Machine) (input : Input) (skips : Skips m ⊎ (S
 
       -- or after it, since the state cannot be held
       call_unheld :
-          {T : Type 0} → IsUnitRead way m input (w.units + n) (with_search_moved way input (w.units + n) mid) new → IsKnownRefusal keeping way m input w e
-          → CallFollows {T = T} keeping way m input w next old new (Err e)
-      call_unheld read unheld =
-          follows_err old begun new r reads f.grown (suc n) (omega (arith, f.counted, made)) within_left keeping next e
+          IsUnitRead way m input (w.units + n) (with_search_moved way input (w.units + n) mid) new
+          → IsRefusalAt keeping way m new.store input (w.units + n) e → IsKnownRefusal keeping way m input w e
+          → CallFollows keeping way m input w next old new (Some e)
+      call_unheld read refused unheld =
+          follows_err old begun new r reads f.grown (suc n) (omega (arith, f.counted, made)) within_left keeping next e (why refused)
           (λ knows. (f.known (tt, use_cached (suc n) each clean_before knows), unheld))
         where
           unit : List Event
@@ -414,9 +424,9 @@ module _ (way : Direction) (m : Machine) (input : Input) (skips : Skips m ⊎ (S
 
   -- a call that answered
   pub call_ended :
-      {T : Type 0} (u : T) (keeping : Keeping) (next : Walk) (old new : CacheView) → IsSoundOf old.store m → ReportsNext way m input w next
-      → EndsCall way m input w next old new → CallFollows keeping way m input w next old new (Ok u)
-  call_ended u keeping next old new sound reports (over, inl (none, same, still)) =
+      (keeping : Keeping) (next : Walk) (old new : CacheView) → IsSoundOf old.store m → ReportsNext way m input w next
+      → EndsCall way m input w next old new → CallFollows keeping way m input w next old new None
+  call_ended keeping next old new sound reports (over, inl (none, same, still)) =
       let count : new.count ≡ old.count = ap (λ (v : CacheView). v.count) still in
       record {
         rises = omega (arith, same);
@@ -429,11 +439,12 @@ module _ (way : Direction) (m : Machine) (input : Input) (skips : Skips m ⊎ (S
         put_back = λ q at lacks. inl still;
         learned = λ nothing j t ready may. absurd (reads_some input w ready none);
         known = λ _. (still_same old new still, tt);
+        refused = λ i t. tt;
         ready = λ _. still;
       }
-  call_ended u keeping next old new sound reports (over, inr (reads, begun, n, resumed, count, its, all)) =
+  call_ended keeping next old new sound reports (over, inr (reads, begun, n, resumed, count, its, all)) =
       let r = to_read reads in
-      call_reads old begun (has_resumed old begun sound w.stage reported resumed) r u keeping next new n reports count its all
+      call_reads old begun (has_resumed old begun sound w.stage reported resumed) r keeping next new n reports count its all
 
   -- it leaves a cache of the DFA, and has cached each unit that it read; and those lie in the span
   pub record Leaves (next : Walk) (old new : CacheView) : Type 0 where
@@ -485,8 +496,8 @@ module _ (way : Direction) (m : Machine) (input : Input) (skips : Skips m ⊎ (S
 
   -- a call that failed
   pub call_left :
-      {T : Type 0} (keeping : Keeping) (next : Walk) (old new : CacheView) (e : SearchError) → IsSoundOf old.store m
-      → LeavesCall keeping way m input w old new e → CallFollows {T = T} keeping way m input w next old new (Err e)
+      (keeping : Keeping) (next : Walk) (old new : CacheView) (e : SearchError) → IsSoundOf old.store m
+      → LeavesCall keeping way m input w old new e → CallFollows keeping way m input w next old new (Some e)
   call_left keeping next old new e sound (reads, inl (why, none)) =
       let r = to_read reads in
       let u = not_resumed old new e w.stage reported why none in
@@ -501,23 +512,24 @@ module _ (way : Direction) (m : Machine) (input : Input) (skips : Skips m ⊎ (S
         put_back = λ q at lacks. inl (u.back q at);
         learned = λ nothing. tt;
         known = λ knows. (let x = u.known (λ may. (knows k reported r may).0) in (u.grown.idle x.0, known_refusal keeping way m input w e x.1));
+        refused = λ i t. (r.undone, inl (reported_here way m input w i skips t r.on r.all_reported, why));
         ready = λ none. absurd (reads none);
       }
-  call_left {T} keeping next old new e sound (reads, inr (begun, resumed, (n, mid, walks, clean, silent, all, left))) = go keeping left where
+  call_left keeping next old new e sound (reads, inr (begun, resumed, (n, mid, walks, clean, silent, all, left))) = go keeping left where
     r : IsToRead input w.stage w.units w.reported
     r = to_read reads
 
     has : Resumed w.stage old begun
     has = has_resumed old begun sound w.stage reported resumed
 
-    go : (keeping : Keeping) → IsCallLeftAt keeping way m input (w.units + n) mid new e → CallFollows {T = T} keeping way m input w next old new (Err e)
+    go : (keeping : Keeping) → IsCallLeftAt keeping way m input (w.units + n) mid new e → CallFollows keeping way m input w next old new (Some e)
     go Ids (refused, left) = call_stops old begun has r Ids next new mid e n walks clean silent all refused left
     go States (inl (refused, left)) = call_stops old begun has r States next new mid e n walks clean silent all refused left
-    go States (inr (unheld, read)) = call_unheld old begun has r States next new mid e n walks clean silent all read (inr (w.units + n, omega arith, unheld))
+    go States (inr (unheld, read)) = call_unheld old begun has r States next new mid e n walks clean silent all read (inr unheld) (inr (w.units + n, omega arith, unheld))
 
 -- each call
 pub calls_follow : (m : Machine) → Skips m ⊎ (Skips m → ⊥) → CallsFollow m
-calls_follow m skips keeping way input walk next old new (Ok u) (k, reported) reports run =
-    call_ended way m input skips walk k reported u keeping next old new run.of reports run.ended
-calls_follow m skips keeping way input walk next old new (Err e) (k, reported) reports run =
-    call_left way m input skips walk k reported keeping next old new e run.of run.left
+calls_follow m skips keeping way input walk next old new None (k, reported) reports run =
+    call_ended way m input skips walk k reported keeping next old new run.of reports run.run
+calls_follow m skips keeping way input walk next old new (Some e) (k, reported) reports run =
+    call_left way m input skips walk k reported keeping next old new e run.of run.run

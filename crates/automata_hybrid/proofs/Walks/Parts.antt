@@ -1,7 +1,7 @@
 -- Going on with a walk: what the functions under its calls answer, and what they make of their cache.
 use Rattle.automata_hybrid.specs.declared.search.walk.Handle.{Handle}
 use Rattle.std.proofs.Common.{ℕ, suc, ◌≡◌, ◌∙◌, inl, inr, false, length, Option, None, Some, refl, sym, ap, subst, arith}
-use Rattle.std.specs.Prelude.{IfErr, IfOk, Ok, OnErr, OnOk, Result}
+use Rattle.std.specs.Prelude.{IfErr, IfOk, OnErr, OnOk, Result}
 use Rattle.std.proofs.lemmas.Result.{IfErr-weaker, IfOk-weaker}
 use Rattle.automata_base.specs.Answers.Answers.{offset_in}
 use Rattle.automata_base.specs.Haystacks.Input.{Input}
@@ -26,13 +26,13 @@ use Rattle.automata_hybrid.specs.Machines.StartSlots.{supports}
 use Rattle.automata_hybrid.specs.Searches.Contracts.{IsUnsupported, unsupported_error}
 use Rattle.automata_hybrid.specs.Searches.Passes.{behind_offset, given_up_offset, state_in, tape_in}
 use Rattle.automata_hybrid.specs.Searches.PassState.{step_refusal}
+use Rattle.automata_hybrid.specs.Searches.Progress.{HasItsStart}
 use Rattle.automata_hybrid.specs.Steps.Starts.{IsStartAnswer, IsStartEffect, IsStartRefusal, IsStartRefusalAt}
 use Rattle.automata_hybrid.specs.Steps.Starts.{IsStartRefusedAt, quit_behind, search_refusal}
-use Rattle.automata_hybrid.specs.Walks.Answers.{HasItsState, HasReported, HasReportedAt, IsPutBackRefusal, IsResumeRefusal, IsWalkOf}
-use Rattle.automata_hybrid.specs.Walks.Answers.{IsWalkRefusal, ReportsNext}
-use Rattle.automata_hybrid.specs.Walks.Cached.{IsToRead}
-use Rattle.automata_hybrid.specs.Walks.Parts.{IsCallAnswer, IsCallRefused, IsResumeAnswer}
-use Rattle.automata_hybrid.specs.Walks.Progress.{HasItsRow, IsNotResumed, IsResumed, IsWalkRun, ReadsNoUnit}
+use Rattle.automata_hybrid.specs.Walks.Answers.{HasItsState, HasReportedAt, IsPutBackRefusal, IsResumeRefusal, IsWalkOf}
+use Rattle.automata_hybrid.specs.Walks.Answers.{ReportsNext}
+use Rattle.automata_hybrid.specs.Walks.Parts.{IsCallAnswer, IsResumeAnswer}
+use Rattle.automata_hybrid.specs.Walks.Progress.{HasItsRow, IsNotResumed, IsResumed, IsWalkRun, LeavesCall, ReadsNoUnit}
 use Rattle.automata_hybrid.specs.Walks.State.{At, Ended, Fresh, Holds, HoldsNone, Ids, IsHeldAt, IsHeldItself, Keeping, Stage}
 use Rattle.automata_hybrid.specs.Walks.State.{States, Walk, keeping_of, without_match}
 use Rattle.automata_hybrid.specs.declared.search.walk.Held.{Held}
@@ -40,7 +40,6 @@ use Rattle.automata_hybrid.specs.declared.search.walk.Held.TheVariants as held
 use Rattle.automata_hybrid.proofs.Searches.PassState.{false_true, state_first}
 use Rattle.automata_hybrid.proofs.Searches.UnitsRead.{start_had, unstarted}
 use Rattle.automata_hybrid.proofs.Steps.Starts.{refusal_at}
-use Rattle.automata_hybrid.proofs.Walks.Progress.{reads_some}
 
 -- a start in a mode that is not supported fails for that, after no quit byte
 unsupported_start :
@@ -55,13 +54,15 @@ unsupported_start m c mode behind behind_at start_at e (error, why, reported, un
   go start.OutOfMemory why = absurd (false_true (sym off ∙ why.1))
 
 -- so is the call that was to begin the walk
-unsupported_call :
-    (keeping : Keeping) (way : Direction) (m : Machine) (c : Stored) (input : Input) (w : Walk) (k : ℕ) (e : SearchError)
-    → w.stage ≡ Fresh → IsUnsupported way m input → IsWalkRefusal keeping way m c input w k e → e ≡ unsupported_error input
-unsupported_call keeping way m c input w k e fresh u (l, inl (reported, r)) =
-    unsupported_start m c input.anchored (tape_in way input).before _ _ e
-    (subst (λ (s : Stage). IsResumeRefusal way m c input s w.units e) fresh r) u.behind u.mode
-unsupported_call keeping way m c input w k e fresh u (l, inr (may, r)) = absurd (false_true (sym u.mode ∙ may.1))
+pub unsupported_call :
+    (keeping : Keeping) (way : Direction) (m : Machine) (input : Input) (w : Walk) (old new : CacheView) (e : SearchError)
+    → w.stage ≡ Fresh → IsUnsupported way m input → LeavesCall keeping way m input w old new e → e ≡ unsupported_error input
+unsupported_call keeping way m input w old new e fresh u (reads, inl (why, none)) =
+    unsupported_start m new.store input.anchored (tape_in way input).before _ _ e
+    (subst (λ (s : Stage). IsResumeRefusal way m new.store input s w.units e) fresh why) u.behind u.mode
+unsupported_call keeping way m input w old new e fresh u (reads, inr (begun, resumed, stopped)) =
+    let starts : HasItsStart way m input old begun = subst (λ (s : Stage). IsResumed way m input s old begun) fresh resumed in
+    absurd (false_true (sym u.mode ∙ starts.0.1))
 
 -- and it is not answered
 pub supported_call :
@@ -76,30 +77,22 @@ supported_call way m input walk next (k, reported) reports u = go next.stage (re
     | inr (may, clean) ↦ false_true (sym u.mode ∙ may.1)
   ]
 
--- why a call fails that reads units
-pub refused_on :
-    (keeping : Keeping) (way : Direction) (m : Machine) (input : Input) (w : Walk) (new : Stored) (e : SearchError)
-    → IsWalkOf way m input w → IsToRead input w.stage w.units w.reported
-    → ((k : ℕ) → HasReported way m input w k → IsWalkRefusal keeping way m new input w k e)
-    → IsCallRefused keeping way m input w new e
-refused_on keeping way m input w new e reported reads why = record {
-  why = why;
-  unsupported = λ fresh u. unsupported_call keeping way m new input w reported.0 e fresh u (why reported.0 reported.1);
-  ready = λ none. reads_some input w reads none;
-}
-
 -- whether the walk had a match before changes nothing
-module _ (keeping : Keeping) (way : Direction) (m : Machine) (input : Input) (w next : Walk) where
+module _ (way : Direction) (m : Machine) (input : Input) (w next : Walk) where
   pub answer_matched : IsCallAnswer way m input (without_match w) next → IsCallAnswer way m input w next
   answer_matched a = record { reports = a.reports; goes_on = a.goes_on }
 
-  pub refused_matched : (new : Stored) (e : SearchError) → IsCallRefused keeping way m input (without_match w) new e → IsCallRefused keeping way m input w new e
-  refused_matched new e r = record { why = r.why; unsupported = r.unsupported; ready = r.ready }
-
   pub run_matched :
-      {T : Type 0} (old new : CacheView) (r : Result T SearchError)
-      → IsWalkRun keeping way m input (without_match w) next old new r → IsWalkRun keeping way m input w next old new r
-  run_matched old new r e = record { of = e.of; ended = e.ended; left = e.left }
+      (keeping : Keeping) (old new : CacheView) (error : Option SearchError)
+      → IsWalkRun keeping way m input (without_match w) next old new error → IsWalkRun keeping way m input w next old new error
+  run_matched keeping old new error e = record { of = e.of; run = e.run }
+
+-- how a call failed, by what is kept
+pub left_by :
+    (kept keeping : Keeping) (way : Direction) (m : Machine) (input : Input) (w next : Walk) (old new : CacheView) (e : SearchError)
+    → kept ≡ keeping → IsWalkRun kept way m input w next old new (Some e) → LeavesCall keeping way m input w old new e
+left_by kept keeping way m input w next old new e same run =
+    subst (λ k. LeavesCall k way m input w old new e) same run.run
 
 -- what is held by itself is held whatever the cache
 pub held_itself : (t : Rows) (s : Stage) (h : Held) → IsHeldItself s h → IsHeldAt t s h × (keeping_of h ≡ States)
@@ -138,8 +131,8 @@ held_there t (At q) (held.Row None) at ids = absurd at
 pub run_none :
     (keeping : Keeping) (way : Direction) (m : Machine) (input : Input) (w next : Walk) (c : CacheView)
     → IsSoundOf c.store m → ReadsNoUnit input w → next.units ≡ w.units → (next.stage ≡ Ended → next.found ≡ None)
-    → IsWalkRun {T = Unit {0}} keeping way m input w next c c (Ok tt)
-run_none keeping way m input w next c sound none same over = record { of = sound; ended = (over, inl (none, same, refl)); left = tt }
+    → IsWalkRun keeping way m input w next c c None
+run_none keeping way m input w next c sound none same over = record { of = sound; run = (over, inl (none, same, refl)) }
 
 -- a walk that has not begun goes on from its start
 module _ (way : Direction) (m : Machine) (input : Input) (w : Walk) (old new : CacheView) (r : Result ℕ SearchError)

@@ -1,39 +1,64 @@
 -- Where no quit byte is in reach, no clear limit is set and the mode is supported, a walk call fails by memory alone.
-use Rattle.std.proofs.Common.{ℕ, ◌≡◌, ◌≤◌, inl, inr, false, true, length, None}
+use Rattle.std.proofs.Common.{ℕ, ◌≡◌, ◌≤◌, ◌+◌, ◌<◌, ◌⊎◌, inl, inr, Bool, List, false, true, length, None, arith}
+use Rattle.std.proofs.lemmas.Bool.{cases_lt}
+use Rattle.std.specs.Prelude.{Err, IfErr, Ok, Result}
+use Rattle.std.specs.Result.{result_err}
 use Rattle.automata_base.specs.ByteClasses.Classes.{is_quit}
 use Rattle.automata_base.specs.Haystacks.Input.{Input}
 use Rattle.automata_base.specs.declared.util.search.Direction.{Direction}
+use Rattle.automata_base.specs.declared.util.search.Direction.TheVariants.{Forward}
 use Rattle.automata_config.specs.declared.error.SearchError.{SearchError}
 use Rattle.automata_config.specs.declared.error.SearchError.TheVariants as search
-use Rattle.automata_hybrid.specs.Cache.Stores.{Stored}
+use Rattle.automata_hybrid.specs.Cache.Caches.{CacheView}
 use Rattle.automata_hybrid.specs.Machines.Machine.{Machine}
 use Rattle.automata_hybrid.specs.Searches.Passes.{NoQuitInReach, tape_in}
 use Rattle.automata_hybrid.specs.Machines.StartSlots.{supports}
-use Rattle.automata_hybrid.specs.Walks.Answers.{IsRefusalAt, IsResumeRefusal, IsWalkRefusal}
+use Rattle.automata_hybrid.specs.Searches.Contracts.{IsMemory, IsUnhindered}
+use Rattle.automata_hybrid.specs.Walks.Answers.{IsResumeRefusal}
+use Rattle.automata_hybrid.specs.Walks.Progress.{IsCallLeftAt, IsSetRun, LeavesCall, LeavesSet, ReadsNoUnit}
 use Rattle.automata_hybrid.specs.Walks.State.{At, Ended, Fresh, Ids, Keeping, Stage, States, Walk}
 use Rattle.automata_hybrid.proofs.Searches.Reach.{InReach, no_limit, start_memory, step_memory}
 use Rattle.automata_config.specs.Options.{minimum_cache_clear_count_of}
 
-module _ (way : Direction) (m : Machine) (c : Stored) (input : Input)
-    (few : input.end ≤ length input.haystack) (same : c.table.of ≡ m) (reach : NoQuitInReach m input)
+-- a call that is to read units has a span that is not done
+reads_undone : (input : Input) (w : Walk) → (ReadsNoUnit input w → ⊥) → input.start ≤ input.end
+reads_undone input w reads = go (cases_lt input.end input.start) where
+  go : (input.end < input.start) ⊎ (input.start ≤ input.end) → input.start ≤ input.end
+  go (inl past) = absurd (reads (inr (inr (omega (arith, past)))))
+  go (inr undone) = undone
+
+module _ (way : Direction) (m : Machine) (new : CacheView) (input : Input)
+    (few : input.end ≤ length input.haystack) (same : new.store.table.of ≡ m) (reach : NoQuitInReach m input)
     (mode : supports m input.anchored ≡ true) (free : minimum_cache_clear_count_of m.config ≡ None) where
   clean : (byte : ℕ) → InReach input byte → is_quit m.quits byte ≡ false
   clean byte r = reach r.0 byte r.1 r.2 r.3
 
   resume_memory :
-      (s : Stage) (units : ℕ) (e : SearchError) → input.start ≤ input.end → IsResumeRefusal way m c input s units e → e ≡ search.OutOfMemory
-  resume_memory Fresh units e l r = start_memory way m c input l few same clean mode free _ _ e r
+      (s : Stage) (units : ℕ) (e : SearchError) → input.start ≤ input.end → IsResumeRefusal way m new.store input s units e → e ≡ search.OutOfMemory
+  resume_memory Fresh units e l r = start_memory way m new.store input l few same clean mode free _ _ e r
   resume_memory (At q) units e l (inl r) = r.2
-  resume_memory (At q) units e l (inr r) = absurd (no_limit m c q same free r.0)
+  resume_memory (At q) units e l (inr r) = absurd (no_limit m new.store q same free r.0)
   resume_memory Ended units e l r = absurd r
 
   at_memory :
-      (keeping : Keeping) (j : ℕ) (e : SearchError)
-      → input.start ≤ input.end → j ≤ length (tape_in way input).bytes → IsRefusalAt keeping way m c input j e → e ≡ search.OutOfMemory
-  at_memory Ids j e s l r = step_memory way m c input s few same clean mode free j _ _ _ e l r
-  at_memory States j e s l (inl r) = step_memory way m c input s few same clean mode free j _ _ _ e l r
-  at_memory States j e s l (inr r) = r.memory
+      (keeping : Keeping) (j : ℕ) (mid : CacheView) (e : SearchError)
+      → input.start ≤ input.end → j ≤ length (tape_in way input).bytes → IsCallLeftAt keeping way m input j mid new e → e ≡ search.OutOfMemory
+  at_memory Ids j mid e s l (r, left) = step_memory way m new.store input s few same clean mode free j _ _ _ e l r
+  at_memory States j mid e s l (inl (r, left)) = step_memory way m new.store input s few same clean mode free j _ _ _ e l r
+  at_memory States j mid e s l (inr (r, read)) = r.memory
 
-  pub walk_memory : (keeping : Keeping) (w : Walk) (k : ℕ) (e : SearchError) → IsWalkRefusal keeping way m c input w k e → e ≡ search.OutOfMemory
-  walk_memory keeping w k e (l, inl r) = resume_memory w.stage w.units e l r.1
-  walk_memory keeping w k e (l, inr (may, r)) = at_memory keeping r.0 e l r.2.0 r.5
+  pub call_memory : (keeping : Keeping) (w : Walk) (old : CacheView) (e : SearchError) → LeavesCall keeping way m input w old new e → e ≡ search.OutOfMemory
+  call_memory keeping w old e (reads, inl (why, none)) = resume_memory w.stage w.units e (reads_undone input w reads) why
+  call_memory keeping w old e (reads, inr (begun, resumed, (n, mid, walks, clean, silent, all, left))) =
+      at_memory keeping (w.units + n) mid e (reads_undone input w reads) walks.0 left
+
+-- so does the search for a set
+pub set_memory :
+    {T : Type 0} (m : Machine) (new : CacheView) (input : Input) (set joined : List Bool) (old : CacheView) (r : Result T SearchError)
+    → input.end ≤ length input.haystack → new.store.table.of ≡ m → IsUnhindered m input
+    → IsSetRun m input set joined old new (result_err r) → IfErr r IsMemory
+set_memory m new input set joined old (Ok t) few same f run = tt
+set_memory m new input set joined old (Err e) few same f run = go run.run where
+  go : LeavesSet m input set joined old new e → IsMemory e
+  go (calls, walk, mid, called, is_open, joins, there, left) =
+      call_memory Forward m new input few same f.reach f.supported f.clears Ids walk mid e left

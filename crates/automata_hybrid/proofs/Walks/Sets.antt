@@ -24,12 +24,11 @@ use Rattle.automata_hybrid.specs.Searches.Cached.{KnowsItsStart}
 use Rattle.automata_hybrid.specs.Walks.Cached.{IsOpen, KnowsItsState, KnowsWalk, KnowsWhich}
 use Rattle.automata_hybrid.specs.Machines.Machine.{Machine, greatest}
 use Rattle.automata_base.specs.Powersets.Powerset.{Powerset, cost}
-use Rattle.automata_hybrid.specs.Walks.Progress.{HaveCalled, IsOpenAfter}
+use Rattle.automata_hybrid.specs.Walks.Progress.{HaveCalled, IsJoined, IsJoinedAfter, IsOpenAfter}
 use Rattle.automata_hybrid.specs.Searches.Passes.{tape_in}
 use Rattle.automata_hybrid.specs.Walks.Answers.{AreWalked, GoesOn, HasItsState, HasReported, HasReportedAt, HasReportedBy}
 use Rattle.automata_hybrid.specs.Walks.Answers.{ReportsNext, half_nth}
 use Rattle.automata_hybrid.specs.Walks.State.{At, Ended, Fresh, Stage, Walk, fresh_walk}
-use Rattle.automata_hybrid.specs.Walks.Sets.{IsJoined}
 use Rattle.automata_hybrid.proofs.Searches.PassState.{false_true}
 use Rattle.automata_hybrid.proofs.Walks.Reports.{Begins, reported_rises, walked_begin}
 use Rattle.automata_hybrid.proofs.Searches.Directions.{units_in}
@@ -172,7 +171,7 @@ pub record Joins (m : Machine) (input : Input) (walk : Walk) (old new : List Boo
   pub k : ℕ
   pub reported : HasReported Forward m input walk k
   pub first : input.earliest ≡ true → k ≡ 0
-  pub joined : (pairs : List Pair) → AreWalked Forward m input pairs → IsJoined (take k pairs) old new
+  pub joined : IsJoinedAfter m input old new k
   pub capacity : length new ≡ length old
   pub open_at : (k ≡ 0) ⊎ IsLacking new
 

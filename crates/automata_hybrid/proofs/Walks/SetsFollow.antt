@@ -1,7 +1,6 @@
 -- What follows of what the search for a set makes of its cache.
-use Rattle.std.proofs.Common.{ℕ, zero, suc, ◌≡◌, ◌∙◌, ◌+◌, ◌-◌, ◌<◌, ◌≤◌, ◌⊎◌, Bool, List, None, length, inl, inr, refl, sym, ap}
+use Rattle.std.proofs.Common.{ℕ, zero, suc, ◌≡◌, ◌∙◌, ◌+◌, ◌-◌, ◌<◌, ◌≤◌, ◌⊎◌, Bool, List, Some, None, length, inl, inr, refl, sym, ap}
 use Rattle.std.proofs.Common.{subst, arith, take}
-use Rattle.std.specs.Prelude.{Err, Ok}
 use Rattle.automata_base.specs.Answers.Answers.{AreUnsplit}
 use Rattle.automata_base.specs.Haystacks.Input.{Input}
 use Rattle.automata_base.specs.Laws.Walks.{WalksAreReported}
@@ -57,8 +56,8 @@ module _ (m : Machine) (skips : Skips m ⊎ (Skips m → ⊥)) (input : Input) (
   module _ (k : ℕ) (before walk : Walk) (mid new : CacheView) (made : CallsMade k before mid) (is_open : IsOpenAfter m input set k)
       (there : HasItsState mid.store.table before.stage) (reports : ReportsNext Forward m input before walk)
       (ended : EndsCall Forward m input before walk mid new) where
-    c : CallFollows {T = Unit {0}} Ids Forward m input before walk mid new (Ok tt)
-    c = call_ended Forward m input skips before k made.reported tt Ids walk mid new made.of reports ended
+    c : CallFollows Ids Forward m input before walk mid new None
+    c = call_ended Forward m input skips before k made.reported Ids walk mid new made.of reports ended
 
     leaves : Leaves Forward m input skips before k made.reported walk mid new
     leaves = call_leaves_units Forward m input skips before k made.reported walk mid new made.of ended
@@ -138,14 +137,15 @@ module _ (m : Machine) (skips : Skips m ⊎ (Skips m → ⊥)) (input : Input) (
   Closed calls = (pairs : List Pair) → AreWalked Forward m input pairs → IsOpen input set (take calls pairs) → ⊥
 
   -- a set that answered
-  set_ended : {T : Type 0} (u : T) (new : CacheView) → EndsSet m input set old new → SetFollows m input set old new (Ok u)
-  set_ended u new (calls, walk, called, last) = record {
+  set_ended : (joined : List Bool) (new : CacheView) → EndsSet m input set old new → SetFollows m input set joined old new None
+  set_ended joined new (calls, walk, called, last) = record {
     cost = cost;
     roomy = λ room. clears_none old new _ made.grown cost room;
     started = λ knows. omega (arith, made.started knows, made.few);
     grown = made.grown;
     learned = λ nothing undone may. all undone may (made.learned nothing undone may);
     known = λ knows. (made.grown.idle (made.idle knows), tt);
+    refused = tt;
     done = made.done;
   } where
     made : CallsMade calls walk new
@@ -183,8 +183,8 @@ module _ (m : Machine) (skips : Skips m ⊎ (Skips m → ⊥)) (input : Input) (
     all undone may (inr known) = set_knows m new.store input set walk known (stops undone)
 
   -- a set that failed
-  set_left : {T : Type 0} (new : CacheView) (e : SearchError) → LeavesSet m input set old new e → SetFollows {T = T} m input set old new (Err e)
-  set_left new e (calls, walk, mid, called, is_open, there, left) = record {
+  set_left : (joined : List Bool) (new : CacheView) (e : SearchError) → LeavesSet m input set joined old new e → SetFollows m input set joined old new (Some e)
+  set_left joined new e (calls, walk, mid, called, is_open, joins, there, left) = record {
     cost = cost;
     roomy = λ room. clears_none old new _ grown cost room;
     started = λ knows. (
@@ -196,12 +196,13 @@ module _ (m : Machine) (skips : Skips m ⊎ (Skips m → ⊥)) (input : Input) (
         let count : mid.count ≡ old.count = made.idle knows in
         let here = c.known (which_walk m mid.store input walk set calls made.reported is_open list there (which_still m input set old mid made.grown count knows)) in
         (grown.idle (here.0.0 ∙ count), here.1));
+    refused = (walk, calls, made.reported, c.refused calls made.reported, joins, is_open);
     done = λ past. absurd (left.0 (inr (inr (omega (arith, past)))));
   } where
     made : CallsMade calls walk mid
     made = calls_made calls walk mid called
 
-    c : CallFollows {T = Unit {0}} Ids Forward m input walk walk mid new (Err e)
+    c : CallFollows Ids Forward m input walk walk mid new (Some e)
     c = call_left Forward m input skips walk calls made.reported Ids walk mid new e made.of left
 
     grown : IsGrown old new
@@ -212,7 +213,7 @@ module _ (m : Machine) (skips : Skips m ⊎ (Skips m → ⊥)) (input : Input) (
 
 -- each search for a set
 pub sets_follow : (m : Machine) → Skips m ⊎ (Skips m → ⊥) → WalksAreReported m.nfa → SetsFollow m
-sets_follow m skips reported input set old new (Ok u) run =
-    set_ended m skips input set (reported Forward (match_kind_of m.config) input) old run.of u new run.ended
-sets_follow m skips reported input set old new (Err e) run =
-    set_left m skips input set (reported Forward (match_kind_of m.config) input) old run.of new e run.left
+sets_follow m skips reported input set joined old new None run =
+    set_ended m skips input set (reported Forward (match_kind_of m.config) input) old run.of joined new run.run
+sets_follow m skips reported input set joined old new (Some e) run =
+    set_left m skips input set (reported Forward (match_kind_of m.config) input) old run.of joined new e run.run

@@ -1,7 +1,7 @@
 -- One call of a walk that reads units: what it makes of its cache.
-use Rattle.std.proofs.Common.{ℕ, suc, ◌≡◌, ◌∙◌, ◌+◌, ◌-◌, ◌≤◌, ◌<◌, ◌⊎◌, inr, false, length, Option, None, Some, refl, sym, ap}
+use Rattle.std.proofs.Common.{ℕ, suc, ◌≡◌, ◌∙◌, ◌+◌, ◌-◌, ◌≤◌, ◌<◌, inr, false, length, Option, None, Some, refl, sym, ap}
 use Rattle.std.proofs.Common.{subst, arith}
-use Rattle.std.specs.Prelude.{Err, Ok}
+use Rattle.std.specs.Prelude.{Ok}
 use Rattle.automata_base.specs.Answers.Answers.{offset_in}
 use Rattle.automata_base.specs.Haystacks.Input.{Input}
 use Rattle.automata_base.specs.Haystacks.Tapes.{is_split}
@@ -15,17 +15,14 @@ use Rattle.automata_hybrid.specs.Cache.Table.{Rows}
 use Rattle.automata_hybrid.specs.Machines.Machine.{Machine}
 use Rattle.automata_hybrid.specs.Searches.Passes.{HasReadNoQuit, Skips, given_up_offset, state_in, tape_in}
 use Rattle.automata_hybrid.specs.Searches.Progress.{AreUnitsRead, HasEndedAfter, IsUnitRead, with_search_begun, with_search_moved}
-use Rattle.automata_hybrid.specs.Steps.Starts.{MayStart}
-use Rattle.automata_hybrid.specs.Walks.Answers.{Arrives, HasReportedBy, IsArrival, IsSilent, IsUnheld, IsWalkOf, WalkReads}
+use Rattle.automata_hybrid.specs.Walks.Answers.{Arrives, IsArrival, IsSilent, IsUnheld, WalkReads}
 use Rattle.automata_hybrid.specs.Walks.Cached.{IsToRead}
-use Rattle.automata_hybrid.specs.Walks.Parts.{IsAdvanceEffect, IsCallRefused}
+use Rattle.automata_hybrid.specs.Walks.Parts.{IsAdvanceEffect}
 use Rattle.automata_hybrid.specs.Walks.Progress.{IsCallStopped, IsResumed, IsWalkRun}
 use Rattle.automata_hybrid.specs.Walks.State.{Ended, Keeping, States, Walk}
 use Rattle.automata_hybrid.specs.declared.search.advance.Arrival.{Arrival}
 use Rattle.automata_hybrid.proofs.Searches.UnitsRead.{ended_after, ended_here, read_last}
 use Rattle.automata_hybrid.proofs.Steps.Steps.{unit_no_quit}
-use Rattle.automata_hybrid.proofs.Walks.Calls.{reported_here}
-use Rattle.automata_hybrid.proofs.Walks.Parts.{refused_on}
 use Rattle.automata_hybrid.proofs.Walks.Progress.{reads_some, silent_before, walk_reads_before}
 
 -- units before the last one that a walk came to report nothing
@@ -39,7 +36,7 @@ arrival_silent way m t input from (Some id) units k a more less few =
 
 -- a walk was gone on with, a search began at its first unit, and it came to where it reports patterns, or to its end
 module _ (way : Direction) (m : Machine) (input : Input) (w : Walk) (old between begun mid : CacheView)
-    (first : IsSoundOf old.store m) (skips : Skips m ⊎ (Skips m → ⊥)) (reported : IsWalkOf way m input w) (r : IsToRead input w.stage w.units w.reported)
+    (first : IsSoundOf old.store m) (r : IsToRead input w.stage w.units w.reported)
     (resumed : IsResumed way m input w.stage old between)
     (begins : begun ≡ with_store between (with_searched between.store (progress_started between.store.searched (given_up_offset way input w.units))))
     (sound : IsSoundOf begun.store m) (arrival : Arrival) (a : IsAdvanceEffect way m input w.units begun mid (Ok arrival))
@@ -64,10 +61,10 @@ module _ (way : Direction) (m : Machine) (input : Input) (w : Walk) (old between
         (ended_after way m input w.units (suc last.0) begun mid new sound last.3
         (ended_here way input (w.units + (suc last.0 - 1)) at mid new (ap (given_up_offset way input) k ∙ sym place) ends))
 
-    pub run_on : IsWalkRun {T = Unit {0}} keeping way m input w next old new (Ok tt)
+    pub run_on : IsWalkRun keeping way m input w next old new None
     run_on = record {
       of = first;
-      ended = (
+      run = (
         λ over. (stops over).0,
         inr (
           reads_some input w r,
@@ -84,7 +81,6 @@ module _ (way : Direction) (m : Machine) (input : Input) (w : Walk) (old between
           ends_at,
         ),
       );
-      left = tt;
     }
 
   -- or the state there cannot be held
@@ -122,21 +118,5 @@ module _ (way : Direction) (m : Machine) (input : Input) (w : Walk) (old between
           inr (unheld_on, unit),
         )
 
-    pub refused_unheld : MayStart m input.anchored (tape_in way input).before → IsCallRefused States way m input w mid.store search.OutOfMemory
-    refused_unheld may = refused_on States way m input w mid.store search.OutOfMemory reported r (λ k t. (
-      r.undone,
-      inr (
-        may,
-        (
-          w.units + last.0,
-          omega arith,
-          last.2,
-          clean_before,
-          subst (λ n. HasReportedBy way m input n k) same_place (arrived.silent k (reported_here way m input w k skips t r.on r.all_reported)),
-          inr unheld_on,
-        ),
-      ),
-    ))
-
-    pub run_unheld : (next : Walk) → IsWalkRun {T = Unit {0}} States way m input w next old mid (Err search.OutOfMemory)
-    run_unheld next = record { of = first; ended = tt; left = (reads_some input w r, inr (between, resumed, left_unheld)) }
+    pub run_unheld : (next : Walk) → IsWalkRun States way m input w next old mid (Some search.OutOfMemory)
+    run_unheld next = record { of = first; run = (reads_some input w r, inr (between, resumed, left_unheld)) }

@@ -172,13 +172,6 @@ abbrev pub IsArrival : Direction → Machine → Rows → Input → (from : ℕ)
 IsArrival way m t input from None units = Finishes way m input from units
 IsArrival way m t input from (Some id) units = Arrives way m t input from id units
 
--- why going on from the first `from` units fails: the step on a unit from there on does, and those before report
--- nothing
-abbrev pub IsAdvanceRefusal : Direction → Machine → Stored → Input → (from : ℕ) → SearchError → Type 0
-IsAdvanceRefusal way m c input from e =
-    (j : ℕ) × (from ≤ j) × WalkReads way m input j × HasReadNoQuit way m input j × IsSilent way m input from j
-    × IsUnitRefusal way m c input j e
-
 -- the cache has the state that a walk goes on from
 abbrev pub HasItsState : Rows → Stage → Type 0
 HasItsState t Fresh = Unit {0}

@@ -11,7 +11,6 @@ use Rattle.automata_base.specs.declared.util.search.Direction.TheVariants.{Forwa
 use Rattle.automata_hybrid.specs.Cache.Stores.{Stored}
 use Rattle.automata_hybrid.specs.Searches.Cached.{KnowsItsStart, KnowsUnit}
 use Rattle.automata_hybrid.specs.Machines.Machine.{Machine}
-use Rattle.automata_hybrid.specs.Searches.PassState.{HasLearnedUnit}
 use Rattle.automata_hybrid.specs.Searches.Passes.{HasReadNoQuit, Skips, tape_in}
 use Rattle.automata_hybrid.specs.Steps.Starts.{MayStart}
 use Rattle.automata_hybrid.specs.Cache.Table.{IsKnownState}
@@ -62,7 +61,3 @@ KnowsWhich m c input set =
     → WalkReads Forward m input j → HasReadNoQuit Forward m input j
     → AreUnsplit (Skips m) Forward input (pairs_reported_in Forward m input j) pairs → IsOpen input set pairs
     → KnowsUnit Forward m c input j)
-
--- the transitions on the units from one place of a pass to another are cached, at classes that rows have
-abbrev pub HasLearnedUnits : Direction → Machine → Stored → Input → (from to : ℕ) → Type 0
-HasLearnedUnits way m c input from to = (j : ℕ) → from ≤ j → j < to → HasLearnedUnit way m c input j

@@ -1,5 +1,5 @@
 -- What follows of what the calls of a walk, and the search for a set, make of their cache.
-use Rattle.std.specs.Prelude.{ℕ, ◌≡◌, ◌<◌, ◌≤◌, ◌+◌, ◌-◌, ◌⊎◌, Bool, List, Result, IfErr, OnOk}
+use Rattle.std.specs.Prelude.{ℕ, ◌≡◌, ◌<◌, ◌≤◌, ◌+◌, ◌-◌, ◌⊎◌, Bool, List, Option, IfNone, IfSome}
 use Rattle.automata_base.specs.Haystacks.Input.{Input}
 use Rattle.automata_base.specs.Powersets.Powerset.{Powerset}
 use Rattle.automata_base.specs.declared.util.search.Direction.{Direction}
@@ -7,12 +7,14 @@ use Rattle.automata_base.specs.declared.util.search.Direction.TheVariants.{Forwa
 use Rattle.automata_config.specs.declared.error.SearchError.{SearchError}
 use Rattle.automata_hybrid.specs.Cache.Caches.{CacheView, counted}
 use Rattle.automata_hybrid.specs.Cache.Growth.{ClearedNothing, HasRoom, IsGrown, IsStill, PutsBack}
+use Rattle.automata_hybrid.specs.Cache.Stores.{Stored}
 use Rattle.automata_hybrid.specs.Cache.Table.{IsKnownState}
 use Rattle.automata_hybrid.specs.Machines.Machine.{Machine}
 use Rattle.automata_hybrid.specs.Searches.Cached.{IsOfInput, KnowsItsStart}
-use Rattle.automata_hybrid.specs.Walks.Answers.{HasItsState, IsUnheld, IsWalkOf, ReportsNext, start_count}
+use Rattle.automata_hybrid.specs.Walks.Answers.{HasItsState, HasReported, IsUnheld, IsWalkOf, IsWalkRefusal}
+use Rattle.automata_hybrid.specs.Walks.Answers.{ReportsNext, start_count}
 use Rattle.automata_hybrid.specs.Walks.Cached.{KnowsItsState, KnowsWalk, KnowsWhich}
-use Rattle.automata_hybrid.specs.Walks.Progress.{IsSetRun, IsWalkRun, ReadsNoUnit}
+use Rattle.automata_hybrid.specs.Walks.Progress.{IsJoinedAfter, IsOpenAfter, IsSetRun, IsWalkRun, ReadsNoUnit}
 use Rattle.automata_hybrid.specs.Walks.State.{At, Ids, Keeping, States, Walk}
 
 -- why a call fails though all that it uses is cached: because of its input; or, if states are kept, since the one
@@ -21,19 +23,27 @@ abbrev pub IsKnownRefusal : Keeping → Direction → Machine → Input → Walk
 IsKnownRefusal Ids way m input walk e = IsOfInput e
 IsKnownRefusal States way m input walk e = IsOfInput e ⊎ ((j : ℕ) × (walk.units ≤ j) × IsUnheld way m input j e)
 
--- what follows of a call of a walk, by what it returns
-pub record CallFollows {T : Type 0} (keeping : Keeping) (way : Direction) (m : Machine) (input : Input)
-    (walk next : Walk) (old new : CacheView) (result : Result T SearchError) : Type 0 where
+-- why the search for a set fails: a call failed that was to report the pair after the first `k`; the set has the
+-- patterns of these, and was still open with them
+abbrev pub IsWhichRefusal : Machine → Stored → Input → (set joined : List Bool) → SearchError → Type 0
+IsWhichRefusal m c input set joined e =
+    (walk : Walk) × (k : ℕ) × HasReported Forward m input walk k
+    × IsWalkRefusal Ids Forward m c input walk k e
+    × IsJoinedAfter m input set joined k × IsOpenAfter m input set k
+
+-- what follows of a call of a walk that returns this error, or none
+pub record CallFollows (keeping : Keeping) (way : Direction) (m : Machine) (input : Input) (walk next : Walk)
+    (old new : CacheView) (error : Option SearchError) : Type 0 where
   -- it determinizes at most once for each unit by which the units read rise, and once for a start state; a call that
   -- fails at most once for each unit left
-  pub rises : OnOk result (walk.units ≤ next.units)
-  pub cost : OnOk result (new.count + walk.units ≤ old.count + next.units + start_count walk.stage)
+  pub rises : IfNone error (walk.units ≤ next.units)
+  pub cost : IfNone error (new.count + walk.units ≤ old.count + next.units + start_count walk.stage)
   pub most : new.count ≤ old.count + (input.end - input.start + 1 - walk.units) + start_count walk.stage
   -- a start state that is cached is not determinized again
   pub started :
       KnowsItsState way m old.store input walk.stage
       → (new.count ≤ old.count + (input.end - input.start + 1 - walk.units))
-      × OnOk result (new.count + walk.units ≤ old.count + next.units)
+      × IfNone error (new.count + walk.units ≤ old.count + next.units)
   -- nothing is cleared if there is room for as many states, and for the walk's own
   pub roomy : HasRoom old.store (input.end - input.start + 1 - walk.units + 1) → new.store.clears ≡ old.store.clears
   -- the cache has grown as by one determinization more; if it had the walk's state, as by those that were made
@@ -44,18 +54,21 @@ pub record CallFollows {T : Type 0} (keeping : Keeping) (way : Direction) (m : M
       (q : Powerset) → walk.stage ≡ At q → (IsKnownState old.store.table q → ⊥)
       → (new ≡ old) ⊎ ((between : CacheView) × PutsBack q old between × IsGrown between new)
   -- if nothing was cleared, what it used is cached
-  pub learned : ClearedNothing old.store new.store → OnOk result (KnowsWalk way m new.store input walk)
+  pub learned : ClearedNothing old.store new.store → IfNone error (KnowsWalk way m new.store input walk)
   -- with all that cached, it fails because of its input alone, or since its state cannot be held, and changes nothing
   -- but the progress
   pub known :
       KnowsWalk way m old.store input walk
-      → IsStill old new × IfErr result (IsKnownRefusal keeping way m input walk)
+      → IsStill old new × IfSome error (IsKnownRefusal keeping way m input walk)
+  -- why it fails: the walk cannot go on from where it is, or it fails at a unit
+  pub refused :
+      (k : ℕ) → HasReported way m input walk k → IfSome error (IsWalkRefusal keeping way m new.store input walk k)
   -- one that reads no unit changes nothing at all
   pub ready : ReadsNoUnit input walk → new ≡ old
 
--- what follows of the search for a set
-pub record SetFollows {T : Type 0} (m : Machine) (input : Input) (set : List Bool) (old new : CacheView)
-    (result : Result T SearchError) : Type 0 where
+-- what follows of the search for a set that returns this error, or none
+pub record SetFollows (m : Machine) (input : Input) (set joined : List Bool) (old new : CacheView)
+    (error : Option SearchError) : Type 0 where
   -- over a span of n bytes it determinizes at most n + 2 times, and clears nothing if there is room for as many states
   pub cost : new.count ≤ old.count + (input.end - input.start + 2)
   pub roomy : HasRoom old.store (input.end - input.start + 2) → new.store.clears ≡ old.store.clears
@@ -64,9 +77,11 @@ pub record SetFollows {T : Type 0} (m : Machine) (input : Input) (set : List Boo
   -- until the next clear nothing is lost
   pub grown : IsGrown old new
   -- and all that it used is cached
-  pub learned : ClearedNothing old.store new.store → OnOk result (KnowsWhich m new.store input set)
+  pub learned : ClearedNothing old.store new.store → IfNone error (KnowsWhich m new.store input set)
   -- with all that cached, it fails because of its input alone, and changes nothing but the progress
-  pub known : KnowsWhich m old.store input set → IsStill old new × IfErr result IsOfInput
+  pub known : KnowsWhich m old.store input set → IsStill old new × IfSome error IsOfInput
+  -- why it fails: a call of its walk does
+  pub refused : IfSome error (IsWhichRefusal m new.store input set joined)
   -- with a span that is done, nothing at all
   pub done : input.end < input.start → new ≡ old
 
@@ -74,13 +89,13 @@ pub record SetFollows {T : Type 0} (m : Machine) (input : Input) (set : List Boo
 abbrev pub CallsFollow : Machine → Type 0
 CallsFollow m =
     (keeping : Keeping) (way : Direction) (input : Input) (walk next : Walk) (old new : CacheView)
-    (result : Result (Unit {0}) SearchError)
-    → IsWalkOf way m input walk → OnOk result (ReportsNext way m input walk next)
-    → IsWalkRun keeping way m input walk next old new result
-    → CallFollows keeping way m input walk next old new result
+    (error : Option SearchError)
+    → IsWalkOf way m input walk → IfNone error (ReportsNext way m input walk next)
+    → IsWalkRun keeping way m input walk next old new error
+    → CallFollows keeping way m input walk next old new error
 
 -- and so has each search for a set
 abbrev pub SetsFollow : Machine → Type 0
 SetsFollow m =
-    (input : Input) (set : List Bool) (old new : CacheView) (result : Result (Unit {0}) SearchError)
-    → IsSetRun m input set old new result → SetFollows m input set old new result
+    (input : Input) (set joined : List Bool) (old new : CacheView) (error : Option SearchError)
+    → IsSetRun m input set joined old new error → SetFollows m input set joined old new error

@@ -9,15 +9,13 @@ use Rattle.automata_hybrid.specs.Cache.Stores.{Stored}
 use Rattle.automata_hybrid.specs.Cache.Caches.{CacheView}
 use Rattle.automata_hybrid.specs.Walks.Cached.{IsToRead}
 use Rattle.automata_hybrid.specs.Machines.Machine.{Machine}
-use Rattle.automata_hybrid.specs.Searches.Contracts.{IsUnsupported, unsupported_error}
 use Rattle.automata_hybrid.specs.Searches.Progress.{AreUnitsRead, IsLeftAt, IsUnitRead, with_search_moved}
-use Rattle.automata_hybrid.specs.Walks.Progress.{IsCallStopped, ReadsNoUnit}
+use Rattle.automata_hybrid.specs.Walks.Progress.{IsCallStopped}
 use Rattle.automata_hybrid.specs.Searches.Passes.{state_in, tape_in}
 use Rattle.automata_hybrid.specs.Steps.Starts.{MayStart}
 use Rattle.automata_hybrid.specs.Cache.Table.{Leads, Names, Rows}
-use Rattle.automata_hybrid.specs.Walks.Answers.{GoesOn, HasReported, IsWalkOf}
-use Rattle.automata_hybrid.specs.Walks.Answers.{IsWalkRefusal, ReportsNext, WalkReads}
-use Rattle.automata_hybrid.specs.Walks.State.{Fresh, Ids, IsHeldAt, IsHeldItself, Keeping, Walk}
+use Rattle.automata_hybrid.specs.Walks.Answers.{GoesOn, IsWalkOf, ReportsNext, WalkReads}
+use Rattle.automata_hybrid.specs.Walks.State.{Ids, IsHeldAt, IsHeldItself, Walk}
 use Rattle.automata_hybrid.specs.Walks.State.{keeping_of}
 use Rattle.automata_hybrid.specs.declared.search.walk.Held.{Held}
 
@@ -50,16 +48,6 @@ pub record IsCallAnswer (way : Direction) (m : Machine) (input : Input) (walk ne
   pub reports : ReportsNext way m input walk next
   -- with a match it has read more units or reported one pattern more
   pub goes_on : GoesOn walk next
-
--- why a call of a walk fails
-pub record IsCallRefused (keeping : Keeping) (way : Direction) (m : Machine) (input : Input) (walk : Walk)
-    (new : Stored) (e : SearchError) : Type 0 where
-  -- the walk cannot go on from where it is, or it fails at a unit
-  pub why : (k : ℕ) → HasReported way m input walk k → IsWalkRefusal keeping way m new input walk k e
-  -- of one that has not begun, an anchored mode that is not supported is reported
-  pub unsupported : walk.stage ≡ Fresh → IsUnsupported way m input → e ≡ unsupported_error input
-  -- one that reads no unit does not fail
-  pub ready : ReadsNoUnit input walk → ⊥
 
 -- the ID that a walk goes on from
 pub record IsResumeAnswer (way : Direction) (m : Machine) (input : Input) (walk : Walk) (new : Stored) (id : ℕ) :

@@ -1,7 +1,10 @@
 -- What the calls of a walk make of their cache and of the progress, unit by unit.
-use Rattle.std.specs.Prelude.{ℕ, zero, suc, ◌≡◌, ◌<◌, ◌≤◌, ◌+◌, ◌⊎◌, Bool, List, length, take, None}
-use Rattle.std.specs.Prelude.{Result, IfErr, OnOk}
+use Rattle.std.specs.Prelude.{ℕ, zero, suc, ◌≡◌, ◌<◌, ◌≤◌, ◌+◌, ◌⊎◌, ◌↔◌, Bool, List, length, take, Option, None}
+use Rattle.std.specs.Prelude.{MatchOption}
+use Rattle.automata_base.specs.Answers.Answers.{HasPattern}
 use Rattle.automata_base.specs.Haystacks.Input.{Input}
+use Rattle.automata_base.specs.Haystacks.PatternSet.{members}
+use Rattle.automata_base.specs.Lists.{In}
 use Rattle.automata_base.specs.Powersets.Powerset.{Powerset}
 use Rattle.automata_base.specs.Paths.Selections.{Pair}
 use Rattle.automata_base.specs.declared.util.search.Direction.{Direction}
@@ -85,19 +88,28 @@ LeavesCall keeping way m input walk old new e =
     ⊎ ((begun : CacheView) × IsResumed way m input walk.stage old begun
     × IsCallStopped keeping way m input walk.units (with_search_begun way input walk.units begun) new e))
 
--- what a call of a walk makes of a cache of its DFA, by what it returns
-pub record IsWalkRun {T : Type 0} (keeping : Keeping) (way : Direction) (m : Machine) (input : Input)
-    (walk next : Walk) (old new : CacheView) (result : Result T SearchError) : Type 0 where
+-- what a call of a walk makes of its cache, by the error that it returns, if it fails
+pub record IsWalkRun (keeping : Keeping) (way : Direction) (m : Machine) (input : Input) (walk next : Walk)
+    (old new : CacheView) (error : Option SearchError) : Type 0 where
   -- it is one of the DFA before
   pub of : IsSoundOf old.store m
   -- a call that answers has ended; and one that fails is left so
-  pub ended : OnOk result (EndsCall way m input walk next old new)
-  pub left : IfErr result (LeavesCall keeping way m input walk old new)
+  pub run : MatchOption error (EndsCall way m input walk next old new) (LeavesCall keeping way m input walk old new)
 
 -- a set is still open once its walk has reported its first pairs
 abbrev pub IsOpenAfter : Machine → Input → (set : List Bool) → (reported : ℕ) → Type 0
 IsOpenAfter m input set reported =
     (pairs : List Pair) → AreWalked Forward m input pairs → IsOpen input set (take reported pairs)
+
+-- a set joined with the patterns of these pairs that are below its capacity
+abbrev pub IsJoined : List Pair → (set joined : List Bool) → Type 0
+IsJoined pairs set joined =
+    (p : ℕ) → In p (members joined) ↔ (In p (members set) ⊎ ((p < length set) × HasPattern p pairs))
+
+-- a set joined with the patterns of the first pairs of its walk
+abbrev pub IsJoinedAfter : Machine → Input → (set joined : List Bool) → (reported : ℕ) → Type 0
+IsJoinedAfter m input set joined reported =
+    (pairs : List Pair) → AreWalked Forward m input pairs → IsJoined (take reported pairs) set joined
 
 -- so many calls of the walk of a set have ended, one after another, each while the set was open and the cache had the
 -- state where the walk stands
@@ -115,18 +127,17 @@ EndsSet m input set old new =
     × ((walk.stage ≡ Ended)
     ⊎ ((pairs : List Pair) → AreWalked Forward m input pairs → IsOpen input set (take calls pairs) → ⊥))
 
--- one that fails has made calls of its walk, and the next one failed
-abbrev pub LeavesSet : Machine → Input → (set : List Bool) → (old new : CacheView) → SearchError → Type 0
-LeavesSet m input set old new e =
+-- one that fails has made calls of its walk, and the next one failed; the set has what these calls reported
+abbrev pub LeavesSet : Machine → Input → (set joined : List Bool) → (old new : CacheView) → SearchError → Type 0
+LeavesSet m input set joined old new e =
     (calls : ℕ) × (walk : Walk) × (mid : CacheView) × HaveCalled m input set calls old walk mid
-    × IsOpenAfter m input set calls × HasItsState mid.store.table walk.stage
+    × IsOpenAfter m input set calls × IsJoinedAfter m input set joined calls × HasItsState mid.store.table walk.stage
     × LeavesCall Ids Forward m input walk mid new e
 
--- what the search for a set makes of a cache of its DFA, by what it returns
-pub record IsSetRun {T : Type 0} (m : Machine) (input : Input) (set : List Bool) (old new : CacheView)
-    (result : Result T SearchError) : Type 0 where
+-- what the search for a set makes of its cache, by the error that it returns, if it fails
+pub record IsSetRun (m : Machine) (input : Input) (set joined : List Bool) (old new : CacheView)
+    (error : Option SearchError) : Type 0 where
   -- it is one of the DFA before
   pub of : IsSoundOf old.store m
   -- the calls of its walk have ended; or the last one failed
-  pub ended : OnOk result (EndsSet m input set old new)
-  pub left : IfErr result (LeavesSet m input set old new)
+  pub run : MatchOption error (EndsSet m input set old new) (LeavesSet m input set joined old new)

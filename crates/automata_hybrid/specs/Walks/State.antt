@@ -27,7 +27,7 @@ pub record Walk : Type 0 where
 abbrev pub fresh_walk : Walk
 fresh_walk = record { stage = Fresh; units = 0; reported = 0; found = None }
 
--- the same without its match
+-- a walk without its match
 abbrev pub without_match : Walk → Walk
 without_match w = record { stage = w.stage; units = w.units; reported = w.reported; found = None }
 

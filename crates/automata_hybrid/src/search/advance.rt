@@ -12,7 +12,7 @@ ghost use Rattle.automata_hybrid.specs.Walks.Parts.{IsAdvanceEffect, IsUnitEffec
 ghost use Rattle.automata_hybrid.specs.Searches.Passes.{HasReadNoQuit, IsUnitRefusal, Skips};
 ghost use Rattle.automata_hybrid.specs.Searches.Passes.{state_in, tape_in, unit_offset};
 ghost use Rattle.automata_hybrid.specs.Cache.Table.{IsRowId, Leads, Names};
-ghost use Rattle.automata_hybrid.specs.Walks.Answers.{IsAdvanceRefusal, IsArrival, WalkReads};
+ghost use Rattle.automata_hybrid.specs.Walks.Answers.{IsArrival, WalkReads};
 
 use crate::dfa::DFA;
 use crate::dfa::cache::Cache;
@@ -129,7 +129,6 @@ impl DFA {
         ensures of { IsCacheOf cache.new self.now }
         ensures arrives { IfOk result (λ a. IsArrival way self.now cache.new.store.table input.now units a.id
             a.units) }
-        ensures refusal { IfErr result (IsAdvanceRefusal way self.now cache.new.store input.now units) }
         ensures effect { IsAdvanceEffect way self.now input.now units cache.old cache.new result }
     {
         let _haystack = input.haystack();

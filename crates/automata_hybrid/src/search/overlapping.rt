@@ -1,19 +1,20 @@
 //! Overlapping searches: each call reports the next match, with any cache of the DFA.
 ghost use Rattle.std.specs.Prelude.{ℕ, ◌≡◌, ◌+◌, ◌-◌, ◌<◌, ◌≤◌, ◌^◌, IfOk, IfErr, IfNone, IfSome, OnOk, OnErr};
 ghost use Rattle.std.specs.Prelude.{length, slice_index};
+ghost use Rattle.std.specs.Result.{result_err};
 ghost use Rattle.automata_base.specs.Powersets.Powerset.{Powerset};
 ghost use Rattle.automata_base.specs.declared.util.search.Direction.TheVariants.{Forward, Backward};
 ghost use Rattle.automata_hybrid.specs.Cache.Growth.{IsAddRefused};
 ghost use Rattle.automata_hybrid.specs.Cache.Caches.{IsCacheOf};
 ghost use Rattle.automata_hybrid.specs.Walks.Contracts.{IsWalkCall};
-ghost use Rattle.automata_hybrid.specs.Walks.Parts.{HoldsOn, IsCallAnswer, IsCallRefused, IsHeldWalk, IsKeptWalk};
+ghost use Rattle.automata_hybrid.specs.Walks.Parts.{HoldsOn, IsCallAnswer, IsHeldWalk, IsKeptWalk};
 ghost use Rattle.automata_hybrid.specs.Walks.Parts.{IsResumeAnswer, ReadsOn};
 ghost use Rattle.automata_hybrid.specs.Walks.Progress.{HasItsRow, IsNotResumed, IsResumed, IsWalkRun};
 ghost use Rattle.automata_hybrid.specs.Searches.Passes.{tape_in};
 ghost use Rattle.automata_hybrid.specs.Steps.Starts.{MayStart};
 ghost use Rattle.automata_hybrid.specs.Cache.Table.{IsKnownState, IsRowState, Names};
 ghost use Rattle.automata_hybrid.specs.Walks.Answers.{Arrives, HasReported, HasReportedBy};
-ghost use Rattle.automata_hybrid.specs.Walks.Answers.{IsResumeRefusal, IsWalkOf, IsWalkRefusal};
+ghost use Rattle.automata_hybrid.specs.Walks.Answers.{IsResumeRefusal, IsWalkOf};
 ghost use Rattle.automata_hybrid.specs.Walks.Answers.{ReportsNext};
 ghost use Rattle.automata_hybrid.specs.Walks.State.{At, Ended, IsHeldAt, States, keeping_of, without_match};
 
@@ -53,13 +54,12 @@ impl DFA {
         ensures of { IsCacheOf cache.new self.now }
         ensures walk { IsWalkOf Forward self.now input.now state.new }
 
-        // What it reports, whatever the cache; and why it fails.
+        // What it reports, whatever the cache.
         ensures call { IsWalkCall Forward self.now input.now state.old state.new result }
-        ensures refusal { (k : ℕ) → HasReported Forward self.now input.now state.old k
-            → IfErr result (IsWalkRefusal States Forward self.now cache.new.store input.now state.old k) }
 
-        // What it does to the cache.
-        ensures effect { IsWalkRun States Forward self.now input.now state.old state.new cache.old cache.new result }
+        // What it does to the cache, and why it fails.
+        ensures effect { IsWalkRun States Forward self.now input.now state.old state.new
+            cache.old cache.new (result_err result) }
     {
         self.try_search_overlapping(cache, input, Direction::Forward, state)
     }
@@ -77,14 +77,12 @@ impl DFA {
         ensures of { IsCacheOf cache.new self.now }
         ensures walk { IsWalkOf Backward self.now input.now state.new }
 
-        // What it reports, whatever the cache; and why it fails.
+        // What it reports, whatever the cache.
         ensures call { IsWalkCall Backward self.now input.now state.old state.new result }
-        ensures refusal { (k : ℕ) → HasReported Backward self.now input.now state.old k
-            → IfErr result (IsWalkRefusal States Backward self.now cache.new.store input.now state.old k) }
 
-        // What it does to the cache.
+        // What it does to the cache, and why it fails.
         ensures effect { IsWalkRun States Backward self.now input.now state.old state.new
-            cache.old cache.new result }
+            cache.old cache.new (result_err result) }
     {
         self.try_search_overlapping(cache, input, Direction::Backward, state)
     }
@@ -162,10 +160,8 @@ impl DFA {
         ensures answer { OnOk result (IsCallAnswer way self.now input.now walk.old walk.new) }
         ensures held { OnOk result (HoldsOn cache.new.store.table walk.new held.old held.new) }
         ensures err { OnErr result ((walk.new ≡ walk.old) × (held.new ≡ held.old)) }
-        ensures refusal { IfErr result
-            (IsCallRefused (keeping_of held.old) way self.now input.now walk.old cache.new.store) }
         ensures effect { IsWalkRun (keeping_of held.old) way self.now input.now walk.old walk.new
-            cache.old cache.new result }
+            cache.old cache.new (result_err result) }
     {
         let _skips = self.skips();
         cache.see_bounds();
@@ -232,10 +228,8 @@ impl DFA {
         ensures of { IsCacheOf cache.new self.now }
         ensures walk { IsWalkOf way self.now input.now walk.new }
         ensures call { IsWalkCall way self.now input.now walk.old walk.new result }
-        ensures refusal { (k : ℕ) → HasReported way self.now input.now walk.old k
-            → IfErr result (IsWalkRefusal States way self.now cache.new.store input.now walk.old k) }
         ensures effect { IsWalkRun States way self.now input.now walk.old walk.new
-            cache.old cache.new result }
+            cache.old cache.new (result_err result) }
     {
         self.call_held(cache, input, way, &mut walk.cursor, &mut walk.held)
     }
@@ -254,10 +248,8 @@ impl DFA {
         ensures of { IsCacheOf cache.new self.now }
         ensures walk { IsKeptWalk way self.now input.now walk.new held.new }
         ensures call { IsWalkCall way self.now input.now walk.old walk.new result }
-        ensures refusal { (k : ℕ) → HasReported way self.now input.now walk.old k
-            → IfErr result (IsWalkRefusal States way self.now cache.new.store input.now walk.old k) }
         ensures effect { IsWalkRun States way self.now input.now walk.old walk.new
-            cache.old cache.new result }
+            cache.old cache.new (result_err result) }
     {
         walk_is_right(self.get_nfa());
         let _haystack = input.haystack();
@@ -286,10 +278,8 @@ impl DFA {
         ensures answer { OnOk result (IsCallAnswer way self.now input.now walk.old walk.new) }
         ensures held { OnOk result (HoldsOn cache.new.store.table walk.new held.old held.new) }
         ensures err { OnErr result ((walk.new ≡ without_match walk.old) × (held.new ≡ held.old)) }
-        ensures refusal { IfErr result
-            (IsCallRefused (keeping_of held.old) way self.now input.now walk.old cache.new.store) }
         ensures effect { IsWalkRun (keeping_of held.old) way self.now input.now walk.old walk.new
-            cache.old cache.new result }
+            cache.old cache.new (result_err result) }
     {
         cache.see_bounds();
         walk.forget_match();

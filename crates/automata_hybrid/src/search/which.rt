@@ -1,9 +1,9 @@
 //! The set of the patterns that match, found by one overlapping search forward.
-ghost use Rattle.std.specs.Prelude.{◌≤◌, IfErr, OnOk, length};
+ghost use Rattle.std.specs.Prelude.{◌≤◌, OnOk, length};
+ghost use Rattle.std.specs.Result.{result_err};
 ghost use Rattle.automata_hybrid.specs.Cache.Caches.{IsCacheOf};
 ghost use Rattle.automata_hybrid.specs.Walks.Contracts.{IsSetReported, IsWhich, JoinsReported};
 ghost use Rattle.automata_hybrid.specs.Walks.Progress.{IsSetRun};
-ghost use Rattle.automata_hybrid.specs.Walks.Sets.{IsWhichRefusal};
 
 use crate::dfa::DFA;
 use crate::dfa::cache::Cache;
@@ -33,13 +33,12 @@ impl DFA {
         requires { IsCacheOf cache.old self.now }
         ensures of { IsCacheOf cache.new self.now }
 
-        // What the set is joined with by paths, and by passes, whatever the cache; and why the call fails.
+        // What the set is joined with by paths, and by passes, whatever the cache.
         ensures which { IsWhich self.now input.now patset.old patset.new result }
         ensures found { OnOk result (JoinsReported self.now input.now patset.old patset.new) }
-        ensures refusal { IfErr result (IsWhichRefusal self.now cache.new.store input.now patset.old patset.new) }
 
-        // What it does to the cache.
-        ensures effect { IsSetRun self.now input.now patset.old cache.old cache.new result }
+        // What it does to the cache, and why it fails.
+        ensures effect { IsSetRun self.now input.now patset.old patset.new cache.old cache.new (result_err result) }
     {
         self.collect(cache, input, patset)
     }
@@ -54,8 +53,7 @@ impl DFA {
         requires { IsCacheOf cache.old self.now }
         ensures of { IsCacheOf cache.new self.now }
         ensures reported { IsSetReported self.now input.now patset.old patset.new result }
-        ensures refusal { IfErr result (IsWhichRefusal self.now cache.new.store input.now patset.old patset.new) }
-        ensures effect { IsSetRun self.now input.now patset.old cache.old cache.new result }
+        ensures effect { IsSetRun self.now input.now patset.old patset.new cache.old cache.new (result_err result) }
         ensures inside { input.now.end ≤ length input.now.haystack }
     {
         walk_is_right(self.get_nfa());

@@ -1,6 +1,7 @@
 -- What calls return whatever the cache, from their clauses.
 use Rattle.std.proofs.Common.{◌≡◌, ◌<◌, ◌≤◌, Option, None, Result, Ok, Err, IfErr, IfOk, Bool, true, false, inl, inr}
-use Rattle.std.proofs.Common.{ap, subst, sym, ◌∙◌, Some, List, slice_get}
+use Rattle.std.proofs.Common.{IfSome, ap, subst, sym, ◌∙◌, Some, List, slice_get}
+use Rattle.std.specs.Result.{result_err}
 use Rattle.automata_base.specs.Haystacks.Input.{Input}
 use Rattle.automata_base.specs.Haystacks.Matches.{Match}
 use Rattle.automata_base.specs.Nfas.Nodes.{nfa_of}
@@ -48,11 +49,17 @@ memory_of_sound p c input e sound free h = go (h.free free) where
   go (inl memory) = memory
   go (inr apart) = absurd (h.sound sound apart)
 
-pub refused_sound :
+refused_free :
     {T : Type 0} (r : Result T SearchError) (p : Regex) (c : Cache) (input : Input)
-    → IsSoundPair p → IsFree p input → IfErr r (IsRegexRefusal p c input) → IfErr r IsMemory
-refused_sound (Ok x) p c input sound free h = tt
-refused_sound (Err e) p c input sound free h = memory_of_sound p c input e sound free h
+    → IfSome (result_err r) (IsRegexRefusal p c input) → IsFree p input → IfErr r IsOfMemory
+refused_free (Ok x) p c input h free = tt
+refused_free (Err e) p c input h free = h.free free
+
+refused_sound :
+    {T : Type 0} (r : Result T SearchError) (p : Regex) (c : Cache) (input : Input)
+    → IfSome (result_err r) (IsRegexRefusal p c input) → IsSoundPair p → IsFree p input → IfErr r IsMemory
+refused_sound (Ok x) p c input h sound free = tt
+refused_sound (Err e) p c input h sound free = memory_of_sound p c input e sound free h
 
 -- a search for a span
 pub span_returned :
@@ -60,15 +67,15 @@ pub span_returned :
     → IsSpanReported p input r
     → (BothKeepCycles p → IfOk r (TryFinds (forward_engine p) (reverse_engine p) input))
     → (IsSoundPair p → IfOk r (IsSpan (forward_engine p) input))
-    → IfErr r (IsRegexRefusal p c input)
+    → IfSome (result_err r) (IsRegexRefusal p c input)
     → IsSpanOf p input r
 span_returned p input r c reported answer span errors = record {
   answer = answer;
   span = span;
   within = reported.within;
   unsupported = reported.unsupported;
-  free = reported.free;
-  paired = λ sound free. refused_sound r p c input sound free errors;
+  free = refused_free r p c input errors;
+  paired = refused_sound r p c input errors;
   done = reported.done;
 }
 

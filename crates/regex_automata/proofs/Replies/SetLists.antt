@@ -1,5 +1,5 @@
 -- The list of the patterns of a set, and what walks say of it.
-use Rattle.std.proofs.Common.{◌≡◌, ◌∙◌, ◌<◌, ◌≤◌, ◌⊎◌, ℕ, zero, suc, Bool, true, false, List, [], ◌∷◌, Some, None}
+use Rattle.std.proofs.Common.{◌≡◌, ◌∙◌, ◌<◌, ◌≤◌, ◌⊎◌, ℕ, zero, suc, Bool, true, false, List, [], ◌∷◌, Option, Some, None}
 use Rattle.std.proofs.Common.{Result, Ok, Err, IfErr, OnOk, IfSome, arith, inl, inr, length, refl, subst, sym, ap}
 use Rattle.std.specs.Prelude.{IsOk}
 use Rattle.std.proofs.lemmas.List.{length-replicate}
@@ -13,7 +13,7 @@ use Rattle.automata_config.specs.declared.error.SearchError.{SearchError}
 use Rattle.automata_config.specs.declared.error.SearchError.TheVariants as search
 use Rattle.automata_hybrid.specs.Machines.Machine.{Machine}
 use Rattle.automata_hybrid.specs.Searches.Contracts.{IsMemory}
-use Rattle.automata_hybrid.specs.Walks.Progress.{EndsSet, HaveCalled, IsOpenAfter}
+use Rattle.automata_hybrid.specs.Walks.Progress.{EndsSet, HaveCalled, IsOpenAfter, IsSetRun}
 use Rattle.automata_hybrid.specs.Cache.Caches.{CacheView}
 use Rattle.automata_hybrid.specs.Walks.Answers.{HasReported}
 use Rattle.automata_hybrid.specs.Walks.State.{Walk}
@@ -78,6 +78,13 @@ pub reported_set :
 reported_set m input set old new (calls, walk, called, last) =
     let reported = called_reported m input set calls old walk new called in
     (calls, walk, reported.0, reported.1, last)
+
+-- the run of one that returned no error
+pub run_ended :
+    (m : Machine) (input : Input) (set joined : List Bool) (old new : CacheView) (error : Option SearchError) → error ≡ None
+    → IsSetRun m input set joined old new error → EndsSet m input set old new
+run_ended m input set joined old new None none run = run.run
+run_ended m input set joined old new (Some e) none run = absurd (some_none none)
 
 -- a call that returned Ok has no error
 pub none_where : (r : Result (Unit {0}) SearchError) → IsOk r → IfSome (result_err r) IsMemory

@@ -1,6 +1,6 @@
 -- What the passes of two DFAs report is what the ordered paths define.
-use Rattle.std.proofs.Common.{ℕ, ◌≡◌, ◌∙◌, inl, inr, Option, Some, refl, sym, subst, arith}
-use Rattle.std.specs.Prelude.{Result, Ok, Err, IfErr}
+use Rattle.std.proofs.Common.{ℕ, ◌≡◌, ◌∙◌, ◌≤◌, inl, inr, length, Option, Some, None, refl, sym, subst, arith}
+use Rattle.std.specs.Prelude.{IfSome}
 use Rattle.automata_base.specs.Answers.Answers.{Half, IsAnswer, IsInput}
 use Rattle.automata_base.specs.Haystacks.Input.{Input}
 use Rattle.automata_base.specs.Haystacks.Matches.{Match}
@@ -18,11 +18,14 @@ use Rattle.automata_config.specs.declared.error.SearchError.TheVariants as searc
 use Rattle.automata_hybrid.specs.Searches.Passes.{IsFound, IsRefused}
 use Rattle.automata_hybrid.proofs.Searches.Skips.{found_reported}
 use Rattle.automata_hybrid.proofs.Searches.Bounds.{found_within}
+use Rattle.automata_hybrid.proofs.Searches.Reach.{refused_memory}
+use Rattle.regex_automata.specs.Regexes.Caches.{AreCachesOf}
 use Rattle.regex_automata.specs.Spans.Outcomes.{FindsMatch, IsOutcome}
 use Rattle.regex_automata.specs.Spans.Errors.{HasReason, IsFree, IsOfMemory, IsRegexRefusal}
 use Rattle.regex_automata.specs.Regexes.SoundPairs.{BothKeepCycles, IsSoundPair, forward_engine, reverse_engine}
 use Rattle.regex_automata.specs.declared.hybrid.regex.Regex.{Regex}
 use Rattle.regex_automata.specs.declared.hybrid.regex.caches.Cache.{Cache}
+use Rattle.regex_automata.proofs.Spans.Costs.{back_reach}
 use Rattle.regex_automata.proofs.Spans.Quits.{back_free, never_pair}
 use Rattle.automata_config.specs.Options.{match_kind_of}
 
@@ -111,11 +114,24 @@ module _ (p : Regex) (front : ReportedIsRight p.forward.nfa) where
             not_quit : ◌≡◌ {A = SearchError} (search.Match (QuitAt byte at)) search.NotAPair → ⊥
             not_quit h = cc
 
+-- if nothing prevents an answer, the error is out of memory, or that the two are no pair
+pub free_of :
+    (p : Regex) (c : Cache) (input : Input) (e : SearchError)
+    → input.end ≤ length input.haystack → AreCachesOf c p → HasReason p c input e → IsFree p input → IsOfMemory e
+free_of p c input e few of (inl r) free =
+    inl (refused_memory Forward p.forward c.forward.store input e few of.0 free.forward free.supported free.forward_clears r)
+free_of p c input e few of (inr (inl (half, found, (long, r)))) free =
+    let l = found_within Forward p.forward input half few found in
+    let within = l.0.1 in
+    inl (refused_memory Backward p.reverse c.reverse.store (back input half) e (omega (arith, within, few)) of.1
+    (back_reach p.reverse input half l.1 within free.reverse) refl free.reverse_clears r)
+free_of p c input e few of (inr (inr (apart, none))) free = inr apart
+
 -- each error of a search
 pub refusals :
     (p : Regex) (front : ReportedIsRight p.forward.nfa) (rear : ReportedIsRight p.reverse.nfa) (ends : ReportedEndsAreRight p.reverse.nfa)
-    (starts : StartsAreRight) (law : BackMeetsNone) (c : Cache) (input : Input) (given : IsInput input) (r : Result (Option Match) SearchError)
-    → IfErr r (HasReason p c input) → (IsFree p input → IfErr r IsOfMemory) → IfErr r (IsRegexRefusal p c input)
-refusals p front rear ends starts law c input given (Ok o) reason free = tt
-refusals p front rear ends starts law c input given (Err e) reason free =
-    refusal_of p front rear ends starts law c input given e reason free
+    (starts : StartsAreRight) (law : BackMeetsNone) (c : Cache) (input : Input) (given : IsInput input) (error : Option SearchError)
+    → AreCachesOf c p → IfSome error (HasReason p c input) → IfSome error (IsRegexRefusal p c input)
+refusals p front rear ends starts law c input given None of reason = tt
+refusals p front rear ends starts law c input given (Some e) of reason =
+    refusal_of p front rear ends starts law c input given e reason (free_of p c input e given.1 of reason)

@@ -10,9 +10,9 @@ use Rattle.automata_base.proofs.Answers.Rising.{all_first, next_inside}
 use Rattle.automata_hybrid.proofs.Searches.Bounds.{found_within}
 use Rattle.regex_automata.specs.Spans.Iteration.{AreCollected}
 use Rattle.regex_automata.specs.Spans.Outcomes.{FindsMatch, IsStartFound}
-use Rattle.regex_automata.specs.Spans.Contracts.{place_after}
 use Rattle.regex_automata.specs.declared.hybrid.regex.Regex.{Regex}
 use Rattle.regex_automata.proofs.Spans.Costs.{back_within}
+use Rattle.regex_automata.proofs.Spans.Lists.{ComesTo}
 
 module _ (p : Regex) where
   -- a match lies in the span
@@ -34,17 +34,15 @@ module _ (p : Regex) where
         (omega (arith, low.0, w.0, s.1.2), omega (arith, w.1, s.1.2, f.4), omega (arith, high, f.4))
 
   module _ (input : Input) (few : input.end ≤ length input.haystack) where
-    place_on :
-        (start : ℕ) (last : Option ℕ) (ms : List Match) → AreFirst (FindsMatch p) input start last ms → start ≤ place_after start ms
-    place_on start last [] f = omega arith
-    place_on start last (m ∷ ms) f =
+    -- the search after the first ones begins no earlier
+    pub comes_on :
+        (start : ℕ) (last : Option ℕ) (ms : List Match) (at : ℕ) (before : Option ℕ)
+        → ComesTo (FindsMatch p) input start last ms at before → start ≤ at
+    comes_on start last [] at before f = omega (arith, f.0)
+    comes_on start last (m ∷ ms) at before f =
         let n = next_inside (FindsMatch p) input start last m find_lies few f.0 in
-        let g = place_on m.end (Some m.end) ms f.1 in
+        let g = comes_on m.end (Some m.end) ms at before f.1 in
         omega (arith, n.0, n.1, g)
-
-    -- the search after them begins no earlier than the input
-    pub first_place : (ms : List Match) → AreFirst (FindsMatch p) input input.start None ms → input.start ≤ place_after input.start ms
-    first_place ms f = place_on input.start None ms f
 
     pub collected_first :
         (ms : List Match) (error : Option SearchError) → AreCollected (FindsMatch p) input ms error

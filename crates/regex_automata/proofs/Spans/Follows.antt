@@ -1,11 +1,11 @@
 -- What follows of the runs of searches over two lazy DFAs.
 use Rattle.std.proofs.Common.{suc, ◌≡◌, ◌∙◌, ◌+◌, ◌≤◌, ◌<◌, ◌⊎◌, inl, inr, Option, Some, None, refl, sym, ap, subst, arith}
-use Rattle.std.specs.Prelude.{Result, Ok, Err, IfErr, IfSome}
-use Rattle.std.specs.Result.{result_err}
+use Rattle.std.specs.Prelude.{IfSome}
 use Rattle.automata_base.specs.Answers.Answers.{Half}
 use Rattle.automata_base.specs.Haystacks.Input.{Input}
-use Rattle.automata_base.specs.Haystacks.Matches.{Match}
+use Rattle.automata_base.specs.Answers.OfPasses.{ReportedEndsAreRight, ReportedIsRight}
 use Rattle.automata_base.specs.Answers.Spans.{back, from}
+use Rattle.automata_base.specs.Laws.StartIsRight.{BackMeetsNone, StartsAreRight}
 use Rattle.automata_base.specs.declared.util.search.Direction.TheVariants.{Backward, Forward}
 use Rattle.automata_base.proofs.Answers.Starts.{yes_no}
 use Rattle.automata_config.specs.declared.error.SearchError.{SearchError}
@@ -21,7 +21,7 @@ use Rattle.automata_hybrid.proofs.Cache.Growth.{grown_same}
 use Rattle.automata_hybrid.proofs.Searches.Follows.{search_refused, searches_follow}
 use Rattle.regex_automata.specs.Regexes.Caches.{AreCachesOf, AreGrown, KnowsBack}
 use Rattle.regex_automata.specs.Spans.Errors.{HasReason, IsBackRefused, IsOfGiven}
-use Rattle.regex_automata.specs.Spans.Follows.{IsBackCost, NextFollows, NextsFollow, SpanFollows, SpansFollow}
+use Rattle.regex_automata.specs.Spans.Follows.{IsBackCost, NextFollows, NextsFollow, RefusalsFollow, SpanFollows, SpansFollow}
 use Rattle.regex_automata.specs.Spans.Outcomes.{IsStartFound}
 use Rattle.regex_automata.specs.Spans.Runs.{IsBackRun, IsBothRun, IsErrorOfBoth, IsFrontRun, IsSpanRun}
 use Rattle.regex_automata.specs.Spans.Iteration.{FindsEmptyAt}
@@ -29,6 +29,7 @@ use Rattle.regex_automata.specs.declared.hybrid.regex.Regex.{Regex}
 use Rattle.regex_automata.specs.declared.hybrid.regex.caches.Cache.{Cache}
 use Rattle.regex_automata.proofs.Spans.Cached.{alone, both_stays, cleared_first, cleared_second, still_both, still_twice}
 use Rattle.regex_automata.proofs.Spans.Costs.{cache_of, knows_both, knows_front}
+use Rattle.regex_automata.proofs.Spans.ByPaths.{refusals}
 use Rattle.regex_automata.proofs.Spans.NextMatches.{grown_twice}
 
 -- another property of an error that may be there
@@ -90,7 +91,7 @@ none_past m input half found past =
     omega (arith, within, past)
 
 -- why a search for a span fails
-span_refused :
+pub span_refused :
     (p : Regex) (input : Input) (old new : Cache) (error : Option SearchError)
     → IsFrontRun p input old new error ⊎ IsBothRun p input old new error → IfSome error (HasReason p new input)
 span_refused p input old new error (inl (run, same, none)) =
@@ -98,12 +99,6 @@ span_refused p input old new error (inl (run, same, none)) =
 span_refused p input old new error (inr (run, (half, found, (failed, back, ends)))) =
     of_both p input half failed error (HasReason p new input) (λ none. inr (inr (refl, (half, found, none))))
     (weaker failed (λ e h. inr (inl (half, found, h))) (back_follows p input half old.reverse new.reverse failed back).refused) ends
-
-pub call_refused :
-    (p : Regex) (input : Input) (old new : Cache) (r : Result (Option Match) SearchError)
-    → IsSpanRun p input old new (result_err r) → IfErr r (HasReason p new input)
-call_refused p input old new (Ok o) run = tt
-call_refused p input old new (Err e) run = span_refused p input old new (Some e) run.run
 
 span_follows :
     AnswersAgree → (p : Regex) (input : Input) (old new : Cache) (error : Option SearchError)
@@ -145,8 +140,17 @@ spans_follow agree p input old new error run = span_follows agree p input old ne
 grown_of : (p : Regex) (old new : Cache) → AreCachesOf old p → AreGrown old new → AreCachesOf new p
 grown_of p old new of grown = (grown.0.of ∙ of.0, grown.1.of ∙ of.1)
 
-pub nexts_follow : AnswersAgree → (p : Regex) → KnownStays p.forward → KnownStays p.reverse → NextsFollow p
-nexts_follow agree p front rear input last old new error given of run = go run.run where
+-- why a search for a span fails, and what that excludes
+pub refusals_follow :
+    AnswersAgree → (p : Regex) → ReportedIsRight p.forward.nfa → ReportedIsRight p.reverse.nfa → ReportedEndsAreRight p.reverse.nfa
+    → StartsAreRight → BackMeetsNone → RefusalsFollow p
+refusals_follow agree p front rear ends starts law input old new error given of run =
+    refusals p front rear ends starts law new input given error (grown_of p old new of (spans_follow agree p input old new error run).grown)
+    (span_refused p input old new error run.run)
+
+pub nexts_follow :
+    AnswersAgree → (p : Regex) → KnownStays p.forward → KnownStays p.reverse → RefusalsFollow p → NextsFollow p
+nexts_follow agree p front rear refused input last old new error given of run = go run.run where
   go :
       (IsSpanRun p input old new error × (error ≡ None → FindsEmptyAt p input last → ⊥))
       ⊎ (FindsEmptyAt p input last
@@ -157,6 +161,7 @@ nexts_follow agree p front rear input last old new error given of run = go run.r
     grown = f.grown;
     learned = λ nothing ok. alone p input last new (f.learned nothing ok) (only ok);
     known = λ knows. f.known knows.0;
+    refused = weaker error (λ e h. inl h) (refused input old new error given of run);
   } where
     f : SpanFollows p input old new error
     f = spans_follow agree p input old new error run
@@ -174,6 +179,8 @@ nexts_follow agree p front rear input last old new error given of run = go run.r
         let still = (f.known knows.0).0 in
         let later = s.known (still_both p old between (from (suc input.start) input) still (knows.1 empty.0 empty.1 empty.2)) in
         (still_twice old between new still later.0, later.1));
+    refused = weaker error (λ e h. inr (empty.0, empty.1, empty.2, h))
+        (refused (from (suc input.start) input) between new error given (grown_of p old between of f.grown) second);
   } where
     f : SpanFollows p input old between None
     f = spans_follow agree p input old between None first

@@ -8,7 +8,7 @@ use Rattle.automata_base.specs.Answers.Spans.{from}
 use Rattle.automata_base.specs.declared.util.search.Direction.TheVariants.{Forward}
 use Rattle.automata_config.specs.declared.error.SearchError.{SearchError}
 use Rattle.automata_hybrid.specs.Searches.Contracts.{IsUnsupported, unsupported_error}
-use Rattle.regex_automata.specs.Spans.Iteration.{GivesItem, GoesPast, IsNextMatch, IsNextRefusal}
+use Rattle.regex_automata.specs.Spans.Iteration.{GivesItem, GoesPast, IsNextMatch}
 use Rattle.regex_automata.specs.Spans.Iteration.{LiesInHaystack, most_items}
 use Rattle.regex_automata.specs.Spans.Outcomes.{MatchLiesIn}
 use Rattle.regex_automata.specs.Spans.Contracts.{ReportsUnsupported}
@@ -20,11 +20,11 @@ use Rattle.automata_hybrid.proofs.Searches.PassState.{false_true}
 
 -- a match is returned
 pub gives_match :
-    (p : Regex) (c : Cache) (input input' : Input) (last : Option ℕ) (ended : Bool) (m : Match) (start end : ℕ)
+    (p : Regex) (input input' : Input) (last : Option ℕ) (ended : Bool) (m : Match) (start end : ℕ)
     → ended ≡ false → IsNextMatch p input last (Some m) → MatchLiesIn p input m → input' ≡ from start input → start ≡ m.end
-    → end ≡ m.end → GivesItem p c (Some (Ok m)) input input' last (Some end) ended ended
-gives_match p c input input' last true m start end still next lies same begins ends = absurd (false_true (sym still))
-gives_match p c input input' last false m start end still next lies same begins ends =
+    → end ≡ m.end → GivesItem p (Some (Ok m)) input input' last (Some end) ended ended
+gives_match p input input' last true m start end still next lies same begins ends = absurd (false_true (sym still))
+gives_match p input input' last false m start end still next lies same begins ends =
     (next, lies, same ∙ ap (λ n. from n input) begins, ap (λ (n : ℕ). Some n) ends, refl)
 
 -- and may be sliced from the haystack, as what was searched lies in it
@@ -35,17 +35,17 @@ lies_in_haystack p input m lies within = (lies.1, omega (arith, lies.2, within))
 
 -- or there is none
 pub gives_none :
-    (p : Regex) (c : Cache) (input : Input) (last : Option ℕ) (ended : Bool)
-    → ended ≡ false → IsNextMatch p input last None → GivesItem p c None input input last last ended true
-gives_none p c input last true still next = absurd (false_true (sym still))
-gives_none p c input last false still next = (next, refl, refl, refl)
+    (p : Regex) (input : Input) (last : Option ℕ) (ended : Bool)
+    → ended ≡ false → IsNextMatch p input last None → GivesItem p None input input last last ended true
+gives_none p input last true still next = absurd (false_true (sym still))
+gives_none p input last false still next = (next, refl, refl, refl)
 
 -- or an error
 pub gives_error :
-    (p : Regex) (c : Cache) (input : Input) (last : Option ℕ) (ended : Bool) (e : SearchError)
-    → ended ≡ false → IsNextRefusal p c input last e → GivesItem p c (Some (Err e)) input input last last ended true
-gives_error p c input last true e still refused = absurd (false_true (sym still))
-gives_error p c input last false e still refused = (refused, refl, refl, refl)
+    (p : Regex) (input : Input) (last : Option ℕ) (ended : Bool) (e : SearchError)
+    → ended ≡ false → GivesItem p (Some (Err e)) input input last last ended true
+gives_error p input last true e still = absurd (false_true (sym still))
+gives_error p input last false e still = (refl, refl, refl)
 
 -- what an item of an iteration that goes on makes of the caches
 pub item_run :

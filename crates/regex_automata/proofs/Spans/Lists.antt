@@ -9,7 +9,6 @@ use Rattle.automata_config.specs.declared.error.SearchError.{SearchError}
 use Rattle.regex_automata.specs.Spans.Iteration.{AreCollected, GivesItem, IsBeginning, IsNextMatch}
 use Rattle.regex_automata.specs.Spans.Outcomes.{FindsMatch}
 use Rattle.regex_automata.specs.declared.hybrid.regex.Regex.{Regex}
-use Rattle.regex_automata.specs.declared.hybrid.regex.caches.Cache.{Cache}
 use Rattle.automata_base.proofs.Answers.Once.{FindsOnce, next_none, next_some}
 use Rattle.automata_base.proofs.Answers.Rising.{all_first, first_right, matches_right}
 
@@ -59,17 +58,17 @@ collected_right F G input right ms (Some e) f = first_right F G input right inpu
 
 -- what an item says
 pub item_match :
-    (p : Regex) (c : Cache) (input input' : Input) (last last' : Option ℕ) (ended ended' : Bool) (m : Match)
-    → GivesItem p c (Some (Ok m)) input input' last last' ended ended'
+    (p : Regex) (input input' : Input) (last last' : Option ℕ) (ended ended' : Bool) (m : Match)
+    → GivesItem p (Some (Ok m)) input input' last last' ended ended'
     → IsNextMatch p input last (Some m) × (input' ≡ from m.end input) × (last' ≡ Some m.end) × (ended ≡ false) × (ended' ≡ false)
-item_match p c input input' last last' true ended' m g = let e = g.0 in cc
-item_match p c input input' last last' false ended' m g = (g.0, g.2, g.3, refl, g.4)
+item_match p input input' last last' true ended' m g = let e = g.0 in cc
+item_match p input input' last last' false ended' m g = (g.0, g.2, g.3, refl, g.4)
 
 pub item_none :
-    (p : Regex) (c : Cache) (input input' : Input) (last last' : Option ℕ) (ended ended' : Bool)
-    → GivesItem p c None input input' last last' ended ended' → ended ≡ false → IsNextMatch p input last None
-item_none p c input input' last last' true ended' g still = let h : true ≡ false = still in cc
-item_none p c input input' last last' false ended' g still = g.0
+    (p : Regex) (input input' : Input) (last last' : Option ℕ) (ended ended' : Bool)
+    → GivesItem p None input input' last last' ended ended' → ended ≡ false → IsNextMatch p input last None
+item_none p input input' last last' true ended' g still = let h : true ≡ false = still in cc
+item_none p input input' last last' false ended' g still = g.0
 
 -- one turn of the loop
 pub turn :

@@ -1,15 +1,14 @@
 -- One match after another.
 use Rattle.std.proofs.Common.{ℕ, suc, ◌≡◌, ◌∙◌, ◌<◌, ◌≤◌, ◌⊎◌, inl, inr, Option, Some, None, sym, ap, subst, arith}
-use Rattle.std.specs.Prelude.{Result, Ok, Err, IfOk, IfErr, IfSome, OnErr}
+use Rattle.std.specs.Prelude.{Result, Ok, Err, IfOk, IfSome, OnErr}
 use Rattle.automata_base.specs.Haystacks.Input.{Input}
 use Rattle.automata_base.specs.Haystacks.Matches.{Match}
 use Rattle.automata_base.specs.Answers.Spans.{IsEmptyAt, from}
 use Rattle.automata_config.specs.declared.error.SearchError.{SearchError}
 use Rattle.automata_hybrid.proofs.Cache.Growth.{grown_trans}
-use Rattle.regex_automata.specs.Spans.Iteration.{GoesPast, IsNextMatch, IsNextRefusal}
+use Rattle.regex_automata.specs.Spans.Iteration.{GoesPast, IsNextMatch}
 use Rattle.regex_automata.specs.Spans.Outcomes.{FindsMatch, MatchLiesIn}
 use Rattle.regex_automata.specs.Regexes.Caches.{AreGrown}
-use Rattle.regex_automata.specs.Spans.Errors.{IsRegexRefusal}
 use Rattle.regex_automata.specs.declared.hybrid.regex.Regex.{Regex}
 use Rattle.regex_automata.specs.declared.hybrid.regex.caches.Cache.{Cache}
 use Rattle.regex_automata.proofs.Results.{err_ok}
@@ -55,12 +54,6 @@ module _ (p : Regex) (input : Input) (last : Option ℕ) (m : Match) (found : Fi
   next_later (Ok None) h = inr (m, found, empty, h)
   next_later (Ok (Some n)) h = inr (m, found, empty, h)
   next_later (Err e) h = tt
-
-  pub refused_later :
-      (c : Cache) (r : Result (Option Match) SearchError) → IfErr r (IsRegexRefusal p c (from (suc input.start) input))
-      → IfErr r (IsNextRefusal p c input last)
-  refused_later c (Ok o) h = tt
-  refused_later c (Err e) h = inr (m, found, empty, h)
 
 pub goes_later :
     (p : Regex) (input : Input) (last : Option ℕ) (r : Result (Option Match) SearchError)

@@ -90,18 +90,14 @@ module _ (m : Machine) (h : List ℕ) (end : ℕ) (few : end ≤ length h) where
 
   -- if what an answer makes is no token, it is the error that is returned
   pub error_is_given :
-      (c : Stored) (offset : ℕ) (answer : Result (Option HalfMatch) SearchError) (e : TokenError) → offset < end
-      → SearchReturns m h end offset answer → IfErr answer (IsRefused Forward m c (asked h end offset))
-      → ◌≡◌ {A = Result Match TokenError} (Err e) (item_of offset answer) → IsGivenAt m c h end offset (Err e)
-  error_is_given c offset answer (NoToken at) ahead returned refused is =
+      (offset : ℕ) (answer : Result (Option HalfMatch) SearchError) (e : TokenError) → offset < end
+      → SearchReturns m h end offset answer
+      → ◌≡◌ {A = Result Match TokenError} (Err e) (item_of offset answer) → IsGivenAt m h end offset (Err e)
+  error_is_given offset answer (NoToken at) ahead returned is =
       let item : IsItemAt m h end offset (Err (NoToken at)) = (ahead, (answer, returned, is)) in
       let none = no_token_is offset at item in
       (item, (none.0, record { within = none.1; none = none.2 }))
-  error_is_given c offset (Ok o) (Search e) ahead returned refused is = absurd (answer_is_no_refusal offset o e is)
-  error_is_given c offset (Err d) (Search e) ahead returned refused is = (
-    (ahead, (Err d, returned, is)),
-    subst (IsRefused Forward m c (asked h end offset)) (sym (same_search e d (same_err is))) refused,
-  )
+  error_is_given offset answer (Search e) ahead returned is = ((ahead, (answer, returned, is)), tt)
 
   -- and an error is the search's own
   refused_is : (offset : ℕ) (e : SearchError) → IsItemAt m h end offset (Err (Search e)) → SearchReturns m h end offset (Err e)

@@ -1,6 +1,6 @@
--- What the requests of a replay do to its caches, one after another, and how calls over these fail.
+-- What the requests of a replay do to its caches, one after another; so why calls over these fail.
 use Rattle.std.specs.Prelude.{ℕ, ◌≡◌, ◌⊎◌, ◌↔◌, ◌<◌, Bool, List, [], ◌∷◌, length, Option, Some, None}
-use Rattle.std.specs.Prelude.{Result, Ok, Err, IfErr, IfOk, OnOk, slice_get}
+use Rattle.std.specs.Prelude.{Result, Ok, Err, IfOk, OnOk, slice_get}
 use Rattle.std.specs.Result.{result_err}
 use Rattle.automata_base.specs.Haystacks.Input.{Input}
 use Rattle.automata_base.specs.Haystacks.Matches.{HalfMatch, Match}
@@ -16,19 +16,17 @@ use Rattle.automata_hybrid.specs.Machines.Machine.{Machine}
 use Rattle.automata_hybrid.specs.Searches.Progress.{IsSearchRun}
 use Rattle.automata_hybrid.specs.Walks.Progress.{IsSetRun, IsWalkRun}
 use Rattle.automata_hybrid.specs.Searches.Passes.{IsFound, WithoutBase}
-use Rattle.automata_hybrid.specs.Walks.Answers.{AreWalked, HasReported, IsWalkRefusal, ReportsNext}
+use Rattle.automata_hybrid.specs.Walks.Answers.{AreWalked, HasReported, ReportsNext}
 use Rattle.automata_hybrid.specs.Walks.State.{Ended, States, Walk}
-use Rattle.automata_hybrid.specs.Walks.Sets.{IsWhichRefusal}
 use Rattle.regex_automata.specs.Replay.Histories.{Begun, History, after, start}
-use Rattle.regex_automata.specs.Spans.Iteration.{AreCollected, IsNextMatch, IsNextRefusal}
+use Rattle.regex_automata.specs.Spans.Iteration.{AreCollected, IsNextMatch}
 use Rattle.regex_automata.specs.Spans.Outcomes.{FindsMatch}
 use Rattle.regex_automata.specs.Regexes.Caches.{AreStoresOf}
 use Rattle.regex_automata.specs.Spans.Contracts.{ArePatternsReported, IsTruthReported, empty_set}
 use Rattle.regex_automata.specs.Regexes.Caches.{AreFresh}
 use Rattle.regex_automata.specs.Spans.Runs.{IsNextRun, IsSpanRun, IsTruthRun}
-use Rattle.regex_automata.specs.Spans.Errors.{IsRegexRefusal}
 use Rattle.regex_automata.specs.Replay.Replies.{OnHalf, OnPatterns, OnSpan, OnSpans, OnTokens, OnTruth, dfa_of}
-use Rattle.regex_automata.specs.Tokens.{AreTokensReported, IsRefusedAt, IsTokenRun, match_of}
+use Rattle.regex_automata.specs.Tokens.{AreTokensReported, IsTokenRun, match_of}
 use Rattle.regex_automata.specs.declared.hybrid.regex.Regex.{Regex}
 use Rattle.regex_automata.specs.declared.hybrid.regex.caches.Cache.{Cache}
 use Rattle.regex_automata.specs.declared.replay.requests.Reply.{Reply}
@@ -45,23 +43,21 @@ abbrev pub IsSearched :
 IsSearched way m input old new result =
     IfOk result (WithoutBase (IsFound way m input)) × IsSearchRun way m input old new (result_err result)
 
--- the same of a search for a span, and of one for whether there is a match
+-- a search for a span, and one for whether there is a match: what its passes report, and what it makes of the caches
 abbrev pub IsSpanSearched : Regex → Input → (old new : Cache) → Result (Option Match) SearchError → Type 0
 IsSpanSearched p input old new result =
     IfOk result (FindsMatch p input) × IsSpanRun p input old new (result_err result)
-    × IfErr result (IsRegexRefusal p new input)
 
 abbrev pub IsTruthSearched : Regex → Input → (old new : Cache) → Result Bool SearchError → Type 0
 IsTruthSearched p input old new result =
     IfOk result (IsTruthReported p.forward input) × IsTruthRun p input old new (result_err result)
 
--- the search after the last match of a list, and why that match is the last: there is no further one, the search fails
--- over these caches, or there is no memory for the list
+-- the search after the last match of a list, and why that match is the last: there is no further one, the search fails,
+-- or there is no memory for the list
 abbrev pub AreSearchedLast : Regex → (old new : Cache) → Input → Option ℕ → Option SearchError → Type 0
-AreSearchedLast p old new input last None = IsNextRun p input last old new None
-AreSearchedLast p old new input last (Some e) =
-    (IsNextRun p input last old new (Some e) × IsNextRefusal p new input last e)
-    ⊎ ((e ≡ search.OutOfMemory)
+AreSearchedLast p old new input last error =
+    IsNextRun p input last old new error
+    ⊎ ((error ≡ Some search.OutOfMemory)
     × ((m : Match) × IsNextMatch p input last (Some m) × IsNextRun p input last old new None))
 
 -- the searches for a list of matches, one after another, each over the caches that the one before left
@@ -77,12 +73,12 @@ abbrev pub IsTokenMade :
 IsTokenMade m h end place old new item =
     IsTokenRun m h end place old.forward new.forward item × (new.reverse ≡ old.reverse)
 
--- the same of tokens
+-- the search for a token after the last one of a list, and why that is the last
 abbrev pub IsTokenSearchedLast :
     Machine → List ℕ → (end place : ℕ) → (old new : Cache) → Option TokenError → Type 0
 IsTokenSearchedLast m h end place old new None = IsTokenMade m h end place old new None
 IsTokenSearchedLast m h end place old new (Some e) =
-    (IsTokenMade m h end place old new (Some (Err e)) × IsRefusedAt m new.forward.store h end place e)
+    IsTokenMade m h end place old new (Some (Err e))
     ⊎ ((e ≡ Search search.OutOfMemory) × ((t : Token) × IsTokenMade m h end place old new (Some (Ok t))))
 
 abbrev pub AreTokensSearched :
@@ -102,10 +98,9 @@ abbrev pub IsCalled :
     Direction → Machine → Input → (answered : ℕ) → (old new : CacheView)
     → Result (Option HalfMatch) SearchError → Type 0
 IsCalled way m input answered old new result =
-    (walk : Walk) × (next : Walk) × (call : Result (Unit {0}) SearchError) × HasAnswered way m input walk answered
-    × OnOk call (ReportsNext way m input walk next)
-    × IsWalkRun States way m input walk next old new call × (result_err result ≡ result_err call)
-    × IfErr call (IsWalkRefusal States way m new.store input walk answered)
+    (walk : Walk) × (next : Walk) × HasAnswered way m input walk answered
+    × OnOk result (ReportsNext way m input walk next)
+    × IsWalkRun States way m input walk next old new (result_err result)
 
 -- the cache of the DFA of a direction, and the other one
 abbrev pub own_of : Direction → Cache → CacheView
@@ -130,10 +125,9 @@ abbrev pub ArePatternsSearched :
     Machine → Input → (capacity : ℕ) → (old new : CacheView) → List ℕ → Option SearchError → Type 0
 ArePatternsSearched m input capacity old new found error =
     ((new ≡ old) × (found ≡ []) × (error ≡ Some search.OutOfMemory))
-    ⊎ ((set : List Bool) × (result : Result (Unit {0}) SearchError)
-    × IsSetRun m input (empty_set capacity) old new result
-    × IfErr result (IsWhichRefusal m new.store input (empty_set capacity) set)
-    × (((found ≡ members set) × (error ≡ result_err result)) ⊎ ((found ≡ []) × (error ≡ Some search.OutOfMemory))))
+    ⊎ ((set : List Bool) × (failed : Option SearchError)
+    × IsSetRun m input (empty_set capacity) set old new failed
+    × (((found ≡ members set) × (error ≡ failed)) ⊎ ((found ≡ []) × (error ≡ Some search.OutOfMemory))))
 
 -- what a request does to the caches of the current regex; one that uses one cache alone leaves the other unchanged
 abbrev pub IsMadeBy : Regex → List Begun → Request → (old new : Cache) → Reply → Type 0

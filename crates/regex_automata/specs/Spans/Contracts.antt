@@ -8,7 +8,7 @@ use Rattle.automata_base.specs.Haystacks.Matches.{HalfMatch, Match}
 use Rattle.automata_base.specs.Nfas.Nodes.{nfa_of}
 use Rattle.automata_base.specs.Paths.Paths.{KeepsCycles}
 use Rattle.automata_base.specs.Paths.Selections.{Pair}
-use Rattle.automata_base.specs.Answers.Spans.{AreSpans, IsMatch, IsSpan, Rise, TryFinds, from}
+use Rattle.automata_base.specs.Answers.Spans.{AreSpans, IsMatch, IsSpan, Rise, TryFinds}
 use Rattle.automata_base.specs.declared.util.search.Direction.{Direction}
 use Rattle.automata_base.specs.declared.util.search.Direction.TheVariants.{Forward}
 use Rattle.automata_config.specs.declared.error.SearchError.{SearchError}
@@ -21,14 +21,13 @@ use Rattle.automata_hybrid.specs.Walks.Progress.{IsOpenAfter}
 use Rattle.automata_hybrid.specs.Walks.Answers.{AreWalked, HasReported, half_nth}
 use Rattle.automata_hybrid.specs.Walks.State.{Ended, Walk}
 use Rattle.automata_hybrid.specs.Searches.Bounds.{LiesIn}
-use Rattle.regex_automata.specs.Spans.Iteration.{AreCollected, IsBeginning, IsNextRefusal}
+use Rattle.regex_automata.specs.Spans.Iteration.{AreCollected, IsBeginning}
 use Rattle.automata_hybrid.specs.Searches.Passes.{Skips}
 use Rattle.regex_automata.specs.Spans.IsMatch.{IsMatchReported, IsNearestThere, IsTruthFound}
 use Rattle.regex_automata.specs.Spans.Outcomes.{FindsMatch, MatchLiesIn}
 use Rattle.regex_automata.specs.Spans.Errors.{IsFree, IsOfMemory}
 use Rattle.regex_automata.specs.Regexes.SoundPairs.{BothKeepCycles, IsSoundPair, forward_engine, reverse_engine}
 use Rattle.regex_automata.specs.declared.hybrid.regex.Regex.{Regex}
-use Rattle.regex_automata.specs.declared.hybrid.regex.caches.Cache.{Cache}
 use Rattle.automata_config.specs.Options.{match_kind_of}
 
 -- what a call of a walk returns after so many that returned Ok
@@ -62,8 +61,6 @@ pub record IsSpanReported (p : Regex) (input : Input) (result : Result (Option M
   pub within : IfOk result (λ o. IfSome o (MatchLiesIn p input))
   -- an anchored mode that is not supported is reported
   pub unsupported : IsUnsupported Forward p.forward input → result ≡ Err (unsupported_error input)
-  -- if nothing prevents it, the only errors are out of memory, and that the two are no pair
-  pub free : IsFree p input → IfErr result IsOfMemory
   -- in a span that is done there is no match
   pub done : input.end < input.start → result ≡ Ok None
 
@@ -108,19 +105,6 @@ pub record IsTruthOf (p : Regex) (input : Input) (result : Result Bool SearchErr
 abbrev pub ReportsUnsupported : Regex → Input → (ended : Bool) → Option (Result Match SearchError) → Type 0
 ReportsUnsupported p input ended item =
     ended ≡ false → IsUnsupported Forward p.forward input → item ≡ Some (Err (unsupported_error input))
-
--- where the search for a match after these begins, and where the last of these ended
-abbrev pub place_after : ℕ → List Match → ℕ
-place_after start [] = start
-place_after start (m ∷ ms) = place_after m.end ms
-
-abbrev pub end_after : Option ℕ → List Match → Option ℕ
-end_after last [] = last
-end_after last (m ∷ ms) = end_after (Some m.end) ms
-
--- caches give this error to the search for the match after these
-abbrev pub IsRefusedAfter : Regex → Cache → Input → List Match → SearchError → Type 0
-IsRefusedAfter p c input ms e = IsNextRefusal p c (from (place_after input.start ms) input) (end_after None ms) e
 
 -- the matches of an input, one after another; or the first ones, and the error that ended them
 pub record AreMatchesUpto (p : Regex) (input : Input) (ms : List Match) (error : Option SearchError) : Type 0 where

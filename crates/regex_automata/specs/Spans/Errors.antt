@@ -1,8 +1,9 @@
 -- Why a search over two lazy DFAs fails.
-use Rattle.std.specs.Prelude.{ℕ, ◌≡◌, ◌⊎◌, true, None, Some}
+use Rattle.std.specs.Prelude.{ℕ, suc, ◌≡◌, ◌⊎◌, Option, true, None, Some}
 use Rattle.automata_base.specs.Answers.Answers.{Half}
 use Rattle.automata_base.specs.Haystacks.Input.{Input}
-use Rattle.automata_base.specs.Answers.Spans.{IsShort, IsTrySearch, NotAPair, back}
+use Rattle.automata_base.specs.Haystacks.Matches.{Match}
+use Rattle.automata_base.specs.Answers.Spans.{IsEmptyAt, IsShort, IsTrySearch, NotAPair, back, from}
 use Rattle.automata_base.specs.declared.util.search.Direction.TheVariants.{Forward, Backward}
 use Rattle.automata_base.specs.declared.util.search.MatchErrorKind.TheVariants.{Quit as QuitAt}
 use Rattle.automata_config.specs.declared.error.SearchError.{SearchError}
@@ -13,7 +14,7 @@ use Rattle.automata_hybrid.specs.Searches.Passes.{IsFound, IsRefused, NoQuitInRe
 use Rattle.automata_hybrid.specs.Machines.StartSlots.{supports}
 use Rattle.regex_automata.specs.declared.hybrid.regex.Regex.{Regex}
 use Rattle.regex_automata.specs.Regexes.SoundPairs.{BothKeepCycles, IsSoundPair, forward_engine, reverse_engine}
-use Rattle.regex_automata.specs.Spans.Outcomes.{IsOutcome}
+use Rattle.regex_automata.specs.Spans.Outcomes.{FindsMatch, IsOutcome}
 use Rattle.regex_automata.specs.declared.hybrid.regex.caches.Cache.{Cache}
 use Rattle.automata_config.specs.Options.{minimum_cache_clear_count_of}
 
@@ -53,6 +54,14 @@ pub record IsRegexRefusal (p : Regex) (c : Cache) (input : Input) (e : SearchErr
   -- with one quit set the search back meets no quit byte
   pub quits : p.forward.quits ≡ p.reverse.quits → (byte at : ℕ) → e ≡ search.Match (QuitAt byte at)
       → IsRefused Forward p.forward c.forward.store input e
+
+-- why the next match fails: the search failed, or it found an empty match at the last end and the search from one
+-- offset later failed
+abbrev pub IsNextRefusal : Regex → Cache → Input → Option ℕ → SearchError → Type 0
+IsNextRefusal p c input last e =
+    IsRegexRefusal p c input e
+    ⊎ ((m : Match) × FindsMatch p input (Some m) × IsEmptyAt last m
+    × IsRegexRefusal p c (from (suc input.start) input) e)
 
 -- a search fails by what it was given, and not for lack of room
 abbrev pub IsOfGiven : SearchError → Type 0

@@ -1,5 +1,5 @@
 -- The matches of an input, one after another.
-use Rattle.std.specs.Prelude.{ℕ, suc, ◌≡◌, ◌+◌, ◌-◌, ◌<◌, ◌≤◌, ◌⊎◌, ◌==◌, Bool, true, false, cond, List}
+use Rattle.std.specs.Prelude.{ℕ, ◌≡◌, ◌+◌, ◌-◌, ◌<◌, ◌≤◌, ◌==◌, Bool, true, false, cond, List}
 use Rattle.std.specs.Prelude.{◌++◌, length}
 use Rattle.std.specs.Prelude.{Option, None, Some, Result, Ok, Err, IfOk, IfSome, MatchOption}
 use Rattle.automata_base.specs.Haystacks.Input.{Input}
@@ -8,9 +8,7 @@ use Rattle.automata_base.specs.declared.util.search.Anchored.{Anchored}
 use Rattle.automata_base.specs.Answers.Spans.{AreFirst, AreMatches, IsEmptyAt, IsNextItem, from}
 use Rattle.automata_config.specs.declared.error.SearchError.{SearchError}
 use Rattle.regex_automata.specs.Spans.Outcomes.{FindsMatch, MatchLiesIn}
-use Rattle.regex_automata.specs.Spans.Errors.{IsRegexRefusal}
 use Rattle.regex_automata.specs.declared.hybrid.regex.Regex.{Regex}
-use Rattle.regex_automata.specs.declared.hybrid.regex.caches.Cache.{Cache}
 
 -- the search finds an empty match at the last end, so it is made again from one offset later
 abbrev pub FindsEmptyAt : Regex → Input → Option ℕ → Type 0
@@ -19,14 +17,6 @@ FindsEmptyAt p input last = (m : Match) × FindsMatch p input (Some m) × IsEmpt
 -- the match after one that ended at `last`: it is not an empty one there
 abbrev pub IsNextMatch : Regex → Input → Option ℕ → Option Match → Type 0
 IsNextMatch p input last answer = IsNextItem (FindsMatch p) input input.start last answer
-
--- why the next match fails: the search failed, or it found an empty match at the last end and the search from one
--- offset later failed
-abbrev pub IsNextRefusal : Regex → Cache → Input → Option ℕ → SearchError → Type 0
-IsNextRefusal p c input last e =
-    IsRegexRefusal p c input e
-    ⊎ ((m : Match) × FindsMatch p input (Some m) × IsEmptyAt last m
-    × IsRegexRefusal p c (from (suc input.start) input) e)
 
 -- a match ends after the last end
 abbrev pub GoesPast : Regex → Input → Option ℕ → Match → Type 0
@@ -40,17 +30,17 @@ LiesInHaystack haystack item =
 -- one item of an iteration, and the iteration before and after it: what is left to be searched, where the last match
 -- ended, and whether it has ended
 abbrev pub GivesItem :
-    Regex → Cache → Option (Result Match SearchError) → (input input' : Input) → (last last' : Option ℕ)
+    Regex → Option (Result Match SearchError) → (input input' : Input) → (last last' : Option ℕ)
     → (ended ended' : Bool) → Type 0
-GivesItem p c item input input' last last' true ended' =
+GivesItem p item input input' last last' true ended' =
     (item ≡ None) × (input' ≡ input) × (last' ≡ last) × (ended' ≡ true)
-GivesItem p c None input input' last last' false ended' =
+GivesItem p None input input' last last' false ended' =
     IsNextMatch p input last None × (input' ≡ input) × (last' ≡ last) × (ended' ≡ true)
-GivesItem p c (Some (Ok m)) input input' last last' false ended' =
+GivesItem p (Some (Ok m)) input input' last last' false ended' =
     IsNextMatch p input last (Some m) × MatchLiesIn p input m
     × (input' ≡ from m.end input) × (last' ≡ Some m.end) × (ended' ≡ false)
-GivesItem p c (Some (Err e)) input input' last last' false ended' =
-    IsNextRefusal p c input last e × (input' ≡ input) × (last' ≡ last) × (ended' ≡ true)
+GivesItem p (Some (Err e)) input input' last last' false ended' =
+    (input' ≡ input) × (last' ≡ last) × (ended' ≡ true)
 
 -- an input made of its parts
 abbrev pub input_over : List ℕ → (start end : ℕ) → Anchored → (earliest : Bool) → Input

@@ -1,15 +1,18 @@
 //! The matches of an input, one after another, as a list.
-ghost use Rattle.std.specs.Prelude.{◌≡◌, ◌⊎◌, [], IfSome, None, Some};
+ghost use Rattle.std.specs.Prelude.{◌≡◌, [], IfSome, None, Some};
 ghost use Rattle.automata_base.specs.declared.util.search.Direction.TheVariants.{Forward};
 ghost use Rattle.automata_hybrid.specs.Cache.Caches.{IsCacheOf};
 ghost use Rattle.automata_hybrid.specs.Searches.Contracts.{IsMemory, IsUnsupported, unsupported_error};
 ghost use Rattle.regex_automata.specs.Spans.Iteration.{AreCollected};
 ghost use Rattle.regex_automata.specs.Spans.Outcomes.{FindsMatch};
-ghost use Rattle.regex_automata.specs.Spans.Contracts.{AreMatchesUpto, IsRefusedAfter};
+ghost use Rattle.regex_automata.specs.Spans.Contracts.{AreMatchesUpto};
+ghost use Rattle.regex_automata.specs.Spans.Errors.{IsFree};
+ghost use Rattle.regex_automata.specs.Regexes.SoundPairs.{IsSoundPair};
 ghost use Rattle.regex_automata.specs.Regexes.Caches.{AreCachesOf};
 ghost use Rattle.regex_automata.specs.Replay.Caches.{AreSearched};
 
 use crate::hybrid::regex::{Cache, Regex};
+use crate::laws::spans_follow;
 use automata_base::laws::{reported_is_right, start_is_right};
 use automata_base::util::search::{Input, Match};
 use automata_config::error::SearchError;
@@ -46,12 +49,13 @@ fn take_matches(
     ensures forward { IsCacheOf cache.new.forward regex.now.forward }
     ensures reverse { IsCacheOf cache.new.reverse regex.now.reverse }
     ensures found { AreCollected (FindsMatch regex.now) input.entry result.0.items result.1 }
-    ensures refusal { IfSome result.1 (λ e. IsMemory e ⊎ IsRefusedAfter regex.now cache.new input.entry result.0.items
-        e) }
+    ensures free { IsSoundPair regex.now → IsFree regex.now input.entry → IfSome result.1 IsMemory }
     ensures unsupported { IsUnsupported Forward regex.now.forward input.entry
         → (result.0.items ≡ []) × (result.1 ≡ Some (unsupported_error input.entry)) }
     ensures made { AreSearched regex.now cache.old cache.new input.entry None result.0.items result.1 }
 {
+    spans_follow(regex);
+    let _haystack = input.haystack();
     let mut found = Vec::new(alloc);
     for item in regex.find_iter(cache, input) {
         match item {

@@ -51,7 +51,7 @@ fn token_at<'h>(
     requires ahead { offset < end }
     requires within { Allows haystack.now offset end }
     ensures of { AreCachesOf cache.new regex.now }
-    ensures item { IsGivenAt regex.now.forward cache.new.forward.store haystack.now end offset result }
+    ensures item { IsGivenAt regex.now.forward haystack.now end offset result }
     ensures effect { IsTokenRun regex.now.forward haystack.now end offset cache.old.forward cache.new.forward
         (Some result) }
     ensures reverse { cache.new.reverse ≡ cache.old.reverse }
@@ -134,7 +134,7 @@ impl<'r, 'c, 'h> fmt::Debug for Tokens<'r, 'c, 'h> {
 impl<'r, 'c, 'h> Iterator for Tokens<'r, 'c, 'h> {
     type Item = Result<Token<'h>, TokenError>;
 
-    ghost next_gives = { λ s r t. GivesToken s.regex.now.forward t.cache.now.forward.store s.haystack.now s.end r
+    ghost next_gives = { λ s r t. GivesToken s.regex.now.forward s.haystack.now s.end r
         s.offset t.offset s.failed t.failed
         × (t.regex.now ≡ s.regex.now) × (t.cache.ghost_name ≡ s.cache.ghost_name)
         × (t.haystack.now ≡ s.haystack.now) × (t.end ≡ s.end)

@@ -1,11 +1,11 @@
-ghost use Rattle.std.specs.Prelude.{◌≡◌, ◌≤◌, ◌+◌, IfOk, IfErr, IfSome, OnErr, None, Err, false, true};
+ghost use Rattle.std.specs.Prelude.{◌≡◌, ◌≤◌, ◌+◌, IfOk, IfSome, OnErr, None, Err, false, true};
 ghost use Rattle.std.specs.Iterator.{at_most};
 ghost use Rattle.std.specs.Result.{result_err};
 ghost use Rattle.automata_base.specs.Haystacks.Input.{Allows};
 ghost use Rattle.automata_base.specs.Answers.Spans.{IsEmptyAt, from};
 ghost use Rattle.automata_base.specs.declared.util.search.Direction.TheVariants.{Forward};
 ghost use Rattle.automata_hybrid.specs.Searches.Contracts.{IsUnsupported, unsupported_error};
-ghost use Rattle.regex_automata.specs.Spans.Iteration.{GivesItem, GoesPast, IsNextMatch, IsNextRefusal};
+ghost use Rattle.regex_automata.specs.Spans.Iteration.{GivesItem, GoesPast, IsNextMatch};
 ghost use Rattle.regex_automata.specs.Spans.Iteration.{LiesInHaystack, input_over, most_items};
 ghost use Rattle.regex_automata.specs.Spans.Contracts.{ReportsUnsupported};
 ghost use Rattle.regex_automata.specs.Spans.Runs.{IsItemRun, IsNextRun};
@@ -49,7 +49,6 @@ impl Regex {
         ensures of { AreCachesOf cache.new self.now }
         ensures next { IfOk result (IsNextMatch self.now input.now last) }
         ensures goes_on { IfOk result (λ o. IfSome o (GoesPast self.now input.now last)) }
-        ensures refusal { IfErr result (IsNextRefusal self.now cache.new input.now last) }
         ensures unsupported { IsUnsupported Forward self.now.forward input.now
             → result ≡ Err (unsupported_error input.now) }
         ensures ahead { OnErr result (input.now.start ≤ input.now.end) }
@@ -150,7 +149,7 @@ impl<'r, 'c, 'h> FindMatches<'r, 'c, 'h> {
 impl<'r, 'c, 'h> Iterator for FindMatches<'r, 'c, 'h> {
     type Item = Result<Match, SearchError>;
 
-    ghost next_gives = { λ s r t. GivesItem s.regex.now t.cache.now r
+    ghost next_gives = { λ s r t. GivesItem s.regex.now r
         (input_over s.haystack.now s.start s.end s.anchored s.earliest)
         (input_over t.haystack.now t.start t.end t.anchored t.earliest)
         s.last t.last s.ended t.ended

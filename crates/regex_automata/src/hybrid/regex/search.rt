@@ -1,17 +1,14 @@
-ghost use Rattle.std.specs.Prelude.{◌≡◌, ◌-◌, ◌≤◌, IfOk, IfErr, IfSome, None, false, true};
+ghost use Rattle.std.specs.Prelude.{◌≡◌, ◌≤◌, IfOk, IfSome, false, true};
 ghost use Rattle.std.specs.Result.{result_err};
 ghost use Rattle.automata_base.specs.Answers.Spans.{IsShort, back};
 ghost use Rattle.automata_hybrid.specs.Cache.Caches.{IsCacheOf};
-ghost use Rattle.automata_hybrid.specs.Searches.Contracts.{IsMemory};
-ghost use Rattle.automata_hybrid.specs.Searches.Passes.{NoQuitInReach, with_base};
+ghost use Rattle.automata_hybrid.specs.Searches.Passes.{with_base};
 ghost use Rattle.automata_hybrid.specs.Searches.Bounds.{LiesPast};
 ghost use Rattle.regex_automata.specs.Regexes.SoundPairs.{forward_engine};
 ghost use Rattle.regex_automata.specs.Spans.Outcomes.{FindsMatch, IsStartFound};
 ghost use Rattle.regex_automata.specs.Spans.Contracts.{IsSpanOf, IsSpanReported};
 ghost use Rattle.regex_automata.specs.Spans.Runs.{IsBackRun, IsSpanRun};
 ghost use Rattle.regex_automata.specs.Regexes.Caches.{AreCachesOf};
-ghost use Rattle.regex_automata.specs.Spans.Errors.{IsRegexRefusal};
-ghost use Rattle.automata_config.specs.Options.{minimum_cache_clear_count_of};
 
 use crate::hybrid::dfa;
 use crate::hybrid::regex::{Cache, Regex};
@@ -46,12 +43,11 @@ impl Regex {
         requires { AreCachesOf cache.old self.now }
         ensures of { AreCachesOf cache.new self.now }
 
-        // What it returns by paths, and by passes, whatever the caches; and why it fails.
+        // What it returns by paths, and by passes, whatever the caches.
         ensures returned { IsSpanOf self.now input.now result }
         ensures found { IfOk result (FindsMatch self.now input.now) }
-        ensures refusal { IfErr result (IsRegexRefusal self.now cache.new input.now) }
 
-        // What it does to the caches.
+        // What it does to the caches, and why it fails.
         ensures effect { IsSpanRun self.now input.now cache.old cache.new (result_err result) }
     {
         reported_is_right(self.forward.get_nfa());
@@ -66,12 +62,11 @@ impl Regex {
         requires { AreCachesOf cache.old self.now }
         ensures of { AreCachesOf cache.new self.now }
 
-        // What it returns by paths, and by passes, whatever the caches; and why it fails.
+        // What it returns by paths, and by passes, whatever the caches.
         ensures returned { IsSpanOf self.now input.now result }
         ensures found { IfOk result (FindsMatch self.now input.now) }
-        ensures refusal { IfErr result (IsRegexRefusal self.now cache.new input.now) }
 
-        // What it does to the caches.
+        // What it does to the caches, and why it fails.
         ensures effect { IsSpanRun self.now input.now cache.old cache.new (result_err result) }
     {
         self.try_search(cache, input)
@@ -105,8 +100,6 @@ impl Regex {
         ensures of { IsCacheOf cache.new self.now.reverse }
         ensures found { IfOk result (IsStartFound self.now input.now (with_base half base)) }
         ensures within { IfOk result (λ o. IfSome o (λ start. (base ≤ start) × (start ≤ half.offset))) }
-        ensures free { NoQuitInReach self.now.reverse input.now
-            → minimum_cache_clear_count_of self.now.reverse.config ≡ None → IfErr result IsMemory }
         ensures effect { IsBackRun self.now input.now (with_base half base) cache.old cache.new (result_err result) }
     {
         let short = self.is_short(input, half, base);

@@ -13,7 +13,7 @@ use Rattle.automata_hybrid.proofs.Searches.Runs.{followed_clean, followed_silent
 use Rattle.automata_hybrid.proofs.Searches.Reads.{at_err}
 use Rattle.automata_hybrid.proofs.Walks.Progress.{arrived_read, call_stopped}
 use Rattle.automata_hybrid.proofs.Searches.UnitsRead.{AreReadTo, left_then, read_exactly, read_none, read_then}
-use Rattle.automata_hybrid.proofs.Searches.PassState.{false_true, if_err}
+use Rattle.automata_hybrid.proofs.Searches.PassState.{false_true}
 use Rattle.automata_hybrid.proofs.Steps.Ids.{dead_tagged}
 use Rattle.automata_hybrid.proofs.Walks.Reports.{clean_more, finish_dead, finish_read, silent_same, silent_step}
 use Rattle.automata_hybrid.proofs.Searches.Contracts.{is_store}
@@ -56,14 +56,6 @@ loop-read-preserved c =
           (read_then d c.args.self.now c.args.input.now c.args.units c.args.cache.now (is_store c.args.cache.now.store c.args.self.now c.requires.of c.see_bounds.ensures.bounds, c.see_bounds.ensures.sound) c.loop-read.read k c.loop-read.cache c.loop-read.invariant.of (read_exactly d c.args.self.now c.args.input.now c.args.units c.args.cache.now c.loop-read.read c.loop-read.cache c.loop-read.invariant.progress) f.more (followed_clean f c.loop-read.invariant.clean) (λ j l h. (f.taken j l h).known) c.read_unit.new.cache c.in_ok-next.ensures.effect.read);
       reads = λ less. (k, sym more, c.in_ok-next.ensures.reads);
     }
-
-pub returns-in_err-next-clause-refusal : goal.returns-in_err-next-clause-refusal
-returns-in_err-next-clause-refusal c =
-    let d : Direction = c.args.way in
-    let k : ℕ = c.follow_walk-stop.result.at in
-    let f : IsFollowed d c.args.self.now c.loop-read.cache.store c.args.input.now 0 c.loop-read.read k c.follow_walk-stop.result.id = c.follow_walk-stop.ensures.followed in
-    if_err c.from_residual.result _ _ c.from_residual.ensures.1
-    (k, omega (arith, c.loop-read.invariant.from, f.more), c.in_err-next.ensures.reads, followed_clean f c.loop-read.invariant.clean, followed_silent f c.loop-read.invariant.silent, c.in_err-next.ensures.refusal)
 
 pub returns-then-is_dead-clause-arrives : goal.returns-then-is_dead-clause-arrives
 returns-then-is_dead-clause-arrives c =

@@ -1,16 +1,15 @@
-use Rattle.std.proofs.Common.{suc, ◌∙◌, ap, inl, inr, subst, sym}
+use Rattle.std.proofs.Common.{suc, ◌∙◌, None, Some, ap, inl, inr, subst, sym}
 use Rattle.std.specs.Prelude.{Err, Ok, Result}
 use Rattle.automata_base.specs.declared.util.search.Direction.{Direction}
 use Rattle.automata_base.specs.Laws.Walks.{OverlappingIsReported, WalksAreReported}
 use Rattle.automata_base.specs.Answers.Within.{WalkLiesWithin}
 use Rattle.automata_config.specs.Options.{match_kind_of}
 use Rattle.automata_config.specs.declared.error.SearchError.{SearchError}
-use Rattle.automata_hybrid.specs.Walks.State.{IsHeldItself, States, Walk}
+use Rattle.automata_hybrid.specs.Walks.State.{IsHeldItself, States, Walk, keeping_of}
 use Rattle.automata_hybrid.specs.Walks.Progress.{IsWalkRun}
-use Rattle.automata_hybrid.specs.Walks.Parts.{IsCallRefused}
 use Rattle.automata_hybrid.specs.declared.search.walk.Held.{Held}
-use Rattle.automata_hybrid.proofs.Walks.Parts.{held_itself, itself_held, supported_call}
-use Rattle.automata_hybrid.proofs.Walks.Reach.{walk_memory}
+use Rattle.automata_hybrid.proofs.Walks.Parts.{held_itself, itself_held, left_by, supported_call, unsupported_call}
+use Rattle.automata_hybrid.proofs.Walks.Reach.{call_memory}
 use Rattle.automata_hybrid.proofs.Walks.Calls.{still_walk}
 use Rattle.automata_hybrid.proofs.Walks.Bounds.{reported_lies}
 use Rattle.automata_hybrid.proofs.dfa.DFA.call_held.Goals as goal
@@ -55,7 +54,7 @@ returns-in-Ok-clause-call c =
 
 pub returns-in-Ok-clause-effect : goal.returns-in-Ok-clause-effect
 returns-in-Ok-clause-effect c =
-    subst (λ k. IsWalkRun {T = Unit {0}} k c.args.way c.args.self.now c.args.input.now c.args.walk.now c.go_on.new.walk c.args.cache.now c.go_on.new.cache (Ok tt))
+    subst (λ k. IsWalkRun k c.args.way c.args.self.now c.args.input.now c.args.walk.now c.go_on.new.walk c.args.cache.now c.go_on.new.cache None)
     (held_itself c.args.cache.now.store.table c.args.walk.now.stage c.args.held.now c.requires.walk.itself).1 c.in-Ok.ensures.effect
 
 pub returns-in-Err-clause-walk : goal.returns-in-Err-clause-walk
@@ -69,14 +68,9 @@ returns-in-Err-clause-walk c =
           (subst (λ (w : Walk). IsHeldItself w.stage c.args.held.now) (sym c.in-Err.ensures.err.0) c.requires.walk.itself);
     }
 
-pub returns-in-Err-clause-refusal : goal.returns-in-Err-clause-refusal
-returns-in-Err-clause-refusal c = λ k reported.
-    (subst (λ n. IsCallRefused n c.args.way c.args.self.now c.args.input.now c.args.walk.now c.go_on.new.cache.store c.in-Err.error)
-    (held_itself c.args.cache.now.store.table c.args.walk.now.stage c.args.held.now c.requires.walk.itself).1 c.in-Err.ensures.refusal).why k reported
-
 pub returns-in-Err-clause-effect : goal.returns-in-Err-clause-effect
 returns-in-Err-clause-effect c =
-    subst (λ k. IsWalkRun {T = Unit {0}} k c.args.way c.args.self.now c.args.input.now c.args.walk.now c.go_on.new.walk c.args.cache.now c.go_on.new.cache (Err c.in-Err.error))
+    subst (λ k. IsWalkRun k c.args.way c.args.self.now c.args.input.now c.args.walk.now c.go_on.new.walk c.args.cache.now c.go_on.new.cache (Some c.in-Err.error))
     (held_itself c.args.cache.now.store.table c.args.walk.now.stage c.args.held.now c.requires.walk.itself).1 c.in-Err.ensures.effect
 
 pub returns-in-Err-clause-call : goal.returns-in-Err-clause-call
@@ -84,11 +78,10 @@ returns-in-Err-clause-call c =
     let d : Direction = c.args.way in
     let m = c.args.self.now in
     let input = c.args.input.now in
-    let r : IsCallRefused States d m input c.args.walk.now c.go_on.new.cache.store c.in-Err.error =
-    subst (λ n. IsCallRefused n d m input c.args.walk.now c.go_on.new.cache.store c.in-Err.error)
-    (held_itself c.args.cache.now.store.table c.args.walk.now.stage c.args.held.now c.requires.walk.itself).1 c.in-Err.ensures.refusal in
+    let left =
+    left_by (keeping_of c.args.held.now) States d m input c.args.walk.now c.go_on.new.walk c.args.cache.now c.go_on.new.cache c.in-Err.error
+    (held_itself c.args.cache.now.store.table c.args.walk.now.stage c.args.held.now c.requires.walk.itself).1 c.in-Err.ensures.effect in
     let refused : Result (Unit {0}) SearchError = Err c.in-Err.error in
-    let cache = c.go_on.new.cache.store in
     let haystack = c.haystack-haystack.ensures in
     record {
       reports = tt;
@@ -99,9 +92,9 @@ returns-in-Err-clause-call c =
           c.args.walk.now c.go_on.new.walk refused c.requires.walk.reported tt c.in-Err.ensures.err.0;
       ended = λ over. ap (λ (w : Walk). w.found) c.in-Err.ensures.err.0;
       refused = c.in-Err.ensures.err.0;
-      unsupported = λ fresh u. ap Err (r.unsupported fresh u);
+      unsupported = λ fresh u. ap Err (unsupported_call States d m input c.args.walk.now c.args.cache.now c.go_on.new.cache c.in-Err.error fresh u left);
       free = λ f.
-          walk_memory d m cache input haystack.within.1 c.in-Err.ensures.of f.reach f.supported f.clears States c.args.walk.now
-          c.requires.walk.reported.0 c.in-Err.error (r.why c.requires.walk.reported.0 c.requires.walk.reported.1);
-      ready = r.ready;
+          call_memory d m c.go_on.new.cache input haystack.within.1 c.in-Err.ensures.of f.reach f.supported f.clears States c.args.walk.now
+          c.args.cache.now c.in-Err.error left;
+      ready = left.0;
     }

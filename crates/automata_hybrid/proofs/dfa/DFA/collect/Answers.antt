@@ -1,6 +1,7 @@
-use Rattle.std.proofs.Common.{suc, inl, inr, length-set, ◌≡◌, ◌∙◌, ◌-◌, List, Bool, true, length, set, Some}
+use Rattle.std.proofs.Common.{suc, inl, inr, length-set, ◌≡◌, ◌∙◌, List, Bool, true, length, set, Some}
 use Rattle.std.proofs.Common.{rules, refl, sym, ap, subst, arith}
 use Rattle.std.specs.Prelude.{Err, IsTrue, Result}
+use Rattle.std.specs.Result.{result_err}
 use Rattle.automata_base.specs.Answers.Answers.{ArePatterns}
 use Rattle.automata_base.specs.Haystacks.Input.{Input}
 use Rattle.automata_base.specs.Haystacks.PatternSet.{members}
@@ -11,32 +12,19 @@ use Rattle.automata_config.specs.declared.error.SearchError.{SearchError}
 use Rattle.automata_hybrid.specs.Cache.Caches.{CacheView}
 use Rattle.automata_hybrid.specs.Machines.Machine.{Machine}
 use Rattle.automata_hybrid.specs.Walks.Contracts.{IsSetReported}
-use Rattle.automata_hybrid.specs.Walks.Parts.{IsCallRefused}
-use Rattle.automata_hybrid.specs.Walks.Progress.{HaveCalled, IsSetRun, IsWalkRun}
+use Rattle.automata_hybrid.specs.Walks.Progress.{HaveCalled, IsSetRun}
 use Rattle.automata_hybrid.specs.Walks.Answers.{AreWalked}
-use Rattle.automata_hybrid.specs.Walks.State.{Ended, Ids, Walk}
+use Rattle.automata_hybrid.specs.Walks.State.{Ended, Ids, Walk, keeping_of}
 use Rattle.automata_hybrid.proofs.Searches.Contracts.{is_store}
 use Rattle.automata_hybrid.proofs.Walks.CachedSets.{half_none}
 use Rattle.automata_hybrid.proofs.Searches.Reads.{at_err}
-use Rattle.automata_hybrid.proofs.Walks.Parts.{held_there, supported_call}
-use Rattle.automata_hybrid.proofs.Searches.PassState.{false_true, if_err}
+use Rattle.automata_hybrid.proofs.Walks.Parts.{held_there, left_by, supported_call, unsupported_call}
+use Rattle.automata_hybrid.proofs.Searches.PassState.{false_true}
 use Rattle.automata_hybrid.proofs.Walks.Sets.{IsLacking, Joins, calls_more, closes, joins_all}
 use Rattle.automata_hybrid.proofs.Walks.Sets.{joins_begin, joins_first, joins_full, joined_more, joins_more, lacking}
 use Rattle.automata_hybrid.proofs.Walks.Sets.{on_found, open_after, patterns_of, stands_well, steps_less, reported_undone}
 use Rattle.automata_hybrid.proofs.dfa.DFA.collect.Goals as goal
 use Rattle.automata_config.specs.Options.{match_kind_of}
-
-pub returns-in_err-go_on-clause-refusal : goal.returns-in_err-go_on-clause-refusal
-returns-in_err-go_on-clause-refusal c =
-    let j = c.walk.invariant.joins.0 in
-    if_err c.from_residual.result _ _ c.from_residual.ensures.1 (
-      c.walk.walk,
-      j.k,
-      j.reported,
-      (subst (λ k. IsCallRefused k Forward c.args.self.now c.args.input.now c.walk.walk c.go_on.new.cache.store c.in_err-go_on.field-0.0) c.walk.invariant.keeping c.in_err-go_on.ensures.refusal).why j.k j.reported,
-      j.joined,
-      open_after c.args.self.now c.args.input.now c.walk.walk c.args.patset.now c.walk.patset j,
-    )
 
 pub returns-in_err-go_on-clause-reported : goal.returns-in_err-go_on-clause-reported
 returns-in_err-go_on-clause-reported c =
@@ -44,14 +32,14 @@ returns-in_err-go_on-clause-reported c =
     let input : Input = c.args.input.now in
     let walk : Walk = c.walk.walk in
     let v = c.walk.invariant in
-    let r = c.in_err-go_on.ensures.refusal in
+    let left = left_by (keeping_of c.walk.held) Ids Forward m input walk c.go_on.new.walk c.walk.cache c.go_on.new.cache c.in_err-go_on.field-0.0 v.keeping c.in_err-go_on.ensures.effect in
     at_err c.from_residual.result _ (λ (x : Result (Unit {0}) SearchError). IsSetReported m input c.args.patset.now c.walk.patset x) c.from_residual.ensures.1
     (record {
       found = tt;
       paths = λ free. tt;
       capacity = v.joins.0.capacity;
-      unsupported = λ u. (ap Err (r.unsupported (v.begins u).0 u), (v.begins u).1);
-      done = λ past. absurd (r.ready (inr (inr (omega (arith, past)))));
+      unsupported = λ u. (ap Err (unsupported_call Ids Forward m input walk c.walk.cache c.go_on.new.cache c.in_err-go_on.field-0.0 (v.begins u).0 u left), (v.begins u).1);
+      done = λ past. absurd (left.0 (inr (inr (omega (arith, past)))));
     })
 
 pub returns-in_err-go_on-clause-effect : goal.returns-in_err-go_on-clause-effect
@@ -61,16 +49,13 @@ returns-in_err-go_on-clause-effect c =
     let mid : CacheView = c.walk.cache in
     let new : CacheView = c.go_on.new.cache in
     let walk : Walk = c.walk.walk in
-    let next : Walk = c.go_on.new.walk in
     let v = c.walk.invariant in
     let j = v.joins.0 in
-    let e : IsWalkRun {T = Unit {0}} Ids Forward m input walk next mid new (Err c.in_err-go_on.field-0.0) =
-    subst (λ k. IsWalkRun {T = Unit {0}} k Forward m input walk next mid new (Err c.in_err-go_on.field-0.0)) v.keeping c.in_err-go_on.ensures.effect in
-    at_err c.from_residual.result _ (λ (r : Result (Unit {0}) SearchError). IsSetRun m input c.args.patset.now c.args.cache.now new r) c.from_residual.ensures.1
+    let left = left_by (keeping_of c.walk.held) Ids Forward m input walk c.go_on.new.walk c.walk.cache c.go_on.new.cache c.in_err-go_on.field-0.0 v.keeping c.in_err-go_on.ensures.effect in
+    at_err c.from_residual.result _ (λ (r : Result (Unit {0}) SearchError). IsSetRun m input c.args.patset.now c.walk.patset c.args.cache.now new (result_err r)) c.from_residual.ensures.1
     (record {
       of = (is_store c.args.cache.now.store c.args.self.now c.requires c.see_bounds.ensures.bounds, c.see_bounds.ensures.sound);
-      ended = tt;
-      left = (j.k, walk, mid, v.joins.1, open_after m input walk c.args.patset.now c.walk.patset j, v.there, e.left);
+      run = (j.k, walk, mid, v.joins.1, open_after m input walk c.args.patset.now c.walk.patset j, j.joined, v.there, left);
     })
 
 pub returns-in_default-clause-reported : goal.returns-in_default-clause-reported
@@ -111,13 +96,12 @@ returns-in_default-clause-effect c =
     let last : next.stage ≡ Ended = after.1 (half_none list.0 j.k (sym after.0 ∙ (sym c.get_match.ensures ∙ c.in_default.«is»))) in
     record {
       of = (is_store c.args.cache.now.store c.args.self.now c.requires c.see_bounds.ensures.bounds, c.see_bounds.ensures.sound);
-      ended = (
+      run = (
         suc j.k,
         next,
-        (walk, mid, v.joins.1, open_after m input walk c.args.patset.now c.walk.patset j, v.there, a.reports, c.in_ok-go_on.ensures.effect.ended),
+        (walk, mid, v.joins.1, open_after m input walk c.args.patset.now c.walk.patset j, v.there, a.reports, c.in_ok-go_on.ensures.effect.run),
         inl last,
       );
-      left = tt;
     }
 
 pub returns-then-is_full-clause-reported : goal.returns-then-is_full-clause-reported
@@ -163,17 +147,16 @@ returns-then-is_full-clause-effect c =
     let found : next.found ≡ Some c.in-Some.half = sym c.get_match.ensures ∙ c.in-Some.«is» in
     record {
       of = (is_store c.args.cache.now.store c.args.self.now c.requires c.see_bounds.ensures.bounds, c.see_bounds.ensures.sound);
-      ended = (
+      run = (
         suc j.k,
         next,
-        (walk, mid, v.joins.1, open_after m input walk c.args.patset.now c.walk.patset j, v.there, a.reports, c.in_ok-go_on.ensures.effect.ended),
+        (walk, mid, v.joins.1, open_after m input walk c.args.patset.now c.walk.patset j, v.there, a.reports, c.in_ok-go_on.ensures.effect.run),
         inr (λ pairs walked.
             closes input c.args.patset.now (set c.walk.patset c.in-Some.half.pattern true) pairs j.k c.in-Some.half
             (sym ((a.reports j.k j.reported).1 pairs walked).0 ∙ found) (length-set c.walk.patset c.in-Some.half.pattern true ∙ j.capacity)
             (joined_more m input c.args.patset.now walk next c.walk.patset j a.reports (pairs, walked) c.in-Some.half found)
             (inr (subst (λ (s : List Bool). length (members s) ≡ length s) (c.try_insert.ensures.inserted ∙ ap (λ n. set c.walk.patset n true) c.pattern.ensures) (c.is_full.ensures.0 c.if-is_full.true)))),
       );
-      left = tt;
     }
 
 pub returns-then-get_earliest-clause-reported : goal.returns-then-get_earliest-clause-reported
@@ -218,17 +201,16 @@ returns-then-get_earliest-clause-effect c =
     let found : next.found ≡ Some c.in-Some.half = sym c.get_match.ensures ∙ c.in-Some.«is» in
     record {
       of = (is_store c.args.cache.now.store c.args.self.now c.requires c.see_bounds.ensures.bounds, c.see_bounds.ensures.sound);
-      ended = (
+      run = (
         suc j.k,
         next,
-        (walk, mid, v.joins.1, open_after m input walk c.args.patset.now c.walk.patset j, v.there, a.reports, c.in_ok-go_on.ensures.effect.ended),
+        (walk, mid, v.joins.1, open_after m input walk c.args.patset.now c.walk.patset j, v.there, a.reports, c.in_ok-go_on.ensures.effect.run),
         inr (λ pairs walked.
             closes input c.args.patset.now (set c.walk.patset c.in-Some.half.pattern true) pairs j.k c.in-Some.half
             (sym ((a.reports j.k j.reported).1 pairs walked).0 ∙ found) (length-set c.walk.patset c.in-Some.half.pattern true ∙ j.capacity)
             (joined_more m input c.args.patset.now walk next c.walk.patset j a.reports (pairs, walked) c.in-Some.half found)
             (inl (sym c.get_earliest.ensures ∙ c.if-get_earliest.true))),
       );
-      left = tt;
     }
 
 pub walk-smaller : goal.walk-smaller
@@ -279,6 +261,6 @@ walk-preserved c =
           subst (λ (s : List Bool). (i : Joins c.args.self.now c.args.input.now c.go_on.new.walk c.args.patset.now s) × HaveCalled c.args.self.now c.args.input.now c.args.patset.now i.k c.args.cache.now c.go_on.new.walk c.go_on.new.cache) (sym put) (
             joins_more c.args.self.now c.args.input.now c.args.patset.now c.walk.walk c.go_on.new.walk c.walk.patset c.walk.invariant.joins.0 c.in_ok-go_on.ensures.answer.reports list c.in-Some.half found (sym c.get_earliest.ensures ∙ c.if-get_earliest.false) lacks,
             calls_more c.args.self.now c.args.input.now c.args.patset.now c.walk.walk c.go_on.new.walk c.walk.patset c.walk.invariant.joins.0 c.in_ok-go_on.ensures.answer.reports list c.in-Some.half found (sym c.get_earliest.ensures ∙ c.if-get_earliest.false) lacks c.args.cache.now c.go_on.new.cache
-                (c.walk.walk, c.walk.cache, c.walk.invariant.joins.1, open_after c.args.self.now c.args.input.now c.walk.walk c.args.patset.now c.walk.patset j, c.walk.invariant.there, c.in_ok-go_on.ensures.answer.reports, c.in_ok-go_on.ensures.effect.ended),
+                (c.walk.walk, c.walk.cache, c.walk.invariant.joins.1, open_after c.args.self.now c.args.input.now c.walk.walk c.args.patset.now c.walk.patset j, c.walk.invariant.there, c.in_ok-go_on.ensures.answer.reports, c.in_ok-go_on.ensures.effect.run),
           );
     }

@@ -1,19 +1,20 @@
 use Rattle.std.proofs.Common.{◌≡◌, ◌∙◌, ◌-◌, ◌<◌, ◌≤◌, inl, inr, length, refl, sym, ap, subst, arith, get_or}
-use Rattle.std.specs.Prelude.{IfErr, OnOk}
+use Rattle.std.specs.Prelude.{OnOk}
+use Rattle.std.specs.Result.{result_err}
 use Rattle.automata_base.specs.Answers.Answers.{offset_in}
 use Rattle.automata_base.specs.Haystacks.Input.{Input}
 use Rattle.automata_base.specs.Haystacks.Matches.{HalfMatch}
 use Rattle.automata_base.specs.declared.util.search.Direction.{Direction}
 use Rattle.automata_hybrid.specs.Machines.Machine.{Machine}
 use Rattle.automata_hybrid.specs.Walks.Progress.{IsWalkRun}
-use Rattle.automata_hybrid.specs.Walks.Parts.{IsCallAnswer, IsCallRefused}
+use Rattle.automata_hybrid.specs.Walks.Parts.{IsCallAnswer}
 use Rattle.automata_hybrid.specs.Searches.Passes.{tape_in}
 use Rattle.automata_hybrid.specs.Walks.Answers.{ReportsNext}
 use Rattle.automata_hybrid.specs.Walks.State.{At, Ended, Walk, ended_walk, keeping_of, with_match}
 use Rattle.automata_hybrid.specs.Walks.State.{without_match}
 use Rattle.automata_hybrid.proofs.Searches.Contracts.{is_store}
-use Rattle.std.proofs.lemmas.Result.{IfErr-weaker, on_ok_weaker}
-use Rattle.automata_hybrid.proofs.Walks.Parts.{answer_matched, refused_matched, run_matched, run_none}
+use Rattle.std.proofs.lemmas.Result.{on_ok_weaker}
+use Rattle.automata_hybrid.proofs.Walks.Parts.{answer_matched, run_matched, run_none}
 use Rattle.automata_hybrid.proofs.Walks.Calls.{ended_at, next_done, next_ended, next_read, next_same, undone}
 use Rattle.automata_hybrid.proofs.Searches.Directions.{units_in}
 use Rattle.automata_hybrid.proofs.dfa.DFA.go_on.Goals as goal
@@ -120,18 +121,13 @@ returns-then-units-last_place-clause-effect c =
 
 pub returns-clause-answer : goal.returns-clause-answer
 returns-clause-answer c =
-    on_ok_weaker c.walk_on.result (answer_matched (keeping_of c.args.held.now) c.args.way c.args.self.now c.args.input.now c.args.walk.now c.walk_on.new.walk)
+    on_ok_weaker c.walk_on.result (answer_matched c.args.way c.args.self.now c.args.input.now c.args.walk.now c.walk_on.new.walk)
     (subst (λ (v : Walk). OnOk c.walk_on.result (IsCallAnswer c.args.way c.args.self.now c.args.input.now v c.walk_on.new.walk)) c.forget_match.ensures
     c.walk_on.ensures.answer)
 
-pub returns-clause-refusal : goal.returns-clause-refusal
-returns-clause-refusal c =
-    IfErr-weaker c.walk_on.result _ _ (refused_matched (keeping_of c.args.held.now) c.args.way c.args.self.now c.args.input.now c.args.walk.now c.walk_on.new.walk c.walk_on.new.cache.store)
-    (subst (λ (v : Walk). IfErr c.walk_on.result (IsCallRefused (keeping_of c.args.held.now) c.args.way c.args.self.now c.args.input.now v c.walk_on.new.cache.store)) c.forget_match.ensures
-    c.walk_on.ensures.refusal)
-
 pub returns-clause-effect : goal.returns-clause-effect
 returns-clause-effect c =
-    run_matched (keeping_of c.args.held.now) c.args.way c.args.self.now c.args.input.now c.args.walk.now c.walk_on.new.walk c.args.cache.now c.walk_on.new.cache c.walk_on.result
-    (subst (λ (v : Walk). IsWalkRun (keeping_of c.args.held.now) c.args.way c.args.self.now c.args.input.now v c.walk_on.new.walk c.args.cache.now c.walk_on.new.cache c.walk_on.result) c.forget_match.ensures
+    run_matched c.args.way c.args.self.now c.args.input.now c.args.walk.now c.walk_on.new.walk (keeping_of c.args.held.now) c.args.cache.now c.walk_on.new.cache
+    (result_err c.walk_on.result)
+    (subst (λ (v : Walk). IsWalkRun (keeping_of c.args.held.now) c.args.way c.args.self.now c.args.input.now v c.walk_on.new.walk c.args.cache.now c.walk_on.new.cache (result_err c.walk_on.result)) c.forget_match.ensures
     c.walk_on.ensures.effect)

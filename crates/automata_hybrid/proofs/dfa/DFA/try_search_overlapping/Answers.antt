@@ -1,8 +1,8 @@
-use Rattle.std.proofs.Common.{ℕ, sym, subst}
-use Rattle.std.specs.Prelude.{IfErr}
+use Rattle.std.proofs.Common.{sym, subst}
+use Rattle.std.specs.Result.{result_err}
 use Rattle.automata_hybrid.specs.Walks.Contracts.{IsWalkCall}
 use Rattle.automata_hybrid.specs.Walks.Progress.{IsWalkRun}
-use Rattle.automata_hybrid.specs.Walks.Answers.{HasReported, IsWalkOf, IsWalkRefusal}
+use Rattle.automata_hybrid.specs.Walks.Answers.{IsWalkOf}
 use Rattle.automata_hybrid.specs.Walks.State.{States, Walk}
 use Rattle.automata_hybrid.proofs.dfa.DFA.try_search_overlapping.Goals as goal
 
@@ -21,12 +21,7 @@ returns-clause-call c =
     subst (λ (w : Walk). IsWalkCall c.args.way c.args.self.now c.args.input.now w c.call_held.new.walk c.call_held.result) c.walk.view_is
     c.call_held.ensures.call
 
-pub returns-clause-refusal : goal.returns-clause-refusal
-returns-clause-refusal c =
-    subst (λ (w : Walk). (k : ℕ) → HasReported c.args.way c.args.self.now c.args.input.now w k → IfErr c.call_held.result (IsWalkRefusal States c.args.way c.args.self.now c.call_held.new.cache.store c.args.input.now w k)) c.walk.view_is
-    c.call_held.ensures.refusal
-
 pub returns-clause-effect : goal.returns-clause-effect
 returns-clause-effect c =
-    subst (λ (w : Walk). IsWalkRun States c.args.way c.args.self.now c.args.input.now w c.call_held.new.walk c.args.cache.now c.call_held.new.cache c.call_held.result) c.walk.view_is
+    subst (λ (w : Walk). IsWalkRun States c.args.way c.args.self.now c.args.input.now w c.call_held.new.walk c.args.cache.now c.call_held.new.cache (result_err c.call_held.result)) c.walk.view_is
     c.call_held.ensures.effect

@@ -1,5 +1,6 @@
-use Rattle.std.proofs.Common.{ℕ, ◌≡◌, ◌∙◌, ◌+◌, ◌-◌, inl, inr, length, Option, refl, sym, ap, subst, arith}
-use Rattle.std.specs.Prelude.{Err, Ok, Result}
+use Rattle.std.proofs.Common.{ℕ, ◌≡◌, ◌∙◌, ◌+◌, ◌-◌, inl, inr, length, Option, None, Some, refl, sym, ap, subst, arith}
+use Rattle.std.specs.Prelude.{Ok, Result}
+use Rattle.std.specs.Result.{result_err}
 use Rattle.automata_base.specs.Haystacks.Input.{Input}
 use Rattle.automata_base.specs.Powersets.Powerset.{dead}
 use Rattle.automata_base.specs.declared.util.search.Direction.{Direction}
@@ -8,7 +9,7 @@ use Rattle.automata_config.specs.declared.error.SearchError.TheVariants as searc
 use Rattle.automata_hybrid.specs.Cache.Caches.{CacheView, with_store}
 use Rattle.automata_hybrid.specs.Machines.Machine.{Machine}
 use Rattle.automata_hybrid.specs.Cache.Progress.{progress_started}
-use Rattle.automata_hybrid.specs.Walks.Parts.{IsAdvanceEffect, IsCallAnswer, IsCallRefused}
+use Rattle.automata_hybrid.specs.Walks.Parts.{IsAdvanceEffect, IsCallAnswer}
 use Rattle.automata_hybrid.specs.Searches.Progress.{HasEndedAfter, with_search_begun}
 use Rattle.automata_hybrid.specs.Calls.Events.{Begin, with_progress}
 use Rattle.automata_hybrid.proofs.Searches.Contracts.{is_store}
@@ -16,30 +17,19 @@ use Rattle.automata_hybrid.specs.Walks.Progress.{IsCallStopped, IsWalkRun}
 use Rattle.automata_hybrid.specs.Searches.Passes.{HasReadNoQuit, given_up_offset, state_in, tape_in}
 use Rattle.automata_hybrid.specs.Cache.Stores.{with_searched}
 use Rattle.automata_hybrid.specs.Cache.Table.{Rows, Leads, Names}
-use Rattle.automata_hybrid.specs.Walks.Answers.{Arrives, Finishes, IsAdvanceRefusal, IsArrival}
+use Rattle.automata_hybrid.specs.Walks.Answers.{Arrives, Finishes, IsArrival}
 use Rattle.automata_hybrid.specs.Walks.State.{Holds, Ids, IsHeldAt, Stage, Walk, ended_walk, keeping_of}
 use Rattle.automata_hybrid.specs.declared.search.advance.Arrival.{Arrival}
 use Rattle.automata_hybrid.proofs.Searches.Reads.{at_err}
 use Rattle.automata_hybrid.proofs.Searches.Skips.{skips_or_not}
-use Rattle.automata_hybrid.proofs.Walks.Parts.{refused_on}
-use Rattle.automata_hybrid.proofs.Walks.Progress.{call_leaves, reads_some, step_refuses}
+use Rattle.automata_hybrid.proofs.Walks.Progress.{call_leaves, reads_some}
 use Rattle.automata_hybrid.proofs.Searches.UnitsRead.{ended_after, ended_here}
-use Rattle.automata_hybrid.proofs.Searches.PassState.{if_err}
 use Rattle.automata_hybrid.proofs.Steps.Ids.{dead_tagged}
 use Rattle.automata_hybrid.proofs.Walks.Calls.{clean_here, ended_at, next_finishes, reported_here}
 use Rattle.automata_hybrid.proofs.Walks.Reports.{finish_start}
 use Rattle.automata_hybrid.proofs.Searches.Directions.{units_in}
-use Rattle.automata_hybrid.proofs.Walks.Units.{refused_unheld, run_on, run_unheld}
+use Rattle.automata_hybrid.proofs.Walks.Units.{run_on, run_unheld}
 use Rattle.automata_hybrid.proofs.dfa.DFA.walk_on.Goals as goal
-
-pub returns-in_err-from-clause-refusal : goal.returns-in_err-from-clause-refusal
-returns-in_err-from-clause-refusal c =
-    let d : Direction = c.args.way in
-    let w : Walk = c.args.walk.now in
-    let r = c.requires.walk.reads in
-    if_err c.from_residual.result _ _ c.from_residual.ensures.1
-    (refused_on (keeping_of c.args.held.now) d c.args.self.now c.args.input.now w _ _ c.requires.walk.reported r (λ k t.
-    (r.undone, inl (reported_here d c.args.self.now c.args.input.now w k (skips_or_not c.skips-skips.result c.skips-skips.ensures.yes c.skips-skips.ensures.no) t r.on r.all_reported, c.in_err-from.ensures.refusal))))
 
 pub returns-in_err-from-clause-effect : goal.returns-in_err-from-clause-effect
 returns-in_err-from-clause-effect c =
@@ -48,8 +38,8 @@ returns-in_err-from-clause-effect c =
     let input : Input = c.args.input.now in
     let w : Walk = c.args.walk.now in
     let r = c.requires.walk.reads in
-    at_err c.from_residual.result _ (λ (x : Result (Unit {0}) SearchError). IsWalkRun (keeping_of c.args.held.now) d m input w w c.args.cache.now c.resume.new.cache x) c.from_residual.ensures.1
-    (record { of = (is_store c.args.cache.now.store c.args.self.now c.requires.of c.see_bounds.ensures.bounds, c.see_bounds.ensures.sound); ended = tt; left = (reads_some input w r, inl (c.in_err-from.ensures.refusal, c.in_err-from.ensures.left)) })
+    at_err c.from_residual.result _ (λ (x : Result (Unit {0}) SearchError). IsWalkRun (keeping_of c.args.held.now) d m input w w c.args.cache.now c.resume.new.cache (result_err x)) c.from_residual.ensures.1
+    (record { of = (is_store c.args.cache.now.store c.args.self.now c.requires.of c.see_bounds.ensures.bounds, c.see_bounds.ensures.sound); run = (reads_some input w r, inl (c.in_err-from.ensures.refusal, c.in_err-from.ensures.left)) })
 
 pub returns-then-is_dead-clause-answer : goal.returns-then-is_dead-clause-answer
 returns-then-is_dead-clause-answer c =
@@ -85,10 +75,10 @@ returns-then-is_dead-clause-effect c =
     let dies : state_in d m input w.units ≡ dead = (dead_tagged c.search_start.new.self.store.table c.in_ok-from.from (c.see_bounds-2.ensures.sound.low c.in_ok-from.from) c.see_bounds-2.ensures.sound.small _ leads).0 (c.if-is_dead.ensures.0 refl) in
     let begins : c.search_start.new.self ≡ with_search_begun d input w.units between =
     subst (λ at. c.search_start.new.self ≡ with_progress (Begin at) between) first c.search_start.ensures.value in
-    subst (λ (x : Walk). IsWalkRun {T = Unit {0}} (keeping_of c.args.held.now) d m input w x c.args.cache.now new (Ok tt)) (sym same)
+    subst (λ (x : Walk). IsWalkRun (keeping_of c.args.held.now) d m input w x c.args.cache.now new None) (sym same)
     (record {
       of = (is_store c.args.cache.now.store c.args.self.now c.requires.of c.see_bounds.ensures.bounds, c.see_bounds.ensures.sound);
-      ended = (
+      run = (
         λ over. refl,
         inr (
           reads_some input w r,
@@ -104,18 +94,7 @@ returns-then-is_dead-clause-effect c =
               (ap (given_up_offset d input) (omega arith) ∙ sym first) c.end_search.ensures.value)),
         ),
       );
-      left = tt;
     })
-
-pub returns-in_err-arrival-clause-refusal : goal.returns-in_err-arrival-clause-refusal
-returns-in_err-arrival-clause-refusal c =
-    let d : Direction = c.args.way in
-    let w : Walk = c.args.walk.now in
-    let s = c.requires.walk.reads in
-    let r : IsAdvanceRefusal d c.args.self.now c.advance.new.cache.store c.args.input.now w.units c.in_err-arrival.field-0.0 = subst (λ n. IsAdvanceRefusal d c.args.self.now c.advance.new.cache.store c.args.input.now n c.in_err-arrival.field-0.0) c.units-2.ensures c.in_err-arrival.ensures.refusal in
-    if_err c.from_residual-in_err-arrival.result _ _ c.from_residual-in_err-arrival.ensures.1
-    (refused_on (keeping_of c.args.held.now) d c.args.self.now c.args.input.now w _ _ c.requires.walk.reported s (λ k t.
-    (s.undone, inr (c.in_ok-from.ensures.answer.may, (r.0, r.1, r.2, r.3, r.4 k (reported_here d c.args.self.now c.args.input.now w k (skips_or_not c.skips-skips.result c.skips-skips.ensures.yes c.skips-skips.ensures.no) t s.on s.all_reported), step_refuses (keeping_of c.args.held.now) d c.args.self.now c.advance.new.cache.store c.args.input.now r.0 c.in_err-arrival.field-0.0 r.5)))))
 
 pub returns-in_err-arrival-clause-effect : goal.returns-in_err-arrival-clause-effect
 returns-in_err-arrival-clause-effect c =
@@ -133,11 +112,10 @@ returns-in_err-arrival-clause-effect c =
     let left : IsCallStopped Ids d m input w.units (with_search_begun d input w.units between) new c.in_err-arrival.field-0.0 =
     subst (λ (b : CacheView). IsCallStopped Ids d m input w.units b new c.in_err-arrival.field-0.0) begins
     (subst (λ n. IsCallStopped Ids d m input n begun new c.in_err-arrival.field-0.0) c.units-2.ensures c.in_err-arrival.ensures.effect.left) in
-    at_err c.from_residual-in_err-arrival.result _ (λ (x : Result (Unit {0}) SearchError). IsWalkRun (keeping_of c.args.held.now) d m input w w c.args.cache.now new x) c.from_residual-in_err-arrival.ensures.1
+    at_err c.from_residual-in_err-arrival.result _ (λ (x : Result (Unit {0}) SearchError). IsWalkRun (keeping_of c.args.held.now) d m input w w c.args.cache.now new (result_err x)) c.from_residual-in_err-arrival.ensures.1
     (record {
       of = (is_store c.args.cache.now.store c.args.self.now c.requires.of c.see_bounds.ensures.bounds, c.see_bounds.ensures.sound);
-      ended = tt;
-      left = (
+      run = (
         reads_some input w r,
         inr (
           between,
@@ -180,34 +158,12 @@ returns-in_default-clause-effect c =
     let arrives : IsArrival d m c.advance.new.cache.store.table input w.units arrival.id arrival.units =
     subst (λ n. IsArrival d m c.advance.new.cache.store.table input n arrival.id arrival.units) c.units-2.ensures c.in_ok-arrival.ensures.arrives in
     let finish : Finishes d m input w.units arrival.units = subst (λ (o : Option ℕ). IsArrival d m c.advance.new.cache.store.table input w.units o arrival.units) c.in_default.«is» arrives in
-    subst (λ (x : Walk). IsWalkRun {T = Unit {0}} (keeping_of c.args.held.now) d m input w x c.args.cache.now c.end_search-in_default.new.self (Ok tt)) (sym c.end-in_default.ensures)
+    subst (λ (x : Walk). IsWalkRun (keeping_of c.args.held.now) d m input w x c.args.cache.now c.end_search-in_default.new.self None) (sym c.end-in_default.ensures)
     (run_on d m input w c.args.cache.now c.resume.new.cache c.search_start.new.self c.advance.new.cache
-    (is_store c.args.cache.now.store c.args.self.now c.requires.of c.see_bounds.ensures.bounds, c.see_bounds.ensures.sound) (skips_or_not c.skips-skips.result c.skips-skips.ensures.yes c.skips-skips.ensures.no) c.requires.walk.reported r c.in_ok-from.ensures.resumed begins
+    (is_store c.args.cache.now.store c.args.self.now c.requires.of c.see_bounds.ensures.bounds, c.see_bounds.ensures.sound) r c.in_ok-from.ensures.resumed begins
     (is_store c.search_start.new.self.store c.args.self.now (ap (λ (t : Rows). t.of) c.search_start.ensures.table ∙ c.in_ok-from.ensures.of) c.see_bounds-2.ensures.bounds, c.see_bounds-2.ensures.sound) arrival advanced arrives
     (keeping_of c.args.held.now) (ended_walk w arrival.units) c.end_search-in_default.new.self c.span_offset-last.result refl c.span_offset-last.ensures.value c.end_search-in_default.ensures.value
     (λ over. (refl, finish.stops arrival.units (omega arith))))
-
-pub returns-in_err-move_to-clause-refusal : goal.returns-in_err-move_to-clause-refusal
-returns-in_err-move_to-clause-refusal c =
-    let d : Direction = c.args.way in
-    let m : Machine = c.args.self.now in
-    let input : Input = c.args.input.now in
-    let w : Walk = c.args.walk.now in
-    let r = c.requires.walk.reads in
-    let arrival : Arrival = c.in_ok-arrival.arrival in
-    let first : c.span_offset-place.result ≡ given_up_offset d input w.units = c.span_offset-place.ensures.value ∙ ap (given_up_offset d input) c.units.ensures in
-    let begins : c.search_start.new.self ≡ with_store c.resume.new.cache (with_searched c.resume.new.cache.store (progress_started c.resume.new.cache.store.searched (given_up_offset d input w.units))) =
-    subst (λ at. c.search_start.new.self ≡ with_store c.resume.new.cache (with_searched c.resume.new.cache.store (progress_started c.resume.new.cache.store.searched at))) first c.search_start.ensures.value in
-    let advanced : IsAdvanceEffect d m input w.units c.search_start.new.self c.advance.new.cache (Ok arrival) =
-    subst (λ n. IsAdvanceEffect d m input n c.search_start.new.self c.advance.new.cache (Ok arrival)) c.units-2.ensures c.in_ok-arrival.ensures.effect in
-    let arrives : IsArrival d m c.advance.new.cache.store.table input w.units arrival.id arrival.units =
-    subst (λ n. IsArrival d m c.advance.new.cache.store.table input n arrival.id arrival.units) c.units-2.ensures c.in_ok-arrival.ensures.arrives in
-    let arrived : Arrives d m c.advance.new.cache.store.table input w.units c.in-Some.id arrival.units = subst (λ (o : Option ℕ). IsArrival d m c.advance.new.cache.store.table input w.units o arrival.units) c.in-Some.«is» arrives in
-    if_err c.from_residual-in_err-move_to.result search.OutOfMemory _ c.from_residual-in_err-move_to.ensures.1
-    (subst (λ k. IsCallRefused k d m input w c.advance.new.cache.store search.OutOfMemory) (sym c.in_err-move_to.ensures.refused)
-    (refused_unheld d m input w c.args.cache.now c.resume.new.cache c.search_start.new.self c.advance.new.cache
-    (is_store c.args.cache.now.store c.args.self.now c.requires.of c.see_bounds.ensures.bounds, c.see_bounds.ensures.sound) (skips_or_not c.skips-skips.result c.skips-skips.ensures.yes c.skips-skips.ensures.no) c.requires.walk.reported r c.in_ok-from.ensures.resumed begins
-    (is_store c.search_start.new.self.store c.args.self.now (ap (λ (t : Rows). t.of) c.search_start.ensures.table ∙ c.in_ok-from.ensures.of) c.see_bounds-2.ensures.bounds, c.see_bounds-2.ensures.sound) arrival advanced arrives c.in-Some.id arrived c.in_ok-from.ensures.answer.may))
 
 pub returns-in_err-move_to-clause-effect : goal.returns-in_err-move_to-clause-effect
 returns-in_err-move_to-clause-effect c =
@@ -225,10 +181,10 @@ returns-in_err-move_to-clause-effect c =
     let arrives : IsArrival d m c.advance.new.cache.store.table input w.units arrival.id arrival.units =
     subst (λ n. IsArrival d m c.advance.new.cache.store.table input n arrival.id arrival.units) c.units-2.ensures c.in_ok-arrival.ensures.arrives in
     let arrived : Arrives d m c.advance.new.cache.store.table input w.units c.in-Some.id arrival.units = subst (λ (o : Option ℕ). IsArrival d m c.advance.new.cache.store.table input w.units o arrival.units) c.in-Some.«is» arrives in
-    at_err c.from_residual-in_err-move_to.result search.OutOfMemory (λ (x : Result (Unit {0}) SearchError). IsWalkRun (keeping_of c.args.held.now) d m input w w c.args.cache.now c.advance.new.cache x) c.from_residual-in_err-move_to.ensures.1
-    (subst (λ k. IsWalkRun {T = Unit {0}} k d m input w w c.args.cache.now c.advance.new.cache (Err search.OutOfMemory)) (sym c.in_err-move_to.ensures.refused)
+    at_err c.from_residual-in_err-move_to.result search.OutOfMemory (λ (x : Result (Unit {0}) SearchError). IsWalkRun (keeping_of c.args.held.now) d m input w w c.args.cache.now c.advance.new.cache (result_err x)) c.from_residual-in_err-move_to.ensures.1
+    (subst (λ k. IsWalkRun k d m input w w c.args.cache.now c.advance.new.cache (Some search.OutOfMemory)) (sym c.in_err-move_to.ensures.refused)
     (run_unheld d m input w c.args.cache.now c.resume.new.cache c.search_start.new.self c.advance.new.cache
-    (is_store c.args.cache.now.store c.args.self.now c.requires.of c.see_bounds.ensures.bounds, c.see_bounds.ensures.sound) (skips_or_not c.skips-skips.result c.skips-skips.ensures.yes c.skips-skips.ensures.no) c.requires.walk.reported r c.in_ok-from.ensures.resumed begins
+    (is_store c.args.cache.now.store c.args.self.now c.requires.of c.see_bounds.ensures.bounds, c.see_bounds.ensures.sound) r c.in_ok-from.ensures.resumed begins
     (is_store c.search_start.new.self.store c.args.self.now (ap (λ (t : Rows). t.of) c.search_start.ensures.table ∙ c.in_ok-from.ensures.of) c.see_bounds-2.ensures.bounds, c.see_bounds-2.ensures.sound) arrival advanced arrives c.in-Some.id arrived w))
 
 pub stand-requires-clause-here : goal.stand-requires-clause-here
@@ -282,7 +238,7 @@ returns-clause-effect c =
     subst (λ n. IsArrival d m c.advance.new.cache.store.table input n arrival.id arrival.units) c.units-2.ensures c.in_ok-arrival.ensures.arrives in
     let s = c.stand.ensures in
     run_on d m input w c.args.cache.now c.resume.new.cache c.search_start.new.self c.advance.new.cache
-    (is_store c.args.cache.now.store c.args.self.now c.requires.of c.see_bounds.ensures.bounds, c.see_bounds.ensures.sound) (skips_or_not c.skips-skips.result c.skips-skips.ensures.yes c.skips-skips.ensures.no) c.requires.walk.reported r c.in_ok-from.ensures.resumed begins
+    (is_store c.args.cache.now.store c.args.self.now c.requires.of c.see_bounds.ensures.bounds, c.see_bounds.ensures.sound) r c.in_ok-from.ensures.resumed begins
     (is_store c.search_start.new.self.store c.args.self.now (ap (λ (t : Rows). t.of) c.search_start.ensures.table ∙ c.in_ok-from.ensures.of) c.see_bounds-2.ensures.bounds, c.see_bounds-2.ensures.sound) arrival advanced arrives
     (keeping_of c.args.held.now) c.stand.new.walk c.end_search-2.new.self c.span_offset-last.result s.units c.span_offset-last.ensures.value c.end_search-2.ensures.value
     (λ ended. absurd (ended_at s.at.0 (sym ended ∙ s.at.1)))

@@ -1,10 +1,13 @@
 use Rattle.std.proofs.Common.{◌∙◌, ap, length, subst}
 use Rattle.std.specs.Prelude.{IfErr, IfOk, IfSome}
+use Rattle.std.specs.Result.{result_err}
 use Rattle.automata_base.specs.Answers.OfPasses.{ReportedEndsAreRight, ReportedIsRight}
 use Rattle.automata_base.specs.Haystacks.Input.{Input}
 use Rattle.automata_base.specs.Nfas.Nodes.{Automaton}
 use Rattle.automata_hybrid.specs.Machines.Machine.{Machine}
-use Rattle.regex_automata.specs.Spans.Iteration.{GoesPast, IsNextRefusal}
+use Rattle.regex_automata.specs.Spans.Errors.{IsNextRefusal}
+use Rattle.regex_automata.specs.Spans.Iteration.{GoesPast}
+use Rattle.example_patterns.proofs.Items.{refused}
 use Rattle.example_meaning.specs.Patterns.{span_input}
 use Rattle.example_patterns.proofs.Searching.{next_found}
 use Rattle.example_patterns.proofs.pattern.Pattern.next_match.Goals as goal
@@ -26,4 +29,7 @@ returns-clause-past c =
 pub returns-clause-refusal : goal.returns-clause-refusal
 returns-clause-refusal c =
     subst (λ (v : Input). IfErr c.next_match.result (IsNextRefusal c.args.self.now.regex c.next_match.new.cache v c.args.last))
-    (c.rest-input.ensures ∙ ap (λ n. span_input c.args.hay.now n (length c.args.hay.now)) c.unwrap_or.ensures) c.next_match.ensures.refusal
+    (c.rest-input.ensures ∙ ap (λ n. span_input c.args.hay.now n (length c.args.hay.now)) c.unwrap_or.ensures)
+    (refused c.next_match.result (IsNextRefusal c.args.self.now.regex c.next_match.new.cache c.rest-input.result c.args.last)
+    (c.spans_follow.ensures.nexts c.rest-input.result c.args.last c.args.cache.now c.next_match.new.cache (result_err c.next_match.result)
+    (c.haystack-haystack.ensures.bytes, c.haystack-haystack.ensures.within.1) c.requires.of c.next_match.ensures.effect).refused)

@@ -1,6 +1,6 @@
 use Rattle.std.proofs.Common.{rules, ℕ, Option, Some, None, subst}
 use Rattle.std.specs.Prelude.{Ok, Err}
-use Rattle.regex_automata.specs.Spans.Iteration.{IsNextMatch, IsNextRefusal}
+use Rattle.regex_automata.specs.Spans.Iteration.{IsNextMatch}
 use Rattle.regex_automata.specs.Spans.Runs.{IsNextRun}
 use Rattle.regex_automata.specs.declared.hybrid.regex.Regex.{Regex}
 use Rattle.lazydfa_c.specs.Calls.{regex_of}
@@ -13,9 +13,6 @@ returns-in-Err-clause-found c =
       result = Err e;
       told = c.from-in-Err.ensures;
       next = search rules;
-      refusal =
-          subst (λ (l : Option ℕ). IsNextRefusal regex new input l e) c.last.ensures
-          (subst (λ (r : Regex). IsNextRefusal r new input c.last.result e) c.deref.ensures c.in-Err.ensures.refusal);
       effect =
           subst (λ (l : Option ℕ). IsNextRun regex input l old new (Some e)) c.last.ensures
           (subst (λ (r : Regex). IsNextRun r input c.last.result old new (Some e)) c.deref.ensures
@@ -34,7 +31,6 @@ returns-in-Ok-Some-clause-found c =
           subst (λ (l : Option ℕ). IsNextMatch regex input l (Some c.in-Ok-Some.it)) c.last.ensures
           (subst (λ (r : Regex). IsNextMatch r input c.last.result (Some c.in-Ok-Some.it)) c.deref.ensures
           (subst (IsNextMatch c.deref.result.now input c.last.result) c.in-Ok-Some.field-0-is c.in-Ok-Some.ensures.next));
-      refusal = search rules;
       effect =
           subst (λ (l : Option ℕ). IsNextRun regex input l old new None) c.last.ensures
           (subst (λ (r : Regex). IsNextRun r input c.last.result old new None) c.deref.ensures c.in-Ok-Some.ensures.effect);
@@ -52,7 +48,6 @@ returns-in-Ok-None-clause-found c =
           subst (λ (l : Option ℕ). IsNextMatch regex input l None) c.last.ensures
           (subst (λ (r : Regex). IsNextMatch r input c.last.result None) c.deref.ensures
           (subst (IsNextMatch c.deref.result.now input c.last.result) c.in-Ok-None.field-0-is c.in-Ok-None.ensures.next));
-      refusal = search rules;
       effect =
           subst (λ (l : Option ℕ). IsNextRun regex input l old new None) c.last.ensures
           (subst (λ (r : Regex). IsNextRun r input c.last.result old new None) c.deref.ensures c.in-Ok-None.ensures.effect);

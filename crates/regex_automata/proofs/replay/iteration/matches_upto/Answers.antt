@@ -6,10 +6,9 @@ use Rattle.automata_hybrid.specs.Machines.Machine.{Machine}
 use Rattle.regex_automata.specs.Spans.Outcomes.{FindsMatch}
 use Rattle.regex_automata.specs.Regexes.SoundPairs.{IsSoundPair, forward_engine, reverse_engine}
 use Rattle.regex_automata.proofs.Spans.Lists.{collected_begins, collected_right}
-use Rattle.regex_automata.proofs.Replies.MatchLists.{memory_after}
 use Rattle.regex_automata.proofs.Spans.ByPaths.{match_right, outcome_right}
 use Rattle.automata_base.proofs.Answers.Rising.{first_few, first_rise}
-use Rattle.regex_automata.proofs.Spans.Ends.{collected_first, find_lies, first_place}
+use Rattle.regex_automata.proofs.Spans.Ends.{collected_first, find_lies}
 use Rattle.regex_automata.proofs.replay.iteration.matches_upto.Goals as goal
 
 pub returns-clause-of : goal.returns-clause-of
@@ -22,7 +21,6 @@ returns-clause-returned c =
     let s = c.take_matches.ensures in
     let ms = c.take_matches.result.0.items in
     let error = c.take_matches.result.1 in
-    let cache = c.take_matches.new.cache in
     let within = c.haystack-haystack.ensures.within.1 in
     let front = subst (λ (a : Automaton). ReportedIsRight a) (c.get_nfa.ensures ∙ ap (λ (m : Machine). m.nfa) c.forward.ensures) c.reported_is_right.ensures.answer in
     let rear = subst (λ (a : Automaton). ReportedIsRight a) (c.get_nfa-2.ensures ∙ ap (λ (m : Machine). m.nfa) c.reverse.ensures) c.reported_is_right-2.ensures.answer in
@@ -40,7 +38,7 @@ returns-clause-returned c =
       rise = first_rise (FindsMatch p) input (find_lies p) within ms first;
       few = let k = first_few (FindsMatch p) input (find_lies p) within ms first in omega (arith, k);
       unsupported = s.unsupported;
-      free = memory_after p cache input ms error (first_place p input within ms first) s.refusal;
+      free = s.free;
     }
 
 pub returns-clause-found : goal.returns-clause-found

@@ -1,16 +1,19 @@
 use Rattle.std.proofs.Common.{◌≡◌, ◌∙◌, [], ◌∷◌, ◌++◌, None, Some, Ok, Err, ap, inl, inr, refl, rules, sym, subst, List}
+use Rattle.automata_base.specs.Answers.Answers.{IsInput}
 use Rattle.automata_base.specs.Haystacks.Input.{Input}
 use Rattle.automata_base.specs.Haystacks.Matches.{Match}
 use Rattle.automata_config.specs.declared.error.SearchError.TheVariants as search
-use Rattle.regex_automata.specs.Spans.Iteration.{IsNextMatch, IsNextRefusal, input_over}
+use Rattle.regex_automata.specs.Spans.Iteration.{IsNextMatch, input_over}
 use Rattle.automata_base.specs.Answers.Spans.{AreFirst}
 use Rattle.regex_automata.specs.Spans.Outcomes.{FindsMatch}
 use Rattle.regex_automata.proofs.Spans.Lists.{collected, comes_first, comes_turn, input_turn, item_match, item_none}
 use Rattle.regex_automata.proofs.Spans.Lists.{turn}
-use Rattle.regex_automata.proofs.Replies.MatchLists.{item_refused, match_error, none_error, refused_after, same_error}
+use Rattle.regex_automata.proofs.Replies.MatchLists.{match_error, memory_next, none_error, same_error}
 use Rattle.regex_automata.proofs.Replies.MatchLists.{unreported_turn}
 use Rattle.regex_automata.specs.declared.hybrid.regex.Regex.{Regex}
 use Rattle.regex_automata.proofs.Spans.Effects.{run_turn, searches_end, searches_turn}
+use Rattle.regex_automata.proofs.Spans.Ends.{comes_on}
+use Rattle.regex_automata.specs.Regexes.Caches.{AreCachesOf}
 use Rattle.regex_automata.proofs.replay.iteration.take_matches.Goals as goal
 
 pub loop-item-preserved : goal.loop-item-preserved
@@ -21,7 +24,7 @@ loop-item-preserved c =
     let now = input_over s.haystack.now s.start s.end s.anchored s.earliest in
     let rest = input_over t.haystack.now t.start t.end t.anchored t.earliest in
     let steps = rw c.in-Ok.is at c.in-Some.ensures.steps in
-    let step = item_match s.regex.now t.cache.now now rest s.last t.last s.ended t.ended c.in-Ok.next steps.0 in
+    let step = item_match s.regex.now now rest s.last t.last s.ended t.ended c.in-Ok.next steps.0 in
     let items : c.push.new.self.items ≡ c.loop-item.found.items ++ c.in-Ok.next ∷ [] = c.in-Ok-push.ensures.items in
     record {
       comes = comes_turn (FindsMatch c.args.regex.now) c.args.input c.args.input.start None c.loop-item.found.items c.push.new.self.items s.start t.start s.last t.last c.in-Ok.next i.comes
@@ -43,8 +46,8 @@ returns-in_default-clause-found c =
     subst (λ (ms : List Match). AreFirst (FindsMatch c.args.regex.now) c.args.input c.args.input.start None ms) (sym {A = List Match} c.in_default.ensures.items)
     (comes_first (FindsMatch c.args.regex.now) c.args.input c.args.input.start None c.loop-item.found.items s.start s.last i.comes)
 
-pub returns-in_default-clause-refusal : goal.returns-in_default-clause-refusal
-returns-in_default-clause-refusal c = inl refl
+pub returns-in_default-clause-free : goal.returns-in_default-clause-free
+returns-in_default-clause-free c = λ sound free. refl
 
 pub returns-in-Err-clause-found : goal.returns-in-Err-clause-found
 returns-in-Err-clause-found c =
@@ -52,17 +55,21 @@ returns-in-Err-clause-found c =
     let s = c.loop-item.item-iterator in
     comes_first (FindsMatch c.args.regex.now) c.args.input c.args.input.start None c.loop-item.found.items s.start s.last i.comes
 
-pub returns-in-Err-clause-refusal : goal.returns-in-Err-clause-refusal
-returns-in-Err-clause-refusal c =
+pub returns-in-Err-clause-free : goal.returns-in-Err-clause-free
+returns-in-Err-clause-free c =
     let i = c.loop-item.invariant in
     let s = c.loop-item.item-iterator in
     let t = c.next.new.self in
+    let q = c.args.regex.now in
     let now = input_over s.haystack.now s.start s.end s.anchored s.earliest in
-    let rest = input_over t.haystack.now t.start t.end t.anchored t.earliest in
     let steps = rw c.in-Err.is at c.in-Some.ensures.steps in
-    inr (refused_after s.regex.now c.args.regex.now t.cache.now _ c.args.input now c.loop-item.found.items s.last c.in-Err.error
-    i.regex (search rules) i.input i.comes
-    (item_refused s.regex.now t.cache.now now rest s.last t.last s.ended t.ended c.in-Err.error steps.0 i.going))
+    let e = c.in-Err.error in
+    let within = c.haystack-haystack.ensures.within.1 in
+    memory_next q t.cache.now c.args.input now s.last e i.input
+    (comes_on q c.args.input within c.args.input.start None c.loop-item.found.items s.start s.last i.comes)
+    (c.spans_follow.ensures.nexts now s.last s.cache.now t.cache.now (Some e)
+    (subst IsInput (sym i.input) (c.haystack-haystack.ensures.bytes, within)) (subst (λ (r : Regex). AreCachesOf s.cache.now r) i.regex s.of)
+    (run_turn s.regex.now q now s.last s.ended s.cache.now t.cache.now (Some (Err e)) i.regex i.going steps.3)).refused
 
 pub returns-clause-found : goal.returns-clause-found
 returns-clause-found c =
@@ -73,7 +80,7 @@ returns-clause-found c =
     let rest = input_over t.haystack.now t.start t.end t.anchored t.earliest in
     collected (FindsMatch c.args.regex.now) c.args.input c.loop-item.found.items None s.start s.last i.comes
     (λ none. turn s.regex.now c.args.regex.now c.args.input now s.last None i.regex i.input
-    (item_none s.regex.now t.cache.now now rest s.last t.last s.ended t.ended c.in-None.ensures.steps.0 i.going))
+    (item_none s.regex.now now rest s.last t.last s.ended t.ended c.in-None.ensures.steps.0 i.going))
 
 pub returns-in_default-clause-unsupported : goal.returns-in_default-clause-unsupported
 returns-in_default-clause-unsupported c =
@@ -107,7 +114,7 @@ returns-in_default-clause-made c =
     let steps = rw c.in-Ok.is at c.in-Some.ensures.steps in
     let rest = input_over t.haystack.now t.start t.end t.anchored t.earliest in
     let run = run_turn s.regex.now c.args.regex.now now s.last s.ended s.cache.now t.cache.now (Some (Ok c.in-Ok.next)) i.regex i.going steps.3 in
-    let next = (item_match s.regex.now t.cache.now now rest s.last t.last s.ended t.ended c.in-Ok.next steps.0).0 in
+    let next = (item_match s.regex.now now rest s.last t.last s.ended t.ended c.in-Ok.next steps.0).0 in
     searches_end c.args.regex.now c.args.cache.now s.cache.now t.cache.now _ c.args.input now s.last c.loop-item.found.items _ (Some search.OutOfMemory) i.made
     (inr (refl, (c.in-Ok.next, subst (λ (r : Regex). IsNextMatch r now s.last (Some c.in-Ok.next)) i.regex next, run))) c.in_default.ensures.items (search rules)
 
@@ -117,15 +124,10 @@ returns-in-Err-clause-made c =
     let s = c.loop-item.item-iterator in
     let t = c.next.new.self in
     let now = input_over s.haystack.now s.start s.end s.anchored s.earliest in
-    let rest = input_over t.haystack.now t.start t.end t.anchored t.earliest in
     let steps = rw c.in-Err.is at c.in-Some.ensures.steps in
     let e = c.in-Err.error in
     searches_end c.args.regex.now c.args.cache.now s.cache.now t.cache.now _ c.args.input now s.last c.loop-item.found.items c.loop-item.found.items (Some e) i.made
-    (inl (
-      run_turn s.regex.now c.args.regex.now now s.last s.ended s.cache.now t.cache.now (Some (Err e)) i.regex i.going steps.3,
-      subst (λ (r : Regex). IsNextRefusal r t.cache.now now s.last e) i.regex
-          (item_refused s.regex.now t.cache.now now rest s.last t.last s.ended t.ended e steps.0 i.going),
-    )) refl (search rules)
+    (inl (run_turn s.regex.now c.args.regex.now now s.last s.ended s.cache.now t.cache.now (Some (Err e)) i.regex i.going steps.3)) refl (search rules)
 
 pub returns-clause-made : goal.returns-clause-made
 returns-clause-made c =
@@ -134,4 +136,4 @@ returns-clause-made c =
     let t = c.next.new.self in
     let now = input_over s.haystack.now s.start s.end s.anchored s.earliest in
     searches_end c.args.regex.now c.args.cache.now s.cache.now t.cache.now _ c.args.input now s.last c.loop-item.found.items c.loop-item.found.items None i.made
-    (run_turn s.regex.now c.args.regex.now now s.last s.ended s.cache.now t.cache.now None i.regex i.going c.in-None.ensures.steps.3) refl (search rules)
+    (inl (run_turn s.regex.now c.args.regex.now now s.last s.ended s.cache.now t.cache.now None i.regex i.going c.in-None.ensures.steps.3)) refl (search rules)

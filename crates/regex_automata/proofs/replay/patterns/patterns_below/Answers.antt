@@ -1,4 +1,4 @@
-use Rattle.std.proofs.Common.{◌≡◌, ◌∙◌, Bool, List, Option, [], ap, inl, inr, refl, subst, sym, IfErr, IfSome}
+use Rattle.std.proofs.Common.{◌≡◌, ◌∙◌, Bool, List, Option, [], ap, inl, inr, refl, subst, sym, IfSome}
 use Rattle.std.specs.Result.{result_err}
 use Rattle.automata_base.specs.Answers.Answers.{ArePatterns, ArePatternsFound}
 use Rattle.automata_base.specs.Nfas.Engines.{engine_of}
@@ -8,12 +8,10 @@ use Rattle.automata_base.specs.declared.util.search.Direction.TheVariants.{Forwa
 use Rattle.automata_config.specs.declared.error.SearchError.{SearchError}
 use Rattle.automata_hybrid.specs.Searches.Contracts.{IsMemory}
 use Rattle.automata_hybrid.specs.Walks.Progress.{IsSetRun}
-use Rattle.automata_hybrid.specs.Walks.Progress.{EndsSet}
 use Rattle.automata_hybrid.specs.Walks.Answers.{AreWalked}
-use Rattle.automata_hybrid.specs.Walks.Sets.{IsWhichRefusal}
 use Rattle.regex_automata.specs.Spans.Contracts.{HasReportedSet}
 use Rattle.regex_automata.proofs.Replies.SetLists.{members_rise, memory_where, no_patterns, none_where, patterns_reported}
-use Rattle.regex_automata.proofs.Replies.SetLists.{reported_set, reported_where}
+use Rattle.regex_automata.proofs.Replies.SetLists.{reported_set, reported_where, run_ended}
 use Rattle.regex_automata.proofs.replay.patterns.patterns_below.Goals as goal
 use Rattle.automata_config.specs.Options.{match_kind_of}
 use Rattle.automata_base.proofs.Paths.Orders.{some_none}
@@ -54,9 +52,8 @@ returns-in-Ok-list_members-clause-made c =
     let reported = c.try_which_overlapping_matches-reported in
     inr (
       reported.new.patset,
-      reported.result,
-      subst (λ (set : List Bool). IsSetRun c.args.dfa.now c.args.input.now set c.args.cache.now reported.new.cache reported.result) c.in-Ok.ensures.capacity reported.ensures.effect,
-      subst (λ (set : List Bool). IfErr reported.result (IsWhichRefusal c.args.dfa.now reported.new.cache.store c.args.input.now set reported.new.patset)) c.in-Ok.ensures.capacity reported.ensures.refusal,
+      result_err reported.result,
+      subst (λ (set : List Bool). IsSetRun c.args.dfa.now c.args.input.now set reported.new.patset c.args.cache.now reported.new.cache (result_err reported.result)) c.in-Ok.ensures.capacity reported.ensures.effect,
       inl (c.in-Ok-list_members.ensures, c.err.ensures.value),
     )
 
@@ -65,9 +62,8 @@ returns-clause-made c =
     let reported = c.try_which_overlapping_matches-reported in
     inr (
       reported.new.patset,
-      reported.result,
-      subst (λ (set : List Bool). IsSetRun c.args.dfa.now c.args.input.now set c.args.cache.now reported.new.cache reported.result) c.in-Ok.ensures.capacity reported.ensures.effect,
-      subst (λ (set : List Bool). IfErr reported.result (IsWhichRefusal c.args.dfa.now reported.new.cache.store c.args.input.now set reported.new.patset)) c.in-Ok.ensures.capacity reported.ensures.refusal,
+      result_err reported.result,
+      subst (λ (set : List Bool). IsSetRun c.args.dfa.now c.args.input.now set reported.new.patset c.args.cache.now reported.new.cache (result_err reported.result)) c.in-Ok.ensures.capacity reported.ensures.effect,
       inr (c.new-in-Err.ensures.items, refl),
     )
 
@@ -91,6 +87,6 @@ returns-in-Ok-list_members-clause-found c = λ none.
           (reported_where reported (ArePatterns (AreWalked Forward m input) input _ _ _) c.try_which_overlapping_matches-reported.ensures.found (sym error ∙ none));
       clean = subst (λ (set : List Bool). HasReportedSet m input set) c.in-Ok.ensures.capacity
           (reported_set m input old c.args.cache.now c.try_which_overlapping_matches-reported.new.cache
-          (reported_where reported (EndsSet m input old c.args.cache.now c.try_which_overlapping_matches-reported.new.cache)
-          c.try_which_overlapping_matches-reported.ensures.effect.ended (sym error ∙ none)));
+          (run_ended m input old new c.args.cache.now c.try_which_overlapping_matches-reported.new.cache (result_err reported) (sym error ∙ none)
+          c.try_which_overlapping_matches-reported.ensures.effect));
     }

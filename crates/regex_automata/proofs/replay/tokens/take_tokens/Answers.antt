@@ -2,7 +2,7 @@ use Rattle.std.proofs.Common.{ℕ, ◌≡◌, ◌∙◌, [], ◌∷◌, ◌++◌
 use Rattle.std.proofs.Common.{List}
 use Rattle.automata_base.specs.Haystacks.Matches.{Match}
 use Rattle.automata_config.specs.declared.error.SearchError.TheVariants as search
-use Rattle.regex_automata.specs.Tokens.{AreGiven, IsRefusedAt, match_of}
+use Rattle.regex_automata.specs.Tokens.{AreGiven, match_of}
 use Rattle.regex_automata.specs.declared.tokens.error.TokenError.TheVariants.{Search}
 use Rattle.regex_automata.proofs.TokenLists.Lists.{at_end, completes_end, completes_on, item_turn, match_is}
 use Rattle.regex_automata.specs.declared.hybrid.regex.Regex.{Regex}
@@ -84,12 +84,7 @@ returns-in-Err-clause-made c =
     let e = c.in-Err.error in
     let new = c.next.new.self.cache.now in
     tokens_end p.forward input.haystack input.end input.start c.args.cache.now s.cache.now new c.loop-item.found.items c.loop-item.found.items s.offset (Some e) i.made
-    (inl (
-      token_made_turn s.regex.now p s.haystack.now input.haystack s.end input.end s.offset s.cache.now new (Some (Err e)) i.regex i.haystack i.end (steps.5, steps.6),
-      subst (λ (r : Regex). IsRefusedAt r.forward new.forward.store input.haystack input.end s.offset e) i.regex
-          (subst (λ (h : List ℕ). IsRefusedAt s.regex.now.forward new.forward.store h input.end s.offset e) i.haystack
-          (subst (λ n. IsRefusedAt s.regex.now.forward new.forward.store s.haystack.now n s.offset e) i.end steps.0.0.1)),
-    )) refl)
+    (inl (token_made_turn s.regex.now p s.haystack.now input.haystack s.end input.end s.offset s.cache.now new (Some (Err e)) i.regex i.haystack i.end (steps.5, steps.6))) refl)
 
 pub returns-clause-made : goal.returns-clause-made
 returns-clause-made c =

@@ -1,4 +1,4 @@
-use Rattle.std.proofs.Common.{Err, Ok, inl, refl}
+use Rattle.std.proofs.Common.{inl}
 use Rattle.regex_automata.proofs.Results.{ok_err, same_err}
 use Rattle.regex_automata.proofs.Replies.WalkCalls.{answered, stayed, step_answers, step_refused}
 use Rattle.regex_automata.proofs.replay.walks.step_of.Goals as goal
@@ -33,16 +33,13 @@ returns-in-Err-clause-call c =
 
 pub returns-in-Ok-clause-made : goal.returns-in-Ok-clause-made
 returns-in-Ok-clause-made c = λ k h.
-    (c.args.state.now, c.try_search_overlapping.new.walk, Ok tt, h, c.in-Ok.ensures.call.reports, c.in-Ok.ensures.effect, refl, tt)
+    (c.args.state.now, c.try_search_overlapping.new.walk, h, c.in-Ok.ensures.call.reports, c.in-Ok.ensures.effect)
 
 pub returns-in-Err-clause-made : goal.returns-in-Err-clause-made
 returns-in-Err-clause-made c = λ k h. (
   c.args.state.now,
   c.try_search_overlapping.new.walk,
-  Err c.in-Err.error,
   h,
   tt,
   c.in-Err.ensures.effect,
-  refl,
-  c.in-Err.ensures.refusal k h.reported,
 )

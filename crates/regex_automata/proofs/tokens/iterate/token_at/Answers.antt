@@ -1,5 +1,5 @@
 use Rattle.std.proofs.Common.{◌≡◌, ◌∙◌, sym, ap, subst}
-use Rattle.std.specs.Prelude.{IfErr, IfOk, Ok}
+use Rattle.std.specs.Prelude.{IfOk, Ok}
 use Rattle.std.specs.Result.{result_err}
 use Rattle.automata_base.specs.Haystacks.Input.{Input}
 use Rattle.automata_base.specs.Haystacks.Matches.{Match}
@@ -7,10 +7,9 @@ use Rattle.automata_base.specs.declared.util.search.Direction.TheVariants.{Forwa
 use Rattle.automata_hybrid.specs.Cache.Caches.{CacheView}
 use Rattle.automata_hybrid.specs.Machines.Machine.{Machine}
 use Rattle.automata_hybrid.specs.Searches.Contracts.{IsHalf}
-use Rattle.automata_hybrid.specs.Searches.Passes.{IsFound, IsRefused, WithoutBase}
+use Rattle.automata_hybrid.specs.Searches.Passes.{IsFound, WithoutBase}
 use Rattle.automata_hybrid.specs.Searches.Progress.{IsSearchRun}
 use Rattle.regex_automata.specs.Tokens.{IsGivenAt, asked, match_of, search_error}
-use Rattle.automata_hybrid.proofs.Searches.Follows.{call_refused}
 use Rattle.regex_automata.proofs.Results.{is_err}
 use Rattle.regex_automata.proofs.TokenLists.Tiling.{error_is_given, token_is_given}
 use Rattle.regex_automata.proofs.TokenLists.Refusals.{error_is, no_error_is}
@@ -20,7 +19,6 @@ use Rattle.regex_automata.proofs.tokens.iterate.token_at.Goals as goal
 pub returns-in_err-token-clause-item : goal.returns-in_err-token-clause-item
 returns-in_err-token-clause-item c =
     let m = c.args.regex.now.forward in
-    let store = c.try_search_fwd-found.new.cache.store in
     let h = c.args.haystack.now in
     let offset = c.args.offset in
     let found = c.try_search_fwd-found.result in
@@ -28,14 +26,10 @@ returns-in_err-token-clause-item c =
     subst (λ i. IsHalf Forward m i found × IfOk found (WithoutBase (IsFound Forward m i))) c.asked-input.ensures
     (subst (λ n. IsHalf Forward n c.asked-input.result found × IfOk found (WithoutBase (IsFound Forward n c.asked-input.result))) c.forward-dfa.ensures
     (c.try_search_fwd-found.ensures.half, c.try_search_fwd-found.ensures.found)) in
-    let errors =
-    subst (λ i. IfErr found (IsRefused Forward m store i)) c.asked-input.ensures
-    (subst (λ n. IfErr found (IsRefused Forward n store c.asked-input.result)) c.forward-dfa.ensures
-    (call_refused Forward c.forward-dfa.result.now c.asked-input.result _ _ found c.try_search_fwd-found.ensures.effect)) in
     let given =
-    error_is_given m h c.args.end c.requires.within.1 store offset found c.in_err-token.field-0.0 c.requires.ahead returned errors
+    error_is_given m h c.args.end c.requires.within.1 offset found c.in_err-token.field-0.0 c.requires.ahead returned
     (sym c.in_err-token.was ∙ c.item.ensures) in
-    subst (IsGivenAt m store h c.args.end offset) (sym (is_err c.from_residual.result _ c.from_residual.ensures.1)) given
+    subst (IsGivenAt m h c.args.end offset) (sym (is_err c.from_residual.result _ c.from_residual.ensures.1)) given
 
 pub returns-clause-item : goal.returns-clause-item
 returns-clause-item c =

@@ -3,12 +3,10 @@ use Rattle.std.proofs.Common.{◌≡◌, ◌∙◌, Some, None, inl, inr, refl, 
 use Rattle.automata_base.specs.Answers.Spans.{back}
 use Rattle.automata_base.specs.Haystacks.Input.{Input}
 use Rattle.automata_base.specs.declared.util.search.Direction.TheVariants.{Backward}
-use Rattle.automata_hybrid.specs.Machines.StartSlots.{supports}
 use Rattle.automata_hybrid.specs.Searches.Progress.{IsSearchRun}
-use Rattle.automata_hybrid.specs.Searches.Passes.{IsFound, NoQuitInReach, with_base}
+use Rattle.automata_hybrid.specs.Searches.Passes.{IsFound, with_base}
 use Rattle.automata_hybrid.specs.Searches.Bounds.{LiesIn}
-use Rattle.automata_hybrid.proofs.Searches.PassState.{if_err}
-use Rattle.regex_automata.proofs.Spans.Costs.{back_none, back_reach, back_some}
+use Rattle.regex_automata.proofs.Spans.Costs.{back_none, back_some}
 use Rattle.regex_automata.proofs.Spans.NextMatches.{some_of}
 use Rattle.regex_automata.proofs.Results.{is_err}
 use Rattle.regex_automata.proofs.hybrid.regex.Regex.find_start.Goals as goal
@@ -36,16 +34,6 @@ try_search_rev-requires c = c.requires.of
 
 pub returns-in_err-found-clause-of : goal.returns-in_err-found-clause-of
 returns-in_err-found-clause-of c = c.try_search_rev.ensures.of
-
-pub returns-in_err-found-clause-free : goal.returns-in_err-found-clause-free
-returns-in_err-found-clause-free c = λ reach free.
-    if_err c.from_residual.result _ _ c.from_residual.ensures.1
-    (c.in_err-found.ensures.half.free (record {
-      reach = subst (NoQuitInReach c.args.self.now.reverse) (sym c.backward-rest.ensures)
-          (back_reach c.args.self.now.reverse c.args.input.now (with_base c.args.half c.args.base) c.requires.past.from c.requires.past.lies.upto reach);
-      supported = ap (λ (i : Input). supports c.args.self.now.reverse i.anchored) c.backward-rest.ensures;
-      clears = free;
-    }))
 
 pub returns-in_err-found-clause-effect : goal.returns-in_err-found-clause-effect
 returns-in_err-found-clause-effect c =

@@ -1,22 +1,17 @@
 use Rattle.std.specs.Result.{result_err}
 use Rattle.automata_base.proofs.Paths.Orders.{some_none}
 use Rattle.std.proofs.Common.{suc, ◌≡◌, ◌∙◌, ◌+◌, None, inl, inr, refl, sym, ap, subst, arith}
-use Rattle.std.specs.Prelude.{Err, IfOk, IfErr, IfSome}
+use Rattle.std.specs.Prelude.{Err, IfOk, IfSome}
 use Rattle.automata_base.specs.Haystacks.Input.{Input}
 use Rattle.automata_base.specs.Answers.Spans.{from}
 use Rattle.automata_config.specs.declared.error.SearchError.{SearchError}
-use Rattle.automata_hybrid.proofs.Searches.PassState.{if_err}
 use Rattle.regex_automata.specs.Spans.Outcomes.{FindsMatch, MatchLiesIn}
-use Rattle.regex_automata.specs.Spans.Errors.{IsRegexRefusal}
 use Rattle.regex_automata.specs.Spans.Runs.{IsSpanRun}
 use Rattle.regex_automata.proofs.Spans.NextMatches.{ahead_of, goes_first, goes_later, next_later, on_err}
-use Rattle.regex_automata.proofs.Spans.NextMatches.{refused_later, some_of}
+use Rattle.regex_automata.proofs.Spans.NextMatches.{some_of}
 use Rattle.regex_automata.proofs.Spans.Cached.{stands_none, stands_some}
 use Rattle.regex_automata.proofs.Results.{if_ok, is_err, ok_err, same_err}
 use Rattle.regex_automata.proofs.hybrid.regex.Regex.next_match.Goals as goal
-
-pub returns-in_err-found-clause-refusal : goal.returns-in_err-found-clause-refusal
-returns-in_err-found-clause-refusal c = if_err c.from_residual.result _ _ c.from_residual.ensures.1 (inl c.in_err-found.ensures.refusal)
 
 pub returns-in_err-found-clause-next : goal.returns-in_err-found-clause-next
 returns-in_err-found-clause-next c = if_ok c.from_residual.result _ _ c.from_residual.ensures.1
@@ -99,14 +94,6 @@ returns-clause-goes_on c =
     let rest : c.from-rest.result ≡ from (suc c.args.input.now.start) c.args.input.now = c.from-rest.ensures ∙ ap (λ n. from n c.args.input.now) place in
     goes_later c.args.self.now c.args.input.now c.args.last c.try_search-2.result
     (subst (λ (i : Input). IfOk c.try_search-2.result (λ o. IfSome o (MatchLiesIn c.args.self.now i))) rest c.try_search-2.ensures.returned.within)
-
-pub returns-clause-refusal : goal.returns-clause-refusal
-returns-clause-refusal c =
-    let found = subst (FindsMatch c.args.self.now c.args.input.now) c.in-Some.is c.in_ok-found.ensures.found in
-    let place : c.start.result + 1 ≡ suc c.args.input.now.start = omega (arith, c.start.ensures.start) in
-    let rest : c.from-rest.result ≡ from (suc c.args.input.now.start) c.args.input.now = c.from-rest.ensures ∙ ap (λ n. from n c.args.input.now) place in
-    refused_later c.args.self.now c.args.input.now c.args.last c.in-Some.found found (c.if-not-is_empty_at.ensures.yes refl) c.try_search-2.new.cache c.try_search-2.result
-    (subst (λ (i : Input). IfErr c.try_search-2.result (IsRegexRefusal c.args.self.now c.try_search-2.new.cache i)) rest c.try_search-2.ensures.refusal)
 
 pub returns-clause-ahead : goal.returns-clause-ahead
 returns-clause-ahead c =

@@ -6,7 +6,6 @@ use Rattle.automata_hybrid.specs.Searches.Passes.{with_base}
 use Rattle.automata_hybrid.specs.Searches.Progress.{IsSearchRun}
 use Rattle.automata_base.specs.declared.util.search.Direction.TheVariants.{Forward}
 use Rattle.automata_hybrid.specs.Searches.Bounds.{LiesPast}
-use Rattle.automata_hybrid.proofs.Searches.PassState.{if_err}
 use Rattle.regex_automata.specs.Spans.Outcomes.{IsStartFound}
 use Rattle.regex_automata.proofs.Spans.Costs.{front_none, front_some, match_of}
 use Rattle.regex_automata.proofs.Spans.Costs.{match_within, start_within}
@@ -28,7 +27,6 @@ returns-in_err-front-clause-reported c = record {
   found = if_ok c.from_residual.result _ _ c.from_residual.ensures.1;
   within = if_ok c.from_residual.result _ _ c.from_residual.ensures.1;
   unsupported = λ u. is_err c.from_residual.result _ c.from_residual.ensures.1 ∙ ap (λ (e : SearchError). Err e) (same_err (c.in_err-front.ensures.based.unsupported u));
-  free = λ free. if_err c.from_residual.result _ _ c.from_residual.ensures.1 (inl (c.in_err-front.ensures.based.free (record { reach = free.forward; supported = free.supported; clears = free.forward_clears })));
   done = λ past. absurd (err_ok (c.in_err-front.ensures.based.done past));
 }
 
@@ -52,7 +50,6 @@ returns-in_default-clause-reported c = record {
   found = front_none c.args.self.now.forward c.args.input.now c.in_ok-front.field-0 c.in_ok-front.ensures.found c.in_default.is;
   within = search rules;
   unsupported = λ u. absurd (ok_err (c.in_ok-front.ensures.based.unsupported u));
-  free = search rules;
   done = λ past. refl;
 }
 
@@ -79,7 +76,6 @@ returns-in_err-start-clause-reported c = record {
   found = if_ok c.from_residual-in_err-start.result _ _ c.from_residual-in_err-start.ensures.1;
   within = if_ok c.from_residual-in_err-start.result _ _ c.from_residual-in_err-start.ensures.1;
   unsupported = λ u. absurd (ok_err (c.in_ok-front.ensures.based.unsupported u));
-  free = λ free. if_err c.from_residual-in_err-start.result _ _ c.from_residual-in_err-start.ensures.1 (inl (c.in_err-start.ensures.free free.reverse free.reverse_clears));
   done = λ past. absurd (some_none (sym c.in-Some.is ∙ same_ok (c.in_ok-front.ensures.based.done past)));
 }
 
@@ -105,7 +101,6 @@ returns-in_default-2-clause-reported c = record {
   found = search rules;
   within = search rules;
   unsupported = λ u. absurd (ok_err (c.in_ok-front.ensures.based.unsupported u));
-  free = λ free. inr refl;
   done = λ past. absurd (some_none (sym c.in-Some.is ∙ same_ok (c.in_ok-front.ensures.based.done past)));
 }
 
@@ -136,7 +131,6 @@ returns-clause-reported c = record {
   within = match_within c.args.self.now c.args.input.now c.in-Some.front.0 c.in-Some.front.1 c.in-Some-2.start c.offset.result c.pattern.result c.new.result (some_of c.in_ok-front.field-0 c.in-Some.front (λ p. LiesPast c.args.self.now.forward c.args.input.now p.0 p.1) c.in_ok-front.ensures.based.within c.in-Some.is)
       (start_within (c.in-Some.front.1) (c.in-Some.front.0.offset) c.in_ok-start.field-0 c.in-Some-2.start c.in_ok-start.ensures.within c.in-Some-2.is) c.pattern.ensures c.offset.ensures c.new.ensures;
   unsupported = λ u. absurd (ok_err (c.in_ok-front.ensures.based.unsupported u));
-  free = search rules;
   done = λ past. absurd (some_none (sym c.in-Some.is ∙ same_ok (c.in_ok-front.ensures.based.done past)));
 }
 

@@ -57,7 +57,7 @@ returns-in-Find-clause-made c = λ h a.
     let s = c.args.self.now in
     let answer = reply.Span c.find.result in
     subst (λ (q : Request). IsRequestEffect s.regexes.now h q answer s.cache c.find.new.cache) (sym c.in-Find.is)
-    (is_made s.regexes.now h (request.Find c.in-Find.input) s.cache c.find.new.cache answer s.regex.now a.regex (c.find.ensures.found, c.find.ensures.effect, c.find.ensures.refusal))
+    (is_made s.regexes.now h (request.Find c.in-Find.input) s.cache c.find.new.cache answer s.regex.now a.regex (c.find.ensures.found, c.find.ensures.effect))
 
 pub returns-in-IsMatch-clause-made : goal.returns-in-IsMatch-clause-made
 returns-in-IsMatch-clause-made c = λ h a.

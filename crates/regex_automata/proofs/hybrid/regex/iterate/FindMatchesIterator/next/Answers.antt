@@ -2,7 +2,7 @@ use Rattle.std.proofs.Common.{◌≤◌, Some, None, refl, subst}
 use Rattle.std.specs.Prelude.{Ok, Err}
 use Rattle.automata_base.specs.Haystacks.Input.{Input}
 use Rattle.automata_base.specs.Answers.Spans.{from}
-use Rattle.regex_automata.specs.Spans.Iteration.{GoesPast, IsNextMatch, IsNextRefusal, input_over}
+use Rattle.regex_automata.specs.Spans.Iteration.{GoesPast, IsNextMatch, input_over}
 use Rattle.regex_automata.proofs.Spans.Items.{fewer_left, gives_error, gives_match, gives_none, item_run, lies_in_haystack, some_left}
 use Rattle.regex_automata.proofs.Spans.Items.{reports_error, reports_found}
 use Rattle.regex_automata.proofs.Spans.NextMatches.{some_of}
@@ -13,7 +13,7 @@ returns-in-Ok-Some-clause-steps c =
     let s = c.args.self.now in
     let now = input_over s.haystack.now s.start s.end s.anchored s.earliest in
     let goes = subst (λ (i : Input). GoesPast s.regex.now i s.last c.in-Ok-Some.found) c.input-input.ensures (some_of c.in-Ok-Some.field-0 c.in-Ok-Some.found (GoesPast s.regex.now c.input-input.result s.last) c.in-Ok-Some.ensures.goes_on c.in-Ok-Some.field-0-is) in (
-      gives_match s.regex.now c.next_match.new.cache now (from c.end-self.result now) s.last s.ended c.in-Ok-Some.found c.end-self.result c.end.result c.if-self.false
+      gives_match s.regex.now now (from c.end-self.result now) s.last s.ended c.in-Ok-Some.found c.end-self.result c.end.result c.if-self.false
           (subst (λ (i : Input). IsNextMatch s.regex.now i s.last (Some c.in-Ok-Some.found)) c.input-input.ensures
           (subst (IsNextMatch s.regex.now c.input-input.result s.last) c.in-Ok-Some.field-0-is c.in-Ok-Some.ensures.next))
           goes.0 refl c.end-self.ensures.end c.end.ensures.end,
@@ -41,8 +41,7 @@ pub returns-in-Err-clause-steps : goal.returns-in-Err-clause-steps
 returns-in-Err-clause-steps c =
     let s = c.args.self.now in
     let now = input_over s.haystack.now s.start s.end s.anchored s.earliest in (
-      gives_error s.regex.now c.next_match.new.cache now s.last s.ended c.in-Err.error c.if-self.false
-          (subst (λ (i : Input). IsNextRefusal s.regex.now c.next_match.new.cache i s.last c.in-Err.error) c.input-input.ensures c.in-Err.ensures.refusal),
+      gives_error s.regex.now now s.last s.ended c.in-Err.error c.if-self.false,
       refl,
       refl,
       item_run s.regex.now c.input-input.result now s.last s.ended s.cache.now c.next_match.new.cache (Some (Err c.in-Err.error)) c.if-self.false c.input-input.ensures
@@ -63,7 +62,7 @@ pub returns-in-Ok-None-clause-steps : goal.returns-in-Ok-None-clause-steps
 returns-in-Ok-None-clause-steps c =
     let s = c.args.self.now in
     let now = input_over s.haystack.now s.start s.end s.anchored s.earliest in (
-      gives_none s.regex.now c.next_match.new.cache now s.last s.ended c.if-self.false
+      gives_none s.regex.now now s.last s.ended c.if-self.false
           (subst (λ (i : Input). IsNextMatch s.regex.now i s.last None) c.input-input.ensures
           (subst (IsNextMatch s.regex.now c.input-input.result s.last) c.in-Ok-None.field-0-is c.in-Ok-None.ensures.next)),
       refl,
