@@ -1,9 +1,25 @@
--- The bytes that a key of the map holds, its own or shared.
-use Rattle.std.specs.Prelude.{ℕ, List}
+-- What a key of the map holds: bytes that are shared, or a state that was made, with a list of its NFA states.
+use Rattle.std.specs.Prelude.{ℕ, List, ◌≡◌}
+use Rattle.automata_base.specs.Powersets.Code.{decoded, IsCode}
 use Rattle.automata_base.specs.declared.util.determinize.key.Bytes.{Bytes}
 use Rattle.automata_base.specs.declared.util.determinize.key.Bytes.TheVariants.{Shared, Own}
+use Rattle.automata_base.specs.declared.util.determinize.made.MadeState.{MadeState}
 
 -- the bytes of a key
 abbrev pub bytes_of : Bytes → List ℕ
 bytes_of (Shared b) = b
-bytes_of (Own v) = v.items
+bytes_of (Own made) = made.value.bytes.items
+
+-- the list is that of the NFA states of the powerset state that the bytes stand for
+abbrev pub ListsItsStates : MadeState → Type 0
+ListsItsStates made = (decoded made.bytes.items).nfa ≡ made.nfa.items
+
+-- the list of a key, if it has one, is that
+abbrev pub IsListed : Bytes → Type 0
+IsListed (Shared b) = Unit {0}
+IsListed (Own made) = ListsItsStates made.value
+
+-- what holds for the bytes of every key
+pub record IsKey (b : Bytes) : Type 0 where
+  pub code : IsCode (bytes_of b)
+  pub listed : IsListed b

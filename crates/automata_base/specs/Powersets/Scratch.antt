@@ -1,7 +1,8 @@
 -- What contracts see of the room to determinize.
-use Rattle.std.specs.Prelude.{ℕ}
+use Rattle.std.specs.Prelude.{ℕ, IfSome}
 use Rattle.automata_base.specs.Nfas.Accepted.{IsChecked}
 use Rattle.automata_base.specs.Nfas.Nodes.{Automaton}
+use Rattle.automata_base.specs.Powersets.Key.{ListsItsStates}
 use Rattle.automata_base.specs.Powersets.Rooms.{IsStepRoom}
 use Rattle.automata_base.specs.declared.util.determinize.scratch.Scratch.TheInside.{Inside}
 
@@ -18,3 +19,5 @@ pub record IsScratch (s : Inside) : Type 0 where
   pub checked : IsChecked s.of.value
   -- it is room for the steps of that NFA
   pub room : IsStepRoom s.of.value s.stack s.one s.two s.parts
+  -- the state that was made last, if it is there, has the list of its NFA states
+  pub made : IfSome s.made (λ made. ListsItsStates made.value)

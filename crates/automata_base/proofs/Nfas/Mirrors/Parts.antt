@@ -1,7 +1,7 @@
 -- What is made of an NFA is the reversed NFA.
 use Rattle.std.proofs.Common.{ℕ, ◌≡◌, ◌<◌, ◌≤◌, ◌+◌, ◌-◌, ◌↔◌, ◌⊎◌, Bool, true, false, not, ltb, List, [], ◌∷◌, ◌++◌}
-use Rattle.std.proofs.Common.{zero, suc, length, length-append, get_or, map, Vec, Option, Some, None, inl, inr, refl, sym}
-use Rattle.std.proofs.Common.{ap, ap₂, ◌∙◌, subst, arith}
+use Rattle.std.proofs.Common.{zero, suc, length, length-append, get_or, map, Vec, Some, inl, inr, refl, sym}
+use Rattle.std.proofs.Common.{ap, ◌∙◌, subst, arith}
 use Rattle.std.proofs.lemmas.Bool.{and_parts, ltb-true, ltb-false}
 use Rattle.std.specs.declared.alloc.Global.{Global}
 use Rattle.automata_base.specs.declared.nfa.thompson.State.{State}
@@ -19,7 +19,7 @@ use Rattle.automata_base.specs.Retraced.Reach.{IsReached, Route, targets_at, tar
 use Rattle.automata_base.specs.Nfas.Errors.{state_below, states_below}
 use Rattle.automata_base.specs.Retraced.DenseRuns.{ranged, ranged_nodes, ranged_nfa}
 use Rattle.automata_base.specs.Retraced.ReversedEdges.{Turns, no_lists, place_in, copied, copy_of, list_at, matches_in}
-use Rattle.automata_base.specs.Retraced.ReversedEdges.{turn_by, turn_states, IsHead, AreHeads, AreTurned, IsCopied}
+use Rattle.automata_base.specs.Retraced.ReversedEdges.{turn_by, turn_states, IsHead, AreHeads, IsCopied}
 use Rattle.automata_base.specs.Retraced.ReversedEdges.{HaveCopies, part_at, AreReversed}
 use Rattle.automata_base.proofs.Answers.Loops.{nth_some}
 use Rattle.automata_base.proofs.Nfas.Reach.InRange.{node_is}

@@ -13,7 +13,7 @@ use Rattle.automata_base.specs.Retraced.DenseRuns.{runs_from}
 use Rattle.automata_base.specs.Retraced.ReversedEdges.{Turns, no_lists, list_at, ends_in, push_at, put_at, turn_free, turn_by}
 use Rattle.automata_base.specs.Retraced.ReversedEdges.{turn_all, turn_ranges, turn_state, turn_states}
 use Rattle.automata_base.proofs.Nfas.Mirrors.Copies.{distinct_last}
-use Rattle.automata_base.proofs.Nfas.Mirrors.Graphs.{InAt, in_push, in_put, list_in}
+use Rattle.automata_base.proofs.Nfas.Mirrors.Graphs.{InAt, in_push, in_put}
 use Rattle.automata_base.proofs.Nfas.Mirrors.Lists.{push_length, put_length, ends_last}
 use Rattle.automata_base.proofs.Nfas.Mirrors.Runs.{runs_ordered}
 use Rattle.automata_base.proofs.Paths.Orders.{some_inj, none_some}

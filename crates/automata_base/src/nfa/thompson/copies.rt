@@ -13,7 +13,7 @@ use crate::nfa::thompson::State;
 use crate::nfa::thompson::checks::MAX_STATES;
 use crate::nfa::thompson::reach::{Edges, walk};
 use crate::nfa::thompson::reading::pattern_of;
-use crate::nfa::thompson::turn::{MakeError, no_lists, push_at};
+use crate::nfa::thompson::turn::{MakeError, no_lists, push_at, push_state};
 use crate::util::determinize::sparse_set::SparseSet;
 use crate::util::primitives::{PatternID, StateID};
 use std::alloc::{AllocError, Global};
@@ -86,15 +86,6 @@ fn copy_state(
         State::Match { .. } => Ok(State::Match { pattern }),
         _ => Ok(State::Fail),
     }
-}
-
-/// Adds a state after the others of a list.
-pub fn push_state(states: &mut Vec<State>, state: State) -> Result<(), AllocError>
-    ensures nodes { OnOk result (nodes_of states.new.items ≡ nodes_of states.old.items ++ node_of state ∷ []) }
-    ensures more { OnOk result (length states.new.items ≡ length states.old.items + 1) }
-{
-    states.push(state)?;
-    Ok(())
 }
 
 /// Appends the copies of a set's members for a pattern, in their order. The first copy has the ID `base`.

@@ -471,9 +471,9 @@ impl NFA {
         self.data.start_pattern.as_slice()
     }
 
-    /// The same NFA, which keeps unions in the states of its lazy DFAs if a cycle of epsilon transitions passes a look.
-    /// Searches are proved to answer by the ordered paths of every NFA that this returns. It changes nothing if there
-    /// is no such cycle, and allocates nothing.
+    /// This NFA, which from then on keeps unions in the states of its lazy DFAs if a cycle of epsilon transitions passes
+    /// a look. Searches are proved to answer by the ordered paths of every NFA that this returns. It changes nothing if
+    /// there is no such cycle, and allocates nothing.
     pub fn keeping_unions(self) -> NFA
         ensures same { IsKeepingUnions self result }
         ensures keeps { KeepsCycles (nfa_of result) }

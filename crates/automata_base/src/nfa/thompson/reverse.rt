@@ -9,9 +9,9 @@ ghost use Rattle.automata_base.specs.Nfas.ReversedSizes.{asking_edges};
 ghost use Rattle.automata_base.specs.Retraced.ReversedEdges.{AreTurned, AreReversed};
 
 use crate::nfa::thompson::checks::MAX_STATES;
-use crate::nfa::thompson::copies::{Parts, parts_of, push_state};
+use crate::nfa::thompson::copies::{Parts, parts_of};
 use crate::nfa::thompson::reach::{Edges, reach};
-use crate::nfa::thompson::turn::{EdgesByTarget, MakeError};
+use crate::nfa::thompson::turn::{EdgesByTarget, MakeError, push_state};
 use crate::nfa::thompson::{ReverseError, State};
 use crate::util::primitives::StateID;
 use std::alloc::Global;

@@ -3,6 +3,7 @@ ghost use Rattle.std.specs.Prelude.{ℕ, Some, ◌≡◌, ◌<◌, ◌≤◌, �
 ghost use Rattle.std.specs.Prelude.{drop, None, slice_index_or, slice_get};
 ghost use Rattle.automata_base.specs.Lists.{all_below};
 ghost use Rattle.automata_base.specs.Nfas.Mirrors.{flip};
+ghost use Rattle.automata_base.specs.Nfas.Nodes.{node_of, nodes_of};
 ghost use Rattle.automata_base.specs.Nfas.Errors.{transitions_below, state_below, states_below};
 ghost use Rattle.automata_base.specs.Retraced.DenseRuns.{starts_with, run_of, runs_from};
 ghost use Rattle.automata_base.specs.Retraced.ReversedEdges.{lists_of, turns_of, push_at, no_lists, turn_free, turn_by};
@@ -42,8 +43,10 @@ fn flip(look: Look) -> Look
 }
 
 /// Adds a state after the others of a list.
-fn push_state(states: &mut Vec<State>, state: State) -> Result<(), AllocError>
-    ensures { OnOk result (states.new.items ≡ states.old.items ++ state ∷ []) }
+pub fn push_state(states: &mut Vec<State>, state: State) -> Result<(), AllocError>
+    ensures items { OnOk result (states.new.items ≡ states.old.items ++ state ∷ []) }
+    ensures nodes { OnOk result (nodes_of states.new.items ≡ nodes_of states.old.items ++ node_of state ∷ []) }
+    ensures more { OnOk result (length states.new.items ≡ length states.old.items + 1) }
 {
     states.push(state)?;
     Ok(())

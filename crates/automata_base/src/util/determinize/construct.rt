@@ -167,23 +167,6 @@ fn close_maybe(
     }
 }
 
-/// Makes the set what epsilon edges reach from `start`.
-fn close_start(
-    nfa: &NFA,
-    start: StateID,
-    known: LookSet,
-    stack: &mut Vec<StateID>,
-    set: &mut SparseSet,
-)
-    requires start { start < length nfa.now.states }
-    requires room { IsClosureRoom nfa.now stack.old set.old }
-    ensures closure { IsClosure (nfa_of nfa.now) (truth_of known) (start ∷ []) set.new.items }
-    ensures room { IsClosureRoom nfa.now stack.new set.new }
-{
-    set.clear();
-    close_one(nfa, start, known, stack, set);
-}
-
 /// Makes the start state of a search that starts at this NFA state, after this look-behind byte or after none.
 fn start_at(
     nfa: &NFA,
@@ -201,7 +184,7 @@ fn start_at(
     ensures parts { IsPartsRoom nfa.now parts.new }
 {
     let known = known_behind(nfa, prev);
-    close_start(nfa, start, known, stack, set);
+    close(nfa, &[start], known, stack, set);
     parts.patterns.clear();
     fill(nfa, set, known, prev, parts);
 }

@@ -1,7 +1,9 @@
 //! Keys of a map from powerset states: a state is looked up by its bytes before it is shared.
-ghost use Rattle.std.specs.Prelude.{◌≡◌, ◌⊎◌, [], IfOk};
-ghost use Rattle.automata_base.specs.Powersets.Code.{code, decoded, IsCode};
+ghost use Rattle.std.specs.Prelude.{◌≡◌, IfOk, IfSome};
+ghost use Rattle.automata_base.specs.Powersets.Code.{decoded, IsCode};
+ghost use Rattle.automata_base.specs.Powersets.Key.{ListsItsStates};
 
+use crate::util::determinize::made::MadeState;
 use crate::util::determinize::shared::SharedBytes;
 use crate::util::determinize::state::State;
 use std::alloc::{AllocError, Global};
@@ -12,7 +14,7 @@ use std::marker::Model;
 #[derive(Drop)]
 enum Bytes {
     Shared(SharedBytes),
-    Own(Vec<u8>),
+    Own(Box<MadeState>),
 }
 
 impl Bytes {
@@ -24,46 +26,49 @@ impl Bytes {
     {
         match self {
             Bytes::Shared(bytes) => bytes.as_slice(),
-            Bytes::Own(bytes) => bytes.as_slice(),
+            Bytes::Own(made) => made.bytes.as_slice(),
         }
     }
 }
 
 impl Clone for Bytes {
     ghost use Rattle.automata_base.specs.Powersets.Key.{bytes_of};
+    ghost use Rattle.automata_base.specs.declared.util.determinize.key.Bytes.TheVariants.{Shared};
 
-    ghost is_clone = { λ a b. bytes_of b ≡ bytes_of a };
+    ghost is_clone = { λ a b. b ≡ Shared (bytes_of a) };
 
+    /// The copy shares its bytes. Bytes that are not shared are copied first.
     fn clone(&self) -> Result<Bytes, AllocError> {
         match self {
             Bytes::Shared(bytes) => {
                 let bytes = bytes.clone()?;
                 Ok(Bytes::Shared(bytes))
             }
-            Bytes::Own(bytes) => {
-                let bytes = bytes.clone()?;
-                Ok(Bytes::Own(bytes))
+            Bytes::Own(made) => {
+                let alloc = *made.bytes.allocator();
+                let bytes = SharedBytes::from_slice(alloc, made.bytes.as_slice())?;
+                Ok(Bytes::Shared(bytes))
             }
         }
     }
 }
 
-/// A key. In the map it shares the bytes of a state; to look a state up, it holds a vector.
+/// A key. In the map it shares the bytes of a state; to look a state up that was made, it holds that state.
 #[derive(Drop)]
 pub struct Key {
     bytes: Bytes,
 }
 
 impl Model for Key {
-    ghost use Rattle.automata_base.specs.Powersets.Code.{decoded, IsCode};
+    ghost use Rattle.automata_base.specs.Powersets.Code.{decoded};
     ghost use Rattle.automata_base.specs.Powersets.Powerset.{Powerset};
-    ghost use Rattle.automata_base.specs.Powersets.Key.{bytes_of};
+    ghost use Rattle.automata_base.specs.Powersets.Key.{bytes_of, IsKey};
 
     ghost Value = { Powerset };
 
     ghost view = { λ k. decoded (bytes_of k.bytes) };
 
-    ghost invariant = { λ k. IsCode (bytes_of k.bytes) };
+    ghost invariant = { λ k. IsKey k.bytes };
 }
 
 impl PartialEq for Key {
@@ -119,13 +124,14 @@ impl Key {
         }
     }
 
-    /// A key that holds these bytes, as `Parts::write` makes them. It allocates nothing.
-    pub fn own(bytes: Vec<u8>) -> Key
-        requires { IsCode bytes.items }
-        ensures { result ≡ decoded bytes.items }
+    /// A key that holds a state which was made. It allocates nothing.
+    pub(crate) fn own(made: Box<MadeState>) -> Key
+        requires code { IsCode made.value.bytes.items }
+        requires list { ListsItsStates made.value }
+        ensures { result ≡ decoded made.value.bytes.items }
     {
         Key {
-            bytes: Bytes::Own(bytes),
+            bytes: Bytes::Own(made),
         }
     }
 
@@ -136,13 +142,14 @@ impl Key {
         State::from_bytes(alloc, self.bytes.as_slice())
     }
 
-    /// The vector of a key, to be used again, or an empty one if the key shares its bytes.
-    pub fn into_vec(self, alloc: Global) -> Vec<u8>
-        ensures { (result.items ≡ code self) ⊎ (result.items ≡ []) }
+    /// The state that the key holds, or none if it shares its bytes.
+    pub(crate) fn into_made(self) -> Option<Box<MadeState>>
+        ensures state { IfSome result (λ made. decoded made.value.bytes.items ≡ self) }
+        ensures list { IfSome result (λ made. ListsItsStates made.value) }
     {
         match self.bytes {
-            Bytes::Shared(_) => Vec::new(alloc),
-            Bytes::Own(bytes) => bytes,
+            Bytes::Shared(_) => None,
+            Bytes::Own(made) => Some(made),
         }
     }
 }

@@ -11,6 +11,7 @@ mod ids;
 mod key;
 pub mod laws;
 pub(crate) mod lists;
+mod made;
 mod read;
 mod scratch;
 mod shared;

@@ -1,15 +1,16 @@
 //! The buffers that determinization works in, allocated once for an NFA.
-ghost use Rattle.std.specs.Prelude.{◌≡◌, ◌+◌, IfOk};
+ghost use Rattle.std.specs.Prelude.{◌≡◌, ◌+◌, ◌≤◌, IfOk, IfSome, None, vec_capacity};
 ghost use Rattle.automata_base.specs.Powersets.Results.{IsStartMade, IsStepMade};
 ghost use Rattle.automata_base.specs.Lists.{Distinct};
+ghost use Rattle.automata_base.specs.Powersets.Key.{ListsItsStates};
 ghost use Rattle.automata_base.specs.Powersets.Parts.{powerset_of};
 ghost use Rattle.automata_base.specs.Paths.Starts.{IsOf};
 
 use crate::nfa::thompson::NFA;
 use crate::util::determinize::construct::{next_into, start_into};
 use crate::util::determinize::count::Count;
-use crate::util::determinize::ids::list_ids;
 use crate::util::determinize::key::Key;
+use crate::util::determinize::made::MadeState;
 use crate::util::determinize::sparse_set::SparseSet;
 use crate::util::determinize::state::{Parts, State};
 use crate::util::primitives::StateID;
@@ -19,17 +20,17 @@ use std::alloc::{AllocError, Global};
 use std::marker::Model;
 use std::mem;
 
-/// The buffers of determinization, allocated once for an NFA. It also has a count that only contracts see: how often it
-/// was used.
+/// The buffers of determinization, for an NFA: two sets of its states, the stack of a closure, the parts of a powerset
+/// state, and the state that was made last. A cache accounts for all but the last, which takes its bytes and four bytes
+/// for each NFA state that its list has room for. Clauses also see a count: how often the buffers were used.
 pub struct Scratch {
     of: Subject<NFA>,
     alloc: Global,
     one: SparseSet,
     two: SparseSet,
     stack: Vec<StateID>,
-    list: Vec<StateID>,
     parts: Parts,
-    bytes: Vec<u8>,
+    made: Option<Box<MadeState>>,
     count: Count,
 }
 
@@ -42,9 +43,8 @@ impl Drop for Scratch {
             one: _one,
             two: _two,
             stack: _stack,
-            list: _list,
             parts: _parts,
-            bytes: _bytes,
+            made: _made,
             count: _count,
         } = self;
     }
@@ -60,13 +60,10 @@ impl Model for Scratch {
     ghost invariant = { IsScratch };
 }
 
-/// How many bytes of a key there is room for from the start.
-const KEY_ROOM: usize = 64;
-
 impl Clone for Scratch {
     ghost is_clone = { λ a b. b ≡ a };
 
-    /// The copy has buffers of its own, with the same room.
+    /// The copy has buffers of its own, with the same room. The state that was made last stays here.
     fn clone(&self) -> Result<Scratch, AllocError> {
         let alloc = self.alloc;
         Ok(Scratch {
@@ -75,16 +72,16 @@ impl Clone for Scratch {
             one: self.one.emptied(alloc)?,
             two: self.two.emptied(alloc)?,
             stack: Vec::with_capacity(alloc, self.stack.capacity())?,
-            list: Vec::with_capacity(alloc, self.list.capacity())?,
             parts: self.parts.emptied(alloc)?,
-            bytes: Vec::with_capacity(alloc, KEY_ROOM)?,
+            made: None,
             count: self.count.again(),
         })
     }
 }
 
 impl Scratch {
-    /// Buffers for an NFA. The only error is out of memory.
+    /// Buffers for an NFA. Those of the state that is made last come with the first key. The only error is out of
+    /// memory.
     pub fn new(nfa: &NFA) -> Result<Scratch, AllocError>
         ensures of { IfOk result (λ s. s.of ≡ nfa.now) }
         ensures count { IfOk result (λ s. s.count ≡ 0) }
@@ -94,7 +91,6 @@ impl Scratch {
         let one = SparseSet::new(alloc, n as u32)?;
         let two = SparseSet::new(alloc, n as u32)?;
         let stack = Vec::with_capacity(alloc, nfa.room())?;
-        let list = Vec::with_capacity(alloc, n)?;
         let parts = Parts {
             nfa: Vec::with_capacity(alloc, n)?,
             patterns: Vec::with_capacity(alloc, nfa.pattern_starts().len())?,
@@ -109,30 +105,49 @@ impl Scratch {
             one,
             two,
             stack,
-            list,
             parts,
-            bytes: Vec::with_capacity(alloc, KEY_ROOM)?,
+            made: None,
             count: Count::zero(),
         })
     }
 
-    /// Takes the room of a key back, so that the next key allocates nothing.
+    /// Takes back what a key holds. The next key is made in its room, and a step from its state reads no bytes of it.
     pub fn recycle(&mut self, key: Key)
         ensures { self.new ≡ self.old }
     {
-        self.bytes = key.into_vec(self.alloc);
+        self.made = key.into_made();
     }
 }
 
-/// The key of the powerset state of these parts. It takes the vector of bytes and leaves an empty one.
+/// The state that was made last, or room for one of an NFA with so many states if its key did not come back.
 #[inline(always)]
-fn key_of(alloc: Global, parts: &Parts, bytes: &mut Vec<u8>) -> Result<Key, AllocError>
-    requires { Distinct parts.now.patterns.items }
-    ensures { IfOk result (λ key. key ≡ powerset_of parts.now) }
+fn take_made(
+    alloc: Global,
+    len: usize,
+    made: &mut Option<Box<MadeState>>,
+) -> Result<Box<MadeState>, AllocError>
+    requires { IfSome made.old (λ m. ListsItsStates m.value) }
+    ensures made { IfOk result (λ m. ListsItsStates m.value) }
+    ensures none { made.new ≡ None }
 {
-    let mut room = mem::replace(bytes, Vec::new(alloc));
-    parts.write(&mut room)?;
-    Ok(Key::own(room))
+    match mem::replace(made, None) {
+        Some(made) => Ok(made),
+        None => MadeState::room(alloc, len),
+    }
+}
+
+/// The key of the powerset state of these parts, of an NFA with so many states.
+#[inline(always)]
+fn key_of(made: Box<MadeState>, parts: &mut Parts, len: usize) -> Result<Key, AllocError>
+    requires distinct { Distinct parts.old.patterns.items }
+    requires room { len ≤ vec_capacity parts.old.nfa }
+    ensures key { IfOk result (λ key. key ≡ powerset_of parts.old) }
+    ensures room { len ≤ vec_capacity parts.new.nfa }
+    ensures patterns { parts.new.patterns ≡ parts.old.patterns }
+{
+    let mut made = made;
+    made.set(parts, len)?;
+    Ok(Key::own(made))
 }
 
 /// The start state of an anchored mode after a byte, as a key to look it up by.
@@ -148,6 +163,8 @@ pub fn start_key(
     ensures count { scratch.new.count ≡ scratch.old.count + 1 }
 {
     scratch.count.tick();
+    let len = nfa.states().len();
+    let made = take_made(scratch.alloc, len, &mut scratch.made)?;
     start_into(
         nfa,
         mode,
@@ -156,7 +173,7 @@ pub fn start_key(
         &mut scratch.one,
         &mut scratch.parts,
     );
-    let key = key_of(scratch.alloc, &scratch.parts, &mut scratch.bytes)?;
+    let key = key_of(made, &mut scratch.parts, len)?;
     Ok(key)
 }
 
@@ -175,18 +192,20 @@ pub fn next_key(
     ensures count { scratch.new.count ≡ scratch.old.count + 1 }
 {
     scratch.count.tick();
-    list_ids(from.nfa(), &mut scratch.list)?;
+    let len = nfa.states().len();
+    let mut made = take_made(scratch.alloc, len, &mut scratch.made)?;
+    made.list_states(from)?;
     next_into(
         nfa,
         kind,
         from,
-        scratch.list.as_slice(),
+        made.nfa.as_slice(),
         unit,
         &mut scratch.stack,
         &mut scratch.one,
         &mut scratch.two,
         &mut scratch.parts,
     );
-    let key = key_of(scratch.alloc, &scratch.parts, &mut scratch.bytes)?;
+    let key = key_of(made, &mut scratch.parts, len)?;
     Ok(key)
 }

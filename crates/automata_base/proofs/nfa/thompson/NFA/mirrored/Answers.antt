@@ -1,4 +1,4 @@
-use Rattle.std.proofs.Common.{List, ◌≡◌, ◌≤◌, ◌^◌, true, false, length, refl, subst, arith}
+use Rattle.std.proofs.Common.{List, ◌≡◌, ◌≤◌, ◌^◌, true, false, length, subst, arith}
 use Rattle.automata_base.specs.declared.nfa.thompson.State.{State}
 use Rattle.automata_base.specs.Nfas.Nodes.{Automaton}
 use Rattle.automata_base.specs.Nfas.Errors.{is_narrow}

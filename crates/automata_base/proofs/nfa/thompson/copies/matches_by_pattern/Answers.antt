@@ -1,4 +1,4 @@
-use Rattle.std.proofs.Common.{ℕ, ◌≡◌, ◌++◌, cond, [], ◌∷◌, length, sym, ap, ◌∙◌, subst, refl, arith}
+use Rattle.std.proofs.Common.{◌++◌, length, ap, ◌∙◌, arith}
 use Rattle.automata_base.specs.Retraced.ReversedEdges.{is_of, list_at, lists_of, matches_in}
 use Rattle.automata_base.proofs.Nfas.Mirrors.Copies.{matches_done, matches_next}
 use Rattle.automata_base.proofs.Nfas.Mirrors.Lists.{listed_at, lists_length, none_at}

@@ -4,4 +4,4 @@ use Rattle.automata_base.proofs.util.determinize.scratch.start_key.Goals as goal
 
 pub returns-clause-made : goal.returns-clause-made
 returns-clause-made c =
-    subst (IsStartMade c.args.nfa.now c.args.mode c.args.prev) (sym c.in_ok-key.ensures) c.start_into.ensures.made
+    subst (IsStartMade c.args.nfa.now c.args.mode c.args.prev) (sym c.in_ok-key.ensures.key) c.start_into.ensures.made

@@ -1,7 +1,7 @@
 use Rattle.std.proofs.Common.{[], ◌∷◌, length, length-append, ap, ◌∙◌}
 use Rattle.automata_base.specs.Nfas.Nodes.{nodes_of}
 use Rattle.automata_base.proofs.Nfas.Mirrors.Copies.{nodes_more}
-use Rattle.automata_base.proofs.nfa.thompson.copies.push_state.Goals as goal
+use Rattle.automata_base.proofs.nfa.thompson.turn.push_state.Goals as goal
 
 pub returns-clause-nodes : goal.returns-clause-nodes
 returns-clause-nodes c = ap nodes_of c.in_ok-push.ensures.items ∙ nodes_more c.args.states.now.items c.args.state
