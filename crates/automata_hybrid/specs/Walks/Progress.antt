@@ -134,7 +134,7 @@ LeavesSet m input set joined old new e =
     × IsOpenAfter m input set calls × IsJoinedAfter m input set joined calls × HasItsState mid.store.table walk.stage
     × LeavesCall Ids Forward m input walk mid new e
 
--- what the search for a set makes of its cache, by the error that it returns, if it fails
+-- what the search for a set makes of its cache, and of the set if it fails, by the error that it returns then
 pub record IsSetRun (m : Machine) (input : Input) (set joined : List Bool) (old new : CacheView)
     (error : Option SearchError) : Type 0 where
   -- it is one of the DFA before

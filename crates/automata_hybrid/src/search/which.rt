@@ -37,7 +37,7 @@ impl DFA {
         ensures which { IsWhich self.now input.now patset.old patset.new result }
         ensures found { OnOk result (JoinsReported self.now input.now patset.old patset.new) }
 
-        // What it does to the cache, and why it fails.
+        // What it does to the cache, why it fails, and what the set has then.
         ensures effect { IsSetRun self.now input.now patset.old patset.new cache.old cache.new (result_err result) }
     {
         self.collect(cache, input, patset)

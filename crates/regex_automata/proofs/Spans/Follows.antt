@@ -1,10 +1,10 @@
 -- What follows of the runs of searches over two lazy DFAs.
-use Rattle.std.proofs.Common.{suc, ◌≡◌, ◌∙◌, ◌+◌, ◌≤◌, ◌<◌, ◌⊎◌, inl, inr, Option, Some, None, refl, sym, ap, subst, arith}
+use Rattle.std.proofs.Common.{suc, ◌≡◌, ◌∙◌, ◌+◌, ◌≤◌, ◌<◌, ◌⊎◌, inl, inr, Option, Some, None, refl, sym, ap, subst, arith, ⊎_elim}
 use Rattle.std.specs.Prelude.{IfSome}
 use Rattle.automata_base.specs.Answers.Answers.{Half}
 use Rattle.automata_base.specs.Haystacks.Input.{Input}
 use Rattle.automata_base.specs.Answers.OfPasses.{ReportedEndsAreRight, ReportedIsRight}
-use Rattle.automata_base.specs.Answers.Spans.{back, from}
+use Rattle.automata_base.specs.Answers.Spans.{IsShort, back, from}
 use Rattle.automata_base.specs.Laws.StartIsRight.{BackMeetsNone, StartsAreRight}
 use Rattle.automata_base.specs.declared.util.search.Direction.TheVariants.{Backward, Forward}
 use Rattle.automata_base.proofs.Answers.Starts.{yes_no}
@@ -15,13 +15,14 @@ use Rattle.automata_hybrid.specs.Cache.Growth.{ClearedNothing, IsGrown, IsStill}
 use Rattle.automata_hybrid.specs.Machines.Machine.{Machine}
 use Rattle.automata_hybrid.specs.Searches.Agreement.{AnswersAgree}
 use Rattle.automata_hybrid.specs.Searches.Cached.{IsOfInput, KnownStays}
-use Rattle.automata_hybrid.specs.Searches.Follows.{SearchFollows}
+use Rattle.automata_hybrid.specs.Searches.Follows.{IsCostOfPass, SearchFollows}
 use Rattle.automata_hybrid.specs.Searches.Passes.{IsFound}
 use Rattle.automata_hybrid.proofs.Cache.Growth.{grown_same}
 use Rattle.automata_hybrid.proofs.Searches.Follows.{search_refused, searches_follow}
 use Rattle.regex_automata.specs.Regexes.Caches.{AreCachesOf, AreGrown, KnowsBack}
+use Rattle.regex_automata.specs.Regexes.SoundPairs.{forward_engine}
 use Rattle.regex_automata.specs.Spans.Errors.{HasReason, IsBackRefused, IsOfGiven}
-use Rattle.regex_automata.specs.Spans.Follows.{IsBackCost, NextFollows, NextsFollow, RefusalsFollow, SpanFollows, SpansFollow}
+use Rattle.regex_automata.specs.Spans.Follows.{NextFollows, NextsFollow, RefusalsFollow, SpanFollows, SpansFollow}
 use Rattle.regex_automata.specs.Spans.Outcomes.{IsStartFound}
 use Rattle.regex_automata.specs.Spans.Runs.{IsBackRun, IsBothRun, IsErrorOfBoth, IsFrontRun, IsSpanRun}
 use Rattle.regex_automata.specs.Spans.Iteration.{FindsEmptyAt}
@@ -41,7 +42,7 @@ weaker (Some e) f h = f e h
 -- what follows of the search back from a forward answer
 record BackFollows (p : Regex) (input : Input) (half : Half) (old new : CacheView) (error : Option SearchError) : Type 0 where
   -- it is one pass from the answer's end to its base
-  pub cost : IsBackCost p input half old new
+  pub cost : (new ≡ old) ⊎ ((IsShort (forward_engine p) input half → ⊥) × IsCostOfPass Backward p.reverse (back input half) old new)
   pub grown : IsGrown old new
   pub learned : ClearedNothing old.store new.store → error ≡ None → KnowsBack p new.store input half
   pub known : KnowsBack p old.store input half → IsStill old new × IfSome error IsOfInput
@@ -51,7 +52,7 @@ back_follows :
     (p : Regex) (input : Input) (half : Half) (old new : CacheView) (error : Option SearchError)
     → IsBackRun p input half old new error → BackFollows p input half old new error
 back_follows p input half old new error (inl (short, same, none)) = record {
-  cost = inl (short, same);
+  cost = inl same;
   grown = grown_same old new same;
   learned = λ nothing ok long. absurd (long short);
   known = λ knows. (
@@ -118,7 +119,7 @@ span_follows agree p input old new error (inl (run, same, none)) = record {
   f : SearchFollows Forward p.forward input old.forward new.forward error
   f = searches_follow Forward p.forward input old.forward new.forward error run
 span_follows agree p input old new error (inr (run, (half, found, (failed, back, ends)))) = record {
-  cost = (f.cost, inr (half, found, b.cost));
+  cost = (f.cost, ⊎_elim (λ same. inl same) (λ back. inr (half, found, back.0, back.1)) b.cost);
   grown = (f.grown, b.grown);
   learned = λ nothing ok. knows_both agree p input new half (f.learned nothing.0 refl) found (b.learned nothing.1 (ends_both p input half failed error ends ok));
   known = λ knows. (

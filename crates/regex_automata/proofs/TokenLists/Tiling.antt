@@ -1,18 +1,15 @@
 -- What the tokens of a span are, by the answers of its searches, and how they tile it.
 use Rattle.std.proofs.Common.{ℕ, ◌≡◌, ◌∙◌, ◌<◌, ◌≤◌, ◌+◌, ◌-◌, ◌⊎◌, inl, inr, Bool, true, false, List, [], ◌∷◌, ◌++◌}
 use Rattle.std.proofs.Common.{length, take, drop, append_assoc, Option, Some, None, refl, sym, ap, subst, arith}
-use Rattle.std.specs.Prelude.{Result, Ok, Err, IfErr, IfSome, nat_lt, if◌then◌else◌, slice_range}
+use Rattle.std.specs.Prelude.{Result, Ok, Err, IfSome, nat_lt, if◌then◌else◌, slice_range}
 use Rattle.std.proofs.Math.Seq.{take-add}
 use Rattle.std.proofs.lemmas.Bool.{ltb-true, ltb-false}
 use Rattle.std.proofs.lemmas.List.{drop-drop}
 use Rattle.automata_base.specs.Haystacks.Input.{Input}
 use Rattle.automata_base.specs.Haystacks.Matches.{HalfMatch, Match}
-use Rattle.automata_base.specs.declared.util.search.Direction.TheVariants.{Forward}
 use Rattle.automata_config.specs.declared.error.SearchError.{SearchError}
 use Rattle.automata_hybrid.specs.Machines.Machine.{Machine}
 use Rattle.automata_hybrid.specs.Searches.Contracts.{IsUnhindered}
-use Rattle.automata_hybrid.specs.Searches.Passes.{IsRefused}
-use Rattle.automata_hybrid.specs.Cache.Stores.{Stored}
 use Rattle.automata_hybrid.specs.Searches.Bounds.{LiesIn}
 use Rattle.regex_automata.specs.Tokens.{AreFoundBy, AreGiven, IsBeginningOf, IsGivenAt, IsItemAt, IsNoTokenOrMemory}
 use Rattle.regex_automata.specs.Tokens.{IsTokenAt, SearchReturns, asked, match_bytes, item_of, joined, match_of}
@@ -20,7 +17,7 @@ use Rattle.regex_automata.specs.declared.tokens.error.TokenError.{TokenError}
 use Rattle.regex_automata.specs.declared.tokens.error.TokenError.TheVariants.{NoToken, Search}
 use Rattle.regex_automata.specs.declared.tokens.token.Token.{Token}
 use Rattle.regex_automata.proofs.Results.{err_ok, ok_err, same_err, same_ok}
-use Rattle.regex_automata.proofs.TokenLists.Refusals.{answer_is_no_refusal, no_search, same_search}
+use Rattle.regex_automata.proofs.TokenLists.Refusals.{no_search, same_search}
 
 same_place : (a b : ℕ) → NoToken a ≡ NoToken b → a ≡ b
 same_place a b h = cc

@@ -6,7 +6,6 @@ use Rattle.automata_base.specs.Haystacks.Input.{Input}
 use Rattle.automata_base.specs.Haystacks.Matches.{Match}
 use Rattle.automata_base.specs.Answers.Spans.{IsEmptyAt, IsShort, back, from}
 use Rattle.automata_base.specs.declared.util.search.Direction.TheVariants.{Backward, Forward}
-use Rattle.automata_hybrid.specs.Cache.Caches.{CacheView}
 use Rattle.automata_hybrid.specs.Searches.Follows.{IsCostOfPass, IsCostOfSearch}
 use Rattle.automata_hybrid.specs.Searches.Passes.{IsFound}
 use Rattle.regex_automata.specs.Regexes.SoundPairs.{forward_engine}
@@ -19,20 +18,14 @@ use Rattle.regex_automata.specs.Regexes.Caches.{AreCachesOf, AreGrown, AreStill,
 use Rattle.regex_automata.specs.Spans.Errors.{HasReason, IsNextRefusal, IsOfGiven, IsRegexRefusal}
 use Rattle.regex_automata.specs.Spans.Runs.{IsNextRun, IsSpanRun}
 
--- what that search costs: one pass from the answer's end to its base, if it is made, and otherwise nothing
-abbrev pub IsBackCost : Regex → Input → Half → (old new : CacheView) → Type 0
-IsBackCost p input half old new =
-    (IsShort (forward_engine p) input half × (new ≡ old))
-    ⊎ ((IsShort (forward_engine p) input half → ⊥)
-    × IsCostOfPass Backward p.reverse (back input half) old new)
-
--- what a search costs the two caches of a regex: the forward one its passes, and the reverse one the search back, if
--- there is a forward answer
+-- what a search costs the two caches of a regex: the forward one its passes, and the reverse one, if a search back from
+-- a forward answer is made, one pass from the answer's end to its base
 abbrev pub AreCostsOf : Regex → Input → Cache → Cache → Type 0
 AreCostsOf p input old new =
     IsCostOfSearch Forward p.forward input old.forward new.forward
     × ((new.reverse ≡ old.reverse)
-    ⊎ ((half : Half) × IsFound Forward p.forward input (Some half) × IsBackCost p input half old.reverse new.reverse))
+    ⊎ ((half : Half) × IsFound Forward p.forward input (Some half) × (IsShort (forward_engine p) input half → ⊥)
+    × IsCostOfPass Backward p.reverse (back input half) old.reverse new.reverse))
 
 -- the cost of one search; or, if it finds an empty match at the last end, of that and the search from one offset later
 abbrev pub AreCostsTwice : Regex → Input → Option ℕ → Cache → Cache → Type 0

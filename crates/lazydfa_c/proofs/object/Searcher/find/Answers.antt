@@ -1,4 +1,4 @@
-use Rattle.std.proofs.Common.{rules, true, false, Option, Some, None, subst}
+use Rattle.std.proofs.Common.{rules, Some, None, subst}
 use Rattle.std.specs.Prelude.{Ok, Err}
 use Rattle.regex_automata.specs.Spans.Runs.{IsSpanRun}
 use Rattle.regex_automata.specs.declared.hybrid.regex.Regex.{Regex}

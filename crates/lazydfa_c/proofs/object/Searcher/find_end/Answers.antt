@@ -1,4 +1,4 @@
-use Rattle.std.proofs.Common.{rules, true, false, Option, Some, None, subst}
+use Rattle.std.proofs.Common.{rules, Some, None, subst}
 use Rattle.std.specs.Prelude.{Ok, Err}
 use Rattle.automata_base.specs.declared.util.search.Direction.TheVariants.{Forward}
 use Rattle.automata_hybrid.specs.Cache.Caches.{CacheView}

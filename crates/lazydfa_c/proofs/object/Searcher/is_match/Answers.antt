@@ -1,4 +1,4 @@
-use Rattle.std.proofs.Common.{rules, true, false, Option, Some, None, subst}
+use Rattle.std.proofs.Common.{rules, true, false, Some, None, subst}
 use Rattle.std.specs.Prelude.{Ok, Err}
 use Rattle.regex_automata.specs.Spans.Runs.{IsTruthRun}
 use Rattle.regex_automata.specs.declared.hybrid.regex.Regex.{Regex}

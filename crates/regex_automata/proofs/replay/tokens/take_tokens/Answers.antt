@@ -1,11 +1,10 @@
-use Rattle.std.proofs.Common.{ℕ, ◌≡◌, ◌∙◌, [], ◌∷◌, ◌++◌, None, Some, Err, Ok, ap, inl, inr, refl, rules, sym, subst}
+use Rattle.std.proofs.Common.{◌≡◌, ◌∙◌, [], ◌∷◌, ◌++◌, None, Some, Err, Ok, ap, inl, inr, refl, rules, sym, subst}
 use Rattle.std.proofs.Common.{List}
 use Rattle.automata_base.specs.Haystacks.Matches.{Match}
 use Rattle.automata_config.specs.declared.error.SearchError.TheVariants as search
 use Rattle.regex_automata.specs.Tokens.{AreGiven, match_of}
 use Rattle.regex_automata.specs.declared.tokens.error.TokenError.TheVariants.{Search}
 use Rattle.regex_automata.proofs.TokenLists.Lists.{at_end, completes_end, completes_on, item_turn, match_is}
-use Rattle.regex_automata.specs.declared.hybrid.regex.Regex.{Regex}
 use Rattle.regex_automata.proofs.Spans.Effects.{token_made_turn, tokens_end, tokens_left, tokens_turn}
 use Rattle.regex_automata.proofs.replay.tokens.take_tokens.Goals as goal
 
