@@ -1,5 +1,5 @@
 -- What a set of patterns took to be found is cached.
-use Rattle.std.proofs.Common.{ℕ, zero, suc, ◌≡◌, ◌<◌, ◌≤◌, ◌+◌, ◌⊎◌, inl, inr, Bool, List, [], ◌∷◌, ◌++◌, length}
+use Rattle.std.proofs.Common.{ℕ, zero, suc, ◌≡◌, ◌<◌, ◌≤◌, ◌⊎◌, inl, inr, Bool, List, [], ◌∷◌, ◌++◌, length}
 use Rattle.std.proofs.Common.{take, None, refl, ap, subst, arith}
 use Rattle.automata_base.specs.Answers.Answers.{AreUnsplit, HasPattern}
 use Rattle.automata_base.specs.Haystacks.Input.{Input}

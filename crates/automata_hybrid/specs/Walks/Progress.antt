@@ -7,7 +7,7 @@ use Rattle.automata_base.specs.Paths.Selections.{Pair}
 use Rattle.automata_base.specs.declared.util.search.Direction.{Direction}
 use Rattle.automata_base.specs.declared.util.search.Direction.TheVariants.{Forward}
 use Rattle.automata_config.specs.declared.error.SearchError.{SearchError}
-use Rattle.automata_hybrid.specs.Cache.Caches.{CacheView, IsSoundOf}
+use Rattle.automata_hybrid.specs.Cache.Caches.{CacheView, IsStoreOf}
 use Rattle.automata_hybrid.specs.Walks.Cached.{IsOpen}
 use Rattle.automata_hybrid.specs.Machines.Machine.{Machine}
 use Rattle.automata_hybrid.specs.Cache.Growth.{PutsBack}
@@ -29,7 +29,7 @@ ReadsNoUnit input w =
 -- the state where a walk stands is in the cache: it was, or it is put back
 abbrev pub HasItsRow : Machine → Powerset → (old new : CacheView) → Type 0
 HasItsRow m q old new =
-    IsSoundOf new.store m
+    IsStoreOf new.store m
     × ((IsKnownState old.store.table q × (new ≡ old)) ⊎ ((IsKnownState old.store.table q → ⊥) × PutsBack q old new))
 
 -- a walk has the state that it goes on from: its start, or the state where it stands
@@ -89,7 +89,7 @@ LeavesCall keeping way m input walk old new e =
 pub record IsWalkRun {T : Type 0} (keeping : Keeping) (way : Direction) (m : Machine) (input : Input)
     (walk next : Walk) (old new : CacheView) (result : Result T SearchError) : Type 0 where
   -- it is one of the DFA before
-  pub of : IsSoundOf old.store m
+  pub of : IsStoreOf old.store m
   -- a call that answers has ended; and one that fails is left so
   pub ended : OnOk result (EndsCall way m input walk next old new)
   pub left : IfErr result (LeavesCall keeping way m input walk old new)
@@ -126,7 +126,7 @@ LeavesSet m input set old new e =
 pub record IsSetRun {T : Type 0} (m : Machine) (input : Input) (set : List Bool) (old new : CacheView)
     (result : Result T SearchError) : Type 0 where
   -- it is one of the DFA before
-  pub of : IsSoundOf old.store m
+  pub of : IsStoreOf old.store m
   -- the calls of its walk have ended; or the last one failed
   pub ended : OnOk result (EndsSet m input set old new)
   pub left : IfErr result (LeavesSet m input set old new)

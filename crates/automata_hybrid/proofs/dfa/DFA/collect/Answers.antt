@@ -1,4 +1,4 @@
-use Rattle.std.proofs.Common.{suc, inl, inr, length-set, ◌≡◌, ◌∙◌, ◌-◌, List, Bool, true, length, set, Some}
+use Rattle.std.proofs.Common.{suc, inl, inr, length-set, ◌≡◌, ◌∙◌, List, Bool, true, length, set, Some}
 use Rattle.std.proofs.Common.{rules, refl, sym, ap, subst, arith}
 use Rattle.std.specs.Prelude.{Err, IsTrue, Result}
 use Rattle.automata_base.specs.Answers.Answers.{ArePatterns}
@@ -68,7 +68,7 @@ returns-in_err-go_on-clause-effect c =
     subst (λ k. IsWalkRun {T = Unit {0}} k Forward m input walk next mid new (Err c.in_err-go_on.field-0.0)) v.keeping c.in_err-go_on.ensures.effect in
     at_err c.from_residual.result _ (λ (r : Result (Unit {0}) SearchError). IsSetRun m input c.args.patset.now c.args.cache.now new r) c.from_residual.ensures.1
     (record {
-      of = (is_store c.args.cache.now.store c.args.self.now c.requires c.see_bounds.ensures.bounds, c.see_bounds.ensures.sound);
+      of = (is_store c.args.cache.now.store c.args.self.now c.requires c.see_bounds.ensures.bounds);
       ended = tt;
       left = (j.k, walk, mid, v.joins.1, open_after m input walk c.args.patset.now c.walk.patset j, v.there, e.left);
     })
@@ -110,7 +110,7 @@ returns-in_default-clause-effect c =
     let after = (a.reports j.k j.reported).1 list.0 list.1 in
     let last : next.stage ≡ Ended = after.1 (half_none list.0 j.k (sym after.0 ∙ (sym c.get_match.ensures ∙ c.in_default.«is»))) in
     record {
-      of = (is_store c.args.cache.now.store c.args.self.now c.requires c.see_bounds.ensures.bounds, c.see_bounds.ensures.sound);
+      of = (is_store c.args.cache.now.store c.args.self.now c.requires c.see_bounds.ensures.bounds);
       ended = (
         suc j.k,
         next,
@@ -162,7 +162,7 @@ returns-then-is_full-clause-effect c =
     let a = c.in_ok-go_on.ensures.answer in
     let found : next.found ≡ Some c.in-Some.half = sym c.get_match.ensures ∙ c.in-Some.«is» in
     record {
-      of = (is_store c.args.cache.now.store c.args.self.now c.requires c.see_bounds.ensures.bounds, c.see_bounds.ensures.sound);
+      of = (is_store c.args.cache.now.store c.args.self.now c.requires c.see_bounds.ensures.bounds);
       ended = (
         suc j.k,
         next,
@@ -217,7 +217,7 @@ returns-then-get_earliest-clause-effect c =
     let a = c.in_ok-go_on.ensures.answer in
     let found : next.found ≡ Some c.in-Some.half = sym c.get_match.ensures ∙ c.in-Some.«is» in
     record {
-      of = (is_store c.args.cache.now.store c.args.self.now c.requires c.see_bounds.ensures.bounds, c.see_bounds.ensures.sound);
+      of = (is_store c.args.cache.now.store c.args.self.now c.requires c.see_bounds.ensures.bounds);
       ended = (
         suc j.k,
         next,
