@@ -3,3 +3,4 @@ pub mod Fields
 pub mod Builds
 pub mod OwnStates
 pub mod StartSlots
+pub mod Reachable

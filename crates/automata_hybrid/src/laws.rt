@@ -1,5 +1,6 @@
 //! Laws that searches and walks stand on. The contract of each function is the law; what it does is to cite others.
 ghost use Rattle.automata_hybrid.specs.Cache.Caches.{IsCacheOf, IsStoreOf};
+ghost use Rattle.automata_hybrid.specs.Machines.Machine.{IsSized};
 ghost use Rattle.automata_hybrid.specs.Walks.Follows.{CallsFollow, SetsFollow};
 ghost use Rattle.automata_hybrid.specs.Walks.SetsByPaths.{SetsHaveMatching};
 ghost use Rattle.automata_hybrid.specs.Searches.Agreement.{AnswersAgree, WalksAgree};
@@ -25,6 +26,13 @@ pub fn walks_agree(dfa: &DFA)
     ensures { WalksAgree dfa.now }
 {
     walk_is_right(dfa.get_nfa());
+}
+
+/// The numbers of a DFA, by which its caches are counted, are those of its NFA, its settings and its byte classes.
+pub fn sizes_are_of_nfa(dfa: &DFA)
+    ensures { IsSized dfa.now }
+{
+    dfa.see_machine();
 }
 
 /// A cache of a DFA is one within its settings. So an error that a call gives over the cache that it leaves is one that

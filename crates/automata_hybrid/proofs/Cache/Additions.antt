@@ -1,13 +1,14 @@
 -- What a look-up of a state finds, and what adding one gives, where it fits and where the cache was cleared first.
 use Rattle.std.proofs.Common.{◌≡◌, ◌∙◌, ◌≤◌, ◌⊎◌, ℕ, length, None, false, ap, inl, inr, subst, sym}
 use Rattle.automata_base.specs.Powersets.Powerset.{Powerset, cost}
+use Rattle.automata_hybrid.specs.Machines.Reachable.{IsStateOf}
 use Rattle.automata_hybrid.specs.declared.dfa.cache.Found.{Found}
 use Rattle.automata_hybrid.specs.declared.dfa.row.Row.{Row}
 use Rattle.automata_hybrid.specs.Cache.Caches.{CacheView}
 use Rattle.automata_hybrid.specs.Cache.Clears.{row_of}
 use Rattle.automata_hybrid.specs.Cache.Changes.{AddsNext, AddsRow, cleared_saving, grown, put_found}
 use Rattle.automata_hybrid.specs.Cache.LookUps.{IsLookedUp}
-use Rattle.automata_hybrid.specs.Machines.Machine.{IsStateOf, Machine, greatest}
+use Rattle.automata_hybrid.specs.Machines.Machine.{Machine}
 use Rattle.automata_hybrid.specs.Cache.Stores.{KeepsStarts, Stored, with_table}
 use Rattle.automata_hybrid.specs.Cache.Table.{IsKnownState, IsNewState, Lacks, Names, Rows, id_of}
 use Rattle.automata_hybrid.specs.Cache.Usage.{Fits, IsCleared, cleared, refuses_to_clear}
@@ -15,10 +16,10 @@ use Rattle.automata_hybrid.proofs.Steps.Effects.{only-grown}
 
 -- a state to be added, by the machine that a table is of
 pub new_state :
-    (m : Machine) (t : Rows) (q : Powerset) → t.of ≡ m → Lacks t q → cost q ≤ greatest m → IsStateOf m q → IsNewState t q
+    (m : Machine) (t : Rows) (q : Powerset) → t.of ≡ m → Lacks t q → cost q ≤ m.greatest → IsStateOf m q → IsNewState t q
 new_state m t q of lacks cheap own = record {
   lacks = lacks;
-  cheap = subst (λ (n : Machine). cost q ≤ greatest n) (sym of) cheap;
+  cheap = subst (λ (n : Machine). cost q ≤ n.greatest) (sym of) cheap;
   own = subst (λ (n : Machine). IsStateOf n q) (sym of) own;
 }
 
@@ -36,8 +37,8 @@ looked_up before after key found at same is h =
 -- a key's state costs no more than a state may
 pub cheap :
     (m n : Machine) (key target : Powerset)
-    → n ≡ m → key ≡ target → cost key ≤ greatest m → cost target ≤ greatest n
-cheap m n key target of is h = subst (λ (d : Machine). cost target ≤ greatest d) (sym of) (subst (λ (q : Powerset). cost q ≤ greatest m) is h)
+    → n ≡ m → key ≡ target → cost key ≤ m.greatest → cost target ≤ n.greatest
+cheap m n key target of is h = subst (λ (d : Machine). cost target ≤ d.greatest) (sym of) (subst (λ (q : Powerset). cost q ≤ m.greatest) is h)
 
 only_row :
     (old between new : Stored) (r : Row)

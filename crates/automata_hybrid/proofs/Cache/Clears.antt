@@ -9,13 +9,15 @@ use Rattle.std.proofs.lemmas.Grind.{get_or_default_zero}
 use Rattle.std.proofs.lemmas.Bool.{cases_Bool}
 use Rattle.automata_base.specs.Powersets.Powerset.{Powerset}
 use Rattle.automata_base.specs.Powersets.Equal.{powerset_eq, powerset_eq-Decides}
+use Rattle.automata_base.specs.Retraced.Steps.{start_state_of}
+use Rattle.automata_hybrid.specs.Machines.StartSlots.{slot_behind}
 use Rattle.automata_hybrid.specs.declared.dfa.row.Row.{Row}
 use Rattle.automata_hybrid.specs.Cache.Ids.{dead_id}
-use Rattle.automata_hybrid.specs.Machines.Machine.{Machine, start_of, table_stride}
-use Rattle.automata_hybrid.specs.Cache.Table.{Rows, id_of, Names, MayLead, with_row}
-use Rattle.automata_hybrid.specs.Cache.Clears.{AllStarts, row_of, put, Kept, KeepsSlot, keep_found}
+use Rattle.automata_hybrid.specs.Machines.Machine.{Machine}
+use Rattle.automata_hybrid.specs.Cache.Table.{Leads, Names, Rows, id_of, with_row}
+use Rattle.automata_hybrid.specs.Cache.Clears.{AllStarts, row_of, put, Kept, KeepsSlot, keep_found, IsSlot, LeadsToStart}
 use Rattle.automata_hybrid.specs.Cache.Clears.{keep_slot, keep_slots, IsPut}
-use Rattle.automata_hybrid.proofs.Cache.Rows.{Names-more, at_push, find_id-push_other}
+use Rattle.automata_hybrid.proofs.Cache.Rows.{Leads-more, at_push, find_id-push_other}
 use Rattle.std.specs.Option.{is_some, unwrap_or}
 
 pub keep_slots-push : (old : Rows) (k : Kept) (ids : List ℕ) (id : ℕ) → keep_slots old k (ids ++ id ∷ []) ≡ keep_slot old (keep_slots old k ids) id
@@ -36,24 +38,26 @@ put-length t r = go (id_of t r.state) where
   go (Some n) = omega arith
 
 -- a slot's ID without a high tag is that of a row
-pub MayLead-row : (t : Rows) (id : ℕ) (q : Powerset) → MayLead t id q → id < 2 ^ 29 → Names t id q
-MayLead-row t id q (inl e) l = absurd (omega (arith, e, l))
-MayLead-row t id q (inr (inl (e, d))) l = absurd (omega (arith, e, l))
-MayLead-row t id q (inr (inr h)) l = h
+pub Leads-row : (t : Rows) (id : ℕ) (q : Powerset) → Leads t id q → id < 2 ^ 29 → Names t id q
+Leads-row t id q (inl (e, d)) l = absurd (omega (arith, e, l))
+Leads-row t id q (inr h) l = h
+
+pub slot_row : (t : Rows) (slot id : ℕ) → IsSlot t slot id → id < 2 ^ 29 → (q : Powerset) × Names t id q
+slot_row t slot id (inl e) l = absurd (omega (arith, e, l))
+slot_row t slot id (inr (q, leads, first)) l = (q, Leads-row t id q leads l)
 
 -- one more slot
-pub AllStarts-push : (t : Rows) (xs : List ℕ) (y : ℕ) → AllStarts t xs → MayLead t y (start_of t.of (length xs)) → AllStarts t (xs ++ y ∷ [])
+pub AllStarts-push : (t : Rows) (xs : List ℕ) (y : ℕ) → AllStarts t xs → IsSlot t (length xs) y → AllStarts t (xs ++ y ∷ [])
 AllStarts-push t xs y all h slot id e = go (at_push xs y slot id e) where
-  go : (slice_get xs slot ≡ Some id) ⊎ ((slot ≡ length xs) × (y ≡ id)) → MayLead t id (start_of t.of slot)
+  go : (slice_get xs slot ≡ Some id) ⊎ ((slot ≡ length xs) × (y ≡ id)) → IsSlot t slot id
   go (inl e) = all slot id e
-  go (inr (e, f)) = subst (λ n. MayLead t n (start_of t.of slot)) f (subst (λ n. MayLead t y (start_of t.of n)) (sym e) h)
+  go (inr (e, f)) = subst (λ n. IsSlot t slot n) f (subst (λ n. IsSlot t n y) (sym e) h)
 
 pub AllStarts-more : (t : Rows) (r : Row) (xs : List ℕ) → AllStarts t xs → AllStarts (with_row t r) xs
 AllStarts-more t r xs all slot id e = go (all slot id e) where
-  go : MayLead t id (start_of t.of slot) → MayLead (with_row t r) id (start_of t.of slot)
+  go : IsSlot t slot id → IsSlot (with_row t r) slot id
   go (inl f) = inl f
-  go (inr (inl f)) = inr (inl f)
-  go (inr (inr h)) = inr (inr (Names-more t r id (start_of t.of slot) h))
+  go (inr (q, leads, starts)) = inr (q, Leads-more t r id q leads, starts)
 
 pub AllStarts-put : (t : Rows) (r : Row) (xs : List ℕ) → AllStarts t xs → AllStarts (put t r) xs
 AllStarts-put t r xs all = go (id_of t r.state) where
@@ -79,9 +83,9 @@ IsPut-of old before after id n p = ap (λ (u : Rows). u.of) p.put_there ∙ put-
 pub IsPut-length : (old before after : Rows) (id n : ℕ) → IsPut old before after id n → length after.rows ≤ length before.rows + 1
 IsPut-length old before after id n p = subst (λ (u : Rows). length u.rows ≤ length before.rows + 1) (sym p.put_there) (put-length before p.row)
 
-pub IsPut-AllStarts : (old before after : Rows) (starts : List ℕ) (id n : ℕ) → IsPut old before after id n → AllStarts before starts → Names after n (start_of after.of (length starts)) → AllStarts after (starts ++ n ∷ [])
+pub IsPut-AllStarts : (old before after : Rows) (starts : List ℕ) (id n : ℕ) → IsPut old before after id n → AllStarts before starts → LeadsToStart after n (length starts) → AllStarts after (starts ++ n ∷ [])
 IsPut-AllStarts old before after starts id n p all named =
-    AllStarts-push after starts n (subst (λ (u : Rows). AllStarts u starts) (sym p.put_there) (AllStarts-put before p.row starts all)) (inr (inr named))
+    AllStarts-push after starts n (subst (λ (u : Rows). AllStarts u starts) (sym p.put_there) (AllStarts-put before p.row starts all)) (inr named)
 
 -- a step of the loop over the slots
 pub kept_step : (old : Rows) (k : Kept) (xs : List ℕ) (i id : ℕ) (table : Rows) (starts : List ℕ) → i < length xs → id ≡ get_or xs i id → table ≡ (keep_slots old k (take i xs)).table → starts ≡ (keep_slots old k (take i xs)).starts
@@ -101,7 +105,7 @@ AllStarts-none t xs e = subst (λ ys. AllStarts t ys) (sym e) none where
 pub absent-more : (old t : Rows) (r : Row) (q : Powerset) → (id_of old r.state ≡ None → ⊥) → id_of old q ≡ None → id_of t q ≡ None → id_of (with_row t r) q ≡ None
 absent-more old t r q had o n = ⊎_elim
     (λ (e : powerset_eq q r.state ≡ true). absurd (had (subst (λ p. id_of old p ≡ None) ((powerset_eq-Decides q r.state).0 e) o)))
-    (λ (e : powerset_eq q r.state ≡ false). find_id-push_other (table_stride t.of) (3 * table_stride t.of) q t.rows r e ∙ n)
+    (λ (e : powerset_eq q r.state ≡ false). find_id-push_other t.of.stride (3 * t.of.stride) q t.rows r e ∙ n)
     (cases_Bool (powerset_eq q r.state))
 
 last_pushed : (xs : List ℕ) (y : ℕ) → get_or (xs ++ y ∷ []) (length xs) 0 ≡ y
@@ -112,7 +116,7 @@ last_pushed (x ∷ xs) y = last_pushed xs y
 pub keeps_fixed :
     (old t : Rows) (starts after : List ℕ) (id : ℕ)
     → ((n : ℕ) (q : Powerset) → Names old n q → n < 2 ^ 29) → 2 ^ 29 ≤ id → after ≡ starts ++ id ∷ []
-    → t.of ≡ old.of → AllStarts t starts → MayLead old id (start_of old.of (length starts))
+    → t.of ≡ old.of → AllStarts t starts → IsSlot old (length starts) id
     → KeepsSlot old id (record { table = t; starts = starts }) (record { table = t; starts = after })
 keeps_fixed old t starts after id low high push of all leads =
     subst (λ (xs : List ℕ). KeepsSlot old id (record { table = t; starts = starts }) (record { table = t; starts = xs })) (sym push)
@@ -130,17 +134,24 @@ keeps_fixed old t starts after id low high push of all leads =
     fixed : nat_le (2 ^ 29) id ≡ true
     fixed = grind (arith, nat_tests)
 
-    there : MayLead old id (start_of old.of (length starts)) → MayLead t id (start_of t.of (length starts))
+    there : IsSlot old (length starts) id → IsSlot t (length starts) id
     there (inl e) = inl e
-    there (inr (inl (e, d))) =
-        inr (inl (e ∙ ap (λ (m : Machine). dead_id (table_stride m)) (sym of), ap (λ (m : Machine). start_of m (length starts)) of ∙ d))
-    there (inr (inr n)) = let l : id < 2 ^ 29 = low id _ n in absurd (omega (arith, l, high))
+    there (inr (q, leads, first)) = inr (
+      q,
+      step q leads,
+      λ mode behind at.
+          first mode behind (subst (λ (m : Machine). slot_behind m mode behind ≡ length starts) of at)
+          ∙ ap (λ (m : Machine). start_state_of m.nfa mode behind) (sym of),
+    ) where
+      step : (q : Powerset) → Leads old id q → Leads t id q
+      step q (inl (e, d)) = inl (e ∙ ap (λ (m : Machine). dead_id m.stride) (sym of), d)
+      step q (inr n) = let l : id < 2 ^ 29 = low id q n in absurd (omega (arith, l, high))
 
 -- the row that a slot names is kept
 pub keeps_row :
     (old before after : Rows) (starts slots : List ℕ) (id n : ℕ)
     → id < 2 ^ 29 → ((k : ℕ) (q : Powerset) → Names after k q → k < 2 ^ 29) → slots ≡ starts ++ n ∷ []
-    → before.of ≡ old.of → AllStarts before starts → MayLead old id (start_of old.of (length starts))
+    → before.of ≡ old.of → AllStarts before starts → IsSlot old (length starts) id
     → IsPut old before after id n → ((q : Powerset) → Names old id q → Names after n q)
     → ((q : Powerset) → id_of old q ≡ None → id_of before q ≡ None → id_of after q ≡ None)
     → KeepsSlot old id (record { table = before; starts = starts }) (record { table = after; starts = slots })
@@ -157,11 +168,21 @@ keeps_row old before after starts slots id n below low push of all leads put nam
       of = IsPut-of old before after id n put;
     })
   where
-    named : Names after n (start_of old.of (length starts))
-    named = names _ (MayLead-row old id _ leads below)
+    same : after.of ≡ old.of
+    same = IsPut-of old before after id n put ∙ of
 
-    there : Names after n (start_of after.of (length starts))
-    there = subst (λ (m : Machine). Names after n (start_of m (length starts))) (sym (IsPut-of old before after id n put ∙ of)) named
+    start : IsSlot old (length starts) id → LeadsToStart after n (length starts)
+    start (inl e) = absurd (omega (arith, e, below))
+    start (inr (q, leads, first)) = (
+      q,
+      inr (names q (Leads-row old id q leads below)),
+      λ mode behind at.
+          first mode behind (subst (λ (m : Machine). slot_behind m mode behind ≡ length starts) same at)
+          ∙ ap (λ (m : Machine). start_state_of m.nfa mode behind) (sym same),
+    )
+
+    there : LeadsToStart after n (length starts)
+    there = start leads
 
     small : n < 2 ^ 29
-    small = low n _ named
+    small = low n _ put.named

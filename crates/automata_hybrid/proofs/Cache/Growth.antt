@@ -2,8 +2,11 @@
 use Rattle.std.proofs.Common.{ℕ, zero, suc, false, ⊎_elim, ◌≡◌, ◌∙◌, ◌+◌, ◌-◌, ◌*◌, ◌^◌, ◌<◌, ◌≤◌, ◌⊎◌, inl, inr}
 use Rattle.std.proofs.Common.{length, true, refl, sym, ap, subst, arith}
 use Rattle.std.proofs.Math.Nat.{mul-le-mul_right}
+use Rattle.automata_base.specs.Retraced.Steps.{start_state_of}
+use Rattle.automata_hybrid.specs.Machines.StartSlots.{slot_behind}
+use Rattle.automata_hybrid.specs.Machines.Reachable.{IsReachable}
 use Rattle.automata_hybrid.specs.declared.dfa.progress.Searched.{Searched}
-use Rattle.automata_hybrid.specs.Cache.Stores.{Stored, KeepsStarts, with_searched}
+use Rattle.automata_hybrid.specs.Cache.Stores.{Stored, KeepsStarts, with_searched, IsKnownStart}
 use Rattle.automata_hybrid.specs.Cache.Usage.{cleared, row_usage, usage}
 use Rattle.automata_hybrid.specs.Cache.Changes.{AreChanges, IsStateAdded, IsOneChange}
 use Rattle.automata_hybrid.specs.Cache.Caches.{CacheView, counted, with_store}
@@ -12,8 +15,7 @@ use Rattle.automata_hybrid.proofs.Steps.Effects.{HasRoom-Fits, HasRoom-grown, Ke
 use Rattle.automata_base.specs.Powersets.Powerset.{Powerset, cost}
 use Rattle.automata_config.specs.Options.{specialize_start_states_of}
 use Rattle.automata_hybrid.specs.declared.dfa.row.Row.{Row}
-use Rattle.automata_hybrid.specs.Machines.Machine.{IsReachable, Machine, greatest, slot_count, start_of, template_of}
-use Rattle.automata_hybrid.specs.Machines.Machine.{table_stride}
+use Rattle.automata_hybrid.specs.Machines.Machine.{Machine}
 use Rattle.automata_hybrid.specs.Cache.Progress.{saturated}
 use Rattle.automata_hybrid.specs.Cache.Table.{HasCells, Lacks}
 
@@ -22,8 +24,8 @@ pub room_less : (c : Stored) (n k : ℕ) → k ≤ n → HasRoom c n → HasRoom
 room_less c n k l r =
     record {
       capacity =
-          (let times : k * (row_usage c.table.of + greatest c.table.of) ≤ n * (row_usage c.table.of + greatest c.table.of) =
-          mul-le-mul_right (row_usage c.table.of + greatest c.table.of) l in
+          (let times : k * (row_usage c.table.of + c.table.of.greatest) ≤ n * (row_usage c.table.of + c.table.of.greatest) =
+          mul-le-mul_right (row_usage c.table.of + c.table.of.greatest) l in
           below (usage c) _ _ c.table.of.capacity times r.capacity);
       offsets = λ i h. r.offsets i (omega (arith, l, h));
     } where
@@ -121,13 +123,14 @@ nothing_second a b c f g e = (omega (arith, e.0, f.clears, g.clears), omega (ari
 still_may :
     (old new : Stored) (q : Powerset) → new.table.of ≡ old.table.of → KeepsStarts old.starts new.starts → MayHaveStartTag old q
     → MayHaveStartTag new q
-still_may old new q of starts (tags, (slot, within, known, same)) = (
+still_may old new q of starts (tags, (mode, behind, within, known, same)) = (
   subst (λ (m : Machine). specialize_start_states_of m.config ≡ true) (sym of) tags,
   (
-    slot,
-    subst (λ (m : Machine). slot < slot_count m) (sym of) within,
-    starts slot known,
-    subst (λ (m : Machine). q ≡ start_of m slot) (sym of) same,
+    mode,
+    behind,
+    subst (λ (m : Machine). slot_behind m mode behind < m.slots) (sym of) within,
+    subst (λ (m : Machine). IsKnownStart new (slot_behind m mode behind)) (sym of) (starts _ known),
+    subst (λ (m : Machine). q ≡ start_state_of m.nfa mode behind) (sym of) same,
   ),
 )
 
@@ -178,8 +181,8 @@ pub grown_again :
     → IsStateAdded old.store (cleared old.store) (again_row q) new.store → new.count ≡ old.count → new.store.table.of ≡ old.store.table.of
     → KeepsStarts old.store.starts new.store.starts
     → ((q : Powerset) → IsStartTagged new.store.table q → IsStartTagged old.store.table q)
-    → HasCells old.store.table → length (template_of old.store.table.of) ≡ table_stride old.store.table.of → old.store.clears < 2 ^ 64
-    → cost q ≤ greatest old.store.table.of → IsGrown old (counted new)
+    → HasCells old.store.table → length old.store.table.of.template ≡ old.store.table.of.stride → old.store.clears < 2 ^ 64
+    → cost q ≤ old.store.table.of.greatest → IsGrown old (counted new)
 grown_again old new q lacks reached (inl (fits, e)) count of starts tagged cells wide small little =
     grown_one old (counted new) of (omega (arith, count))
     (let c : new.store.clears ≡ old.store.clears = ap (λ (s : Stored). s.clears) e in omega (arith, c))

@@ -9,12 +9,12 @@ use Rattle.std.proofs.lemmas.List.{get_or-set_same, get_or-set_other, take-set-l
 use Rattle.std.proofs.Math.Nat.{mul-le-mul_right}
 use Rattle.automata_base.specs.Powersets.Powerset.{Powerset, cost, dead}
 use Rattle.automata_base.specs.Powersets.Equal.{powerset_eq, powerset_eq-Decides}
+use Rattle.automata_hybrid.specs.Machines.Reachable.{IsStateOf}
 use Rattle.automata_hybrid.specs.declared.dfa.row.Row.{Row}
 use Rattle.automata_hybrid.specs.Cache.Ids.{HasOnly, tags}
-use Rattle.automata_hybrid.specs.Machines.Machine.{IsStateOf, next_of, greatest, template_of, table_stride}
 use Rattle.std.specs.List.{sum_by}
 use Rattle.std.proofs.lemmas.List.Sums.{sum_by-cons}
-use Rattle.automata_hybrid.specs.Cache.Table.{Rows, has_patterns, find_id, Names, IsRowId, Leads, IsCell, row_id}
+use Rattle.automata_hybrid.specs.Cache.Table.{Rows, has_patterns, find_id, Names, IsRowId, IsCell, row_id, LeadsByClass}
 use Rattle.automata_hybrid.specs.Cache.Table.{with_cell, cell_at, AreRows, IsStepped, HasState}
 use Rattle.automata_hybrid.specs.Cache.Table.{row_cost}
 use Rattle.automata_hybrid.proofs.Cache.Rows.{inside}
@@ -60,16 +60,16 @@ pub record Placed (t : Rows) (id : ℕ) (q : Powerset) : Type 0 where
   pub has : slice_get t.rows place ≡ Some row
   pub state : row.state ≡ q
   pub within : place < length t.rows
-  pub offset : id % 2 ^ 27 ≡ (place + 3) * table_stride t.of
+  pub offset : id % 2 ^ 27 ≡ (place + 3) * t.of.stride
   pub low : id < 2 ^ 29
   pub same : id ≡ row_id (id % 2 ^ 27) row
 
 pub Names-Placed : (t : Rows) (id : ℕ) (q : Powerset) → AreRows t → Names t id q → Placed t id q
 Names-Placed t id q i h =
-    let f = find_id-Found (table_stride t.of) (3 * table_stride t.of) q t.rows id h in
-    let low : (f.place + 3) * table_stride t.of < 2 ^ 27 = (i.ids f.place f.row f.has).1 in
-    let at : 3 * table_stride t.of + f.place * table_stride t.of ≡ (f.place + 3) * table_stride t.of = omega arith in
-    let offset : id % 2 ^ 27 ≡ (f.place + 3) * table_stride t.of =
+    let f = find_id-Found t.of.stride (3 * t.of.stride) q t.rows id h in
+    let low : (f.place + 3) * t.of.stride < 2 ^ 27 = (i.ids f.place f.row f.has).1 in
+    let at : 3 * t.of.stride + f.place * t.of.stride ≡ (f.place + 3) * t.of.stride = omega arith in
+    let offset : id % 2 ^ 27 ≡ (f.place + 3) * t.of.stride =
     ap (λ n. n % 2 ^ 27) (f.«is» ∙ ap (λ n. row_id n f.row) at) ∙ tags_mod _ f.row.started (has_patterns f.row.state) low in
     record {
       place = f.place;
@@ -82,22 +82,22 @@ Names-Placed t id q i h =
       same = f.«is» ∙ ap (λ n. row_id n f.row) (at ∙ sym offset);
     }
 
-pub Placed-cell : (t : Rows) (id class : ℕ) (q : Powerset) → AreRows t → Placed t id q → class < table_stride t.of → cell_at id class < length t.cells
-Placed-cell t id class q i p l = rw (p.offset, i.whole) (inside p.place (length t.rows) (table_stride t.of) class p.within l)
+pub Placed-cell : (t : Rows) (id class : ℕ) (q : Powerset) → AreRows t → Placed t id q → class < t.of.stride → cell_at id class < length t.cells
+Placed-cell t id class q i p l = rw (p.offset, i.whole) (inside p.place (length t.rows) t.of.stride class p.within l)
 
-pub Placed-place : (t : Rows) (id : ℕ) (q : Powerset) → 0 < table_stride t.of → (p : Placed t id q) → (id % 2 ^ 27) / table_stride t.of ≡ p.place + 3
+pub Placed-place : (t : Rows) (id : ℕ) (q : Powerset) → 0 < t.of.stride → (p : Placed t id q) → (id % 2 ^ 27) / t.of.stride ≡ p.place + 3
 Placed-place t id q positive p =
-    let e : (p.place + 3) * table_stride t.of ≡ (p.place + 3) * table_stride t.of + 0 = omega arith in
-    ap (λ n. n / table_stride t.of) (p.offset ∙ e) ∙ div-mul-add (p.place + 3) (table_stride t.of) 0 positive
+    let e : (p.place + 3) * t.of.stride ≡ (p.place + 3) * t.of.stride + 0 = omega arith in
+    ap (λ n. n / t.of.stride) (p.offset ∙ e) ∙ div-mul-add (p.place + 3) t.of.stride 0 positive
 
-pub Placed-HasState : (t : Rows) (id k : ℕ) (q : Powerset) → 0 < table_stride t.of → Placed t id q → k ≡ (id % 2 ^ 27) / table_stride t.of - 3 → HasState t k q
+pub Placed-HasState : (t : Rows) (id k : ℕ) (q : Powerset) → 0 < t.of.stride → Placed t id q → k ≡ (id % 2 ^ 27) / t.of.stride - 3 → HasState t k q
 Placed-HasState t id k q positive p e =
     let same : k ≡ p.place = omega (arith, Placed-place t id q positive p, e) in
     (p.row, subst (λ n. slice_get t.rows n ≡ Some p.row) (sym same) p.has, p.state)
 
-pub Placed-IsCell : (t : Rows) (id class : ℕ) (q : Powerset) → AreRows t → Placed t id q → class < table_stride t.of → IsCell t q class (get_or t.cells (cell_at id class) 0)
+pub Placed-IsCell : (t : Rows) (id class : ℕ) (q : Powerset) → AreRows t → Placed t id q → class < t.of.stride → IsCell t q class (get_or t.cells (cell_at id class) 0)
 Placed-IsCell t id class q i p l =
-    subst (λ n. IsCell t q class (get_or t.cells (n + class) 0)) (sym p.offset) (subst (λ w. IsCell t w class (get_or t.cells ((p.place + 3) * table_stride t.of + class) 0)) p.state (i.stepped p.place class p.row p.has l))
+    subst (λ n. IsCell t q class (get_or t.cells (n + class) 0)) (sym p.offset) (subst (λ w. IsCell t w class (get_or t.cells ((p.place + 3) * t.of.stride + class) 0)) p.state (i.stepped p.place class p.row p.has l))
 
 -- one cell, one row and one class
 pub one_cell : (a b c d s : ℕ) → c < s → d < s → a * s + c ≡ b * s + d → (a ≡ b) × (c ≡ d)
@@ -107,14 +107,14 @@ one_cell a b c d s l m e =
     (f, g)
 
 -- a cell that is written with what names the next state
-pub AreRows-with_cell : (t : Rows) (id class next : ℕ) (q : Powerset) → AreRows t → Names t id q → class < table_stride t.of → get_or (template_of t.of) class 0 ≡ 2 ^ 31 → Leads t next (next_of t.of q class) → AreRows (with_cell t id class next)
+pub AreRows-with_cell : (t : Rows) (id class next : ℕ) (q : Powerset) → AreRows t → Names t id q → class < t.of.stride → get_or t.of.template class 0 ≡ 2 ^ 31 → LeadsByClass t next q class → AreRows (with_cell t id class next)
 AreRows-with_cell t id class next q i h l free leads =
     let p = Names-Placed t id q i h in
-    let far : 3 * table_stride t.of ≤ cell_at id class = omega (arith, p.offset, mul-le-mul_right (table_stride t.of) (le3 p.place)) in
+    let far : 3 * t.of.stride ≤ cell_at id class = omega (arith, p.offset, mul-le-mul_right t.of.stride (le3 p.place)) in
     record {
       whole = length-set t.cells (cell_at id class) next ∙ i.whole;
       small = rw length-set i.small;
-      fixed = take-set-le (3 * table_stride t.of) t.cells (cell_at id class) next far ∙ i.fixed;
+      fixed = take-set-le (3 * t.of.stride) t.cells (cell_at id class) next far ∙ i.fixed;
       stepped = stepped p;
       ids = i.ids;
       states = i.states;
@@ -124,16 +124,16 @@ AreRows-with_cell t id class next q i h l free leads =
 
       stepped : Placed t id q → IsStepped (with_cell t id class next)
       stepped p k c r has lc = ⊎_elim
-          (λ (e : (k + 3) * table_stride t.of + c ≡ cell_at id class). same e)
-          (λ (ne : (k + 3) * table_stride t.of + c ≡ cell_at id class → ⊥). subst (IsCell t r.state c) (sym (get_or-set_other t.cells (cell_at id class) ((k + 3) * table_stride t.of + c) next 0 ne)) (i.stepped k c r has lc))
-          (cases_eq ((k + 3) * table_stride t.of + c) (cell_at id class)) where
-            same : (k + 3) * table_stride t.of + c ≡ cell_at id class → IsCell t r.state c (get_or (set t.cells (cell_at id class) next) ((k + 3) * table_stride t.of + c) 0)
+          (λ (e : (k + 3) * t.of.stride + c ≡ cell_at id class). same e)
+          (λ (ne : (k + 3) * t.of.stride + c ≡ cell_at id class → ⊥). subst (IsCell t r.state c) (sym (get_or-set_other t.cells (cell_at id class) ((k + 3) * t.of.stride + c) next 0 ne)) (i.stepped k c r has lc))
+          (cases_eq ((k + 3) * t.of.stride + c) (cell_at id class)) where
+            same : (k + 3) * t.of.stride + c ≡ cell_at id class → IsCell t r.state c (get_or (set t.cells (cell_at id class) next) ((k + 3) * t.of.stride + c) 0)
             same e =
-                let both = one_cell (k + 3) (p.place + 3) c class (table_stride t.of) lc l (e ∙ ap (λ n. n + class) p.offset) in
+                let both = one_cell (k + 3) (p.place + 3) c class t.of.stride lc l (e ∙ ap (λ n. n + class) p.offset) in
                 let place : k ≡ p.place = omega (arith, both.0) in
                 let row : Some r ≡ Some p.row = sym has ∙ ap (slice_get t.rows) place ∙ p.has in
                 let state : r.state ≡ q = ap (λ (x : Row). x.state) (some_inj row) ∙ p.state in
-                let read : next ≡ get_or (set t.cells (cell_at id class) next) ((k + 3) * table_stride t.of + c) 0 = sym (get_or-set_same t.cells (cell_at id class) next 0 (Placed-cell t id class q i p l)) ∙ ap (λ n. get_or (set t.cells (cell_at id class) next) n 0) (sym e) in
+                let read : next ≡ get_or (set t.cells (cell_at id class) next) ((k + 3) * t.of.stride + c) 0 = sym (get_or-set_same t.cells (cell_at id class) next 0 (Placed-cell t id class q i p l)) ∙ ap (λ n. get_or (set t.cells (cell_at id class) next) n 0) (sym e) in
                 subst (IsCell t r.state c) read (subst (λ d. IsCell t r.state d next) (sym both.1) (subst (λ w. IsCell t w class next) (sym state) (inr (free, inr leads))))
 
 pub costs_le : (rs : List Row) (m : ℕ) → ((k : ℕ) (r : Row) → slice_get rs k ≡ Some r → cost r.state ≤ m) → sum_by row_cost rs ≤ length rs * m
@@ -145,17 +145,17 @@ costs_le (r ∷ rs) m all =
     let f : sum_by row_cost (r ∷ rs) ≡ cost r.state + sum_by row_cost rs = sum_by-cons row_cost r rs in
     omega (arith, one, more, e, f)
 
-pub AreRows-costs : (t : Rows) → AreRows t → sum_by row_cost t.rows ≤ length t.rows * greatest t.of
-AreRows-costs t i = costs_le t.rows (greatest t.of) (λ k r h. (i.states k r h).cheap)
+pub AreRows-costs : (t : Rows) → AreRows t → sum_by row_cost t.rows ≤ length t.rows * t.of.greatest
+AreRows-costs t i = costs_le t.rows t.of.greatest (λ k r h. (i.states k r h).cheap)
 
 -- an ID at a row's offset, with that row's tags, is the row's
 pub placed_valid :
     (t : Rows) (id index : ℕ) (r : Row)
-    → AreRows t → 3 ≤ index → slice_get t.rows (index - 3) ≡ Some r → index * table_stride t.of ≡ id % 2 ^ 27 → id ≡ row_id (id % 2 ^ 27) r
+    → AreRows t → 3 ≤ index → slice_get t.rows (index - 3) ≡ Some r → index * t.of.stride ≡ id % 2 ^ 27 → id ≡ row_id (id % 2 ^ 27) r
     → IsRowId t id
 placed_valid t id index r i three has at same =
     let place : index - 3 + 3 ≡ index = omega (arith, three) in
-    let e : id ≡ row_id ((index - 3 + 3) * table_stride t.of) r = same ∙ ap (λ n. row_id n r) (sym at ∙ ap (λ n. n * table_stride t.of) (sym place)) in
+    let e : id ≡ row_id ((index - 3 + 3) * t.of.stride) r = same ∙ ap (λ n. row_id n r) (sym at ∙ ap (λ n. n * t.of.stride) (sym place)) in
     (r.state, (i.ids (index - 3) r has).0 ∙ ap Some (sym e))
 
 -- and a valid ID is at its row's offset, with its tags
@@ -164,21 +164,21 @@ pub record IsAtRow (t : Rows) (id index : ℕ) : Type 0 where
   pub behind : 3 ≤ index
   pub within : index < length t.rows + 3
   pub has : slice_get t.rows (index - 3) ≡ Some row
-  pub at : index * table_stride t.of ≡ id % 2 ^ 27
+  pub at : index * t.of.stride ≡ id % 2 ^ 27
   pub same : id ≡ row_id (id % 2 ^ 27) row
 
 pub valid_at :
-    (t : Rows) (id : ℕ) → AreRows t → 0 < table_stride t.of → IsRowId t id → IsAtRow t id ((id % 2 ^ 27) / table_stride t.of)
+    (t : Rows) (id : ℕ) → AreRows t → 0 < t.of.stride → IsRowId t id → IsAtRow t id ((id % 2 ^ 27) / t.of.stride)
 valid_at t id i positive v =
     let p = Names-Placed t id v.0 i v.1 in
-    let index : (id % 2 ^ 27) / table_stride t.of ≡ p.place + 3 = Placed-place t id v.0 positive p in
-    let behind : (id % 2 ^ 27) / table_stride t.of - 3 ≡ p.place = omega (arith, index) in
+    let index : (id % 2 ^ 27) / t.of.stride ≡ p.place + 3 = Placed-place t id v.0 positive p in
+    let behind : (id % 2 ^ 27) / t.of.stride - 3 ≡ p.place = omega (arith, index) in
     record {
       row = p.row;
       behind = omega (arith, index);
       within = omega (arith, index, p.within);
       has = subst (λ n. slice_get t.rows n ≡ Some p.row) (sym behind) p.has;
-      at = ap (λ n. n * table_stride t.of) index ∙ sym p.offset;
+      at = ap (λ n. n * t.of.stride) index ∙ sym p.offset;
       same = p.same;
     }
 
@@ -223,9 +223,9 @@ no_patterns (p ∷ ps) n = absurd (n (omega arith))
 -- an ID without the match tag names a state without patterns
 pub Names-silent : (t : Rows) (id : ℕ) (q : Powerset) → Names t id q → id < 2 ^ 27 → q.patterns ≡ []
 Names-silent t id q h l =
-    let f = find_id-Found (table_stride t.of) (3 * table_stride t.of) q t.rows id h in
+    let f = find_id-Found t.of.stride (3 * t.of.stride) q t.rows id h in
     let s : has_patterns f.row.state ≡ has_patterns q = ap has_patterns f.state in
-    no_patterns q.patterns (λ some. heavy f.row.started (has_patterns f.row.state) (3 * table_stride t.of + f.place * table_stride t.of) (s ∙ (has_some q).1 some) (subst (λ v. v < 2 ^ 27) f.«is» l)) where
+    no_patterns q.patterns (λ some. heavy f.row.started (has_patterns f.row.state) (3 * t.of.stride + f.place * t.of.stride) (s ∙ (has_some q).1 some) (subst (λ v. v < 2 ^ 27) f.«is» l)) where
       heavy : (a b : Bool) (x : ℕ) → b ≡ true → x + tags a b < 2 ^ 27 → ⊥
       heavy true true x e l = omega (arith, l)
       heavy false true x e l = omega (arith, l)

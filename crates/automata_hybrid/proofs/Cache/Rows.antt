@@ -10,10 +10,11 @@ use Rattle.std.proofs.Math.Nat.{mul-le-mul_right}
 use Rattle.std.proofs.lemmas.List.Sums.{sum_by_push}
 use Rattle.automata_base.specs.Powersets.Powerset.{Powerset, cost}
 use Rattle.automata_base.specs.Powersets.Equal.{powerset_eq, powerset_eq-Decides}
+use Rattle.automata_hybrid.specs.Machines.Reachable.{IsStateOf}
 use Rattle.automata_hybrid.specs.declared.dfa.row.Row.{Row}
 use Rattle.automata_base.specs.Powersets.Powerset.{dead}
 use Rattle.automata_hybrid.specs.Cache.Ids.{quit_id}
-use Rattle.automata_hybrid.specs.Machines.Machine.{IsStateOf, next_of, greatest, template_of, IsTemplate, table_stride}
+use Rattle.automata_hybrid.specs.Machines.Machine.{IsTemplate}
 use Rattle.automata_hybrid.specs.Cache.Table.{Rows, find_id, id_of, Names, Leads, IsCell, row_id, row_cost, with_row}
 use Rattle.automata_hybrid.specs.Cache.Table.{AreRows, IsHeld, IsRowState, IsStepped, StateMap}
 
@@ -42,7 +43,7 @@ flipped : (q p : Powerset) → powerset_eq q p ≡ false → powerset_eq p q ≡
 flipped q p h = (decided powerset_eq powerset_eq-Decides).symm p q ∙ h
 
 pub Names-more : (t : Rows) (r : Row) (id : ℕ) (q : Powerset) → Names t id q → Names (with_row t r) id q
-Names-more t r id q h = find_id-more (table_stride t.of) (3 * table_stride t.of) q t.rows (r ∷ []) id h
+Names-more t r id q h = find_id-more t.of.stride (3 * t.of.stride) q t.rows (r ∷ []) id h
 
 pub Leads-more : (t : Rows) (r : Row) (id : ℕ) (q : Powerset) → Leads t id q → Leads (with_row t r) id q
 Leads-more t r id q (inl h) = inl h
@@ -51,13 +52,13 @@ Leads-more t r id q (inr h) = inr (Names-more t r id q h)
 pub IsCell-more : (t : Rows) (r : Row) (q : Powerset) (class id : ℕ) → IsCell t q class id → IsCell (with_row t r) q class id
 IsCell-more t r q class id (inl h) = inl h
 IsCell-more t r q class id (inr (h, inl e)) = inr (h, inl e)
-IsCell-more t r q class id (inr (h, inr l)) = inr (h, inr (Leads-more t r id (next_of t.of q class) l))
+IsCell-more t r q class id (inr (h, inr l)) = inr (h, inr (λ unit is at. Leads-more t r id _ (l unit is at)))
 
 -- a new row is named at once
-pub Names-new : (t : Rows) (r : Row) → length t.cells ≡ (length t.rows + 3) * table_stride t.of → id_of t r.state ≡ None → Names (with_row t r) (row_id (length t.cells) r) r.state
+pub Names-new : (t : Rows) (r : Row) → length t.cells ≡ (length t.rows + 3) * t.of.stride → id_of t r.state ≡ None → Names (with_row t r) (row_id (length t.cells) r) r.state
 Names-new t r whole none =
-    let e : 3 * table_stride t.of + length t.rows * table_stride t.of ≡ length t.cells = omega (arith, whole) in
-    find_id-push_new (table_stride t.of) (3 * table_stride t.of) t.rows r none ∙ ap (λ n. Some (row_id n r)) e
+    let e : 3 * t.of.stride + length t.rows * t.of.stride ≡ length t.cells = omega (arith, whole) in
+    find_id-push_new t.of.stride (3 * t.of.stride) t.rows r none ∙ ap (λ n. Some (row_id n r)) e
 
 -- an element of a list with one more
 pub at_push : {A : Type 0} (xs : List A) (y : A) (k : ℕ) (x : A) → slice_get (xs ++ y ∷ []) k ≡ Some x → (slice_get xs k ≡ Some x) ⊎ ((k ≡ length xs) × (y ≡ x))
@@ -74,41 +75,41 @@ inside k n s class h l =
     let le : (k + 4) * s ≤ (n + 3) * s = mul-le-mul_right s (omega (arith, h)) in
     omega (arith, le, l)
 
-stepped-with_row : (t : Rows) (r : Row) → IsTemplate (table_stride t.of) (template_of t.of) → length t.cells ≡ (length t.rows + 3) * table_stride t.of → IsStepped t → IsStepped (with_row t r)
+stepped-with_row : (t : Rows) (r : Row) → IsTemplate t.of.stride t.of.template → length t.cells ≡ (length t.rows + 3) * t.of.stride → IsStepped t → IsStepped (with_row t r)
 stepped-with_row t r template whole old k class x h l = go (at_push t.rows r k x h) where
-  go : (slice_get t.rows k ≡ Some x) ⊎ ((k ≡ length t.rows) × (r ≡ x)) → IsCell (with_row t r) x.state class (get_or (t.cells ++ (template_of t.of)) ((k + 3) * table_stride t.of + class) 0)
+  go : (slice_get t.rows k ≡ Some x) ⊎ ((k ≡ length t.rows) × (r ≡ x)) → IsCell (with_row t r) x.state class (get_or (t.cells ++ t.of.template) ((k + 3) * t.of.stride + class) 0)
   go (inl e) =
-      let within : (k + 3) * table_stride t.of + class < length t.cells = rw whole (inside k (length t.rows) (table_stride t.of) class (slice_get_within t.rows k x e) l) in
-      subst (IsCell (with_row t r) x.state class) (sym (get_or_append_left t.cells (template_of t.of) 0 ((k + 3) * table_stride t.of + class) within)) (IsCell-more t r x.state class _ (old k class x e l))
+      let within : (k + 3) * t.of.stride + class < length t.cells = rw whole (inside k (length t.rows) t.of.stride class (slice_get_within t.rows k x e) l) in
+      subst (IsCell (with_row t r) x.state class) (sym (get_or_append_left t.cells t.of.template 0 ((k + 3) * t.of.stride + class) within)) (IsCell-more t r x.state class _ (old k class x e l))
   go (inr (e, f)) =
-      let at : length t.cells + class ≡ (k + 3) * table_stride t.of + class = rw (e, whole) refl in
-      let read : get_or (template_of t.of) class 0 ≡ get_or (t.cells ++ (template_of t.of)) ((k + 3) * table_stride t.of + class) 0 = sym (get_or-append-add t.cells (template_of t.of) class 0) ∙ ap (λ i. get_or (t.cells ++ (template_of t.of)) i 0) at in
+      let at : length t.cells + class ≡ (k + 3) * t.of.stride + class = rw (e, whole) refl in
+      let read : get_or t.of.template class 0 ≡ get_or (t.cells ++ t.of.template) ((k + 3) * t.of.stride + class) 0 = sym (get_or-append-add t.cells t.of.template class 0) ∙ ap (λ i. get_or (t.cells ++ t.of.template) i 0) at in
       subst (IsCell (with_row t r) x.state class) read (new (template.cells class l)) where
-        new : (get_or (template_of t.of) class 0 ≡ quit_id (table_stride t.of)) ⊎ (get_or (template_of t.of) class 0 ≡ 2 ^ 31) → IsCell (with_row t r) x.state class (get_or (template_of t.of) class 0)
+        new : (get_or t.of.template class 0 ≡ quit_id t.of.stride) ⊎ (get_or t.of.template class 0 ≡ 2 ^ 31) → IsCell (with_row t r) x.state class (get_or t.of.template class 0)
         new (inl q) = inl (q, q)
         new (inr u) = inr (u, inl u)
 
 -- a new row, after which the rows still fit together
 pub AreRows-with_row :
-    (t : Rows) (r : Row) → AreRows t → IsTemplate (table_stride t.of) (template_of t.of) → id_of t r.state ≡ None → (r.state ≡ dead → ⊥) → cost r.state ≤ greatest t.of → IsStateOf t.of r.state → length t.cells < 2 ^ 27
+    (t : Rows) (r : Row) → AreRows t → IsTemplate t.of.stride t.of.template → id_of t r.state ≡ None → (r.state ≡ dead → ⊥) → cost r.state ≤ t.of.greatest → IsStateOf t.of r.state → length t.cells < 2 ^ 27
     → AreRows (with_row t r)
 AreRows-with_row t r i template none live cheap of fits =
-    let more : length (t.cells ++ (template_of t.of)) ≡ length t.cells + table_stride t.of = length-append t.cells (template_of t.of) ∙ ap (λ k. length t.cells + k) template.whole in
+    let more : length (t.cells ++ t.of.template) ≡ length t.cells + t.of.stride = length-append t.cells t.of.template ∙ ap (λ k. length t.cells + k) template.whole in
     let one : length (t.rows ++ r ∷ []) ≡ length t.rows + 1 = length-append t.rows (r ∷ []) in
-    let few : 3 * table_stride t.of ≤ length t.cells = rw i.whole (grind arith) in
+    let few : 3 * t.of.stride ≤ length t.cells = rw i.whole (grind arith) in
     record {
       whole = more ∙ rw (i.whole, one) (omega arith);
       small = omega (arith, more, fits);
-      fixed = rw (take-append-le (3 * table_stride t.of) t.cells (template_of t.of) few) i.fixed;
+      fixed = rw (take-append-le (3 * t.of.stride) t.cells t.of.template few) i.fixed;
       stepped = stepped-with_row t r template i.whole i.stepped;
       ids = λ k x h. ids k x (at_push t.rows r k x h);
       states = λ k x h. states k x (at_push t.rows r k x h);
     } where
-      ids : (k : ℕ) (x : Row) → (slice_get t.rows k ≡ Some x) ⊎ ((k ≡ length t.rows) × (r ≡ x)) → Names (with_row t r) (row_id ((k + 3) * table_stride t.of) x) x.state × ((k + 3) * table_stride t.of < 2 ^ 27)
+      ids : (k : ℕ) (x : Row) → (slice_get t.rows k ≡ Some x) ⊎ ((k ≡ length t.rows) × (r ≡ x)) → Names (with_row t r) (row_id ((k + 3) * t.of.stride) x) x.state × ((k + 3) * t.of.stride < 2 ^ 27)
       ids k x (inl e) = let old = i.ids k x e in (Names-more t r _ x.state old.0, old.1)
       ids k x (inr (e, f)) =
-          let at : length t.cells ≡ (k + 3) * table_stride t.of = i.whole ∙ rw e refl in (
-            subst (λ y. Names (with_row t r) (row_id ((k + 3) * table_stride t.of) y) y.state) f (subst (λ n. Names (with_row t r) (row_id n r) r.state) at (Names-new t r i.whole none)),
+          let at : length t.cells ≡ (k + 3) * t.of.stride = i.whole ∙ rw e refl in (
+            subst (λ y. Names (with_row t r) (row_id ((k + 3) * t.of.stride) y) y.state) f (subst (λ n. Names (with_row t r) (row_id n r) r.state) at (Names-new t r i.whole none)),
             subst (λ n. n < 2 ^ 27) at fits,
           )
 
@@ -118,7 +119,7 @@ AreRows-with_row t r i template none live cheap of fits =
 
 -- and the map that has cached it
 pub IsHeld-with_row :
-    (t : Rows) (r : Row) (s : ℕ) (row : List ℕ) (m n : StateMap) (costs : ℕ) → IsHeld t s row m costs → id_of t r.state ≡ None → (r.state ≡ dead → ⊥) → cost r.state ≤ greatest t.of → IsStateOf t.of r.state → length t.cells < 2 ^ 27
+    (t : Rows) (r : Row) (s : ℕ) (row : List ℕ) (m n : StateMap) (costs : ℕ) → IsHeld t s row m costs → id_of t r.state ≡ None → (r.state ≡ dead → ⊥) → cost r.state ≤ t.of.greatest → IsStateOf t.of r.state → length t.cells < 2 ^ 27
     → ((p : Powerset) → get powerset_eq n p ≡ cond (powerset_eq r.state p) (Some (row_id (length t.cells) r)) (get powerset_eq m p)) → IsHeld (with_row t r) s row n (costs + cost r.state)
 IsHeld-with_row t r s row m n costs i none live cheap of fits new = record {
   rows = AreRows-with_row t r i.rows i.cells none live cheap of fits;
@@ -132,7 +133,7 @@ IsHeld-with_row t r s row m n costs i none live cheap of fits new = record {
   same p e = new p ∙ rw e (sym (subst (λ w. id_of (with_row t r) w ≡ Some (row_id (length t.cells) r)) ((powerset_eq-Decides r.state p).0 e) (Names-new t r i.rows.whole none)))
 
   other : (p : Powerset) → powerset_eq r.state p ≡ false → get powerset_eq n p ≡ id_of (with_row t r) p
-  other p e = new p ∙ rw e (i.mapped p ∙ sym (find_id-push_other (table_stride t.of) (3 * table_stride t.of) p t.rows r (flipped r.state p e)))
+  other p e = new p ∙ rw e (i.mapped p ∙ sym (find_id-push_other t.of.stride (3 * t.of.stride) p t.rows r (flipped r.state p e)))
 
 -- a map that finds the same
 pub IsHeld-map : (t : Rows) (s : ℕ) (row : List ℕ) (m n : StateMap) (costs : ℕ) → IsHeld t s row m costs → ((p : Powerset) → get powerset_eq n p ≡ get powerset_eq m p) → IsHeld t s row n costs

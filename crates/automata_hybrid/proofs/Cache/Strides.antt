@@ -1,9 +1,8 @@
 -- A stride is a power of two, which its logarithm tells.
-use Rattle.std.proofs.Common.{ℕ, zero, suc, ◌≡◌, ◌*◌, ◌<◌, ◌≤◌, ◌^◌, arith, refl}
+use Rattle.std.proofs.Common.{ℕ, zero, suc, ◌≡◌, ◌*◌, ◌<◌, ◌≤◌, ◌^◌, arith}
 use Rattle.std.proofs.Math.Nat.{pow-le-pow_right}
 use Rattle.std.proofs.lemmas.Bool.Decides.{nat_tests}
-use Rattle.automata_base.specs.ByteClasses.Classes.{alphabet_length, stride_for}
-use Rattle.automata_hybrid.specs.Machines.Machine.{Machine, table_stride}
+use Rattle.automata_base.specs.ByteClasses.Classes.{stride_for}
 
 stride_few : (len : ℕ) → stride_for len ≤ 512
 unfolding stride_for
@@ -26,7 +25,3 @@ stride_log len (suc (suc (suc (suc (suc (suc (suc (suc zero)))))))) h l = grind 
 stride_log len (suc (suc (suc (suc (suc (suc (suc (suc (suc zero))))))))) h l = grind (arith, nat_tests)
 stride_log len (suc (suc (suc (suc (suc (suc (suc (suc (suc (suc r)))))))))) h l =
     absurd (omega (arith, h, stride_few len, big_power (suc (suc (suc (suc (suc (suc (suc (suc (suc (suc r)))))))))) (omega arith)))
-
-pub table_stride_power : (m : Machine) → (len : ℕ) × (table_stride m ≡ stride_for len)
-unfolding table_stride
-table_stride_power m = (alphabet_length m.classes, refl)

@@ -11,8 +11,8 @@ use Rattle.automata_base.proofs.Answers.Total.{tape_units}
 use Rattle.automata_hybrid.specs.Cache.Stores.{Stored}
 use Rattle.automata_hybrid.specs.Cache.Growth.{Keeps}
 use Rattle.automata_hybrid.specs.Searches.Cached.{KnownStays, KnowsPass}
-use Rattle.automata_hybrid.specs.Steps.Steps.{unit_class}
-use Rattle.automata_hybrid.specs.Machines.Machine.{Machine, table_stride}
+use Rattle.automata_hybrid.specs.Machines.Machine.{unit_class}
+use Rattle.automata_hybrid.specs.Machines.Machine.{Machine}
 use Rattle.automata_hybrid.specs.Searches.Passes.{tape_in}
 use Rattle.automata_hybrid.proofs.Searches.Cached.{begin_still, unit_still}
 
@@ -24,8 +24,8 @@ later_ahead : (way : Direction) (input : Input) (k : ℕ) → input.start + k �
 later_ahead Forward input k within = within
 later_ahead Backward input k within = omega (arith, within)
 
-module _ (m : Machine) (bytes : (byte : ℕ) → byte < 256 → class_in m.classes byte < table_stride m) (end : eoi_class m.classes < table_stride m) where
-  unit_below : (u : Option ℕ) → IsUnit u → unit_class m u < table_stride m
+module _ (m : Machine) (bytes : (byte : ℕ) → byte < 256 → class_in m.classes byte < m.stride) (end : eoi_class m.classes < m.stride) where
+  unit_below : (u : Option ℕ) → IsUnit u → unit_class m u < m.stride
   unit_below None unit = end
   unit_below (Some byte) unit = bytes byte unit
 
@@ -36,9 +36,9 @@ module _ (m : Machine) (bytes : (byte : ℕ) → byte < 256 → class_in m.class
     begin_still way m old new input (is ∙ sym was) keeps (knows may).0,
     λ k reads clean.
         (unit_still way m old new input (is ∙ sym was) keeps k
-        ((knows may).1 k reads clean, subst (λ (n : Machine). unit_class m (next (tape_in way input) k) < table_stride n) (sym was) (below k))).0,
+        ((knows may).1 k reads clean, subst (λ (n : Machine). unit_class m (next (tape_in way input) k) < n.stride) (sym was) (below k))).0,
   ) where
-    below : (k : ℕ) → unit_class m (next (tape_in way input) k) < table_stride m
+    below : (k : ℕ) → unit_class m (next (tape_in way input) k) < m.stride
     below k = unit_below (next (tape_in way input) k) (tape_units way input.haystack input.start input.end given.0 ahead given.1 k)
 
   pub known_stays : KnownStays m

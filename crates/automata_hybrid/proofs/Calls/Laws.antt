@@ -8,25 +8,24 @@ use Rattle.automata_base.specs.declared.util.search.Anchored.{Anchored}
 use Rattle.automata_base.proofs.Paths.Orders.{none_some}
 use Rattle.automata_config.specs.Options.{match_kind_of, specialize_start_states_of}
 use Rattle.automata_hybrid.specs.declared.dfa.row.Row.{Row}
-use Rattle.automata_hybrid.specs.Cache.Caches.{CacheView, IsSoundOf, counted}
+use Rattle.automata_hybrid.specs.Cache.Caches.{CacheView, IsStoreOf, counted}
 use Rattle.automata_hybrid.specs.Cache.Changes.{IsComputed, IsStarted}
 use Rattle.automata_hybrid.specs.Cache.Growth.{ClearedNothing, IsGrown, Keeps}
 use Rattle.automata_hybrid.specs.Cache.Ids.{unknown_id}
-use Rattle.automata_hybrid.specs.Cache.Stores.{IsSoundStore, Stored, with_searched, with_start}
+use Rattle.automata_hybrid.specs.Cache.Stores.{IsKnownTransition, IsSoundStore, Stored, with_searched, with_start, IsKnownStart}
 use Rattle.automata_hybrid.specs.Cache.Table.{AreRows, IsKnownState, Lacks, Leads, Names, Rows, TagsNewStates, id_of, row_id}
 use Rattle.automata_hybrid.specs.Cache.Usage.{cleared}
 use Rattle.automata_hybrid.specs.Calls.Events.{AreCached, Begin, DoAll, Does, End, Event, Fails, IsCached, IsStepLeft, MayAsk}
 use Rattle.automata_hybrid.specs.Calls.Events.{MakesStart, MakesStep, Move, Start, Step, makings, progress_after, with_progress}
 use Rattle.automata_hybrid.specs.declared.dfa.progress.Searched.{Searched}
-use Rattle.automata_hybrid.specs.Machines.Machine.{Machine, greatest, next_of, slot_count, start_of, table_stride}
-use Rattle.automata_hybrid.specs.Machines.OwnStates.{IsOwn}
+use Rattle.automata_hybrid.specs.Machines.Machine.{Machine}
 use Rattle.automata_hybrid.specs.Machines.StartSlots.{slot_behind}
 use Rattle.automata_hybrid.specs.Steps.Starts.{start_row}
-use Rattle.automata_hybrid.specs.Steps.Steps.{KnowsStep, quits_on, unit_class}
+use Rattle.automata_hybrid.specs.Steps.Steps.{KnowsStep}
+use Rattle.automata_hybrid.specs.Machines.Machine.{quits_on, unit_class}
 use Rattle.automata_hybrid.proofs.Cache.Growth.{grown_counted, grown_moved, grown_one, grown_same, grown_trans, nothing_first, nothing_second}
-use Rattle.automata_hybrid.proofs.Cache.Places.{Found, Names-Placed, Placed}
+use Rattle.automata_hybrid.proofs.Cache.Places.{Found, Names-Placed, Names-alive, Names-own, Names-tagged, Placed, Placed-cell}
 use Rattle.automata_hybrid.proofs.Cache.Usage.{Leads-known}
-use Rattle.automata_hybrid.proofs.Machines.StartSlots.{start_same}
 use Rattle.automata_hybrid.proofs.Steps.Effects.{Keeps-computed, Keeps-started, only-grown, roomy-computed, roomy-started}
 use Rattle.automata_hybrid.proofs.Steps.Effects.{written-computed}
 use Rattle.automata_hybrid.proofs.Steps.StartTags.{computed_adds, computed_keeps, from_cleared, row_named, started_adds}
@@ -46,10 +45,10 @@ pub record Follows (m : Machine) (es : List Event) (old new : CacheView) : Type 
   pub learned : ClearedNothing old.store new.store → AreCached m new.store es
 
 -- the state of a row costs no more than a state may
-row_cheap : (t : Rows) (id : ℕ) (q : Powerset) → AreRows t → Names t id q → cost q ≤ greatest t.of
+row_cheap : (t : Rows) (id : ℕ) (q : Powerset) → AreRows t → Names t id q → cost q ≤ t.of.greatest
 row_cheap t id q rows named =
     let p : Placed t id q = Names-Placed t id q rows named in
-    subst (λ (s : Powerset). cost s ≤ greatest t.of) p.state (rows.states p.place p.row p.has).cheap
+    subst (λ (s : Powerset). cost s ≤ t.of.greatest) p.state (rows.states p.place p.row p.has).cheap
 
 -- a state that no row has, none has after a clear
 absent_cleared : (c : Stored) → IsSoundStore c → (q : Powerset) → id_of c.table q ≡ None → id_of (cleared c).table q ≡ None
@@ -57,9 +56,9 @@ absent_cleared c sound q none = go (id_of (cleared c).table q) refl where
   go : (o : Option ℕ) → id_of (cleared c).table q ≡ o → id_of (cleared c).table q ≡ None
   go None e = e
   go (Some id) e =
-      let f : Found (table_stride (cleared c).table.of) (3 * table_stride (cleared c).table.of) q (cleared c).table.rows id = row_named (cleared c).table id q e in
+      let f : Found (cleared c).table.of.stride (3 * (cleared c).table.of.stride) q (cleared c).table.rows id = row_named (cleared c).table id q e in
       let was = from_cleared c f.place f.row f.has in
-      absurd (none_some (sym none ∙ subst (λ p. Names c.table (row_id ((was.0 + 3) * table_stride c.table.of) f.row) p) f.state (sound.ids was.0 f.row was.1).0))
+      absurd (none_some (sym none ∙ subst (λ p. Names c.table (row_id ((was.0 + 3) * c.table.of.stride) f.row) p) f.state (sound.ids was.0 f.row was.1).0))
 
 -- a start adds no other state
 started_only :
@@ -82,40 +81,56 @@ started_named old new slot id r (inl (inr named, s)) lacks = absurd (none_some (
 started_named old new slot id r (inr (none, between, added, named, s)) lacks =
     subst (λ (c : Stored). Leads c.table id r.state) (sym s) (inr named)
 
+-- what is true of each cache
+pub store_sound : (c : Stored) (m : Machine) → IsStoreOf c m → IsSoundStore c
+store_sound c m s = record {
+  small = s.small;
+  wide = s.wide;
+  ids = s.rows.ids;
+  low = λ id q h. (Names-Placed c.table id q s.rows h).low;
+  tagged = λ id q h. Names-tagged c.table id q s.rows h;
+  alive = λ id q h. Names-alive c.table id q s.rows h;
+  own = λ id q h. (Names-own c.table id q s.rows h).own;
+  cells = λ id class v l. Placed-cell c.table id class v.0 s.rows (Names-Placed c.table id v.0 s.rows v.1) l;
+  slots = s.slots ∙ ap (λ (d : Machine). d.slots) (sym s.of);
+  clears = s.clears;
+}
+
 -- what is not cached is made
 module _ (m : Machine) (old new : CacheView) (of : old.store.table.of ≡ m) (sound : IsSoundStore old.store)
-    (after : IsSoundOf new.store m) where
+    (after : IsStoreOf new.store m) where
   same : new.store.table.of ≡ old.store.table.of
-  same = after.0.of ∙ sym of
+  same = after.of ∙ sym of
 
   -- a state that was absent and has a row now is as cheap as a state may be
-  cheap : (id : ℕ) (q : Powerset) → Leads new.store.table id q → Lacks old.store.table q → cost q ≤ greatest old.store.table.of
+  cheap : (id : ℕ) (q : Powerset) → Leads new.store.table id q → Lacks old.store.table q → cost q ≤ old.store.table.of.greatest
   cheap id q (inl (e, dies)) lacks = absurd (lacks.1 dies)
   cheap id q (inr named) lacks =
-      subst (λ (d : Machine). cost q ≤ greatest d) same (row_cheap new.store.table id q after.0.rows named)
+      subst (λ (d : Machine). cost q ≤ d.greatest) same (row_cheap new.store.table id q after.rows named)
 
   follows_step :
-      (q : Powerset) (unit : Option ℕ) → (IsCached m old.store (Step q unit) → ⊥) → MakesStep m q unit old new
+      (q : Powerset) (unit : Option ℕ) → unit_class m unit < m.stride → (IsCached m old.store (Step q unit) → ⊥) → MakesStep m q unit old new
       → Follows m (Step q unit ∷ []) old new
-  follows_step q unit not made = record {
+  follows_step q unit has not made = record {
     grown =
         grown_one old new same made.counted (computed_clears old.store new.store made.id (unit_class m unit) made.next q to sound.clears made.computed)
         (inr (inl (record {
           id = made.id;
-          class = unit_class m unit;
-          below = below;
+          unit = unit;
+          below = subst (λ (d : Machine). unit_class d unit < d.stride) (sym of) has;
           state = q;
           named = made.named;
-          unknown = free;
+          unknown = subst (λ (d : Machine). IsKnownTransition old.store made.id (unit_class d unit) → ⊥) (sym of) free;
           next = made.next;
           computed =
-              subst (λ (p : Powerset). IsComputed old.store made.id (unit_class m unit) q p new.store made.next)
-              (made.class.alike q own ∙ ap (λ (d : Machine). next_of d q (unit_class m unit)) (sym of)) made.computed;
+              subst
+              (λ (d : Machine). IsComputed old.store made.id (unit_class d unit) q (successor d.nfa (match_kind_of d.config) q unit) new.store made.next)
+              (sym of) made.computed;
         })))
         made.starts
         (λ p tagged. inl (tagged_none old.store.table new.store.table
-        (computed_keeps old.store new.store made.id (unit_class m unit) made.next q to sound.ids after.1.ids made.computed)
-        (computed_adds old.store new.store made.id (unit_class m unit) made.next q to sound.ids after.1.ids made.computed) p tagged))
+        (computed_keeps old.store new.store made.id (unit_class m unit) made.next q to sound.ids after.rows.ids made.computed)
+        (computed_adds old.store new.store made.id (unit_class m unit) made.next q to sound.ids after.rows.ids made.computed) p tagged))
         kept
         (λ states room. roomy-computed old.store new.store made.id (unit_class m unit) made.next q to states sound.wide (cheap made.next to made.leads) made.computed room);
     counted = omega (arith, made.counted);
@@ -125,7 +140,7 @@ module _ (m : Machine) (old new : CacheView) (of : old.store.table.of ≡ m) (so
         made.id,
         (kept nothing).rows made.id q made.named,
         subst (λ n. n < unknown_id) (sym (written-computed old.store new.store made.id (unit_class m unit) made.next q to sound.cells made.named below free made.computed nothing))
-            (Leads-known new.store.table made.next to after.1.low after.1.small made.leads),
+            (Leads-known new.store.table made.next to (store_sound new.store m after).low after.small made.leads),
       ),
       tt,
     );
@@ -133,14 +148,11 @@ module _ (m : Machine) (old new : CacheView) (of : old.store.table.of ≡ m) (so
     to : Powerset
     to = successor m.nfa (match_kind_of m.config) q unit
 
-    below : unit_class m unit < table_stride old.store.table.of
-    below = subst (λ (d : Machine). unit_class m unit < table_stride d) (sym of) made.class.below
+    below : unit_class m unit < old.store.table.of.stride
+    below = subst (λ (d : Machine). unit_class m unit < d.stride) (sym of) has
 
     free : KnowsStep m old.store made.id unit → ⊥
     free k = not (made.id, made.named, k)
-
-    own : IsOwn m.nfa q
-    own = subst (λ (d : Machine). IsOwn d.nfa q) of (sound.own made.id q made.named)
 
     kept : ClearedNothing old.store new.store → Keeps old.store new.store
     kept nothing = Keeps-computed old.store new.store made.id (unit_class m unit) made.next q to sound.cells made.named below free made.computed nothing
@@ -149,7 +161,7 @@ module _ (m : Machine) (old new : CacheView) (of : old.store.table.of ≡ m) (so
       (mode : Anchored) (behind : Option ℕ) → (IsCached m old.store (Start mode behind) → ⊥) → MakesStart m mode behind old new
       → Follows m (Start mode behind ∷ []) old new
   follows_start mode behind not made = record {
-    grown = go (cases_lt (slot_behind m mode behind) (slot_count m));
+    grown = go (cases_lt (slot_behind m mode behind) m.slots);
     counted = omega (arith, made.counted);
     known = λ all. absurd (not all.0);
     learned = λ nothing. (λ l. made.cached, tt);
@@ -158,34 +170,29 @@ module _ (m : Machine) (old new : CacheView) (of : old.store.table.of ≡ m) (so
     slot = slot_behind m mode behind
 
     now : new.store.table.of ≡ m
-    now = after.0.of
+    now = after.of
 
-    row : start_row m mode behind ≡ record { state = start_of old.store.table.of slot; started = specialize_start_states_of old.store.table.of.config }
-    row = λ i. record {
-      state = (start_same m mode behind ∙ ap (λ (d : Machine). start_of d (slot_behind m mode behind)) (sym of)) i;
-      started = ap (λ (d : Machine). specialize_start_states_of d.config) (sym of) i;
-    }
-
-    go : (slot_behind m mode behind < slot_count m) ⊎ (slot_count m ≤ slot_behind m mode behind) → IsGrown old new
+    go : (slot_behind m mode behind < m.slots) ⊎ (m.slots ≤ slot_behind m mode behind) → IsGrown old new
     go (inr past) = absurd (not (λ l. absurd (omega (arith, l, past))))
     go (inl within) =
         grown_one old new same made.counted (started_clears old.store new.store (slot_behind m mode behind) made.id (start_row m mode behind) sound.clears made.started)
         (inr (inr (inl (record {
-          slot = slot_behind m mode behind;
-          within = subst (λ (d : Machine). slot_behind m mode behind < slot_count d) (sym of) within;
-          unknown = λ k. not (λ l. k);
+          mode = mode;
+          behind = behind;
+          within = subst (λ (d : Machine). slot_behind d mode behind < d.slots) (sym of) within;
+          unknown = subst (λ (d : Machine). IsKnownStart old.store (slot_behind d mode behind) → ⊥) (sym of) (λ k. not (λ l. k));
           id = made.id;
-          started = subst (λ (r : Row). IsStarted old.store (slot_behind m mode behind) r new.store made.id) row made.started;
+          started = subst (λ (d : Machine). IsStarted old.store (slot_behind d mode behind) (start_row d mode behind) new.store made.id) (sym of) made.started;
         }))))
         made.starts
-        (tagged_start old.store new.store (slot_behind m mode behind) (start_state_of m.nfa mode behind)
-        (started_keeps old.store new.store (slot_behind m mode behind) made.id (start_row m mode behind) sound.ids after.1.ids made.started)
+        (tagged_start old.store new.store mode behind (start_state_of m.nfa mode behind)
+        (started_keeps old.store new.store (slot_behind m mode behind) made.id (start_row m mode behind) sound.ids after.rows.ids made.started)
         (subst (λ (d : Machine). TagsNewStates old.store.table new.store.table (specialize_start_states_of d.config)) (sym now)
-        (started_adds old.store new.store (slot_behind m mode behind) made.id (start_row m mode behind) sound.ids after.1.ids made.started))
+        (started_adds old.store new.store (slot_behind m mode behind) made.id (start_row m mode behind) sound.ids after.rows.ids made.started))
         (started_only old.store new.store (slot_behind m mode behind) made.id (start_row m mode behind) sound made.started)
-        (subst (λ (d : Machine). slot_behind m mode behind < slot_count d) (sym now) within)
-        made.cached
-        (start_same m mode behind ∙ ap (λ (d : Machine). start_of d (slot_behind m mode behind)) (sym now)))
+        (subst (λ (d : Machine). slot_behind d mode behind < d.slots) (sym now) within)
+        (subst (λ (d : Machine). IsKnownStart new.store (slot_behind d mode behind)) (sym now) made.cached)
+        (ap (λ (d : Machine). start_state_of d.nfa mode behind) (sym now)))
         (λ nothing. Keeps-started old.store new.store (slot_behind m mode behind) made.id (start_row m mode behind) made.started sound.cells (λ k. not (λ l. k)) nothing)
         (λ states room. roomy-started old.store new.store (slot_behind m mode behind) made.id (start_row m mode behind) made.started states sound.wide
         (λ lacks. cheap made.id (start_state_of m.nfa mode behind) (started_named old.store new.store (slot_behind m mode behind) made.id (start_row m mode behind) made.started lacks) lacks) room)
@@ -217,7 +224,7 @@ follows_one m (Begin at) old new of sound (class, after, inr (not, made)) = absu
 follows_one m (Move at) old new of sound (class, after, inr (not, made)) = absurd made
 follows_one m (End at) old new of sound (class, after, inr (not, made)) = absurd made
 follows_one m (Start mode behind) old new of sound (class, after, inr (not, made)) = follows_start m old new of sound after mode behind not made
-follows_one m (Step q unit) old new of sound (class, after, inr (not, made)) = follows_step m old new of sound after q unit not made
+follows_one m (Step q unit) old new of sound (class, after, inr (not, made)) = follows_step m old new of sound after q unit class.1 not made
 
 -- what is cached stays so where nothing is lost
 pub cached_kept :
@@ -228,7 +235,7 @@ cached_kept m old new of keeps (Move at) class c = tt
 cached_kept m old new of keeps (End at) class c = tt
 cached_kept m old new of keeps (Start mode behind) class c = λ l. subst (λ n. n < unknown_id) (sym (keeps.starts _ (c l))) (c l)
 cached_kept m old new of keeps (Step q unit) class (id, named, known) =
-    let row : unit_class m unit < table_stride old.table.of = subst (λ (d : Machine). unit_class m unit < table_stride d) (sym of) class.1 in (
+    let row : unit_class m unit < old.table.of.stride = subst (λ (d : Machine). unit_class m unit < d.stride) (sym of) class.1 in (
       id,
       keeps.rows id q named,
       subst (λ n. n < unknown_id) (sym (keeps.cells id (unit_class m unit) (q, named) row known)) known,
@@ -272,7 +279,7 @@ follows_then m e es old mid new of class f g = record {
 
 -- the laws of events, for every call that makes them
 pub follows_all :
-    (m : Machine) (es : List Event) (old new : CacheView) → IsSoundOf old.store m → DoAll m es old new → Follows m es old new
+    (m : Machine) (es : List Event) (old new : CacheView) → IsStoreOf old.store m → DoAll m es old new → Follows m es old new
 follows_all m [] old new sound same = record {
   grown = grown_same old new same;
   counted = (let e : new.count ≡ old.count = ap (λ (v : CacheView). v.count) same in omega (arith, e));
@@ -280,41 +287,36 @@ follows_all m [] old new sound same = record {
   learned = λ nothing. tt;
 }
 follows_all m (e ∷ es) old new sound (mid, does, rest) =
-    follows_then m e es old mid new does.1.0.of does.0 (follows_one m e old mid sound.0.of sound.1 does) (follows_all m es mid new does.1 rest)
+    follows_then m e es old mid new does.1.of does.0 (follows_one m e old mid sound.of (store_sound old.store m sound) does) (follows_all m es mid new does.1 rest)
 
 -- what is cached at first costs nothing
 pub first_cached :
-    (m : Machine) (e : Event) (es : List Event) (old new : CacheView) → IsSoundOf old.store m → IsCached m old.store e
+    (m : Machine) (e : Event) (es : List Event) (old new : CacheView) → IsStoreOf old.store m → IsCached m old.store e
     → DoAll m (e ∷ es) old new → new.count ≤ old.count + makings es
 first_cached m e es old new sound cached (mid, does, rest) =
-    let first = (follows_one m e old mid sound.0.of sound.1 does).known (cached, tt) in
+    let first = (follows_one m e old mid sound.of (store_sound old.store m sound) does).known (cached, tt) in
     let all = follows_all m es mid new does.1 rest in
     omega (arith, first, all.counted)
 
 -- the last cache is one of the DFA too
-pub all_sound : (m : Machine) (es : List Event) (old new : CacheView) → IsSoundOf old.store m → DoAll m es old new → IsSoundOf new.store m
-all_sound m [] old new sound same = subst (λ (v : CacheView). IsSoundOf v.store m) (sym same) sound
+pub all_sound : (m : Machine) (es : List Event) (old new : CacheView) → IsStoreOf old.store m → DoAll m es old new → IsStoreOf new.store m
+all_sound m [] old new sound same = subst (λ (v : CacheView). IsStoreOf v.store m) (sym same) sound
 all_sound m (e ∷ es) old new sound (mid, does, rest) = all_sound m es mid new does.1 rest
 
 -- a cache is one of its DFA wherever its search is
-pub searched_sound : (m : Machine) (c : Stored) (s : Searched) → IsSoundOf c m → IsSoundOf (with_searched c s) m
-searched_sound m c s (bounds, sound) = (
-  record { of = bounds.of; rows = bounds.rows; starts = bounds.starts; slots = bounds.slots; within = bounds.within },
-  record {
-    small = sound.small;
-    wide = sound.wide;
-    ids = sound.ids;
-    low = sound.low;
-    tagged = sound.tagged;
-    alive = sound.alive;
-    own = sound.own;
-    cells = sound.cells;
-    slots = sound.slots;
-    clears = sound.clears;
-  },
-)
+pub searched_sound : (m : Machine) (c : Stored) (s : Searched) → IsStoreOf c m → IsStoreOf (with_searched c s) m
+searched_sound m c s sound = record {
+  of = sound.of;
+  rows = sound.rows;
+  starts = sound.starts;
+  slots = sound.slots;
+  within = sound.within;
+  small = sound.small;
+  wide = sound.wide;
+  clears = sound.clears;
+}
 
-pub moved_sound : (m : Machine) (e : Event) (c : CacheView) → IsSoundOf c.store m → IsSoundOf (with_progress e c).store m
+pub moved_sound : (m : Machine) (e : Event) (c : CacheView) → IsStoreOf c.store m → IsStoreOf (with_progress e c).store m
 moved_sound m e c sound = searched_sound m c.store (progress_after e c.store.searched) sound
 
 -- events and then others

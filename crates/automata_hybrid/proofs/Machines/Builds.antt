@@ -1,22 +1,22 @@
 use Rattle.std.proofs.Common.{◌≡◌, ℕ, zero, suc, ◌+◌, ◌-◌, ◌*◌, ◌^◌, ◌<◌, ◌≤◌, List, length, Bool, true, false, cond}
-use Rattle.std.proofs.Common.{set, get_or, None, Some, refl, sym, ap, ◌∙◌, subst, ◌⊎◌, inl, inr, ⊎_elim, arith}
+use Rattle.std.proofs.Common.{set, get_or, Option, None, Some, refl, sym, ap, ◌∙◌, subst, ◌⊎◌, inl, inr, ⊎_elim, arith}
 use Rattle.std.proofs.Common.{length-set, lit<}
-use Rattle.std.specs.Prelude.{◌==◌}
-use Rattle.std.proofs.lemmas.Bool.{cases_lt, cases_eq, eqb-true, eqb-false}
+use Rattle.std.specs.Prelude.{slice_index}
+use Rattle.std.proofs.lemmas.Bool.{cases_lt, cases_eq}
 use Rattle.std.proofs.lemmas.List.{length-replicate, get_or-replicate, get_or-set_same, get_or-set_other}
-use Rattle.automata_base.specs.Powersets.Accounting.{fixed_cost, start_slots, minimum_capacity, effective_capacity}
+use Rattle.automata_base.specs.Powersets.Accounting.{start_slots, minimum_capacity, effective_capacity}
 use Rattle.automata_base.specs.ByteClasses.Classes.{class_in, eoi_class, is_quit, is_boundary, boundary_count, class_of}
-use Rattle.automata_base.specs.ByteClasses.Classes.{stride_of, stride_for}
+use Rattle.automata_base.specs.ByteClasses.Classes.{alphabet_length, stride_of, stride_for}
 use Rattle.automata_base.specs.Powersets.Powerset.{Powerset}
 use Rattle.automata_base.specs.Retraced.Steps.{successor}
 use Rattle.automata_base.proofs.Powersets.AlikeClasses.{class_step, class_quits}
 use Rattle.automata_config.specs.Options.{starts_for_each_pattern_of, byte_classes_of, match_kind_of, cache_capacity_of}
 use Rattle.automata_config.specs.Settled.{Settled}
 use Rattle.automata_config.specs.Settling.{IsSettled, settled_minimum, greatest_offset}
+use Rattle.automata_base.specs.Powersets.Passes.{IsUnit}
 use Rattle.automata_hybrid.specs.Cache.Ids.{quit_id}
 use Rattle.automata_hybrid.specs.Machines.OwnStates.{IsOwn}
-use Rattle.automata_hybrid.specs.Machines.Machine.{Machine, IsMachine, marked, template_of, byte_of, next_of, greatest}
-use Rattle.automata_hybrid.specs.Machines.Machine.{table_stride, slot_count}
+use Rattle.automata_hybrid.specs.Machines.Machine.{IsMachine, IsSized, Machine, marked, unit_class}
 use Rattle.automata_base.proofs.ByteClasses.Boundaries.{count_grows}
 
 count_up_to : (f : ℕ → Bool) (n m : ℕ) → n ≤ m → boundary_count f n ≤ boundary_count f m
@@ -63,54 +63,18 @@ marked-quit cs qs s (suc n) byte h l q = go (is_quit qs n) refl (cases_lt byte n
   go true e (inl k) again = ⊎_elim here (λ (ne : class_in cs byte ≡ class_in cs n → ⊥). rw (get_or-set_other (marked cs qs s n) (class_in cs n) (class_in cs byte) (quit_id s) 0 ne) (again k)) (cases_eq (class_in cs byte) (class_in cs n))
   go true e (inr k) again = let same : byte ≡ n = omega (arith, k, h) in here (ap (class_in cs) same)
 
--- a byte of a class of a byte
-pub record IsOfClass (cs : List ℕ) (class n : ℕ) : Type 0 where
-  pub byte : ℕ
-  pub below : byte < n
-  pub class_is : class_in cs byte ≡ class
-  pub found : byte_of cs class n ≡ Some byte
-
-byte_of-some : (cs : List ℕ) (class n b : ℕ) → b < n → class_in cs b ≡ class → IsOfClass cs class n
-unfolding byte_of
-byte_of-some cs class zero b h e = absurd (omega (arith, h))
-byte_of-some cs class (suc n) b h e = go (class_in cs n == class) refl (λ lt. byte_of-some cs class n b lt e) where
-  go : (t : Bool) → (class_in cs n == class) ≡ t → (b < n → IsOfClass cs class n) → IsOfClass cs class (suc n)
-  go true f again = record { byte = n; below = omega arith; class_is = eqb-true (class_in cs n) class f; found = rw f refl }
-  go false f again =
-      let ne : b ≡ n → ⊥ = λ s. eqb-false (class_in cs n) class f (sym (ap (class_in cs) s) ∙ e) in
-      let lt : b < n = omega (arith, h, ne) in
-      let i = again lt in
-      record { byte = i.byte; below = omega (arith, i.below); class_is = i.class_is; found = rw f i.found }
-
-byte_of-none : (cs : List ℕ) (class n : ℕ) → ((b : ℕ) → b < n → class_in cs b ≡ class → ⊥) → byte_of cs class n ≡ None
-unfolding byte_of
-byte_of-none cs class zero none = refl
-byte_of-none cs class (suc n) none = go (class_in cs n == class) refl (byte_of-none cs class n (λ b h. none b (omega (arith, h)))) where
-  go : (t : Bool) → (class_in cs n == class) ≡ t → byte_of cs class n ≡ None → cond t (Some n) (byte_of cs class n) ≡ None
-  go true f again = absurd (none n (omega arith) (eqb-true (class_in cs n) class f))
-  go false f again = again
-
 -- what a DFA is built of
 pub record IsBuilt (s : Settled) (m : Machine) : Type 0 where
   pub settled : IsSettled m.config m.nfa s
+  pub sizes : IsSized m
   pub classes : m.classes ≡ s.classes
   pub quits : m.quits ≡ s.quits
   pub end_below : eoi_class s.classes < stride_of s.classes
   pub small : stride_of s.classes ≤ 512
   pub capacity : m.capacity ≡ s.capacity
 
--- the stride of a machine, by its classes
-pub table_stride-is : (m : Machine) → table_stride m ≡ stride_of m.classes
-unfolding table_stride
-table_stride-is m = refl
-
-stride_is : (s : Settled) (m : Machine) → IsBuilt s m → table_stride m ≡ stride_of s.classes
-stride_is s m i = table_stride-is m ∙ ap (λ (xs : List ℕ). stride_of xs) i.classes
-
--- the start slots of a machine, by its automaton and its settings
-pub slot_count-is : (m : Machine) → slot_count m ≡ start_slots m.nfa (starts_for_each_pattern_of m.config)
-unfolding slot_count
-slot_count-is m = refl
+stride_is : (s : Settled) (m : Machine) → IsBuilt s m → m.stride ≡ stride_of s.classes
+stride_is s m i = i.sizes.stride ∙ ap (λ (xs : List ℕ). stride_of xs) i.classes
 
 class_is : (s : Settled) (m : Machine) → IsBuilt s m → (b : ℕ) → b < 256 → class_in m.classes b ≡ class_of m.nfa m.quits (byte_classes_of m.config) b
 class_is s m i b h = rw (i.classes, i.quits) (i.settled.classes b h)
@@ -122,57 +86,68 @@ class_below s m i b h =
     let last : class_in m.classes 255 ≡ boundary_count f 255 = class_is s m i 255 (lit< tt) in
     omega (arith, le, last, class_is s m i b h)
 
-class_within : (s : Settled) (m : Machine) → IsBuilt s m → (b : ℕ) → b < 256 → class_in m.classes b < table_stride m
+class_within : (s : Settled) (m : Machine) → IsBuilt s m → (b : ℕ) → b < 256 → class_in m.classes b < m.stride
 class_within s m i b h =
-    let e : eoi_class m.classes < table_stride m = rw (stride_is s m i, i.classes) i.end_below in
+    let e : eoi_class m.classes < m.stride = rw (stride_is s m i, i.classes) i.end_below in
     omega (arith, e, class_below s m i b h)
 
 -- what is built is a machine
 pub IsBuilt-IsMachine : (s : Settled) (m : Machine) → IsBuilt s m → IsMachine m
-unfolding template_of next_of IsOwn settled_minimum greatest_offset
+unfolding IsOwn settled_minimum greatest_offset
 IsBuilt-IsMachine s m i =
-    let end : eoi_class m.classes < table_stride m = rw (stride_is s m i, i.classes) i.end_below in
-    let small : table_stride m ≤ 512 = rw (stride_is s m i) i.small in
+    let end : eoi_class m.classes < m.stride = rw (stride_is s m i, i.classes) i.end_below in
+    let small : m.stride ≤ 512 = rw (stride_is s m i) i.small in
     record {
+      sizes = i.sizes;
       template = record {
         positive = omega (arith, end);
         small = small;
-        whole = marked-length m.classes m.quits (table_stride m) 256;
-        cells = λ class l. marked-either m.classes m.quits (table_stride m) 256 class l;
+        power = (alphabet_length m.classes, i.sizes.stride);
+        whole = ap length i.sizes.template ∙ marked-length m.classes m.quits m.stride 256;
+        cells = λ class l.
+            subst (λ (row : List ℕ). (slice_index row class ≡ quit_id m.stride) ⊎ (slice_index row class ≡ 2 ^ 31)) (sym i.sizes.template)
+            (marked-either m.classes m.quits m.stride 256 class l);
       };
       below = end;
-      quit = λ b h q. marked-quit m.classes m.quits (table_stride m) 256 b h (class_within s m i b h) q;
-      free = λ b h q. marked-free m.classes m.quits (table_stride m) 256 (class_in m.classes b) (class_within s m i b h) (apart b h q);
-      end_free = marked-free m.classes m.quits (table_stride m) 256 (eoi_class m.classes) end (λ b h q e. absurd (omega (arith, e, class_below s m i b h)));
-      alike = λ b q h own. alike b q h own (byte_of-some m.classes (class_in m.classes b) 256 b h refl);
-      end_alike = λ q own. ap (successor m.nfa (match_kind_of m.config) q) (sym (byte_of-none m.classes (eoi_class m.classes) 256 (λ b h e. absurd (omega (arith, e, class_below s m i b h)))));
+      quit = λ b h q. at_row (class_in m.classes b) (quit_id m.stride) (marked-quit m.classes m.quits m.stride 256 b h (class_within s m i b h) q);
+      free = λ b h q. at_row (class_in m.classes b) (2 ^ 31) (marked-free m.classes m.quits m.stride 256 (class_in m.classes b) (class_within s m i b h) (apart b h q));
+      end_free = at_row (eoi_class m.classes) (2 ^ 31) (marked-free m.classes m.quits m.stride 256 (eoi_class m.classes) end (λ b h q e. absurd (omega (arith, e, class_below s m i b h))));
+      alike = alike;
       enough = enough;
       offsets = offsets;
     } where
+      at_row : (class id : ℕ) → slice_index (marked m.classes m.quits m.stride 256) class ≡ id → slice_index m.template class ≡ id
+      at_row class id h = subst (λ (row : List ℕ). slice_index row class ≡ id) (sym i.sizes.template) h
+
       apart : (b : ℕ) → b < 256 → is_quit m.quits b ≡ false → (u : ℕ) → u < 256 → is_quit m.quits u ≡ true → class_in m.classes b ≡ class_in m.classes u → ⊥
       apart b h q u k p e =
           let same : is_quit m.quits b ≡ is_quit m.quits u = class_quits m.nfa m.quits (byte_classes_of m.config) b u (sym (class_is s m i b h) ∙ e ∙ class_is s m i u k) in
           let clash : false ≡ true = sym q ∙ same ∙ p in
           cc
 
-      alike : (b : ℕ) (q : Powerset) → b < 256 → IsOwn m.nfa q → IsOfClass m.classes (class_in m.classes b) 256 → successor m.nfa (match_kind_of m.config) q (Some b) ≡ successor m.nfa (match_kind_of m.config) q (byte_of m.classes (class_in m.classes b) 256)
-      alike b q h own j =
-          let e : class_of m.nfa m.quits (byte_classes_of m.config) b ≡ class_of m.nfa m.quits (byte_classes_of m.config) j.byte = sym (class_is s m i b h) ∙ sym j.class_is ∙ class_is s m i j.byte j.below in
-          class_step m.nfa m.quits (byte_classes_of m.config) (match_kind_of m.config) q b j.byte e own.1 ∙ ap (successor m.nfa (match_kind_of m.config) q) (sym j.found)
+      alike :
+          (q : Powerset) (unit other : Option ℕ) → IsOwn m.nfa q → IsUnit unit → IsUnit other
+          → unit_class m unit ≡ unit_class m other
+          → successor m.nfa (match_kind_of m.config) q unit ≡ successor m.nfa (match_kind_of m.config) q other
+      alike q None None own h k e = refl
+      alike q None (Some v) own h k e = absurd (omega (arith, e, class_below s m i v k))
+      alike q (Some u) None own h k e = absurd (omega (arith, e, class_below s m i u h))
+      alike q (Some u) (Some v) own h k e =
+          class_step m.nfa m.quits (byte_classes_of m.config) (match_kind_of m.config) q u v (sym (class_is s m i u h) ∙ e ∙ class_is s m i v k) own.1
 
-      same_stride : table_stride m ≡ stride_for (class_of m.nfa s.quits (byte_classes_of m.config) 255 + 2)
+      same_stride : m.stride ≡ stride_for (class_of m.nfa s.quits (byte_classes_of m.config) 255 + 2)
       same_stride = stride_is s m i ∙ ap (λ n. stride_for (n + 2)) (i.settled.classes 255 (lit< tt))
 
-      minimum_is : settled_minimum m.config m.nfa ≡ minimum_capacity (table_stride m) (slot_count m) (greatest m) (fixed_cost m.nfa)
-      minimum_is = rw (same_stride, slot_count-is m, i.settled.quits) refl
+      minimum_is : settled_minimum m.config m.nfa ≡ minimum_capacity m.stride m.slots m.greatest m.fixed
+      minimum_is = rw (same_stride, i.sizes.slots, i.sizes.greatest, i.sizes.fixed, i.settled.quits) refl
 
-      enough : minimum_capacity (table_stride m) (slot_count m) (greatest m) (fixed_cost m.nfa) ≤ m.capacity
+      enough : minimum_capacity m.stride m.slots m.greatest m.fixed ≤ m.capacity
       enough =
           let given : m.capacity ≡ effective_capacity (cache_capacity_of m.config) (settled_minimum m.config m.nfa) = i.capacity ∙ i.settled.capacity in
           subst (λ n. n ≤ m.capacity) minimum_is (subst (λ n. settled_minimum m.config m.nfa ≤ n) (sym given) (omega arith))
 
-      offsets : (slot_count m + 4) * table_stride m < 2 ^ 27
+      offsets : (m.slots + 4) * m.stride < 2 ^ 27
       offsets =
-          let le : (4 + start_slots m.nfa (starts_for_each_pattern_of m.config)) * table_stride m ≤ 134217727 = rw (same_stride, i.settled.quits) i.settled.offsets in
-          let e : (slot_count m + 4) * table_stride m ≡ (4 + start_slots m.nfa (starts_for_each_pattern_of m.config)) * table_stride m = rw (slot_count-is m) (omega arith) in
+          let le : (4 + start_slots m.nfa (starts_for_each_pattern_of m.config)) * m.stride ≤ 134217727 = rw (same_stride, i.settled.quits) i.settled.offsets in
+          let e : (m.slots + 4) * m.stride ≡ (4 + start_slots m.nfa (starts_for_each_pattern_of m.config)) * m.stride = rw i.sizes.slots (omega arith) in
           omega (arith, le, e)

@@ -1,6 +1,5 @@
-use Rattle.std.proofs.Common.{◌≡◌, ℕ, ◌+◌, ◌*◌, ◌/◌, ◌%◌, ◌<◌, ◌≤◌, length, Bool, true, false, cond, eqb, Option, None}
-use Rattle.std.proofs.Common.{Some, refl, sym, ap, ◌∙◌, subst, arith, lit<}
-use Rattle.std.proofs.lemmas.Bool.{eqb-true, eq-eqb}
+use Rattle.std.proofs.Common.{◌≡◌, ℕ, zero, suc, ◌+◌, ◌*◌, ◌/◌, ◌%◌, ◌<◌, ◌≤◌, length, Bool, true, false, cond, eqb, Option, None}
+use Rattle.std.proofs.Common.{Some, refl, sym, ap, ◌∙◌, arith, lit<}
 use Rattle.std.proofs.lemmas.Nat.{div-mul-add, mod-mul-add}
 use Rattle.std.proofs.lemmas.Option.{slice_get_past}
 use Rattle.automata_base.specs.Powersets.Accounting.{start_slots}
@@ -12,53 +11,45 @@ use Rattle.automata_base.specs.Retraced.Steps.{start_state_of}
 use Rattle.automata_base.specs.declared.util.search.Anchored.{Anchored}
 use Rattle.automata_base.specs.declared.util.search.Anchored.TheVariants.{No, Yes, Pattern}
 use Rattle.automata_base.proofs.Powersets.Alike.{behind_alike}
-use Rattle.automata_hybrid.specs.Machines.Machine.{Machine, mode_of, sample_of, start_of}
-use Rattle.automata_hybrid.specs.Machines.StartSlots.{group_of, slot_of}
+use Rattle.automata_hybrid.specs.Machines.Machine.{Machine}
+use Rattle.automata_hybrid.specs.Machines.StartSlots.{group_of, slot_behind}
 
--- a sample of a kind is of that kind
-abbrev pub IsSample : ℕ → ℕ → Type 0
-IsSample t k = (behind_of t (sample_of t k) ≡ k) × (k < 6)
+-- there are six kinds of look-behind
+kind_below : (t : ℕ) (x : Option ℕ) → behind_of t x < 6
+kind_below t None = lit< tt
+kind_below t (Some u) = go (eqb u 10) (eqb u 13) (eqb u t) (is_word_byte u) where
+  go : (a b c w : Bool) → cond a 3 (cond b 4 (cond c 5 (cond w 1 0))) < 6
+  go true b c w = lit< tt
+  go false true c w = lit< tt
+  go false false true w = lit< tt
+  go false false false true = lit< tt
+  go false false false false = lit< tt
 
-sample_other : (t : ℕ) (b : Bool) → eqb 0 t ≡ b → behind_of t (Some (cond b 1 0)) ≡ 0
-sample_other t true e = let z : 0 ≡ t = eqb-true 0 t e in subst (λ n. behind_of n (Some 1) ≡ 0) z refl
-sample_other t false e = rw e refl
-
-sample_word : (t : ℕ) (b : Bool) → eqb 97 t ≡ b → behind_of t (Some (cond b 98 97)) ≡ 1
-sample_word t true e = let z : 97 ≡ t = eqb-true 97 t e in subst (λ n. behind_of n (Some 98) ≡ 1) z refl
-sample_word t false e = rw e refl
-
-sample_terminator : (t : ℕ) → eqb t 10 ≡ false → eqb t 13 ≡ false → behind_of t (Some t) ≡ 5
-sample_terminator t a b = rw (a, b, eq-eqb t t refl) refl
-
-pub behind_sample : (t : ℕ) (x : Option ℕ) → IsSample t (behind_of t x)
-behind_sample t None = (refl, lit< tt)
-behind_sample t (Some u) = go (eqb u 10) refl (eqb u 13) refl (eqb u t) refl (is_word_byte u)
-  where
-    go : (a : Bool) → eqb u 10 ≡ a → (b : Bool) → eqb u 13 ≡ b → (c : Bool) → eqb u t ≡ c → (w : Bool) → IsSample t (cond a 3 (cond b 4 (cond c 5 (cond w 1 0))))
-    go true e b f c g w = (refl, lit< tt)
-    go false e true f c g w = (refl, lit< tt)
-    go false e false f true g w =
-        let same : u ≡ t = eqb-true u t g in
-        (sample_terminator t (subst (λ n. eqb n 10 ≡ false) same e) (subst (λ n. eqb n 13 ≡ false) same f), lit< tt)
-    go false e false f false g true = (sample_word t (eqb 97 t) refl, lit< tt)
-    go false e false f false g false = (sample_other t (eqb 0 t) refl, lit< tt)
+-- the anchored mode of a group of start slots
+mode_of : ℕ → Anchored
+mode_of zero = No
+mode_of (suc zero) = Yes
+mode_of (suc (suc pattern)) = Pattern pattern
 
 mode_group : (mode : Anchored) → mode_of (group_of mode) ≡ mode
+unfolding mode_of
 mode_group No = refl
 mode_group Yes = refl
 mode_group (Pattern p) = refl
 
--- the start of a slot is that of its mode after each thing of its kind
-pub start_same : (m : Machine) (mode : Anchored) (x : Option ℕ) → start_state_of m.nfa mode x ≡ start_of m (slot_of mode (behind_of m.nfa.flags.line_terminator x))
-unfolding start_of
-start_same m mode x =
+-- modes that have one slot after their look-behind bytes have one start state
+pub starts_alike :
+    (m : Machine) (mode other : Anchored) (x y : Option ℕ) → slot_behind m mode x ≡ slot_behind m other y
+    → start_state_of m.nfa mode x ≡ start_state_of m.nfa other y
+starts_alike m mode other x y e =
     let t : ℕ = m.nfa.flags.line_terminator in
     let k : ℕ = behind_of t x in
-    let s = behind_sample t x in
-    let group : slot_of mode k / 6 ≡ group_of mode = div-mul-add (group_of mode) 6 k s.1 in
-    let kind : slot_of mode k % 6 ≡ k = mod-mul-add (group_of mode) 6 k s.1 in
-    behind_alike m.nfa mode x (sample_of t k) (sym s.0)
-    ∙ sym (λ i. start_state_of m.nfa ((ap mode_of group ∙ mode_group mode) i) (sample_of t (kind i)))
+    let l : ℕ = behind_of t y in
+    let group : group_of mode ≡ group_of other =
+    sym (div-mul-add (group_of mode) 6 k (kind_below t x)) ∙ (ap (λ n. n / 6) e ∙ div-mul-add (group_of other) 6 l (kind_below t y)) in
+    let kind : k ≡ l = sym (mod-mul-add (group_of mode) 6 k (kind_below t x)) ∙ (ap (λ n. n % 6) e ∙ mod-mul-add (group_of other) 6 l (kind_below t y)) in
+    let same : mode ≡ other = sym (mode_group mode) ∙ (ap mode_of group ∙ mode_group other) in
+    ap (λ v. start_state_of m.nfa v x) same ∙ behind_alike m.nfa other x y kind
 
 -- past the last pattern the start is dead
 pub past_patterns : (a : Automaton) (p : ℕ) (x : Option ℕ) → length a.start_pattern ≤ p → start_state_of a (Pattern p) x ≡ dead

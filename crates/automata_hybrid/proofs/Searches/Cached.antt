@@ -9,8 +9,8 @@ use Rattle.automata_hybrid.specs.Cache.Stores.{Stored}
 use Rattle.automata_hybrid.specs.Cache.Caches.{CacheView}
 use Rattle.automata_hybrid.specs.Cache.Growth.{IsGrown, Keeps}
 use Rattle.automata_hybrid.specs.Searches.Cached.{Knows, KnowsItsStart, KnowsPass, KnowsUnit}
-use Rattle.automata_hybrid.specs.Steps.Steps.{unit_class}
-use Rattle.automata_hybrid.specs.Machines.Machine.{Machine, table_stride}
+use Rattle.automata_hybrid.specs.Machines.Machine.{unit_class}
+use Rattle.automata_hybrid.specs.Machines.Machine.{Machine}
 use Rattle.automata_hybrid.specs.Searches.PassState.{HasLearnedUnit}
 use Rattle.automata_hybrid.specs.Searches.Passes.{Finds, Reads, Skips, state_in, tape_in}
 use Rattle.automata_hybrid.specs.Cache.Table.{Names}
@@ -26,10 +26,10 @@ module _ (way : Direction) (m : Machine) (old new : Stored) (input : Input) (of 
   pub unit_still : (j : ℕ) → HasLearnedUnit way m old input j → HasLearnedUnit way m new input j
   unit_still j had =
       let unit : KnowsUnit way m old input j = had.0 in
-      let below : unit_class m (next (tape_in way input) j) < table_stride old.table.of = had.1 in
+      let below : unit_class m (next (tape_in way input) j) < old.table.of.stride = had.1 in
       let row : Names new.table unit.0 (state_in way m input j) = keeps.rows unit.0 (state_in way m input j) unit.1 in
       let cell = keeps.cells unit.0 (unit_class m (next (tape_in way input) j)) (state_in way m input j, unit.1) below unit.2 in
-      ((unit.0, row, subst (λ n. n < 2 ^ 31) (sym cell) unit.2), subst (λ (n : Machine). unit_class m (next (tape_in way input) j) < table_stride n) (sym of) below)
+      ((unit.0, row, subst (λ n. n < 2 ^ 31) (sym cell) unit.2), subst (λ (n : Machine). unit_class m (next (tape_in way input) j) < n.stride) (sym of) below)
 
   pub begin_still : KnowsItsStart way m old input → KnowsItsStart way m new input
   begin_still begin = λ l. subst (λ n. n < 2 ^ 31) (sym (keeps.starts _ (begin l))) (begin l)

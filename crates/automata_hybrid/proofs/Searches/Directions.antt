@@ -13,7 +13,7 @@ use Rattle.automata_base.specs.Haystacks.Tapes.{byte_before}
 use Rattle.automata_base.specs.declared.util.search.Direction.{Direction}
 use Rattle.automata_base.specs.declared.util.search.Direction.TheVariants.{Forward, Backward}
 use Rattle.automata_base.proofs.Paths.Orders.{some_inj}
-use Rattle.automata_hybrid.specs.Machines.Machine.{Machine, table_stride}
+use Rattle.automata_hybrid.specs.Machines.Machine.{Machine}
 use Rattle.automata_hybrid.specs.Searches.Progress.{IsAfterEnd, KeepsNone}
 use Rattle.automata_hybrid.specs.Searches.Passes.{given_up_offset, state_in, tape_in, unit_offset}
 use Rattle.automata_hybrid.specs.Searches.SelfLoops.{byte_in}
@@ -189,7 +189,7 @@ quit_free m read clean byte e = subst (λ v. is_quit m.quits v ≡ false) (some_
 -- a pass begins dead, or in the state that its start names
 module _ (way : Direction) (m : Machine) (t : Rows) (input : Input) (id : ℕ)
     (named : Leads t id (start_state_of m.nfa input.anchored (tape_in way input).before))
-    (low : (q : Powerset) → Names t id q → id < 2 ^ 29) (small : table_stride t.of ≤ 512) where
+    (low : (q : Powerset) → Names t id q → id < 2 ^ 29) (small : t.of.stride ≤ 512) where
   begins : Leads t id (state_in way m input 0)
   begins = subst (Leads t id) (state_first way m input) named
 

@@ -19,11 +19,11 @@ use Rattle.automata_config.specs.declared.error.StartError.{StartError}
 use Rattle.automata_config.specs.declared.error.StartError.TheVariants as start
 use Rattle.automata_config.specs.declared.error.SearchError.{SearchError}
 use Rattle.automata_config.specs.declared.error.SearchError.TheVariants as search
-use Rattle.automata_hybrid.specs.Cache.Caches.{CacheView, IsSoundOf}
+use Rattle.automata_hybrid.specs.Cache.Caches.{CacheView, IsStoreOf}
 use Rattle.automata_hybrid.specs.Cache.Growth.{ClearedNothing, IsGrown, IsStill}
 use Rattle.automata_hybrid.specs.Cache.Stores.{Stored}
 use Rattle.automata_hybrid.specs.Calls.Events.{AreCached, Begin, DoAll, End, Event, IsStepLeft, MayAsk, Move, makings}
-use Rattle.automata_hybrid.specs.Machines.Machine.{Machine, table_stride}
+use Rattle.automata_hybrid.specs.Machines.Machine.{Machine}
 use Rattle.automata_hybrid.specs.Machines.StartSlots.{supports}
 use Rattle.automata_hybrid.specs.Searches.Cached.{IsOfInput, Knows, KnowsItsStart, KnowsPass, KnowsUnit}
 use Rattle.automata_hybrid.specs.Searches.Follows.{IsCostOfPass, IsCostOfPasses, IsCostOfSearch, passes_most}
@@ -34,7 +34,7 @@ use Rattle.automata_hybrid.specs.Searches.Progress.{EndsAtLast, PassEnds, HasNoS
 use Rattle.automata_hybrid.specs.Searches.Progress.{IsSearchRun, SearchEnds, SearchFails, TriesSpan, TriesSpans}
 use Rattle.automata_hybrid.specs.Searches.Progress.{start_event, unit_event, unit_events, with_search_begun, with_search_ended, with_search_moved}
 use Rattle.automata_hybrid.specs.Steps.Starts.{IsStartRefusal, IsStartRefusalAt, MayStart, quit_behind, search_refusal}
-use Rattle.automata_hybrid.specs.Steps.Steps.{quits_on, unit_class}
+use Rattle.automata_hybrid.specs.Machines.Machine.{quits_on, unit_class}
 use Rattle.automata_hybrid.proofs.Cache.Growth.{clears_none, grown_moved, grown_same, grown_trans, nothing_first, nothing_second}
 use Rattle.automata_hybrid.proofs.Calls.Laws.{Follows, all_sound, cached_idle, cached_join, cached_split, do_one, do_split}
 use Rattle.automata_hybrid.proofs.Calls.Laws.{failed_count, failed_grown, first_cached, follows_all, left_count, left_grown, left_known}
@@ -120,14 +120,14 @@ pub record PassFollows {T : Type 0} (way : Direction) (m : Machine) (input : Inp
   pub known : KnowsPass way m old.store input → IsStill old new × IfErr result IsOfInput
   -- if nothing was cleared, all that it used is cached then
   pub learned : ClearedNothing old.store new.store → OnOk result (HasLearnedAll way m new.store input)
-  pub sound : OnOk result (IsSoundOf new.store m)
+  pub sound : OnOk result (IsStoreOf new.store m)
 
 -- what a pass that reads so many units does after its start
 abbrev after_start : Direction → Machine → Input → (units : ℕ) → List Event
 after_start way m input units =
     Begin (given_up_offset way input 0) ∷ (unit_events way m input 0 units ++ (End (given_up_offset way input (0 + (units - 1))) ∷ []))
 
-module _ (way : Direction) (m : Machine) (input : Input) (old new : CacheView) (sound : IsSoundOf old.store m) where
+module _ (way : Direction) (m : Machine) (input : Input) (old new : CacheView) (sound : IsStoreOf old.store m) where
   -- a pass asked for its start state, and then did the rest
   module _ (es : List Event) (all : DoAll m (start_event way input ∷ es) old new) where
     f : Follows m (start_event way input ∷ es) old new
@@ -150,8 +150,8 @@ module _ (way : Direction) (m : Machine) (input : Input) (old new : CacheView) (
       sound = all_sound m (start_event way input ∷ es) old new sound all;
     }
 
-  below : (k : ℕ) → IsSoundOf new.store m → MayAsk m (unit_event way m input k) → unit_class m (next (tape_in way input) k) < table_stride new.store.table.of
-  below k after asked = subst (λ (d : Machine). unit_class m (next (tape_in way input) k) < table_stride d) (sym after.0.of) asked.1
+  below : (k : ℕ) → IsStoreOf new.store m → MayAsk m (unit_event way m input k) → unit_class m (next (tape_in way input) k) < new.store.table.of.stride
+  below k after asked = subst (λ (d : Machine). unit_class m (next (tape_in way input) k) < d.stride) (sym after.of) asked.1
 
   ends_at_last :
       {T : Type 0} (answer : T) (begun : CacheView) → DoAll m (start_event way input ∷ []) old begun
@@ -297,7 +297,7 @@ module _ (way : Direction) (m : Machine) (input : Input) (k : ℕ) (mid new : Ca
       × (KnowsUnit way m mid.store input k → (quits_on m (next (tape_in way input) k) ≡ true) × (new.count ≡ mid.count))
   still_left left = unit_left mid mid (grown_same mid mid refl) (grown_same mid mid refl) refl refl (λ h. h) left
 
-module _ (way : Direction) (m : Machine) (input : Input) (old new : CacheView) (sound : IsSoundOf old.store m) where
+module _ (way : Direction) (m : Machine) (input : Input) (old new : CacheView) (sound : IsStoreOf old.store m) where
   -- after some events a pass failed at the unit at place `k`
   fails_at :
       {T : Type 0} (e : SearchError) (k : ℕ) (es : List Event) (mid : CacheView) → DoAll m (start_event way input ∷ es) old mid
@@ -417,7 +417,7 @@ pub record SpansFollow (way : Direction) (m : Machine) (input : Input) (passes :
   pub known : Knows way m old.store input → new.count ≡ old.count
   pub learned : ClearedNothing old.store new.store → LearnedSpans way m new.store input passes
   pub counted : AreCounted way m input passes old new
-  pub sound : IsSoundOf new.store m
+  pub sound : IsStoreOf new.store m
 
 -- a span that begins `k` places later has as many bytes less
 later_few :
@@ -463,7 +463,7 @@ module _ (way : Direction) (m : Machine) (input : Input) where
     known = λ knows. ap (λ (v : CacheView). v.count) same;
     learned = λ nothing j less. absurd (omega (arith, less));
     counted = record { each = same; most = omega (arith, count); started = λ begins. omega (arith, count) };
-    sound = subst (λ (v : CacheView). IsSoundOf v.store m) (sym same) sound;
+    sound = subst (λ (v : CacheView). IsStoreOf v.store m) (sym same) sound;
   } where
     count : new.count ≡ old.count
     count = ap (λ (v : CacheView). v.count) same

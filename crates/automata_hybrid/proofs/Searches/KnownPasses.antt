@@ -9,19 +9,20 @@ use Rattle.automata_base.specs.Answers.Answers.{offset_in}
 use Rattle.automata_base.specs.Paths.Paths.{next}
 use Rattle.automata_base.specs.Powersets.Powerset.{Powerset, dead}
 use Rattle.automata_hybrid.specs.declared.dfa.progress.Searched.{Searched}
-use Rattle.automata_hybrid.specs.Cache.Caches.{CacheView, IsCacheOf, IsSoundOf, with_store}
+use Rattle.automata_hybrid.specs.Cache.Caches.{CacheView, IsCacheOf, IsStoreOf, with_store}
 use Rattle.automata_hybrid.specs.Calls.Events.{Begin, Move}
 use Rattle.automata_hybrid.specs.Cache.Progress.{distance, saturated, progress_started, total_len}
 use Rattle.automata_hybrid.specs.Cache.Stores.{IsSoundStore, with_searched}
 use Rattle.automata_hybrid.specs.Cache.Ids.{HasDeadTag, HasQuitTag, quit_id}
 use Rattle.automata_hybrid.specs.Cache.Table.{Leads, Rows}
-use Rattle.automata_hybrid.specs.Machines.Machine.{Machine, table_stride}
+use Rattle.automata_hybrid.specs.Machines.Machine.{Machine}
 use Rattle.automata_hybrid.specs.Searches.PassContracts.{IsKnownEnd, IsKnownUpto, IsPassAnswer}
 use Rattle.automata_hybrid.specs.Searches.PassState.{HasLearnedUnit, half_at}
 use Rattle.automata_hybrid.specs.Searches.Passes.{Reads, given_up_offset, state_in, tape_in}
 use Rattle.automata_hybrid.specs.Searches.Progress.{EndsAtLast, with_search_begun, with_search_moved}
 use Rattle.automata_hybrid.specs.Searches.Units.{IsReadAnswer}
-use Rattle.automata_hybrid.specs.Steps.Steps.{IsStepAnswer, KnowsStep, quits_on, unit_class}
+use Rattle.automata_hybrid.specs.Steps.Steps.{IsStepAnswer, KnowsStep}
+use Rattle.automata_hybrid.specs.Machines.Machine.{quits_on, unit_class}
 use Rattle.automata_hybrid.proofs.Searches.PassContracts.{dead_answer, dead_stops, first_answer, first_stops, last_answer}
 use Rattle.automata_hybrid.proofs.Searches.PassState.{at_reads, more_at, more_leads, stops_last}
 use Rattle.automata_hybrid.proofs.Steps.Steps.{no_quit_unit, unit_no_quit}
@@ -31,15 +32,15 @@ use Rattle.automata_hybrid.proofs.Searches.UnitsRead.{finished_moved, pass_last,
 
 -- a unit on which a step leads to an ID without the quit tag is no quit byte
 pub clean_unit :
-    (m : Machine) (t : Rows) (to : ℕ) (unit : Option ℕ) → t.of ≡ m → table_stride t.of ≤ 512 → (HasQuitTag to → ⊥)
-    → (quits_on m unit ≡ true → to ≡ quit_id (table_stride m)) → quits_on m unit ≡ false
+    (m : Machine) (t : Rows) (to : ℕ) (unit : Option ℕ) → t.of ≡ m → t.of.stride ≤ 512 → (HasQuitTag to → ⊥)
+    → (quits_on m unit ≡ true → to ≡ quit_id m.stride) → quits_on m unit ≡ false
 clean_unit m t to None of small clear quit = refl
 clean_unit m t to (Some byte) of small clear quit = unquit m t to byte of small clear quit
 
 module _ (way : Direction) (m : Machine) (input : Input) (k id : ℕ) (c : CacheView) where
   -- what such a pass makes of its cache, once its bytes are counted
   module _ (half : Option HalfMatch) (new : CacheView) (end : IsKnownEnd way m c input k id half)
-      (sound : IsSoundOf c.store m)
+      (sound : IsStoreOf c.store m)
       (counted : new ≡ with_store c (with_searched c.store (record {
         bytes =
             saturated (total_len c.store.searched
@@ -49,15 +50,15 @@ module _ (way : Direction) (m : Machine) (input : Input) (k id : ℕ) (c : Cache
     quiet : quits_on m (next (tape_in way input) k) ≡ false
     quiet = unit_no_quit m (next (tape_in way input) k) (λ byte unit. end.answer.clean.1 k byte end.reads unit)
 
-    class : unit_class m (next (tape_in way input) k) < table_stride m
-    class = subst (λ (d : Machine). unit_class m (next (tape_in way input) k) < table_stride d) sound.0.of end.known.1
+    class : unit_class m (next (tape_in way input) k) < m.stride
+    class = subst (λ (d : Machine). unit_class m (next (tape_in way input) k) < d.stride) sound.of end.known.1
 
     pub known_ended : EndsAtLast way m input (with_search_begun way input 0 c) new
     known_ended =
         let begun : CacheView = with_search_begun way input 0 c in
-        let there : IsSoundOf begun.store m = moved_sound m (Begin (given_up_offset way input 0)) c sound in
+        let there : IsStoreOf begun.store m = moved_sound m (Begin (given_up_offset way input 0)) c sound in
         pass_last way m input k begun (with_search_moved way input k begun) new there end.reads (end.stops (suc k) (omega arith))
-        (read_then way m input 0 begun there 0 k begun sound.0.of
+        (read_then way m input 0 begun there 0 k begun sound.of
         (read_exactly way m input 0 begun 0 begun (read_none way m input 0 begun begun refl))
         (omega arith) end.upto.at.at.clean (λ j from below. end.upto.known j below) (with_search_moved way input k begun)
         ((quiet, class), moved_sound m (Move (given_up_offset way input k)) begun there, inl (end.known.0, refl)))
@@ -70,7 +71,7 @@ module _ (way : Direction) (m : Machine) (input : Input) (k id : ℕ) (c : Cache
     (of : IsCacheOf c m) (sound : IsSoundStore c.store) (upto : IsKnownUpto way m c.store input k id before)
     (few : k ≤ length (tape_in way input).bytes) (knows : KnowsStep m c.store id (next (tape_in way input) k))
     (step : IsStepAnswer m id (next (tape_in way input) k) c c to)
-    (below : unit_class m (next (tape_in way input) k) < table_stride m) (clear : HasQuitTag to → ⊥) where
+    (below : unit_class m (next (tape_in way input) k) < m.stride) (clear : HasQuitTag to → ⊥) where
   answer : IsReadAnswer m id (next (tape_in way input) k) c c to
   answer =
       let clean : quits_on m (next (tape_in way input) k) ≡ false =
@@ -86,7 +87,7 @@ module _ (way : Direction) (m : Machine) (input : Input) (k id : ℕ) (c : Cache
   here : HasLearnedUnit way m c.store input k
   here = (
     (id, upto.at.at.named, knows),
-    subst (λ (d : Machine). unit_class m (next (tape_in way input) k) < table_stride d) (sym of) below,
+    subst (λ (d : Machine). unit_class m (next (tape_in way input) k) < d.stride) (sym of) below,
   )
 
   -- a pass ends with this unit

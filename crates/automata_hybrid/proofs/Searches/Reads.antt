@@ -1,9 +1,8 @@
 -- Units that a search reads from an ID, from what the step on each answers and changes.
-use Rattle.std.proofs.Common.{ℕ, ◌≡◌, ◌∙◌, ◌<◌, ◌≤◌, ◌⊎◌, true, false, inl, inr, None, Option, Some, sym, ap, subst}
+use Rattle.std.proofs.Common.{ℕ, ◌≡◌, ◌∙◌, ◌<◌, ◌≤◌, ◌⊎◌, true, false, inl, inr, None, Option, sym, ap, subst}
 use Rattle.std.proofs.Common.{arith}
 use Rattle.std.specs.Prelude.{Result, Ok, Err, IfErr}
 use Rattle.std.specs.Result.{IsErrAnd}
-use Rattle.automata_base.specs.ByteClasses.Classes.{class_in, is_quit}
 use Rattle.automata_base.specs.Powersets.Powerset.{Powerset, dead}
 use Rattle.automata_base.specs.declared.util.search.MatchErrorKind.TheVariants.{Quit as QuitAt, GaveUp}
 use Rattle.automata_base.specs.declared.util.search.MatchErrorKind.TheVariants.{UnsupportedAnchored as UnsupportedMode}
@@ -11,16 +10,17 @@ use Rattle.automata_base.proofs.Paths.Orders.{none_some}
 use Rattle.automata_config.specs.declared.error.SearchError.{SearchError}
 use Rattle.automata_config.specs.declared.error.SearchError.TheVariants as search
 use Rattle.automata_hybrid.specs.declared.dfa.progress.Searched.{Searched}
-use Rattle.automata_hybrid.specs.Cache.Caches.{CacheView, IsSoundOf, with_store}
+use Rattle.automata_hybrid.specs.Cache.Caches.{CacheView, IsStoreOf, with_store}
 use Rattle.automata_hybrid.specs.Cache.Ids.{fixed_from, unknown_id}
 use Rattle.automata_hybrid.specs.Cache.Progress.{progress_finished, progress_updated}
 use Rattle.automata_hybrid.specs.Cache.Stores.{with_searched}
 use Rattle.automata_hybrid.specs.Cache.Table.{Names, Rows}
 use Rattle.automata_hybrid.specs.Calls.Events.{Does, End, IsStepLeft, Move, Step, with_progress}
-use Rattle.automata_hybrid.specs.Machines.Machine.{IsClassOf, IsMachine, Machine, table_stride}
+use Rattle.automata_hybrid.specs.Machines.Machine.{Machine}
 use Rattle.automata_hybrid.specs.Searches.Units.{IsReadEffect, IsReadRefusal, IsStepRefusedAt}
 use Rattle.automata_hybrid.specs.Searches.Passes.{IsStepRefusal}
-use Rattle.automata_hybrid.specs.Steps.Steps.{IsStepAnswer, IsStepEffect, KnowsStep, known_step, quits_on, unit_class}
+use Rattle.automata_hybrid.specs.Steps.Steps.{IsStepAnswer, IsStepEffect, KnowsStep, known_step}
+use Rattle.automata_hybrid.specs.Machines.Machine.{quits_on, unit_class}
 use Rattle.automata_hybrid.proofs.Searches.PassState.{false_true}
 use Rattle.automata_hybrid.proofs.Searches.UnitsRead.{finished_moved}
 use Rattle.automata_hybrid.proofs.Steps.Effects.{one_id}
@@ -42,30 +42,17 @@ reported_refusal m id unit quit_at at old new e h q n =
     (λ other names known. (let one : other ≡ id = cc in h.refused.unknown (subst (λ k. KnowsStep m old.store k unit) one known)))
     (ap (λ (v : CacheView). v.store) h.refused.unchanged) (λ c. h.refused.gives_up c q n))
 
--- the class of a byte that is no quit byte, and of the end
-pub byte_class :
-    (m : Machine) (byte : ℕ) → IsMachine m → byte < 256 → class_in m.classes byte < table_stride m → is_quit m.quits byte ≡ false
-    → IsClassOf m (unit_class m (Some byte)) (Some byte)
-byte_class m byte machine small below clean = record {
-  below = below;
-  free = machine.free byte small clean;
-  alike = λ q own. machine.alike byte q small own;
-}
-
-pub end_class : (m : Machine) → IsMachine m → IsClassOf m (unit_class m None) None
-end_class m machine = record { below = machine.below; free = machine.end_free; alike = machine.end_alike }
-
 -- a step that is answered is its event
 pub step_does :
     (m : Machine) (id : ℕ) (unit : Option ℕ) (old new : CacheView) (next : ℕ) → id < fixed_from → quits_on m unit ≡ false
-    → IsClassOf m (unit_class m unit) unit → IsSoundOf new.store m → IsStepAnswer m id unit old new next → IsStepEffect m id unit old new
+    → unit_class m unit < m.stride → IsStoreOf new.store m → IsStepAnswer m id unit old new next → IsStepEffect m id unit old new
     → (q : Powerset) → Names old.store.table id q → Does m (Step q unit) old new
-step_does m id unit old new next low clean class sound a e q named = go (cases_lt (known_step m old.store id unit) unknown_id) where
+step_does m id unit old new next low clean below sound a e q named = go (cases_lt (known_step m old.store id unit) unknown_id) where
   go : (known_step m old.store id unit < unknown_id) ⊎ (unknown_id ≤ known_step m old.store id unit) → Does m (Step q unit) old new
-  go (inl known) = ((clean, class.below), sound, inl ((id, named, known), e.known known))
+  go (inl known) = ((clean, below), sound, inl ((id, named, known), e.known known))
   go (inr free) =
       let unknown : KnowsStep m old.store id unit → ⊥ = λ k. absurd (omega (arith, k, free)) in (
-        (clean, class.below),
+        (clean, below),
         sound,
         inr (
           λ (other, names, known). (
@@ -74,7 +61,6 @@ step_does m id unit old new next low clean class sound a e q named = go (cases_l
           record {
             id = id;
             named = named;
-            class = class;
             next = next;
             computed = a.computed low unknown q named;
             leads = a.named clean q named;

@@ -12,8 +12,9 @@ use Rattle.automata_base.specs.declared.util.search.Direction.{Direction}
 use Rattle.automata_config.specs.Options.{match_kind_of}
 use Rattle.automata_hybrid.specs.Cache.Stores.{IsKnownTransition, Stored, cell_of}
 use Rattle.automata_hybrid.specs.Cache.Ids.{HasOnly, IsRunTag, quit_id}
-use Rattle.automata_hybrid.specs.Steps.Steps.{known_step, unit_class}
-use Rattle.automata_hybrid.specs.Machines.Machine.{Machine, table_stride}
+use Rattle.automata_hybrid.specs.Steps.Steps.{known_step}
+use Rattle.automata_hybrid.specs.Machines.Machine.{unit_class}
+use Rattle.automata_hybrid.specs.Machines.Machine.{Machine}
 use Rattle.automata_hybrid.specs.Searches.PassState.{HasLearnedUnit, IsAt, IsFollowed, IsMet, IsRun, IsTagAt}
 use Rattle.automata_hybrid.specs.Searches.PassState.{IsTaken, half_at, half_of}
 use Rattle.automata_hybrid.specs.Searches.Passes.{HasReadNoQuit, state_in, tape_in, reported_in}
@@ -50,8 +51,8 @@ followed_on {way} {m} {c} {input} {tag} {from} {k} {to} f g = record {
 pub followed_one :
     (way : Direction) (m : Machine) (c : Stored) (input : Input) (tag k id to byte : ℕ)
     → IsRunTag tag → HasOnly tag to → next (tape_in way input) k ≡ Some byte
-    → IsKnownTransition c id (class_in m.classes byte) → class_in m.classes byte < table_stride c.table.of
-    → (is_quit m.quits byte ≡ true → to ≡ quit_id (table_stride m))
+    → IsKnownTransition c id (class_in m.classes byte) → class_in m.classes byte < c.table.of.stride
+    → (is_quit m.quits byte ≡ true → to ≡ quit_id m.stride)
     → (is_quit m.quits byte ≡ false → to < 2 ^ 31 → (q : Powerset) → Names c.table id q → Leads c.table to (successor m.nfa (match_kind_of m.config) q (Some byte)))
     → Names c.table id (state_in way m input k) → IsFollowed way m c input tag k (suc k) to
 followed_one way m c input tag k id to byte kind only unit known below quit named at = go (is_quit m.quits byte) refl where
@@ -59,7 +60,7 @@ followed_one way m c input tag k id to byte kind only unit known below quit name
   plain = omega (arith, only.below, kind.upto)
 
   go : (b : Bool) → is_quit m.quits byte ≡ b → IsFollowed way m c input tag k (suc k) to
-  go true e = absurd (let h : to ≡ quit_id (table_stride m) = quit e in omega (arith, h, plain))
+  go true e = absurd (let h : to ≡ quit_id m.stride = quit e in omega (arith, h, plain))
   go false e =
       let after : state_in way m input (suc k) ≡ successor m.nfa (match_kind_of m.config) (state_in way m input k) (Some byte) =
       state_more way m input k ∙ ap (successor m.nfa (match_kind_of m.config) (state_in way m input k)) unit in
@@ -69,7 +70,7 @@ followed_one way m c input tag k id to byte kind only unit known below quit name
         clean = λ other same. subst (λ v. is_quit m.quits v ≡ false) (some_inj (sym unit ∙ same)) e;
         known = (
           (id, at, subst (λ v. IsKnownTransition c id (unit_class m v)) (sym unit) known),
-          subst (λ v. unit_class m v < table_stride c.table.of) (sym unit) below,
+          subst (λ v. unit_class m v < c.table.of.stride) (sym unit) below,
         );
         leads = (to, leads, only);
       } in
@@ -83,8 +84,8 @@ followed_one way m c input tag k id to byte kind only unit known below quit name
 pub met_at :
     (way : Direction) (m : Machine) (c : Stored) (input : Input) (k id to byte : ℕ)
     → k < input.end - input.start → next (tape_in way input) k ≡ Some byte → to ≡ cell_of c id (class_in m.classes byte)
-    → class_in m.classes byte < table_stride c.table.of
-    → (is_quit m.quits byte ≡ true → to ≡ quit_id (table_stride m))
+    → class_in m.classes byte < c.table.of.stride
+    → (is_quit m.quits byte ≡ true → to ≡ quit_id m.stride)
     → (is_quit m.quits byte ≡ false → to < 2 ^ 31 → (q : Powerset) → Names c.table id q → Leads c.table to (successor m.nfa (match_kind_of m.config) q (Some byte)))
     → Names c.table id (state_in way m input k) → IsMet way m c input k id to
 met_at way m c input k id to byte within unit value below quit named at = λ low. record {

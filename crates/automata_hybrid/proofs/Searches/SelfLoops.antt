@@ -1,6 +1,6 @@
 -- What is learned of the bytes on which a row leads back to itself, and what follows for a pass that stands at it.
 use Rattle.std.proofs.Common.{ℕ, zero, suc, ◌≡◌, ◌∙◌, ◌+◌, ◌-◌, ◌<◌, ◌≤◌, ◌^◌, Bool, true, false, List, Some, refl, sym}
-use Rattle.std.proofs.Common.{subst, arith, get_or, length, slice_index, ◌⊎◌, inl, inr, ⊎_elim}
+use Rattle.std.proofs.Common.{ap, subst, arith, get_or, length, slice_index, inl, inr, ⊎_elim}
 use Rattle.std.proofs.lemmas.Bool.{cases_lt}
 use Rattle.automata_base.specs.ByteClasses.Classes.{AreClasses, class_in, is_quit}
 use Rattle.automata_base.specs.Haystacks.Input.{Input}
@@ -13,12 +13,11 @@ use Rattle.automata_config.specs.Options.{match_kind_of}
 use Rattle.automata_hybrid.specs.Searches.SelfLoops.{HasByte, HasEither, IsKnownLoop, IsLoopRange, IsLoopRun, IsSelfLoop}
 use Rattle.automata_hybrid.specs.Searches.SelfLoops.{LoopsAt, LoopsOn, LoopsOver, byte_in}
 use Rattle.automata_hybrid.specs.Cache.Ids.{HasOnly, IsRunTag, quit_id, unknown_id}
-use Rattle.automata_hybrid.specs.Machines.Machine.{IsMachine, Machine, next_of, table_stride, template_of}
-use Rattle.automata_hybrid.specs.Machines.OwnStates.{IsOwn}
+use Rattle.automata_hybrid.specs.Machines.Machine.{IsMachine, Machine}
 use Rattle.automata_hybrid.specs.Searches.PassState.{IsFollowed, IsRun, IsTagAt}
 use Rattle.automata_hybrid.specs.Searches.Passes.{state_in, tape_in}
 use Rattle.automata_hybrid.specs.Cache.Stores.{Stored, cell_of}
-use Rattle.automata_hybrid.specs.Cache.Table.{IsCell, IsRowId, Leads, MayLead, Names}
+use Rattle.automata_hybrid.specs.Cache.Table.{IsCell, IsRowId, Leads, Names}
 use Rattle.automata_hybrid.specs.declared.search.loop_range.LoopRange.{LoopRange}
 use Rattle.automata_hybrid.specs.declared.search.self_loop.KnownLoop.{KnownLoop}
 use Rattle.automata_hybrid.proofs.Searches.Runs.{followed_none, followed_on, followed_one}
@@ -51,63 +50,47 @@ LoopsIn c id class = (cell_of c id class ≡ id) × ((q : Powerset) → Names c.
 -- then it leads back to itself on each byte of the class
 loops_in :
     (m : Machine) (c : Stored) (id byte : ℕ)
-    → IsMachine m → AreClasses m.classes → c.table.of ≡ m → ((q : Powerset) → Names c.table id q → IsOwn c.table.of.nfa q)
+    → IsMachine m → AreClasses m.classes → c.table.of ≡ m
     → IsRowId c.table id → id < 2 ^ 29 → byte < 256 → LoopsIn c id (class_in m.classes byte) → LoopsOn m c id byte
-loops_in m c id byte machine are of own valid plain few loops = record {
-  clean = go (is_quit m.quits byte) refl (cell valid.0 valid.1);
+loops_in m c id byte machine are of valid plain few loops = record {
+  clean = go (is_quit m.quits byte) refl (loops.1 valid.0 valid.1);
   known = subst (λ n. n < 2 ^ 31) (sym loops.0) (omega (arith, plain));
-  below = subst (λ (n : Machine). class_in m.classes byte < table_stride n) (sym of) (omega (arith, machine.below, are.below byte few));
-  back = λ q n. lead q n (cell q n);
+  below = subst (λ (n : Machine). class_in m.classes byte < n.stride) (sym of) (omega (arith, machine.below, are.below byte few));
+  back = λ q n. lead q n (loops.1 q n);
 } where
   class : ℕ
   class = class_in m.classes byte
 
-  cell : (q : Powerset) → Names c.table id q
-      → ((slice_index (template_of m) class ≡ quit_id (table_stride m)) × (id ≡ quit_id (table_stride m)))
-      ⊎ ((slice_index (template_of m) class ≡ unknown_id) × MayLead c.table id (next_of m q class))
-  cell q n = subst
-      (λ (k : Machine).
-      ((slice_index (template_of k) class ≡ quit_id (table_stride k)) × (id ≡ quit_id (table_stride k)))
-      ⊎ ((slice_index (template_of k) class ≡ unknown_id) × MayLead c.table id (next_of k q class)))
-      of (loops.1 q n)
-
-  go :
-      (b : Bool) → is_quit m.quits byte ≡ b
-      → ((slice_index (template_of m) class ≡ quit_id (table_stride m)) × (id ≡ quit_id (table_stride m)))
-      ⊎ ((slice_index (template_of m) class ≡ unknown_id) × MayLead c.table id (next_of m valid.0 class))
-      → is_quit m.quits byte ≡ false
+  go : (b : Bool) → is_quit m.quits byte ≡ b → IsCell c.table valid.0 class id → is_quit m.quits byte ≡ false
   go false e is = e
-  go true e (inl quits) = let h : id ≡ quit_id (table_stride m) = quits.1 in absurd (omega (arith, h, plain))
+  go true e (inl quits) = let h : id ≡ quit_id c.table.of.stride = quits.1 in absurd (omega (arith, h, plain))
   go true e (inr unmarked) =
-      let quit : slice_index (template_of m) class ≡ quit_id (table_stride m) = machine.quit byte few e in
-      let free : slice_index (template_of m) class ≡ unknown_id = unmarked.0 in
+      let quit : slice_index m.template class ≡ quit_id m.stride = machine.quit byte few e in
+      let free : slice_index m.template class ≡ unknown_id = subst (λ (k : Machine). slice_index k.template class ≡ unknown_id) of unmarked.0 in
       absurd (omega (arith, quit, free, machine.template.small))
 
   lead :
-      (q : Powerset) → Names c.table id q
-      → ((slice_index (template_of m) class ≡ quit_id (table_stride m)) × (id ≡ quit_id (table_stride m)))
-      ⊎ ((slice_index (template_of m) class ≡ unknown_id) × MayLead c.table id (next_of m q class))
+      (q : Powerset) → Names c.table id q → IsCell c.table q class id
       → Leads c.table id (successor m.nfa (match_kind_of m.config) q (Some byte))
-  lead q n (inl quits) = let h : id ≡ quit_id (table_stride m) = quits.1 in absurd (omega (arith, h, plain))
-  lead q n (inr unmarked) = may unmarked.1 where
-    may : MayLead c.table id (next_of m q class) → Leads c.table id (successor m.nfa (match_kind_of m.config) q (Some byte))
-    may (inl unknown) = absurd (omega (arith, unknown, plain))
-    may (inr leads) =
-        subst (Leads c.table id) (sym (machine.alike byte q few (subst (λ (k : Machine). IsOwn k.nfa q) of (own q n)))) leads
+  lead q n (inl quits) = let h : id ≡ quit_id c.table.of.stride = quits.1 in absurd (omega (arith, h, plain))
+  lead q n (inr (free, inl unknown)) = absurd (omega (arith, unknown, plain))
+  lead q n (inr (free, inr leads)) =
+      subst (λ (k : Machine). Leads c.table id (successor k.nfa (match_kind_of k.config) q (Some byte))) of
+      (leads (Some byte) few (ap (λ (k : Machine). class_in k.classes byte) of))
 
 -- and on bytes between those of two classes
 pub loops_among :
     (m : Machine) (c : Stored) (id from to first last : ℕ)
-    → IsMachine m → AreClasses m.classes → c.table.of ≡ m → ((q : Powerset) → Names c.table id q → IsOwn c.table.of.nfa q)
+    → IsMachine m → AreClasses m.classes → c.table.of ≡ m
     → IsRowId c.table id → id < 2 ^ 29 → from < to → to ≤ 256
     → first ≡ class_in m.classes from → last ≡ class_in m.classes (to - 1)
     → ((class : ℕ) → first ≤ class → class < last + 1 → LoopsIn c id class)
     → (byte : ℕ) → from ≤ byte → byte < to → LoopsOn m c id byte
-loops_among m c id from to first last machine are of own valid plain some within low high each byte ahead below =
+loops_among m c id from to first last machine are of valid plain some within low high each byte ahead below =
     let few : byte < 256 = omega (arith, below, within) in
     let above : class_in m.classes from ≤ class_in m.classes byte = rises m.classes are from byte ahead few in
     let under : class_in m.classes byte ≤ class_in m.classes (to - 1) = rises m.classes are byte (to - 1) (omega (arith, below)) (omega (arith, some, within)) in
-    loops_in m c id byte machine are of own valid plain few (each (class_in m.classes byte) (omega (arith, low, above)) (omega (arith, high, under)))
+    loops_in m c id byte machine are of valid plain few (each (class_in m.classes byte) (omega (arith, low, above)) (omega (arith, high, under)))
 
 -- a range that ends before byte 256, and one that goes on at 0
 pub range_within :

@@ -12,7 +12,7 @@ use Rattle.automata_config.specs.declared.error.SearchError.{SearchError}
 use Rattle.automata_hybrid.specs.declared.dfa.progress.Progress.{Progress}
 use Rattle.automata_hybrid.specs.declared.dfa.progress.Searched.{Searched}
 use Rattle.automata_hybrid.specs.declared.dfa.row.Row.{Row}
-use Rattle.automata_hybrid.specs.Cache.Caches.{CacheView, IsSoundOf, with_store}
+use Rattle.automata_hybrid.specs.Cache.Caches.{CacheView, IsStoreOf, with_store}
 use Rattle.automata_hybrid.specs.Cache.Changes.{IsComputed, cleared_saving, grown}
 use Rattle.automata_hybrid.specs.Cache.Ids.{unknown_id}
 use Rattle.automata_hybrid.specs.Cache.Progress.{progress_finished, progress_cleared, saturated, total_len}
@@ -21,7 +21,7 @@ use Rattle.automata_hybrid.specs.Cache.Stores.{IsKnownStart, KeepsStarts, Stored
 use Rattle.automata_hybrid.specs.Cache.Table.{Leads, Names}
 use Rattle.automata_hybrid.specs.Cache.Usage.{refuses_at, refuses_to_clear, short_of}
 use Rattle.automata_hybrid.specs.Calls.Events.{DoAll, Does, End, IsStepLeft, Move, Step, with_progress}
-use Rattle.automata_hybrid.specs.Machines.Machine.{Machine, slot_count, table_stride}
+use Rattle.automata_hybrid.specs.Machines.Machine.{Machine}
 use Rattle.automata_hybrid.specs.Machines.StartSlots.{slot_behind}
 use Rattle.automata_hybrid.specs.Searches.Cached.{KnowsUnit}
 use Rattle.automata_hybrid.specs.Searches.PassState.{HasLearnedUnit}
@@ -31,7 +31,7 @@ use Rattle.automata_hybrid.specs.Searches.Progress.{unit_events, with_search_end
 use Rattle.automata_hybrid.specs.Searches.Passes.{HasReadNoQuit, IsUnitRefusal, Reads, given_up_offset, state_in}
 use Rattle.automata_hybrid.specs.Searches.Passes.{tape_in}
 use Rattle.automata_hybrid.specs.Steps.Starts.{IsStartAnswer, IsStartEffect, IsStartRefusedAt, known_start}
-use Rattle.automata_hybrid.specs.Steps.Steps.{quits_on, unit_class}
+use Rattle.automata_hybrid.specs.Machines.Machine.{quits_on, unit_class}
 use Rattle.automata_hybrid.proofs.Calls.Laws.{all_sound, do_join, do_one, do_split, moved_sound, searched_sound}
 use Rattle.automata_hybrid.proofs.Searches.PassState.{reads_before}
 use Rattle.automata_hybrid.proofs.Steps.Steps.{unit_no_quit}
@@ -84,7 +84,7 @@ pub record AreReadBehind (way : Direction) (m : Machine) (input : Input) (from t
 
 -- a search moved to a unit, and read it
 pub moved_and_read :
-    (way : Direction) (m : Machine) (input : Input) (k : ℕ) (old new : CacheView) → IsSoundOf old.store m
+    (way : Direction) (m : Machine) (input : Input) (k : ℕ) (old new : CacheView) → IsStoreOf old.store m
     → IsUnitRead way m input k (with_search_moved way input k old) new
     → DoAll m (Move (given_up_offset way input k) ∷ unit_event way m input k ∷ []) old new
 moved_and_read way m input k old new sound reads = (
@@ -100,8 +100,8 @@ module _ (way : Direction) (m : Machine) (input : Input) (from : ℕ) (old : Cac
   pub read_exactly : (to : ℕ) (c : CacheView) → AreReadTo way m input from to old c → AreReadBehind way m input from to old c
   read_exactly to c read = record { run = c; read = read; lags = lags_none c }
 
-module _ (way : Direction) (m : Machine) (input : Input) (from : ℕ) (old : CacheView) (sound : IsSoundOf old.store m) where
-  pub read_sound : (k : ℕ) (mid : CacheView) → AreReadTo way m input from k old mid → IsSoundOf mid.store m
+module _ (way : Direction) (m : Machine) (input : Input) (from : ℕ) (old : CacheView) (sound : IsStoreOf old.store m) where
+  pub read_sound : (k : ℕ) (mid : CacheView) → AreReadTo way m input from k old mid → IsStoreOf mid.store m
   read_sound k mid before = all_sound m (unit_events way m input from before.units) old mid sound before.read
 
   -- one more
@@ -139,8 +139,8 @@ module _ (way : Direction) (m : Machine) (input : Input) (from : ℕ) (old : Cac
       on here there =
           let known : KnowsUnit way m there.run.store input to =
           subst (λ (v : CacheView). KnowsUnit way m v.store input to) there.lags.same here.0 in
-          let class : unit_class m (next (tape_in way input) to) < table_stride m =
-          subst (λ (d : Machine). unit_class m (next (tape_in way input) to) < table_stride d) of here.1 in
+          let class : unit_class m (next (tape_in way input) to) < m.stride =
+          subst (λ (d : Machine). unit_class m (next (tape_in way input) to) < d.stride) of here.1 in
           let quiet : quits_on m (next (tape_in way input) to) ≡ false =
           unit_no_quit m (next (tape_in way input) to) (λ byte unit. clean to byte (omega arith) unit) in
           record {
@@ -161,7 +161,7 @@ module _ (way : Direction) (m : Machine) (input : Input) (from : ℕ) (old : Cac
       go (inr less) before_it = on (known to (omega (arith, less)) (omega arith)) (before_it (omega (arith, less)))
 
 -- units were read, and then cached ones were followed
-module _ (way : Direction) (m : Machine) (input : Input) (from : ℕ) (old : CacheView) (sound : IsSoundOf old.store m)
+module _ (way : Direction) (m : Machine) (input : Input) (from : ℕ) (old : CacheView) (sound : IsStoreOf old.store m)
     (k to : ℕ) (c : CacheView) (of : c.store.table.of ≡ m)
     (before : AreReadBehind way m input from k old c) (more : k ≤ to) (clean : HasReadNoQuit way m input to)
     (known : (j : ℕ) → k ≤ j → j < to → HasLearnedUnit way m c.store input j) where
@@ -248,21 +248,21 @@ read_last way m input from n old new all =
 
 -- units were read, and then the search ended at the last of them
 pub ended_after :
-    (way : Direction) (m : Machine) (input : Input) (from units : ℕ) (old mid new : CacheView) → IsSoundOf old.store m
+    (way : Direction) (m : Machine) (input : Input) (from units : ℕ) (old mid new : CacheView) → IsStoreOf old.store m
     → AreUnitsRead way m input from units old mid → new ≡ with_search_ended way input (from + (units - 1)) mid
     → HasEndedAfter way m input from units old new
 ended_after way m input from units old mid new sound reads ended =
     do_join m (unit_events way m input from units) (End (given_up_offset way input (from + (units - 1))) ∷ []) old mid new reads
     (do_one m (End (given_up_offset way input (from + (units - 1)))) mid new (tt, there, inl (tt, ended)))
   where
-    there : IsSoundOf new.store m
+    there : IsStoreOf new.store m
     there =
-        subst (λ (v : CacheView). IsSoundOf v.store m) (sym ended)
+        subst (λ (v : CacheView). IsStoreOf v.store m) (sym ended)
         (moved_sound m (End (given_up_offset way input (from + (units - 1)))) mid (all_sound m (unit_events way m input from units) old mid sound reads))
 
 -- so a pass has ended where the unit that it read was its last one
 pub pass_last :
-    (way : Direction) (m : Machine) (input : Input) (k : ℕ) (old mid new : CacheView) → IsSoundOf old.store m → Reads way m input k
+    (way : Direction) (m : Machine) (input : Input) (k : ℕ) (old mid new : CacheView) → IsStoreOf old.store m → Reads way m input k
     → (Reads way m input (suc k) → ⊥) → AreReadTo way m input 0 (suc k) old mid
     → new ≡ with_search_ended way input k mid → EndsAtLast way m input old new
 pass_last way m input k old mid new sound reads stops all ended =
@@ -289,7 +289,7 @@ pass_stopped way m input k old new e reads clean refused (run, all, left) =
 
 -- a pass whose start is dead reads nothing
 pub pass_dies :
-    (way : Direction) (m : Machine) (input : Input) (begun new : CacheView) → IsSoundOf begun.store m
+    (way : Direction) (m : Machine) (input : Input) (begun new : CacheView) → IsStoreOf begun.store m
     → ((j : ℕ) → 0 ≤ j → Reads way m input j → ⊥) → new ≡ with_search_ended way input 0 begun → EndsAtLast way m input begun new
 pass_dies way m input begun new sound none ended =
     (0, (λ j less. absurd (omega (arith, less)), none 0 (omega arith)), ended_after way m input 0 0 begun begun new sound refl ended)
@@ -409,7 +409,7 @@ closes_cleared s at = go s.running where
   go (Some p) = ap done none
 
 -- back a pass has ended before it reads its last unit, as if it ended after it
-module _ (way : Direction) (m : Machine) (input : Input) (k : ℕ) (old : CacheView) (sound : IsSoundOf old.store m) where
+module _ (way : Direction) (m : Machine) (input : Input) (k : ℕ) (old : CacheView) (sound : IsStoreOf old.store m) where
   closed_reads :
       (mid new : CacheView) → IsUnitRead way m input k (with_search_ended way input k old) mid
       → new ≡ with_search_ended way input k mid
@@ -443,13 +443,12 @@ module _ (way : Direction) (m : Machine) (input : Input) (k : ℕ) (old : CacheV
         with_store mid other,
         (
           class,
-          subst (λ (s : Stored). IsSoundOf s m) (sym alike.same) (searched_sound m mid.store other.searched there),
+          subst (λ (s : Stored). IsStoreOf s m) (sym alike.same) (searched_sound m mid.store other.searched there),
           inr (
             free,
             record {
               id = made.id;
               named = made.named;
-              class = made.class;
               next = made.next;
               computed = computed;
               leads = subst (λ (s : Stored). Leads s.table made.next target) (sym alike.same) made.leads;
@@ -479,7 +478,7 @@ module _ (way : Direction) (m : Machine) (input : Input) (k : ℕ) (old : CacheV
 
 -- so what the last step makes is what both make
 pub last_read :
-    (way : Direction) (m : Machine) (input : Input) (k : ℕ) (old begun mid new : CacheView) → IsSoundOf old.store m
+    (way : Direction) (m : Machine) (input : Input) (k : ℕ) (old begun mid new : CacheView) → IsStoreOf old.store m
     → begun ≡ with_store old (with_searched old.store (before_last way old.store.searched (given_up_offset way input k)))
     → IsUnitRead way m input k (with_search_moved way input k begun) mid → new ≡ with_search_ended way input k mid
     → (next : CacheView) × IsUnitRead way m input k (with_search_moved way input k old) next
@@ -509,16 +508,16 @@ ended_here way input k at mid new place ended = ended ∙ ap (λ a. with_progres
 
 -- a start that is answered was cached, or was computed
 pub start_had :
-    (way : Direction) (m : Machine) (input : Input) (old new : CacheView) (id : ℕ) → length old.store.starts ≡ slot_count m
-    → IsSoundOf new.store m → IsStartEffect m input.anchored (tape_in way input).before old new
+    (way : Direction) (m : Machine) (input : Input) (old new : CacheView) (id : ℕ) → length old.store.starts ≡ m.slots
+    → IsStoreOf new.store m → IsStartEffect m input.anchored (tape_in way input).before old new
     → IsStartAnswer m input.anchored (tape_in way input).before old new id → HasItsStart way m input old new
 start_had way m input old new id slots sound effect a =
-    go (cases_lt (slot_behind m input.anchored (tape_in way input).before) (slot_count m))
+    go (cases_lt (slot_behind m input.anchored (tape_in way input).before) m.slots)
     (cases_lt (known_start m old.store input.anchored (tape_in way input).before) unknown_id)
   where
     go :
-        (slot_behind m input.anchored (tape_in way input).before < slot_count m)
-        ⊎ (slot_count m ≤ slot_behind m input.anchored (tape_in way input).before)
+        (slot_behind m input.anchored (tape_in way input).before < m.slots)
+        ⊎ (m.slots ≤ slot_behind m input.anchored (tape_in way input).before)
         → (known_start m old.store input.anchored (tape_in way input).before < unknown_id)
         ⊎ (unknown_id ≤ known_start m old.store input.anchored (tape_in way input).before)
         → HasItsStart way m input old new
@@ -543,7 +542,7 @@ start_had way m input old new id slots sound effect a =
 -- a start that failed
 pub unstarted :
     (way : Direction) (m : Machine) (input : Input) (behind_at start_at : ℕ) (old new : CacheView) (e : SearchError)
-    → length old.store.starts ≡ slot_count m
+    → length old.store.starts ≡ m.slots
     → IsStartRefusedAt m input.anchored (tape_in way input).before behind_at start_at old new e
     → IsStartEffect m input.anchored (tape_in way input).before old new → HasNoStart way m input old new
 unstarted way m input behind_at start_at old new e slots h effect = (

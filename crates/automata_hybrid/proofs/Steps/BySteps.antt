@@ -15,14 +15,15 @@ use Rattle.automata_base.specs.Answers.OfPasses.{ReportedEndsAreRight}
 use Rattle.automata_config.specs.Options.{match_kind_of}
 use Rattle.automata_hybrid.specs.Cache.Caches.{CacheView}
 use Rattle.automata_hybrid.specs.Cache.Ids.{dead_id, fixed_from, quit_id}
-use Rattle.automata_hybrid.specs.Machines.Machine.{Machine, table_stride}
+use Rattle.automata_hybrid.specs.Machines.Machine.{Machine}
 use Rattle.automata_hybrid.specs.Searches.PassContracts.{IsUnderway}
 use Rattle.automata_hybrid.specs.Searches.PassState.{half_at}
 use Rattle.automata_hybrid.specs.Searches.Passes.{IsFound, Skips, WithoutBase, state_in, tape_in, with_base}
 use Rattle.automata_hybrid.specs.Steps.BySteps.{FirstMatchIsFound, HasPatterns, IsFirstMatch, IsFirstPattern, IsStepAt}
 use Rattle.automata_hybrid.specs.Steps.BySteps.{IsUnitAt, StandsAt}
 use Rattle.automata_hybrid.specs.Steps.Starts.{IsStartAnswer}
-use Rattle.automata_hybrid.specs.Steps.Steps.{IsStepAnswer, quits_on}
+use Rattle.automata_hybrid.specs.Steps.Steps.{IsStepAnswer}
+use Rattle.automata_hybrid.specs.Machines.Machine.{quits_on}
 use Rattle.automata_hybrid.specs.Cache.Table.{Leads, Names, Rows}
 use Rattle.automata_hybrid.proofs.Cache.Places.{bit_of, zero_one}
 use Rattle.automata_hybrid.proofs.Searches.PassState.{clean_dead, clean_ends, clean_last, clean_start, more_at, more_dead}
@@ -41,7 +42,7 @@ first_span input = ap (λ n. record input { start = n }) (sym (add-zero input.st
 pub record Tagged (m : Machine) (t : Rows) : Type 0 where
   pub of : t.of ≡ m
   pub low : (id : ℕ) (q : Powerset) → Names t id q → id < fixed_from
-  pub small : table_stride t.of ≤ 512
+  pub small : t.of.stride ≤ 512
 
 -- a search stands at its start
 pub stands_first :
@@ -62,12 +63,12 @@ stands_first m input old new id tagged early undone inside answer = record {
 
   go :
       Leads new.store.table id (start_state_of m.nfa input.anchored (byte_before input.haystack input.start))
-      → ((id ≡ dead_id (table_stride m)) × IsFirstMatch m input None)
+      → ((id ≡ dead_id m.stride) × IsFirstMatch m input None)
       ⊎ IsUnderway Forward m new.store.table input (input.start - input.start) id None
   go (inl (e, d)) =
       let dies : state_in Forward m input 0 ≡ dead = sym (state_first Forward m input) ∙ d in
       inl (
-        e ∙ ap (λ (n : Machine). dead_id (table_stride n)) tagged.of,
+        e ∙ ap (λ (n : Machine). dead_id n.stride) tagged.of,
         record { found = starts_dead Forward m input dies; clean = clean_start Forward m input dies answer.may.0; supported = answer.may.1 },
       )
   go (inr n) =
@@ -77,17 +78,17 @@ stands_first m input old new id tagged early undone inside answer = record {
         at = starts_at Forward m new.store.table input id (subst (Names new.store.table id) (state_first Forward m input) n);
       }))
 
-dead_matchless : (m : Machine) (id : ℕ) → table_stride m ≤ 512 → id ≡ dead_id (table_stride m) → IsBitSet id 27 → ⊥
-dead_matchless m id small e b = zero_one ((bit_of 27 (table_stride m) 8 id (omega (arith, small)) (omega (arith, e))).0 b)
+dead_matchless : (m : Machine) (id : ℕ) → m.stride ≤ 512 → id ≡ dead_id m.stride → IsBitSet id 27 → ⊥
+dead_matchless m id small e b = zero_one ((bit_of 27 m.stride 8 id (omega (arith, small)) (omega (arith, e))).0 b)
 
-quit_matchless : (m : Machine) (id : ℕ) → table_stride m ≤ 512 → id ≡ quit_id (table_stride m) → IsBitSet id 27 → ⊥
-quit_matchless m id small e b = zero_one ((bit_of 27 (2 * table_stride m) 4 id (omega (arith, small)) (omega (arith, e))).0 b)
+quit_matchless : (m : Machine) (id : ℕ) → m.stride ≤ 512 → id ≡ quit_id m.stride → IsBitSet id 27 → ⊥
+quit_matchless m id small e b = zero_one ((bit_of 27 (2 * m.stride) 4 id (omega (arith, small)) (omega (arith, e))).0 b)
 
-quit_lives : (m : Machine) (id : ℕ) → table_stride m ≤ 512 → id ≡ quit_id (table_stride m) → IsBitSet id 30 → ⊥
+quit_lives : (m : Machine) (id : ℕ) → m.stride ≤ 512 → id ≡ quit_id m.stride → IsBitSet id 30 → ⊥
 quit_lives m id small e b = low_bit 30 id (omega (arith, small, e)) b
 
-quit_quits : (m : Machine) (id : ℕ) → table_stride m ≤ 512 → id ≡ quit_id (table_stride m) → IsBitSet id 29
-quit_quits m id small e = (bit_of 29 (2 * table_stride m) 1 id (omega (arith, small)) (omega (arith, e))).1 refl
+quit_quits : (m : Machine) (id : ℕ) → m.stride ≤ 512 → id ≡ quit_id m.stride → IsBitSet id 29
+quit_quits m id small e = (bit_of 29 (2 * m.stride) 1 id (omega (arith, small)) (omega (arith, e))).1 refl
 
 -- the unit at an offset of the span is the one that a pass reads there
 unit_in :
@@ -100,8 +101,8 @@ unit_in input at (Some byte) from upto inside (less, e) = forward_unit input at 
 module _ (m : Machine) (input : Input) (old new : CacheView) (at id to : ℕ) (u : Option ℕ) (before : Tagged m old.store.table)
     (after : Tagged m new.store.table) (stands : StandsAt m old input at id) (unit : IsUnitAt input at u)
     (answer : IsStepAnswer m id u old new to) where
-  stride : table_stride m ≤ 512
-  stride = subst (λ (n : Machine). table_stride n ≤ 512) after.of after.small
+  stride : m.stride ≤ 512
+  stride = subst (λ (n : Machine). n.stride ≤ 512) after.of after.small
 
   from : input.start ≤ at
   from = stands.from
@@ -110,8 +111,8 @@ module _ (m : Machine) (input : Input) (old new : CacheView) (at id to : ℕ) (u
   reported_patterns b q n = (answer.tag q n).0 b
 
   -- from a dead ID
-  module _ (e : id ≡ dead_id (table_stride m)) (none : IsFirstMatch m input None) where
-    stays : to ≡ dead_id (table_stride m)
+  module _ (e : id ≡ dead_id m.stride) (none : IsFirstMatch m input None) where
+    stays : to ≡ dead_id m.stride
     stays = answer.fixed (omega (arith, e)) ∙ e
 
     dead_steps : IsStepAt m new input at to
@@ -160,7 +161,7 @@ module _ (m : Machine) (input : Input) (old new : CacheView) (at id to : ℕ) (u
       reads q n = answer.named clean q n
 
       tagged_leads : (q : Powerset) → Leads new.store.table to q → IsBitSet to 27 → 0 < length q.patterns
-      tagged_leads q (inl (e, d)) b = absurd (dead_matchless m to stride (e ∙ ap (λ (n : Machine). dead_id (table_stride n)) after.of) b)
+      tagged_leads q (inl (e, d)) b = absurd (dead_matchless m to stride (e ∙ ap (λ (n : Machine). dead_id n.stride) after.of) b)
       tagged_leads q (inr n) b = (answer.tag q n).0 b
 
       found_here : IsBitSet to 27 → (pattern : ℕ) → IsFirstPattern new to pattern → IsFirstMatch m input (Some (record { pattern = pattern; offset = at }))
@@ -173,11 +174,11 @@ module _ (m : Machine) (input : Input) (old new : CacheView) (at id to : ℕ) (u
             supported = under.may.1;
           } where
             named_first : (q : Powerset) → Leads new.store.table to q → pattern ≡ get_or q.patterns 0 0
-            named_first q (inl (e, d)) = absurd (dead_matchless m to stride (e ∙ ap (λ (n : Machine). dead_id (table_stride n)) after.of) b)
+            named_first q (inl (e, d)) = absurd (dead_matchless m to stride (e ∙ ap (λ (n : Machine). dead_id n.stride) after.of) b)
             named_first q (inr n) = first q n
 
       dies_here :
-          to ≡ dead_id (table_stride new.store.table.of)
+          to ≡ dead_id new.store.table.of.stride
           → successor m.nfa (match_kind_of m.config) (state_in Forward m input k) u ≡ dead
           → IsFirstMatch m input None
       dies_here e d =
@@ -211,9 +212,9 @@ module _ (m : Machine) (input : Input) (old new : CacheView) (at id to : ℕ) (u
 
         goes_on :
             Leads new.store.table to (successor m.nfa (match_kind_of m.config) (state_in Forward m input k) u)
-            → ((to ≡ dead_id (table_stride m)) × IsFirstMatch m input None)
+            → ((to ≡ dead_id m.stride) × IsFirstMatch m input None)
             ⊎ IsUnderway Forward m new.store.table input (suc k) to None
-        goes_on (inl (e, d)) = inl (e ∙ ap (λ (n : Machine). dead_id (table_stride n)) after.of, dies_here e d)
+        goes_on (inl (e, d)) = inl (e ∙ ap (λ (n : Machine). dead_id n.stride) after.of, dies_here e d)
         goes_on (inr n) =
             let there : Names new.store.table to (state_in Forward m input (suc k)) =
             subst (Names new.store.table to) (sym (state_more Forward m input k ∙ ap (successor m.nfa (match_kind_of m.config) (state_in Forward m input k)) reads_unit)) n in
@@ -231,14 +232,14 @@ module _ (m : Machine) (input : Input) (old new : CacheView) (at id to : ℕ) (u
           inside = stands.inside;
           row = answer.row;
           state =
-              subst (λ n. ((to ≡ dead_id (table_stride m)) × IsFirstMatch m input None) ⊎ IsUnderway Forward m new.store.table input n to None)
+              subst (λ n. ((to ≡ dead_id m.stride) × IsFirstMatch m input None) ⊎ IsUnderway Forward m new.store.table input n to None)
               more (goes_on (reads (state_in Forward m input k) under.at.named));
         } where
           more : suc k ≡ at + 1 - input.start
           more = omega (arith, from)
 
     -- a quit byte leads to quit
-    quit_to : quits_on m u ≡ true → to ≡ quit_id (table_stride m)
+    quit_to : quits_on m u ≡ true → to ≡ quit_id m.stride
     quit_to q = answer.quit plain q
 
     state_steps : (b : Bool) → quits_on m u ≡ b → IsStepAt m new input at to
@@ -259,7 +260,7 @@ module _ (m : Machine) (input : Input) (old new : CacheView) (at id to : ℕ) (u
       last = λ silent unquit end. end_here q silent end;
     }
 
-  go : ((id ≡ dead_id (table_stride m)) × IsFirstMatch m input None) ⊎ IsUnderway Forward m old.store.table input (at - input.start) id None → IsStepAt m new input at to
+  go : ((id ≡ dead_id m.stride) × IsFirstMatch m input None) ⊎ IsUnderway Forward m old.store.table input (at - input.start) id None → IsStepAt m new input at to
   go (inl (e, none)) = dead_steps e none
   go (inr under) = state_steps under (quits_on m u) refl
 

@@ -7,7 +7,7 @@ use Rattle.std.proofs.lemmas.List.{get_or-set_same, get_or-set_other, get_or_app
 use Rattle.std.proofs.lemmas.List.Sums.{sum_by_push}
 use Rattle.automata_base.specs.Powersets.Powerset.{Powerset, cost}
 use Rattle.automata_hybrid.specs.declared.dfa.row.Row.{Row}
-use Rattle.automata_hybrid.specs.Machines.Machine.{Machine, greatest, template_of, table_stride}
+use Rattle.automata_hybrid.specs.Machines.Machine.{Machine}
 use Rattle.automata_hybrid.specs.Cache.Table.{id_of, Rows, Lacks, Names, HasCells, row_cost, cell_at, with_row, IsKnownState}
 use Rattle.automata_hybrid.specs.Cache.Stores.{Stored, cell_of, with_next, with_start, IsKnownTransition, IsKnownStart}
 use Rattle.automata_hybrid.specs.Cache.Usage.{row_usage, usage, Fits}
@@ -47,18 +47,18 @@ pub Keeps-grown : (old : Stored) (r : Row) → HasCells old.table → Keeps old 
 Keeps-grown old r has = record {
   rows = λ i q h. Names-more old.table r i q h;
   starts = λ slot k. refl;
-  cells = λ i d v l k. get_or_append_left old.table.cells (template_of old.table.of) 0 (cell_at i d) (has i d v l);
+  cells = λ i d v l k. get_or_append_left old.table.cells old.table.of.template 0 (cell_at i d) (has i d v l);
 }
 
 pub Keeps-trans : (a b c : Stored) → b.table.of ≡ a.table.of → Keeps a b → Keeps b c → Keeps a c
 Keeps-trans a b c of f g = record {
   rows = λ i q h. g.rows i q (f.rows i q h);
   starts = λ slot k. (let e = f.starts slot k in g.starts slot (subst (λ n. n < 2 ^ 31) (sym e) k) ∙ e);
-  cells = λ i d v l k. (let e = f.cells i d v l k in g.cells i d (v.0, f.rows i v.0 v.1) (subst (λ (m : Machine). d < table_stride m) (sym of) l) (subst (λ n. n < 2 ^ 31) (sym e) k) ∙ e);
+  cells = λ i d v l k. (let e = f.cells i d v l k in g.cells i d (v.0, f.rows i v.0 v.1) (subst (λ (m : Machine). d < m.stride) (sym of) l) (subst (λ n. n < 2 ^ 31) (sym e) k) ∙ e);
 }
 
 module _ (old new : Stored) (id class next : ℕ) (q target : Powerset) (has : HasCells old.table) (named : Names old.table id q)
-    (below : class < table_stride old.table.of) (free : IsKnownTransition old id class → ⊥) (done : IsComputed old id class q target new next) where
+    (below : class < old.table.of.stride) (free : IsKnownTransition old id class → ⊥) (done : IsComputed old id class q target new next) where
   pub Keeps-computed : ClearedNothing old new → Keeps old new
   Keeps-computed nothing = go done where
     go : IsComputed old id class q target new next → Keeps old new
@@ -66,7 +66,7 @@ module _ (old new : Stored) (id class next : ℕ) (q target : Powerset) (has : H
     go (inr (lacks, from, between, inl (fits, g), n, to, e)) =
         let r : Row = record { state = target; started = false } in
         let at : from ≡ id = one_id (grown old r).table from id q (subst (λ (s : Stored). Names s.table from q) g n) (Names-more old.table r id q named) in
-        let read : cell_of (grown old r) id class ≡ cell_of old id class = get_or_append_left old.table.cells (template_of old.table.of) 0 (cell_at id class) (has id class (q, named) below) in
+        let read : cell_of (grown old r) id class ≡ cell_of old id class = get_or_append_left old.table.cells old.table.of.template 0 (cell_at id class) (has id class (q, named) below) in
         let still : IsKnownTransition (grown old r) id class → ⊥ = λ k. free (subst (λ v. v < 2 ^ 31) read k) in
         let k : Keeps old (with_next (grown old r) id class next) = Keeps-trans old (grown old r) (with_next (grown old r) id class next) refl (Keeps-grown old r has) (Keeps-next (grown old r) id class next still) in
         let same : new ≡ with_next (grown old r) id class next = e ∙ (λ i. with_next (g i) (at i) class next) in
@@ -82,9 +82,9 @@ module _ (old new : Stored) (id class next : ℕ) (q target : Powerset) (has : H
     go (inr (lacks, from, between, inl (fits, g), n, to, e)) =
         let r : Row = record { state = target; started = false } in
         let at : from ≡ id = one_id (grown old r).table from id q (subst (λ (s : Stored). Names s.table from q) g n) (Names-more old.table r id q named) in
-        let within : cell_at id class < length (old.table.cells ++ template_of old.table.of) = omega (arith, length-append old.table.cells (template_of old.table.of), has id class (q, named) below) in
+        let within : cell_at id class < length (old.table.cells ++ old.table.of.template) = omega (arith, length-append old.table.cells old.table.of.template, has id class (q, named) below) in
         let same : new ≡ with_next (grown old r) id class next = e ∙ (λ i. with_next (g i) (at i) class next) in
-        ap (λ (s : Stored). cell_of s id class) same ∙ get_or-set_same (old.table.cells ++ template_of old.table.of) (cell_at id class) next 0 within
+        ap (λ (s : Stored). cell_of s id class) same ∙ get_or-set_same (old.table.cells ++ old.table.of.template) (cell_at id class) next 0 within
     go (inr (lacks, from, between, inr (full, may, g), n, to, e)) =
         let count : new.clears ≡ saturated (old.clears + 1) = ap (λ (s : Stored). s.clears) e ∙ ap (λ (s : Stored). s.clears) g in
         absurd (counts_up old.clears new.clears count nothing.0 nothing.1)
@@ -101,24 +101,24 @@ rest_room used n stride most extra capacity little l = let e : (n + 1) * (4 * st
 
 pub HasRoom-less : (c : Stored) (states : ℕ) → HasRoom c (states + 1) → HasRoom c states
 HasRoom-less c states room = record {
-  capacity = more_room (usage c) states (row_usage c.table.of + greatest c.table.of) c.table.of.capacity room.capacity;
+  capacity = more_room (usage c) states (row_usage c.table.of + c.table.of.greatest) c.table.of.capacity room.capacity;
   offsets = λ k l. room.offsets k (omega (arith, l));
 }
 
-pub HasRoom-Fits : (c : Stored) (states extra : ℕ) → extra ≤ greatest c.table.of → HasRoom c (states + 1) → Fits c extra
+pub HasRoom-Fits : (c : Stored) (states extra : ℕ) → extra ≤ c.table.of.greatest → HasRoom c (states + 1) → Fits c extra
 HasRoom-Fits c states extra little room =
-    let first : length c.table.cells + 0 * table_stride c.table.of < 2 ^ 27 = room.offsets 0 (omega arith) in
-    (one_room (usage c) states (table_stride c.table.of) (greatest c.table.of) extra c.table.of.capacity little room.capacity, omega (arith, first))
+    let first : length c.table.cells + 0 * c.table.of.stride < 2 ^ 27 = room.offsets 0 (omega arith) in
+    (one_room (usage c) states c.table.of.stride c.table.of.greatest extra c.table.of.capacity little room.capacity, omega (arith, first))
 
-pub HasRoom-grown : (c : Stored) (r : Row) (states : ℕ) → length (template_of c.table.of) ≡ table_stride c.table.of → cost r.state ≤ greatest c.table.of → HasRoom c (states + 1) → HasRoom (grown c r) states
+pub HasRoom-grown : (c : Stored) (r : Row) (states : ℕ) → length c.table.of.template ≡ c.table.of.stride → cost r.state ≤ c.table.of.greatest → HasRoom c (states + 1) → HasRoom (grown c r) states
 HasRoom-grown c r states wide little room =
-    let cells : length (c.table.cells ++ template_of c.table.of) ≡ length c.table.cells + table_stride c.table.of = length-append c.table.cells (template_of c.table.of) ∙ ap (λ n. length c.table.cells + n) wide in
+    let cells : length (c.table.cells ++ c.table.of.template) ≡ length c.table.cells + c.table.of.stride = length-append c.table.cells c.table.of.template ∙ ap (λ n. length c.table.cells + n) wide in
     let rows : length (c.table.rows ++ r ∷ []) ≡ length c.table.rows + 1 = length-append c.table.rows (r ∷ []) in
     let costs : sum_by row_cost (c.table.rows ++ r ∷ []) ≡ sum_by row_cost c.table.rows + cost r.state = sum_by_push row_cost c.table.rows r in
     let used : usage (grown c r) ≡ usage c + row_usage c.table.of + cost r.state = omega (arith, cells, rows, costs) in
     record {
-      capacity = rw used (rest_room (usage c) states (table_stride c.table.of) (greatest c.table.of) (cost r.state) c.table.of.capacity little room.capacity);
-      offsets = λ k l. (let e : (k + 1) * table_stride c.table.of ≡ k * table_stride c.table.of + table_stride c.table.of = omega arith in omega (arith, cells, e, room.offsets (k + 1) (omega (arith, l))));
+      capacity = rw used (rest_room (usage c) states c.table.of.stride c.table.of.greatest (cost r.state) c.table.of.capacity little room.capacity);
+      offsets = λ k l. (let e : (k + 1) * c.table.of.stride ≡ k * c.table.of.stride + c.table.of.stride = omega arith in omega (arith, cells, e, room.offsets (k + 1) (omega (arith, l))));
     }
 
 HasRoom-next : (c : Stored) (id class next states : ℕ) → HasRoom c states → HasRoom (with_next c id class next) states
@@ -132,8 +132,8 @@ HasRoom-start c slot id states room =
     record { capacity = omega (arith, n, room.capacity); offsets = room.offsets }
 
 pub roomy-computed :
-    (old new : Stored) (id class next : ℕ) (q target : Powerset) (states : ℕ) → length (template_of old.table.of) ≡ table_stride old.table.of
-    → (Lacks old.table target → cost target ≤ greatest old.table.of)
+    (old new : Stored) (id class next : ℕ) (q target : Powerset) (states : ℕ) → length old.table.of.template ≡ old.table.of.stride
+    → (Lacks old.table target → cost target ≤ old.table.of.greatest)
     → IsComputed old id class q target new next → HasRoom old (states + 1) → HasRoom new states × (new.clears ≡ old.clears)
 roomy-computed old new id class next q target states wide little (inl (leads, e)) room =
     (subst (λ (s : Stored). HasRoom s states) (sym e) (HasRoom-next old id class next states (HasRoom-less old states room)), ap (λ (s : Stored). s.clears) e)
@@ -156,8 +156,8 @@ module _ (old new : Stored) (slot id : ℕ) (r : Row) (done : IsStarted old slot
         absurd (counts_up old.clears new.clears count nothing.0 nothing.1)
 
   pub roomy-started :
-      (states : ℕ) → length (template_of old.table.of) ≡ table_stride old.table.of
-      → (Lacks old.table r.state → cost r.state ≤ greatest old.table.of)
+      (states : ℕ) → length old.table.of.template ≡ old.table.of.stride
+      → (Lacks old.table r.state → cost r.state ≤ old.table.of.greatest)
       → HasRoom old (states + 1) → HasRoom new states × (new.clears ≡ old.clears)
   roomy-started states wide little room = go done where
     go : IsStarted old slot r new id → HasRoom new states × (new.clears ≡ old.clears)
@@ -177,5 +177,5 @@ only-grown old t r absent p has = go (id_of old p) refl where
   go (Some k) e = inl (record { id = k; named = e })
   go None e = ⊎_elim
       (λ (same : powerset_eq p r.state ≡ true). inr ((powerset_eq-Decides p r.state).0 same))
-      (λ (other : powerset_eq p r.state ≡ false). absurd (none_some (sym (absent p e) ∙ sym (find_id-push_other (table_stride t.of) (3 * table_stride t.of) p t.rows r other) ∙ has.named)))
+      (λ (other : powerset_eq p r.state ≡ false). absurd (none_some (sym (absent p e) ∙ sym (find_id-push_other t.of.stride (3 * t.of.stride) p t.rows r other) ∙ has.named)))
       (cases_Bool (powerset_eq p r.state))

@@ -2,7 +2,7 @@ use Rattle.std.proofs.Common.{◌≡◌, ℕ, List, ◌∷◌, length, Bool, tru
 use Rattle.std.proofs.Common.{refl, sym, ap, subst, arith, get_or, Option}
 use Rattle.automata_base.specs.Lists.{In}
 use Rattle.automata_base.specs.Powersets.Powerset.{Powerset, dead}
-use Rattle.automata_hybrid.specs.Machines.Machine.{Machine, table_stride}
+use Rattle.automata_hybrid.specs.Machines.Machine.{Machine}
 use Rattle.automata_hybrid.specs.Cache.Table.{Rows, IsRowId, Leads, Names}
 use Rattle.automata_hybrid.specs.Cache.Ids.{quit_id}
 use Rattle.automata_hybrid.specs.Cache.Caches.{CacheView, HoldsRow}
@@ -10,7 +10,7 @@ use Rattle.automata_hybrid.specs.Cache.Stores.{Stored, IsCacheError}
 use Rattle.automata_hybrid.specs.Cache.Usage.{GivesUp}
 use Rattle.automata_hybrid.specs.Searches.PassState.{step_refusal}
 use Rattle.automata_hybrid.specs.Searches.Passes.{IsStepRefusal, LacksStep}
-use Rattle.automata_hybrid.specs.Steps.Steps.{quits_on}
+use Rattle.automata_hybrid.specs.Machines.Machine.{quits_on}
 use Rattle.automata_config.specs.declared.error.StepError.{StepError}
 use Rattle.automata_config.specs.declared.error.StepError.TheVariants.{Cache, OutOfMemory}
 use Rattle.std.specs.Prelude.{IsBitSet, ◌↔◌}
@@ -26,9 +26,9 @@ HoldsRow-valid c id (inr (inl e)) l = absurd (omega (arith, e, l))
 HoldsRow-valid c id (inr (inr h)) l = h
 
 -- an ID of a row with the match tag is neither dead nor quit
-pub HoldsRow-matched : (c : CacheView) (id : ℕ) → table_stride c.store.table.of ≤ 512 → HoldsRow c id → IsBitSet id 27 → IsRowId c.store.table id
-HoldsRow-matched c id small (inl e) b = absurd (zero_one ((bit_of 27 (table_stride c.store.table.of) 8 id (omega (arith, small)) (omega (arith, e))).0 b))
-HoldsRow-matched c id small (inr (inl e)) b = absurd (zero_one ((bit_of 27 (2 * table_stride c.store.table.of) 4 id (omega (arith, small)) (omega (arith, e))).0 b))
+pub HoldsRow-matched : (c : CacheView) (id : ℕ) → c.store.table.of.stride ≤ 512 → HoldsRow c id → IsBitSet id 27 → IsRowId c.store.table id
+HoldsRow-matched c id small (inl e) b = absurd (zero_one ((bit_of 27 c.store.table.of.stride 8 id (omega (arith, small)) (omega (arith, e))).0 b))
+HoldsRow-matched c id small (inr (inl e)) b = absurd (zero_one ((bit_of 27 (2 * c.store.table.of.stride) 4 id (omega (arith, small)) (omega (arith, e))).0 b))
 HoldsRow-matched c id small (inr (inr v)) b = v
 
 pub Leads-Names : (t : Rows) (id : ℕ) (q : Powerset) → Leads t id q → id < 2 ^ 29 → Names t id q
@@ -47,29 +47,29 @@ low_bit k n l b = let z : n ≡ 0 * 2 ^ k + n = omega arith in zero_one ((bit_of
 
 -- the bit of quit IDs
 pub Leads-quit :
-    (t : Rows) (id : ℕ) (q : Powerset) → Leads t id q → (Names t id q → id < 2 ^ 29) → table_stride t.of ≤ 512 → IsBitSet id 29 → ⊥
+    (t : Rows) (id : ℕ) (q : Powerset) → Leads t id q → (Names t id q → id < 2 ^ 29) → t.of.stride ≤ 512 → IsBitSet id 29 → ⊥
 Leads-quit t id q (inl (e, d)) low small b =
-    let n : id ≡ 2 * 2 ^ 29 + table_stride t.of = omega (arith, e) in
-    zero_one ((bit_of 29 (table_stride t.of) 2 id (omega (arith, small)) n).0 b)
+    let n : id ≡ 2 * 2 ^ 29 + t.of.stride = omega (arith, e) in
+    zero_one ((bit_of 29 t.of.stride 2 id (omega (arith, small)) n).0 b)
 Leads-quit t id q (inr h) low small b = low_bit 29 id (low h) b
 
 -- an ID has the dead tag exactly if it leads to the dead state, which no row has
 pub dead_tagged :
-    (t : Rows) (id : ℕ) → ((q : Powerset) → Names t id q → id < 2 ^ 29) → table_stride t.of ≤ 512
+    (t : Rows) (id : ℕ) → ((q : Powerset) → Names t id q → id < 2 ^ 29) → t.of.stride ≤ 512
     → (q : Powerset) → Leads t id q → (IsBitSet id 30 → q ≡ dead) × ((IsBitSet id 30 → ⊥) → Names t id q)
 dead_tagged t id low small q (inl (e, d)) =
-    let n : id ≡ 1 * 2 ^ 30 + table_stride t.of = omega (arith, e) in
-    (λ b. d, λ clear. absurd (clear ((bit_of 30 (table_stride t.of) 1 id (omega (arith, small)) n).1 refl)))
+    let n : id ≡ 1 * 2 ^ 30 + t.of.stride = omega (arith, e) in
+    (λ b. d, λ clear. absurd (clear ((bit_of 30 t.of.stride 1 id (omega (arith, small)) n).1 refl)))
 dead_tagged t id low small q (inr h) =
     (λ b. absurd (let l : id < 2 ^ 29 = low q h in low_bit 30 id (omega (arith, l)) b), λ clear. h)
 
 -- a dead ID is none of the quit state
 pub dead_clear :
-    (c : CacheView) (id : ℕ) → HoldsRow c id → ((q : Powerset) → Names c.store.table id q → id < 2 ^ 29) → table_stride c.store.table.of ≤ 512 → IsBitSet id 30
+    (c : CacheView) (id : ℕ) → HoldsRow c id → ((q : Powerset) → Names c.store.table id q → id < 2 ^ 29) → c.store.table.of.stride ≤ 512 → IsBitSet id 30
     → IsBitSet id 29 → ⊥
 dead_clear c id (inl e) low small b q =
-    let n : id ≡ 2 * 2 ^ 29 + table_stride c.store.table.of = omega (arith, e) in
-    zero_one ((bit_of 29 (table_stride c.store.table.of) 2 id (omega (arith, small)) n).0 q)
+    let n : id ≡ 2 * 2 ^ 29 + c.store.table.of.stride = omega (arith, e) in
+    zero_one ((bit_of 29 c.store.table.of.stride 2 id (omega (arith, small)) n).0 q)
 dead_clear c id (inr (inl e)) low small b q = low_bit 30 id (omega (arith, e, small)) b
 dead_clear c id (inr (inr v)) low small b q = low_bit 29 id (low v.0 v.1) q
 
@@ -91,19 +91,19 @@ quit_bit s l =
 -- a step that led to no quit state read no quit byte
 pub unquit :
     (m : Machine) (t : Rows) (id' byte : ℕ)
-    → t.of ≡ m → table_stride t.of ≤ 512 → (IsBitSet id' 29 → ⊥)
-    → (is_quit m.quits byte ≡ true → id' ≡ quit_id (table_stride m)) → is_quit m.quits byte ≡ false
+    → t.of ≡ m → t.of.stride ≤ 512 → (IsBitSet id' 29 → ⊥)
+    → (is_quit m.quits byte ≡ true → id' ≡ quit_id m.stride) → is_quit m.quits byte ≡ false
 unquit m t id' byte of small clear quit = go (is_quit m.quits byte) refl where
   go : (b : Bool) → is_quit m.quits byte ≡ b → is_quit m.quits byte ≡ false
   go false e = e
   go true e =
-      let s : table_stride t.of ≡ table_stride m = ap (λ (n : Machine). table_stride n) of in
-      absurd (clear (subst (λ v. IsBitSet v 29) (sym (quit e)) (quit_bit (table_stride m) (omega (arith, s, small)))))
+      let s : t.of.stride ≡ m.stride = ap (λ (n : Machine). n.stride) of in
+      absurd (clear (subst (λ v. IsBitSet v 29) (sym (quit e)) (quit_bit m.stride (omega (arith, s, small)))))
 
 -- and one that led there read one
 pub quits :
     (m : Machine) (t t' : Rows) (id id' byte : ℕ) (q : Powerset)
-    → table_stride t'.of ≤ 512 → ((p : Powerset) → Names t' id' p → id' < 2 ^ 29) → IsBitSet id' 29
+    → t'.of.stride ≤ 512 → ((p : Powerset) → Names t' id' p → id' < 2 ^ 29) → IsBitSet id' 29
     → (is_quit m.quits byte ≡ false → (p : Powerset) → Names t id p → Leads t' id' (successor m.nfa (match_kind_of m.config) p (Some byte)))
     → Names t id q → is_quit m.quits byte ≡ true
 quits m t t' id id' byte q small low bit named h = go (is_quit m.quits byte) refl where

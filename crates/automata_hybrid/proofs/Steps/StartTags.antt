@@ -4,6 +4,9 @@ use Rattle.std.proofs.Common.{Option, None, Some, slice_get, refl, sym, ap, ◌�
 use Rattle.std.specs.Prelude.{IsBitSet, ◌↔◌, nat_le}
 use Rattle.automata_base.specs.Powersets.Powerset.{Powerset}
 use Rattle.automata_base.proofs.Paths.Orders.{none_some}
+use Rattle.automata_base.specs.Retraced.Steps.{start_state_of}
+use Rattle.automata_base.specs.declared.util.search.Anchored.{Anchored}
+use Rattle.automata_hybrid.specs.Machines.StartSlots.{slot_behind}
 use Rattle.automata_hybrid.specs.declared.dfa.row.Row.{Row}
 use Rattle.automata_hybrid.specs.Cache.Ids.{tags}
 use Rattle.automata_hybrid.specs.Cache.Growth.{IsStartTagged, MayHaveStartTag}
@@ -17,7 +20,6 @@ use Rattle.automata_hybrid.proofs.Cache.Rows.{at_push}
 use Rattle.automata_hybrid.proofs.Cache.Places.{Found, find_id-Found, bit_of, zero_one}
 use Rattle.automata_hybrid.proofs.Steps.Effects.{one_id}
 use Rattle.automata_config.specs.Options.{specialize_start_states_of}
-use Rattle.automata_hybrid.specs.Machines.Machine.{slot_count, start_of, table_stride}
 use Rattle.std.specs.Option.{is_some}
 
 -- the start tag of an ID at a row's offset
@@ -31,8 +33,8 @@ tags_start x false false h = let i = bit_of 28 x 0 (x + tags false false) (omega
 marked : (t : Rows) → HasRowIds t → (k : ℕ) (r : Row) → slice_get t.rows k ≡ Some r → (id : ℕ) → Names t id r.state → IsBitSet id 28 ↔ (r.started ≡ true)
 marked t ids k r has id named =
     let at = ids k r has in
-    let same : row_id ((k + 3) * table_stride t.of) r ≡ id = one_id t (row_id ((k + 3) * table_stride t.of) r) id r.state at.0 named in
-    subst (λ n. IsBitSet n 28 ↔ (r.started ≡ true)) same (tags_start ((k + 3) * table_stride t.of) r.started (has_patterns r.state) at.1)
+    let same : row_id ((k + 3) * t.of.stride) r ≡ id = one_id t (row_id ((k + 3) * t.of.stride) r) id r.state at.0 named in
+    subst (λ n. IsBitSet n 28 ↔ (r.started ≡ true)) same (tags_start ((k + 3) * t.of.stride) r.started (has_patterns r.state) at.1)
 
 -- some row is this one
 abbrev pub IsIn : Rows → Row → Type 0
@@ -47,13 +49,13 @@ abbrev pub AllFromOr : Rows → Rows → Bool → Type 0
 AllFromOr old new started = (k : ℕ) (r : Row) → slice_get new.rows k ≡ Some r → IsIn old r ⊎ ((id_of old r.state ≡ None) × (r.started ≡ started))
 
 -- the row of a state
-pub row_named : (t : Rows) (id : ℕ) (q : Powerset) → Names t id q → Found (table_stride t.of) (3 * table_stride t.of) q t.rows id
-row_named t id q h = find_id-Found (table_stride t.of) (3 * table_stride t.of) q t.rows id h
+pub row_named : (t : Rows) (id : ℕ) (q : Powerset) → Names t id q → Found t.of.stride (3 * t.of.stride) q t.rows id
+row_named t id q h = find_id-Found t.of.stride (3 * t.of.stride) q t.rows id h
 
 module _ (old new : Rows) (started : Bool) (ids_old : HasRowIds old) (ids_new : HasRowIds new) (all : AllFromOr old new started) where
   pub keeps_tags : KeepsStartTags old new
   keeps_tags q before now h n = go (all f.place f.row f.has) where
-    f : Found (table_stride new.of) (3 * table_stride new.of) q new.rows now
+    f : Found new.of.stride (3 * new.of.stride) q new.rows now
     f = row_named new now q n
 
     there : IsBitSet now 28 ↔ (f.row.started ≡ true)
@@ -65,14 +67,14 @@ module _ (old new : Rows) (started : Bool) (ids_old : HasRowIds old) (ids_new : 
 
   pub tags_new : TagsNewStates old new started
   tags_new q id none n = go (all f.place f.row f.has) where
-    f : Found (table_stride new.of) (3 * table_stride new.of) q new.rows id
+    f : Found new.of.stride (3 * new.of.stride) q new.rows id
     f = row_named new id q n
 
     there : IsBitSet id 28 ↔ (f.row.started ≡ true)
     there = marked new ids_new f.place f.row f.has id (subst (λ p. Names new id p) (sym f.state) n)
 
     go : IsIn old f.row ⊎ ((id_of old f.row.state ≡ None) × (f.row.started ≡ started)) → IsBitSet id 28 ↔ (started ≡ true)
-    go (inl (k, has)) = absurd (none_some (sym none ∙ subst (λ p. Names old (row_id ((k + 3) * table_stride old.of) f.row) p) f.state (ids_old k f.row has).0))
+    go (inl (k, has)) = absurd (none_some (sym none ∙ subst (λ p. Names old (row_id ((k + 3) * old.of.stride) f.row) p) f.state (ids_old k f.row has).0))
     go (inr (free, e)) = subst (λ b. IsBitSet id 28 ↔ (b ≡ true)) e there
 
 -- a table that is as it was
@@ -180,15 +182,16 @@ tagged_none old new keeps adds q (id, named, tag) = go (id_of old q) refl where
 
 -- where a start is given it, as the settings specialize starts, a state that has it had it, or is that start
 pub tagged_start :
-    (old new : Stored) (slot : ℕ) (start : Powerset)
+    (old new : Stored) (mode : Anchored) (behind : Option ℕ) (start : Powerset)
     → KeepsStartTags old.table new.table → TagsNewStates old.table new.table (specialize_start_states_of new.table.of.config)
     → ((q : Powerset) → IsKnownState new.table q → IsKnownState old.table q ⊎ (q ≡ start))
-    → slot < slot_count new.table.of → IsKnownStart new slot → start ≡ start_of new.table.of slot
+    → slot_behind new.table.of mode behind < new.table.of.slots → IsKnownStart new (slot_behind new.table.of mode behind)
+    → start ≡ start_state_of new.table.of.nfa mode behind
     → (q : Powerset) → IsStartTagged new.table q → IsStartTagged old.table q ⊎ MayHaveStartTag new q
-tagged_start old new slot start keeps adds only within known same q (id, named, tag) = go (id_of old.table q) refl where
+tagged_start old new mode behind start keeps adds only within known same q (id, named, tag) = go (id_of old.table q) refl where
   go : (o : Option ℕ) → id_of old.table q ≡ o → IsStartTagged old.table q ⊎ MayHaveStartTag new q
   go (Some before) had = inl (before, had, (keeps q before id had named).1 tag)
   go None none = here (only q (record { id = id; named = named })) where
     here : IsKnownState old.table q ⊎ (q ≡ start) → IsStartTagged old.table q ⊎ MayHaveStartTag new q
     here (inl has) = absurd (none_some (sym none ∙ has.named))
-    here (inr e) = inr ((adds q id none named).0 tag, (slot, within, known, e ∙ same))
+    here (inr e) = inr ((adds q id none named).0 tag, (mode, behind, within, known, e ∙ same))

@@ -1,4 +1,6 @@
 -- Starts: what a call answers and changes, from what its parts do.
+use Rattle.automata_hybrid.specs.Machines.StartSlots.{slot_behind}
+use Rattle.automata_hybrid.specs.Cache.Clears.{IsSlot, LeadsToStart}
 use Rattle.automata_hybrid.specs.Cache.Growth.{IsStartTagged, MayHaveStartTag}
 use Rattle.std.proofs.Common.{ℕ, ◌≡◌, ◌+◌, ◌^◌, ◌<◌, ◌≤◌, ◌⊎◌, List, length, length-set, get_or, set, Bool, Option}
 use Rattle.std.proofs.Common.{refl, sym, ap, ◌∙◌, subst, arith, inl, inr}
@@ -11,8 +13,8 @@ use Rattle.automata_base.proofs.Paths.Orders.{none_some}
 use Rattle.automata_config.specs.declared.error.SearchError.{SearchError}
 use Rattle.automata_hybrid.specs.declared.dfa.row.Row.{Row}
 use Rattle.automata_hybrid.specs.Cache.Ids.{unknown_id}
-use Rattle.automata_hybrid.specs.Machines.Machine.{Machine, greatest, slot_count, start_of, table_stride, template_of}
-use Rattle.automata_hybrid.specs.Cache.Table.{IsKnownState, HasCells, HasItsMatchTag, HasRowIds, Lacks, Leads, MayLead, Names}
+use Rattle.automata_hybrid.specs.Machines.Machine.{Machine}
+use Rattle.automata_hybrid.specs.Cache.Table.{IsKnownState, HasCells, HasItsMatchTag, HasRowIds, Lacks, Leads, Names}
 use Rattle.automata_hybrid.specs.Cache.Table.{Rows, TagsNewStates}
 use Rattle.automata_hybrid.specs.Cache.Stores.{Stored, IsKnownStart, KeepsStarts, with_start}
 use Rattle.automata_hybrid.specs.Cache.Usage.{GivesUp, cleared}
@@ -25,32 +27,28 @@ use Rattle.automata_hybrid.proofs.Steps.Effects.{Keeps-started, roomy-started}
 use Rattle.automata_hybrid.proofs.Cache.Growth.{grown_counted, grown_one, grown_same}
 use Rattle.automata_hybrid.proofs.Searches.Progress.{started_progress}
 use Rattle.automata_hybrid.proofs.Searches.PassState.{false_true}
-use Rattle.automata_hybrid.proofs.Machines.StartSlots.{start_same}
+use Rattle.automata_hybrid.proofs.Machines.StartSlots.{starts_alike}
 use Rattle.automata_hybrid.proofs.Steps.StartTags.{same_adds, same_keeps, started_adds, started_keeps, tagged_start}
 use Rattle.automata_config.specs.Options.{specialize_start_states_of}
 use Rattle.std.proofs.lemmas.Bool.{cases_lt}
 
--- the row of the start state of a slot
-abbrev slot_row : Machine → ℕ → Row
-slot_row m slot = record { state = start_of m slot; started = specialize_start_states_of m.config }
-
--- the start of a slot is that of its mode
-pub slot_state :
-    (m : Machine) (mode : Anchored) (behind : Option ℕ) (slot : ℕ) → IsStartSlot m mode behind slot
-    → start_state_of m.nfa mode behind ≡ start_of m slot
-slot_state m mode behind slot at = start_same m mode behind ∙ ap (start_of m) (sym at.at)
-
--- what leads to the start of a mode leads to that of its slot
+-- what leads to the start of a mode leads to the starts of its slot
 pub slot_leads :
     (m : Machine) (mode : Anchored) (behind : Option ℕ) (slot : ℕ) (t : Rows) (id : ℕ) (q : Powerset)
-    → IsStartSlot m mode behind slot → t.of ≡ m → q ≡ start_state_of m.nfa mode behind → Leads t id q → Leads t id (start_of t.of slot)
-slot_leads m mode behind slot t id q at of same leads =
-    subst (λ (p : Powerset). Leads t id p) (same ∙ (slot_state m mode behind slot at ∙ ap (λ (d : Machine). start_of d slot) (sym of))) leads
+    → IsStartSlot m mode behind slot → t.of ≡ m → q ≡ start_state_of m.nfa mode behind → Leads t id q → LeadsToStart t id slot
+slot_leads m mode behind slot t id q at of same leads = (
+  q,
+  leads,
+  λ other look here.
+      let slots : slot_behind m mode behind ≡ slot_behind m other look =
+      sym at.at ∙ sym (subst (λ (d : Machine). slot_behind d other look ≡ slot) of here) in
+      same ∙ (starts_alike m mode other behind look slots ∙ ap (λ (d : Machine). start_state_of d.nfa other look) (sym of)),
+)
 
 -- the start of a mode's slot is cached
 pub knows_slot :
     (m : Machine) (c : Stored) (mode : Anchored) (behind : Option ℕ) (slot : ℕ)
-    → IsStartSlot m mode behind slot → length c.starts ≡ slot_count m → IsKnownStart c slot → KnowsStart m c mode behind
+    → IsStartSlot m mode behind slot → length c.starts ≡ m.slots → IsKnownStart c slot → KnowsStart m c mode behind
 knows_slot m c mode behind slot at slots known =
     (at.may, (omega (arith, at.at, at.within, slots), subst (IsKnownStart c) at.at known))
 
@@ -80,7 +78,7 @@ known_effect m mode behind c knows = record {
 pub known_answer :
     (m : Machine) (mode : Anchored) (behind : Option ℕ) (c : CacheView) (slot id : ℕ)
     → IsCacheOf c m → IsStartSlot m mode behind slot → KnowsStart m c.store mode behind
-    → id ≡ slice_index c.store.starts slot → id < unknown_id → MayLead c.store.table id (start_of c.store.table.of slot)
+    → id ≡ slice_index c.store.starts slot → id < unknown_id → IsSlot c.store.table slot id
     → HasItsMatchTag c.store.table id → IsStartAnswer m mode behind c c id
 known_answer m mode behind c slot id of at knows value low may tag = record {
   may = at.may;
@@ -97,11 +95,12 @@ known_answer m mode behind c slot id of at knows value low may tag = record {
   stands : id ≡ known_start m c.store mode behind
   stands = value ∙ ap (slice_index c.store.starts) at.at
 
-  named : MayLead c.store.table id (start_of c.store.table.of slot) → Leads c.store.table id (start_state_of m.nfa mode behind)
+  named : IsSlot c.store.table slot id → Leads c.store.table id (start_state_of m.nfa mode behind)
   named (inl is) = absurd (omega (arith, is, low))
-  named (inr h) =
-      subst (λ (q : Powerset). Leads c.store.table id q)
-      (ap (λ (d : Machine). start_of d slot) of ∙ sym (slot_state m mode behind slot at)) h
+  named (inr (q, leads, first)) =
+      subst (λ (p : Powerset). Leads c.store.table id p)
+      (first mode behind (ap (λ (d : Machine). slot_behind d mode behind) of ∙ sym at.at)
+      ∙ ap (λ (d : Machine). start_state_of d.nfa mode behind) of) leads
 
 -- what a failed start makes of its cache
 pub refused_effect :
@@ -242,7 +241,7 @@ started_room old new slot id r (inr (lacks, between, inr (full, may, s), to, e))
 -- what a computed start answers, and what it makes of the cache
 module _ (m : Machine) (mode : Anchored) (behind : Option ℕ) (old new : CacheView) (slot id : ℕ) (made : ComputesStart m mode behind old new slot id)
     (at : IsStartSlot m mode behind slot) (unknown : KnowsStart m old.store mode behind → ⊥)
-    (slots : length old.store.starts ≡ slot_count m) where
+    (slots : length old.store.starts ≡ m.slots) where
   not_known : IsKnownStart old.store slot → ⊥
   not_known k = unknown (knows_slot m old.store mode behind slot at slots k)
 
@@ -263,18 +262,19 @@ module _ (m : Machine) (mode : Anchored) (behind : Option ℕ) (old new : CacheV
   -- one change
   change : old.store.table.of ≡ m → IsOneChange old.store new.store
   change of = inr (inr (inl (record {
-    slot = slot;
-    within = subst (λ (d : Machine). slot < slot_count d) (sym of) at.within;
-    unknown = not_known;
+    mode = mode;
+    behind = behind;
+    within = subst (λ (d : Machine). slot_behind d mode behind < d.slots) (sym of) (subst (λ n. n < m.slots) at.at at.within);
+    unknown = subst (λ (d : Machine). IsKnownStart old.store (slot_behind d mode behind) → ⊥) (sym of) (subst (λ s. IsKnownStart old.store s → ⊥) at.at not_known);
     id = id;
-    started = subst (λ (r : Row). IsStarted old.store slot r new.store id) (row ∙ ap (λ (d : Machine). slot_row d slot) (sym of)) made.done;
-  }))) where
-    row : start_row m mode behind ≡ slot_row m slot
-    row = λ i. record { state = slot_state m mode behind slot at i; started = specialize_start_states_of m.config }
+    started =
+        subst (λ (d : Machine). IsStarted old.store (slot_behind d mode behind) (start_row d mode behind) new.store id) (sym of)
+        (subst (λ s. IsStarted old.store s (start_row m mode behind) new.store id) at.at made.done);
+  })))
 
   pub computed_effect :
-      HasCells old.store.table → length (template_of old.store.table.of) ≡ table_stride old.store.table.of → old.store.clears < 2 ^ 64
-      → cost (start_state_of m.nfa mode behind) ≤ greatest old.store.table.of → HasRowIds old.store.table → HasRowIds new.store.table
+      HasCells old.store.table → length old.store.table.of.template ≡ old.store.table.of.stride → old.store.clears < 2 ^ 64
+      → cost (start_state_of m.nfa mode behind) ≤ old.store.table.of.greatest → HasRowIds old.store.table → HasRowIds new.store.table
       → old.store.table.of ≡ m → IsStartEffect m mode behind old new
   computed_effect cells wide small cheap ids_old ids_new of = record {
     grown =
@@ -297,12 +297,13 @@ module _ (m : Machine) (mode : Anchored) (behind : Option ℕ) (old new : CacheV
 
     tagged : (q : Powerset) → IsStartTagged new.store.table q → IsStartTagged old.store.table q ⊎ MayHaveStartTag new.store q
     tagged =
-        tagged_start old.store new.store slot (start_state_of m.nfa mode behind)
+        tagged_start old.store new.store mode behind (start_state_of m.nfa mode behind)
         (started_keeps old.store new.store slot id (start_row m mode behind) ids_old ids_new made.done)
         (subst (λ (d : Machine). TagsNewStates old.store.table new.store.table (specialize_start_states_of d.config)) (sym now)
         (started_adds old.store new.store slot id (start_row m mode behind) ids_old ids_new made.done))
-        made.only (subst (λ (d : Machine). slot < slot_count d) (sym now) at.within) made.found
-        (start_same m mode behind ∙ (ap (start_of m) (sym at.at) ∙ ap (λ (d : Machine). start_of d slot) (sym now)))
+        made.only (subst (λ (d : Machine). slot_behind d mode behind < d.slots) (sym now) (subst (λ n. n < m.slots) at.at at.within))
+        (subst (λ (d : Machine). IsKnownStart new.store (slot_behind d mode behind)) (sym now) (subst (IsKnownStart new.store) at.at made.found))
+        (ap (λ (d : Machine). start_state_of d.nfa mode behind) (sym now))
 
 -- why a search has no start state, of the states as they are after the refusal
 pub refusal_at :

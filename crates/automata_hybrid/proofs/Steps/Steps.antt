@@ -6,16 +6,18 @@ use Rattle.automata_base.specs.ByteClasses.Classes.{is_quit}
 use Rattle.automata_base.specs.Powersets.Powerset.{Powerset, cost}
 use Rattle.automata_base.specs.Retraced.Steps.{successor}
 use Rattle.automata_base.proofs.Paths.Orders.{none_some, some_inj}
+use Rattle.automata_base.specs.Powersets.Passes.{IsUnit}
 use Rattle.automata_hybrid.specs.Cache.Stores.{IsKnownTransition, KeepsStarts, Stored, cell_of, with_next}
 use Rattle.automata_hybrid.specs.Cache.Usage.{GivesUp}
 use Rattle.automata_hybrid.specs.Cache.Changes.{AddsNext, IsStateAdded, IsComputed, IsOneChange, cleared_saving}
 use Rattle.automata_hybrid.specs.Cache.Caches.{CacheView, HoldsRow, IsCacheOf, counted, with_store}
 use Rattle.automata_hybrid.specs.Cache.Growth.{ClearedNothing}
 use Rattle.automata_hybrid.specs.Cache.Ids.{fixed_from, quit_id, unknown_id}
-use Rattle.automata_hybrid.specs.Machines.Machine.{Machine, greatest, next_of, template_of, table_stride}
+use Rattle.automata_hybrid.specs.Machines.Machine.{Machine}
 use Rattle.automata_hybrid.specs.Cache.Progress.{saturated}
-use Rattle.automata_hybrid.specs.Steps.Steps.{IsStepAnswer, IsStepEffect, KnowsStep, quits_on, unit_class}
-use Rattle.automata_hybrid.specs.Cache.Table.{IsKnownState, HasCells, HasItsMatchTag, HasRowIds, IsCell, IsRowId, Lacks, Leads}
+use Rattle.automata_hybrid.specs.Steps.Steps.{IsStepAnswer, IsStepEffect, KnowsStep}
+use Rattle.automata_hybrid.specs.Machines.Machine.{quits_on, unit_class}
+use Rattle.automata_hybrid.specs.Cache.Table.{IsKnownState, HasCells, HasItsMatchTag, HasRowIds, IsCell, IsRowId, Lacks, Leads, LeadsByClass}
 use Rattle.automata_hybrid.specs.Cache.Table.{Names, Rows}
 use Rattle.automata_hybrid.proofs.Cache.Usage.{Leads-known}
 use Rattle.automata_hybrid.proofs.Steps.Effects.{Keeps-computed, roomy-computed, written-computed}
@@ -65,20 +67,20 @@ fixed_answer m id unit c high below row = record {
 
 -- what a cell reports at the class of a unit
 module _ (m : Machine) (id : ℕ) (unit : Option ℕ) (c : CacheView) (class next : ℕ) (of : IsCacheOf c m) (valid : IsRowId c.store.table id)
-    (at : class ≡ unit_class m unit) (small : table_stride m ≤ 512)
-    (quit : quits_on m unit ≡ true → slice_index (template_of m) class ≡ quit_id (table_stride m))
-    (free : quits_on m unit ≡ false → slice_index (template_of m) class ≡ unknown_id)
+    (at : class ≡ unit_class m unit) (small : m.stride ≤ 512)
+    (quit : quits_on m unit ≡ true → slice_index m.template class ≡ quit_id m.stride)
+    (free : quits_on m unit ≡ false → slice_index m.template class ≡ unknown_id)
     (value : next ≡ cell_of c.store id class)
     (cell : (q : Powerset) → Names c.store.table id q → IsCell c.store.table q class next) where
   -- the class is not both
-  clash : slice_index (template_of m) class ≡ quit_id (table_stride m) → slice_index (template_of m) class ≡ unknown_id → ⊥
+  clash : slice_index m.template class ≡ quit_id m.stride → slice_index m.template class ≡ unknown_id → ⊥
   clash a b = absurd (omega (arith, a, b, small))
 
-  stands_quit : slice_index (template_of c.store.table.of) class ≡ quit_id (table_stride c.store.table.of) → slice_index (template_of m) class ≡ quit_id (table_stride m)
-  stands_quit a = subst (λ (d : Machine). slice_index (template_of d) class ≡ quit_id (table_stride d)) of a
+  stands_quit : slice_index c.store.table.of.template class ≡ quit_id c.store.table.of.stride → slice_index m.template class ≡ quit_id m.stride
+  stands_quit a = subst (λ (d : Machine). slice_index d.template class ≡ quit_id d.stride) of a
 
-  stands_free : slice_index (template_of c.store.table.of) class ≡ unknown_id → slice_index (template_of m) class ≡ unknown_id
-  stands_free a = subst (λ (d : Machine). slice_index (template_of d) class ≡ unknown_id) of a
+  stands_free : slice_index c.store.table.of.template class ≡ unknown_id → slice_index m.template class ≡ unknown_id
+  stands_free a = subst (λ (d : Machine). slice_index d.template class ≡ unknown_id) of a
 
   -- an unknown cell stands at no quit byte
   pub unknown_clean : unknown_id ≤ next → quits_on m unit ≡ false
@@ -86,7 +88,7 @@ module _ (m : Machine) (id : ℕ) (unit : Option ℕ) (c : CacheView) (class nex
     go : (b : Bool) → quits_on m unit ≡ b → IsCell c.store.table valid.0 class next → quits_on m unit ≡ false
     go false e h = e
     go true e (inl (a, is)) =
-        let s : table_stride c.store.table.of ≡ table_stride m = ap (λ (d : Machine). table_stride d) of in
+        let s : c.store.table.of.stride ≡ m.stride = ap (λ (d : Machine). d.stride) of in
         absurd (omega (arith, is, s, small, l))
     go true e (inr (a, h)) = absurd (clash (quit e) (stands_free a))
 
@@ -99,9 +101,9 @@ module _ (m : Machine) (id : ℕ) (unit : Option ℕ) (c : CacheView) (class nex
   -- a cached cell is the answer
   pub known_answer :
       id < fixed_from → next < unknown_id → HasItsMatchTag c.store.table next
-      → ((q : Powerset) → Names c.store.table id q → successor m.nfa (match_kind_of m.config) q unit ≡ next_of m q class)
+      → IsUnit unit
       → IsStepAnswer m id unit c c next
-  known_answer below low tag same = record {
+  known_answer below low tag is = record {
     row = rowed (cell valid.0 valid.1);
     tag = tag;
     fixed = λ high. absurd (omega (arith, below, high));
@@ -116,13 +118,18 @@ module _ (m : Machine) (id : ℕ) (unit : Option ℕ) (c : CacheView) (class nex
     knows : KnowsStep m c.store id unit
     knows = cell_known low
 
+    here :
+        (q : Powerset) → LeadsByClass c.store.table next q class
+        → Leads c.store.table next (successor c.store.table.of.nfa (match_kind_of c.store.table.of.config) q unit)
+    here q h = h unit is (ap (λ (d : Machine). unit_class d unit) of ∙ sym at)
+
     rowed : IsCell c.store.table valid.0 class next → HoldsRow c next
     rowed (inl (a, is)) = inr (inl is)
     rowed (inr (a, inl is)) = absurd (omega (arith, is, low))
-    rowed (inr (a, inr h)) = leads_row c next _ h
+    rowed (inr (a, inr h)) = leads_row c next _ (here valid.0 h)
 
-    quits : quits_on m unit ≡ true → IsCell c.store.table valid.0 class next → next ≡ quit_id (table_stride m)
-    quits q (inl (a, is)) = is ∙ ap (λ (d : Machine). quit_id (table_stride d)) of
+    quits : quits_on m unit ≡ true → IsCell c.store.table valid.0 class next → next ≡ quit_id m.stride
+    quits q (inl (a, is)) = is ∙ ap (λ (d : Machine). quit_id d.stride) of
     quits q (inr (a, h)) = absurd (clash (quit q) (stands_free a))
 
     leads :
@@ -131,7 +138,25 @@ module _ (m : Machine) (id : ℕ) (unit : Option ℕ) (c : CacheView) (class nex
     leads clean q n (inl (a, is)) = absurd (clash (stands_quit a) (free clean))
     leads clean q n (inr (a, inl is)) = absurd (omega (arith, is, low))
     leads clean q n (inr (a, inr h)) =
-        subst (λ (p : Powerset). Leads c.store.table next p) (ap (λ (d : Machine). next_of d q class) of ∙ sym (same q n)) h
+        subst (λ (d : Machine). Leads c.store.table next (successor d.nfa (match_kind_of d.config) q unit)) of (here q h)
+
+-- a cell that is cached has the ID of a row
+pub cell_row :
+    (c : CacheView) (q : Powerset) (class id : ℕ) (unit : Option ℕ) → IsUnit unit → unit_class c.store.table.of unit ≡ class
+    → IsCell c.store.table q class id → id < unknown_id → HoldsRow c id
+cell_row c q class id unit is at (inl (a, e)) low = inr (inl e)
+cell_row c q class id unit is at (inr (a, inl e)) low = absurd (omega (arith, e, low))
+cell_row c q class id unit is at (inr (a, inr leads)) low = leads_row c id _ (leads unit is at)
+
+-- where the key of a step is cached, a cell leads where each unit of the class does
+pub key_leads :
+    (m : Machine) (t : Rows) (q key : Powerset) (unit : Option ℕ) (class to : ℕ) → t.of ≡ m → class ≡ unit_class m unit
+    → ((other : Option ℕ) → IsUnit other → unit_class m other ≡ unit_class m unit → key ≡ successor m.nfa (match_kind_of m.config) q other)
+    → Leads t to key → LeadsByClass t to q class
+key_leads m t q key unit class to of at alike leads other is here =
+    let same : unit_class m other ≡ unit_class m unit = subst (λ (d : Machine). unit_class d other ≡ class) of here ∙ at in
+    subst (λ (d : Machine). Leads t to (successor d.nfa (match_kind_of d.config) q other)) (sym of)
+    (subst (Leads t to) (alike other is same) leads)
 
 -- what a failed step makes of the cache
 pub refused_effect :
@@ -246,9 +271,9 @@ computed_room old new id class next q target (inr (lacks, from, between, inr (fu
 module _ (m : Machine) (id : ℕ) (unit : Option ℕ) (old new : CacheView) (class next : ℕ) (step : ComputesStep m id unit old new class next)
     (of : IsCacheOf old m) (valid : IsRowId old.store.table id) (low : id < fixed_from)
     (clean : quits_on m unit ≡ false) (unknown : KnowsStep m old.store id unit → ⊥)
-    (at : class ≡ unit_class m unit) (below : class < table_stride m) (cells : HasCells old.store.table) where
-  within : class < table_stride old.store.table.of
-  within = subst (λ (d : Machine). class < table_stride d) (sym of) below
+    (at : class ≡ unit_class m unit) (below : class < m.stride) (cells : HasCells old.store.table) where
+  within : class < old.store.table.of.stride
+  within = subst (λ (d : Machine). class < d.stride) (sym of) below
 
   not_known : IsKnownTransition old.store id class → ⊥
   not_known k = unknown (subst (IsKnownTransition old.store id) at k)
@@ -265,7 +290,7 @@ module _ (m : Machine) (id : ℕ) (unit : Option ℕ) (old new : CacheView) (cla
       (written-computed old.store new.store id class next valid.0 target cells valid.1 within not_known done nothing)
 
   pub computed_answer :
-      ((n : ℕ) (p : Powerset) → Names new.store.table n p → n < fixed_from) → table_stride new.store.table.of ≤ 512
+      ((n : ℕ) (p : Powerset) → Names new.store.table n p → n < fixed_from) → new.store.table.of.stride ≤ 512
       → HasItsMatchTag new.store.table next → IsStepAnswer m id unit old new next
   computed_answer lows small tag = record {
     row = leads_row new next target (step.leads valid.0 valid.1);
@@ -284,28 +309,29 @@ module _ (m : Machine) (id : ℕ) (unit : Option ℕ) (old new : CacheView) (cla
   }
 
   -- one change
-  change : target ≡ next_of m valid.0 class → IsOneChange old.store new.store
-  change same = inr (inl (record {
+  change : IsOneChange old.store new.store
+  change = inr (inl (record {
     id = id;
-    class = class;
-    below = within;
+    unit = unit;
+    below = subst (λ (d : Machine). unit_class d unit < d.stride) (sym of) (subst (λ n. n < m.stride) at below);
     state = valid.0;
     named = valid.1;
-    unknown = not_known;
+    unknown = subst (λ (d : Machine). IsKnownTransition old.store id (unit_class d unit) → ⊥) (sym of) unknown;
     next = next;
     computed =
-        subst (λ (q : Powerset). IsComputed old.store id class valid.0 q new.store next)
-        (same ∙ ap (λ (d : Machine). next_of d valid.0 class) (sym of)) done;
+        subst
+        (λ (d : Machine). IsComputed old.store id (unit_class d unit) valid.0 (successor d.nfa (match_kind_of d.config) valid.0 unit) new.store next)
+        (sym of) (subst (λ k. IsComputed old.store id k valid.0 target new.store next) at done);
   }))
 
   pub computed_effect :
-      length (template_of old.store.table.of) ≡ table_stride old.store.table.of → old.store.clears < 2 ^ 64
-      → cost target ≤ greatest old.store.table.of → HasRowIds old.store.table → HasRowIds new.store.table
-      → target ≡ next_of m valid.0 class → IsStepEffect m id unit old new
-  computed_effect wide small cheap ids_old ids_new same = record {
+      length old.store.table.of.template ≡ old.store.table.of.stride → old.store.clears < 2 ^ 64
+      → cost target ≤ old.store.table.of.greatest → HasRowIds old.store.table → HasRowIds new.store.table
+      → IsStepEffect m id unit old new
+  computed_effect wide small cheap ids_old ids_new = record {
     grown =
         grown_one old new step.of step.counted
-        (computed_clears old.store new.store id class next valid.0 target small done) (change same) step.starts
+        (computed_clears old.store new.store id class next valid.0 target small done) change step.starts
         (λ q t. inl (tagged_none old.store.table new.store.table (computed_keeps old.store new.store id class next valid.0 target ids_old ids_new done) (computed_adds old.store new.store id class next valid.0 target ids_old ids_new done) q t))
         (λ nothing. Keeps-computed old.store new.store id class next valid.0 target cells valid.1 within not_known done nothing)
         (λ states room. roomy-computed old.store new.store id class next valid.0 target states wide (λ lacks. cheap) done room);

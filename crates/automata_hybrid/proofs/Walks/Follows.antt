@@ -9,17 +9,16 @@ use Rattle.automata_base.specs.Powersets.Powerset.{Powerset}
 use Rattle.automata_base.specs.declared.util.search.Direction.{Direction}
 use Rattle.automata_base.proofs.Paths.Orders.{none_some}
 use Rattle.automata_config.specs.declared.error.SearchError.{SearchError}
-use Rattle.automata_hybrid.specs.Cache.Caches.{CacheView, IsSoundOf, counted}
+use Rattle.automata_hybrid.specs.Cache.Caches.{CacheView, IsStoreOf, counted}
 use Rattle.automata_hybrid.specs.Cache.Growth.{ClearedNothing, IsGrown, PutsBack}
 use Rattle.automata_hybrid.specs.Cache.Table.{IsKnownState, IsNewState, IsRowState, id_of}
 use Rattle.automata_hybrid.specs.Calls.Events.{AreCached, Begin, DoAll, End, Event, Move, makings}
-use Rattle.automata_hybrid.specs.Machines.Machine.{Machine, table_stride}
+use Rattle.automata_hybrid.specs.Machines.Machine.{Machine, quits_on, unit_class}
 use Rattle.automata_hybrid.specs.Searches.Cached.{IsOfInput, KnowsItsStart, KnowsUnit}
 use Rattle.automata_hybrid.specs.Searches.Passes.{HasReadNoQuit, IsUnitRefusal, Skips, given_up_offset, tape_in}
 use Rattle.automata_hybrid.specs.Searches.Progress.{HasItsStart, IsLeftAt, IsUnitRead, start_event, unit_event}
 use Rattle.automata_hybrid.specs.Searches.Progress.{unit_events, with_search_begun, with_search_moved}
 use Rattle.automata_hybrid.specs.Steps.Starts.{MayStart}
-use Rattle.automata_hybrid.specs.Steps.Steps.{quits_on, unit_class}
 use Rattle.automata_hybrid.specs.Walks.Answers.{HasItsState, HasReported, HasReportedAt, HasReportedBy, IsRefusalAt, IsResumeRefusal, IsSilent, IsWalkRefusal}
 use Rattle.automata_hybrid.specs.Walks.Answers.{ReportsNext, WalkReads, start_count}
 use Rattle.automata_hybrid.specs.Walks.Cached.{IsToRead, KnowsItsState, KnowsUnits, KnowsWalk}
@@ -31,7 +30,7 @@ use Rattle.automata_hybrid.specs.declared.dfa.row.Row.{Row}
 use Rattle.automata_hybrid.proofs.Cache.Additions.{new_state}
 use Rattle.automata_hybrid.proofs.Cache.Growth.{grown_after, grown_again, grown_less, grown_same, grown_trans, nothing_second}
 use Rattle.automata_hybrid.proofs.Calls.Laws.{Follows, all_sound, cached_join, cached_split, do_join, do_split, failed_count}
-use Rattle.automata_hybrid.proofs.Calls.Laws.{failed_grown, follows_all, follows_one, makings_join, moved_sound}
+use Rattle.automata_hybrid.proofs.Calls.Laws.{failed_grown, follows_all, follows_one, makings_join, moved_sound, store_sound}
 use Rattle.automata_hybrid.proofs.Searches.Follows.{barred_of_input, may_or_not, moved_left, quit_of_input, tape_few, units_asked}
 use Rattle.automata_hybrid.proofs.Searches.Follows.{units_cached, units_known, units_makings}
 use Rattle.automata_hybrid.proofs.Searches.UnitsRead.{moved_and_read}
@@ -43,14 +42,14 @@ use Rattle.automata_hybrid.proofs.Walks.Progress.{known_refusal, reads_some, sil
 
 -- a state that is put back counts as one that is determinized
 pub back_grown :
-    (m : Machine) (q : Powerset) (old new : CacheView) → IsSoundOf old.store m → IsSoundOf new.store m → IsRowState m q
+    (m : Machine) (q : Powerset) (old new : CacheView) → IsStoreOf old.store m → IsStoreOf new.store m → IsRowState m q
     → (IsKnownState old.store.table q → ⊥) → PutsBack q old new → IsGrown old (counted new)
 back_grown m q old new sound after state lacks back =
-    grown_again old new q absent.lacks absent.own.reached back.added back.counted (after.0.of ∙ sym sound.0.of) back.starts
+    grown_again old new q absent.lacks absent.own.reached back.added back.counted (after.of ∙ sym sound.of) back.starts
     (tagged_none old.store.table new.store.table
-    (again_keeps old.store new.store r sound.1.ids after.1.ids absent.lacks.0 back.added)
-    (again_adds old.store new.store r sound.1.ids after.1.ids absent.lacks.0 back.added))
-    sound.1.cells sound.1.wide sound.1.clears absent.cheap
+    (again_keeps old.store new.store r sound.rows.ids after.rows.ids absent.lacks.0 back.added)
+    (again_adds old.store new.store r sound.rows.ids after.rows.ids absent.lacks.0 back.added))
+    (store_sound old.store m sound).cells sound.wide sound.clears absent.cheap
   where
     r : Row
     r = record { state = q; started = false }
@@ -60,7 +59,7 @@ back_grown m q old new sound after state lacks back =
     none (Some id) is = absurd (lacks (record { id = id; named = is }))
 
     absent : IsNewState old.store.table q
-    absent = new_state m old.store.table q sound.0.of (none (id_of old.store.table q) refl, state.alive) state.cheap state.own
+    absent = new_state m old.store.table q sound.of (none (id_of old.store.table q) refl, state.alive) state.cheap state.own
 
 abbrev pub at_state : Powerset → Stage → Powerset
 at_state q Fresh = q
@@ -88,7 +87,7 @@ module _ (way : Direction) (m : Machine) (input : Input) (skips : Skips m ⊎ (S
   -- a walk has what it goes on from
   pub record Resumed (s : Stage) (old begun : CacheView) : Type 0 where
     pub may : MayStart m input.anchored (tape_in way input).before
-    pub sound : IsSoundOf begun.store m
+    pub sound : IsStoreOf begun.store m
     pub cost : begun.count ≤ old.count + start_count s
     pub grown : IsGrown old (counted begun)
     pub there : HasItsState old.store.table s → IsGrown old begun
@@ -104,7 +103,7 @@ module _ (way : Direction) (m : Machine) (input : Input) (skips : Skips m ⊎ (S
     pub back : (q : Powerset) → s ≡ At q → new ≡ old
     pub known : (MayStart m input.anchored (tape_in way input).before → KnowsItsState way m old.store input s) → (new.count ≡ old.count) × IsOfInput e
 
-  module _ (old begun : CacheView) (sound : IsSoundOf old.store m) where
+  module _ (old begun : CacheView) (sound : IsStoreOf old.store m) where
     pub has_resumed : (s : Stage) → HasReportedAt way m input s w.units w.reported k → IsResumed way m input s old begun → Resumed s old begun
     has_resumed Fresh at starts = record {
       may = starts.0;
@@ -117,7 +116,7 @@ module _ (way : Direction) (m : Machine) (input : Input) (skips : Skips m ⊎ (S
       learned = cached starts;
     } where
       f : Follows m (start_event way input ∷ []) old begun
-      f = follows_one m (start_event way input) old begun sound.0.of sound.1 starts
+      f = follows_one m (start_event way input) old begun sound.of (store_sound old.store m sound) starts
 
       still : HasItsStart way m input old begun → KnowsItsStart way m old.store input → begun ≡ old
       still (asked, after, inl (known, same)) knows = same
@@ -407,7 +406,7 @@ module _ (way : Direction) (m : Machine) (input : Input) (skips : Skips m ⊎ (S
           unit : List Event
           unit = Move (given_up_offset way input (w.units + n)) ∷ unit_event way m input (w.units + n) ∷ []
 
-          sound : IsSoundOf mid.store m
+          sound : IsStoreOf mid.store m
           sound =
               all_sound m (unit_events way m input w.units n) (with_search_begun way input w.units begun) mid
               (moved_sound m (Begin (given_up_offset way input w.units)) begun r.sound) all
@@ -424,7 +423,7 @@ module _ (way : Direction) (m : Machine) (input : Input) (skips : Skips m ⊎ (S
 
   -- a call that answered
   pub call_ended :
-      (keeping : Keeping) (next : Walk) (old new : CacheView) → IsSoundOf old.store m → ReportsNext way m input w next
+      (keeping : Keeping) (next : Walk) (old new : CacheView) → IsStoreOf old.store m → ReportsNext way m input w next
       → EndsCall way m input w next old new → CallFollows keeping way m input w next old new None
   call_ended keeping next old new sound reports (over, inl (none, same, still)) =
       let count : new.count ≡ old.count = ap (λ (v : CacheView). v.count) still in
@@ -448,14 +447,14 @@ module _ (way : Direction) (m : Machine) (input : Input) (skips : Skips m ⊎ (S
 
   -- it leaves a cache of the DFA, and has cached each unit that it read; and those lie in the span
   pub record Leaves (next : Walk) (old new : CacheView) : Type 0 where
-    pub sound : IsSoundOf new.store m
+    pub sound : IsStoreOf new.store m
     pub few : w.units ≤ input.end - input.start + 1 → next.units ≤ input.end - input.start + 1
     pub learned : (HasItsState old.store.table w.stage) → ClearedNothing old.store new.store → HasLearnedUnits way m new.store input w.units next.units
 
   pub call_leaves_units :
-      (next : Walk) (old new : CacheView) → IsSoundOf old.store m → EndsCall way m input w next old new → Leaves next old new
+      (next : Walk) (old new : CacheView) → IsStoreOf old.store m → EndsCall way m input w next old new → Leaves next old new
   call_leaves_units next old new sound (over, inl (none, same, still)) = record {
-    sound = subst (λ (v : CacheView). IsSoundOf v.store m) (sym still) sound;
+    sound = subst (λ (v : CacheView). IsStoreOf v.store m) (sym still) sound;
     few = λ l. omega (arith, l, same);
     learned = λ there nothing j more less. absurd (omega (arith, more, less, same));
   }
@@ -466,7 +465,7 @@ module _ (way : Direction) (m : Machine) (input : Input) (skips : Skips m ⊎ (S
         let inside : j < w.units + n = omega (arith, less, count) in
         let cached = f.learned (nothing_second old begun new (r.there there) f.grown nothing) in (
           units_known way m input new.store w.units n (cached_split m new.store (unit_events way m input w.units n) last cached.1).0 j more inside,
-          subst (λ (d : Machine). unit_class m (unit_at (tape_in way input) j) < table_stride d) (sym after.0.of)
+          subst (λ (d : Machine). unit_class m (unit_at (tape_in way input) j) < d.stride) (sym after.of)
               (units_asked way m input w.units n (with_search_begun way input w.units begun) parts.0 parts.1 j more inside).1,
         ));
   } where
@@ -482,7 +481,7 @@ module _ (way : Direction) (m : Machine) (input : Input) (skips : Skips m ⊎ (S
     f : Follows m (Begin (given_up_offset way input w.units) ∷ (unit_events way m input w.units n ++ last)) begun new
     f = follows_all m (Begin (given_up_offset way input w.units) ∷ (unit_events way m input w.units n ++ last)) begun new r.sound whole
 
-    after : IsSoundOf new.store m
+    after : IsStoreOf new.store m
     after = all_sound m (Begin (given_up_offset way input w.units) ∷ (unit_events way m input w.units n ++ last)) begun new r.sound whole
 
     parts : (mid : CacheView) × DoAll m (unit_events way m input w.units n) (with_search_begun way input w.units begun) mid × DoAll m last mid new
@@ -496,7 +495,7 @@ module _ (way : Direction) (m : Machine) (input : Input) (skips : Skips m ⊎ (S
 
   -- a call that failed
   pub call_left :
-      (keeping : Keeping) (next : Walk) (old new : CacheView) (e : SearchError) → IsSoundOf old.store m
+      (keeping : Keeping) (next : Walk) (old new : CacheView) (e : SearchError) → IsStoreOf old.store m
       → LeavesCall keeping way m input w old new e → CallFollows keeping way m input w next old new (Some e)
   call_left keeping next old new e sound (reads, inl (why, none)) =
       let r = to_read reads in

@@ -16,12 +16,12 @@ use Rattle.automata_config.specs.declared.error.StepError.{StepError}
 use Rattle.automata_config.specs.declared.error.StepError.TheVariants as step
 use Rattle.automata_config.specs.declared.error.SearchError.{SearchError}
 use Rattle.automata_config.specs.declared.error.SearchError.TheVariants as search
-use Rattle.automata_hybrid.specs.Cache.Caches.{CacheView, IsSoundOf}
+use Rattle.automata_hybrid.specs.Cache.Caches.{CacheView, IsStoreOf}
 use Rattle.automata_hybrid.specs.Cache.Growth.{IsAddRefused}
 use Rattle.automata_hybrid.specs.Cache.Stores.{Stored}
 use Rattle.automata_hybrid.specs.Cache.Table.{IsKnownState, Leads, Rows}
 use Rattle.automata_hybrid.specs.Cache.Usage.{GivesUp}
-use Rattle.automata_hybrid.specs.Machines.Machine.{Machine, slot_count}
+use Rattle.automata_hybrid.specs.Machines.Machine.{Machine}
 use Rattle.automata_hybrid.specs.Machines.StartSlots.{supports}
 use Rattle.automata_hybrid.specs.Searches.Contracts.{IsUnsupported, unsupported_error}
 use Rattle.automata_hybrid.specs.Searches.Passes.{behind_offset, given_up_offset, state_in, tape_in}
@@ -130,7 +130,7 @@ held_there t (At q) (held.Row None) at ids = absurd at
 -- a call that reads no unit leaves its cache as it was
 pub run_none :
     (keeping : Keeping) (way : Direction) (m : Machine) (input : Input) (w next : Walk) (c : CacheView)
-    → IsSoundOf c.store m → ReadsNoUnit input w → next.units ≡ w.units → (next.stage ≡ Ended → next.found ≡ None)
+    → IsStoreOf c.store m → ReadsNoUnit input w → next.units ≡ w.units → (next.stage ≡ Ended → next.found ≡ None)
     → IsWalkRun keeping way m input w next c c None
 run_none keeping way m input w next c sound none same over = record { of = sound; run = (over, inl (none, same, refl)) }
 
@@ -156,9 +156,9 @@ module _ (way : Direction) (m : Machine) (input : Input) (w : Walk) (old new : C
       subst (λ (s : Stage). IfErr r (IsResumeRefusal way m new.store input s w.units)) (sym fresh)
       (IfErr-weaker r _ _ (refusal_at m input.anchored (tape_in way input).before (behind_offset way input) (offset_in way input 0) old new) h)
 
-  module _ (slots : length old.store.starts ≡ slot_count m) (effect : IsStartEffect m input.anchored (tape_in way input).before old new) where
+  module _ (slots : length old.store.starts ≡ m.slots) (effect : IsStartEffect m input.anchored (tape_in way input).before old new) where
     pub start_resumed :
-        IsSoundOf new.store m → IfOk r (IsStartAnswer m input.anchored (tape_in way input).before old new)
+        IsStoreOf new.store m → IfOk r (IsStartAnswer m input.anchored (tape_in way input).before old new)
         → OnOk r (IsResumed way m input w.stage old new)
     start_resumed sound answer =
         subst (λ (s : Stage). OnOk r (IsResumed way m input s old new)) (sym fresh)
@@ -219,7 +219,7 @@ module _ (way : Direction) (m : Machine) (input : Input) (t : Rows) (w : Walk) (
 
 -- one of a set goes on from the ID of its row
 pub row_resumed :
-    (way : Direction) (m : Machine) (input : Input) (c : CacheView) (w : Walk) (h : Held) (id : ℕ) → IsSoundOf c.store m
+    (way : Direction) (m : Machine) (input : Input) (c : CacheView) (w : Walk) (h : Held) (id : ℕ) → IsStoreOf c.store m
     → (w.stage ≡ Fresh → ⊥) → (w.stage ≡ Ended → ⊥) → IsHeldAt c.store.table w.stage h → h ≡ held.Row (Some id)
     → IsResumed way m input w.stage c c
 row_resumed way m input c w h id sound fresh on holds row = go w.stage fresh on holds where

@@ -22,7 +22,7 @@ use Rattle.automata_hybrid.specs.Cache.Caches.{CacheView}
 use Rattle.automata_hybrid.specs.Cache.Growth.{IsGrown}
 use Rattle.automata_hybrid.specs.Searches.Cached.{KnowsItsStart}
 use Rattle.automata_hybrid.specs.Walks.Cached.{IsOpen, KnowsItsState, KnowsWalk, KnowsWhich}
-use Rattle.automata_hybrid.specs.Machines.Machine.{Machine, greatest}
+use Rattle.automata_hybrid.specs.Machines.Machine.{Machine}
 use Rattle.automata_base.specs.Powersets.Powerset.{Powerset, cost}
 use Rattle.automata_hybrid.specs.Walks.Progress.{HaveCalled, IsJoined, IsJoinedAfter, IsOpenAfter}
 use Rattle.automata_hybrid.specs.Searches.Passes.{tape_in}
@@ -313,15 +313,15 @@ joins_begin m input walk set c fresh = (
 
 -- how many steps a walk has left, at most: for each unit as many as a state has patterns, and one more
 abbrev pub steps_left : Machine → Input → Walk → ℕ
-steps_left m input w = (input.end - input.start + 2 - w.units) * (greatest m + 1) + (greatest m - w.reported)
+steps_left m input w = (input.end - input.start + 2 - w.units) * (m.greatest + 1) + (m.greatest - w.reported)
 
 module _ (m : Machine) (input : Input) (inside : input.end ≤ length input.haystack) where
   -- a walk that reports a pair stands where it may, with no more patterns reported than states may have
   pub record StandsWell (w : Walk) : Type 0 where
     pub units : w.units ≤ input.end - input.start + 1
-    pub reported : w.reported ≤ greatest m
+    pub reported : w.reported ≤ m.greatest
 
-  few_patterns : (q : Powerset) → cost q ≤ greatest m → length q.patterns ≤ greatest m
+  few_patterns : (q : Powerset) → cost q ≤ m.greatest → length q.patterns ≤ m.greatest
   few_patterns q l = omega (arith, l)
 
   pub stands_well : (w : Walk) (k : ℕ) → HasReported Forward m input w (suc k) → (w.stage ≡ Ended → ⊥) → StandsWell w
@@ -343,12 +343,12 @@ module _ (m : Machine) (input : Input) (inside : input.end ≤ length input.hays
       let x : ℕ = input.end - input.start + 2 - new.units in
       let y : ℕ = input.end - input.start + 2 - old.units in
       let more : x + 1 ≤ y = omega (arith, l, s.units) in
-      let times : (x + 1) * (greatest m + 1) ≤ y * (greatest m + 1) = mul-le-mul_right (greatest m + 1) more in
-      let one : (x + 1) * (greatest m + 1) ≡ x * (greatest m + 1) + (greatest m + 1) = grind arith in
+      let times : (x + 1) * (m.greatest + 1) ≤ y * (m.greatest + 1) = mul-le-mul_right (m.greatest + 1) more in
+      let one : (x + 1) * (m.greatest + 1) ≡ x * (m.greatest + 1) + (m.greatest + 1) = grind arith in
       omega (arith, times, one)
   steps_less old new s (inr (same, more)) =
       let units : input.end - input.start + 2 - new.units ≡ input.end - input.start + 2 - old.units = ap (λ n. input.end - input.start + 2 - n) same in
-      let times : (input.end - input.start + 2 - new.units) * (greatest m + 1) ≡ (input.end - input.start + 2 - old.units) * (greatest m + 1) = ap (λ n. n * (greatest m + 1)) units in
+      let times : (input.end - input.start + 2 - new.units) * (m.greatest + 1) ≡ (input.end - input.start + 2 - old.units) * (m.greatest + 1) = ap (λ n. n * (m.greatest + 1)) units in
       omega (arith, times, more, s.reported)
 
 -- what the walk reports is what the ordered paths do, where the NFA keeps its cycles

@@ -9,7 +9,7 @@ use Rattle.automata_base.specs.Powersets.Powerset.{Powerset}
 use Rattle.automata_base.specs.declared.util.search.Direction.TheVariants.{Forward}
 use Rattle.automata_config.specs.Options.{match_kind_of}
 use Rattle.automata_config.specs.declared.error.SearchError.{SearchError}
-use Rattle.automata_hybrid.specs.Cache.Caches.{CacheView, IsSoundOf}
+use Rattle.automata_hybrid.specs.Cache.Caches.{CacheView, IsStoreOf}
 use Rattle.automata_hybrid.specs.Cache.Growth.{ClearedNothing, IsGrown}
 use Rattle.automata_hybrid.specs.Machines.Machine.{Machine}
 use Rattle.automata_hybrid.specs.Searches.Cached.{KnowsItsStart, KnowsUnit}
@@ -30,11 +30,11 @@ use Rattle.automata_hybrid.proofs.Walks.Progress.{walk_reads_before}
 use Rattle.automata_hybrid.proofs.Walks.Sets.{begun_state, which_still, which_walk}
 
 module _ (m : Machine) (skips : Skips m ⊎ (Skips m → ⊥)) (input : Input) (set : List Bool)
-    (list : (pairs : List Pair) × AreWalked Forward m input pairs) (old : CacheView) (sound : IsSoundOf old.store m) where
+    (list : (pairs : List Pair) × AreWalked Forward m input pairs) (old : CacheView) (sound : IsStoreOf old.store m) where
   -- what follows of so many calls of the walk of a set
   record CallsMade (calls : ℕ) (walk : Walk) (new : CacheView) : Type 0 where
     pub reported : HasReported Forward m input walk calls
-    pub of : IsSoundOf new.store m
+    pub of : IsStoreOf new.store m
     pub grown : IsGrown old new
     pub counted : new.count + start_count walk.stage ≤ old.count + walk.units + 1
     pub few : walk.units ≤ input.end - input.start + 1
@@ -114,7 +114,7 @@ module _ (m : Machine) (skips : Skips m ⊎ (Skips m → ⊥)) (input : Input) (
   calls_made : (calls : ℕ) (walk : Walk) (new : CacheView) → HaveCalled m input set calls old walk new → CallsMade calls walk new
   calls_made zero walk new (fresh, same) = record {
     reported = subst (λ (w : Walk). HasReported Forward m input w 0) (sym fresh) (refl, refl);
-    of = subst (λ (v : CacheView). IsSoundOf v.store m) (sym same) sound;
+    of = subst (λ (v : CacheView). IsStoreOf v.store m) (sym same) sound;
     grown = grown_same old new same;
     counted = omega (arith, count, none, ap (λ (w : Walk). start_count w.stage) fresh);
     few = omega (arith, none);

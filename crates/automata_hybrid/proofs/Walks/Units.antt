@@ -8,7 +8,7 @@ use Rattle.automata_base.specs.Haystacks.Tapes.{is_split}
 use Rattle.automata_base.specs.Paths.Paths.{next as unit_at}
 use Rattle.automata_base.specs.declared.util.search.Direction.{Direction}
 use Rattle.automata_config.specs.declared.error.SearchError.TheVariants as search
-use Rattle.automata_hybrid.specs.Cache.Caches.{CacheView, IsSoundOf, with_store}
+use Rattle.automata_hybrid.specs.Cache.Caches.{CacheView, IsStoreOf, with_store}
 use Rattle.automata_hybrid.specs.Cache.Progress.{progress_finished, progress_started}
 use Rattle.automata_hybrid.specs.Cache.Stores.{with_searched}
 use Rattle.automata_hybrid.specs.Cache.Table.{Rows}
@@ -36,10 +36,10 @@ arrival_silent way m t input from (Some id) units k a more less few =
 
 -- a walk was gone on with, a search began at its first unit, and it came to where it reports patterns, or to its end
 module _ (way : Direction) (m : Machine) (input : Input) (w : Walk) (old between begun mid : CacheView)
-    (first : IsSoundOf old.store m) (r : IsToRead input w.stage w.units w.reported)
+    (first : IsStoreOf old.store m) (r : IsToRead input w.stage w.units w.reported)
     (resumed : IsResumed way m input w.stage old between)
     (begins : begun ≡ with_store between (with_searched between.store (progress_started between.store.searched (given_up_offset way input w.units))))
-    (sound : IsSoundOf begun.store m) (arrival : Arrival) (a : IsAdvanceEffect way m input w.units begun mid (Ok arrival))
+    (sound : IsStoreOf begun.store m) (arrival : Arrival) (a : IsAdvanceEffect way m input w.units begun mid (Ok arrival))
     (arrives : IsArrival way m mid.store.table input w.units arrival.id arrival.units) where
   abbrev Last : Type 0
   Last =

@@ -1,11 +1,11 @@
 -- What contracts see of a cache, and which DFA it belongs to.
-use Rattle.std.specs.Prelude.{◌≡◌, ℕ, ◌+◌, ◌≤◌, ◌⊎◌, length}
+use Rattle.std.specs.Prelude.{◌≡◌, ℕ, ◌+◌, ◌^◌, ◌<◌, ◌≤◌, ◌⊎◌, length}
 use Rattle.automata_hybrid.specs.Cache.Ids.{dead_id, quit_id}
-use Rattle.automata_hybrid.specs.Machines.Machine.{Machine, slot_count, table_stride}
+use Rattle.automata_hybrid.specs.Machines.Machine.{Machine}
 use Rattle.automata_hybrid.specs.Cache.Table.{AreRows, IsRowId}
 use Rattle.automata_hybrid.specs.Cache.Clears.{AllStarts}
 use Rattle.automata_hybrid.specs.Cache.Usage.{usage}
-use Rattle.automata_hybrid.specs.Cache.Stores.{Stored, fresh_store, IsSoundStore}
+use Rattle.automata_hybrid.specs.Cache.Stores.{Stored, fresh_store}
 
 -- what contracts see of a cache: its states, and how often it determinized
 pub record CacheView : Type 0 where
@@ -22,12 +22,13 @@ pub record IsStoreOf (c : Stored) (m : Machine) : Type 0 where
   pub of : c.table.of ≡ m
   pub rows : AreRows c.table
   pub starts : AllStarts c.table c.starts
-  pub slots : length c.starts ≡ slot_count m
+  pub slots : length c.starts ≡ m.slots
   pub within : usage c ≤ m.capacity
-
--- such a cache, with what is true of every cache
-abbrev pub IsSoundOf : Stored → Machine → Type 0
-IsSoundOf c m = IsStoreOf c m × IsSoundStore c
+  -- A row has at most 512 cells, and a new one has as many as each row.
+  pub small : c.table.of.stride ≤ 512
+  pub wide : length c.table.of.template ≡ c.table.of.stride
+  -- The count of clears is a number of 64 bits.
+  pub clears : c.clears < 2 ^ 64
 
 -- a cache that nothing was done to
 abbrev pub fresh_cache : Machine → CacheView
@@ -44,5 +45,5 @@ with_store c s = record { store = s; count = c.count }
 -- the cache has a row of exactly this ID, so that a step may be taken from it: that of dead, of quit, or of a state
 abbrev pub HoldsRow : CacheView → (id : ℕ) → Type 0
 HoldsRow c id =
-    (id ≡ dead_id (table_stride c.store.table.of))
-    ⊎ ((id ≡ quit_id (table_stride c.store.table.of)) ⊎ IsRowId c.store.table id)
+    (id ≡ dead_id c.store.table.of.stride)
+    ⊎ ((id ≡ quit_id c.store.table.of.stride) ⊎ IsRowId c.store.table id)

@@ -6,9 +6,13 @@ use Rattle.automata_hybrid.specs.Cache.Table.{Rows, Leads, Lacks, IsKnownState, 
 use Rattle.automata_hybrid.specs.Cache.Clears.{put, row_of}
 use Rattle.automata_hybrid.specs.Cache.Stores.{Stored, IsKnownStart, IsKnownTransition, KeepsStarts}
 use Rattle.automata_hybrid.specs.Cache.Stores.{with_next, with_searched, with_start, with_table}
-use Rattle.automata_hybrid.specs.Machines.Machine.{IsReachable, next_of, slot_count, start_of, table_stride}
+use Rattle.automata_base.specs.Retraced.Steps.{start_state_of, successor}
+use Rattle.automata_base.specs.declared.util.search.Anchored.{Anchored}
+use Rattle.automata_hybrid.specs.Machines.Machine.{unit_class}
+use Rattle.automata_hybrid.specs.Machines.Reachable.{IsReachable}
+use Rattle.automata_hybrid.specs.Machines.StartSlots.{slot_behind}
 use Rattle.automata_hybrid.specs.Cache.Usage.{Fits, cleared, refuses_to_clear}
-use Rattle.automata_config.specs.Options.{specialize_start_states_of}
+use Rattle.automata_config.specs.Options.{match_kind_of, specialize_start_states_of}
 
 -- with the row that was found, if one was
 abbrev pub put_found : Rows → Option Row → Rows
@@ -72,24 +76,30 @@ IsStarted old slot r new id =
 -- a transition that was not cached is computed
 pub record IsStepChange (old new : Stored) : Type 0 where
   pub id : ℕ
-  pub class : ℕ
-  pub below : class < table_stride old.table.of
+  pub unit : Option ℕ
+  pub below : unit_class old.table.of unit < old.table.of.stride
   pub state : Powerset
   pub named : Names old.table id state
-  pub unknown : IsKnownTransition old id class → ⊥
+  pub unknown : IsKnownTransition old id (unit_class old.table.of unit) → ⊥
   pub next : ℕ
-  pub computed : IsComputed old id class state (next_of old.table.of state class) new next
+  pub computed :
+      IsComputed old id (unit_class old.table.of unit) state
+      (successor old.table.of.nfa (match_kind_of old.table.of.config) state unit) new next
 
 -- a start state that was not cached is computed
 pub record IsStartChange (old new : Stored) : Type 0 where
-  pub slot : ℕ
-  pub within : slot < slot_count old.table.of
-  pub unknown : IsKnownStart old slot → ⊥
+  pub mode : Anchored
+  pub behind : Option ℕ
+  pub within : slot_behind old.table.of mode behind < old.table.of.slots
+  pub unknown : IsKnownStart old (slot_behind old.table.of mode behind) → ⊥
   pub id : ℕ
   -- Its row has the start tag if the settings specialize start states.
   pub started :
-      IsStarted old slot
-      (record { state = start_of old.table.of slot; started = specialize_start_states_of old.table.of.config }) new id
+      IsStarted old (slot_behind old.table.of mode behind)
+      (record {
+        state = start_state_of old.table.of.nfa mode behind;
+        started = specialize_start_states_of old.table.of.config;
+      }) new id
 
 -- a state that the cache lacks, as after a clear, is put back without the start tag
 pub record IsBackChange (old new : Stored) : Type 0 where

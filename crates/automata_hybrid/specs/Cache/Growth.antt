@@ -1,15 +1,18 @@
 -- What steps and searches do to a cache. A reset does more.
 use Rattle.std.specs.Prelude.{◌≡◌, ℕ, ◌+◌, ◌-◌, ◌*◌, ◌^◌, ◌<◌, ◌≤◌, ◌⊎◌, ◌↔◌, length, slice_index, false, true}
+use Rattle.std.specs.Prelude.{Option}
 use Rattle.automata_base.specs.Powersets.Powerset.{Powerset}
 use Rattle.automata_config.specs.declared.error.StepError.{StepError}
 use Rattle.automata_hybrid.specs.Cache.Stores.{Stored, IsKnownStart, IsKnownTransition, KeepsStarts, cell_of}
 use Rattle.automata_hybrid.specs.Cache.Stores.{IsCacheError, with_searched}
 use Rattle.automata_hybrid.specs.Cache.Usage.{GivesUp, cleared, row_usage, usage}
-use Rattle.automata_hybrid.specs.Cache.Caches.{CacheView, counted}
+use Rattle.automata_hybrid.specs.Cache.Caches.{CacheView}
 use Rattle.automata_hybrid.specs.Cache.Changes.{AreChanges, IsStateAdded}
 use Rattle.automata_hybrid.specs.Cache.Ids.{offset_limit, HasStartTag}
 use Rattle.automata_config.specs.Options.{specialize_start_states_of}
-use Rattle.automata_hybrid.specs.Machines.Machine.{greatest, slot_count, start_of, table_stride}
+use Rattle.automata_base.specs.Retraced.Steps.{start_state_of}
+use Rattle.automata_base.specs.declared.util.search.Anchored.{Anchored}
+use Rattle.automata_hybrid.specs.Machines.StartSlots.{slot_behind}
 use Rattle.automata_hybrid.specs.Cache.Progress.{progress_cleared}
 use Rattle.automata_hybrid.specs.Cache.Table.{IsRowId, Names, Rows}
 
@@ -18,7 +21,7 @@ pub record Keeps (old new : Stored) : Type 0 where
   pub rows : (id : ℕ) (q : Powerset) → Names old.table id q → Names new.table id q
   pub starts : (slot : ℕ) → IsKnownStart old slot → slice_index new.starts slot ≡ slice_index old.starts slot
   pub cells :
-      (id class : ℕ) → IsRowId old.table id → class < table_stride old.table.of → IsKnownTransition old id class
+      (id class : ℕ) → IsRowId old.table id → class < old.table.of.stride → IsKnownTransition old id class
       → cell_of new id class ≡ cell_of old id class
 
 -- nothing was cleared between: the count of clears is the same, and below the greatest number, where it would stay
@@ -34,18 +37,19 @@ KeepsProgress old new =
 
 -- there is room for so many more states, whatever they cost
 pub record HasRoom (c : Stored) (states : ℕ) : Type 0 where
-  pub capacity : usage c + states * (row_usage c.table.of + greatest c.table.of) ≤ c.table.of.capacity
-  pub offsets : (k : ℕ) → k < states → length c.table.cells + k * table_stride c.table.of < offset_limit
+  pub capacity : usage c + states * (row_usage c.table.of + c.table.of.greatest) ≤ c.table.of.capacity
+  pub offsets : (k : ℕ) → k < states → length c.table.cells + k * c.table.of.stride < offset_limit
 
 -- a state's ID has the start tag
 abbrev pub IsStartTagged : Rows → Powerset → Type 0
 IsStartTagged t q = (id : ℕ) × Names t id q × HasStartTag id
 
--- a state may get the start tag: start states are specialized, and it is that of a slot which is cached
+-- a state may get the start tag: start states are specialized, and it is one of a slot which is cached
 abbrev pub MayHaveStartTag : Stored → Powerset → Type 0
 MayHaveStartTag c q =
     (specialize_start_states_of c.table.of.config ≡ true)
-    × ((slot : ℕ) × (slot < slot_count c.table.of) × IsKnownStart c slot × (q ≡ start_of c.table.of slot))
+    × ((mode : Anchored) × (behind : Option ℕ) × (slot_behind c.table.of mode behind < c.table.of.slots)
+    × IsKnownStart c (slot_behind c.table.of mode behind) × (q ≡ start_state_of c.table.of.nfa mode behind))
 
 -- nothing has changed but the progress of searches
 abbrev pub IsStill : CacheView → CacheView → Type 0

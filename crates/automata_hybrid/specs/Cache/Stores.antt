@@ -5,11 +5,10 @@ use Rattle.automata_hybrid.specs.declared.dfa.settings.Settings.{Settings}
 use Rattle.automata_config.specs.declared.error.StepError.{StepError}
 use Rattle.automata_config.specs.declared.error.StepError.TheVariants.{Cache, OutOfMemory}
 use Rattle.automata_hybrid.specs.Cache.Ids.{unknown_id}
-use Rattle.automata_hybrid.specs.Machines.Machine.{Machine, slot_count, table_stride, template_of}
+use Rattle.automata_hybrid.specs.Machines.Machine.{Machine}
 use Rattle.automata_hybrid.specs.Cache.Table.{Rows, with_cell, cell_at, fresh, HasCells, HasItsMatchTag, HasLowIds}
 use Rattle.automata_hybrid.specs.Cache.Table.{HasNoDeadRow, HasOwnStates, HasRowIds}
 use Rattle.automata_config.specs.Options.{minimum_cache_clear_count_of, minimum_bytes_per_state_of}
-use Rattle.automata_base.specs.Powersets.Accounting.{fixed_cost}
 
 -- what contracts see of a cache
 pub record Stored : Type 0 where
@@ -22,7 +21,7 @@ pub record Stored : Type 0 where
 abbrev pub settings_of : Machine → Settings
 settings_of m = record {
   capacity = m.capacity;
-  fixed = fixed_cost m.nfa;
+  fixed = m.fixed;
   minimum_clear_count = minimum_cache_clear_count_of m.config;
   minimum_bytes_per_state = minimum_bytes_per_state_of m.config;
 }
@@ -61,7 +60,7 @@ with_start c slot id = record {
 abbrev pub fresh_store : Machine → Stored
 fresh_store m = record {
   table = fresh m;
-  starts = replicate (slot_count m) unknown_id;
+  starts = replicate m.slots unknown_id;
   clears = 0;
   searched = record { bytes = 0; running = None };
 }
@@ -81,8 +80,8 @@ with_searched c s = record { table = c.table; starts = c.starts; clears = c.clea
 -- what is true of each cache
 pub record IsSoundStore (c : Stored) : Type 0 where
   -- A row has at most 512 cells, and a new one has as many as each row.
-  pub small : table_stride c.table.of ≤ 512
-  pub wide : length (template_of c.table.of) ≡ table_stride c.table.of
+  pub small : c.table.of.stride ≤ 512
+  pub wide : length c.table.of.template ≡ c.table.of.stride
   pub ids : HasRowIds c.table
   pub low : HasLowIds c.table
   pub tagged : (id : ℕ) → HasItsMatchTag c.table id
@@ -90,6 +89,6 @@ pub record IsSoundStore (c : Stored) : Type 0 where
   pub own : HasOwnStates c.table
   pub cells : HasCells c.table
   -- There are as many slots as start states of the DFA.
-  pub slots : length c.starts ≡ slot_count c.table.of
+  pub slots : length c.starts ≡ c.table.of.slots
   -- The count of clears is a number of 64 bits.
   pub clears : c.clears < 2 ^ 64

@@ -7,12 +7,15 @@ use Rattle.std.specs.declared.hash.FoldHasher.{FoldHasher}
 use Rattle.std.specs.declared.hash.BuildHasherDefault.{BuildHasherDefault}
 use Rattle.automata_base.specs.Powersets.Powerset.{Powerset, cost}
 use Rattle.automata_base.specs.Powersets.Equal.{powerset_eq}
+use Rattle.automata_base.specs.Powersets.Passes.{IsUnit}
 use Rattle.automata_hybrid.specs.declared.dfa.row.Row.{Row}
 use Rattle.automata_base.specs.Powersets.Powerset.{dead}
 use Rattle.automata_hybrid.specs.Cache.Ids.{tags, dead_id, quit_id, unknown_id, fixed_from, offset_limit}
 use Rattle.automata_hybrid.specs.Cache.Ids.{HasMatchTag, HasStartTag}
-use Rattle.automata_hybrid.specs.Machines.Machine.{Machine, next_of, greatest, template_of, IsStateOf, IsTemplate}
-use Rattle.automata_hybrid.specs.Machines.Machine.{table_stride}
+use Rattle.automata_hybrid.specs.Machines.Machine.{IsTemplate, Machine, unit_class}
+use Rattle.automata_hybrid.specs.Machines.Reachable.{IsStateOf}
+use Rattle.automata_base.specs.Retraced.Steps.{successor}
+use Rattle.automata_config.specs.Options.{match_kind_of}
 use Rattle.automata_hybrid.specs.Machines.OwnStates.{IsOwn}
 
 -- a state has patterns
@@ -40,7 +43,7 @@ find_id s at q (r ∷ rs) = cond (powerset_eq q r.state) (Some (row_id at r)) (f
 
 -- the ID that a table has for a state
 abbrev pub id_of : Rows → Powerset → Option ℕ
-id_of t q = find_id (table_stride t.of) (3 * table_stride t.of) q t.rows
+id_of t q = find_id t.of.stride (3 * t.of.stride) q t.rows
 
 -- a state that is not dead, and that no row has
 abbrev pub Lacks : Rows → Powerset → Type 0
@@ -71,17 +74,19 @@ pub record IsKnownState (t : Rows) (q : Powerset) : Type 0 where
 
 -- the dead ID for the dead state, and else a row's
 abbrev pub Leads : Rows → ℕ → Powerset → Type 0
-Leads t id q = ((id ≡ dead_id (table_stride t.of)) × (q ≡ dead)) ⊎ Names t id q
+Leads t id q = ((id ≡ dead_id t.of.stride) × (q ≡ dead)) ⊎ Names t id q
 
--- a cell that is not cached, or that names what it should
-abbrev pub MayLead : Rows → ℕ → Powerset → Type 0
-MayLead t id q = (id ≡ unknown_id) ⊎ Leads t id q
+-- an ID leads from a state where each unit of a class does
+abbrev pub LeadsByClass : Rows → ℕ → Powerset → (class : ℕ) → Type 0
+LeadsByClass t id q class =
+    (unit : Option ℕ) → IsUnit unit → unit_class t.of unit ≡ class
+    → Leads t id (successor t.of.nfa (match_kind_of t.of.config) q unit)
 
 -- what stands in a cell of a state's row: quit at quit classes, and else what names the next state or nothing yet
 abbrev pub IsCell : Rows → Powerset → ℕ → ℕ → Type 0
 IsCell t q class id =
-    ((slice_index (template_of t.of) class ≡ quit_id (table_stride t.of)) × (id ≡ quit_id (table_stride t.of)))
-    ⊎ ((slice_index (template_of t.of) class ≡ unknown_id) × MayLead t id (next_of t.of q class))
+    ((slice_index t.of.template class ≡ quit_id t.of.stride) × (id ≡ quit_id t.of.stride))
+    ⊎ ((slice_index t.of.template class ≡ unknown_id) × ((id ≡ unknown_id) ⊎ LeadsByClass t id q class))
 
 -- the three fixed rows
 abbrev pub fixed_rows : ℕ → List ℕ
@@ -89,11 +94,11 @@ fixed_rows s = replicate s unknown_id ++ (replicate s (dead_id s) ++ replicate s
 
 -- the fixed rows alone
 abbrev pub fresh : Machine → Rows
-fresh m = record { of = m; cells = fixed_rows (table_stride m); rows = [] }
+fresh m = record { of = m; cells = fixed_rows m.stride; rows = [] }
 
 -- with one more row
 abbrev pub with_row : Rows → Row → Rows
-with_row t r = record { of = t.of; cells = t.cells ++ template_of t.of; rows = t.rows ++ r ∷ [] }
+with_row t r = record { of = t.of; cells = t.cells ++ t.of.template; rows = t.rows ++ r ∷ [] }
 
 -- the map from states to IDs
 abbrev pub StateMap : Type 0
@@ -102,27 +107,27 @@ StateMap = HashMap Powerset ℕ (BuildHasherDefault FoldHasher)
 -- each cached cell of a row names the next state of that row's state
 abbrev pub IsStepped : Rows → Type 0
 IsStepped t =
-    (k class : ℕ) (r : Row) → slice_get t.rows k ≡ Some r → class < table_stride t.of
-    → IsCell t r.state class (slice_index t.cells ((k + 3) * table_stride t.of + class))
+    (k class : ℕ) (r : Row) → slice_get t.rows k ≡ Some r → class < t.of.stride
+    → IsCell t r.state class (slice_index t.cells ((k + 3) * t.of.stride + class))
 
 -- each row is found by its state, so no two rows have one state, and stands below the limit of offsets
 abbrev pub HasRowIds : Rows → Type 0
 HasRowIds t =
     (k : ℕ) (r : Row) → slice_get t.rows k ≡ Some r
-    → Names t (row_id ((k + 3) * table_stride t.of) r) r.state × ((k + 3) * table_stride t.of < offset_limit)
+    → Names t (row_id ((k + 3) * t.of.stride) r) r.state × ((k + 3) * t.of.stride < offset_limit)
 
 -- a state that a row may have: one of the DFA, which costs no more than a state may, and is not dead
 pub record IsRowState (m : Machine) (q : Powerset) : Type 0 where
   pub own : IsStateOf m q
-  pub cheap : cost q ≤ greatest m
+  pub cheap : cost q ≤ m.greatest
   pub alive : q ≡ dead → ⊥
 
 -- rows and cells fit each other: the fixed rows come first, no state has two rows, and each cached cell leads where its
 -- row's state goes
 pub record AreRows (t : Rows) : Type 0 where
-  pub whole : length t.cells ≡ (length t.rows + 3) * table_stride t.of
-  pub small : length t.cells < offset_limit + table_stride t.of
-  pub fixed : take (3 * table_stride t.of) t.cells ≡ fixed_rows (table_stride t.of)
+  pub whole : length t.cells ≡ (length t.rows + 3) * t.of.stride
+  pub small : length t.cells < offset_limit + t.of.stride
+  pub fixed : take (3 * t.of.stride) t.cells ≡ fixed_rows t.of.stride
   pub stepped : IsStepped t
   pub ids : HasRowIds t
   pub states : (k : ℕ) (r : Row) → slice_get t.rows k ≡ Some r → IsRowState t.of r.state
@@ -137,7 +142,7 @@ cell_at id class = id % offset_limit + class
 
 -- each row has a cell for each class
 abbrev pub HasCells : Rows → Type 0
-HasCells t = (id class : ℕ) → IsRowId t id → class < table_stride t.of → cell_at id class < length t.cells
+HasCells t = (id class : ℕ) → IsRowId t id → class < t.of.stride → cell_at id class < length t.cells
 
 -- IDs of rows have no high tag
 abbrev pub HasLowIds : Rows → Type 0
@@ -154,9 +159,9 @@ HasOwnStates t = (id : ℕ) (q : Powerset) → Names t id q → IsOwn t.of.nfa q
 -- what is true of the rows of each table
 pub record IsSoundTable (t : Rows) : Type 0 where
   pub rows : AreRows t
-  pub template : IsTemplate (table_stride t.of) (template_of t.of)
+  pub template : IsTemplate t.of.stride t.of.template
   -- The states cost no more than so many of the dearest.
-  pub costs : sum_by row_cost t.rows ≤ length t.rows * greatest t.of
+  pub costs : sum_by row_cost t.rows ≤ length t.rows * t.of.greatest
   pub low : HasLowIds t
   pub tagged : (id : ℕ) → HasItsMatchTag t id
   pub alive : HasNoDeadRow t
@@ -172,7 +177,7 @@ pub record IsNewState (t : Rows) (q : Powerset) : Type 0 where
   -- No row has it, and it is not dead.
   pub lacks : Lacks t q
   -- It costs no more than a state may.
-  pub cheap : cost q ≤ greatest t.of
+  pub cheap : cost q ≤ t.of.greatest
   -- It is a state of the DFA.
   pub own : IsStateOf t.of q
 
@@ -184,8 +189,8 @@ with_cell t id class next = record { of = t.of; cells = slice_set t.cells (cell_
 -- state's row, and the costs are those of all states
 pub record IsHeld (t : Rows) (s : ℕ) (row : List ℕ) (map : StateMap) (costs : ℕ) : Type 0 where
   pub rows : AreRows t
-  pub cells : IsTemplate (table_stride t.of) (template_of t.of)
-  pub stride : s ≡ table_stride t.of
-  pub template : row ≡ template_of t.of
+  pub cells : IsTemplate t.of.stride t.of.template
+  pub stride : s ≡ t.of.stride
+  pub template : row ≡ t.of.template
   pub mapped : (q : Powerset) → get powerset_eq map q ≡ id_of t q
   pub costs_of : costs ≡ sum_by row_cost t.rows

@@ -2,12 +2,12 @@
 use Rattle.std.specs.Prelude.{◌≡◌, ℕ, ◌+◌, ◌*◌, ◌^◌, ◌<◌, ◌≤◌, length, Bool, true, false, cond, Option, None, Some}
 use Rattle.std.specs.Prelude.{sum_by, nat_lt}
 use Rattle.automata_base.specs.Powersets.Powerset.{Powerset, cost}
-use Rattle.automata_base.specs.Powersets.Accounting.{cell_size, entry_size, fixed_cost, fixed_rows_cost}
+use Rattle.automata_base.specs.Powersets.Accounting.{cell_size, entry_size, fixed_rows_cost}
 use Rattle.automata_base.specs.Powersets.Accounting.{minimum_capacity}
 use Rattle.automata_base.specs.Powersets.Accounting.{row_size}
 use Rattle.automata_hybrid.specs.declared.dfa.settings.Settings.{Settings}
 use Rattle.automata_hybrid.specs.Cache.Ids.{offset_limit}
-use Rattle.automata_hybrid.specs.Machines.Machine.{Machine, greatest, table_stride, slot_count}
+use Rattle.automata_hybrid.specs.Machines.Machine.{Machine}
 use Rattle.automata_hybrid.specs.Cache.Table.{row_cost, Lacks}
 use Rattle.automata_hybrid.specs.Cache.Clears.{AllStarts, KeepsAllStarts, kept}
 use Rattle.automata_hybrid.specs.Cache.Progress.{saturated, total_len, progress_cleared}
@@ -20,11 +20,11 @@ abbrev pub usage : Stored → ℕ
 usage c =
     cell_size * length c.table.cells + cell_size * length c.starts + row_size * (length c.table.rows + 3)
     + entry_size * (length c.table.rows + 1) + fixed_rows_cost + sum_by row_cost c.table.rows
-    + fixed_cost c.table.of.nfa
+    + c.table.of.fixed
 
 -- what a new row takes beside the cost of its state: its cells, and its entries in the list and in the map
 abbrev pub row_usage : Machine → ℕ
-row_usage m = cell_size * table_stride m + (row_size + entry_size)
+row_usage m = cell_size * m.stride + (row_size + entry_size)
 
 -- a new state of this cost fits, and so does its row's offset
 abbrev pub Fits : Stored → ℕ → Type 0
@@ -33,7 +33,7 @@ Fits c extra =
 
 -- any state fits
 abbrev pub FitsAny : Stored → Type 0
-FitsAny c = (extra : ℕ) → extra ≤ greatest c.table.of → Fits c extra
+FitsAny c = (extra : ℕ) → extra ≤ c.table.of.greatest → Fits c extra
 
 -- too few bytes were searched for so many states: fewer than the number that is set for each; any, if none is set
 abbrev pub short_of : Option ℕ → ℕ → ℕ → Bool
@@ -74,10 +74,10 @@ pub record IsCache (c : Stored) (settings : Settings) : Type 0 where
   pub named : AllStarts c.table c.starts
   pub within : usage c ≤ c.table.of.capacity
   pub enough :
-      minimum_capacity (table_stride c.table.of) (length c.starts) (greatest c.table.of) (fixed_cost c.table.of.nfa)
+      minimum_capacity c.table.of.stride (length c.starts) c.table.of.greatest c.table.of.fixed
       ≤ c.table.of.capacity
-  pub offsets : (length c.starts + 4) * table_stride c.table.of < offset_limit
-  pub slots : length c.starts ≡ slot_count c.table.of
+  pub offsets : (length c.starts + 4) * c.table.of.stride < offset_limit
+  pub slots : length c.starts ≡ c.table.of.slots
   pub same : settings ≡ settings_of c.table.of
   pub bounded : c.table.of.capacity < 2 ^ 64
 

@@ -5,15 +5,16 @@ use Rattle.automata_base.specs.Retraced.Steps.{successor}
 use Rattle.automata_base.specs.declared.util.search.Anchored.{Anchored}
 use Rattle.automata_config.specs.Options.{match_kind_of}
 use Rattle.automata_hybrid.specs.declared.dfa.progress.Searched.{Searched}
-use Rattle.automata_hybrid.specs.Cache.Caches.{CacheView, IsSoundOf, counted, with_store}
+use Rattle.automata_hybrid.specs.Cache.Caches.{CacheView, IsStoreOf, counted, with_store}
 use Rattle.automata_hybrid.specs.Cache.Changes.{IsComputed, IsStarted}
 use Rattle.automata_hybrid.specs.Cache.Progress.{progress_finished, progress_started, progress_updated}
 use Rattle.automata_hybrid.specs.Cache.Stores.{IsKnownStart, KeepsStarts, Stored, with_searched}
 use Rattle.automata_hybrid.specs.Cache.Table.{Leads, Names}
-use Rattle.automata_hybrid.specs.Machines.Machine.{IsClassOf, Machine, slot_count, table_stride}
+use Rattle.automata_hybrid.specs.Machines.Machine.{Machine, quits_on, unit_class}
 use Rattle.automata_hybrid.specs.Machines.StartSlots.{slot_behind}
 use Rattle.automata_hybrid.specs.Steps.Starts.{MayStart, start_row}
-use Rattle.automata_hybrid.specs.Steps.Steps.{KnowsStep, quits_on, unit_class}
+use Rattle.automata_hybrid.specs.Steps.Steps.{KnowsStep}
+use Rattle.automata_hybrid.specs.Machines.Machine.{quits_on, unit_class}
 
 -- a search begins, moves or ends at an offset; the start state of an anchored mode is asked for, after a look-behind
 -- byte; or the state after another one, over a unit
@@ -29,7 +30,7 @@ abbrev pub IsCached : Machine → Stored → Event → Type 0
 IsCached m c (Begin at) = Unit {0}
 IsCached m c (Move at) = Unit {0}
 IsCached m c (End at) = Unit {0}
-IsCached m c (Start mode behind) = slot_behind m mode behind < slot_count m → IsKnownStart c (slot_behind m mode behind)
+IsCached m c (Start mode behind) = slot_behind m mode behind < m.slots → IsKnownStart c (slot_behind m mode behind)
 IsCached m c (Step q unit) = (id : ℕ) × Names c.table id q × KnowsStep m c id unit
 
 -- it may be asked for: a search may start so; and a unit that is stepped over is no quit byte, and rows have its class
@@ -38,7 +39,7 @@ MayAsk m (Begin at) = Unit {0}
 MayAsk m (Move at) = Unit {0}
 MayAsk m (End at) = Unit {0}
 MayAsk m (Start mode behind) = MayStart m mode behind
-MayAsk m (Step q unit) = (quits_on m unit ≡ false) × (unit_class m unit < table_stride m)
+MayAsk m (Step q unit) = (quits_on m unit ≡ false) × (unit_class m unit < m.stride)
 
 -- what it makes of the progress of searches
 abbrev pub progress_after : Event → Searched → Searched
@@ -65,8 +66,6 @@ pub record MakesStart (m : Machine) (mode : Anchored) (behind : Option ℕ) (old
 pub record MakesStep (m : Machine) (q : Powerset) (unit : Option ℕ) (old new : CacheView) : Type 0 where
   pub id : ℕ
   pub named : Names old.store.table id q
-  -- the unit steps as its class does
-  pub class : IsClassOf m (unit_class m unit) unit
   pub next : ℕ
   pub computed :
       IsComputed old.store id (unit_class m unit) q (successor m.nfa (match_kind_of m.config) q unit) new.store next
@@ -87,7 +86,7 @@ Makes m (Step q unit) old new = MakesStep m q unit old new
 -- not, it is made
 abbrev pub Does : Machine → Event → (old new : CacheView) → Type 0
 Does m e old new =
-    MayAsk m e × IsSoundOf new.store m
+    MayAsk m e × IsStoreOf new.store m
     × ((IsCached m old.store e × (new ≡ with_progress e old))
     ⊎ ((IsCached m old.store e → ⊥) × Makes m e old new))
 

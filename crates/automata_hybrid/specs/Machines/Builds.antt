@@ -4,10 +4,12 @@ use Rattle.automata_base.specs.Nfas.Automata.{automaton}
 use Rattle.automata_base.specs.Nfas.Nodes.{Automaton}
 use Rattle.automata_base.specs.declared.nfa.thompson.State.{State}
 use Rattle.automata_base.specs.declared.nfa.thompson.State.TheVariants.{Match, Fail}
-use Rattle.automata_config.specs.Options.{Options}
+use Rattle.automata_base.specs.ByteClasses.Classes.{stride_of}
+use Rattle.automata_base.specs.Powersets.Accounting.{fixed_cost, max_cost, start_slots}
+use Rattle.automata_config.specs.Options.{Options, starts_for_each_pattern_of}
 use Rattle.automata_config.specs.Settled.{Settled}
 use Rattle.automata_config.specs.Settling.{IsSettled}
-use Rattle.automata_hybrid.specs.Machines.Machine.{Machine}
+use Rattle.automata_hybrid.specs.Machines.Machine.{Machine, marked}
 
 -- the machine of an automaton, its settings, and what was settled
 abbrev pub built_machine : Options → Automaton → Settled → Machine
@@ -17,6 +19,11 @@ built_machine o a s = record {
   classes = s.classes;
   quits = s.quits;
   capacity = s.capacity;
+  stride = stride_of s.classes;
+  slots = start_slots a (starts_for_each_pattern_of o);
+  template = marked s.classes s.quits (stride_of s.classes) 256;
+  greatest = max_cost a;
+  fixed = fixed_cost a;
 }
 
 -- the machine is what settings make of an automaton

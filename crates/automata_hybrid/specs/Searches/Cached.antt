@@ -9,11 +9,11 @@ use Rattle.automata_config.specs.declared.error.SearchError.{SearchError}
 use Rattle.automata_config.specs.declared.error.SearchError.TheVariants as search
 use Rattle.automata_hybrid.specs.Cache.Stores.{Stored, IsKnownStart, IsKnownTransition}
 use Rattle.automata_hybrid.specs.Cache.Growth.{Keeps}
-use Rattle.automata_hybrid.specs.Machines.Machine.{Machine, slot_count}
+use Rattle.automata_hybrid.specs.Machines.Machine.{Machine}
 use Rattle.automata_hybrid.specs.Searches.Passes.{Finds, HasReadNoQuit, Reads, Skips, state_in, tape_in}
 use Rattle.automata_hybrid.specs.Machines.StartSlots.{slot_behind}
 use Rattle.automata_hybrid.specs.Steps.Starts.{MayStart}
-use Rattle.automata_hybrid.specs.Steps.Steps.{unit_class}
+use Rattle.automata_hybrid.specs.Machines.Machine.{unit_class}
 use Rattle.automata_hybrid.specs.Cache.Table.{Names}
 
 -- the transition that a pass takes on its unit at place `k` is cached
@@ -25,7 +25,7 @@ KnowsUnit way m c input k =
 -- the start state of a pass is cached, if it has a slot: a pattern past the last has none
 abbrev pub KnowsItsStart : Direction → Machine → Stored → Input → Type 0
 KnowsItsStart way m c input =
-    slot_behind m input.anchored (tape_in way input).before < slot_count m
+    slot_behind m input.anchored (tape_in way input).before < m.slots
     → IsKnownStart c (slot_behind m input.anchored (tape_in way input).before)
 
 -- all that a pass uses is cached: its start, and the transition on each unit that it reads, up to a quit byte

@@ -13,13 +13,14 @@ use Rattle.automata_config.specs.declared.error.StepError.{StepError}
 use Rattle.automata_config.specs.declared.error.StepError.TheVariants as step
 use Rattle.automata_config.specs.declared.error.SearchError.{SearchError}
 use Rattle.automata_config.specs.declared.error.SearchError.TheVariants as search
-use Rattle.automata_hybrid.specs.Machines.Machine.{Machine, table_stride}
+use Rattle.automata_hybrid.specs.Machines.Machine.{Machine}
 use Rattle.automata_hybrid.specs.Cache.Table.{Rows, Names}
 use Rattle.automata_hybrid.specs.Searches.Passes.{HasReadNoQuit, tape_in, state_in, reported_in}
 use Rattle.automata_hybrid.specs.Cache.Stores.{Stored}
 use Rattle.automata_hybrid.specs.Searches.Cached.{KnowsUnit}
 use Rattle.automata_hybrid.specs.Cache.Ids.{HasMatchTag, HasOnly, IsRunTag, unknown_id}
-use Rattle.automata_hybrid.specs.Steps.Steps.{known_step, unit_class}
+use Rattle.automata_hybrid.specs.Steps.Steps.{known_step}
+use Rattle.automata_hybrid.specs.Machines.Machine.{unit_class}
 use Rattle.automata_config.specs.Options.{match_kind_of}
 
 -- a pair of a pass as a half match: its place is an offset
@@ -52,7 +53,7 @@ step_refusal step.OutOfMemory at = search.OutOfMemory
 -- the transition on the unit at place `k` is cached, at a class that rows have
 abbrev pub HasLearnedUnit : Direction → Machine → Stored → Input → ℕ → Type 0
 HasLearnedUnit way m c input k =
-    KnowsUnit way m c input k × (unit_class m (next (tape_in way input) k) < table_stride c.table.of)
+    KnowsUnit way m c input k × (unit_class m (next (tape_in way input) k) < c.table.of.stride)
 
 -- the unit at place `k` is no quit byte, and its cached transition leads to an ID that has this tag and no other
 pub record IsTaken (way : Direction) (m : Machine) (c : Stored) (input : Input) (tag k : ℕ) : Type 0 where

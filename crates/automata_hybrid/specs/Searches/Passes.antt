@@ -23,7 +23,8 @@ use Rattle.automata_hybrid.specs.Cache.Stores.{Stored}
 use Rattle.automata_hybrid.specs.Cache.Usage.{GivesUp}
 use Rattle.automata_hybrid.specs.Machines.Machine.{Machine}
 use Rattle.automata_hybrid.specs.Steps.Starts.{IsStartRefusalAt, quit_behind}
-use Rattle.automata_hybrid.specs.Steps.Steps.{KnowsStep, quits_on}
+use Rattle.automata_hybrid.specs.Steps.Steps.{KnowsStep}
+use Rattle.automata_hybrid.specs.Machines.Machine.{quits_on}
 use Rattle.automata_hybrid.specs.Cache.Table.{Names}
 use Rattle.automata_config.specs.Options.{match_kind_of}
 

@@ -8,7 +8,7 @@ use Rattle.automata_base.specs.declared.util.search.Direction.{Direction}
 use Rattle.automata_base.specs.declared.util.search.Direction.TheVariants.{Forward, Backward}
 use Rattle.automata_config.specs.declared.error.SearchError.{SearchError}
 use Rattle.automata_hybrid.specs.declared.dfa.progress.Searched.{Searched}
-use Rattle.automata_hybrid.specs.Cache.Caches.{CacheView, IsSoundOf}
+use Rattle.automata_hybrid.specs.Cache.Caches.{CacheView, IsStoreOf}
 use Rattle.automata_hybrid.specs.Cache.Progress.{progress_finished}
 use Rattle.automata_hybrid.specs.Calls.Events.{Begin, DoAll, Does, End, Event, Fails, IsStepLeft, Move, Start, Step}
 use Rattle.automata_hybrid.specs.Calls.Events.{with_progress}
@@ -155,7 +155,7 @@ TriesSpans way m input passes = (k : ℕ) → k < passes → TriesSpan way m inp
 
 -- so many passes of a search have ended, one after another, over a cache of the DFA
 abbrev pub PassesEnd : Direction → Machine → Input → (passes : ℕ) → (old new : CacheView) → Type 0
-PassesEnd way m input zero old new = IsSoundOf old.store m × (new ≡ old)
+PassesEnd way m input zero old new = IsStoreOf old.store m × (new ≡ old)
 PassesEnd way m input (suc passes) old new =
     (mid : CacheView) × PassesEnd way m input passes old mid × PassEnds way m (later way passes input) mid new
 

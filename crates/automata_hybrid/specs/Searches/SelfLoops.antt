@@ -8,7 +8,7 @@ use Rattle.automata_base.specs.Retraced.Steps.{successor}
 use Rattle.automata_base.specs.declared.util.search.Direction.{Direction}
 use Rattle.automata_base.specs.declared.util.search.Direction.TheVariants.{Forward, Backward}
 use Rattle.automata_config.specs.Options.{match_kind_of}
-use Rattle.automata_hybrid.specs.Machines.Machine.{Machine, table_stride}
+use Rattle.automata_hybrid.specs.Machines.Machine.{Machine}
 use Rattle.automata_hybrid.specs.Searches.Passes.{tape_in}
 use Rattle.automata_hybrid.specs.Cache.Stores.{IsKnownTransition, Stored}
 use Rattle.automata_hybrid.specs.Cache.Table.{Leads, Names}
@@ -41,7 +41,7 @@ lane_of Backward k = 31 - k
 pub record LoopsOn (m : Machine) (c : Stored) (id byte : ℕ) : Type 0 where
   pub clean : is_quit m.quits byte ≡ false
   pub known : IsKnownTransition c id (class_in m.classes byte)
-  pub below : class_in m.classes byte < table_stride c.table.of
+  pub below : class_in m.classes byte < c.table.of.stride
   pub back :
       (q : Powerset) → Names c.table id q → Leads c.table id (successor m.nfa (match_kind_of m.config) q (Some byte))
 

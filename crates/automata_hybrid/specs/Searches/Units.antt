@@ -14,7 +14,8 @@ use Rattle.automata_hybrid.specs.Searches.PassState.{step_refusal}
 use Rattle.automata_hybrid.specs.Searches.Progress.{IsPassLeftAt, IsStillLeft, IsUnitRead, with_search_ended}
 use Rattle.automata_hybrid.specs.Searches.Progress.{with_search_moved}
 use Rattle.automata_hybrid.specs.Searches.Passes.{IsStepRefusal}
-use Rattle.automata_hybrid.specs.Steps.Steps.{IsStepRefused, quits_on}
+use Rattle.automata_hybrid.specs.Steps.Steps.{IsStepRefused}
+use Rattle.automata_hybrid.specs.Machines.Machine.{quits_on}
 use Rattle.automata_hybrid.specs.Cache.Table.{Leads, Names}
 
 -- what holds if a step from an ID on a unit fails, and the error is reported at an offset

@@ -10,7 +10,7 @@ use Rattle.automata_base.specs.Answers.OfPasses.{IsNearestAnswer}
 use Rattle.automata_config.specs.Options.{match_kind_of}
 use Rattle.automata_hybrid.specs.Cache.Caches.{CacheView, HoldsRow}
 use Rattle.automata_hybrid.specs.Cache.Ids.{dead_id, HasMatchTag, HasDeadTag, HasQuitTag}
-use Rattle.automata_hybrid.specs.Machines.Machine.{Machine, table_stride}
+use Rattle.automata_hybrid.specs.Machines.Machine.{Machine}
 use Rattle.automata_hybrid.specs.Searches.PassContracts.{IsPassAnswer, IsUnderway}
 use Rattle.automata_hybrid.specs.Searches.Passes.{IsFound, Skips, WithoutBase}
 use Rattle.automata_hybrid.specs.Cache.Table.{Names}
@@ -32,7 +32,7 @@ pub record StandsAt (m : Machine) (c : CacheView) (input : Input) (at id : ℕ) 
   pub row : HoldsRow c id
   -- The ID is dead, and there is no match; or those bytes led to its state, no match among them and no quit byte.
   pub state :
-      ((id ≡ dead_id (table_stride m)) × IsFirstMatch m input None)
+      ((id ≡ dead_id m.stride) × IsFirstMatch m input None)
       ⊎ IsUnderway Forward m c.store.table input (at - input.start) id None
 
 -- the unit at an offset: this byte of the haystack, or its end

@@ -14,7 +14,7 @@ use Rattle.automata_config.specs.declared.error.SearchError.{SearchError}
 use Rattle.automata_config.specs.declared.error.SearchError.TheVariants as search
 use Rattle.automata_hybrid.specs.declared.dfa.row.Row.{Row}
 use Rattle.automata_hybrid.specs.Cache.Ids.{dead_id}
-use Rattle.automata_hybrid.specs.Machines.Machine.{Machine, table_stride, slot_count}
+use Rattle.automata_hybrid.specs.Machines.Machine.{Machine}
 use Rattle.automata_hybrid.specs.Cache.Table.{IsKnownState, HasItsMatchTag, KeepsStartTags, Leads, TagsNewStates}
 use Rattle.automata_hybrid.specs.Cache.Stores.{IsKnownStart, Stored}
 use Rattle.automata_hybrid.specs.Cache.Usage.{GivesUp}
@@ -35,7 +35,7 @@ MayStart m mode behind = (quit_behind m behind ≡ None) × (supports m mode ≡
 
 -- the mode has a start slot: it has none for a pattern past the last
 abbrev pub HasSlot : Machine → Anchored → Option ℕ → Type 0
-HasSlot m mode behind = slot_behind m mode behind < slot_count m
+HasSlot m mode behind = slot_behind m mode behind < m.slots
 
 -- a search may start, and this is the slot of its start
 pub record IsStartSlot (m : Machine) (mode : Anchored) (behind : Option ℕ) (slot : ℕ) : Type 0 where
@@ -44,7 +44,7 @@ pub record IsStartSlot (m : Machine) (mode : Anchored) (behind : Option ℕ) (sl
   -- The slot is that of the anchored mode and of the look-behind byte.
   pub at : slot ≡ slot_behind m mode behind
   -- There is such a slot.
-  pub within : slot < slot_count m
+  pub within : slot < m.slots
 
 -- the row of a start state, which has the start tag if the settings specialize start states
 abbrev pub start_row : Machine → Anchored → Option ℕ → Row
@@ -107,7 +107,7 @@ pub record IsStartAnswer (m : Machine) (mode : Anchored) (behind : Option ℕ) (
   -- A start state that was cached is returned as it is.
   pub known : KnowsStart m old.store mode behind → id ≡ known_start m old.store mode behind
   -- Past the last pattern the start is dead.
-  pub past : slot_count m ≤ slot_behind m mode behind → id ≡ dead_id (table_stride m)
+  pub past : m.slots ≤ slot_behind m mode behind → id ≡ dead_id m.stride
   -- A start state that was not cached was computed, and this is all that it did to the states.
   pub computed :
       HasSlot m mode behind → (KnowsStart m old.store mode behind → ⊥)
@@ -156,7 +156,7 @@ pub record IsStartEffect (m : Machine) (mode : Anchored) (behind : Option ℕ) (
   -- If the start state is cached, nothing has changed.
   pub known : KnowsStart m old.store mode behind → new ≡ old
   -- Past the last pattern nothing has changed.
-  pub past : MayStart m mode behind → slot_count m ≤ slot_behind m mode behind → new ≡ old
+  pub past : MayStart m mode behind → m.slots ≤ slot_behind m mode behind → new ≡ old
   -- A state that was there keeps its start tag or its lack of one, through a clear too.
   pub start_tags : KeepsStartTags old.store.table new.store.table
   -- The progress of searches is unchanged, except for what a clear does to it.

@@ -1,6 +1,5 @@
 -- Steps: what a call answers, and what it makes of the cache, on a byte or on the end.
-use Rattle.std.specs.Prelude.{ℕ, ◌≡◌, ◌+◌, ◌<◌, ◌≤◌, ◌⊎◌, Bool, true, false, Option, None, Some}
-use Rattle.automata_base.specs.ByteClasses.Classes.{class_in, eoi_class, is_quit}
+use Rattle.std.specs.Prelude.{ℕ, ◌≡◌, ◌+◌, ◌<◌, ◌≤◌, ◌⊎◌, true, false, Option}
 use Rattle.automata_base.specs.Powersets.Powerset.{Powerset}
 use Rattle.automata_base.specs.Retraced.Steps.{successor}
 use Rattle.automata_config.specs.declared.error.StepError.{StepError}
@@ -10,19 +9,10 @@ use Rattle.automata_hybrid.specs.Cache.Changes.{IsComputed}
 use Rattle.automata_hybrid.specs.Cache.Caches.{CacheView, HoldsRow, counted}
 use Rattle.automata_hybrid.specs.Cache.Growth.{ClearedNothing, IsGrown, KeepsProgress}
 use Rattle.automata_hybrid.specs.Cache.Ids.{fixed_from, quit_id}
-use Rattle.automata_hybrid.specs.Machines.Machine.{Machine, table_stride}
+use Rattle.automata_hybrid.specs.Machines.Machine.{quits_on, unit_class}
+use Rattle.automata_hybrid.specs.Machines.Machine.{Machine}
 use Rattle.automata_hybrid.specs.Cache.Table.{IsKnownState, HasItsMatchTag, KeepsStartTags, Leads, Names, TagsNewStates}
 use Rattle.automata_config.specs.Options.{match_kind_of}
-
--- the class of a byte or of the end
-abbrev pub unit_class : Machine → Option ℕ → ℕ
-unit_class m None = eoi_class m.classes
-unit_class m (Some byte) = class_in m.classes byte
-
--- the unit is a quit byte: the end is none
-abbrev pub quits_on : Machine → Option ℕ → Bool
-quits_on m None = false
-quits_on m (Some byte) = is_quit m.quits byte
 
 -- the transition from a state on a unit is cached
 abbrev pub KnowsStep : Machine → Stored → (id : ℕ) → (unit : Option ℕ) → Type 0
@@ -41,7 +31,7 @@ pub record IsStepAnswer (m : Machine) (id : ℕ) (unit : Option ℕ) (old new : 
   -- Dead leads to dead, and quit to quit.
   pub fixed : fixed_from ≤ id → next ≡ id
   -- A quit byte leads to quit.
-  pub quit : id < fixed_from → quits_on m unit ≡ true → next ≡ quit_id (table_stride m)
+  pub quit : id < fixed_from → quits_on m unit ≡ true → next ≡ quit_id m.stride
   -- Any other unit leads from a state to its successor.
   pub named :
       quits_on m unit ≡ false → (q : Powerset) → Names old.store.table id q

@@ -21,7 +21,7 @@ use Rattle.automata_hybrid.specs.Searches.Passes.{HasReadNoQuit, IsUnitRefusal, 
 use Rattle.automata_hybrid.specs.Searches.Passes.{given_up_offset}
 use Rattle.automata_hybrid.specs.Searches.Passes.{state_in, tape_in}
 use Rattle.automata_hybrid.specs.Steps.Starts.{IsStartRefusalAt, MayStart}
-use Rattle.automata_hybrid.specs.Steps.Steps.{quits_on}
+use Rattle.automata_hybrid.specs.Machines.Machine.{quits_on}
 use Rattle.automata_hybrid.specs.Cache.Table.{IsKnownState, IsRowState, Names, Rows}
 use Rattle.automata_hybrid.specs.Walks.State.{At, Ended, Fresh, Ids, Keeping, Stage, States, Walk}
 use Rattle.automata_config.specs.Options.{match_kind_of}

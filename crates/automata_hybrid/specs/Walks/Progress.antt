@@ -10,7 +10,7 @@ use Rattle.automata_base.specs.Paths.Selections.{Pair}
 use Rattle.automata_base.specs.declared.util.search.Direction.{Direction}
 use Rattle.automata_base.specs.declared.util.search.Direction.TheVariants.{Forward}
 use Rattle.automata_config.specs.declared.error.SearchError.{SearchError}
-use Rattle.automata_hybrid.specs.Cache.Caches.{CacheView, IsSoundOf}
+use Rattle.automata_hybrid.specs.Cache.Caches.{CacheView, IsStoreOf}
 use Rattle.automata_hybrid.specs.Walks.Cached.{IsOpen}
 use Rattle.automata_hybrid.specs.Machines.Machine.{Machine}
 use Rattle.automata_hybrid.specs.Cache.Growth.{PutsBack}
@@ -32,7 +32,7 @@ ReadsNoUnit input w =
 -- the state where a walk stands is in the cache: it was, or it is put back
 abbrev pub HasItsRow : Machine → Powerset → (old new : CacheView) → Type 0
 HasItsRow m q old new =
-    IsSoundOf new.store m
+    IsStoreOf new.store m
     × ((IsKnownState old.store.table q × (new ≡ old)) ⊎ ((IsKnownState old.store.table q → ⊥) × PutsBack q old new))
 
 -- a walk has the state that it goes on from: its start, or the state where it stands
@@ -92,7 +92,7 @@ LeavesCall keeping way m input walk old new e =
 pub record IsWalkRun (keeping : Keeping) (way : Direction) (m : Machine) (input : Input) (walk next : Walk)
     (old new : CacheView) (error : Option SearchError) : Type 0 where
   -- it is one of the DFA before
-  pub of : IsSoundOf old.store m
+  pub of : IsStoreOf old.store m
   -- a call that answers has ended; and one that fails is left so
   pub run : MatchOption error (EndsCall way m input walk next old new) (LeavesCall keeping way m input walk old new)
 
@@ -138,6 +138,6 @@ LeavesSet m input set joined old new e =
 pub record IsSetRun (m : Machine) (input : Input) (set joined : List Bool) (old new : CacheView)
     (error : Option SearchError) : Type 0 where
   -- it is one of the DFA before
-  pub of : IsSoundOf old.store m
+  pub of : IsStoreOf old.store m
   -- the calls of its walk have ended; or the last one failed
   pub run : MatchOption error (EndsSet m input set old new) (LeavesSet m input set joined old new)

@@ -2,14 +2,16 @@
 //! Steps, start states and searches do all that they do to a cache by these methods. A state that does not fit is
 //! added after a clear, which makes the new store beside the old one: an error leaves the cache as it was.
 ghost use Rattle.std.specs.Prelude.{ℕ, ◌≡◌, ◌*◌, ◌%◌, ◌<◌, ◌≤◌, IfOk, IfErr, OnOk, OnErr, slice_index};
-ghost use Rattle.std.specs.Prelude.{length, is_some, IsSome, IsTrue, ◌+◌, ◌↔◌, ◌⊎◌, false, None};
+ghost use Rattle.std.specs.Prelude.{length, is_some, IsSome, IsTrue, ◌+◌, ◌↔◌, ◌⊎◌, false, None, Option};
 ghost use Rattle.automata_base.specs.Powersets.Powerset.{Powerset, cost, dead};
 ghost use Rattle.automata_base.specs.Retraced.Steps.{successor, start_state_of};
+ghost use Rattle.automata_base.specs.Powersets.Passes.{IsUnit};
+ghost use Rattle.automata_hybrid.specs.Cache.Clears.{IsSlot, LeadsToStart};
+ghost use Rattle.automata_hybrid.specs.Machines.Reachable.{IsStateOf};
 ghost use Rattle.automata_hybrid.specs.Machines.OwnStates.{IsOwn};
-ghost use Rattle.automata_hybrid.specs.Machines.Machine.{IsClassOf, IsStateOf, greatest, next_of, start_of};
-ghost use Rattle.automata_hybrid.specs.Machines.Machine.{table_stride, template_of};
+ghost use Rattle.automata_hybrid.specs.Machines.Machine.{quits_on, unit_class};
 ghost use Rattle.automata_hybrid.specs.Cache.Ids.{dead_id, unknown_id, offset_limit};
-ghost use Rattle.automata_hybrid.specs.Cache.Table.{id_of, Names, IsRowId, Leads, MayLead, IsCell};
+ghost use Rattle.automata_hybrid.specs.Cache.Table.{id_of, Names, IsRowId, Leads, IsCell, LeadsByClass};
 ghost use Rattle.automata_hybrid.specs.Cache.Table.{HasItsMatchTag};
 ghost use Rattle.automata_hybrid.specs.Cache.Table.{IsNewState, IsRowState};
 ghost use Rattle.automata_hybrid.specs.Cache.Stores.{IsSoundStore, cell_of, with_next, with_start};
@@ -135,20 +137,22 @@ impl Cache {
         &mut self,
         dfa: &DFA,
         id: LazyStateID,
-        class: usize,
         unit: Option<u8>,
     ) -> Result<Key, AllocError>
         requires of { IsCacheOf self.old dfa.now }
         requires valid { IsRowId self.old.store.table id }
-        requires class { IsClassOf dfa.now class unit }
+        requires unit { IsUnit unit }
+        requires clean { quits_on dfa.now unit ≡ false }
         ensures value { IfOk result (λ k. (q : Powerset) → Names self.old.store.table id q
-            → k ≡ next_of dfa.now q class) }
-        ensures successor { IfOk result (λ k. (q : Powerset) → Names self.old.store.table id q
             → k ≡ successor dfa.now.nfa (match_kind_of dfa.now.config) q unit) }
-        ensures cost { IfOk result (λ k. cost k ≤ greatest dfa.now) }
+        ensures alike { IfOk result (λ k. (q : Powerset) → Names self.old.store.table id q → (other : Option ℕ)
+            → IsUnit other → unit_class dfa.now other ≡ unit_class dfa.now unit
+            → k ≡ successor dfa.now.nfa (match_kind_of dfa.now.config) q other) }
+        ensures cost { IfOk result (λ k. cost k ≤ dfa.now.greatest) }
         ensures is_of { IfOk result (λ k. IsStateOf dfa.now k) }
         ensures counted { self.new ≡ counted self.old }
     {
+        dfa.see_machine();
         let from = self.store.table.state(id);
         let kind = dfa.get_config().get_match_kind();
         let key = next_key(dfa.get_nfa(), &mut self.scratch, kind, from, unit)?;
@@ -235,12 +239,12 @@ impl Cache {
     #[inline(always)]
     pub(crate) fn cell(&self, id: LazyStateID, class: usize) -> LazyStateID
         requires row { IsRowId self.now.store.table id }
-        requires class { class < table_stride self.now.store.table.of }
+        requires class { class < self.now.store.table.of.stride }
         ensures value { result ≡ cell_of self.now.store id class }
         ensures named { (q : Powerset) → Names self.now.store.table id q → IsCell self.now.store.table q class result }
         ensures tag { HasItsMatchTag self.now.store.table result }
         ensures own { (q : Powerset) → Names self.now.store.table id q → IsOwn self.now.store.table.of.nfa q }
-        ensures stride { table_stride self.now.store.table.of ≤ 512 }
+        ensures stride { self.now.store.table.of.stride ≤ 512 }
     {
         self.cell_in_row(id, id.offset() as usize, class)
     }
@@ -249,13 +253,13 @@ impl Cache {
     #[inline(always)]
     pub(crate) fn cell_in_row(&self, id: LazyStateID, row: usize, class: usize) -> LazyStateID
         requires row { IsRowId self.now.store.table id }
-        requires class { class < table_stride self.now.store.table.of }
+        requires class { class < self.now.store.table.of.stride }
         requires offset { row ≡ id % offset_limit }
         ensures value { result ≡ cell_of self.now.store id class }
         ensures named { (q : Powerset) → Names self.now.store.table id q → IsCell self.now.store.table q class result }
         ensures tag { HasItsMatchTag self.now.store.table result }
         ensures own { (q : Powerset) → Names self.now.store.table id q → IsOwn self.now.store.table.of.nfa q }
-        ensures stride { table_stride self.now.store.table.of ≤ 512 }
+        ensures stride { self.now.store.table.of.stride ≤ 512 }
     {
         self.see_bounds();
         self.store.table.cell_in_row(id, row, class)
@@ -264,10 +268,10 @@ impl Cache {
     /// Writes a transition.
     pub(crate) fn set_next(&mut self, id: LazyStateID, class: usize, next: LazyStateID)
         requires row { IsRowId self.old.store.table id }
-        requires class { class < table_stride self.old.store.table.of }
-        requires free { slice_index (template_of self.old.store.table.of) class ≡ unknown_id }
+        requires class { class < self.old.store.table.of.stride }
+        requires free { slice_index self.old.store.table.of.template class ≡ unknown_id }
         requires next { (q : Powerset) × Names self.old.store.table id q
-            × Leads self.old.store.table next (next_of self.old.store.table.of q class) }
+            × LeadsByClass self.old.store.table next q class }
         ensures { self.new ≡ with_store self.old (with_next self.old.store id class next) }
     {
         self.store.table.set_cell(id, class, next);
@@ -325,7 +329,7 @@ impl Cache {
     pub(crate) fn start_slot(&self, slot: usize) -> LazyStateID
         requires { slot < length self.now.store.starts }
         ensures value { result ≡ slice_index self.now.store.starts slot }
-        ensures leads { MayLead self.now.store.table result (start_of self.now.store.table.of slot) }
+        ensures leads { IsSlot self.now.store.table slot result }
         ensures tag { HasItsMatchTag self.now.store.table result }
     {
         self.see_bounds();
@@ -342,10 +346,11 @@ impl Cache {
         requires of { IsCacheOf self.old dfa.now }
         requires slot { (slot : ℕ) × IsStartSlot dfa.now mode prev slot }
         ensures value { IfOk result (λ k. k ≡ start_state_of dfa.now.nfa mode prev) }
-        ensures cost { IfOk result (λ k. cost k ≤ greatest dfa.now) }
+        ensures cost { IfOk result (λ k. cost k ≤ dfa.now.greatest) }
         ensures is_of { IfOk result (λ k. IsStateOf dfa.now k) }
         ensures counted { self.new ≡ counted self.old }
     {
+        dfa.see_machine();
         let key = start_key(dfa.get_nfa(), &mut self.scratch, mode, prev)?;
         Ok(key)
     }
@@ -353,7 +358,7 @@ impl Cache {
     /// Writes a start slot.
     pub(crate) fn set_start(&mut self, slot: usize, id: LazyStateID)
         requires slot { slot < length self.old.store.starts }
-        requires leads { Leads self.old.store.table id (start_of self.old.store.table.of slot) }
+        requires leads { LeadsToStart self.old.store.table id slot }
         ensures value { self.new ≡ with_store self.old (with_start self.old.store slot id) }
         ensures written { slice_index self.new.store.starts slot ≡ id }
     {
@@ -407,7 +412,7 @@ impl Cache {
 
     /// The ID of the dead state.
     pub(crate) fn dead(&self) -> LazyStateID
-        ensures { result ≡ dead_id (table_stride self.now.store.table.of) }
+        ensures { result ≡ dead_id self.now.store.table.of.stride }
     {
         LazyStateID::dead(self.store.table.stride() as u32)
     }

@@ -3,9 +3,8 @@
 ghost use Rattle.std.specs.Prelude.{◌≡◌, ◌+◌, ◌*◌, ◌^◌, ◌<◌, None, IfOk, OnOk};
 ghost use Rattle.std.specs.Prelude.{OnErr, length, sum_by};
 ghost use Rattle.automata_base.specs.Powersets.Powerset.{Powerset};
-ghost use Rattle.automata_hybrid.specs.Machines.Machine.{greatest, start_of, table_stride};
-ghost use Rattle.automata_hybrid.specs.Cache.Table.{id_of, Names, IsRowId, row_cost, MayLead};
-ghost use Rattle.automata_hybrid.specs.Cache.Clears.{AllStarts, IsPut, KeepsSlot, KeepsAllStarts};
+ghost use Rattle.automata_hybrid.specs.Cache.Table.{id_of, Names, IsRowId, row_cost};
+ghost use Rattle.automata_hybrid.specs.Cache.Clears.{AllStarts, IsPut, KeepsSlot, KeepsAllStarts, IsSlot};
 ghost use Rattle.automata_hybrid.specs.Cache.Ids.{offset_limit};
 
 use crate::dfa::table::Table;
@@ -18,7 +17,7 @@ pub fn keep_row(kept: &mut Table, old: &Table, id: LazyStateID) -> Result<LazySt
     requires valid { IsRowId old.now id }
     requires of { kept.old.of ≡ old.now.of }
     requires fits { length kept.old.cells < offset_limit }
-    requires costs { sum_by row_cost kept.old.rows + greatest old.now.of < 2 ^ 64 }
+    requires costs { sum_by row_cost kept.old.rows + old.now.of.greatest < 2 ^ 64 }
     ensures row { IfOk result (λ n. IsPut old.now kept.old kept.new id n) }
     ensures named { IfOk result (λ n. (q : Powerset) → Names old.now id q → Names kept.new n q) }
     ensures absent { OnOk result ((q : Powerset) → id_of old.now q ≡ None → id_of kept.old q ≡ None
@@ -42,11 +41,11 @@ pub fn keep_slot(
     old: &Table,
     id: LazyStateID,
 ) -> Result<(), AllocError>
-    requires leads { MayLead old.now id (start_of old.now.of (length slots.old.items)) }
+    requires leads { IsSlot old.now (length slots.old.items) id }
     requires named { AllStarts kept.old slots.old.items }
     requires of { kept.old.of ≡ old.now.of }
     requires fits { length kept.old.cells < offset_limit }
-    requires costs { sum_by row_cost kept.old.rows + greatest old.now.of < 2 ^ 64 }
+    requires costs { sum_by row_cost kept.old.rows + old.now.of.greatest < 2 ^ 64 }
     ensures { OnOk result (KeepsSlot old.now id (record { table = kept.old; starts = slots.old.items })
         (record { table = kept.new; starts = slots.new.items })) }
 {
@@ -69,8 +68,8 @@ pub fn keep_starts(
 ) -> Result<(Table, Vec<LazyStateID>), AllocError>
     requires of { dfa.now ≡ old.now.of }
     requires named { AllStarts old.now starts.now }
-    requires offsets { (length starts.now + 3) * table_stride old.now.of < offset_limit }
-    requires costs { (length starts.now + 1) * greatest old.now.of < 2 ^ 64 }
+    requires offsets { (length starts.now + 3) * old.now.of.stride < offset_limit }
+    requires costs { (length starts.now + 1) * old.now.of.greatest < 2 ^ 64 }
     ensures { IfOk result (λ p. KeepsAllStarts old.now starts.now (record { table = p.0; starts = p.1.items })) }
 {
     let mut table = old.emptied(dfa)?;

@@ -8,17 +8,18 @@ ghost use Rattle.std.specs.Prelude.{length};
 ghost use Rattle.automata_base.specs.Powersets.Powerset.{Powerset};
 ghost use Rattle.automata_base.specs.ByteClasses.Classes.{AreClasses, class_in, eoi_class, is_quit};
 ghost use Rattle.automata_base.specs.Retraced.Steps.{successor};
+ghost use Rattle.automata_base.specs.Powersets.Passes.{IsUnit};
 ghost use Rattle.automata_hybrid.specs.Machines.OwnStates.{IsOwn};
 ghost use Rattle.automata_base.specs.Powersets.Accounting.{start_slots};
 ghost use Rattle.automata_hybrid.specs.Cache.Ids.{quit_id, unknown_id};
-ghost use Rattle.automata_hybrid.specs.Machines.Machine.{IsMachine, next_of, template_of, table_stride, slot_count};
+ghost use Rattle.automata_hybrid.specs.Machines.Machine.{IsMachine};
 ghost use Rattle.automata_config.specs.Settling.{IsSettled};
 ghost use Rattle.automata_config.specs.Options.{unset, match_kind_of};
 ghost use Rattle.automata_hybrid.specs.Cache.Caches.{fresh_cache};
 ghost use Rattle.automata_hybrid.specs.Machines.Builds.{built_machine};
 ghost use Rattle.automata_hybrid.specs.Cache.Stores.{fresh_store, settings_of};
 ghost use Rattle.automata_config.specs.Options.{starts_for_each_pattern_of};
-ghost use Rattle.automata_hybrid.specs.Steps.Steps.{quits_on, unit_class};
+ghost use Rattle.automata_hybrid.specs.Machines.Machine.{quits_on, unit_class};
 
 pub mod builder;
 pub mod cache;
@@ -189,13 +190,11 @@ impl DFA {
     #[inline(always)]
     pub(crate) fn class_of(&self, byte: u8) -> usize
         ensures value { result ≡ class_in self.now.classes byte }
-        ensures below { result < table_stride self.now }
-        ensures small { table_stride self.now ≤ 512 }
+        ensures below { result < self.now.stride }
+        ensures small { self.now.stride ≤ 512 }
         ensures quit { is_quit self.now.quits byte ≡ true
-            → slice_index (template_of self.now) result ≡ quit_id (table_stride self.now) }
-        ensures free { is_quit self.now.quits byte ≡ false → slice_index (template_of self.now) result ≡ unknown_id }
-        ensures alike { (q : Powerset) → IsOwn self.now.nfa q
-            → successor self.now.nfa (match_kind_of self.now.config) q (Some byte) ≡ next_of self.now q result }
+            → slice_index self.now.template result ≡ quit_id self.now.stride }
+        ensures free { is_quit self.now.quits byte ≡ false → slice_index self.now.template result ≡ unknown_id }
     {
         usize::from(self.classes.get(byte))
     }
@@ -203,11 +202,9 @@ impl DFA {
     /// The class of the haystack's end.
     pub(crate) fn end_class(&self) -> usize
         ensures value { result ≡ eoi_class self.now.classes }
-        ensures below { result < table_stride self.now }
-        ensures small { table_stride self.now ≤ 512 }
-        ensures free { slice_index (template_of self.now) result ≡ unknown_id }
-        ensures alike { (q : Powerset) → IsOwn self.now.nfa q
-            → successor self.now.nfa (match_kind_of self.now.config) q None ≡ next_of self.now q result }
+        ensures below { result < self.now.stride }
+        ensures small { self.now.stride ≤ 512 }
+        ensures free { slice_index self.now.template result ≡ unknown_id }
     {
         self.classes.eoi()
     }
@@ -216,13 +213,12 @@ impl DFA {
     #[inline(always)]
     pub(crate) fn unit_class(&self, unit: Option<u8>) -> usize
         ensures value { result ≡ unit_class self.now unit }
-        ensures below { result < table_stride self.now }
-        ensures small { table_stride self.now ≤ 512 }
+        ensures unit { IsUnit unit }
+        ensures below { result < self.now.stride }
+        ensures small { self.now.stride ≤ 512 }
         ensures quit { quits_on self.now unit ≡ true
-            → slice_index (template_of self.now) result ≡ quit_id (table_stride self.now) }
-        ensures free { quits_on self.now unit ≡ false → slice_index (template_of self.now) result ≡ unknown_id }
-        ensures alike { (q : Powerset) → IsOwn self.now.nfa q
-            → successor self.now.nfa (match_kind_of self.now.config) q unit ≡ next_of self.now q result }
+            → slice_index self.now.template result ≡ quit_id self.now.stride }
+        ensures free { quits_on self.now unit ≡ false → slice_index self.now.template result ≡ unknown_id }
     {
         match unit {
             Some(byte) => self.class_of(byte),
@@ -234,10 +230,10 @@ impl DFA {
     pub(crate) fn see_machine(&self)
         ensures machine { IsMachine self.now }
         ensures rising { AreClasses self.now.classes }
-        ensures bytes { (byte : ℕ) → byte < 256 → class_in self.now.classes byte < table_stride self.now }
-        ensures end { eoi_class self.now.classes < table_stride self.now }
-        ensures number { slot_count self.now ≡ start_slots self.now.nfa (starts_for_each_pattern_of self.now.config) }
-        ensures fits { slot_count self.now < 2 ^ 64 }
+        ensures bytes { (byte : ℕ) → byte < 256 → class_in self.now.classes byte < self.now.stride }
+        ensures end { eoi_class self.now.classes < self.now.stride }
+        ensures number { self.now.slots ≡ start_slots self.now.nfa (starts_for_each_pattern_of self.now.config) }
+        ensures fits { self.now.slots < 2 ^ 64 }
     {
         let _len = self.classes.alphabet_len();
     }

@@ -6,7 +6,6 @@ ghost use Rattle.automata_base.specs.ByteClasses.LookBehind.{behind_of};
 ghost use Rattle.automata_base.specs.Powersets.Powerset.{dead};
 ghost use Rattle.automata_base.specs.ByteClasses.Classes.{is_quit};
 ghost use Rattle.automata_base.specs.Retraced.Steps.{start_state_of};
-ghost use Rattle.automata_hybrid.specs.Machines.Machine.{slot_count};
 ghost use Rattle.automata_base.specs.Haystacks.Tapes.{byte_before};
 ghost use Rattle.std.specs.Prelude.{slice_get, false};
 ghost use Rattle.automata_hybrid.specs.Steps.Starts.{quit_behind, start_refusal, search_refusal, KnowsStart};
@@ -156,11 +155,11 @@ impl DFA {
 
     /// The start slot of a group, after a look-behind byte of a kind.
     fn slot(&self, group: usize, kind: usize) -> usize
-        requires room { group * 6 + 6 ≤ slot_count self.now }
+        requires room { group * 6 + 6 ≤ self.now.slots }
         requires kind { kind < 6 }
-        requires fits { slot_count self.now < 2 ^ 64 }
+        requires fits { self.now.slots < 2 ^ 64 }
         ensures value { result ≡ group * 6 + kind }
-        ensures within { result < slot_count self.now }
+        ensures within { result < self.now.slots }
     {
         group * GROUP + kind
     }
@@ -168,12 +167,12 @@ impl DFA {
     /// The start slot of an anchored mode. A pattern past the last one has none.
     #[inline(always)]
     fn mode_slot(&self, mode: Anchored, prev: Option<u8>) -> Result<Option<usize>, StartError>
-        ensures within { IfOk result (λ o. IfSome o (λ slot. slot < slot_count self.now)) }
+        ensures within { IfOk result (λ o. IfSome o (λ slot. slot < self.now.slots)) }
         ensures past { IfOk result (λ o. IfNone o (start_state_of self.now.nfa mode prev ≡ dead)) }
         ensures slot { IfOk result (λ o. IfSome o
             (λ slot. slot ≡ slot_of mode (behind_of self.now.nfa.flags.line_terminator prev))) }
         ensures behind { IfOk result
-            (λ o. IfNone o (slot_count self.now ≤ slot_of mode (behind_of self.now.nfa.flags.line_terminator prev))) }
+            (λ o. IfNone o (self.now.slots ≤ slot_of mode (behind_of self.now.nfa.flags.line_terminator prev))) }
         ensures refused { (result ≡ Err (StartError.UnsupportedAnchored mode)) ↔ (supports self.now mode ≡ false) }
         ensures only { IfErr result (λ e. e ≡ StartError.UnsupportedAnchored mode) }
     {

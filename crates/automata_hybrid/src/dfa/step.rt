@@ -4,14 +4,14 @@ ghost use Rattle.std.specs.Prelude.{◌≡◌, ◌%◌, ◌<◌, None, Some, IfO
 ghost use Rattle.std.specs.Prelude.{slice_index, true, false};
 ghost use Rattle.automata_base.specs.Powersets.Powerset.{Powerset};
 ghost use Rattle.automata_base.specs.Retraced.Steps.{successor};
-ghost use Rattle.automata_hybrid.specs.Machines.Machine.{table_stride};
 ghost use Rattle.automata_hybrid.specs.Cache.Table.{Names, IsRowId, Leads, HasItsMatchTag};
 ghost use Rattle.automata_hybrid.specs.Cache.Stores.{cell_of};
 ghost use Rattle.automata_hybrid.specs.Cache.Caches.{HoldsRow, IsCacheOf};
 ghost use Rattle.automata_hybrid.specs.Cache.Ids.{quit_id, unknown_id, offset_limit, HasMatchTag};
 ghost use Rattle.automata_base.specs.ByteClasses.Classes.{class_in, is_quit};
 ghost use Rattle.automata_hybrid.specs.Steps.BySteps.{StepsOn};
-ghost use Rattle.automata_hybrid.specs.Steps.Steps.{IsStepAnswer, IsStepRefused, IsStepEffect, KnowsStep, quits_on};
+ghost use Rattle.automata_hybrid.specs.Steps.Steps.{IsStepAnswer, IsStepRefused, IsStepEffect, KnowsStep};
+ghost use Rattle.automata_hybrid.specs.Machines.Machine.{quits_on};
 ghost use Rattle.automata_config.specs.Options.{match_kind_of};
 
 use crate::dfa::DFA;
@@ -71,7 +71,7 @@ impl Cache {
     {
         self.see_bounds();
         let class = dfa.unit_class(unit);
-        let key = self.determinize(dfa, id, class, unit)?;
+        let key = self.determinize(dfa, id, unit)?;
         match self.resolve(dfa, key)? {
             Found::Known(to) => {
                 self.set_next(id, class, to);
@@ -149,7 +149,7 @@ impl DFA {
         requires row { HoldsRow cache.now id }
         requires untagged { id < offset_limit }
         ensures value { result ≡ cell_of cache.now.store id (class_in self.now.classes byte) }
-        ensures quit { is_quit self.now.quits byte ≡ true → result ≡ quit_id (table_stride self.now) }
+        ensures quit { is_quit self.now.quits byte ≡ true → result ≡ quit_id self.now.stride }
         ensures named { is_quit self.now.quits byte ≡ false → result < unknown_id → (q : Powerset)
             → Names cache.now.store.table id q
             → Leads cache.now.store.table result
@@ -166,8 +166,8 @@ impl DFA {
         requires of { IsCacheOf cache.now self.now }
         requires valid { IsRowId cache.now.store.table id }
         ensures value { result ≡ cell_of cache.now.store id (class_in self.now.classes byte) }
-        ensures below { class_in self.now.classes byte < table_stride self.now }
-        ensures quit { is_quit self.now.quits byte ≡ true → result ≡ quit_id (table_stride self.now) }
+        ensures below { class_in self.now.classes byte < self.now.stride }
+        ensures quit { is_quit self.now.quits byte ≡ true → result ≡ quit_id self.now.stride }
         ensures named { is_quit self.now.quits byte ≡ false → result < unknown_id
             → (q : Powerset) → Names cache.now.store.table id q
             → Leads cache.now.store.table result
@@ -191,8 +191,8 @@ impl DFA {
         requires valid { IsRowId cache.now.store.table id }
         requires offset { row ≡ id % offset_limit }
         ensures value { result ≡ cell_of cache.now.store id (class_in self.now.classes byte) }
-        ensures below { class_in self.now.classes byte < table_stride self.now }
-        ensures quit { is_quit self.now.quits byte ≡ true → result ≡ quit_id (table_stride self.now) }
+        ensures below { class_in self.now.classes byte < self.now.stride }
+        ensures quit { is_quit self.now.quits byte ≡ true → result ≡ quit_id self.now.stride }
         ensures named { is_quit self.now.quits byte ≡ false → result < unknown_id
             → (q : Powerset) → Names cache.now.store.table id q
             → Leads cache.now.store.table result

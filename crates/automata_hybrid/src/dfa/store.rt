@@ -6,7 +6,7 @@ ghost use Rattle.std.specs.Prelude.{true};
 ghost use Rattle.automata_base.specs.Powersets.Powerset.{Powerset, cost};
 ghost use Rattle.automata_base.specs.Powersets.Accounting.{minimum_capacity};
 ghost use Rattle.automata_hybrid.specs.Cache.Ids.{offset_limit};
-ghost use Rattle.automata_hybrid.specs.Machines.Machine.{IsTemplate, greatest, slot_count, table_stride, template_of};
+ghost use Rattle.automata_hybrid.specs.Machines.Machine.{IsTemplate};
 ghost use Rattle.automata_hybrid.specs.Cache.Table.{id_of, Names, IsNewState, IsRowId};
 ghost use Rattle.automata_hybrid.specs.Cache.Clears.{row_of};
 ghost use Rattle.automata_hybrid.specs.Cache.Stores.{with_table, IsCacheError, fresh_store, settings_of};
@@ -74,11 +74,11 @@ impl Store {
         settings: Settings,
     ) -> Result<Store, AllocError>
         requires whole { IsTemplate stride template.items }
-        requires stride { stride ≡ table_stride dfa.now }
-        requires template { template.items ≡ template_of dfa.now }
-        requires slots { slots ≡ slot_count dfa.now }
+        requires stride { stride ≡ dfa.now.stride }
+        requires template { template.items ≡ dfa.now.template }
+        requires slots { slots ≡ dfa.now.slots }
         requires settings { settings ≡ settings_of dfa.now }
-        requires enough { minimum_capacity stride slots (greatest dfa.now) settings.fixed ≤ settings.capacity }
+        requires enough { minimum_capacity stride slots dfa.now.greatest settings.fixed ≤ settings.capacity }
         requires offsets { (slots + 4) * stride < offset_limit }
         ensures { IfOk result (λ c. c ≡ fresh_store dfa.now) }
     {
@@ -115,16 +115,16 @@ impl Store {
 
     /// The accounted bytes of a new state. They are counted once, for all calls that need them.
     pub fn cost_of(&self, state: &State) -> usize
-        requires { cost state.now ≤ greatest self.now.table.of }
+        requires { cost state.now ≤ self.now.table.of.greatest }
         ensures { result ≡ cost state.now }
     {
-        let _within = self.memory_usage();
+        let _capacity = self.settings.capacity;
         row::cost(state)
     }
 
     /// Whether a new state of so many bytes fits.
     pub fn fits(&self, bytes: usize) -> bool
-        requires { bytes ≤ greatest self.now.table.of }
+        requires { bytes ≤ self.now.table.of.greatest }
         ensures { IsTrue result ↔ Fits self.now bytes }
     {
         let used = self.memory_usage();
@@ -151,7 +151,7 @@ impl Store {
 
     /// Whether a search gives up at a state that no row has: it does not fit, and no clear is allowed for it.
     pub fn gives_up(&self, state: &State) -> bool
-        requires { cost state.now ≤ greatest self.now.table.of }
+        requires { cost state.now ≤ self.now.table.of.greatest }
         ensures { IsTrue result ↔ ((Fits self.now (cost state.now) → ⊥) × (refuses_to_clear self.now ≡ true)) }
     {
         !self.fits(self.cost_of(state)) && self.refuses()

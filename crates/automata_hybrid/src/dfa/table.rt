@@ -6,10 +6,10 @@ ghost use Rattle.std.specs.Prelude.{◌↔◌, OnOk, OnErr, length, slice_index,
 ghost use Rattle.automata_base.specs.Powersets.Powerset.{Powerset, cost};
 ghost use Rattle.automata_base.specs.ByteClasses.Classes.{eoi_class, stride_for};
 ghost use Rattle.automata_base.specs.Powersets.Powerset.{dead};
+ghost use Rattle.automata_hybrid.specs.Machines.Reachable.{IsStateOf};
 ghost use Rattle.automata_hybrid.specs.Cache.Ids.{unknown_id, offset_limit};
-ghost use Rattle.automata_hybrid.specs.Machines.Machine.{IsStateOf, IsTemplate, greatest, marked, next_of};
-ghost use Rattle.automata_hybrid.specs.Machines.Machine.{table_stride, template_of};
-ghost use Rattle.automata_hybrid.specs.Cache.Table.{id_of, with_row, fresh, Names, Leads, row_cost, IsRowId, HasState};
+ghost use Rattle.automata_hybrid.specs.Machines.Machine.{IsTemplate, marked};
+ghost use Rattle.automata_hybrid.specs.Cache.Table.{id_of, with_row, fresh, Names, row_cost, IsRowId, HasState, LeadsByClass};
 ghost use Rattle.automata_hybrid.specs.Cache.Table.{IsNewState, IsSoundTable};
 ghost use Rattle.automata_hybrid.specs.Cache.Table.{IsCell, cell_at, with_cell};
 
@@ -97,7 +97,7 @@ impl Table {
     /// The number of rows.
     pub fn len(&self) -> usize
         ensures value { result ≡ length self.now.rows }
-        ensures whole { length self.now.cells ≡ (length self.now.rows + 3) * table_stride self.now.of }
+        ensures whole { length self.now.cells ≡ (length self.now.rows + 3) * self.now.of.stride }
     {
         self.rows.len()
     }
@@ -111,8 +111,8 @@ impl Table {
 
     /// How many cells a row has.
     pub fn stride(&self) -> usize
-        ensures value { result ≡ table_stride self.now.of }
-        ensures template { IsTemplate (table_stride self.now.of) (template_of self.now.of) }
+        ensures value { result ≡ self.now.of.stride }
+        ensures template { IsTemplate self.now.of.stride self.now.of.template }
     {
         self.stride
     }
@@ -129,7 +129,7 @@ impl Table {
         requires { IsRowId self.now id }
         ensures named { (q : Powerset) → Names self.now id q → result.now ≡ q }
         ensures of { IsStateOf self.now.of result.now }
-        ensures cost { cost result.now ≤ greatest self.now.of }
+        ensures cost { cost result.now ≤ self.now.of.greatest }
     {
         let index = self.row_index(id);
         let row = &self.rows[index];
@@ -139,7 +139,7 @@ impl Table {
     /// The accounted bytes of all rows' states.
     pub fn costs(&self) -> usize
         ensures value { result ≡ sum_by row_cost self.now.rows }
-        ensures most { sum_by row_cost self.now.rows ≤ length self.now.rows * greatest self.now.of }
+        ensures most { sum_by row_cost self.now.rows ≤ length self.now.rows * self.now.of.greatest }
     {
         self.costs
     }
@@ -189,8 +189,8 @@ impl Table {
         room: usize,
     ) -> Result<Table, AllocError>
         requires whole { IsTemplate stride template.items }
-        requires stride { stride ≡ table_stride dfa.now }
-        requires template { template.items ≡ template_of dfa.now }
+        requires stride { stride ≡ dfa.now.stride }
+        requires template { template.items ≡ dfa.now.template }
         requires room { (room + 3) * stride < 2 ^ 64 }
         ensures { IfOk result (λ t. t ≡ fresh dfa.now) }
     {
@@ -225,7 +225,7 @@ impl Table {
     /// The index of the row that has this ID.
     pub fn row_index(&self, id: LazyStateID) -> usize
         requires { IsRowId self.now id }
-        ensures value { result ≡ (id % offset_limit) / table_stride self.now.of - 3 }
+        ensures value { result ≡ (id % offset_limit) / self.now.of.stride - 3 }
         ensures row { (q : Powerset) → Names self.now id q → HasState self.now result q }
         ensures within { result < length self.now.rows }
     {
@@ -252,11 +252,11 @@ impl Table {
     #[inline(always)]
     pub fn cell_in_row(&self, id: LazyStateID, row: usize, class: usize) -> LazyStateID
         requires row { IsRowId self.now id }
-        requires class { class < table_stride self.now.of }
+        requires class { class < self.now.of.stride }
         requires offset { row ≡ id % offset_limit }
         ensures value { result ≡ slice_index self.now.cells (cell_at id class) }
         ensures named { (q : Powerset) → Names self.now id q → IsCell self.now q class result }
-        ensures stride { table_stride self.now.of ≤ 512 }
+        ensures stride { self.now.of.stride ≤ 512 }
     {
         cell_in(self.cells.as_slice(), row, class)
     }
@@ -264,9 +264,9 @@ impl Table {
     /// Writes a transition.
     pub fn set_cell(&mut self, id: LazyStateID, class: usize, next: LazyStateID)
         requires row { IsRowId self.old id }
-        requires class { class < table_stride self.old.of }
-        requires free { slice_index (template_of self.old.of) class ≡ unknown_id }
-        requires next { (q : Powerset) × Names self.old id q × Leads self.old next (next_of self.old.of q class) }
+        requires class { class < self.old.of.stride }
+        requires free { slice_index self.old.of.template class ≡ unknown_id }
+        requires next { (q : Powerset) × Names self.old id q × LeadsByClass self.old next q class }
         ensures { self.new ≡ with_cell self.old id class next }
     {
         self.cells[id.offset() as usize + class] = next;
@@ -278,7 +278,7 @@ impl Table {
         ensures value { IfOk result (λ r. slice_get self.now.rows row ≡ Some r) }
         ensures alive { IfOk result (λ r. r.state ≡ dead → ⊥) }
         ensures had { IfOk result (λ r. id_of self.now r.state ≡ None → ⊥) }
-        ensures cost { IfOk result (λ r. cost r.state ≤ greatest self.now.of) }
+        ensures cost { IfOk result (λ r. cost r.state ≤ self.now.of.greatest) }
         ensures of { IfOk result (λ r. IsStateOf self.now.of r.state) }
     {
         let row = &self.rows[row];

@@ -7,9 +7,9 @@ ghost use Rattle.automata_hybrid.specs.Cache.Table.{IsRowId, Names};
 ghost use Rattle.automata_hybrid.specs.Searches.PassContracts.{IsKnownEnd, IsKnownUpto, IsUnderway};
 ghost use Rattle.automata_hybrid.specs.Searches.PassState.{IsMet};
 ghost use Rattle.automata_hybrid.specs.Searches.Passes.{state_in, tape_in};
-ghost use Rattle.automata_hybrid.specs.Machines.Machine.{table_stride};
 ghost use Rattle.automata_hybrid.specs.Steps.Starts.{IsStartAnswer, IsStartEffect};
-ghost use Rattle.automata_hybrid.specs.Steps.Steps.{IsStepAnswer, known_step, unit_class};
+ghost use Rattle.automata_hybrid.specs.Steps.Steps.{IsStepAnswer, known_step};
+ghost use Rattle.automata_hybrid.specs.Machines.Machine.{unit_class};
 
 use crate::dfa::DFA;
 use crate::dfa::cache::Cache;
@@ -80,7 +80,7 @@ impl DFA {
         requires valid { IsRowId cache.now.store.table id }
         ensures value { result ≡ known_step self.now cache.now.store id unit }
         ensures answer { result < unknown_id → IsStepAnswer self.now id unit cache.now cache.now result }
-        ensures below { unit_class self.now unit < table_stride self.now }
+        ensures below { unit_class self.now unit < self.now.stride }
     {
         cache.see_bounds();
         cache.cell(id, self.unit_class(unit))
@@ -108,7 +108,7 @@ impl DFA {
         ensures answer { result < unknown_id → IsStepAnswer self.now id
             (next (tape_in way input.now) at) cache.now cache.now result }
         ensures below { result < unknown_id
-            → unit_class self.now (next (tape_in way input.now) at) < table_stride self.now }
+            → unit_class self.now (next (tape_in way input.now) at) < self.now.stride }
     {
         if met.is_unknown() {
             if at < last_place(input) {

@@ -2,7 +2,6 @@
 ghost use Rattle.std.specs.Prelude.{◌≡◌, ◌+◌, ◌<◌, ◌≤◌, ℕ, IsTrue};
 ghost use Rattle.automata_hybrid.specs.Cache.Caches.{IsCacheOf};
 ghost use Rattle.automata_hybrid.specs.Cache.Ids.{fixed_from};
-ghost use Rattle.automata_hybrid.specs.Machines.Machine.{table_stride};
 ghost use Rattle.automata_hybrid.specs.Searches.SelfLoops.{IsLoopRange, LoopsOn};
 ghost use Rattle.automata_hybrid.specs.Cache.Table.{IsRowId};
 
@@ -92,7 +91,7 @@ impl DFA {
     fn classes_around(&self, cache: &Cache, id: LazyStateID, class: usize) -> (usize, usize, u16)
         requires of { IsCacheOf cache.now self.now }
         requires valid { IsRowId cache.now.store.table id }
-        requires class { class < table_stride self.now }
+        requires class { class < self.now.stride }
     {
         let end = self.end_class();
         let mut first = class;

@@ -53,7 +53,7 @@ loop-read-preserved c =
       clean = subst (HasReadNoQuit d c.args.self.now c.args.input.now) more clean;
       silent = subst (IsSilent d c.args.self.now c.args.input.now c.args.units) more silent;
       progress = subst (λ n. AreReadTo d c.args.self.now c.args.input.now c.args.units n c.args.cache.now c.read_unit.new.cache) more
-          (read_then d c.args.self.now c.args.input.now c.args.units c.args.cache.now (is_store c.args.cache.now.store c.args.self.now c.requires.of c.see_bounds.ensures.bounds, c.see_bounds.ensures.sound) c.loop-read.read k c.loop-read.cache c.loop-read.invariant.of (read_exactly d c.args.self.now c.args.input.now c.args.units c.args.cache.now c.loop-read.read c.loop-read.cache c.loop-read.invariant.progress) f.more (followed_clean f c.loop-read.invariant.clean) (λ j l h. (f.taken j l h).known) c.read_unit.new.cache c.in_ok-next.ensures.effect.read);
+          (read_then d c.args.self.now c.args.input.now c.args.units c.args.cache.now (is_store c.args.cache.now.store c.args.self.now c.requires.of c.see_bounds.ensures.bounds) c.loop-read.read k c.loop-read.cache c.loop-read.invariant.of (read_exactly d c.args.self.now c.args.input.now c.args.units c.args.cache.now c.loop-read.read c.loop-read.cache c.loop-read.invariant.progress) f.more (followed_clean f c.loop-read.invariant.clean) (λ j l h. (f.taken j l h).known) c.read_unit.new.cache c.in_ok-next.ensures.effect.read);
       reads = λ less. (k, sym more, c.in_ok-next.ensures.reads);
     }
 
@@ -106,7 +106,7 @@ returns-in_err-next-clause-effect c =
       left =
           call_stopped d c.args.self.now c.args.input.now c.args.units k c.args.cache.now c.read_unit.new.cache c.in_err-next.field-0.0 c.in_err-next.ensures.reads
           (followed_clean f c.loop-read.invariant.clean) (followed_silent f c.loop-read.invariant.silent) c.in_err-next.ensures.refusal
-          (left_then d c.args.self.now c.args.input.now c.args.units c.args.cache.now (is_store c.args.cache.now.store c.args.self.now c.requires.of c.see_bounds.ensures.bounds, c.see_bounds.ensures.sound) c.loop-read.read k c.loop-read.cache c.loop-read.invariant.of (read_exactly d c.args.self.now c.args.input.now c.args.units c.args.cache.now c.loop-read.read c.loop-read.cache c.loop-read.invariant.progress) f.more (followed_clean f c.loop-read.invariant.clean) (λ j l h. (f.taken j l h).known) c.read_unit.new.cache c.in_err-next.ensures.effect.left);
+          (left_then d c.args.self.now c.args.input.now c.args.units c.args.cache.now (is_store c.args.cache.now.store c.args.self.now c.requires.of c.see_bounds.ensures.bounds) c.loop-read.read k c.loop-read.cache c.loop-read.invariant.of (read_exactly d c.args.self.now c.args.input.now c.args.units c.args.cache.now c.loop-read.read c.loop-read.cache c.loop-read.invariant.progress) f.more (followed_clean f c.loop-read.invariant.clean) (λ j l h. (f.taken j l h).known) c.read_unit.new.cache c.in_err-next.ensures.effect.left);
     })
 
 pub returns-then-is_dead-clause-effect : goal.returns-then-is_dead-clause-effect
@@ -117,7 +117,7 @@ returns-then-is_dead-clause-effect c =
     record {
       read =
           arrived_read d c.args.self.now c.args.input.now c.args.units k (k + 1) c.args.cache.now c.read_unit.new.cache (omega (arith, c.loop-read.invariant.from, f.more)) (omega arith) c.in_ok-next.ensures.reads
-          (read_then d c.args.self.now c.args.input.now c.args.units c.args.cache.now (is_store c.args.cache.now.store c.args.self.now c.requires.of c.see_bounds.ensures.bounds, c.see_bounds.ensures.sound) c.loop-read.read k c.loop-read.cache c.loop-read.invariant.of (read_exactly d c.args.self.now c.args.input.now c.args.units c.args.cache.now c.loop-read.read c.loop-read.cache c.loop-read.invariant.progress) f.more (followed_clean f c.loop-read.invariant.clean) (λ j l h. (f.taken j l h).known) c.read_unit.new.cache c.in_ok-next.ensures.effect.read);
+          (read_then d c.args.self.now c.args.input.now c.args.units c.args.cache.now (is_store c.args.cache.now.store c.args.self.now c.requires.of c.see_bounds.ensures.bounds) c.loop-read.read k c.loop-read.cache c.loop-read.invariant.of (read_exactly d c.args.self.now c.args.input.now c.args.units c.args.cache.now c.loop-read.read c.loop-read.cache c.loop-read.invariant.progress) f.more (followed_clean f c.loop-read.invariant.clean) (λ j l h. (f.taken j l h).known) c.read_unit.new.cache c.in_ok-next.ensures.effect.read);
       left = tt;
     }
 
@@ -129,7 +129,7 @@ returns-then-reports-clause-effect c =
     record {
       read =
           arrived_read d c.args.self.now c.args.input.now c.args.units k (k + 1) c.args.cache.now c.read_unit.new.cache (omega (arith, c.loop-read.invariant.from, f.more)) (omega arith) c.in_ok-next.ensures.reads
-          (read_then d c.args.self.now c.args.input.now c.args.units c.args.cache.now (is_store c.args.cache.now.store c.args.self.now c.requires.of c.see_bounds.ensures.bounds, c.see_bounds.ensures.sound) c.loop-read.read k c.loop-read.cache c.loop-read.invariant.of (read_exactly d c.args.self.now c.args.input.now c.args.units c.args.cache.now c.loop-read.read c.loop-read.cache c.loop-read.invariant.progress) f.more (followed_clean f c.loop-read.invariant.clean) (λ j l h. (f.taken j l h).known) c.read_unit.new.cache c.in_ok-next.ensures.effect.read);
+          (read_then d c.args.self.now c.args.input.now c.args.units c.args.cache.now (is_store c.args.cache.now.store c.args.self.now c.requires.of c.see_bounds.ensures.bounds) c.loop-read.read k c.loop-read.cache c.loop-read.invariant.of (read_exactly d c.args.self.now c.args.input.now c.args.units c.args.cache.now c.loop-read.read c.loop-read.cache c.loop-read.invariant.progress) f.more (followed_clean f c.loop-read.invariant.clean) (λ j l h. (f.taken j l h).known) c.read_unit.new.cache c.in_ok-next.ensures.effect.read);
       left = tt;
     }
 

@@ -54,7 +54,7 @@ returns-in_err-go_on-clause-effect c =
     let left = left_by (keeping_of c.walk.held) Ids Forward m input walk c.go_on.new.walk c.walk.cache c.go_on.new.cache c.in_err-go_on.field-0.0 v.keeping c.in_err-go_on.ensures.effect in
     at_err c.from_residual.result _ (λ (r : Result (Unit {0}) SearchError). IsSetRun m input c.args.patset.now c.walk.patset c.args.cache.now new (result_err r)) c.from_residual.ensures.1
     (record {
-      of = (is_store c.args.cache.now.store c.args.self.now c.requires c.see_bounds.ensures.bounds, c.see_bounds.ensures.sound);
+      of = (is_store c.args.cache.now.store c.args.self.now c.requires c.see_bounds.ensures.bounds);
       run = (j.k, walk, mid, v.joins.1, open_after m input walk c.args.patset.now c.walk.patset j, j.joined, v.there, left);
     })
 
@@ -95,7 +95,7 @@ returns-in_default-clause-effect c =
     let after = (a.reports j.k j.reported).1 list.0 list.1 in
     let last : next.stage ≡ Ended = after.1 (half_none list.0 j.k (sym after.0 ∙ (sym c.get_match.ensures ∙ c.in_default.«is»))) in
     record {
-      of = (is_store c.args.cache.now.store c.args.self.now c.requires c.see_bounds.ensures.bounds, c.see_bounds.ensures.sound);
+      of = (is_store c.args.cache.now.store c.args.self.now c.requires c.see_bounds.ensures.bounds);
       run = (
         suc j.k,
         next,
@@ -146,7 +146,7 @@ returns-then-is_full-clause-effect c =
     let a = c.in_ok-go_on.ensures.answer in
     let found : next.found ≡ Some c.in-Some.half = sym c.get_match.ensures ∙ c.in-Some.«is» in
     record {
-      of = (is_store c.args.cache.now.store c.args.self.now c.requires c.see_bounds.ensures.bounds, c.see_bounds.ensures.sound);
+      of = (is_store c.args.cache.now.store c.args.self.now c.requires c.see_bounds.ensures.bounds);
       run = (
         suc j.k,
         next,
@@ -200,7 +200,7 @@ returns-then-get_earliest-clause-effect c =
     let a = c.in_ok-go_on.ensures.answer in
     let found : next.found ≡ Some c.in-Some.half = sym c.get_match.ensures ∙ c.in-Some.«is» in
     record {
-      of = (is_store c.args.cache.now.store c.args.self.now c.requires c.see_bounds.ensures.bounds, c.see_bounds.ensures.sound);
+      of = (is_store c.args.cache.now.store c.args.self.now c.requires c.see_bounds.ensures.bounds);
       run = (
         suc j.k,
         next,

@@ -27,7 +27,7 @@ loop-at-init c =
       within = omega (arith, c.requires.at.within, c.last_place-last.ensures.place);
       at = c.requires.at.at.at;
       progress =
-          read_known d c.args.self.now c.args.input.now 0 c.args.cache.now (is_store c.args.cache.now.store c.args.self.now c.requires.of c.see_bounds.ensures.bounds, c.see_bounds.ensures.sound) 0 c.args.from c.args.cache.now c.requires.of
+          read_known d c.args.self.now c.args.input.now 0 c.args.cache.now (is_store c.args.cache.now.store c.args.self.now c.requires.of c.see_bounds.ensures.bounds) 0 c.args.from c.args.cache.now c.requires.of
           (read_exactly d c.args.self.now c.args.input.now 0 c.args.cache.now 0 c.args.cache.now
           (read_none d c.args.self.now c.args.input.now 0 c.args.cache.now c.args.cache.now refl))
           (omega arith) c.requires.at.at.at.clean (λ j from below. c.requires.at.known j below);
@@ -108,7 +108,7 @@ loop-at-preserved c =
       at = subst (λ n. IsAt d c.args.self.now c.read_met.new.cache.store.table c.args.input.now n c.in-Ok.next c.found_at-found.result) more (more_at d c.args.self.now c.loop-at.cache.store.table c.read_met.new.cache.store.table c.args.input.now k c.run-run.result.id c.in-Ok.next _ c.run-run.result.found c.found_at-found.result at read c.in-Ok.ensures.answer.named (quit_free c.args.self.now _ c.in-Ok.ensures.answer.clean) (c.place_offset.result, c.place_offset.ensures.value, c.found_at-found.ensures) first (λ l. (dead_tagged c.read_met.new.cache.store.table c.in-Ok.next (c.see_bounds-in-loop-at.ensures.sound.low c.in-Ok.next) c.see_bounds-in-loop-at.ensures.sound.small _ l).1 (λ b. false_true (c.if-is_dead.ensures.1 b))));
       progress = read_exactly d c.args.self.now c.args.input.now 0 c.args.cache.now (c.run-run.result.at + 1) c.read_met.new.cache
           (subst (λ n. AreReadTo d c.args.self.now c.args.input.now 0 n c.args.cache.now c.read_met.new.cache) more
-          (read_then d c.args.self.now c.args.input.now 0 c.args.cache.now (is_store c.args.cache.now.store c.args.self.now c.requires.of c.see_bounds.ensures.bounds, c.see_bounds.ensures.sound) c.loop-at.at k c.loop-at.cache c.loop-at.invariant.of c.loop-at.invariant.progress c.run-run.ensures.run.more at.clean c.run-run.ensures.run.known c.read_met.new.cache
+          (read_then d c.args.self.now c.args.input.now 0 c.args.cache.now (is_store c.args.cache.now.store c.args.self.now c.requires.of c.see_bounds.ensures.bounds) c.loop-at.at k c.loop-at.cache c.loop-at.invariant.of c.loop-at.invariant.progress c.run-run.ensures.run.more at.clean c.run-run.ensures.run.known c.read_met.new.cache
           (taken_here d c.args.self.now c.args.input.now k c.run-run.result.id (Some _) read c.byte_offset-offset.result c.loop-at.cache at.named given c.read_met.new.cache c.in-Ok.ensures.effect.taken)));
     }
 
@@ -131,7 +131,7 @@ returns-in-Err-clause-left c =
     (at_reads d c.args.self.now c.loop-at.cache.store.table c.args.input.now k c.run-run.result.id c.run-run.result.found at few c.in-Err.ensures.effect.alive) at.clean
     (unit_refuses d c.args.self.now c.loop-at.cache.store.table c.read_met.new.cache.store c.args.input.now k c.run-run.result.id c.byte_offset-offset.result c.byte_offset-offset.result _ c.run-run.result.found c.in-Err.error
     at read (sym c.byte_offset-offset.ensures.unit) given c.in-Err.ensures.refusal)
-    (pass_left_then d c.args.self.now c.args.input.now 0 c.args.cache.now (is_store c.args.cache.now.store c.args.self.now c.requires.of c.see_bounds.ensures.bounds, c.see_bounds.ensures.sound) c.loop-at.at k c.loop-at.cache c.loop-at.invariant.of c.loop-at.invariant.progress c.run-run.ensures.run.more at.clean c.run-run.ensures.run.known c.read_met.new.cache
+    (pass_left_then d c.args.self.now c.args.input.now 0 c.args.cache.now (is_store c.args.cache.now.store c.args.self.now c.requires.of c.see_bounds.ensures.bounds) c.loop-at.at k c.loop-at.cache c.loop-at.invariant.of c.loop-at.invariant.progress c.run-run.ensures.run.more at.clean c.run-run.ensures.run.known c.read_met.new.cache
     (inr (
       not_behind d c.args.input.now k inside (units_in d c.args.input.now c.requires.at.at.undone c.last_place-last.ensures.inside),
       refused_here d c.args.self.now c.args.input.now k c.run-run.result.id (Some _) read c.byte_offset-offset.result c.loop-at.cache at.named given c.read_met.new.cache c.in-Err.ensures.effect.left,
@@ -147,9 +147,9 @@ returns-then-is_dead-clause-ended c =
     let read : next (tape_in d c.args.input.now) k ≡ Some c.byte_at-byte.result = c.byte_at-byte.ensures in
     let few : k ≤ length (tape_in d c.args.input.now).bytes = (let u = units_in d c.args.input.now c.requires.at.at.undone c.last_place-last.ensures.inside in omega (arith, u, inside)) in
     let stops : Reads d c.args.self.now c.args.input.now (suc k) → ⊥ = stops_dead d c.args.self.now c.loop-at.cache.store.table c.read_met.new.cache.store.table c.args.input.now k c.run-run.result.id c.in-Ok.next _ c.run-run.result.found None at read c.in-Ok.ensures.answer.named (quit_free c.args.self.now _ c.in-Ok.ensures.answer.clean) (λ l. (dead_tagged c.read_met.new.cache.store.table c.in-Ok.next (c.see_bounds-in-loop-at.ensures.sound.low c.in-Ok.next) c.see_bounds-in-loop-at.ensures.sound.small _ l).0 (c.if-is_dead.ensures.0 refl)) (suc k) (omega arith) in
-    pass_last d c.args.self.now c.args.input.now k c.args.cache.now c.read_met.new.cache c.end_search.new.self (is_store c.args.cache.now.store c.args.self.now c.requires.of c.see_bounds.ensures.bounds, c.see_bounds.ensures.sound)
+    pass_last d c.args.self.now c.args.input.now k c.args.cache.now c.read_met.new.cache c.end_search.new.self (is_store c.args.cache.now.store c.args.self.now c.requires.of c.see_bounds.ensures.bounds)
     (at_reads d c.args.self.now c.loop-at.cache.store.table c.args.input.now k c.run-run.result.id c.run-run.result.found at few c.in-Ok.ensures.effect.alive) stops
-    (read_then d c.args.self.now c.args.input.now 0 c.args.cache.now (is_store c.args.cache.now.store c.args.self.now c.requires.of c.see_bounds.ensures.bounds, c.see_bounds.ensures.sound) c.loop-at.at k c.loop-at.cache c.loop-at.invariant.of c.loop-at.invariant.progress c.run-run.ensures.run.more at.clean c.run-run.ensures.run.known c.read_met.new.cache
+    (read_then d c.args.self.now c.args.input.now 0 c.args.cache.now (is_store c.args.cache.now.store c.args.self.now c.requires.of c.see_bounds.ensures.bounds) c.loop-at.at k c.loop-at.cache c.loop-at.invariant.of c.loop-at.invariant.progress c.run-run.ensures.run.more at.clean c.run-run.ensures.run.known c.read_met.new.cache
     (taken_here d c.args.self.now c.args.input.now k c.run-run.result.id (Some _) read c.byte_offset-offset.result c.loop-at.cache at.named given c.read_met.new.cache c.in-Ok.ensures.effect.taken))
     (ended_here d c.args.input.now k c.byte_offset-offset.result c.read_met.new.cache c.end_search.new.self given c.end_search.ensures.value)
 
@@ -163,9 +163,9 @@ returns-then-is_some-clause-ended c =
     let read : next (tape_in d c.args.input.now) k ≡ Some c.byte_at-byte.result = c.byte_at-byte.ensures in
     let few : k ≤ length (tape_in d c.args.input.now).bytes = (let u = units_in d c.args.input.now c.requires.at.at.undone c.last_place-last.ensures.inside in omega (arith, u, inside)) in
     let stops : Reads d c.args.self.now c.args.input.now (suc k) → ⊥ = stops_ends d c.args.self.now c.loop-at.cache.store.table c.read_met.new.cache.store.table c.args.input.now k c.run-run.result.id c.in-Ok.next _ c.run-run.result.found c.found_at-found.result at read c.in-Ok.ensures.answer.named (quit_free c.args.self.now _ c.in-Ok.ensures.answer.clean) (c.place_offset.result, c.place_offset.ensures.value, c.found_at-found.ensures) (sym c.get_earliest.ensures ∙ c.if-get_earliest.true) (some_is c.found_at-found.result c.if-is_some.ensures) (suc k) (omega arith) in
-    pass_last d c.args.self.now c.args.input.now k c.args.cache.now c.read_met.new.cache c.end_search-then-is_some.new.self (is_store c.args.cache.now.store c.args.self.now c.requires.of c.see_bounds.ensures.bounds, c.see_bounds.ensures.sound)
+    pass_last d c.args.self.now c.args.input.now k c.args.cache.now c.read_met.new.cache c.end_search-then-is_some.new.self (is_store c.args.cache.now.store c.args.self.now c.requires.of c.see_bounds.ensures.bounds)
     (at_reads d c.args.self.now c.loop-at.cache.store.table c.args.input.now k c.run-run.result.id c.run-run.result.found at few c.in-Ok.ensures.effect.alive) stops
-    (read_then d c.args.self.now c.args.input.now 0 c.args.cache.now (is_store c.args.cache.now.store c.args.self.now c.requires.of c.see_bounds.ensures.bounds, c.see_bounds.ensures.sound) c.loop-at.at k c.loop-at.cache c.loop-at.invariant.of c.loop-at.invariant.progress c.run-run.ensures.run.more at.clean c.run-run.ensures.run.known c.read_met.new.cache
+    (read_then d c.args.self.now c.args.input.now 0 c.args.cache.now (is_store c.args.cache.now.store c.args.self.now c.requires.of c.see_bounds.ensures.bounds) c.loop-at.at k c.loop-at.cache c.loop-at.invariant.of c.loop-at.invariant.progress c.run-run.ensures.run.more at.clean c.run-run.ensures.run.known c.read_met.new.cache
     (taken_here d c.args.self.now c.args.input.now k c.run-run.result.id (Some _) read c.byte_offset-offset.result c.loop-at.cache at.named given c.read_met.new.cache c.in-Ok.ensures.effect.taken))
     (ended_here d c.args.input.now k c.byte_offset-offset.result c.read_met.new.cache c.end_search-then-is_some.new.self given c.end_search-then-is_some.ensures.value)
 
@@ -177,9 +177,9 @@ returns-then-run-last-clause-ended c =
     let at : IsAt d c.args.self.now c.loop-at.cache.store.table c.args.input.now k c.run-run.result.id c.run-run.result.found = subst (λ k. IsAt d c.args.self.now c.loop-at.cache.store.table c.args.input.now k c.run-run.result.id c.run-run.result.found) same c.run-run.ensures.at in
     let units : k ≡ length (tape_in d c.args.input.now).bytes = units_in d c.args.input.now c.requires.at.at.undone c.last_place-last.ensures.inside in
     IfOk-weaker c.find_end.result _ _
-    (λ _ ended. pass_last d c.args.self.now c.args.input.now k c.args.cache.now ended.0 c.find_end.new.cache (is_store c.args.cache.now.store c.args.self.now c.requires.of c.see_bounds.ensures.bounds, c.see_bounds.ensures.sound)
+    (λ _ ended. pass_last d c.args.self.now c.args.input.now k c.args.cache.now ended.0 c.find_end.new.cache (is_store c.args.cache.now.store c.args.self.now c.requires.of c.see_bounds.ensures.bounds)
     (at_reads d c.args.self.now c.loop-at.cache.store.table c.args.input.now k c.run-run.result.id c.run-run.result.found at (omega (arith, units)) c.find_end.ensures.alive) (λ r. stops_last d c.args.self.now c.args.input.now k units (suc k) (omega arith) r)
-    (read_then d c.args.self.now c.args.input.now 0 c.args.cache.now (is_store c.args.cache.now.store c.args.self.now c.requires.of c.see_bounds.ensures.bounds, c.see_bounds.ensures.sound) c.loop-at.at k c.loop-at.cache c.loop-at.invariant.of c.loop-at.invariant.progress (omega (arith, c.run-run.ensures.run.more, same)) at.clean (λ j from below. c.run-run.ensures.run.known j from (omega (arith, below, same))) ended.0 ended.1) ended.2)
+    (read_then d c.args.self.now c.args.input.now 0 c.args.cache.now (is_store c.args.cache.now.store c.args.self.now c.requires.of c.see_bounds.ensures.bounds) c.loop-at.at k c.loop-at.cache c.loop-at.invariant.of c.loop-at.invariant.progress (omega (arith, c.run-run.ensures.run.more, same)) at.clean (λ j from below. c.run-run.ensures.run.known j from (omega (arith, below, same))) ended.0 ended.1) ended.2)
     c.find_end.ensures.progress.ended
 
 pub returns-then-run-last-clause-left : goal.returns-then-run-last-clause-left
@@ -192,7 +192,7 @@ returns-then-run-last-clause-left c =
     if_both c.find_end.result _ _ _
     (λ error refused left. pass_stopped d c.args.self.now c.args.input.now k c.args.cache.now c.find_end.new.cache error
     (at_reads d c.args.self.now c.loop-at.cache.store.table c.args.input.now k c.run-run.result.id c.run-run.result.found at (omega (arith, units)) c.find_end.ensures.alive) at.clean refused
-    (pass_left_then d c.args.self.now c.args.input.now 0 c.args.cache.now (is_store c.args.cache.now.store c.args.self.now c.requires.of c.see_bounds.ensures.bounds, c.see_bounds.ensures.sound) c.loop-at.at k c.loop-at.cache c.loop-at.invariant.of c.loop-at.invariant.progress (omega (arith, c.run-run.ensures.run.more, same)) at.clean (λ j from below. c.run-run.ensures.run.known j from (omega (arith, below, same))) c.find_end.new.cache left))
+    (pass_left_then d c.args.self.now c.args.input.now 0 c.args.cache.now (is_store c.args.cache.now.store c.args.self.now c.requires.of c.see_bounds.ensures.bounds) c.loop-at.at k c.loop-at.cache c.loop-at.invariant.of c.loop-at.invariant.progress (omega (arith, c.run-run.ensures.run.more, same)) at.clean (λ j from below. c.run-run.ensures.run.known j from (omega (arith, below, same))) c.find_end.new.cache left))
     c.find_end.ensures.refusal c.find_end.ensures.progress.left
 
 pub returns-clause-ended : goal.returns-clause-ended
@@ -203,9 +203,9 @@ returns-clause-ended c =
     let at : IsAt d c.args.self.now c.loop-at.cache.store.table c.args.input.now k c.loop-at.id c.loop-at.found = subst (λ k. IsAt d c.args.self.now c.loop-at.cache.store.table c.args.input.now k c.loop-at.id c.loop-at.found) same c.loop-at.invariant.at in
     let units : k ≡ length (tape_in d c.args.input.now).bytes = units_in d c.args.input.now c.requires.at.at.undone c.last_place-last.ensures.inside in
     IfOk-weaker c.find_end-2.result _ _
-    (λ _ ended. pass_last d c.args.self.now c.args.input.now k c.args.cache.now ended.0 c.find_end-2.new.cache (is_store c.args.cache.now.store c.args.self.now c.requires.of c.see_bounds.ensures.bounds, c.see_bounds.ensures.sound)
+    (λ _ ended. pass_last d c.args.self.now c.args.input.now k c.args.cache.now ended.0 c.find_end-2.new.cache (is_store c.args.cache.now.store c.args.self.now c.requires.of c.see_bounds.ensures.bounds)
     (at_reads d c.args.self.now c.loop-at.cache.store.table c.args.input.now k c.loop-at.id c.loop-at.found at (omega (arith, units)) c.find_end-2.ensures.alive) (λ r. stops_last d c.args.self.now c.args.input.now k units (suc k) (omega arith) r)
-    (read_then d c.args.self.now c.args.input.now 0 c.args.cache.now (is_store c.args.cache.now.store c.args.self.now c.requires.of c.see_bounds.ensures.bounds, c.see_bounds.ensures.sound) c.loop-at.at k c.loop-at.cache c.loop-at.invariant.of c.loop-at.invariant.progress (omega (arith, same)) at.clean (λ j from below. absurd (omega (arith, from, below, same))) ended.0 ended.1) ended.2)
+    (read_then d c.args.self.now c.args.input.now 0 c.args.cache.now (is_store c.args.cache.now.store c.args.self.now c.requires.of c.see_bounds.ensures.bounds) c.loop-at.at k c.loop-at.cache c.loop-at.invariant.of c.loop-at.invariant.progress (omega (arith, same)) at.clean (λ j from below. absurd (omega (arith, from, below, same))) ended.0 ended.1) ended.2)
     c.find_end-2.ensures.progress.ended
 
 pub returns-clause-left : goal.returns-clause-left
@@ -218,5 +218,5 @@ returns-clause-left c =
     if_both c.find_end-2.result _ _ _
     (λ error refused left. pass_stopped d c.args.self.now c.args.input.now k c.args.cache.now c.find_end-2.new.cache error
     (at_reads d c.args.self.now c.loop-at.cache.store.table c.args.input.now k c.loop-at.id c.loop-at.found at (omega (arith, units)) c.find_end-2.ensures.alive) at.clean refused
-    (pass_left_then d c.args.self.now c.args.input.now 0 c.args.cache.now (is_store c.args.cache.now.store c.args.self.now c.requires.of c.see_bounds.ensures.bounds, c.see_bounds.ensures.sound) c.loop-at.at k c.loop-at.cache c.loop-at.invariant.of c.loop-at.invariant.progress (omega (arith, same)) at.clean (λ j from below. absurd (omega (arith, from, below, same))) c.find_end-2.new.cache left))
+    (pass_left_then d c.args.self.now c.args.input.now 0 c.args.cache.now (is_store c.args.cache.now.store c.args.self.now c.requires.of c.see_bounds.ensures.bounds) c.loop-at.at k c.loop-at.cache c.loop-at.invariant.of c.loop-at.invariant.progress (omega (arith, same)) at.clean (λ j from below. absurd (omega (arith, from, below, same))) c.find_end-2.new.cache left))
     c.find_end-2.ensures.refusal c.find_end-2.ensures.progress.left

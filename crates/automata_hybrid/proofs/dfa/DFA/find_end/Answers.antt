@@ -58,7 +58,7 @@ returns-clause-progress c =
     record {
       ended =
           last_read d c.args.self.now c.args.input.now k c.args.cache.now c.end_before_last.new.cache c.read.new.cache c.end_search.new.self
-          (is_store c.args.cache.now.store c.args.self.now c.requires.of c.see_bounds.ensures.bounds, c.see_bounds.ensures.sound) begins
+          (is_store c.args.cache.now.store c.args.self.now c.requires.of c.see_bounds.ensures.bounds) begins
           (taken_here d c.args.self.now c.args.input.now k c.args.id c.unit_at-unit.result unit c.span_offset-at.result c.end_before_last.new.cache named place c.read.new.cache c.in-Ok.ensures.effect.taken)
           (ended_here d c.args.input.now k c.span_offset-at.result c.read.new.cache c.end_search.new.self place c.end_search.ensures.value);
       left = tt;

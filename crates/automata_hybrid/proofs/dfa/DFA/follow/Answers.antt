@@ -1,6 +1,6 @@
 use Rattle.std.proofs.Common.{◌<◌, sym, subst, refl, arith}
 use Rattle.automata_base.specs.ByteClasses.Classes.{class_in}
-use Rattle.automata_hybrid.specs.Machines.Machine.{Machine, table_stride}
+use Rattle.automata_hybrid.specs.Machines.Machine.{Machine}
 use Rattle.automata_hybrid.proofs.Searches.Runs.{followed_none, met_at}
 use Rattle.automata_hybrid.proofs.dfa.DFA.follow.Goals as goal
 
@@ -23,5 +23,5 @@ pub returns-clause-met : goal.returns-clause-met
 returns-clause-met c =
     met_at c.args.way c.args.self.now c.args.cache.now.store c.args.input.now c.args.start c.args.from c.next_state_known.result c.byte_at.result
     (omega (arith, c.if-start-last_place.false, c.last_place.ensures.place)) c.byte_at.ensures c.next_state_known.ensures.value
-    (subst (λ (m : Machine). class_in c.args.self.now.classes c.byte_at.result < table_stride m) (sym c.requires.of) c.next_state_known.ensures.below)
+    (subst (λ (m : Machine). class_in c.args.self.now.classes c.byte_at.result < m.stride) (sym c.requires.of) c.next_state_known.ensures.below)
     c.next_state_known.ensures.quit c.next_state_known.ensures.named c.requires.named

@@ -33,7 +33,7 @@ returns-then-has_ended-clause-answer c =
 pub returns-then-has_ended-clause-effect : goal.returns-then-has_ended-clause-effect
 returns-then-has_ended-clause-effect c =
     run_none (keeping_of c.args.held.now) c.args.way c.args.self.now c.args.input.now c.args.walk.now c.forget_match.new.self c.args.cache.now
-    (is_store c.args.cache.now.store c.args.self.now c.requires.of c.see_bounds.ensures.bounds, c.see_bounds.ensures.sound)
+    (is_store c.args.cache.now.store c.args.self.now c.requires.of c.see_bounds.ensures.bounds)
     (inl (subst (λ (v : Walk). v.stage ≡ Ended) c.forget_match.ensures (c.has_ended.ensures.yes c.if-has_ended.true)))
     (ap (λ (v : Walk). v.units) c.forget_match.ensures) (λ over. ap (λ (v : Walk). v.found) c.forget_match.ensures)
 
@@ -55,7 +55,7 @@ pub returns-then-is_done-clause-effect : goal.returns-then-is_done-clause-effect
 returns-then-is_done-clause-effect c =
     let done : c.args.input.now.end < c.args.input.now.start = c.is_done.ensures.done.0 c.if-is_done.true in
     run_none (keeping_of c.args.held.now) c.args.way c.args.self.now c.args.input.now c.args.walk.now c.end.new.self c.args.cache.now
-    (is_store c.args.cache.now.store c.args.self.now c.requires.of c.see_bounds.ensures.bounds, c.see_bounds.ensures.sound)
+    (is_store c.args.cache.now.store c.args.self.now c.requires.of c.see_bounds.ensures.bounds)
     (inr (inr (omega (arith, done))))
     (ap (λ (v : Walk). v.units) c.end.ensures ∙ (c.units.ensures ∙ ap (λ (v : Walk). v.units) c.forget_match.ensures)) (λ over. ap (λ (v : Walk). v.found) c.end.ensures)
 
@@ -82,7 +82,7 @@ pub returns-in-Some-clause-effect : goal.returns-in-Some-clause-effect
 returns-in-Some-clause-effect c =
     let left = c.in-Some.ensures.left in
     run_none (keeping_of c.args.held.now) c.args.way c.args.self.now c.args.input.now c.args.walk.now c.report.new.self c.args.cache.now
-    (is_store c.args.cache.now.store c.args.self.now c.requires.of c.see_bounds.ensures.bounds, c.see_bounds.ensures.sound)
+    (is_store c.args.cache.now.store c.args.self.now c.requires.of c.see_bounds.ensures.bounds)
     (inr (inl (
       left.0,
       subst (λ (v : Walk). v.stage ≡ At left.0) c.forget_match.ensures left.1,
@@ -114,7 +114,7 @@ pub returns-then-units-last_place-clause-effect : goal.returns-then-units-last_p
 returns-then-units-last_place-clause-effect c =
     let units : c.units-2.result ≡ c.args.walk.now.units = c.units-2.ensures ∙ ap (λ (v : Walk). v.units) c.forget_match.ensures in
     run_none (keeping_of c.args.held.now) c.args.way c.args.self.now c.args.input.now c.args.walk.now c.end-then-units-last_place.new.self c.args.cache.now
-    (is_store c.args.cache.now.store c.args.self.now c.requires.of c.see_bounds.ensures.bounds, c.see_bounds.ensures.sound)
+    (is_store c.args.cache.now.store c.args.self.now c.requires.of c.see_bounds.ensures.bounds)
     (inr (inr (omega (arith, units, c.last_place.ensures.place, c.if-units-last_place.true))))
     (ap (λ (v : Walk). v.units) c.end-then-units-last_place.ensures ∙ (c.units-then-units-last_place.ensures ∙ ap (λ (v : Walk). v.units) c.forget_match.ensures))
     (λ over. ap (λ (v : Walk). v.found) c.end-then-units-last_place.ensures)

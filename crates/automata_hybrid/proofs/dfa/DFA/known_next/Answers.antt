@@ -1,6 +1,6 @@
 use Rattle.std.proofs.Common.{ℕ, ◌≡◌, ◌∙◌, ◌<◌, ◌^◌, Option, Some, ap, subst, sym}
-use Rattle.automata_hybrid.specs.Machines.Machine.{table_stride}
-use Rattle.automata_hybrid.specs.Steps.Steps.{IsStepAnswer, known_step, unit_class}
+use Rattle.automata_hybrid.specs.Steps.Steps.{IsStepAnswer, known_step}
+use Rattle.automata_hybrid.specs.Machines.Machine.{unit_class}
 use Rattle.automata_hybrid.proofs.dfa.DFA.known_next.Goals as goal
 
 pub returns-clause-value : goal.returns-clause-value
@@ -16,7 +16,7 @@ returns-clause-answer c = λ low.
 
 pub returns-clause-below : goal.returns-clause-below
 returns-clause-below c = λ low.
-    subst (λ (u : Option ℕ). unit_class c.args.self.now u < table_stride c.args.self.now) (sym c.byte_at.ensures) c.known_step-next.ensures.below
+    subst (λ (u : Option ℕ). unit_class c.args.self.now u < c.args.self.now.stride) (sym c.byte_at.ensures) c.known_step-next.ensures.below
 
 pub returns-then-is_unknown-clause-value : goal.returns-then-is_unknown-clause-value
 returns-then-is_unknown-clause-value c = λ low.
@@ -29,4 +29,4 @@ returns-then-is_unknown-clause-answer c = λ low.
 
 pub returns-then-is_unknown-clause-below : goal.returns-then-is_unknown-clause-below
 returns-then-is_unknown-clause-below c = λ low.
-    subst (λ (u : Option ℕ). unit_class c.args.self.now u < table_stride c.args.self.now) c.unit_at.ensures c.known_step.ensures.below
+    subst (λ (u : Option ℕ). unit_class c.args.self.now u < c.args.self.now.stride) c.unit_at.ensures c.known_step.ensures.below

@@ -1,6 +1,4 @@
 use Rattle.std.proofs.Common.{◌<◌, subst}
-use Rattle.automata_hybrid.specs.Machines.Machine.{Machine, table_stride}
-use Rattle.automata_hybrid.specs.Machines.OwnStates.{IsOwn}
 use Rattle.automata_hybrid.proofs.Steps.Steps.{known_answer}
 use Rattle.automata_hybrid.proofs.dfa.DFA.known_step.Goals as goal
 
@@ -9,7 +7,7 @@ returns-clause-answer c = λ low.
     known_answer c.args.self.now c.args.id c.args.unit c.args.cache.now c.unit_class.result c.cell.result c.requires.of c.requires.valid
     c.unit_class.ensures.value c.unit_class.ensures.small c.unit_class.ensures.quit c.unit_class.ensures.free
     c.cell.ensures.value c.cell.ensures.named (c.see_bounds.ensures.sound.low c.args.id c.requires.valid.0 c.requires.valid.1) low c.cell.ensures.tag
-    (λ q n. c.unit_class.ensures.alike q (subst (λ (d : Machine). IsOwn d.nfa q) c.requires.of (c.see_bounds.ensures.sound.own c.args.id q n)))
+    c.unit_class.ensures.unit
 
 pub returns-clause-below : goal.returns-clause-below
-returns-clause-below c = subst (λ n. n < table_stride c.args.self.now) c.unit_class.ensures.value c.unit_class.ensures.below
+returns-clause-below c = subst (λ n. n < c.args.self.now.stride) c.unit_class.ensures.value c.unit_class.ensures.below

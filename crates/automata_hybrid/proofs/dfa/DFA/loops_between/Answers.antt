@@ -19,6 +19,6 @@ loop-class-preserved c =
 pub returns : goal.returns
 returns c = λ _.
     loops_among c.args.self.now c.args.cache.now.store c.args.id c.args.from c.args.to c.class_of-first.result c.class_of-last.result
-    c.see_machine.ensures.machine c.see_machine.ensures.rising c.requires.of (c.see_bounds.ensures.sound.own c.args.id) c.requires.valid c.requires.plain
+    c.see_machine.ensures.machine c.see_machine.ensures.rising c.requires.of c.requires.valid c.requires.plain
     c.if-from-to.false c.requires.within c.class_of-first.ensures.value c.class_of-last.ensures.value
     (λ k l below. c.loop-class.invariant k l (omega (arith, below, c.loop-class-test.false)))

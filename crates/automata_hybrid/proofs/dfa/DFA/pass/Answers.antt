@@ -3,10 +3,10 @@ use Rattle.std.proofs.lemmas.Grind.{common_steps}
 use Rattle.automata_base.specs.Haystacks.Input.{Allows, Input}
 use Rattle.automata_base.specs.Haystacks.Matches.{HalfMatch}
 use Rattle.automata_base.specs.declared.util.search.Direction.{Direction}
-use Rattle.automata_hybrid.specs.Cache.Caches.{CacheView, with_store, IsSoundOf}
+use Rattle.automata_hybrid.specs.Cache.Caches.{CacheView, with_store, IsStoreOf}
 use Rattle.automata_hybrid.specs.Cache.Progress.{saturated, total_len}
 use Rattle.automata_hybrid.specs.Cache.Stores.{with_searched}
-use Rattle.automata_hybrid.specs.Machines.Machine.{Machine, slot_count}
+use Rattle.automata_hybrid.specs.Machines.Machine.{Machine}
 use Rattle.automata_hybrid.specs.Searches.PassContracts.{IsKnownUpto}
 use Rattle.automata_hybrid.specs.Searches.Progress.{EndsAtLast, IsStoppedAt, with_search_begun, IsPassRun}
 use Rattle.automata_hybrid.specs.Calls.Events.{Begin, with_progress}
@@ -36,8 +36,8 @@ pub returns-then-known-clause-effect : goal.returns-then-known-clause-effect
 returns-then-known-clause-effect c =
     let d : Direction = c.args.way in
     let low : c.known_start-start.result < 2 ^ 31 = grind (arith, common_steps, c.if-is_fixed.ensures) in
-    let slots : length c.args.cache.now.store.starts ≡ slot_count c.args.self.now = c.see_bounds.ensures.bounds.slots ∙ ap (λ (d : Machine). slot_count d) c.requires.of in
-    let sound : IsSoundOf c.args.cache.now.store c.args.self.now = (is_store c.args.cache.now.store c.args.self.now c.requires.of c.see_bounds.ensures.bounds, c.see_bounds.ensures.sound) in
+    let slots : length c.args.cache.now.store.starts ≡ c.args.self.now.slots = c.see_bounds.ensures.bounds.slots ∙ ap (λ (d : Machine). d.slots) c.requires.of in
+    let sound : IsStoreOf c.args.cache.now.store c.args.self.now = (is_store c.args.cache.now.store c.args.self.now c.requires.of c.see_bounds.ensures.bounds) in
     let end = c.known_pass-known.ensures.ended c.if-known.true in
     let counted = subst (λ n. c.count_search.new.self ≡ with_store c.args.cache.now (with_searched c.args.cache.now.store (record { bytes = saturated (total_len c.args.cache.now.store.searched + n); running = None })))
     c.bytes_read.ensures c.count_search.ensures.value in (
@@ -63,8 +63,8 @@ pub returns-in-Ok-rest-clause-effect : goal.returns-in-Ok-rest-clause-effect
 returns-in-Ok-rest-clause-effect c =
     let d : Direction = c.args.way in
     let low : c.known_start-start.result < 2 ^ 31 = grind (arith, common_steps, c.if-is_fixed.ensures) in
-    let slots : length c.args.cache.now.store.starts ≡ slot_count c.args.self.now = c.see_bounds.ensures.bounds.slots ∙ ap (λ (d : Machine). slot_count d) c.requires.of in
-    let sound : IsSoundOf c.args.cache.now.store c.args.self.now = (is_store c.args.cache.now.store c.args.self.now c.requires.of c.see_bounds.ensures.bounds, c.see_bounds.ensures.sound) in
+    let slots : length c.args.cache.now.store.starts ≡ c.args.self.now.slots = c.see_bounds.ensures.bounds.slots ∙ ap (λ (d : Machine). d.slots) c.requires.of in
+    let sound : IsStoreOf c.args.cache.now.store c.args.self.now = (is_store c.args.cache.now.store c.args.self.now c.requires.of c.see_bounds.ensures.bounds) in
     let had = start_had d c.args.self.now c.args.input.now c.args.cache.now c.args.cache.now c.known_start-start.result slots sound (c.known_start-start.ensures.effect low) (c.known_start-start.ensures.answer low) in
     let begins : c.search_start.new.self ≡ with_search_begun d c.args.input.now 0 c.args.cache.now =
     subst (λ at. c.search_start.new.self ≡ with_progress (Begin at) c.args.cache.now) c.span_offset.ensures.value c.search_start.ensures.value in (
@@ -81,8 +81,8 @@ pub returns-in-Err-rest-clause-effect : goal.returns-in-Err-rest-clause-effect
 returns-in-Err-rest-clause-effect c =
     let d : Direction = c.args.way in
     let low : c.known_start-start.result < 2 ^ 31 = grind (arith, common_steps, c.if-is_fixed.ensures) in
-    let slots : length c.args.cache.now.store.starts ≡ slot_count c.args.self.now = c.see_bounds.ensures.bounds.slots ∙ ap (λ (d : Machine). slot_count d) c.requires.of in
-    let sound : IsSoundOf c.args.cache.now.store c.args.self.now = (is_store c.args.cache.now.store c.args.self.now c.requires.of c.see_bounds.ensures.bounds, c.see_bounds.ensures.sound) in
+    let slots : length c.args.cache.now.store.starts ≡ c.args.self.now.slots = c.see_bounds.ensures.bounds.slots ∙ ap (λ (d : Machine). d.slots) c.requires.of in
+    let sound : IsStoreOf c.args.cache.now.store c.args.self.now = (is_store c.args.cache.now.store c.args.self.now c.requires.of c.see_bounds.ensures.bounds) in
     let had = start_had d c.args.self.now c.args.input.now c.args.cache.now c.args.cache.now c.known_start-start.result slots sound (c.known_start-start.ensures.effect low) (c.known_start-start.ensures.answer low) in
     let begins : c.search_start.new.self ≡ with_search_begun d c.args.input.now 0 c.args.cache.now =
     subst (λ at. c.search_start.new.self ≡ with_progress (Begin at) c.args.cache.now) c.span_offset.ensures.value c.search_start.ensures.value in

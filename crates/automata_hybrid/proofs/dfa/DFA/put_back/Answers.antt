@@ -12,7 +12,7 @@ pub returns-in-Some-clause-row : goal.returns-in-Some-clause-row
 returns-in-Some-clause-row c =
     let named : id_of c.args.cache.now.store.table c.args.handle.now.state ≡ Some c.in-Some.id =
     subst (λ q. id_of c.args.cache.now.store.table q ≡ Some c.in-Some.id) c.requires.key (sym c.in-Some.ensures) in (
-      (is_store c.args.cache.now.store c.args.self.now c.requires.of c.see_bounds.ensures.bounds, c.see_bounds.ensures.sound),
+      (is_store c.args.cache.now.store c.args.self.now c.requires.of c.see_bounds.ensures.bounds),
       inl (record { id = c.in-Some.id; named = named }, refl),
     )
 
@@ -27,7 +27,7 @@ pub returns-clause-row : goal.returns-clause-row
 returns-clause-row c =
     let none : id_of c.args.cache.now.store.table c.args.handle.now.state ≡ None =
     subst (λ q. id_of c.args.cache.now.store.table q ≡ None) c.requires.key (sym c.find.ensures ∙ c.in_default.is) in (
-      (is_store c.add_again.new.self.store c.args.self.now c.add_again.ensures.of c.see_bounds-2.ensures.bounds, c.see_bounds-2.ensures.sound),
+      (is_store c.add_again.new.self.store c.args.self.now c.add_again.ensures.of c.see_bounds-2.ensures.bounds),
       inr (λ has. none_some (sym none ∙ has.named), c.in_ok-id.ensures.back),
     )
 

@@ -5,7 +5,7 @@ use Rattle.automata_hybrid.specs.Searches.Units.{IsReadEffect}
 use Rattle.automata_hybrid.specs.Searches.Passes.{IsStepRefusal}
 use Rattle.automata_hybrid.specs.Cache.Table.{Rows, Names}
 use Rattle.automata_hybrid.proofs.Searches.Contracts.{is_store}
-use Rattle.automata_hybrid.proofs.Searches.Reads.{at_err, byte_class, moved_failed, moved_quit, moved_took, step_does}
+use Rattle.automata_hybrid.proofs.Searches.Reads.{at_err, moved_failed, moved_quit, moved_took, step_does}
 use Rattle.automata_hybrid.proofs.Searches.PassState.{false_true}
 use Rattle.automata_hybrid.proofs.Steps.Ids.{quits, unquit}
 use Rattle.automata_hybrid.proofs.dfa.DFA.read_met.Goals as goal
@@ -25,8 +25,8 @@ returns-clause-effect c =
     moved_took c.args.self.now c.args.id (Some c.args.byte) c.args.at c.args.cache.now c.move_search.new.self c.move_search.ensures.value (c.see_bounds.ensures.sound.alive c.args.id)
     c.in_ok-next.next c.step_met.new.cache
     (step_does c.args.self.now c.args.id (Some c.args.byte) c.move_search.new.self c.step_met.new.cache c.in_ok-next.next low clean
-    (byte_class c.args.self.now c.args.byte c.see_machine.ensures.machine (omega arith) (c.see_machine.ensures.bytes c.args.byte (omega arith)) clean)
-    (is_store c.step_met.new.cache.store c.args.self.now c.in_ok-next.ensures.of c.see_bounds-2.ensures.bounds, c.see_bounds-2.ensures.sound)
+    (c.see_machine.ensures.bytes c.args.byte (omega arith))
+    (is_store c.step_met.new.cache.store c.args.self.now c.in_ok-next.ensures.of c.see_bounds-2.ensures.bounds)
     c.in_ok-next.ensures.answer c.in_ok-next.ensures.effect)
 
 pub returns-in_err-next-clause-effect : goal.returns-in_err-next-clause-effect

@@ -4,7 +4,7 @@ use Rattle.automata_base.specs.ByteClasses.Classes.{is_quit}
 use Rattle.automata_hybrid.specs.Searches.Units.{IsReadAnswer, IsReadEffect, IsReadRefusal}
 use Rattle.automata_hybrid.specs.Searches.Passes.{IsStepRefusal}
 use Rattle.automata_hybrid.proofs.Searches.Contracts.{is_store}
-use Rattle.automata_hybrid.proofs.Searches.Reads.{at_err, byte_class, end_refusal, step_does, step_fails}
+use Rattle.automata_hybrid.proofs.Searches.Reads.{at_err, end_refusal, step_does, step_fails}
 use Rattle.automata_hybrid.proofs.Searches.PassState.{false_true}
 use Rattle.automata_hybrid.proofs.Steps.Ids.{quits, unquit}
 use Rattle.automata_hybrid.proofs.dfa.DFA.read_still.Goals as goal
@@ -27,8 +27,8 @@ returns-else-is_quit-clause-effect c =
       alive = c.see_bounds.ensures.sound.alive c.args.id;
       taken =
           step_does c.args.self.now c.args.id (Some c.in-Some.byte) c.args.cache.now c.step.new.cache c.in_ok-next-in-Some.next low clean
-          (byte_class c.args.self.now c.in-Some.byte c.see_machine.ensures.machine (omega arith) (c.see_machine.ensures.bytes c.in-Some.byte (omega arith)) clean)
-          (is_store c.step.new.cache.store c.args.self.now c.in_ok-next-in-Some.ensures.of c.see_bounds-in-Some.ensures.bounds, c.see_bounds-in-Some.ensures.sound)
+          (c.see_machine.ensures.bytes c.in-Some.byte (omega arith))
+          (is_store c.step.new.cache.store c.args.self.now c.in_ok-next-in-Some.ensures.of c.see_bounds-in-Some.ensures.bounds)
           c.in_ok-next-in-Some.ensures.answer c.in_ok-next-in-Some.ensures.effect;
       left = tt;
     })

@@ -54,7 +54,7 @@ returns-in-Ok-Some-clause-effect c =
     let ahead : c.args.input.now.start ≤ c.args.input.now.end = grind (arith, common_steps, c.if-is_done.ensures) in
     let within : c.args.input.now.start + 0 ≤ c.args.input.now.end = omega (arith, ahead) in
     let tries : Tries (Finds d c.args.self.now) (Skips c.args.self.now) d c.args.input.now 0 = (inl refl, λ j less. absurd (omega (arith, less))) in
-    run_after d c.args.self.now c.args.input.now 0 tries c.args.cache.now c.args.cache.now ((is_store c.args.cache.now.store c.args.self.now c.requires c.see_bounds.ensures.bounds, c.see_bounds.ensures.sound), refl)
+    run_after d c.args.self.now c.args.input.now 0 tries c.args.cache.now c.args.cache.now ((is_store c.args.cache.now.store c.args.self.now c.requires c.see_bounds.ensures.bounds), refl)
     c.args.input.now same within c.pass.new.cache c.in-Ok-Some.ensures.effect
     (λ j less tried past. some_stops d c.args.self.now c.args.input.now c.args.input.now 0 same tries within c.in-Ok-Some.half (sym c.in-Ok-Some.field-0-is ∙ c.in-Ok-Some.ensures.answer.found) (λ skips. absurd (c.if-skips.ensures.no refl skips)) j less tried)
 
@@ -68,7 +68,7 @@ returns-in-Ok-Some-clause-upto c = λ forward.
     let base : 1 ≡ c.start.result - c.args.input.now.start + 1 = omega (arith, c.start.ensures.start) in
     subst (λ n. HaveTried Forward c.args.self.now c.args.input.now n c.args.cache.now c.pass.new.cache) base
     (subst (λ (e : Direction). HaveTried e c.args.self.now c.args.input.now 1 c.args.cache.now c.pass.new.cache) forward
-    (spans_run d c.args.self.now c.args.input.now 0 tries c.args.cache.now c.args.cache.now ((is_store c.args.cache.now.store c.args.self.now c.requires c.see_bounds.ensures.bounds, c.see_bounds.ensures.sound), refl)
+    (spans_run d c.args.self.now c.args.input.now 0 tries c.args.cache.now c.args.cache.now ((is_store c.args.cache.now.store c.args.self.now c.requires c.see_bounds.ensures.bounds), refl)
     c.args.input.now same within c.pass.new.cache c.in-Ok-Some.ensures.effect))
 
 pub returns-in-Ok-None-clause-found : goal.returns-in-Ok-None-clause-found
@@ -87,7 +87,7 @@ returns-in-Ok-None-clause-effect c =
     let ahead : c.args.input.now.start ≤ c.args.input.now.end = grind (arith, common_steps, c.if-is_done.ensures) in
     let within : c.args.input.now.start + 0 ≤ c.args.input.now.end = omega (arith, ahead) in
     let tries : Tries (Finds d c.args.self.now) (Skips c.args.self.now) d c.args.input.now 0 = (inl refl, λ j less. absurd (omega (arith, less))) in
-    run_after d c.args.self.now c.args.input.now 0 tries c.args.cache.now c.args.cache.now ((is_store c.args.cache.now.store c.args.self.now c.requires c.see_bounds.ensures.bounds, c.see_bounds.ensures.sound), refl)
+    run_after d c.args.self.now c.args.input.now 0 tries c.args.cache.now c.args.cache.now ((is_store c.args.cache.now.store c.args.self.now c.requires c.see_bounds.ensures.bounds), refl)
     c.args.input.now same within c.pass.new.cache c.in-Ok-None.ensures.effect
     (λ j less tried past. none_stops d c.args.self.now c.args.input.now c.args.input.now 0 same tries within (sym c.in-Ok-None.field-0-is ∙ c.in-Ok-None.ensures.answer.found) j less tried)
 
@@ -98,5 +98,5 @@ returns-in-Err-pass-clause-effect c =
     let ahead : c.args.input.now.start ≤ c.args.input.now.end = grind (arith, common_steps, c.if-is_done.ensures) in
     let within : c.args.input.now.start + 0 ≤ c.args.input.now.end = omega (arith, ahead) in
     let tries : Tries (Finds d c.args.self.now) (Skips c.args.self.now) d c.args.input.now 0 = (inl refl, λ j less. absurd (omega (arith, less))) in
-    run_refused d c.args.self.now c.args.input.now 0 tries c.args.cache.now c.args.cache.now ((is_store c.args.cache.now.store c.args.self.now c.requires c.see_bounds.ensures.bounds, c.see_bounds.ensures.sound), refl)
+    run_refused d c.args.self.now c.args.input.now 0 tries c.args.cache.now c.args.cache.now ((is_store c.args.cache.now.store c.args.self.now c.requires c.see_bounds.ensures.bounds), refl)
     c.args.input.now same within c.pass.new.cache c.in-Err-pass.error c.in-Err-pass.ensures.effect

@@ -60,7 +60,7 @@ loop-later-init c =
       same = subst (λ n. c.copied-later.result ≡ later d n c.args.input.now) none (whole ∙ later_none d c.args.input.now);
       first = λ u. sym none;
       progress = subst (λ n. PassesEnd d c.args.self.now c.args.input.now n c.args.cache.now c.args.cache.now) none
-          ((is_store c.args.cache.now.store c.args.self.now c.requires c.see_bounds.ensures.bounds, c.see_bounds.ensures.sound), refl);
+          ((is_store c.args.cache.now.store c.args.self.now c.requires c.see_bounds.ensures.bounds), refl);
       tries = subst (λ n. Tries (Finds d c.args.self.now) (Skips c.args.self.now) d c.args.input.now n) none (inl refl, λ j less. absurd (omega (arith, less)));
     }
 

@@ -4,7 +4,7 @@ use Rattle.std.specs.Option.{is_some}
 use Rattle.automata_base.specs.declared.util.search.Anchored.{Anchored}
 use Rattle.automata_config.specs.declared.error.StartError.{StartError}
 use Rattle.automata_config.specs.declared.error.StartError.TheVariants.{UnsupportedAnchored}
-use Rattle.automata_hybrid.specs.Machines.Machine.{Machine, slot_count}
+use Rattle.automata_hybrid.specs.Machines.Machine.{Machine}
 use Rattle.automata_hybrid.specs.Machines.StartSlots.{slot_behind, supports}
 use Rattle.automata_hybrid.specs.Steps.Starts.{IsStartSlot, KnowsStart, quit_behind}
 use Rattle.automata_hybrid.proofs.Steps.Starts.{knows_slot, known_answer, known_effect}
@@ -26,7 +26,7 @@ slot_here c =
     record {
       may = (none, supported c.in-Ok-Some.field-0 c.args.mode (supports c.args.self.now c.args.mode) c.in-Ok-Some.ensures.refused.1);
       at = subst (λ (o : Option ℕ). IfSome o (λ n. n ≡ slot_behind c.args.self.now c.args.mode c.args.prev)) c.in-Ok-Some.field-0-is c.in-Ok-Some.ensures.slot;
-      within = subst (λ (o : Option ℕ). IfSome o (λ n. n < slot_count c.args.self.now)) c.in-Ok-Some.field-0-is c.in-Ok-Some.ensures.within;
+      within = subst (λ (o : Option ℕ). IfSome o (λ n. n < c.args.self.now.slots)) c.in-Ok-Some.field-0-is c.in-Ok-Some.ensures.within;
     }
 
 knows_here :
@@ -34,7 +34,7 @@ knows_here :
     → KnowsStart c.args.self.now c.args.cache.now.store c.args.mode c.args.prev
 knows_here c low =
     knows_slot c.args.self.now c.args.cache.now.store c.args.mode c.args.prev c.in-Ok-Some.slot (slot_here c)
-    (c.see_bounds.ensures.sound.slots ∙ ap (λ (m : Machine). slot_count m) c.requires) (subst (λ n. n < 2 ^ 31) c.start_slot.ensures.value low)
+    (c.see_bounds.ensures.sound.slots ∙ ap (λ (m : Machine). m.slots) c.requires) (subst (λ n. n < 2 ^ 31) c.start_slot.ensures.value low)
 
 pub returns-clause-answer : goal.returns-clause-answer
 returns-clause-answer c = λ low.

@@ -1,11 +1,7 @@
 use Rattle.std.proofs.Common.{◌≡◌, ◌<◌, ◌^◌, ◌∙◌, Some, ap, sym, subst, arith}
 use Rattle.std.proofs.lemmas.Grind.{common_steps}
-use Rattle.automata_base.specs.Powersets.Powerset.{Powerset}
-use Rattle.automata_hybrid.specs.Machines.Machine.{Machine}
-use Rattle.automata_hybrid.specs.Machines.OwnStates.{IsOwn}
 use Rattle.automata_hybrid.specs.Steps.Steps.{IsStepAnswer}
 use Rattle.automata_hybrid.specs.Cache.Stores.{cell_of}
-use Rattle.automata_hybrid.specs.Cache.Table.{Names}
 use Rattle.automata_hybrid.proofs.Steps.Steps.{known_answer, same_effect}
 use Rattle.automata_hybrid.proofs.dfa.DFA.step_met.Goals as goal
 
@@ -14,12 +10,11 @@ returns-clause-answer c =
     let known : c.args.met < 2 ^ 31 = grind (arith, common_steps, c.if-is_unknown.ensures.size) in
     let same : c.cell-cell.result ≡ c.args.met =
     c.cell-cell.ensures.value ∙ (ap (cell_of c.args.cache.now.store c.args.id) c.class_of.ensures.value ∙ sym (c.requires.met known)) in
-    let own : (q : Powerset) → Names c.args.cache.now.store.table c.args.id q → IsOwn c.args.self.now.nfa q = λ q n. subst (λ (d : Machine). IsOwn d.nfa q) c.requires.of (c.see_bounds.ensures.sound.own c.args.id q n) in
     subst (IsStepAnswer c.args.self.now c.args.id (Some c.args.byte) c.args.cache.now c.args.cache.now) same
     (known_answer c.args.self.now c.args.id (Some c.args.byte) c.args.cache.now c.class_of.result c.cell-cell.result c.requires.of c.requires.valid
     c.class_of.ensures.value c.class_of.ensures.small c.class_of.ensures.quit c.class_of.ensures.free
     c.cell-cell.ensures.value c.cell-cell.ensures.named (c.see_bounds.ensures.sound.low c.args.id c.requires.valid.0 c.requires.valid.1) (omega (arith, known, same)) c.cell-cell.ensures.tag
-    (λ q n. c.class_of.ensures.alike q (own q n)))
+    (omega arith))
 
 pub returns-clause-effect : goal.returns-clause-effect
 returns-clause-effect c =

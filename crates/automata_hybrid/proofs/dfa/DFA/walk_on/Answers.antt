@@ -39,7 +39,7 @@ returns-in_err-from-clause-effect c =
     let w : Walk = c.args.walk.now in
     let r = c.requires.walk.reads in
     at_err c.from_residual.result _ (λ (x : Result (Unit {0}) SearchError). IsWalkRun (keeping_of c.args.held.now) d m input w w c.args.cache.now c.resume.new.cache (result_err x)) c.from_residual.ensures.1
-    (record { of = (is_store c.args.cache.now.store c.args.self.now c.requires.of c.see_bounds.ensures.bounds, c.see_bounds.ensures.sound); run = (reads_some input w r, inl (c.in_err-from.ensures.refusal, c.in_err-from.ensures.left)) })
+    (record { of = (is_store c.args.cache.now.store c.args.self.now c.requires.of c.see_bounds.ensures.bounds); run = (reads_some input w r, inl (c.in_err-from.ensures.refusal, c.in_err-from.ensures.left)) })
 
 pub returns-then-is_dead-clause-answer : goal.returns-then-is_dead-clause-answer
 returns-then-is_dead-clause-answer c =
@@ -77,7 +77,7 @@ returns-then-is_dead-clause-effect c =
     subst (λ at. c.search_start.new.self ≡ with_progress (Begin at) between) first c.search_start.ensures.value in
     subst (λ (x : Walk). IsWalkRun (keeping_of c.args.held.now) d m input w x c.args.cache.now new None) (sym same)
     (record {
-      of = (is_store c.args.cache.now.store c.args.self.now c.requires.of c.see_bounds.ensures.bounds, c.see_bounds.ensures.sound);
+      of = (is_store c.args.cache.now.store c.args.self.now c.requires.of c.see_bounds.ensures.bounds);
       run = (
         λ over. refl,
         inr (
@@ -89,7 +89,7 @@ returns-then-is_dead-clause-effect c =
           (λ k more less. absurd (omega (arith, more, less)), λ over reads. reads.1 dies),
           subst (λ (v : CacheView). HasEndedAfter d m input w.units 0 v new) begins
               (ended_after d m input w.units 0 c.search_start.new.self c.search_start.new.self new
-              (is_store c.search_start.new.self.store c.args.self.now (ap (λ (t : Rows). t.of) c.search_start.ensures.table ∙ c.in_ok-from.ensures.of) c.see_bounds-2.ensures.bounds, c.see_bounds-2.ensures.sound) refl
+              (is_store c.search_start.new.self.store c.args.self.now (ap (λ (t : Rows). t.of) c.search_start.ensures.table ∙ c.in_ok-from.ensures.of) c.see_bounds-2.ensures.bounds) refl
               (ended_here d input (w.units + (0 - 1)) c.span_offset-place.result c.search_start.new.self new
               (ap (given_up_offset d input) (omega arith) ∙ sym first) c.end_search.ensures.value)),
         ),
@@ -114,7 +114,7 @@ returns-in_err-arrival-clause-effect c =
     (subst (λ n. IsCallStopped Ids d m input n begun new c.in_err-arrival.field-0.0) c.units-2.ensures c.in_err-arrival.ensures.effect.left) in
     at_err c.from_residual-in_err-arrival.result _ (λ (x : Result (Unit {0}) SearchError). IsWalkRun (keeping_of c.args.held.now) d m input w w c.args.cache.now new (result_err x)) c.from_residual-in_err-arrival.ensures.1
     (record {
-      of = (is_store c.args.cache.now.store c.args.self.now c.requires.of c.see_bounds.ensures.bounds, c.see_bounds.ensures.sound);
+      of = (is_store c.args.cache.now.store c.args.self.now c.requires.of c.see_bounds.ensures.bounds);
       run = (
         reads_some input w r,
         inr (
@@ -160,8 +160,8 @@ returns-in_default-clause-effect c =
     let finish : Finishes d m input w.units arrival.units = subst (λ (o : Option ℕ). IsArrival d m c.advance.new.cache.store.table input w.units o arrival.units) c.in_default.«is» arrives in
     subst (λ (x : Walk). IsWalkRun (keeping_of c.args.held.now) d m input w x c.args.cache.now c.end_search-in_default.new.self None) (sym c.end-in_default.ensures)
     (run_on d m input w c.args.cache.now c.resume.new.cache c.search_start.new.self c.advance.new.cache
-    (is_store c.args.cache.now.store c.args.self.now c.requires.of c.see_bounds.ensures.bounds, c.see_bounds.ensures.sound) r c.in_ok-from.ensures.resumed begins
-    (is_store c.search_start.new.self.store c.args.self.now (ap (λ (t : Rows). t.of) c.search_start.ensures.table ∙ c.in_ok-from.ensures.of) c.see_bounds-2.ensures.bounds, c.see_bounds-2.ensures.sound) arrival advanced arrives
+    (is_store c.args.cache.now.store c.args.self.now c.requires.of c.see_bounds.ensures.bounds) r c.in_ok-from.ensures.resumed begins
+    (is_store c.search_start.new.self.store c.args.self.now (ap (λ (t : Rows). t.of) c.search_start.ensures.table ∙ c.in_ok-from.ensures.of) c.see_bounds-2.ensures.bounds) arrival advanced arrives
     (keeping_of c.args.held.now) (ended_walk w arrival.units) c.end_search-in_default.new.self c.span_offset-last.result refl c.span_offset-last.ensures.value c.end_search-in_default.ensures.value
     (λ over. (refl, finish.stops arrival.units (omega arith))))
 
@@ -184,8 +184,8 @@ returns-in_err-move_to-clause-effect c =
     at_err c.from_residual-in_err-move_to.result search.OutOfMemory (λ (x : Result (Unit {0}) SearchError). IsWalkRun (keeping_of c.args.held.now) d m input w w c.args.cache.now c.advance.new.cache (result_err x)) c.from_residual-in_err-move_to.ensures.1
     (subst (λ k. IsWalkRun k d m input w w c.args.cache.now c.advance.new.cache (Some search.OutOfMemory)) (sym c.in_err-move_to.ensures.refused)
     (run_unheld d m input w c.args.cache.now c.resume.new.cache c.search_start.new.self c.advance.new.cache
-    (is_store c.args.cache.now.store c.args.self.now c.requires.of c.see_bounds.ensures.bounds, c.see_bounds.ensures.sound) r c.in_ok-from.ensures.resumed begins
-    (is_store c.search_start.new.self.store c.args.self.now (ap (λ (t : Rows). t.of) c.search_start.ensures.table ∙ c.in_ok-from.ensures.of) c.see_bounds-2.ensures.bounds, c.see_bounds-2.ensures.sound) arrival advanced arrives c.in-Some.id arrived w))
+    (is_store c.args.cache.now.store c.args.self.now c.requires.of c.see_bounds.ensures.bounds) r c.in_ok-from.ensures.resumed begins
+    (is_store c.search_start.new.self.store c.args.self.now (ap (λ (t : Rows). t.of) c.search_start.ensures.table ∙ c.in_ok-from.ensures.of) c.see_bounds-2.ensures.bounds) arrival advanced arrives c.in-Some.id arrived w))
 
 pub stand-requires-clause-here : goal.stand-requires-clause-here
 stand-requires-clause-here c = λ k t.
@@ -238,8 +238,8 @@ returns-clause-effect c =
     subst (λ n. IsArrival d m c.advance.new.cache.store.table input n arrival.id arrival.units) c.units-2.ensures c.in_ok-arrival.ensures.arrives in
     let s = c.stand.ensures in
     run_on d m input w c.args.cache.now c.resume.new.cache c.search_start.new.self c.advance.new.cache
-    (is_store c.args.cache.now.store c.args.self.now c.requires.of c.see_bounds.ensures.bounds, c.see_bounds.ensures.sound) r c.in_ok-from.ensures.resumed begins
-    (is_store c.search_start.new.self.store c.args.self.now (ap (λ (t : Rows). t.of) c.search_start.ensures.table ∙ c.in_ok-from.ensures.of) c.see_bounds-2.ensures.bounds, c.see_bounds-2.ensures.sound) arrival advanced arrives
+    (is_store c.args.cache.now.store c.args.self.now c.requires.of c.see_bounds.ensures.bounds) r c.in_ok-from.ensures.resumed begins
+    (is_store c.search_start.new.self.store c.args.self.now (ap (λ (t : Rows). t.of) c.search_start.ensures.table ∙ c.in_ok-from.ensures.of) c.see_bounds-2.ensures.bounds) arrival advanced arrives
     (keeping_of c.args.held.now) c.stand.new.walk c.end_search-2.new.self c.span_offset-last.result s.units c.span_offset-last.ensures.value c.end_search-2.ensures.value
     (λ ended. absurd (ended_at s.at.0 (sym ended ∙ s.at.1)))
 

@@ -1,6 +1,7 @@
 use Rattle.std.proofs.Common.{◌≡◌, ◌≤◌, sym, None, subst, rules}
 use Rattle.automata_base.specs.Powersets.Powerset.{cost}
-use Rattle.automata_hybrid.specs.Machines.Machine.{IsStateOf, Machine, greatest}
+use Rattle.automata_hybrid.specs.Machines.Reachable.{IsStateOf}
+use Rattle.automata_hybrid.specs.Machines.Machine.{Machine}
 use Rattle.automata_hybrid.specs.Cache.Table.{Rows, id_of}
 use Rattle.automata_hybrid.proofs.Cache.Clears.{absent-more}
 use Rattle.automata_hybrid.proofs.dfa.clears.keep_row.Goals as goal
@@ -13,6 +14,6 @@ add-requires-clause-new c =
     let lacks : id_of c.args.kept.now c.in_ok-row.row.state ≡ None = search rules in
     record {
       lacks = (lacks, c.in_ok-row.ensures.alive);
-      cheap = subst (λ (m : Machine). cost c.in_ok-row.row.state ≤ greatest m) (sym c.requires.of) c.in_ok-row.ensures.cost;
+      cheap = subst (λ (m : Machine). cost c.in_ok-row.row.state ≤ m.greatest) (sym c.requires.of) c.in_ok-row.ensures.cost;
       own = subst (λ (m : Machine). IsStateOf m c.in_ok-row.row.state) (sym c.requires.of) c.in_ok-row.ensures.of;
     }

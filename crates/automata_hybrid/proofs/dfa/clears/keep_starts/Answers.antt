@@ -6,9 +6,9 @@ use Rattle.std.proofs.lemmas.List.{get_or_past, take_all}
 use Rattle.std.proofs.lemmas.Bool.{cases_lt}
 use Rattle.std.proofs.Math.Nat.{mul-le-mul_right}
 use Rattle.std.specs.Prelude.{sum_by}
-use Rattle.automata_hybrid.specs.Machines.Machine.{Machine, start_of, greatest, table_stride}
-use Rattle.automata_hybrid.specs.Cache.Table.{Rows, fresh, MayLead, row_cost}
-use Rattle.automata_hybrid.specs.Cache.Clears.{keep_slot, keep_slots, kept, Kept}
+use Rattle.automata_hybrid.specs.Machines.Machine.{Machine}
+use Rattle.automata_hybrid.specs.Cache.Table.{Rows, fresh, row_cost}
+use Rattle.automata_hybrid.specs.Cache.Clears.{keep_slot, keep_slots, kept, Kept, IsSlot}
 use Rattle.automata_hybrid.proofs.Cache.Clears.{kept_step, AllStarts-none}
 use Rattle.automata_hybrid.proofs.dfa.clears.keep_starts.Goals as goal
 
@@ -30,7 +30,7 @@ loop-id-init c =
 pub keep_slot-requires-clause-leads : goal.keep_slot-requires-clause-leads
 keep_slot-requires-clause-leads c =
     let at : slice_get c.args.starts.now c.loop-id.id-index ≡ Some c.id-item.result = slice_get_read c.args.starts.now (length c.args.starts.now) c.loop-id.id-index c.id-item.result refl (omega arith) c.id-item.is in
-    subst (λ n. MayLead c.args.old.now c.id-item.result (start_of c.args.old.now.of n)) (sym c.loop-id.invariant.length) (c.requires.named c.loop-id.id-index c.id-item.result at)
+    subst (λ n. IsSlot c.args.old.now n c.id-item.result) (sym c.loop-id.invariant.length) (c.requires.named c.loop-id.id-index c.id-item.result at)
 
 pub loop-id-preserved : goal.loop-id-preserved
 loop-id-preserved c =
@@ -79,13 +79,13 @@ returns c =
 pub keep_slot-requires-clause-fits : goal.keep_slot-requires-clause-fits
 keep_slot-requires-clause-fits c =
     let few : length c.loop-id.table.rows + 3 ≤ length c.args.starts.now + 3 = omega (arith, c.loop-id.invariant.few, c.loop-id-test.true) in
-    let most = mul-le-mul_right (table_stride c.args.old.now.of) few in
-    let whole = subst (λ (m : Machine). length c.loop-id.table.cells ≡ (length c.loop-id.table.rows + 3) * table_stride m) c.loop-id.invariant.of c.see_rows.ensures.rows.whole in
+    let most = mul-le-mul_right c.args.old.now.of.stride few in
+    let whole = subst (λ (m : Machine). length c.loop-id.table.cells ≡ (length c.loop-id.table.rows + 3) * m.stride) c.loop-id.invariant.of c.see_rows.ensures.rows.whole in
     omega (arith, whole, most, c.requires.offsets)
 
 pub keep_slot-requires-clause-costs : goal.keep_slot-requires-clause-costs
 keep_slot-requires-clause-costs c =
     let few : length c.loop-id.table.rows + 1 ≤ length c.args.starts.now + 1 = omega (arith, c.loop-id.invariant.few, c.loop-id-test.true) in
-    let most = mul-le-mul_right (greatest c.args.old.now.of) few in
-    let costs = subst (λ (m : Machine). sum_by row_cost c.loop-id.table.rows ≤ length c.loop-id.table.rows * greatest m) c.loop-id.invariant.of c.see_rows.ensures.costs in
+    let most = mul-le-mul_right c.args.old.now.of.greatest few in
+    let costs = subst (λ (m : Machine). sum_by row_cost c.loop-id.table.rows ≤ length c.loop-id.table.rows * m.greatest) c.loop-id.invariant.of c.see_rows.ensures.costs in
     omega (arith, costs, most, c.requires.costs)

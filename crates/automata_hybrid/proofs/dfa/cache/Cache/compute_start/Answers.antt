@@ -3,7 +3,7 @@ use Rattle.automata_base.specs.Powersets.Powerset.{Powerset}
 use Rattle.automata_base.specs.Retraced.Steps.{start_state_of}
 use Rattle.automata_hybrid.specs.Cache.Caches.{CacheView}
 use Rattle.automata_hybrid.specs.Cache.LookUps.{IsLookedUp}
-use Rattle.automata_hybrid.specs.Machines.Machine.{Machine, slot_count}
+use Rattle.automata_hybrid.specs.Machines.Machine.{Machine}
 use Rattle.automata_hybrid.specs.Cache.Table.{IsNewState, Leads, Names}
 use Rattle.automata_hybrid.specs.declared.dfa.cache.Found.TheVariants.{Known, New}
 use Rattle.automata_hybrid.proofs.Cache.Additions.{cheap, looked_up, new_state}
@@ -57,26 +57,26 @@ add_start-requires-clause-new c =
 pub returns-in-Known-clause-answer : goal.returns-in-Known-clause-answer
 returns-in-Known-clause-answer c =
     computed_answer c.args.dfa.now c.args.mode c.args.prev c.args.self.now c.set_start.new.self c.args.slot c.in-Known.id (known c)
-    c.requires.slot c.requires.unknown (c.see_bounds.ensures.sound.slots ∙ ap (λ (m : Machine). slot_count m) c.requires.of)
+    c.requires.slot c.requires.unknown (c.see_bounds.ensures.sound.slots ∙ ap (λ (m : Machine). m.slots) c.requires.of)
     (c.see_bounds-in-Known.ensures.sound.tagged c.in-Known.id)
 
 pub returns-in-Known-clause-effect : goal.returns-in-Known-clause-effect
 returns-in-Known-clause-effect c =
     computed_effect c.args.dfa.now c.args.mode c.args.prev c.args.self.now c.set_start.new.self c.args.slot c.in-Known.id (known c)
-    c.requires.slot c.requires.unknown (c.see_bounds.ensures.sound.slots ∙ ap (λ (m : Machine). slot_count m) c.requires.of)
+    c.requires.slot c.requires.unknown (c.see_bounds.ensures.sound.slots ∙ ap (λ (m : Machine). m.slots) c.requires.of)
     c.see_bounds.ensures.sound.cells c.see_bounds.ensures.sound.wide c.see_bounds.ensures.sound.clears (cheap c.args.dfa.now c.args.self.now.store.table.of c.in_ok-key.key (start_state_of c.args.dfa.now.nfa c.args.mode c.args.prev) c.requires.of c.in_ok-key.ensures.value c.in_ok-key.ensures.cost)
     c.see_bounds.ensures.sound.ids c.see_bounds-in-Known.ensures.sound.ids c.requires.of
 
 pub returns-in_ok-id-in-New-clause-answer : goal.returns-in_ok-id-in-New-clause-answer
 returns-in_ok-id-in-New-clause-answer c =
     computed_answer c.args.dfa.now c.args.mode c.args.prev c.args.self.now c.set_start-in-New.new.self c.args.slot c.in_ok-id-in-New.id (new c)
-    c.requires.slot c.requires.unknown (c.see_bounds.ensures.sound.slots ∙ ap (λ (m : Machine). slot_count m) c.requires.of)
+    c.requires.slot c.requires.unknown (c.see_bounds.ensures.sound.slots ∙ ap (λ (m : Machine). m.slots) c.requires.of)
     (c.see_bounds-in-New.ensures.sound.tagged c.in_ok-id-in-New.id)
 
 pub returns-in_ok-id-in-New-clause-effect : goal.returns-in_ok-id-in-New-clause-effect
 returns-in_ok-id-in-New-clause-effect c =
     computed_effect c.args.dfa.now c.args.mode c.args.prev c.args.self.now c.set_start-in-New.new.self c.args.slot c.in_ok-id-in-New.id (new c)
-    c.requires.slot c.requires.unknown (c.see_bounds.ensures.sound.slots ∙ ap (λ (m : Machine). slot_count m) c.requires.of)
+    c.requires.slot c.requires.unknown (c.see_bounds.ensures.sound.slots ∙ ap (λ (m : Machine). m.slots) c.requires.of)
     c.see_bounds.ensures.sound.cells c.see_bounds.ensures.sound.wide c.see_bounds.ensures.sound.clears (cheap c.args.dfa.now c.args.self.now.store.table.of c.in_ok-key.key (start_state_of c.args.dfa.now.nfa c.args.mode c.args.prev) c.requires.of c.in_ok-key.ensures.value c.in_ok-key.ensures.cost)
     c.see_bounds.ensures.sound.ids c.see_bounds-in-New.ensures.sound.ids c.requires.of
 

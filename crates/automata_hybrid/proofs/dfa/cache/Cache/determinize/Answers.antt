@@ -1,11 +1,14 @@
-use Rattle.std.proofs.Common.{◌≡◌, ◌∙◌, ap, subst, suc, sym}
+use Rattle.std.proofs.Common.{◌≡◌, ◌≤◌, ◌∙◌, ap, subst, suc, sym}
 use Rattle.std.proofs.Math.Logic.{∥∥₁_map}
 use Rattle.automata_base.specs.Nfas.Nodes.{Automaton}
+use Rattle.automata_base.specs.Powersets.Accounting.{max_cost}
+use Rattle.automata_base.specs.Powersets.Powerset.{Powerset, cost}
 use Rattle.automata_base.specs.Paths.Starts.{IsOf, NeedsOwnLooks}
 use Rattle.automata_base.specs.Answers.Within.{ReportsOwn}
 use Rattle.automata_base.specs.Retraced.Steps.{successor}
 use Rattle.automata_hybrid.specs.Machines.OwnStates.{IsOwn}
-use Rattle.automata_hybrid.specs.Machines.Machine.{IsStateOf, Machine, next_of}
+use Rattle.automata_hybrid.specs.Machines.Machine.{Machine}
+use Rattle.automata_hybrid.specs.Machines.Reachable.{IsStateOf}
 use Rattle.automata_hybrid.specs.Cache.Table.{Names}
 use Rattle.automata_hybrid.specs.Cache.Caches.{CacheView}
 use Rattle.automata_hybrid.specs.declared.dfa.cache.Cache.TheInside.{Inside}
@@ -25,12 +28,11 @@ from_row c =
     let m = ap (λ (i : Inside). i.store.table.of) c.self-inside.view_is ∙ (ap (λ (v : CacheView). v.store.table.of) c.self.view_is ∙ c.requires.of) in
     subst (λ (u : Machine). IsStateOf u c.state-from.result.now) m c.state-from.ensures.of
 
--- and its key is the next state of the class
-next_row : (c : goal.In_ok-key) → c.in_ok-key.key ≡ next_of c.args.dfa.now c.state-from.result.now c.args.class
+-- and its key is the next state
+next_row : (c : goal.In_ok-key) → c.in_ok-key.key ≡ successor c.args.dfa.now.nfa (match_kind_of c.args.dfa.now.config) c.state-from.result.now c.args.unit
 next_row c =
     let kind = c.get_match_kind-kind.ensures ∙ ap (λ (o : Options). match_kind_of o) c.get_config.ensures in
-    let same : successor c.get_nfa.result.now c.get_match_kind-kind.result c.state-from.result.now c.args.unit ≡ successor c.args.dfa.now.nfa (match_kind_of c.args.dfa.now.config) c.state-from.result.now c.args.unit = λ i. successor (c.get_nfa.ensures i) (kind i) c.state-from.result.now c.args.unit in
-    c.in_ok-key.ensures.made.same ∙ (same ∙ c.requires.class.alike c.state-from.result.now (from_row c).own)
+    c.in_ok-key.ensures.made.same ∙ (λ i. successor (c.get_nfa.ensures i) (kind i) c.state-from.result.now c.args.unit)
 
 pub returns-clause-is_of : goal.returns-clause-is_of
 unfolding IsOwn
@@ -42,12 +44,26 @@ returns-clause-is_of c = record {
   );
   reached =
       ∥∥₁_map (from_row c).reached
-      (λ before. (suc before.0, (c.state-from.result.now, c.args.class, before.1, c.requires.class.below, c.requires.class.free, next_row c)));
+      (λ before. (suc before.0, (c.state-from.result.now, c.args.unit, before.1, c.requires.clean, next_row c)));
 }
+
+-- it steps from the state that the ID names
+from_is : (c : goal.In_ok-key) (q : Powerset) → Names c.args.self.now.store.table c.args.id q → c.state-from.result.now ≡ q
+from_is c q n =
+    let stored : Names c.self.inside.store.table c.args.id q = subst (λ (v : CacheView). Names v.store.table c.args.id q) (sym c.self.view_is) n in
+    c.state-from.ensures.named q (subst (λ (i : Inside). Names i.store.table c.args.id q) (sym c.self-inside.view_is) stored)
 
 pub returns-clause-value : goal.returns-clause-value
 returns-clause-value c = λ q n.
-    let stored : Names c.self.inside.store.table c.args.id q = subst (λ (v : CacheView). Names v.store.table c.args.id q) (sym c.self.view_is) n in
-    let named = subst (λ (i : Inside). Names i.store.table c.args.id q) (sym c.self-inside.view_is) stored in
-    let from : c.state-from.result.now ≡ q = c.state-from.ensures.named q named in
-    next_row c ∙ ap (λ p. next_of c.args.dfa.now p c.args.class) from
+    next_row c ∙ ap (λ p. successor c.args.dfa.now.nfa (match_kind_of c.args.dfa.now.config) p c.args.unit) (from_is c q n)
+
+pub returns-clause-alike : goal.returns-clause-alike
+returns-clause-alike c = λ q n other unit class.
+    next_row c
+    ∙ (c.see_machine.ensures.machine.alike c.state-from.result.now c.args.unit other (from_row c).own c.requires.unit unit (sym class)
+    ∙ ap (λ p. successor c.args.dfa.now.nfa (match_kind_of c.args.dfa.now.config) p other) (from_is c q n))
+
+pub returns-clause-cost : goal.returns-clause-cost
+returns-clause-cost c =
+    let most : max_cost c.get_nfa.result.now ≡ c.args.dfa.now.greatest = ap (λ (a : Automaton). max_cost a) c.get_nfa.ensures ∙ sym c.see_machine.ensures.machine.sizes.greatest in
+    subst (λ n. cost c.in_ok-key.key ≤ n) most c.in_ok-key.ensures.made.bounded

@@ -1,9 +1,6 @@
-use Rattle.std.proofs.Common.{◌^◌, ◌<◌, ◌≤◌, arith, subst}
+use Rattle.std.proofs.Common.{◌^◌, ◌<◌, ◌≤◌, arith}
 use Rattle.std.proofs.lemmas.Grind.{common_steps}
-use Rattle.automata_base.specs.Powersets.Powerset.{Powerset}
-use Rattle.automata_hybrid.specs.Machines.Machine.{Machine}
-use Rattle.automata_hybrid.specs.Machines.OwnStates.{IsOwn}
-use Rattle.automata_hybrid.specs.Cache.Table.{IsRowId, Names}
+use Rattle.automata_hybrid.specs.Cache.Table.{IsRowId}
 use Rattle.automata_hybrid.proofs.Steps.BySteps.{stands_step}
 use Rattle.automata_hybrid.proofs.Steps.Steps.{cell_known, fixed_answer, known_answer, same_effect, unknown_clean}
 use Rattle.automata_hybrid.proofs.Steps.Steps.{unknown_free}
@@ -25,11 +22,10 @@ returns-then-not-is_unknown-clause-answer c =
     let low : c.args.id < 2 ^ 29 = grind (arith, common_steps, c.if-is_fixed.ensures) in
     let valid : IsRowId c.args.self.now.store.table c.args.id = HoldsRow-valid c.args.self.now c.args.id c.requires.row low in
     let known : c.cell-cell.result < 2 ^ 31 = grind (arith, common_steps, c.if-not-is_unknown.ensures.size) in
-    let own : (q : Powerset) → Names c.args.self.now.store.table c.args.id q → IsOwn c.args.dfa.now.nfa q = λ q n. subst (λ (d : Machine). IsOwn d.nfa q) c.requires.of (c.see_bounds.ensures.sound.own c.args.id q n) in
     known_answer c.args.dfa.now c.args.id c.args.unit c.args.self.now c.unit_class-class.result c.cell-cell.result c.requires.of valid
     c.unit_class-class.ensures.value c.unit_class-class.ensures.small c.unit_class-class.ensures.quit c.unit_class-class.ensures.free
     c.cell-cell.ensures.value c.cell-cell.ensures.named low known c.cell-cell.ensures.tag
-    (λ q n. c.unit_class-class.ensures.alike q (own q n))
+    c.unit_class-class.ensures.unit
 
 pub returns-then-not-is_unknown-clause-effect : goal.returns-then-not-is_unknown-clause-effect
 returns-then-not-is_unknown-clause-effect c =

@@ -6,6 +6,7 @@ use Rattle.automata_hybrid.proofs.dfa.cache.Cache.see_bounds.Goals as goal
 
 pub returns-clause-bounds : goal.returns-clause-bounds
 returns-clause-bounds c =
+    let r = c.see_rows.ensures in
     subst (λ (v : CacheView). IsStoreOf v.store v.store.table.of) c.self.view_is
     (subst (λ (i : Inside). IsStoreOf i.store i.store.table.of) c.self-inside.view_is (record {
       of = refl;
@@ -13,6 +14,9 @@ returns-clause-bounds c =
       starts = c.self-inside.invariant.named;
       slots = c.self-inside.invariant.slots;
       within = c.self-inside.invariant.within;
+      small = r.template.small;
+      wide = r.template.whole;
+      clears = omega arith;
     }))
 
 pub returns-clause-sound : goal.returns-clause-sound

@@ -1,8 +1,8 @@
 use Rattle.std.proofs.Common.{◌≡◌, ◌∙◌, ◌≤◌, subst, sym}
 use Rattle.automata_base.specs.Powersets.Powerset.{Powerset, cost}
+use Rattle.automata_hybrid.specs.Machines.Reachable.{IsStateOf}
 use Rattle.automata_hybrid.specs.declared.dfa.cache.Cache.TheInside.{Inside}
 use Rattle.automata_hybrid.specs.Cache.Caches.{CacheView}
-use Rattle.automata_hybrid.specs.Machines.Machine.{IsStateOf, greatest}
 use Rattle.automata_hybrid.specs.Cache.Table.{Names}
 use Rattle.automata_hybrid.proofs.dfa.cache.Cache.snapshot.Goals as goal
 
@@ -17,8 +17,8 @@ returns-clause-row c =
       own = subst (λ (p : Powerset). IsStateOf c.args.self.now.store.table.of p) (sym c.of.ensures)
           (subst (λ (v : CacheView). IsStateOf v.store.table.of c.state.result.now) c.self.view_is
           (subst (λ (i : Inside). IsStateOf i.store.table.of c.state.result.now) c.self-inside.view_is c.state.ensures.of));
-      cheap = subst (λ (p : Powerset). cost p ≤ greatest c.args.self.now.store.table.of) (sym c.of.ensures)
-          (subst (λ (v : CacheView). cost c.state.result.now ≤ greatest v.store.table.of) c.self.view_is
-          (subst (λ (i : Inside). cost c.state.result.now ≤ greatest i.store.table.of) c.self-inside.view_is c.state.ensures.cost));
+      cheap = subst (λ (p : Powerset). cost p ≤ c.args.self.now.store.table.of.greatest) (sym c.of.ensures)
+          (subst (λ (v : CacheView). cost c.state.result.now ≤ v.store.table.of.greatest) c.self.view_is
+          (subst (λ (i : Inside). cost c.state.result.now ≤ i.store.table.of.greatest) c.self-inside.view_is c.state.ensures.cost));
       alive = λ dies. c.see_bounds.ensures.sound.alive c.args.id q c.requires.1 (sym named ∙ (sym c.of.ensures ∙ dies));
     }

@@ -1,6 +1,6 @@
 use Rattle.std.proofs.Common.{◌∙◌, ◌^◌, ◌<◌, ◌≤◌, ap, arith, subst, sym}
 use Rattle.std.proofs.lemmas.Grind.{common_steps}
-use Rattle.automata_hybrid.specs.Machines.Machine.{Machine, slot_count}
+use Rattle.automata_hybrid.specs.Machines.Machine.{Machine}
 use Rattle.automata_hybrid.specs.Steps.Starts.{IsStartRefused, KnowsStart}
 use Rattle.automata_hybrid.specs.Cache.Stores.{IsKnownStart}
 use Rattle.automata_hybrid.proofs.Steps.Starts.{knows_slot, known_answer, known_effect}
@@ -10,7 +10,7 @@ pub returns-then-not-is_unknown-clause-answer : goal.returns-then-not-is_unknown
 returns-then-not-is_unknown-clause-answer c =
     let low : c.start_slot-found.result < 2 ^ 31 = grind (arith, common_steps, c.if-not-is_unknown.ensures.size) in
     let known : IsKnownStart c.args.self.now.store c.args.slot = subst (λ n. n < 2 ^ 31) c.start_slot-found.ensures.value low in
-    let knows : KnowsStart c.args.dfa.now c.args.self.now.store c.args.mode c.args.prev = knows_slot c.args.dfa.now c.args.self.now.store c.args.mode c.args.prev c.args.slot c.requires.slot (c.see_bounds.ensures.sound.slots ∙ ap (λ (m : Machine). slot_count m) c.requires.of) known in
+    let knows : KnowsStart c.args.dfa.now c.args.self.now.store c.args.mode c.args.prev = knows_slot c.args.dfa.now c.args.self.now.store c.args.mode c.args.prev c.args.slot c.requires.slot (c.see_bounds.ensures.sound.slots ∙ ap (λ (m : Machine). m.slots) c.requires.of) known in
     known_answer c.args.dfa.now c.args.mode c.args.prev c.args.self.now c.args.slot c.start_slot-found.result c.requires.of c.requires.slot knows
     c.start_slot-found.ensures.value low c.start_slot-found.ensures.leads c.start_slot-found.ensures.tag
 
@@ -18,7 +18,7 @@ pub returns-then-not-is_unknown-clause-effect : goal.returns-then-not-is_unknown
 returns-then-not-is_unknown-clause-effect c =
     let low : c.start_slot-found.result < 2 ^ 31 = grind (arith, common_steps, c.if-not-is_unknown.ensures.size) in
     let known : IsKnownStart c.args.self.now.store c.args.slot = subst (λ n. n < 2 ^ 31) c.start_slot-found.ensures.value low in
-    known_effect c.args.dfa.now c.args.mode c.args.prev c.args.self.now (knows_slot c.args.dfa.now c.args.self.now.store c.args.mode c.args.prev c.args.slot c.requires.slot (c.see_bounds.ensures.sound.slots ∙ ap (λ (m : Machine). slot_count m) c.requires.of) known)
+    known_effect c.args.dfa.now c.args.mode c.args.prev c.args.self.now (knows_slot c.args.dfa.now c.args.self.now.store c.args.mode c.args.prev c.args.slot c.requires.slot (c.see_bounds.ensures.sound.slots ∙ ap (λ (m : Machine). m.slots) c.requires.of) known)
 
 pub compute_start-requires-clause-unknown : goal.compute_start-requires-clause-unknown
 compute_start-requires-clause-unknown c = λ knows.

@@ -1,8 +1,8 @@
 use Rattle.std.proofs.Common.{◌≡◌, [], ◌∷◌, ◌++◌, ◌^◌, ◌<◌, ◌≤◌, length, cond, Some, arith, None}
 use Rattle.std.specs.HashMap.{get}
 use Rattle.std.proofs.lemmas.Grind.{common_steps}
+use Rattle.automata_hybrid.specs.Machines.Reachable.{IsStateOf}
 use Rattle.automata_hybrid.proofs.Cache.Rows.{IsHeld-with_row, IsHeld-map, Names-new, Names-more}
-use Rattle.automata_hybrid.specs.Machines.Machine.{IsStateOf, greatest, template_of}
 use Rattle.automata_hybrid.specs.Cache.Table.{Rows, Names, id_of, row_id}
 use Rattle.automata_hybrid.specs.declared.dfa.row.Row.{Row}
 use Rattle.automata_base.specs.Powersets.Powerset.{Powerset, cost}
@@ -23,12 +23,12 @@ pub invariant_of-self-2 : goal.invariant_of-self-2
 invariant_of-self-2 c =
     let q = c.args.state in
     let r : Row = record { state = c.args.state; started = c.args.started } in
-    let cells : c.extend_from_slice-grown.new.self.items ≡ c.self.inside.cells.items ++ template_of c.self.inside.of.value = grind (arith, common_steps, c.self.invariant.template) in
+    let cells : c.extend_from_slice-grown.new.self.items ≡ c.self.inside.cells.items ++ c.self.inside.of.value.template = grind (arith, common_steps, c.self.invariant.template) in
     let rows : c.push-pushed.new.self.items ≡ c.self.inside.rows.items ++ r ∷ [] = grind (arith, common_steps) in
     let absent : id_of (record { of = c.self.inside.of.value; cells = c.self.inside.cells.items; rows = c.self.inside.rows.items }) q ≡ None = rw (← c.self.view_is) at c.requires.new.lacks.0 in
     let fits : length c.self.inside.cells.items < 2 ^ 27 = rw (← c.self.view_is) at c.requires.fits in
     let map : (p : Powerset) → get powerset_eq c.insert-inserted.new.self p ≡ cond (powerset_eq q p) (Some (row_id (length c.self.inside.cells.items) r)) (get powerset_eq c.self.inside.map p) = λ p. grind (arith, common_steps, c.in_ok-reserve-3.ensures.entries.2 p) in
-    let cheap : cost q ≤ greatest c.self.inside.of.value = rw (← c.self.view_is) at c.requires.new.cheap in
+    let cheap : cost q ≤ c.self.inside.of.value.greatest = rw (← c.self.view_is) at c.requires.new.cheap in
     let of : IsStateOf c.self.inside.of.value q = rw (← c.self.view_is) at c.requires.new.own in
     rw (cells, rows, c.requires.bytes) (IsHeld-with_row _ r _ _ c.self.inside.map c.insert-inserted.new.self c.self.inside.costs c.self.invariant absent c.requires.new.lacks.1 cheap of fits map)
 
@@ -36,7 +36,7 @@ pub returns-clause-named : goal.returns-clause-named
 returns-clause-named c =
     let q = c.args.state in
     let r : Row = record { state = c.args.state; started = c.args.started } in
-    let cells : c.extend_from_slice-grown.new.self.items ≡ c.self.inside.cells.items ++ template_of c.self.inside.of.value = grind (arith, common_steps, c.self.invariant.template) in
+    let cells : c.extend_from_slice-grown.new.self.items ≡ c.self.inside.cells.items ++ c.self.inside.of.value.template = grind (arith, common_steps, c.self.invariant.template) in
     let rows : c.push-pushed.new.self.items ≡ c.self.inside.rows.items ++ r ∷ [] = grind (arith, common_steps) in
     let absent : id_of (record { of = c.self.inside.of.value; cells = c.self.inside.cells.items; rows = c.self.inside.rows.items }) q ≡ None = rw (← c.self.view_is) at c.requires.new.lacks.0 in
     let id : c.of_row-id.result ≡ row_id (length c.self.inside.cells.items) r = grind (arith, common_steps) in

@@ -3,31 +3,29 @@ use Rattle.std.proofs.Common.{length, vec_len, get_or, slice_get, Some}
 use Rattle.std.proofs.lemmas.Bool.{eqb-true, eq-eqb}
 use Rattle.std.proofs.lemmas.Option.{slice_get_read}
 use Rattle.automata_hybrid.specs.declared.dfa.row.Row.{Row}
-use Rattle.automata_hybrid.proofs.Cache.Strides.{table_stride_power}
 use Rattle.automata_hybrid.proofs.Cache.Places.{placed_valid, valid_at}
 use Rattle.automata_base.proofs.Paths.Orders.{some_inj}
 use Rattle.automata_hybrid.specs.Cache.Table.{AreRows, Rows, IsRowId, row_id}
 use Rattle.automata_hybrid.proofs.dfa.table.Table.has_row.Goals as goal
 use Rattle.automata_hybrid.proofs.dfa.table.Table.has_row.Goals.{then-index-lt3-via-then-index-lt3}
 use Rattle.automata_hybrid.proofs.dfa.table.Table.has_row.Goals.{then-index-lt3-via-else-index-lt3+then-len-index}
-use Rattle.automata_hybrid.specs.Machines.Machine.{table_stride}
 
 pub rows_before-index-requires : goal.rows_before-index-requires
 rows_before-index-requires c =
-    let s : c.self.inside.stride ≡ table_stride c.args.self.now.of = c.self.invariant.stride ∙ ap (λ (v : Rows). table_stride v.of) c.self.view_is in
-    let power = table_stride_power c.args.self.now.of in
+    let s : c.self.inside.stride ≡ c.args.self.now.of.stride = c.self.invariant.stride ∙ ap (λ (v : Rows). v.of.stride) c.self.view_is in
+    let power = c.self.invariant.cells.power in
     record {
       positive = subst (λ n. 0 < n) (sym c.self.invariant.stride) c.self.invariant.cells.positive;
-      power = (power.0, s ∙ power.1);
+      power = (power.0, c.self.invariant.stride ∙ power.1);
     }
 
 pub returns-then-index-lt3 : goal.returns-then-index-lt3
 returns-then-index-lt3 c =
     let t : Rows = c.args.self.now in
     let i : AreRows t = subst AreRows c.self.view_is c.self.invariant.rows in
-    let positive : 0 < table_stride t.of = subst (λ (v : Rows). 0 < table_stride v.of) c.self.view_is c.self.invariant.cells.positive in
-    let s : c.self.inside.stride ≡ table_stride t.of = c.self.invariant.stride ∙ ap (λ (v : Rows). table_stride v.of) c.self.view_is in
-    let e : c.rows_before-index.result ≡ (c.args.id % 2 ^ 27) / table_stride t.of =
+    let positive : 0 < t.of.stride = subst (λ (v : Rows). 0 < v.of.stride) c.self.view_is c.self.invariant.cells.positive in
+    let s : c.self.inside.stride ≡ t.of.stride = c.self.invariant.stride ∙ ap (λ (v : Rows). v.of.stride) c.self.view_is in
+    let e : c.rows_before-index.result ≡ (c.args.id % 2 ^ 27) / t.of.stride =
     c.rows_before-index.ensures ∙ ap (λ n. n / c.self.inside.stride) c.offset-offset.ensures ∙ ap (λ z. (c.args.id % 2 ^ 27) / z) s in
     let rows : length c.self.inside.rows.items ≡ length t.rows = ap (λ (v : Rows). length v.rows) c.self.view_is in
     let none : IsRowId t c.args.id → ⊥ =
@@ -42,22 +40,22 @@ pub returns-then-index-self : goal.returns-then-index-self
 returns-then-index-self c =
     let t : Rows = c.args.self.now in
     let i : AreRows t = subst AreRows c.self.view_is c.self.invariant.rows in
-    let positive : 0 < table_stride t.of = subst (λ (v : Rows). 0 < table_stride v.of) c.self.view_is c.self.invariant.cells.positive in
-    let s : c.self.inside.stride ≡ table_stride t.of = c.self.invariant.stride ∙ ap (λ (v : Rows). table_stride v.of) c.self.view_is in
-    let e : c.rows_before-index.result ≡ (c.args.id % 2 ^ 27) / table_stride t.of =
+    let positive : 0 < t.of.stride = subst (λ (v : Rows). 0 < v.of.stride) c.self.view_is c.self.invariant.cells.positive in
+    let s : c.self.inside.stride ≡ t.of.stride = c.self.invariant.stride ∙ ap (λ (v : Rows). v.of.stride) c.self.view_is in
+    let e : c.rows_before-index.result ≡ (c.args.id % 2 ^ 27) / t.of.stride =
     c.rows_before-index.ensures ∙ ap (λ n. n / c.self.inside.stride) c.offset-offset.ensures ∙ ap (λ z. (c.args.id % 2 ^ 27) / z) s in (
       (λ f. absurd (true≢false (sym f))),
       λ v. let a = valid_at t c.args.id i positive v in
-          absurd (c.if-index-self.true (ap (λ n. n * c.self.inside.stride) e ∙ ap (λ z. (c.args.id % 2 ^ 27) / table_stride t.of * z) s ∙ a.at ∙ sym c.offset-offset.ensures)),
+          absurd (c.if-index-self.true (ap (λ n. n * c.self.inside.stride) e ∙ ap (λ z. (c.args.id % 2 ^ 27) / t.of.stride * z) s ∙ a.at ∙ sym c.offset-offset.ensures)),
     )
 
 pub returns : goal.returns
 returns c =
     let t : Rows = c.args.self.now in
     let i : AreRows t = subst AreRows c.self.view_is c.self.invariant.rows in
-    let positive : 0 < table_stride t.of = subst (λ (v : Rows). 0 < table_stride v.of) c.self.view_is c.self.invariant.cells.positive in
-    let s : c.self.inside.stride ≡ table_stride t.of = c.self.invariant.stride ∙ ap (λ (v : Rows). table_stride v.of) c.self.view_is in
-    let e : c.rows_before-index.result ≡ (c.args.id % 2 ^ 27) / table_stride t.of =
+    let positive : 0 < t.of.stride = subst (λ (v : Rows). 0 < v.of.stride) c.self.view_is c.self.invariant.cells.positive in
+    let s : c.self.inside.stride ≡ t.of.stride = c.self.invariant.stride ∙ ap (λ (v : Rows). v.of.stride) c.self.view_is in
+    let e : c.rows_before-index.result ≡ (c.args.id % 2 ^ 27) / t.of.stride =
     c.rows_before-index.ensures ∙ ap (λ n. n / c.self.inside.stride) c.offset-offset.ensures ∙ ap (λ z. (c.args.id % 2 ^ 27) / z) s in
     let row : Row = c.index-row.result.now in
     let three : 3 ≤ c.rows_before-index.result = omega (arith, c.if-index-lt3.false) in
@@ -68,7 +66,7 @@ returns c =
     c.index-row.ensures ∙ ap (λ (v : Rows). get_or v.rows (c.rows_before-index.result - 3) row) c.self.view_is in
     let has : slice_get t.rows (c.rows_before-index.result - 3) ≡ Some row =
     slice_get_read t.rows (length t.rows) (c.rows_before-index.result - 3) row refl few read in
-    let at : c.rows_before-index.result * table_stride t.of ≡ c.args.id % 2 ^ 27 =
+    let at : c.rows_before-index.result * t.of.stride ≡ c.args.id % 2 ^ 27 =
     ap (λ z. c.rows_before-index.result * z) (sym s) ∙ c.if-index-self.false ∙ c.offset-offset.ensures in
     let made : c.id.result ≡ row_id (c.args.id % 2 ^ 27) row = c.id.ensures ∙ ap (λ n. row_id n row) c.offset-offset.ensures in (
       (λ yes. placed_valid t c.args.id (c.rows_before-index.result) row i three has at

@@ -2,7 +2,7 @@ use Rattle.std.proofs.Common.{subst}
 use Rattle.automata_hybrid.proofs.Cache.Places.{AreRows-costs, Names-Placed, Names-alive, Names-own, Names-tagged}
 use Rattle.automata_hybrid.proofs.Cache.Places.{Placed-cell}
 use Rattle.automata_hybrid.specs.Cache.Table.{AreRows, Rows}
-use Rattle.automata_hybrid.specs.Machines.Machine.{IsTemplate, table_stride, template_of}
+use Rattle.automata_hybrid.specs.Machines.Machine.{IsTemplate}
 use Rattle.automata_hybrid.proofs.dfa.table.Table.see_rows.Goals as goal
 
 pub returns : goal.returns
@@ -11,7 +11,7 @@ returns c =
     let i : AreRows t = subst AreRows c.self.view_is c.self.invariant.rows in
     record {
       rows = i;
-      template = subst (λ (v : Rows). IsTemplate (table_stride v.of) (template_of v.of)) c.self.view_is c.self.invariant.cells;
+      template = subst (λ (v : Rows). IsTemplate v.of.stride v.of.template) c.self.view_is c.self.invariant.cells;
       costs = AreRows-costs t i;
       low = λ id q h. (Names-Placed t id q i h).low;
       tagged = λ id q h. Names-tagged t id q i h;

@@ -1,0 +1,29 @@
+-- The states of a lazy DFA: those that a search can come to.
+use Rattle.std.specs.Prelude.{ℕ, zero, suc, ◌≡◌, ◌<◌, false, Option}
+use Rattle.automata_base.specs.Powersets.Powerset.{Powerset}
+use Rattle.automata_base.specs.Retraced.Steps.{successor, start_state_of}
+use Rattle.automata_base.specs.declared.util.search.Anchored.{Anchored}
+use Rattle.automata_config.specs.Options.{match_kind_of}
+use Rattle.automata_hybrid.specs.Machines.Machine.{Machine, quits_on}
+use Rattle.automata_hybrid.specs.Machines.OwnStates.{IsOwn}
+use Rattle.automata_hybrid.specs.Machines.StartSlots.{slot_behind}
+
+-- so many units, none a quit byte, lead to a state from the start state of some mode that has a slot
+abbrev pub IsReachableBy : Machine → ℕ → Powerset → Type 0
+IsReachableBy m zero q =
+    (mode : Anchored) × (behind : Option ℕ) × (slot_behind m mode behind < m.slots)
+    × (q ≡ start_state_of m.nfa mode behind)
+IsReachableBy m (suc units) q =
+    (before : Powerset) × (unit : Option ℕ) × IsReachableBy m units before × (quits_on m unit ≡ false)
+    × (q ≡ successor m.nfa (match_kind_of m.config) before unit)
+
+-- a search can come to a state
+abbrev pub IsReachable : Machine → Powerset → Type 0
+IsReachable m q = ∥ ((units : ℕ) × IsReachableBy m units q) ∥₁
+
+-- a state of a lazy DFA
+pub record IsStateOf (m : Machine) (q : Powerset) : Type 0 where
+  -- It is made of what the automaton has.
+  pub own : IsOwn m.nfa q
+  -- A search can come to it.
+  pub reached : IsReachable m q
