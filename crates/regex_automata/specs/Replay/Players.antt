@@ -1,5 +1,5 @@
 -- How what a replay keeps fits the history of its requests and replies.
-use Rattle.std.specs.Prelude.{ℕ, ◌≡◌, ◌+◌, ◌<◌, List, [], ◌∷◌, slice_set, Option, Some, Result}
+use Rattle.std.specs.Prelude.{ℕ, ◌≡◌, ◌+◌, List, [], ◌∷◌, slice_set, Option, Some, Result}
 use Rattle.std.specs.Prelude.{OnOk, OnErr, slice_get}
 use Rattle.automata_base.specs.Haystacks.Input.{Input}
 use Rattle.automata_base.specs.Haystacks.Matches.{HalfMatch}
