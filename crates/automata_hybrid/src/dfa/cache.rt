@@ -178,7 +178,9 @@ impl Cache {
         Ok(Found::New(state))
     }
 
-    /// The ID of a state, if the cache has it.
+    /// The ID of a state, if the cache has it. It is a call, since a set takes 3% more where a walk has its text, although
+    /// no set asks.
+    #[inline(never)]
     pub(crate) fn find(&self, key: &Key) -> Option<LazyStateID>
         ensures { result ≡ id_of self.now.store.table key.now }
     {

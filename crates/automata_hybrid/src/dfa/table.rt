@@ -88,6 +88,7 @@ fn rows_before(offset: usize, stride: usize) -> usize
 
 impl Table {
     /// The ID of a state, where the table has it.
+    #[inline(always)]
     pub fn get(&self, state: &Key) -> Option<LazyStateID>
         ensures { result ≡ id_of self.now state.now }
     {
