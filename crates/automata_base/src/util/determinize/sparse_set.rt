@@ -9,7 +9,7 @@ use std::alloc::{AllocError, Global};
 use std::marker::Model;
 
 /// A set of numbers below its capacity, which keeps the order in which they came.
-#[derive(Drop)]
+#[derive(Debug, Drop)]
 pub struct SparseSet {
     len: usize,
     dense: Vec<StateID>,
