@@ -1,6 +1,6 @@
 -- The closure of the unanchored start: how it is found, tested and added.
-use Rattle.std.proofs.Common.{ℕ, Bool, true, false, ◌≡◌, ◌+◌, ◌<◌, ◌≤◌, List, [], ◌∷◌, ◌++◌, Option, Some, None, inl, inr}
-use Rattle.std.proofs.Common.{length, get_or, drop, cond, refl, sym, ap, ◌∙◌, subst, ⊎_elim, append_assoc, append-nil}
+use Rattle.std.proofs.Common.{ℕ, Bool, ◌≡◌, ◌+◌, ◌<◌, ◌≤◌, List, [], ◌∷◌, ◌++◌, Option, Some, None, inl, inr}
+use Rattle.std.proofs.Common.{length, get_or, drop, refl, sym, ap, ◌∙◌, subst, ⊎_elim, append_assoc, append-nil}
 use Rattle.std.specs.Prelude.{IfSome}
 use Rattle.std.proofs.lemmas.List.{drop_all}
 use Rattle.automata_base.specs.declared.nfa.thompson.Data.{Data}
@@ -11,9 +11,6 @@ use Rattle.automata_base.specs.Nfas.Nodes.{nfa_of}
 use Rattle.automata_base.specs.Nfas.StartClosure.{IsStartClosure}
 use Rattle.automata_base.specs.Powersets.Closure.{Visits, done, IsUnderWay}
 use Rattle.automata_base.specs.Powersets.Members.{Members}
-use Rattle.automata_base.specs.Retraced.Computed.{is_in}
-use Rattle.automata_base.specs.Retraced.Once.{once_from}
-use Rattle.automata_base.proofs.Paths.Fuels.{is_in_true}
 use Rattle.automata_base.proofs.Paths.Loops.{visits_alike}
 use Rattle.automata_base.proofs.Paths.Walks.{in_either}
 use Rattle.automata_base.proofs.Powersets.Keeping.{next_drop}
@@ -32,27 +29,33 @@ tested_next P xs i x l e p t f =
 pub tested_all : (P : ℕ → Type 0) (xs : List ℕ) (i : ℕ) → length xs ≤ i → Tested P xs i → (q : ℕ) → In q xs → P q
 tested_all P xs i l t = t (λ q j. absurd (subst (λ z. In q z) (drop_all i xs l) j))
 
--- A list that is apart from those that are there is added whole.
-pub once_apart : (ys xs : List ℕ) → Distinct xs → ((q : ℕ) → In q xs → In q ys → ⊥) → once_from ys xs ≡ ys ++ xs
-once_apart ys [] d apart = sym (append-nil ys)
-once_apart ys (x ∷ xs) d apart =
-    ap (λ z. once_from (ys ++ cond z [] (x ∷ [])) xs) (none (is_in x ys) refl)
-    ∙ (once_apart (ys ++ x ∷ []) xs d.1 later ∙ append_assoc ys (x ∷ []) xs)
+-- What is left of a loop that adds a list whose members are apart and new: with those added, it makes the whole.
+pub record Adding (whole added rest : List ℕ) : Type 0 where
+  pub joined : added ++ rest ≡ whole
+  pub distinct : Distinct rest
+  pub apart : (q : ℕ) → In q rest → In q added → ⊥
+
+pub adding_next :
+    (whole added more rest left : List ℕ) (x : ℕ)
+    → rest ≡ x ∷ left → more ≡ added ++ x ∷ [] → Adding whole added rest → Adding whole more left
+adding_next whole added more rest left x first next a = on (subst (λ z. Adding whole added z) first a)
   where
-    none : (b : Bool) → is_in x ys ≡ b → is_in x ys ≡ false
-    none true e = absurd (apart x (inl refl) (is_in_true x ys e))
-    none false e = e
+    on : Adding whole added (x ∷ left) → Adding whole more left
+    on b =
+        subst (λ z. Adding whole z left) (sym next)
+        (record { joined = append_assoc added (x ∷ []) left ∙ b.joined; distinct = b.distinct.1; apart = other })
+      where
+        other : (q : ℕ) → In q left → In q (added ++ x ∷ []) → ⊥
+        other q i j =
+            ⊎_elim (λ (k : In q added). b.apart q (inr i) k)
+            (λ (k : In q (x ∷ [])). ⊎_elim (λ (e : q ≡ x). b.distinct.0 (subst (λ z. In z left) e i)) (λ (none : ⊥). none) k)
+            (in_either q added (x ∷ []) j)
 
-    later : (q : ℕ) → In q xs → In q (ys ++ x ∷ []) → ⊥
-    later q i j =
-        ⊎_elim (λ (k : In q ys). apart q (inr i) k)
-        (λ (k : In q (x ∷ [])). ⊎_elim (λ (e : q ≡ x). d.0 (subst (λ z. In z xs) e i)) (λ (b : ⊥). b) k)
-        (in_either q ys (x ∷ []) j)
+pub adding_new : (whole added rest left : List ℕ) (x : ℕ) → rest ≡ x ∷ left → Adding whole added rest → In x added → ⊥
+adding_new whole added rest left x first a = a.apart x (subst (λ z. In x z) (sym first) (inl refl))
 
-pub once_apart_of :
-    (ys xs list new : List ℕ) → list ≡ xs → Distinct xs → ((q : ℕ) → In q xs → In q ys → ⊥)
-    → new ≡ once_from ys list → new ≡ ys ++ xs
-once_apart_of ys xs list new same d apart e = e ∙ (ap (once_from ys) same ∙ once_apart ys xs d apart)
+pub adding_all : (whole added rest : List ℕ) → rest ≡ [] → Adding whole added rest → added ≡ whole
+adding_all whole added rest none a = sym (append-nil added) ∙ (ap (λ z. added ++ z) (sym none) ∙ a.joined)
 
 -- With nothing left on the stack, what was visited is what is visited from the roots.
 pub under_way_visits :

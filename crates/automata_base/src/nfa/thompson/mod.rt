@@ -7,7 +7,7 @@ mod checks;
 mod copies;
 mod cycles;
 mod finishing;
-pub(crate) mod reach;
+mod reach;
 pub(crate) mod reading;
 mod reverse;
 mod start_closure;

@@ -41,7 +41,7 @@ pub fn add(set: &mut SparseSet, id: StateID)
 }
 
 /// Adds those of the states that are not members, in their order.
-pub fn add_ids(set: &mut SparseSet, ids: &[StateID])
+fn add_ids(set: &mut SparseSet, ids: &[StateID])
     requires { all_below set.old.capacity ids.now ≡ true }
     ensures items { set.new.items ≡ once_from set.old.items ids.now }
     ensures capacity { set.new.capacity ≡ set.old.capacity }

@@ -10,7 +10,6 @@ ghost use Rattle.automata_base.specs.Nfas.Nodes.{node_of, nfa_of};
 ghost use Rattle.automata_base.specs.Powersets.Rooms.{IsClosureRoom};
 ghost use Rattle.automata_base.specs.Haystacks.LookSets.{truth_of};
 
-use crate::nfa::thompson::reach::add_ids;
 use crate::nfa::thompson::reading::state_at;
 use crate::nfa::thompson::{NFA, State};
 use crate::util::determinize::sparse_set::SparseSet;
@@ -196,7 +195,10 @@ fn add_closure(set: &mut SparseSet, closure: &SparseSet)
     ensures added { set.new.items ≡ set.old.items ++ closure.now.items }
     ensures whole { set.new.capacity ≡ set.old.capacity }
 {
-    add_ids(set, closure.as_slice());
+    let list = closure.as_slice();
+    for i in 0..list.len() {
+        set.push(list[i]);
+    }
 }
 
 /// Adds what epsilon edges reach from the unanchored start to the set. If the NFA keeps that, and the set has none of

@@ -107,10 +107,21 @@ impl SparseSet {
         if self.contains(id) {
             return false;
         }
+        self.push(id);
+        true
+    }
+
+    /// Adds a number that the set does not have after the others.
+    #[inline(always)]
+    pub fn push(&mut self, id: StateID)
+        requires below { id < self.old.capacity }
+        requires new { In id self.old.items → ⊥ }
+        ensures added { self.new.items ≡ self.old.items ++ id ∷ [] }
+        ensures capacity { self.new.capacity ≡ self.old.capacity }
+    {
         let i = self.len;
         self.dense[i] = id;
         self.sparse[id.as_usize()] = i as u32;
         self.len = i + 1;
-        true
     }
 }
