@@ -1,6 +1,7 @@
 pub mod Nfa
 pub mod Nodes
 pub mod Automata
+pub mod StartClosure
 pub mod Engines
 pub mod Getters
 pub mod Shapes

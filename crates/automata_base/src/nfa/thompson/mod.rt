@@ -10,6 +10,7 @@ mod finishing;
 mod reach;
 pub(crate) mod reading;
 mod reverse;
+mod start_closure;
 mod turn;
 mod utf8;
 
@@ -19,7 +20,9 @@ use crate::nfa::thompson::checks::{Totals, test, totals_of};
 use crate::nfa::thompson::cycles::are_looks_acyclic;
 use crate::nfa::thompson::reach::{reaches_match, reaches_match_in, set_for, skips_lazily};
 use crate::nfa::thompson::reverse::{Mirror, reverse_error, reverse_states};
+use crate::nfa::thompson::start_closure::start_closure_of;
 use crate::nfa::thompson::utf8::{Class, FORWARD, ends_at_boundaries};
+use crate::util::determinize::sparse_set::SparseSet;
 use crate::util::look::{Look, LookSet};
 use crate::util::primitives::{PatternID, StateID};
 use crate::util::search::{Anchored, MatchKind};
@@ -252,6 +255,7 @@ pub struct NFA {
     data: Rc<Data>,
     alloc: Global,
     keeps_unions: bool,
+    start_closure: Option<Rc<SparseSet>>,
 }
 
 // One call for an owner, whose proof then has no step for each part.
@@ -261,21 +265,24 @@ impl Drop for NFA {
             data: _data,
             alloc: _alloc,
             keeps_unions: _keeps_unions,
+            start_closure: _start_closure,
         } = self;
     }
 }
 
 impl Model for NFA {
-    ghost use Rattle.std.specs.Prelude.{◌≡◌};
+    ghost use Rattle.std.specs.Prelude.{◌≡◌, IfSome};
     ghost use Rattle.automata_base.specs.Nfas.Nodes.{Automaton, stack_room};
     ghost use Rattle.automata_base.specs.Nfas.Accepted.{IsChecked, IsLooks};
     ghost use Rattle.automata_base.specs.Nfas.Automata.{automaton_of, IsConsistent};
+    ghost use Rattle.automata_base.specs.Nfas.StartClosure.{IsStartClosure};
 
     ghost Value = { Automaton };
 
     ghost view = { λ a. automaton_of a.data.value a.keeps_unions };
 
-    ghost invariant = { λ a. IsConsistent a.data.value a.keeps_unions };
+    ghost invariant = { λ a. IsConsistent a.data.value a.keeps_unions
+        × IfSome a.start_closure (λ kept. IsStartClosure (automaton_of a.data.value a.keeps_unions) kept.value) };
 }
 
 impl Clone for NFA {
@@ -285,17 +292,22 @@ impl Clone for NFA {
 
     fn clone(&self) -> Result<NFA, AllocError> {
         let data = self.data.clone()?;
+        let start_closure = match &self.start_closure {
+            Some(kept) => Some(kept.clone()?),
+            None => None,
+        };
         Ok(NFA {
             data,
             alloc: self.alloc,
             keeps_unions: self.keeps_unions,
+            start_closure,
         })
     }
 }
 
 impl NFA {
     ghost use Rattle.std.specs.Prelude.{◌≡◌, ◌<◌, ◌≤◌, ◌^◌, ◌↔◌, ◌∷◌, ℕ, true, None, Some, Err, IfOk, IsOkUnless};
-    ghost use Rattle.std.specs.Prelude.{IsTrue, length};
+    ghost use Rattle.std.specs.Prelude.{IfSome, IsTrue, length};
     ghost use Rattle.std.specs.Prelude.{slice_get};
     ghost use Rattle.automata_base.specs.Powersets.Cuts.{MatchKind};
     ghost use Rattle.automata_base.specs.Retraced.Decoders.{EndsAtBoundaries, classes_below};
@@ -316,6 +328,7 @@ impl NFA {
     ghost use Rattle.automata_base.specs.Haystacks.Tapes.{Forward};
     ghost use Rattle.automata_base.specs.Answers.TruePairs.{IsTruePair, KeepsUtf8};
     ghost use Rattle.automata_base.specs.Haystacks.LookSets.{truth_of};
+    ghost use Rattle.automata_base.specs.Nfas.StartClosure.{IsStartClosure};
     ghost use Rattle.automata_base.specs.Nfas.Unions.{IsKeepingUnions};
     ghost use Rattle.automata_base.specs.Nfas.Utf8.{HasNoLook, ReadsUtf8};
 
@@ -374,6 +387,56 @@ impl NFA {
             states.items start_anchored start_unanchored start_pattern.items flags) }
         ensures memory { IsOkUnless result NfaError.OutOfMemory }
     {
+        let nfa = NFA::plain(
+            alloc,
+            states,
+            start_anchored,
+            start_unanchored,
+            start_pattern,
+            flags,
+            totals,
+        )?;
+        let nfa = nfa.keeping_start_closure()?;
+        Ok(nfa)
+    }
+
+    /// This NFA, which keeps the closure of its unanchored start if that has many states and no look.
+    fn keeping_start_closure(self) -> Result<NFA, AllocError>
+        ensures { IfOk result (λ nfa. nfa ≡ self) }
+    {
+        let start_closure = start_closure_of(&self)?;
+        let NFA {
+            data,
+            alloc,
+            keeps_unions,
+            start_closure: _none,
+        } = self;
+        Ok(NFA {
+            data,
+            alloc,
+            keeps_unions,
+            start_closure,
+        })
+    }
+
+    /// Makes the NFA of lists that have passed the tests of `from_states`, and computes what it says of itself. It does
+    /// not keep the closure of its unanchored start. The totals are those of the states. The only error is out of
+    /// memory.
+    fn plain(
+        alloc: Global,
+        states: Vec<State>,
+        start_anchored: StateID,
+        start_unanchored: StateID,
+        start_pattern: Vec<StateID>,
+        flags: Flags,
+        totals: Totals,
+    ) -> Result<NFA, NfaError>
+        requires passed { states_refusal states.items start_anchored start_unanchored start_pattern.items ≡ None }
+        requires totals { AreTotals states.items totals }
+        ensures same { IfOk result (λ nfa. nfa ≡ automaton
+            states.items start_anchored start_unanchored start_pattern.items flags) }
+        ensures memory { IsOkUnless result NfaError.OutOfMemory }
+    {
         let mut set = set_for(alloc, states.as_slice())?;
         let has_empty = reaches_match_in(&mut set, states.as_slice(), start_pattern.as_slice());
         let skips_lazily = skips_lazily(
@@ -401,6 +464,7 @@ impl NFA {
                 data,
                 alloc,
                 keeps_unions: false,
+                start_closure: None,
             }),
             Err(_) => Err(NfaError::OutOfMemory),
         }
@@ -449,6 +513,16 @@ impl NFA {
         self.data.start_unanchored
     }
 
+    /// The states that epsilon edges reach from the unanchored start, in the order of preference, if the NFA keeps them.
+    pub(crate) fn start_closure(&self) -> Option<&SparseSet>
+        ensures { IfSome result (λ kept. IsStartClosure self.now kept.now) }
+    {
+        match &self.start_closure {
+            Some(kept) => Some(kept.as_ref()),
+            None => None,
+        }
+    }
+
     /// How many patterns there are.
     pub fn pattern_len(&self) -> usize
         ensures { result ≡ length self.now.start_pattern }
@@ -483,11 +557,13 @@ impl NFA {
             data,
             alloc,
             keeps_unions: _keeps_unions,
+            start_closure,
         } = self;
         NFA {
             data,
             alloc,
             keeps_unions: has_look_cycle,
+            start_closure,
         }
     }
 

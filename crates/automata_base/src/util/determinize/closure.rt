@@ -113,7 +113,7 @@ fn expand(
 
 /// Adds what epsilon edges reach from `start` to the set, by the stack, in the order of preference. A look leads on if
 /// it is among `looks`.
-fn close_from(
+pub fn close_from(
     nfa: &NFA,
     start: StateID,
     looks: LookSet,
@@ -164,7 +164,71 @@ pub fn close_one(
         let _added = set.insert(start);
         return;
     }
+    if start == nfa.start_unanchored() {
+        close_start(nfa, start, looks, stack, set);
+        return;
+    }
     close_from(nfa, start, looks, stack, set);
+}
+
+/// Whether no state of the set is in the closure. Of a set with more states than the closure it is not tried.
+fn is_apart(set: &SparseSet, closure: &SparseSet) -> bool
+    requires { closure.now.capacity ≡ set.now.capacity }
+    ensures { IsTrue result → (q : ℕ) → In q closure.now.items → In q set.now.items → ⊥ }
+{
+    let visited = set.as_slice();
+    if visited.len() > closure.as_slice().len() {
+        return false;
+    }
+    for i in 0..visited.len() {
+        if closure.contains(visited[i]) {
+            return false;
+        }
+    }
+    true
+}
+
+/// Adds the states of the closure to the set, which has none of them.
+fn add_closure(set: &mut SparseSet, closure: &SparseSet)
+    requires whole { closure.now.capacity ≡ set.old.capacity }
+    requires apart { (q : ℕ) → In q closure.now.items → In q set.old.items → ⊥ }
+    ensures added { set.new.items ≡ set.old.items ++ closure.now.items }
+    ensures whole { set.new.capacity ≡ set.old.capacity }
+{
+    let list = closure.as_slice();
+    for i in 0..list.len() {
+        set.push(list[i]);
+    }
+}
+
+/// Adds what epsilon edges reach from the unanchored start to the set. If the NFA keeps that, and the set has none of
+/// it, it is added as it was kept, and no edge is followed.
+#[inline(never)]
+fn close_start(
+    nfa: &NFA,
+    start: StateID,
+    looks: LookSet,
+    stack: &mut Vec<StateID>,
+    set: &mut SparseSet,
+)
+    requires start { start ≡ nfa.now.start_unanchored }
+    requires below { start < length nfa.now.states }
+    requires room { IsClosureRoom nfa.now stack.old set.old }
+    ensures way { (roots tail : List ℕ)
+        → IsUnderWay (nfa_of nfa.now) (truth_of looks) roots (start ∷ tail) set.old.items
+        → IsUnderWay (nfa_of nfa.now) (truth_of looks) roots tail set.new.items }
+    ensures room { IsClosureRoom nfa.now stack.new set.new }
+{
+    match nfa.start_closure() {
+        Some(closure) => {
+            if is_apart(set, closure) {
+                add_closure(set, closure);
+                return;
+            }
+            close_from(nfa, start, looks, stack, set)
+        }
+        None => close_from(nfa, start, looks, stack, set),
+    }
 }
 
 /// Makes the set what epsilon edges reach from the roots.

@@ -9,7 +9,7 @@ use std::alloc::{AllocError, Global};
 use std::marker::Model;
 
 /// A set of numbers below its capacity, which keeps the order in which they came.
-#[derive(Drop)]
+#[derive(Debug, Drop)]
 pub struct SparseSet {
     len: usize,
     dense: Vec<StateID>,
@@ -107,10 +107,21 @@ impl SparseSet {
         if self.contains(id) {
             return false;
         }
+        self.push(id);
+        true
+    }
+
+    /// Adds a number that the set does not have after the others.
+    #[inline(always)]
+    pub fn push(&mut self, id: StateID)
+        requires below { id < self.old.capacity }
+        requires new { In id self.old.items → ⊥ }
+        ensures added { self.new.items ≡ self.old.items ++ id ∷ [] }
+        ensures capacity { self.new.capacity ≡ self.old.capacity }
+    {
         let i = self.len;
         self.dense[i] = id;
         self.sparse[id.as_usize()] = i as u32;
         self.len = i + 1;
-        true
     }
 }

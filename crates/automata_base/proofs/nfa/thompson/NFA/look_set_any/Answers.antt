@@ -8,4 +8,4 @@ pub returns-clause-occurs : goal.returns-clause-occurs
 returns-clause-occurs c =
     occurs_is c.args.self.now c.deref.result.now.looks
     (subst (λ (d : Data). IsLooks c.args.self.now d.looks) (sym c.deref.ensures)
-    (subst (λ a. IsLooks a c.self.inside.data.value.looks) c.self.view_is c.self.invariant.looks))
+    (subst (λ a. IsLooks a c.self.inside.data.value.looks) c.self.view_is c.self.invariant.0.looks))

@@ -11,7 +11,7 @@ use Rattle.automata_base.specs.Nfas.Errors.{states_below, states_ordered}
 use Rattle.automata_base.specs.declared.nfa.thompson.Data.{Data}
 use Rattle.automata_base.proofs.Powersets.Sound.{sound}
 use Rattle.automata_base.proofs.Nfas.Reach.Refused.{passing}
-use Rattle.automata_base.proofs.nfa.thompson.NFA.make.Goals as goal
+use Rattle.automata_base.proofs.nfa.thompson.NFA.plain.Goals as goal
 
 pub set_for-requires : goal.set_for-requires
 set_for-requires c =
@@ -64,14 +64,16 @@ invariant_of-result c =
       has_empty = c.reaches_match_in-has_empty.result;
       skips_lazily = c.skips_lazily-skips_lazily.result;
       is_look_acyclic = c.in_ok-is_look_acyclic.is_look_acyclic;
-    } in
-    subst (λ (d : Data). IsConsistent d false) (sym c.in-Ok.ensures.ok)
-    (sound d false c.requires.passed
-    c.requires.totals.looks
-    c.requires.totals.room
-    (subst (λ s. IsTrue c.reaches_match_in-has_empty.result ↔ ReachesMatch s c.args.start_pattern.items) c.as_slice-2.ensures.value
-    (subst (λ t. IsTrue c.reaches_match_in-has_empty.result ↔ ReachesMatch c.as_slice-2.result.now t) c.as_slice-3.ensures.value c.reaches_match_in-has_empty.ensures.found))
-    (subst (λ s. IsTrue c.skips_lazily-skips_lazily.result ↔ SkipsLazily (automaton s c.args.start_anchored c.args.start_unanchored c.args.start_pattern.items c.args.flags)) c.as_slice-4.ensures.value
-    (c.skips_lazily-skips_lazily.ensures c.args.start_pattern.items c.args.flags))
-    (subst (λ s. IsTrue c.in_ok-is_look_acyclic.is_look_acyclic ↔ AreLooksAcyclic s) c.as_slice-5.ensures.value
-    c.in_ok-is_look_acyclic.ensures))
+    } in (
+      subst (λ (d : Data). IsConsistent d false) (sym c.in-Ok.ensures.ok)
+          (sound d false c.requires.passed
+          c.requires.totals.looks
+          c.requires.totals.room
+          (subst (λ s. IsTrue c.reaches_match_in-has_empty.result ↔ ReachesMatch s c.args.start_pattern.items) c.as_slice-2.ensures.value
+          (subst (λ t. IsTrue c.reaches_match_in-has_empty.result ↔ ReachesMatch c.as_slice-2.result.now t) c.as_slice-3.ensures.value c.reaches_match_in-has_empty.ensures.found))
+          (subst (λ s. IsTrue c.skips_lazily-skips_lazily.result ↔ SkipsLazily (automaton s c.args.start_anchored c.args.start_unanchored c.args.start_pattern.items c.args.flags)) c.as_slice-4.ensures.value
+          (c.skips_lazily-skips_lazily.ensures c.args.start_pattern.items c.args.flags))
+          (subst (λ s. IsTrue c.in_ok-is_look_acyclic.is_look_acyclic ↔ AreLooksAcyclic s) c.as_slice-5.ensures.value
+          c.in_ok-is_look_acyclic.ensures)),
+      tt,
+    )
