@@ -1,17 +1,19 @@
 #!/bin/sh
-# Measures the library beside a lean twin in unchecked Rust and beside RE2, and the library for C beside grep, RE2 and the
-# Rust crate regex, in a copy of the repository with one crate more, outside the gate:
+# Measures the library beside a lean twin in unchecked Rust, RE2 and the kit's `regex`, and the library for C beside grep,
+# RE2 and the Rust crate regex, in a copy of the repository with two crates more, outside the gate:
 #     tools/measure.sh [ROUNDS [WORK..]]
 # It needs rt, g++, RE2's headers and library, and rustc; without rustc the twin is left out. Seven rounds, as by
-# default, take three minutes, and on a busy machine ten. The crate `measure` is proved before that, in five minutes
-# more; so are the library's crates, in half an hour more, unless each has its proofs in `out/` (`rt all check`).
+# default, take five minutes, and on a busy machine fifteen. The crates `measure` and `kit_works` are proved before
+# that, in ten minutes more; so are the library's crates, in half an hour more, unless each has its proofs in `out/`
+# (`rt all check`).
 #
-# A round runs each work by the three programs in turn, so that ratios are of neighbours in time. For each work it prints
+# A round runs each work by the four programs in turn, so that ratios are of neighbours in time. For each work it prints
 # the middle of the rounds in nanoseconds of the processor a unit, and in brackets the first and the third quarter; and
-# the times of the twin and of RE2 by ours, likewise. A machine that others use moves times by half and more: what it
-# prints is worth as much as these brackets are narrow. The works stand in measure/measure.in and measure/mixed.in, and
-# their units in measure/works. The lines of the licence make the running text of `prose` and `prosetail`. With all works
-# it draws the plot docs/speed.svg. MEASURE_COPY names a copy to use again.
+# the times of the others by ours, likewise. A machine that others use moves times by half and more: what it prints is
+# worth as much as these brackets are narrow. The works stand in measure/measure.in and measure/mixed.in, those of the
+# kit's `regex` in measure/kit.in, the texts of all in measure/texts.in, and their units in measure/works. The lines of
+# the licence make the running text of `prose` and `prosetail`. With all works it draws the plot docs/speed.svg.
+# MEASURE_COPY names a copy to use again.
 #
 # The works of the library for C stand in measure/from_c.c, and their units in measure/works_c: with all works, and with
 # `c` in place of the works, they are measured after the others, by rounds of their own. grep counts the lines with a date
@@ -80,8 +82,15 @@ fi
 mkdir -p "$copy/crates/measure/src"
 cp "$top/tools/measure/measure.in" "$copy/crates/measure/src/main.rt"
 cp "$top/tools/measure/mixed.in" "$copy/crates/measure/src/mixed.rt"
-echo 'measure: regex_automata' >> "$copy/crates.txt"
-(cd "$copy/crates/measure" && rt run --jobs 2 -- first) > "$copy/proved" 2>&1 || { cat "$copy/proved"; exit 1; }
+mkdir -p "$copy/crates/kit_works/src"
+cp "$top/tools/measure/kit.in" "$copy/crates/kit_works/src/main.rt"
+for crate in measure kit_works; do
+    cp "$top/tools/measure/texts.in" "$copy/crates/$crate/src/texts.rt"
+done
+printf '%s\n' 'measure: regex_automata' 'kit_works: regex' >> "$copy/crates.txt"
+for crate in measure kit_works; do
+    (cd "$copy/crates/$crate" && rt run --jobs 2 -- first) > "$copy/proved" 2>&1 || { cat "$copy/proved"; exit 1; }
+done
 here=$copy/crates/measure/out/measure
 rm -f "$copy/twin"
 if command -v rustc > /dev/null; then
@@ -100,6 +109,7 @@ while [ "$round" -le "$rounds" ]; do
         tell "$round" here "$here" "$work"
         tell "$round" twin "$copy/twin" "$work"
         tell "$round" re2 "$copy/re2" "$work"
+        tell "$round" kit "$copy/crates/kit_works/out/kit_works" "$work"
     done
     round=$((round + 1))
 done

@@ -18,8 +18,8 @@ $2 ~ /^(byte|match|search|line|state)$/ && $1 !~ /[0-9][KM]?$|room/ || $1 ~ /^(f
     for (i = 3; i <= NF; i++)
         if ($i !~ /^\(/) middle[++n] = $i
     names[++count] = $1
-    twin[count] = middle[4]
-    re2[count] = middle[5]
+    twin[count] = middle[5]
+    re2[count] = middle[6]
 }
 
 END {

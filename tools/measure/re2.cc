@@ -1,6 +1,7 @@
 // The same works by RE2: for each name of a work what was counted, and the microseconds of the processor.
 #include <re2/re2.h>
 #include <re2/set.h>
+#include <algorithm>
 #include <cstdint>
 #include <cstdio>
 #include <cstdlib>
@@ -258,17 +259,17 @@ static void whole(const char* work, const std::string& pattern) {
 
 // The first KB searched for a word, a thousand words in all.
 static void first_words(const char* work, int words) {
-  first(work, joined(random_words(words)), random_text(1 << 10), 1000 / words);
+  first(work, joined(random_words(words)), random_text(1 << 10), std::max(1000 / words, 1));
 }
 
-// Which words 256 KB have, by a set whose program is made before, and whose states all fit.
+// Which words 256 KB have, or for many words 16 KB, by a set whose program is made before.
 static void set_words(const char* work, int words) {
   RE2::Options options = latin();
   options.set_max_mem(1 << 27);
   RE2::Set set(options, RE2::UNANCHORED);
   for (const std::string& word : random_words(words)) set.Add(word, nullptr);
   set.Compile();
-  std::string text = random_text(1 << 18);
+  std::string text = random_text(words < 10000 ? 1 << 18 : 1 << 14);
   std::vector<int> v;
   long start = now();
   set.Match(text, &v);

@@ -1,9 +1,9 @@
 # Reads the works with their units, and then a line `ROUND WHO WORK COUNT TIME` for each run. For each work it prints the
-# middle of the rounds in nanoseconds a unit, here, and by the twin and by RE2 (or by the programs that `others` names),
-# with the first and the third quarter in brackets; then the others' time by ours, of the same round, likewise. It says
-# where two programs counted different matches.
+# middle of the rounds in nanoseconds a unit, here, and by the twin, RE2 and the kit's `regex` (or by the programs that
+# `others` names), with the first and the third quarter in brackets; then the others' time by ours, of the same round,
+# likewise. It says where two programs counted different matches.
 
-BEGIN { most = split(others ? others : "twin re2", other, " ") }
+BEGIN { most = split(others ? others : "twin re2 kit", other, " ") }
 
 FNR == NR { works[++last] = $1; units[$1] = $2; unit[$1] = $3; next }
 

@@ -253,6 +253,11 @@ fn tight() -> Told {
 /// A search by a new DFA and a new cache of it, again and again, with or without the time of the automaton, which begins
 /// at the list of its states.
 fn first(draft: impl Fn() -> Draft, text: &[u8], turns: usize, whole: bool) -> Told {
+    first_in(Config::default().capacity, draft, text, turns, whole)
+}
+
+/// The same in a capacity.
+fn first_in(capacity: usize, draft: impl Fn() -> Draft, text: &[u8], turns: usize, whole: bool) -> Told {
     let mut count = 0;
     let mut time = Duration::ZERO;
     for _ in 0..turns {
@@ -262,7 +267,7 @@ fn first(draft: impl Fn() -> Draft, text: &[u8], turns: usize, whole: bool) -> T
         if !whole {
             start = now();
         }
-        let mut searcher = Searcher::new(nfa, Config::default());
+        let mut searcher = Searcher::new(nfa, Config { capacity, ..Config::default() });
         count += usize::from(searcher.end_from(text, 0).is_some());
         time += now() - start;
     }
@@ -271,13 +276,14 @@ fn first(draft: impl Fn() -> Draft, text: &[u8], turns: usize, whole: bool) -> T
 
 /// The first KB searched for the first end of a word, by a new DFA, a thousand words in all.
 fn first_words(words: usize) -> Told {
-    first(|| random_words(words), &random_text(1 << 10), 1_000 / words, false)
+    let capacity = if words < 10_000 { Config::default().capacity } else { 1 << 26 };
+    first_in(capacity, || random_words(words), &random_text(1 << 10), (1_000 / words).max(1), false)
 }
 
-/// Which words 256 KB have, by a new DFA whose states all fit.
+/// Which words 256 KB have, or for many words 16 KB, by a new DFA.
 fn set_words(words: usize) -> Told {
     let nfa = random_words(words).build();
-    let text = random_text(1 << 18);
+    let text = random_text(if words < 10_000 { 1 << 18 } else { 1 << 14 });
     let mut marks = vec![false; words];
     timed(|| {
         let mut searcher = Searcher::new(nfa, Config { all: true, capacity: 1 << 26, ..Config::default() });
