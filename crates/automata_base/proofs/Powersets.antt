@@ -1,5 +1,6 @@
 pub mod Code
 pub mod Alike
+pub mod Appending
 pub mod AlikeBytes
 pub mod AlikeClasses
 pub mod AlikeUnits
@@ -7,6 +8,7 @@ pub mod Belows
 pub mod LookBits
 pub mod Dense
 pub mod Distinct
+pub mod Endings
 pub mod Holding
 pub mod Keeping
 pub mod Leaves

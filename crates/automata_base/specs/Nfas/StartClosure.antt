@@ -1,11 +1,54 @@
--- The closure of its unanchored start, which an NFA may keep.
-use Rattle.std.specs.Prelude.{◌≡◌, [], ◌∷◌, length}
-use Rattle.automata_base.specs.Nfas.Nfa.{Truth}
+-- The closure of its unanchored start, which an NFA may keep, and what powerset states have of it.
+use Rattle.std.specs.Prelude.{ℕ, ◌≡◌, ◌<◌, ◌≤◌, List, [], ◌∷◌, ◌++◌, All, false, Some, option_to_list}
+use Rattle.std.specs.Prelude.{length, take, drop, eqb}
+use Rattle.std.specs.declared.alloc.Global.{Global}
+use Rattle.std.proofs.Common.{Vec}
+use Rattle.automata_base.specs.Haystacks.Looks.{Look, look_index}
+use Rattle.automata_base.specs.Lists.{pick}
+use Rattle.automata_base.specs.Nfas.Nfa.{Nfa, Node, Truth, keep, takes_at}
 use Rattle.automata_base.specs.Nfas.Nodes.{Automaton, nfa_of}
 use Rattle.automata_base.specs.Powersets.Closure.{Visits}
+use Rattle.automata_base.specs.Powersets.Code.{ids_code}
+use Rattle.automata_base.specs.Powersets.Cuts.{targets, has_match}
 use Rattle.automata_base.specs.Powersets.Members.{Members}
+use Rattle.automata_base.specs.Powersets.Powerset.{IsId}
+use Rattle.automata_base.specs.Retraced.Computed.{any_state}
+use Rattle.automata_base.specs.Retraced.ReversedEdges.{lists_of, list_at}
+use Rattle.automata_base.specs.declared.nfa.thompson.start_closure.StartClosure.{StartClosure}
 
 -- The states visited from the unanchored start, in order, whichever looks hold.
-pub record IsStartClosure (a : Automaton) (closure : Members) : Type 0 where
+pub record IsVisited (a : Automaton) (closure : Members) : Type 0 where
   pub whole : closure.capacity ≡ length a.states
   pub visited : (A : Truth) → Visits (nfa_of a) A (a.start_unanchored ∷ []) [] closure.items
+
+-- What powerset states keep of a closure that has no look.
+pub record IsKept (n : Nfa) (closure kept : List ℕ) : Type 0 where
+  pub same : kept ≡ pick (keep n) closure
+  pub few : length kept ≤ length closure
+  pub looks : (other : Look) → any_state (λ look. eqb (look_index look) (look_index other)) n kept ≡ false
+
+-- The bytes of NFA states behind the first of them.
+pub record IsRestCode (kept code : List ℕ) : Type 0 where
+  pub joined : (before : ℕ) → ids_code before kept ≡ ids_code before (take 1 kept) ++ code
+  pub ids : All IsId (drop 1 kept)
+
+-- These are the targets of a list on a byte, and no state of the list matches.
+pub record AreTargets (n : Nfa) (list : List ℕ) (u : ℕ) (row : List ℕ) : Type 0 where
+  pub unmatched : has_match n list ≡ false
+  pub same : row ≡ targets n (Some u) list
+
+-- Each row has the targets of a list on a byte: row k those on byte k.
+abbrev pub AreRows : Nfa → List ℕ → List (Vec ℕ Global) → Type 0
+AreRows n list rows = (u : ℕ) → u < length rows → AreTargets n list u (list_at (lists_of rows) u)
+
+-- To the row of each byte where a node leads on that is added.
+abbrev pub AddsEdges : Node → (old new : List (Vec ℕ Global)) → Type 0
+AddsEdges node old new =
+    (u : ℕ) → u < 256 → list_at (lists_of new) u ≡ list_at (lists_of old) u ++ option_to_list (takes_at node u)
+
+-- The closure of the unanchored start, what is kept of it, its bytes and its targets.
+pub record IsStartClosure (a : Automaton) (c : StartClosure) : Type 0 where
+  pub closure : IsVisited a c.set
+  pub kept : IsKept (nfa_of a) c.set.items c.kept.items
+  pub code : IsRestCode c.kept.items c.code.items
+  pub rows : AreRows (nfa_of a) c.kept.items c.rows.items

@@ -1,5 +1,5 @@
 -- Lists of NFA states, cut and read.
-use Rattle.std.specs.Prelude.{ℕ, ◌≡◌, List, [], ◌∷◌, Option, Some, None}
+use Rattle.std.specs.Prelude.{ℕ, ◌≡◌, List, [], ◌∷◌, Option, Some, None, Bool, false, ◌||◌, is_some}
 use Rattle.automata_base.specs.Lists.{IsListOf, From, pick}
 use Rattle.automata_base.specs.Nfas.Nfa.{Nfa, takes, accepts}
 pub use Rattle.automata_base.specs.declared.util.search.MatchKind.{MatchKind}
@@ -19,6 +19,16 @@ cut n (q ∷ xs) = cut_after (accepts n q) q (cut n xs)
 abbrev pub cut_for : MatchKind → Nfa → List ℕ → List ℕ
 cut_for All n xs = xs
 cut_for LeftmostFirst n xs = cut n xs
+
+-- Whether some state of the list matches.
+abbrev pub has_match : Nfa → List ℕ → Bool
+has_match n [] = false
+has_match n (q ∷ xs) = is_some (accepts n q) || has_match n xs
+
+-- Whether a list is cut at one of its states, so that what would come after the list does not count.
+abbrev pub is_cut : MatchKind → Nfa → List ℕ → Bool
+is_cut All n xs = false
+is_cut LeftmostFirst n xs = has_match n xs
 
 -- The elements of a list, each once, in the order of their first occurrences.
 abbrev pub IsOnce : List ℕ → List ℕ → Type 0

@@ -102,12 +102,12 @@ push_past [] k x l = refl
 push_past (y ∷ ys) zero x l = absurd (omega (arith, l))
 push_past (y ∷ ys) (suc k) x l = ap (λ z. y ∷ z) (push_past ys k x (omega (arith, l)))
 
-push_same : (xs : List (List ℕ)) (k x : ℕ) → k < length xs → list_at (push_at xs k x) k ≡ list_at xs k ++ x ∷ []
+pub push_same : (xs : List (List ℕ)) (k x : ℕ) → k < length xs → list_at (push_at xs k x) k ≡ list_at xs k ++ x ∷ []
 push_same [] k x l = absurd (omega (arith, l))
 push_same (y ∷ ys) zero x l = refl
 push_same (y ∷ ys) (suc k) x l = push_same ys k x (omega (arith, l))
 
-push_other : (xs : List (List ℕ)) (j k x : ℕ) → (j ≡ k → ⊥) → list_at (push_at xs j x) k ≡ list_at xs k
+pub push_other : (xs : List (List ℕ)) (j k x : ℕ) → (j ≡ k → ⊥) → list_at (push_at xs j x) k ≡ list_at xs k
 push_other [] j k x f = refl
 push_other (y ∷ ys) zero zero x f = absurd (f refl)
 push_other (y ∷ ys) zero (suc k) x f = refl

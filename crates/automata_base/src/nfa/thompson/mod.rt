@@ -10,7 +10,7 @@ mod finishing;
 mod reach;
 pub(crate) mod reading;
 mod reverse;
-mod start_closure;
+pub(crate) mod start_closure;
 mod turn;
 mod utf8;
 
@@ -20,9 +20,8 @@ use crate::nfa::thompson::checks::{Totals, test, totals_of};
 use crate::nfa::thompson::cycles::are_looks_acyclic;
 use crate::nfa::thompson::reach::{reaches_match, reaches_match_in, set_for, skips_lazily};
 use crate::nfa::thompson::reverse::{Mirror, reverse_error, reverse_states};
-use crate::nfa::thompson::start_closure::start_closure_of;
+use crate::nfa::thompson::start_closure::{StartClosure, start_closure_of};
 use crate::nfa::thompson::utf8::{Class, FORWARD, ends_at_boundaries};
-use crate::util::determinize::sparse_set::SparseSet;
 use crate::util::look::{Look, LookSet};
 use crate::util::primitives::{PatternID, StateID};
 use crate::util::search::{Anchored, MatchKind};
@@ -255,7 +254,7 @@ pub struct NFA {
     data: Rc<Data>,
     alloc: Global,
     keeps_unions: bool,
-    start_closure: Option<Rc<SparseSet>>,
+    start_closure: Option<Rc<StartClosure>>,
 }
 
 // One call for an owner, whose proof then has no step for each part.
@@ -513,8 +512,9 @@ impl NFA {
         self.data.start_unanchored
     }
 
-    /// The states that epsilon edges reach from the unanchored start, in the order of preference, if the NFA keeps them.
-    pub(crate) fn start_closure(&self) -> Option<&SparseSet>
+    /// The closure of the unanchored start, with what powerset states have of it, if the NFA keeps it.
+    #[inline(always)]
+    pub(crate) fn start_closure(&self) -> Option<&StartClosure>
         ensures { IfSome result (λ kept. IsStartClosure self.now kept.now) }
     {
         match &self.start_closure {
@@ -556,9 +556,14 @@ impl NFA {
         let NFA {
             data,
             alloc,
-            keeps_unions: _keeps_unions,
+            keeps_unions,
             start_closure,
         } = self;
+        let start_closure = if has_look_cycle == keeps_unions {
+            start_closure
+        } else {
+            None
+        };
         NFA {
             data,
             alloc,

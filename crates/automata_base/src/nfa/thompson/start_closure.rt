@@ -1,54 +1,72 @@
-//! The closure of the unanchored start, which an NFA keeps.
-ghost use Rattle.std.specs.Prelude.{◌≡◌, ◌<◌, [], ◌∷◌, ℕ, length, IfOk, IfSome, IsFalse};
+//! The closure of the unanchored start, which an NFA keeps with what its powerset states have of it.
+ghost use Rattle.std.specs.Prelude.{◌≡◌, ◌<◌, ◌≤◌, [], ◌∷◌, ℕ, length, IfOk, IfSome, IsTrue, OnOk, None, false};
 ghost use Rattle.automata_base.specs.Lists.{In};
 ghost use Rattle.automata_base.specs.Haystacks.LookSets.{truth_of};
-ghost use Rattle.automata_base.specs.Nfas.Nfa.{Truth};
+ghost use Rattle.automata_base.specs.Nfas.Nfa.{takes_at};
 ghost use Rattle.automata_base.specs.Nfas.Nodes.{node_of, nfa_of};
-ghost use Rattle.automata_base.specs.Nfas.StartClosure.{IsStartClosure};
-ghost use Rattle.automata_base.specs.Powersets.Closure.{children, children_at, Visits};
+ghost use Rattle.automata_base.specs.Nfas.StartClosure.{AddsEdges, AreRows, AreTargets, IsRestCode, IsStartClosure};
+ghost use Rattle.automata_base.specs.Powersets.Closure.{Visits};
+ghost use Rattle.automata_base.specs.Powersets.Cuts.{has_match};
 
-use crate::nfa::thompson::reading::state_at;
+use crate::nfa::thompson::reading::{pattern_of, state_at, target};
+use crate::nfa::thompson::turn::{no_lists, push_at};
 use crate::nfa::thompson::{NFA, State};
 use crate::util::determinize::closure::close_from;
+use crate::util::determinize::construct::has_some;
+use crate::util::determinize::lists::keep_states;
 use crate::util::determinize::sparse_set::SparseSet;
+use crate::util::determinize::write::push_ids;
 use crate::util::look::LookSet;
 use crate::util::primitives::StateID;
-use std::alloc::AllocError;
+use std::alloc::{AllocError, Global};
+use std::fmt;
 use std::rc::Rc;
 
 /// How many states the closure of the unanchored start has at least if it is kept.
 const FEWEST: usize = 24;
 
-/// Whether the state is a look.
-fn is_look(state: &State) -> bool
-    ensures { IsFalse result → (A B : Truth) → children_at (node_of state.now) A ≡ children_at (node_of state.now) B }
-{
-    match state {
-        State::Look { .. } => true,
-        State::ByteRange { .. } => false,
-        State::Sparse(_) => false,
-        State::Dense(_) => false,
-        State::Union { .. } => false,
-        State::BinaryUnion { .. } => false,
-        State::Capture { .. } => false,
-        State::Fail => false,
-        State::Match { .. } => false,
+/// How many bytes may be tried for each kept state to find where it leads, and how many more.
+const EACH: usize = 8;
+
+const MORE: usize = 512;
+
+/// The closure of the unanchored start of an NFA. Most of its powerset states end with what they keep of it, so what a
+/// step needs of that is here.
+#[derive(Drop)]
+pub(crate) struct StartClosure {
+    /// The states of the closure, in the order of preference.
+    pub set: SparseSet,
+    /// Those of them that powerset states keep. None is a look.
+    pub kept: Vec<StateID>,
+    /// The bytes that code the kept states behind the first of them.
+    pub code: Vec<u8>,
+    /// For each byte, where the kept states lead on it, in order. There are no rows if a kept state matches or if it would
+    /// take too long to make them.
+    pub rows: Vec<Vec<StateID>>,
+}
+
+/// How many states are kept, and not which.
+impl fmt::Debug for StartClosure {
+    fn fmt<W: fmt::Write>(&self, f: &mut fmt::Formatter<W>) -> fmt::Result {
+        f.debug_struct("StartClosure")
+            .field("kept", &self.kept.len())
+            .finish_non_exhaustive()
     }
 }
 
-/// Whether a state of the list is a look. If none is, their epsilon edges are the same whichever looks hold.
-fn has_look(nfa: &NFA, list: &[StateID]) -> bool
-    requires below { (q : ℕ) → In q list.now → q < length nfa.now.states }
-    ensures { IsFalse result → (q : ℕ) → In q list.now → (A B : Truth)
-        → children (nfa_of nfa.now) A q ≡ children (nfa_of nfa.now) B q }
-{
-    let states = nfa.states();
-    for i in 0..list.len() {
-        if is_look(state_at(nfa, states, list[i])) {
-            return true;
+impl StartClosure {
+    /// Where the kept states lead on a byte, if there are rows.
+    #[inline(always)]
+    pub fn row(&self, nfa: &NFA, u: u8) -> Option<&[StateID]>
+        requires { IsStartClosure nfa.now self.now }
+        ensures { IfSome result (λ row. AreTargets (nfa_of nfa.now) self.now.kept.items u row.now) }
+    {
+        let byte = usize::from(u);
+        if byte < self.rows.len() {
+            return Some(self.rows[byte].as_slice());
         }
+        None
     }
-    false
 }
 
 /// The states that epsilon edges reach from the unanchored start where no look holds.
@@ -70,9 +88,131 @@ fn visited_from_start(nfa: &NFA) -> Result<SparseSet, AllocError>
     Ok(set)
 }
 
-/// The closure of the unanchored start, if it is to be kept: it has many states, and no look, on which it would hang.
-/// Of an NFA that has few states nothing is computed.
-pub fn start_closure_of(nfa: &NFA) -> Result<Option<Rc<SparseSet>>, AllocError>
+/// The bytes that code these states behind the first of them.
+fn code_of(alloc: Global, kept: &[StateID]) -> Result<Vec<u8>, AllocError>
+    ensures { IfOk result (λ code. IsRestCode kept.now code.items) }
+{
+    let mut code = Vec::new(alloc);
+    match kept {
+        [] => Ok(code),
+        [first, rest @ ..] => {
+            push_ids(&mut code, first.as_u32(), rest)?;
+            Ok(code)
+        }
+    }
+}
+
+/// A byte below which the state leads nowhere.
+fn first_byte(state: &State) -> usize
+    ensures { (u : ℕ) → u < result → takes_at (node_of state.now) u ≡ None }
+{
+    match state {
+        State::ByteRange { lo, .. } => usize::from(*lo),
+        _ => 0,
+    }
+}
+
+/// A byte from which on the state leads nowhere, or 256.
+fn byte_end(state: &State) -> usize
+    ensures few { result ≤ 256 }
+    ensures none { (u : ℕ) → u < 256 → result ≤ u → takes_at (node_of state.now) u ≡ None }
+{
+    match state {
+        State::ByteRange { hi, .. } => usize::from(*hi) + 1,
+        State::Sparse(_) => 256,
+        State::Dense(_) => 256,
+        _ => 0,
+    }
+}
+
+/// Adds where the state leads on each byte to the row of the byte.
+fn push_edges(rows: &mut Vec<Vec<StateID>>, state: &State) -> Result<(), AllocError>
+    requires { length rows.old.items ≡ 256 }
+    ensures edges { OnOk result (AddsEdges (node_of state.now) rows.old.items rows.new.items) }
+    ensures few { OnOk result (length rows.new.items ≡ 256) }
+{
+    for u in first_byte(state)..byte_end(state) {
+        if let Some(next) = target(state, u as u8) {
+            push_at(rows, u, next)?;
+        }
+    }
+    Ok(())
+}
+
+/// Whether there are to be rows of these states: none of them matches, and few bytes are tried to make them.
+fn are_plain(nfa: &NFA, kept: &[StateID]) -> bool
+    requires below { (q : ℕ) → In q kept.now → q < length nfa.now.states }
+    ensures { IsTrue result → has_match (nfa_of nfa.now) kept.now ≡ false }
+{
+    let states = nfa.states();
+    let mut left = kept.len().saturating_mul(EACH).saturating_add(MORE);
+    for i in 0..kept.len() {
+        let state = state_at(nfa, states, kept[i]);
+        if pattern_of(state).is_some() {
+            return false;
+        }
+        let count = byte_end(state).saturating_sub(first_byte(state));
+        if left < count {
+            return false;
+        }
+        left -= count;
+    }
+    true
+}
+
+/// For each byte, where these states lead on it, in order.
+fn rows_of(nfa: &NFA, kept: &[StateID]) -> Result<Vec<Vec<StateID>>, AllocError>
+    requires below { (q : ℕ) → In q kept.now → q < length nfa.now.states }
+    requires plain { has_match (nfa_of nfa.now) kept.now ≡ false }
+    ensures { IfOk result (λ rows. AreRows (nfa_of nfa.now) kept.now rows.items) }
+{
+    let states = nfa.states();
+    let mut rows = no_lists(nfa.alloc(), 256)?;
+    for i in 0..kept.len() {
+        push_edges(&mut rows, state_at(nfa, states, kept[i]))?;
+    }
+    Ok(rows)
+}
+
+/// The rows of these states, or none if a state matches or if it would take too long to make them.
+fn rows_if_plain(nfa: &NFA, kept: &[StateID]) -> Result<Vec<Vec<StateID>>, AllocError>
+    requires below { (q : ℕ) → In q kept.now → q < length nfa.now.states }
+    ensures { IfOk result (λ rows. AreRows (nfa_of nfa.now) kept.now rows.items) }
+{
+    if are_plain(nfa, kept) {
+        return rows_of(nfa, kept);
+    }
+    Ok(Vec::new(nfa.alloc()))
+}
+
+/// The closure of the unanchored start, with what powerset states keep of it, unless a state of it is a look, on which
+/// it would hang.
+fn with_kept(nfa: &NFA, set: SparseSet) -> Result<Option<Rc<StartClosure>>, AllocError>
+    requires whole { set.capacity ≡ length nfa.now.states }
+    requires visited { Visits (nfa_of nfa.now) (truth_of 0) (nfa.now.start_unanchored ∷ []) [] set.items }
+    ensures { IfOk result (λ kept. IfSome kept (λ closure. IsStartClosure nfa.now closure.value)) }
+{
+    let alloc = nfa.alloc();
+    let mut kept = Vec::with_capacity(alloc, set.as_slice().len())?;
+    let looks = keep_states(nfa, set.as_slice(), &mut kept);
+    if has_some(looks) {
+        return Ok(None);
+    }
+    let code = code_of(alloc, kept.as_slice())?;
+    let rows = rows_if_plain(nfa, kept.as_slice())?;
+    let closure = StartClosure {
+        set,
+        kept,
+        code,
+        rows,
+    };
+    let closure = Rc::new(alloc, closure)?;
+    Ok(Some(closure))
+}
+
+/// The closure of the unanchored start, if it is to be kept: it has many states, and no look. Of an NFA that has few
+/// states nothing is computed.
+pub fn start_closure_of(nfa: &NFA) -> Result<Option<Rc<StartClosure>>, AllocError>
     ensures { IfOk result (λ kept. IfSome kept (λ closure. IsStartClosure nfa.now closure.value)) }
 {
     if nfa.states().len() < FEWEST {
@@ -82,9 +222,5 @@ pub fn start_closure_of(nfa: &NFA) -> Result<Option<Rc<SparseSet>>, AllocError>
     if set.as_slice().len() < FEWEST {
         return Ok(None);
     }
-    if has_look(nfa, set.as_slice()) {
-        return Ok(None);
-    }
-    let kept = Rc::new(nfa.alloc(), set)?;
-    Ok(Some(kept))
+    with_kept(nfa, set)
 }

@@ -188,19 +188,6 @@ fn is_apart(set: &SparseSet, closure: &SparseSet) -> bool
     true
 }
 
-/// Adds the states of the closure to the set, which has none of them.
-fn add_closure(set: &mut SparseSet, closure: &SparseSet)
-    requires whole { closure.now.capacity ≡ set.old.capacity }
-    requires apart { (q : ℕ) → In q closure.now.items → In q set.old.items → ⊥ }
-    ensures added { set.new.items ≡ set.old.items ++ closure.now.items }
-    ensures whole { set.new.capacity ≡ set.old.capacity }
-{
-    let list = closure.as_slice();
-    for i in 0..list.len() {
-        set.push(list[i]);
-    }
-}
-
 /// Adds what epsilon edges reach from the unanchored start to the set. If the NFA keeps that, and the set has none of
 /// it, it is added as it was kept, and no edge is followed.
 #[inline(never)]
@@ -221,13 +208,33 @@ fn close_start(
 {
     match nfa.start_closure() {
         Some(closure) => {
-            if is_apart(set, closure) {
-                add_closure(set, closure);
+            if is_apart(set, &closure.set) {
+                set.append(closure.set.as_slice());
                 return;
             }
             close_from(nfa, start, looks, stack, set)
         }
         None => close_from(nfa, start, looks, stack, set),
+    }
+}
+
+/// Adds what epsilon edges reach from the roots to the set, one root after the other.
+pub fn close_all(
+    nfa: &NFA,
+    roots: &[StateID],
+    looks: LookSet,
+    stack: &mut Vec<StateID>,
+    set: &mut SparseSet,
+)
+    requires roots { All (λ root. root < length nfa.now.states) roots.now }
+    requires room { IsClosureRoom nfa.now stack.old set.old }
+    ensures way { (all tail : List ℕ)
+        → IsUnderWay (nfa_of nfa.now) (truth_of looks) all (roots.now ++ tail) set.old.items
+        → IsUnderWay (nfa_of nfa.now) (truth_of looks) all tail set.new.items }
+    ensures room { IsClosureRoom nfa.now stack.new set.new }
+{
+    for root in roots {
+        close_one(nfa, *root, looks, stack, set);
     }
 }
 
@@ -245,7 +252,5 @@ pub fn close(
     ensures room { IsClosureRoom nfa.now stack.new set.new }
 {
     set.clear();
-    for root in roots {
-        close_one(nfa, *root, looks, stack, set);
-    }
+    close_all(nfa, roots, looks, stack, set);
 }

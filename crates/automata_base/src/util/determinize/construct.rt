@@ -1,12 +1,13 @@
 //! The start states and successors of the powerset construction.
 ghost use Rattle.std.specs.Prelude.{◌≡◌, ◌<◌, ◌≤◌, [], ◌∷◌, List, ℕ, length, true, false, IsTrue, IsFalse};
-ghost use Rattle.std.specs.Prelude.{Option, Some, None, ◌&&◌, vec_capacity};
-ghost use Rattle.automata_base.specs.Retraced.Computed.{known_looks, is_full};
-ghost use Rattle.automata_base.specs.Nfas.Nfa.{any_node};
-ghost use Rattle.automata_base.specs.Powersets.Cuts.{cut, cut_for, targets};
+ghost use Rattle.std.specs.Prelude.{Option, Some, None, IfSome, ◌&&◌, ◌++◌, eqb, vec_capacity};
+ghost use Rattle.automata_base.specs.Retraced.Computed.{any_state, known_looks, is_full};
+ghost use Rattle.automata_base.specs.Nfas.Nfa.{any_node, keep};
+ghost use Rattle.automata_base.specs.Powersets.Cuts.{cut, cut_for, has_match, is_cut, targets};
 ghost use Rattle.automata_base.specs.Nfas.Accepted.{IsChecked};
-ghost use Rattle.automata_base.specs.Lists.{In, cons_some, Distinct};
-ghost use Rattle.automata_base.specs.Haystacks.Looks.{Look, is_word, is_byte, first_half};
+ghost use Rattle.automata_base.specs.Lists.{In, cons_some, pick, Distinct};
+ghost use Rattle.automata_base.specs.Haystacks.Looks.{Look, look_index, is_word, is_byte, first_half};
+ghost use Rattle.automata_base.specs.Nfas.StartClosure.{IsStartClosure};
 ghost use Rattle.automata_base.specs.Powersets.Results.{AreMatched, IsClosureMade, IsStartMade, IsStepMade};
 ghost use Rattle.automata_base.specs.Nfas.Nodes.{nfa_of};
 ghost use Rattle.automata_base.specs.Powersets.Parts.{powerset_of};
@@ -19,10 +20,12 @@ ghost use Rattle.automata_base.specs.Powersets.Closure.{IsUnderWay};
 
 use crate::nfa::thompson::NFA;
 use crate::nfa::thompson::reading::{pattern_of, state_at, target};
-use crate::util::determinize::closure::{close, close_one};
+use crate::nfa::thompson::start_closure::StartClosure;
+use crate::util::determinize::closure::{close, close_all, close_one};
 use crate::util::determinize::deciding::{
     first_of, has_news, is_unit, is_word_unit, known_behind, news,
 };
+use crate::util::determinize::kept::{front_of, keep_with};
 use crate::util::determinize::lists::{cut_first, keep_states, read_patterns};
 use crate::util::determinize::sparse_set::SparseSet;
 use crate::util::determinize::state::{Parts, State};
@@ -45,7 +48,7 @@ fn has_crlf(nfa: &NFA) -> bool
 }
 
 /// Whether the set has a look.
-fn has_some(looks: LookSet) -> bool
+pub(crate) fn has_some(looks: LookSet) -> bool
     ensures some { IsTrue result → (look : Look) × (truth_of looks look ≡ true) }
     ensures none { IsFalse result → (look : Look) → truth_of looks look ≡ false }
 {
@@ -81,9 +84,41 @@ fn has_any(list: &[StateID]) -> bool
     !list.is_empty()
 }
 
+/// Puts the kept states of a list into another, and returns the looks among them. There may be the closure of the
+/// unanchored start, what is kept of which is copied if the list ends with it.
+#[inline(always)]
+fn keep_set(
+    nfa: &NFA,
+    closure: Option<&StartClosure>,
+    states: &[StateID],
+    kept: &mut Vec<StateID>,
+) -> LookSet
+    requires below { (q : ℕ) → In q states.now → q < length nfa.now.states }
+    requires closure { IfSome closure (λ c. IsStartClosure nfa.now c.now) }
+    requires room { length states.now ≤ vec_capacity kept.old }
+    ensures kept { kept.new.items ≡ pick (keep (nfa_of nfa.now)) states.now }
+    ensures few { length kept.new.items ≤ length states.now }
+    ensures looks { (other : Look) → truth_of result other
+        ≡ any_state (λ look. eqb (look_index look) (look_index other)) (nfa_of nfa.now) kept.new.items }
+    ensures capacity { vec_capacity kept.old ≤ vec_capacity kept.new }
+{
+    match closure {
+        Some(closure) => keep_with(nfa, closure, states, kept),
+        None => keep_states(nfa, states, kept),
+    }
+}
+
 /// Makes the powerset state of a closure. The patterns of its parts are set before.
 #[inline(always)]
-fn fill(nfa: &NFA, set: &SparseSet, known: LookSet, prev: Option<u8>, parts: &mut Parts)
+fn fill(
+    nfa: &NFA,
+    closure: Option<&StartClosure>,
+    set: &SparseSet,
+    known: LookSet,
+    prev: Option<u8>,
+    parts: &mut Parts,
+)
+    requires closure { IfSome closure (λ c. IsStartClosure nfa.now c.now) }
     requires whole { set.now.capacity ≡ length nfa.now.states }
     requires parts { IsPartsRoom nfa.now parts.old }
     requires known { (look : Look) → truth_of known look ≡ known_looks (nfa_of nfa.now) prev look }
@@ -92,7 +127,7 @@ fn fill(nfa: &NFA, set: &SparseSet, known: LookSet, prev: Option<u8>, parts: &mu
     ensures few { length parts.new.nfa.items ≤ length nfa.now.states }
     ensures parts { IsPartsRoom nfa.now parts.new }
 {
-    let needed = keep_states(nfa, set.as_slice(), &mut parts.nfa);
+    let needed = keep_set(nfa, closure, set.as_slice(), &mut parts.nfa);
     let some = has_some(needed);
     let known = pick_known(some, known);
     parts.needed = needed.bits();
@@ -102,30 +137,7 @@ fn fill(nfa: &NFA, set: &SparseSet, known: LookSet, prev: Option<u8>, parts: &mu
     parts.half = is_half_way(nfa, full, prev);
 }
 
-/// Adds the closure of what a list leads to on the unit to the set, which is empty before. On the end of the haystack
-/// it adds nothing.
-fn close_unit(
-    nfa: &NFA,
-    list: &[StateID],
-    unit: Option<u8>,
-    known: LookSet,
-    stack: &mut Vec<StateID>,
-    set: &mut SparseSet,
-)
-    requires below { (q : ℕ) → In q list.now → q < length nfa.now.states }
-    requires room { IsClosureRoom nfa.now stack.old set.old }
-    requires fresh { set.old.items ≡ [] }
-    ensures closure { IsClosure (nfa_of nfa.now) (truth_of known) (targets (nfa_of nfa.now) unit list.now)
-        set.new.items }
-    ensures room { IsClosureRoom nfa.now stack.new set.new }
-{
-    match unit {
-        Some(u) => close_targets(nfa, list, u, known, stack, set),
-        None => {}
-    }
-}
-
-/// Adds the closure of what a list leads to on the byte to the set, which is empty before.
+/// Adds the closure of what a list leads to on the byte to the set.
 fn close_targets(
     nfa: &NFA,
     list: &[StateID],
@@ -136,9 +148,9 @@ fn close_targets(
 )
     requires below { (q : ℕ) → In q list.now → q < length nfa.now.states }
     requires room { IsClosureRoom nfa.now stack.old set.old }
-    requires fresh { set.old.items ≡ [] }
-    ensures closure { IsClosure (nfa_of nfa.now) (truth_of known) (targets (nfa_of nfa.now) (Some u) list.now)
-        set.new.items }
+    ensures way { (roots tail : List ℕ) → IsUnderWay (nfa_of nfa.now) (truth_of known) roots
+        (targets (nfa_of nfa.now) (Some u) list.now ++ tail) set.old.items
+        → IsUnderWay (nfa_of nfa.now) (truth_of known) roots tail set.new.items }
     ensures room { IsClosureRoom nfa.now stack.new set.new }
 {
     for i in 0..list.len() {
@@ -186,7 +198,7 @@ fn start_at(
     let known = known_behind(nfa, prev);
     close(nfa, &[start], known, stack, set);
     parts.patterns.clear();
-    fill(nfa, set, known, prev, parts);
+    fill(nfa, None, set, known, prev, parts);
 }
 
 /// Makes the start state of an anchored mode, after this look-behind byte or after none. If the mode has no start in
@@ -220,8 +232,9 @@ pub fn start_into(
     }
 }
 
-/// Reads a list up to its first match state: adds the closure of what the states before it lead to on the byte to the
-/// set, and makes the pattern of that match state the only one.
+/// Reads a list up to its first match state, and returns whether it has one: adds the closure of what the states before
+/// it lead to on the byte to the set, and makes the pattern of that match state the only one.
+#[inline(always)]
 fn read_first(
     nfa: &NFA,
     list: &[StateID],
@@ -230,14 +243,15 @@ fn read_first(
     stack: &mut Vec<StateID>,
     set: &mut SparseSet,
     patterns: &mut Vec<PatternID>,
-)
+) -> bool
     requires below { (q : ℕ) → In q list.now → q < length nfa.now.states }
     requires room { IsClosureRoom nfa.now stack.old set.old }
     requires patterns { length nfa.now.start_pattern ≤ vec_capacity patterns.old }
-    requires fresh { set.old.items ≡ [] }
+    ensures matches { result ≡ has_match (nfa_of nfa.now) list.now }
     ensures matched { AreMatched nfa.now (cut (nfa_of nfa.now) list.now) patterns.new.items }
-    ensures closure { IsClosure (nfa_of nfa.now) (truth_of known)
-        (targets (nfa_of nfa.now) (Some u) (cut (nfa_of nfa.now) list.now)) set.new.items }
+    ensures way { (roots tail : List ℕ) → IsUnderWay (nfa_of nfa.now) (truth_of known) roots
+        (targets (nfa_of nfa.now) (Some u) (cut (nfa_of nfa.now) list.now) ++ tail) set.old.items
+        → IsUnderWay (nfa_of nfa.now) (truth_of known) roots tail set.new.items }
     ensures room { IsClosureRoom nfa.now stack.new set.new }
     ensures patterns { vec_capacity patterns.old ≤ vec_capacity patterns.new }
 {
@@ -248,18 +262,142 @@ fn read_first(
         match pattern_of(state) {
             Some(pattern) => {
                 patterns.push_reserved(pattern);
-                return;
+                return true;
             }
             None => {}
         }
         close_maybe(nfa, target(state, u), known, stack, set);
     }
+    false
 }
 
-/// Reads what of a list counts under the match kind: its patterns, and the closure of what it leads to on the unit.
+/// Reads what of a list counts under the match kind, and returns whether that was cut, so that what would come after the
+/// list does not count: adds the closure of what it leads to on the byte to the set, and makes its patterns the only
+/// ones.
+#[inline(always)]
+fn read_kind(
+    kind: MatchKind,
+    nfa: &NFA,
+    list: &[StateID],
+    u: u8,
+    known: LookSet,
+    stack: &mut Vec<StateID>,
+    set: &mut SparseSet,
+    patterns: &mut Vec<PatternID>,
+) -> bool
+    requires below { (q : ℕ) → In q list.now → q < length nfa.now.states }
+    requires room { IsClosureRoom nfa.now stack.old set.old }
+    requires patterns { length nfa.now.start_pattern ≤ vec_capacity patterns.old }
+    ensures cut { result ≡ is_cut kind (nfa_of nfa.now) list.now }
+    ensures matched { AreMatched nfa.now (cut_for kind (nfa_of nfa.now) list.now) patterns.new.items }
+    ensures way { (roots tail : List ℕ) → IsUnderWay (nfa_of nfa.now) (truth_of known) roots
+        (targets (nfa_of nfa.now) (Some u) (cut_for kind (nfa_of nfa.now) list.now) ++ tail) set.old.items
+        → IsUnderWay (nfa_of nfa.now) (truth_of known) roots tail set.new.items }
+    ensures room { IsClosureRoom nfa.now stack.new set.new }
+    ensures patterns { vec_capacity patterns.old ≤ vec_capacity patterns.new }
+{
+    match kind {
+        MatchKind::All => {
+            read_patterns(nfa, list, patterns);
+            close_targets(nfa, list, u, known, stack, set);
+            false
+        }
+        MatchKind::LeftmostFirst => read_first(nfa, list, u, known, stack, set, patterns),
+    }
+}
+
+/// Reads what of a list counts under the match kind, as `read_kind` does. If it ends with what is kept of the closure of
+/// the unanchored start, and it is known where that leads on the byte, no state of that end is read.
+#[inline(never)]
+fn read_with(
+    kind: MatchKind,
+    nfa: &NFA,
+    closure: &StartClosure,
+    list: &[StateID],
+    u: u8,
+    known: LookSet,
+    stack: &mut Vec<StateID>,
+    set: &mut SparseSet,
+    patterns: &mut Vec<PatternID>,
+)
+    requires below { (q : ℕ) → In q list.now → q < length nfa.now.states }
+    requires closure { IsStartClosure nfa.now closure.now }
+    requires room { IsClosureRoom nfa.now stack.old set.old }
+    requires patterns { length nfa.now.start_pattern ≤ vec_capacity patterns.old }
+    ensures matched { AreMatched nfa.now (cut_for kind (nfa_of nfa.now) list.now) patterns.new.items }
+    ensures way { (roots tail : List ℕ) → IsUnderWay (nfa_of nfa.now) (truth_of known) roots
+        (targets (nfa_of nfa.now) (Some u) (cut_for kind (nfa_of nfa.now) list.now) ++ tail) set.old.items
+        → IsUnderWay (nfa_of nfa.now) (truth_of known) roots tail set.new.items }
+    ensures room { IsClosureRoom nfa.now stack.new set.new }
+    ensures patterns { vec_capacity patterns.old ≤ vec_capacity patterns.new }
+{
+    if let Some(front) = front_of(list, closure.kept.as_slice()) {
+        if let Some(row) = closure.row(nfa, u) {
+            let _states = nfa.states();
+            if !read_kind(kind, nfa, front, u, known, stack, set, patterns) {
+                close_all(nfa, row, known, stack, set);
+            }
+            return;
+        }
+    }
+    let _cut = read_kind(kind, nfa, list, u, known, stack, set, patterns);
+}
+
+/// Reads what of a list counts under the match kind, with the closure of the unanchored start if it is there: adds the
+/// closure of what the list leads to on the byte to the set, and makes its patterns the only ones.
+#[inline(always)]
+fn read_byte(
+    kind: MatchKind,
+    nfa: &NFA,
+    closure: Option<&StartClosure>,
+    list: &[StateID],
+    u: u8,
+    known: LookSet,
+    stack: &mut Vec<StateID>,
+    set: &mut SparseSet,
+    patterns: &mut Vec<PatternID>,
+)
+    requires below { (q : ℕ) → In q list.now → q < length nfa.now.states }
+    requires closure { IfSome closure (λ c. IsStartClosure nfa.now c.now) }
+    requires room { IsClosureRoom nfa.now stack.old set.old }
+    requires patterns { length nfa.now.start_pattern ≤ vec_capacity patterns.old }
+    ensures matched { AreMatched nfa.now (cut_for kind (nfa_of nfa.now) list.now) patterns.new.items }
+    ensures way { (roots tail : List ℕ) → IsUnderWay (nfa_of nfa.now) (truth_of known) roots
+        (targets (nfa_of nfa.now) (Some u) (cut_for kind (nfa_of nfa.now) list.now) ++ tail) set.old.items
+        → IsUnderWay (nfa_of nfa.now) (truth_of known) roots tail set.new.items }
+    ensures room { IsClosureRoom nfa.now stack.new set.new }
+    ensures patterns { vec_capacity patterns.old ≤ vec_capacity patterns.new }
+{
+    match closure {
+        Some(closure) => read_with(kind, nfa, closure, list, u, known, stack, set, patterns),
+        None => {
+            let _cut = read_kind(kind, nfa, list, u, known, stack, set, patterns);
+        }
+    }
+}
+
+/// Makes the patterns of what of a list counts under the match kind the only ones.
+fn read_end(kind: MatchKind, nfa: &NFA, list: &[StateID], patterns: &mut Vec<PatternID>)
+    requires below { (q : ℕ) → In q list.now → q < length nfa.now.states }
+    requires room { length nfa.now.start_pattern ≤ vec_capacity patterns.old }
+    ensures matched { AreMatched nfa.now (cut_for kind (nfa_of nfa.now) list.now) patterns.new.items }
+    ensures room { vec_capacity patterns.old ≤ vec_capacity patterns.new }
+{
+    match kind {
+        MatchKind::All => read_patterns(nfa, list, patterns),
+        MatchKind::LeftmostFirst => {
+            let _end = cut_first(nfa, list, patterns);
+        }
+    }
+}
+
+/// Reads what of a list counts under the match kind: its patterns, and the closure of what it leads to on the unit, to
+/// which the set is set. On the end of the haystack it leads nowhere.
+#[inline(always)]
 fn read_list(
     kind: MatchKind,
     nfa: &NFA,
+    closure: Option<&StartClosure>,
     list: &[StateID],
     unit: Option<u8>,
     known: LookSet,
@@ -268,34 +406,29 @@ fn read_list(
     patterns: &mut Vec<PatternID>,
 )
     requires below { (q : ℕ) → In q list.now → q < length nfa.now.states }
+    requires closure { IfSome closure (λ c. IsStartClosure nfa.now c.now) }
     requires room { IsClosureRoom nfa.now stack.old set.old }
     requires patterns { length nfa.now.start_pattern ≤ vec_capacity patterns.old }
-    requires fresh { set.old.items ≡ [] }
     ensures matched { AreMatched nfa.now (cut_for kind (nfa_of nfa.now) list.now) patterns.new.items }
     ensures closure { IsClosure (nfa_of nfa.now) (truth_of known)
         (targets (nfa_of nfa.now) unit (cut_for kind (nfa_of nfa.now) list.now)) set.new.items }
     ensures room { IsClosureRoom nfa.now stack.new set.new }
     ensures patterns { vec_capacity patterns.old ≤ vec_capacity patterns.new }
 {
-    match kind {
-        MatchKind::All => {
-            read_patterns(nfa, list, patterns);
-            close_unit(nfa, list, unit, known, stack, set);
-        }
-        MatchKind::LeftmostFirst => match unit {
-            Some(u) => read_first(nfa, list, u, known, stack, set, patterns),
-            None => {
-                let _end = cut_first(nfa, list, patterns);
-            }
-        },
+    set.clear();
+    match unit {
+        Some(u) => read_byte(kind, nfa, closure, list, u, known, stack, set, patterns),
+        None => read_end(kind, nfa, list, patterns),
     }
 }
 
 /// Makes the powerset state that a list of NFA states leads to on the unit. The looks that its states test are decided
 /// before.
+#[inline(always)]
 fn advance(
     nfa: &NFA,
     kind: MatchKind,
+    closure: Option<&StartClosure>,
     list: &[StateID],
     unit: Option<u8>,
     stack: &mut Vec<StateID>,
@@ -303,6 +436,7 @@ fn advance(
     parts: &mut Parts,
 )
     requires below { (q : ℕ) → In q list.now → q < length nfa.now.states }
+    requires closure { IfSome closure (λ c. IsStartClosure nfa.now c.now) }
     requires room { IsClosureRoom nfa.now stack.old set.old }
     requires parts { IsPartsRoom nfa.now parts.old }
     ensures matched { AreMatched nfa.now (cut_for kind (nfa_of nfa.now) list.now) parts.new.patterns.items }
@@ -312,10 +446,10 @@ fn advance(
     ensures parts { IsPartsRoom nfa.now parts.new }
 {
     let known = known_behind(nfa, unit);
-    set.clear();
     read_list(
         kind,
         nfa,
+        closure,
         list,
         unit,
         known,
@@ -323,13 +457,15 @@ fn advance(
         set,
         &mut parts.patterns,
     );
-    fill(nfa, set, known, unit, parts);
+    fill(nfa, closure, set, known, unit, parts);
 }
 
 /// Makes the successor of a powerset state on a unit. The list is that of its NFA states.
-pub fn next_into(
+#[inline(always)]
+pub(crate) fn next_into(
     nfa: &NFA,
     kind: MatchKind,
+    closure: Option<&StartClosure>,
     from: &State,
     list: &[StateID],
     unit: Option<u8>,
@@ -341,6 +477,7 @@ pub fn next_into(
     requires checked { IsChecked nfa.now }
     requires is_of { IsOf nfa.now from.now }
     requires list { list.now ≡ from.now.nfa }
+    requires closure { IfSome closure (λ c. IsStartClosure nfa.now c.now) }
     requires room { IsStepRoom nfa.now stack.old one.old two.old parts.old }
     ensures made { IsStepMade nfa.now kind from.now unit (powerset_of parts.new) }
     ensures distinct { Distinct parts.new.patterns.items }
@@ -349,8 +486,8 @@ pub fn next_into(
     match news(nfa, from, unit) {
         Some(truth) => {
             close(nfa, list, truth, stack, one);
-            advance(nfa, kind, one.as_slice(), unit, stack, two, parts)
+            advance(nfa, kind, closure, one.as_slice(), unit, stack, two, parts)
         }
-        None => advance(nfa, kind, list, unit, stack, two, parts),
+        None => advance(nfa, kind, closure, list, unit, stack, two, parts),
     }
 }

@@ -30,6 +30,7 @@ fn push_if(kept: &mut Vec<StateID>, id: StateID, passes: bool)
 }
 
 /// Puts the kept states of a list into another, and returns the looks among them.
+#[inline(always)]
 pub fn keep_states(nfa: &NFA, states: &[StateID], kept: &mut Vec<StateID>) -> LookSet
     requires below { (q : ℕ) → In q states.now → q < length nfa.now.states }
     requires room { length states.now ≤ vec_capacity kept.old }

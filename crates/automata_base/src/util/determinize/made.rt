@@ -1,10 +1,12 @@
 //! The powerset state that was made last, whose NFA states need not be read from its bytes.
-ghost use Rattle.std.specs.Prelude.{◌≡◌, ◌≤◌, IfOk, OnOk, vec_capacity};
+ghost use Rattle.std.specs.Prelude.{◌≡◌, ◌≤◌, IfOk, IfSome, OnOk, vec_capacity};
 ghost use Rattle.automata_base.specs.Lists.{Distinct};
 ghost use Rattle.automata_base.specs.Powersets.Code.{decoded, IsCode};
+ghost use Rattle.automata_base.specs.Nfas.StartClosure.{IsRestCode};
 ghost use Rattle.automata_base.specs.Powersets.Key.{ListsItsStates};
 ghost use Rattle.automata_base.specs.Powersets.Parts.{powerset_of};
 
+use crate::nfa::thompson::start_closure::StartClosure;
 use crate::util::determinize::ids::list_ids;
 use crate::util::determinize::state::{Parts, State};
 use crate::util::primitives::StateID;
@@ -48,9 +50,16 @@ impl MadeState {
     }
 
     /// Makes it the state of these parts, of an NFA with so many states. It takes their list of NFA states, and leaves
-    /// its own there, with room for as many. After an error it stands for no state.
+    /// its own there, with room for as many. There may be the closure of the unanchored start, whose bytes are copied.
+    /// After an error it stands for no state.
     #[inline(always)]
-    pub fn set(&mut self, parts: &mut Parts, len: usize) -> Result<(), AllocError>
+    pub fn set(
+        &mut self,
+        closure: Option<&StartClosure>,
+        parts: &mut Parts,
+        len: usize,
+    ) -> Result<(), AllocError>
+        requires closure { IfSome closure (λ c. IsRestCode c.now.kept.items c.now.code.items) }
         requires distinct { Distinct parts.old.patterns.items }
         requires room { len ≤ vec_capacity parts.old.nfa }
         ensures code { OnOk result (IsCode self.new.bytes.items) }
@@ -59,7 +68,7 @@ impl MadeState {
         ensures room { len ≤ vec_capacity parts.new.nfa }
         ensures patterns { parts.new.patterns ≡ parts.old.patterns }
     {
-        parts.write(&mut self.bytes)?;
+        parts.write_with(closure, &mut self.bytes)?;
         if self.nfa.capacity() < len {
             self.nfa.clear();
             self.nfa.reserve(len)?;

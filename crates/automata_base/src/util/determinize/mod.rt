@@ -8,6 +8,7 @@ pub(crate) mod construct;
 mod count;
 pub(crate) mod deciding;
 mod ids;
+pub(crate) mod kept;
 mod key;
 pub mod laws;
 pub(crate) mod lists;
@@ -18,7 +19,7 @@ mod shared;
 pub(crate) mod sparse_set;
 mod state;
 mod valid;
-mod write;
+pub(crate) mod write;
 
 use crate::nfa::thompson::NFA;
 use crate::util::search::{Anchored, MatchKind};

@@ -2,11 +2,13 @@
 ghost use Rattle.std.specs.Prelude.{◌≡◌, ◌+◌, ◌≤◌, IfOk, IfSome, None, vec_capacity};
 ghost use Rattle.automata_base.specs.Powersets.Results.{IsStartMade, IsStepMade};
 ghost use Rattle.automata_base.specs.Lists.{Distinct};
+ghost use Rattle.automata_base.specs.Nfas.StartClosure.{IsRestCode, IsStartClosure};
 ghost use Rattle.automata_base.specs.Powersets.Key.{ListsItsStates};
 ghost use Rattle.automata_base.specs.Powersets.Parts.{powerset_of};
 ghost use Rattle.automata_base.specs.Paths.Starts.{IsOf};
 
 use crate::nfa::thompson::NFA;
+use crate::nfa::thompson::start_closure::StartClosure;
 use crate::util::determinize::construct::{next_into, start_into};
 use crate::util::determinize::count::Count;
 use crate::util::determinize::key::Key;
@@ -138,7 +140,13 @@ fn take_made(
 
 /// The key of the powerset state of these parts, of an NFA with so many states.
 #[inline(always)]
-fn key_of(made: Box<MadeState>, parts: &mut Parts, len: usize) -> Result<Key, AllocError>
+fn key_of(
+    made: Box<MadeState>,
+    closure: Option<&StartClosure>,
+    parts: &mut Parts,
+    len: usize,
+) -> Result<Key, AllocError>
+    requires closure { IfSome closure (λ c. IsRestCode c.now.kept.items c.now.code.items) }
     requires distinct { Distinct parts.old.patterns.items }
     requires room { len ≤ vec_capacity parts.old.nfa }
     ensures key { IfOk result (λ key. key ≡ powerset_of parts.old) }
@@ -146,7 +154,7 @@ fn key_of(made: Box<MadeState>, parts: &mut Parts, len: usize) -> Result<Key, Al
     ensures patterns { parts.new.patterns ≡ parts.old.patterns }
 {
     let mut made = made;
-    made.set(parts, len)?;
+    made.set(closure, parts, len)?;
     Ok(Key::own(made))
 }
 
@@ -173,8 +181,67 @@ pub fn start_key(
         &mut scratch.one,
         &mut scratch.parts,
     );
-    let key = key_of(made, &mut scratch.parts, len)?;
+    let key = key_of(made, None, &mut scratch.parts, len)?;
     Ok(key)
+}
+
+/// The successor of a powerset state on a unit, as `next_key` returns it. There may be the closure of the unanchored
+/// start, with what the step needs of it.
+#[inline(always)]
+fn next_key_of(
+    nfa: &NFA,
+    closure: Option<&StartClosure>,
+    scratch: &mut Scratch,
+    kind: MatchKind,
+    from: &State,
+    unit: Option<u8>,
+) -> Result<Key, AllocError>
+    requires of { scratch.old.of ≡ nfa.now }
+    requires is_of { IsOf nfa.now from.now }
+    requires closure { IfSome closure (λ c. IsStartClosure nfa.now c.now) }
+    ensures made { IfOk result (IsStepMade nfa.now kind from.now unit) }
+    ensures of { scratch.new.of ≡ scratch.old.of }
+    ensures count { scratch.new.count ≡ scratch.old.count + 1 }
+{
+    scratch.count.tick();
+    let len = nfa.states().len();
+    let mut made = take_made(scratch.alloc, len, &mut scratch.made)?;
+    made.list_states(from)?;
+    next_into(
+        nfa,
+        kind,
+        closure,
+        from,
+        made.nfa.as_slice(),
+        unit,
+        &mut scratch.stack,
+        &mut scratch.one,
+        &mut scratch.two,
+        &mut scratch.parts,
+    );
+    let key = key_of(made, closure, &mut scratch.parts, len)?;
+    Ok(key)
+}
+
+/// The successor of a powerset state on a unit, as `next_key` returns it, of an NFA that keeps the closure of its
+/// unanchored start.
+#[inline(never)]
+fn next_key_with(
+    nfa: &NFA,
+    closure: &StartClosure,
+    scratch: &mut Scratch,
+    kind: MatchKind,
+    from: &State,
+    unit: Option<u8>,
+) -> Result<Key, AllocError>
+    requires of { scratch.old.of ≡ nfa.now }
+    requires is_of { IsOf nfa.now from.now }
+    requires closure { IsStartClosure nfa.now closure.now }
+    ensures made { IfOk result (IsStepMade nfa.now kind from.now unit) }
+    ensures of { scratch.new.of ≡ scratch.old.of }
+    ensures count { scratch.new.count ≡ scratch.old.count + 1 }
+{
+    next_key_of(nfa, Some(closure), scratch, kind, from, unit)
 }
 
 /// The successor of a powerset state on a unit, none being the end of the haystack, as a key to look it up by.
@@ -191,21 +258,8 @@ pub fn next_key(
     ensures of { scratch.new.of ≡ scratch.old.of }
     ensures count { scratch.new.count ≡ scratch.old.count + 1 }
 {
-    scratch.count.tick();
-    let len = nfa.states().len();
-    let mut made = take_made(scratch.alloc, len, &mut scratch.made)?;
-    made.list_states(from)?;
-    next_into(
-        nfa,
-        kind,
-        from,
-        made.nfa.as_slice(),
-        unit,
-        &mut scratch.stack,
-        &mut scratch.one,
-        &mut scratch.two,
-        &mut scratch.parts,
-    );
-    let key = key_of(made, &mut scratch.parts, len)?;
-    Ok(key)
+    match nfa.start_closure() {
+        Some(closure) => next_key_with(nfa, closure, scratch, kind, from, unit),
+        None => next_key_of(nfa, None, scratch, kind, from, unit),
+    }
 }

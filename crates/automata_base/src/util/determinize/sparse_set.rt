@@ -1,6 +1,6 @@
 //! Sets of NFA states that are cleared at once.
 ghost use Rattle.std.specs.Prelude.{◌≡◌, ◌<◌, ◌≤◌, [], ◌∷◌, ◌++◌, IfOk, IsTrue, IsFalse};
-ghost use Rattle.std.specs.Prelude.{ℕ, length};
+ghost use Rattle.std.specs.Prelude.{ℕ, length, take, ◌+◌};
 ghost use Rattle.automata_base.specs.Lists.{In, Distinct};
 ghost use Rattle.automata_base.specs.Retraced.ReversedEdges.{place_in};
 
@@ -26,6 +26,16 @@ impl Model for SparseSet {
     ghost view = { members_of };
 
     ghost invariant = { IsSparse };
+}
+
+/// Puts the elements of a list in the place of those of another, from an index on.
+#[inline(always)]
+fn put_from(out: &mut Vec<StateID>, start: usize, list: &[StateID])
+    requires { start + length list.now ≤ length out.old.items }
+    ensures taken { take (start + length list.now) out.new.items ≡ take start out.old.items ++ list.now }
+    ensures long { length out.new.items ≡ length out.old.items }
+{
+    out[start..start + list.len()].copy_from_slice(list);
 }
 
 impl SparseSet {
@@ -123,5 +133,22 @@ impl SparseSet {
         self.dense[i] = id;
         self.sparse[id.as_usize()] = i as u32;
         self.len = i + 1;
+    }
+    /// Adds numbers that the set does not have after the others. None of them may repeat.
+    pub fn append(&mut self, list: &[StateID])
+        requires below { (q : ℕ) → In q list.now → q < self.old.capacity }
+        requires distinct { Distinct list.now }
+        requires new { (q : ℕ) → In q list.now → In q self.old.items → ⊥ }
+        ensures added { self.new.items ≡ self.old.items ++ list.now }
+        ensures capacity { self.new.capacity ≡ self.old.capacity }
+    {
+        let start = self.len;
+        let end = start + list.len();
+        put_from(&mut self.dense, start, list);
+        for i in start..end {
+            let id = self.dense[i];
+            self.sparse[id.as_usize()] = i as u32;
+        }
+        self.len = end;
     }
 }

@@ -1,13 +1,15 @@
 //! Powerset states as coded bytes, which are shared.
 ghost use Rattle.std.specs.Prelude.{◌≡◌, ◌≤◌, ◌<◌, [], IfOk, OnOk, IsTrue, ◌↔◌, length, slice_index};
-ghost use Rattle.std.specs.Prelude.{vec_capacity};
+ghost use Rattle.std.specs.Prelude.{vec_capacity, IfSome};
 ghost use Rattle.automata_base.specs.Lists.{Distinct};
 ghost use Rattle.automata_base.specs.Powersets.Code.{code, decoded, IsCode};
 ghost use Rattle.automata_base.specs.Powersets.Powerset.{Powerset, IsPowerset, cost};
+ghost use Rattle.automata_base.specs.Nfas.StartClosure.{IsRestCode};
 ghost use Rattle.automata_base.specs.Powersets.Parts.{powerset_of};
 ghost use Rattle.automata_base.specs.Paths.Starts.{IsOf};
 
 use crate::nfa::thompson::NFA;
+use crate::nfa::thompson::start_closure::StartClosure;
 use crate::util::determinize::ids::{Ids, are_below, read_ids};
 use crate::util::determinize::key::Key;
 use crate::util::determinize::read::{
@@ -83,10 +85,28 @@ impl Parts {
         ensures code { OnOk result (IsCode out.new.items) }
         ensures state { OnOk result (decoded out.new.items ≡ powerset_of self.now) }
     {
+        self.write_with(None, out)
+    }
+
+    /// Sets the bytes to those of the state of these parts. There may be the closure of the unanchored start, whose bytes
+    /// are copied if the NFA states end so.
+    #[inline(always)]
+    pub(crate) fn write_with(
+        &self,
+        closure: Option<&StartClosure>,
+        out: &mut Vec<u8>,
+    ) -> Result<(), AllocError>
+        requires distinct { Distinct self.now.patterns.items }
+        requires closure { IfSome closure (λ c. IsRestCode c.now.kept.items c.now.code.items) }
+        ensures bytes { OnOk result (out.new.items ≡ code (powerset_of self.now)) }
+        ensures code { OnOk result (IsCode out.new.items) }
+        ensures state { OnOk result (decoded out.new.items ≡ powerset_of self.now) }
+    {
         see_patterns(&self.patterns);
         out.clear();
         push_state(
             out,
+            closure,
             &self.nfa,
             &self.patterns,
             self.known,

@@ -1,11 +1,14 @@
 //! The bytes of a powerset state, appended to a vector.
-ghost use Rattle.std.specs.Prelude.{◌≡◌, ◌++◌, ◌<◌, ◌≤◌, ◌+◌, ◌^◌, length, All, OnOk, vec_len, vec_capacity};
+ghost use Rattle.std.specs.Prelude.{◌≡◌, ◌++◌, ◌<◌, ◌≤◌, ◌+◌, ◌^◌, length, All, OnOk, IfSome, vec_len, vec_capacity};
 ghost use Rattle.std.specs.List.{flat_map};
 ghost use Rattle.automata_base.specs.Powersets.Code.{four_bytes, varint, ids_code, code, difference, is_listed};
 ghost use Rattle.automata_base.specs.Powersets.Code.{patterns_code};
 ghost use Rattle.automata_base.specs.Powersets.Code.{flag_byte, has_any};
 ghost use Rattle.automata_base.specs.Powersets.Powerset.{IsId};
+ghost use Rattle.automata_base.specs.Nfas.StartClosure.{IsRestCode};
 
+use crate::nfa::thompson::start_closure::StartClosure;
+use crate::util::determinize::kept::front_with_first;
 use crate::util::primitives::{PatternID, StateID};
 use std::alloc::AllocError;
 
@@ -71,12 +74,13 @@ fn push_in_room(out: &mut Vec<u8>, n: u64, left: usize) -> Result<(), AllocError
     Ok(())
 }
 
-/// Appends NFA states, each by its difference to the one before.
-fn push_ids(out: &mut Vec<u8>, ids: &[StateID]) -> Result<(), AllocError>
-    ensures ok { OnOk result (out.new.items ≡ out.old.items ++ ids_code 0 ids.now) }
+/// Appends NFA states that follow another one, each by its difference to the one before.
+#[inline(always)]
+pub(crate) fn push_ids(out: &mut Vec<u8>, before: u32, ids: &[StateID]) -> Result<(), AllocError>
+    ensures ok { OnOk result (out.new.items ≡ out.old.items ++ ids_code before ids.now) }
     ensures ids { OnOk result (All IsId ids.now) }
 {
-    let mut before = 0;
+    let mut before = before;
     let mut left = ids.len();
     out.reserve(left)?;
     for id in ids {
@@ -86,6 +90,41 @@ fn push_ids(out: &mut Vec<u8>, ids: &[StateID]) -> Result<(), AllocError>
         left -= 1;
     }
     Ok(())
+}
+
+/// Appends NFA states, none being before them. If they end with what is kept of the closure, the bytes of all but the
+/// first of these are copied.
+#[inline(never)]
+fn push_with(out: &mut Vec<u8>, closure: &StartClosure, ids: &[StateID]) -> Result<(), AllocError>
+    requires { IsRestCode closure.now.kept.items closure.now.code.items }
+    ensures ok { OnOk result (out.new.items ≡ out.old.items ++ ids_code 0 ids.now) }
+    ensures ids { OnOk result (All IsId ids.now) }
+{
+    match front_with_first(ids, closure.kept.as_slice()) {
+        Some(begin) => {
+            push_ids(out, 0, begin)?;
+            out.extend_from_slice(closure.code.as_slice())
+        }
+        None => push_ids(out, 0, ids),
+    }
+}
+
+/// Appends NFA states, none being before them. There may be the closure of the unanchored start, whose bytes are copied
+/// if they end so.
+#[inline(always)]
+fn push_list(
+    out: &mut Vec<u8>,
+    closure: Option<&StartClosure>,
+    ids: &[StateID],
+) -> Result<(), AllocError>
+    requires { IfSome closure (λ c. IsRestCode c.now.kept.items c.now.code.items) }
+    ensures ok { OnOk result (out.new.items ≡ out.old.items ++ ids_code 0 ids.now) }
+    ensures ids { OnOk result (All IsId ids.now) }
+{
+    match closure {
+        Some(closure) => push_with(out, closure, ids),
+        None => push_ids(out, 0, ids),
+    }
 }
 
 /// Whether there are patterns and they are not the list of pattern 0 alone.
@@ -120,9 +159,12 @@ fn flags_of(patterns: &[PatternID], word: bool, half: bool) -> u8
     u8::from(!patterns.is_empty()) + 2 * u8::from(listed) + 4 * u8::from(word) + 8 * u8::from(half)
 }
 
-/// Appends the bytes of a state.
-pub fn push_state(
+/// Appends the bytes of a state. There may be the closure of the unanchored start, whose bytes are copied if its NFA
+/// states end so.
+#[inline(always)]
+pub(crate) fn push_state(
     out: &mut Vec<u8>,
+    closure: Option<&StartClosure>,
     nfa: &[StateID],
     patterns: &[PatternID],
     known: u32,
@@ -130,7 +172,8 @@ pub fn push_state(
     word: bool,
     half: bool,
 ) -> Result<(), AllocError>
-    requires { length patterns.now < 2 ^ 32 }
+    requires patterns { length patterns.now < 2 ^ 32 }
+    requires closure { IfSome closure (λ c. IsRestCode c.now.kept.items c.now.code.items) }
     ensures ok { OnOk result (out.new.items ≡ out.old.items ++ code
         (record { nfa = nfa.now; patterns = patterns.now; known = known; needed = needed; word = word; half = half })) }
     ensures ids { OnOk result (All IsId nfa.now) }
@@ -139,5 +182,5 @@ pub fn push_state(
     push_u32(out, known)?;
     push_u32(out, needed)?;
     push_patterns(out, patterns)?;
-    push_ids(out, nfa)
+    push_list(out, closure, nfa)
 }

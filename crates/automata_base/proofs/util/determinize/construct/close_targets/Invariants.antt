@@ -1,4 +1,4 @@
-use Rattle.std.proofs.Common.{drop, Some}
+use Rattle.std.proofs.Common.{List, ℕ, ◌++◌, drop, Some}
 use Rattle.automata_base.specs.Nfas.Nodes.{nfa_of}
 use Rattle.automata_base.specs.Powersets.Rooms.{IsClosureRoom}
 use Rattle.automata_base.specs.Haystacks.LookSets.{truth_of}
@@ -8,5 +8,6 @@ use Rattle.automata_base.proofs.util.determinize.construct.close_targets.Given a
 
 abbrev pub invariant-loop-i : goal.invariant-loop-i
 invariant-loop-i l =
-    IsUnderWay (nfa_of l.nfa) (truth_of l.known) (targets (nfa_of l.nfa) (Some l.u) l.list) (targets (nfa_of l.nfa) (Some l.u) (drop l.i l.list)) l.set.items
+    ((roots tail : List ℕ) → IsUnderWay (nfa_of l.nfa) (truth_of l.known) roots (targets (nfa_of l.nfa) (Some l.u) l.list ++ tail) l.fn.set.items
+    → IsUnderWay (nfa_of l.nfa) (truth_of l.known) roots (targets (nfa_of l.nfa) (Some l.u) (drop l.i l.list) ++ tail) l.set.items)
     × IsClosureRoom l.nfa l.stack l.set

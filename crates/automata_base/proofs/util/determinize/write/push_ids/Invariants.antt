@@ -5,7 +5,7 @@ use Rattle.automata_base.proofs.util.determinize.write.push_ids.Given as goal
 
 abbrev pub invariant-loop-id : goal.invariant-loop-id
 invariant-loop-id l = record {
-  code : l.out.items ++ ids_code l.before (drop l.id-index l.ids) ≡ l.fn.out.items ++ ids_code 0 l.ids;
+  code : l.out.items ++ ids_code l.before (drop l.id-index l.ids) ≡ l.fn.out.items ++ ids_code l.fn.before l.ids;
   ids : (k d : ℕ) → k < l.id-index → IsId (get_or l.ids k d);
   left : l.left + l.id-index ≡ length l.ids;
   room : vec_len l.out + l.left ≤ vec_capacity l.out;

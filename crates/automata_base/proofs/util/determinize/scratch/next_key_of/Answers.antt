@@ -1,6 +1,6 @@
 use Rattle.std.proofs.Common.{sym, subst}
 use Rattle.automata_base.specs.Powersets.Results.{IsStepMade}
-use Rattle.automata_base.proofs.util.determinize.scratch.next_key.Goals as goal
+use Rattle.automata_base.proofs.util.determinize.scratch.next_key_of.Goals as goal
 
 pub returns-clause-made : goal.returns-clause-made
 returns-clause-made c =
