@@ -1,5 +1,5 @@
 -- What a pass answers, and what it makes of its cache: the whole of it, or from some unit on.
-use Rattle.std.specs.Prelude.{ℕ, List, Bool, suc, ◌≡◌, ◌-◌, ◌<◌, ◌≤◌, true, Option}
+use Rattle.std.specs.Prelude.{ℕ, List, Bool, suc, ◌≡◌, ◌-◌, ◌<◌, ◌≤◌, true, false, Option, Some, None}
 use Rattle.automata_base.specs.Haystacks.Input.{Input, IsAllowed}
 use Rattle.automata_base.specs.Haystacks.Matches.{HalfMatch}
 use Rattle.automata_base.specs.declared.util.search.Direction.{Direction}
@@ -51,6 +51,11 @@ pub record IsKnownUpto (way : Direction) (m : Machine) (c : Stored) (input : Inp
   pub within : k ≤ input.end - input.start
   pub at : IsUnderway way m c.table input k id found
   pub known : (j : ℕ) → j < k → HasLearnedUnit way m c input j
+
+-- a half match by its parts, if there is one
+abbrev pub half_from : Bool → (pattern offset : ℕ) → Option HalfMatch
+half_from true pattern offset = Some (record { pattern = pattern; offset = offset })
+half_from false pattern offset = None
 
 -- the same for an input that is rebuilt from haystack, span, mode and flag
 pub record IsTakenUp (way : Direction) (m : Machine) (c : Stored) (input : Input) (k id : ℕ)

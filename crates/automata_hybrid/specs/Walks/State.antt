@@ -1,5 +1,5 @@
 -- Overlapping walks: what contracts see of where one stands.
-use Rattle.std.specs.Prelude.{ℕ, ◌≡◌, suc, Option, None, Some}
+use Rattle.std.specs.Prelude.{ℕ, ◌≡◌, suc, length, Option, None, Some}
 use Rattle.automata_base.specs.Haystacks.Matches.{HalfMatch}
 use Rattle.automata_base.specs.Powersets.Powerset.{Powerset}
 use Rattle.automata_hybrid.specs.Cache.Table.{Names, Rows}
@@ -100,3 +100,9 @@ stage_of stage.Ended = Ended
 -- and of a walk
 abbrev pub walk_of : Inside → Walk
 walk_of s = record { stage = stage_of s.stage; units = s.units; reported = s.reported; found = s.found }
+
+-- the state where a walk stands has so many patterns; where it stands at none, there are none
+abbrev pub HasItsCount : Stage → ℕ → Type 0
+HasItsCount Fresh n = n ≡ 0
+HasItsCount (At q) n = n ≡ length q.patterns
+HasItsCount Ended n = n ≡ 0

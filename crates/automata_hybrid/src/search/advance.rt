@@ -17,7 +17,9 @@ ghost use Rattle.automata_hybrid.specs.Walks.Answers.{IsArrival, WalkReads};
 use crate::dfa::DFA;
 use crate::dfa::cache::Cache;
 use crate::id::LazyStateID;
-use crate::search::direction::{last_place, place_offset, span_offset, unit_at, unit_offset};
+use crate::search::direction::{
+    byte_at, last_place, place_offset, span_offset, unit_at, unit_offset,
+};
 use crate::search::follow::Stop;
 use automata_base::util::search::{Direction, Input};
 use automata_config::error::SearchError;
@@ -88,7 +90,47 @@ impl DFA {
         !self.skips_at(input, place_offset(input, way, place))
     }
 
-    /// Follows cached transitions without a tag: each direction has its own loop.
+    /// Follows one cached transition from an ID with a tag to one without, so that a walk goes on from a match as it does
+    /// from any other state. From an ID without a tag, it follows none.
+    fn leave_tag(
+        &self,
+        cache: &Cache,
+        input: &Input<'_>,
+        way: Direction,
+        start: usize,
+        from: LazyStateID,
+    ) -> Stop
+        requires of { IsCacheOf cache.now self.now }
+        requires open { input.now.start ≤ input.now.end }
+        requires within { start ≤ input.now.end - input.now.start }
+        requires named { Names cache.now.store.table from (state_in way self.now input.now start) }
+        ensures within { result.at ≤ input.now.end - input.now.start }
+        ensures followed { IsFollowed way self.now cache.now.store input.now 0 start result.at result.id }
+        ensures met { IsMet way self.now cache.now.store input.now result.at result.id result.next }
+    {
+        if from.has_only(0) || start >= last_place(input) {
+            return Stop {
+                at: start,
+                id: from,
+                next: LazyStateID::UNKNOWN,
+            };
+        }
+        let next = self.next_state_known(cache, from, byte_at(input, way, start));
+        if next.has_only(0) {
+            return Stop {
+                at: start + 1,
+                id: next,
+                next: LazyStateID::UNKNOWN,
+            };
+        }
+        Stop {
+            at: start,
+            id: from,
+            next,
+        }
+    }
+
+    /// Follows cached transitions to IDs without a tag: each direction has its own loop.
     #[inline(always)]
     fn follow_walk(
         &self,
@@ -106,9 +148,17 @@ impl DFA {
         ensures followed { IsFollowed way self.now cache.now.store input.now 0 start result.at result.id }
         ensures met { IsMet way self.now cache.now.store input.now result.at result.id result.next }
     {
+        let first = self.leave_tag(cache, input, way, start, from);
+        if !first.id.has_only(0) {
+            return first;
+        }
         match way {
-            Direction::Forward => self.follow(cache, input, Direction::Forward, start, from),
-            Direction::Backward => self.follow(cache, input, Direction::Backward, start, from),
+            Direction::Forward => {
+                self.follow(cache, input, Direction::Forward, first.at, first.id)
+            }
+            Direction::Backward => {
+                self.follow(cache, input, Direction::Backward, first.at, first.id)
+            }
         }
     }
 

@@ -210,7 +210,7 @@ impl DFA {
     {
         let at = place_offset(input, way, units - 1);
         let half = HalfMatch::new(cache.match_pattern(id, 0), at);
-        walk.go_to(cache.snapshot(id), units);
+        walk.go_to(cache.snapshot(id), cache.match_len(id), units);
         walk.report(half);
     }
 
@@ -312,22 +312,16 @@ impl DFA {
         ensures room { IfSome result (λ p. walk.now.reported + 1 < 2 ^ 64) }
         ensures none { IfNone result ((q : Powerset) → walk.now.stage ≡ At q → length q.patterns ≤ walk.now.reported) }
     {
+        if !walk.has_more() {
+            return None;
+        }
         let reported = walk.reported();
         match held {
             Held::Row(Some(id)) => {
-                if reported < cache.match_len(*id) {
-                    Some(cache.match_pattern(*id, reported))
-                } else {
-                    None
-                }
+                let _state = cache.snapshot(*id);
+                Some(cache.match_pattern(*id, reported))
             }
-            Held::State(Some(handle)) => {
-                if reported < handle.state.match_len() {
-                    Some(handle.state.match_pattern(reported))
-                } else {
-                    None
-                }
-            }
+            Held::State(Some(handle)) => Some(handle.state.match_pattern(reported)),
             Held::Row(None) | Held::State(None) => None,
         }
     }

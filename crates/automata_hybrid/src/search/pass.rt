@@ -8,7 +8,7 @@ ghost use Rattle.automata_base.specs.Powersets.Powerset.{Powerset, dead};
 ghost use Rattle.automata_hybrid.specs.Cache.Caches.{IsCacheOf};
 ghost use Rattle.automata_hybrid.specs.Searches.Contracts.{IsUnsupported, unsupported_error};
 ghost use Rattle.automata_hybrid.specs.Searches.PassContracts.{IsKnownUpto, IsPassAnswer};
-ghost use Rattle.automata_hybrid.specs.Searches.PassContracts.{IsTakenUp};
+ghost use Rattle.automata_hybrid.specs.Searches.PassContracts.{IsTakenUp, half_from};
 ghost use Rattle.automata_hybrid.specs.Searches.PassContracts.{IsUnderway, input_at};
 ghost use Rattle.automata_hybrid.specs.Searches.PassState.{HasRun, IsAt, IsMet};
 ghost use Rattle.automata_hybrid.specs.Searches.Units.{IsEndProgress, IsStillProgress};
@@ -23,6 +23,7 @@ use crate::search::direction::{
     byte_at, byte_offset, bytes_read, end_before_last, keeps_none, last_place, place_offset,
     span_offset, unit_at, unit_offset,
 };
+use automata_base::util::primitives::PatternID;
 use automata_base::util::search::{Anchored, Direction, HalfMatch, Input, Span};
 use automata_config::error::SearchError;
 
@@ -36,14 +37,24 @@ pub(super) struct Place {
     pub(super) next: LazyStateID,
 }
 
-/// Copies `found`, so that the original can stay in registers: what is lent to a call stands in memory.
-fn again(found: Option<HalfMatch>) -> Option<HalfMatch>
-    ensures { result ≡ found }
+/// Whether there is a half match, and its parts.
+fn parts_of(found: Option<HalfMatch>) -> (bool, PatternID, usize)
+    ensures { half_from result.0 result.1 result.2 ≡ found }
 {
     match found {
-        Some(half) => Some(half),
-        None => None,
+        Some(half) => (true, half.pattern(), half.offset()),
+        None => (false, PatternID::ZERO, 0),
     }
+}
+
+/// A half match of these parts, if there is one.
+fn half_from(has: bool, pattern: PatternID, offset: usize) -> Option<HalfMatch>
+    ensures { result ≡ half_from has pattern offset }
+{
+    if has {
+        return Some(HalfMatch::new(pattern, offset));
+    }
+    None
 }
 
 /// The input of these parts.
@@ -68,7 +79,7 @@ impl DFA {
     /// its bytes once it has ended.
     // `begin_of` and `rest` are not inlined, so that a search which finds all that it needs cached keeps its numbers
     // in registers. What they are lent and what they return stands in memory, which is cleared first: so they are
-    // given the parts of the input, and what they return is taken apart.
+    // given the parts of the input and of what was found, and what they return is taken apart.
     #[inline(always)]
     pub(super) fn pass(
         &self,
@@ -105,7 +116,7 @@ impl DFA {
             return Ok(known.found);
         }
         cache.search_start(span_offset(input, way, 0));
-        let before = again(known.found);
+        let before = parts_of(known.found);
         match self.rest(
             cache,
             input.haystack(),
@@ -115,7 +126,9 @@ impl DFA {
             way,
             known.at,
             known.id,
-            before,
+            before.0,
+            before.1,
+            before.2,
         ) {
             Ok(found) => Ok(found),
             Err(error) => Err(error),
@@ -191,7 +204,9 @@ impl DFA {
             way,
             0,
             start,
-            None,
+            false,
+            PatternID::ZERO,
+            0,
         )?;
         Ok(found)
     }
@@ -257,11 +272,13 @@ impl DFA {
         way: Direction,
         from: usize,
         start: LazyStateID,
-        before: Option<HalfMatch>,
+        has: bool,
+        pattern: PatternID,
+        offset: usize,
     ) -> Result<Option<HalfMatch>, SearchError>
         requires of { IsCacheOf cache.old self.now }
         requires at { IsTakenUp way self.now cache.old.store
-            (input_at haystack.now span anchored earliest) from start before }
+            (input_at haystack.now span anchored earliest) from start (half_from has pattern offset) }
         ensures of { IsCacheOf cache.new self.now }
         ensures answer { IfOk result (IsPassAnswer way self.now
             (input_at haystack.now span anchored earliest)) }
@@ -271,6 +288,7 @@ impl DFA {
             (input_at haystack.now span anchored earliest) cache.old cache.new) }
     {
         let own = input_of(haystack, span, anchored, earliest);
+        let before = half_from(has, pattern, offset);
         match way {
             Direction::Forward => self.find(cache, &own, Direction::Forward, from, start, before),
             Direction::Backward => self.find(cache, &own, Direction::Backward, from, start, before),

@@ -14,6 +14,9 @@ use crate::search::lanes::{LANES, are_in, are_in_either, count_in_either};
 use crate::search::loop_range::LoopRange;
 use automata_base::util::search::Direction;
 
+/// Where fewer bytes are left, no self-loop is looked for: a look in vain reads up to eight cells, which are read again.
+const FEW: usize = 16;
+
 /// How many bytes of a self-loop are followed eight at once before its ranges are looked for.
 const MANY: usize = 256;
 
@@ -307,7 +310,7 @@ impl DFA {
     }
 
     /// On how many bytes of a slice, which is read from its front or from its back, a row has a self-loop, or some
-    /// less: none if these are less than eight.
+    /// less: none where few bytes are left.
     #[inline(always)]
     pub(super) fn follow_self_loop(
         &self,
@@ -321,7 +324,7 @@ impl DFA {
         requires plain { id < fixed_from }
         ensures { IsLoopRun self.now cache.now.store id way bytes.now 0 result }
     {
-        if bytes.len() < 8 {
+        if bytes.len() < FEW {
             return 0;
         }
         if !self.loops_on_eight(cache, id, way, bytes, 0) {

@@ -1,5 +1,5 @@
 //! How far an overlapping search is, and what it holds between its calls.
-ghost use Rattle.std.specs.Prelude.{◌≡◌, ◌+◌, ◌<◌, ◌^◌, IfOk, OnOk, OnErr, true, false};
+ghost use Rattle.std.specs.Prelude.{◌≡◌, ◌+◌, ◌<◌, ◌≤◌, ◌^◌, IfOk, OnOk, OnErr, length, true, false};
 ghost use Rattle.std.specs.Prelude.{None};
 ghost use Rattle.automata_base.specs.Powersets.Powerset.{Powerset};
 ghost use Rattle.automata_hybrid.specs.Cache.Table.{IsRowId, Names};
@@ -107,16 +107,20 @@ enum Stage {
 pub(crate) struct Cursor {
     stage: Stage,
     units: usize,
+    /// How many patterns the state has at which it stands: none where it stands at no state.
+    patterns: usize,
     reported: usize,
     found: Option<HalfMatch>,
 }
 
 impl Model for Cursor {
-    ghost use Rattle.automata_hybrid.specs.Walks.State.{Walk, walk_of};
+    ghost use Rattle.automata_hybrid.specs.Walks.State.{Walk, HasItsCount, stage_of, walk_of};
 
     ghost Value = { Walk };
 
     ghost view = { walk_of };
+
+    ghost invariant = { λ s. HasItsCount (stage_of s.stage) s.patterns };
 }
 
 impl Cursor {
@@ -127,6 +131,7 @@ impl Cursor {
         Cursor {
             stage: Stage::Fresh,
             units: 0,
+            patterns: 0,
             reported: 0,
             found: None,
         }
@@ -144,6 +149,16 @@ impl Cursor {
         ensures { result ≡ self.now.units }
     {
         self.units
+    }
+
+    /// Whether it stands at a state that has a pattern more than it has reported.
+    pub(crate) fn has_more(&self) -> bool
+        ensures yes { result ≡ true → (q : Powerset) × (self.now.stage ≡ At q)
+            × (self.now.reported < length q.patterns) }
+        ensures room { result ≡ true → self.now.reported + 1 < 2 ^ 64 }
+        ensures no { result ≡ false → (q : Powerset) → self.now.stage ≡ At q → length q.patterns ≤ self.now.reported }
+    {
+        self.reported < self.patterns
     }
 
     /// How many patterns of its state it has reported.
@@ -191,12 +206,14 @@ impl Cursor {
         self.found = Some(half);
     }
 
-    /// Goes to a state of which it has reported nothing.
-    pub(crate) fn go_to(&mut self, state: Snapshot<State>, units: usize)
+    /// Goes to a state with so many patterns, of which it has reported none.
+    pub(crate) fn go_to(&mut self, state: Snapshot<State>, patterns: usize, units: usize)
+        requires { patterns ≡ length state.value.patterns }
         ensures { self.new ≡ record { stage = At state.value; units = units; reported = 0; found = None } }
     {
         self.stage = Stage::At(state);
         self.units = units;
+        self.patterns = patterns;
         self.reported = 0;
         self.found = None;
     }
@@ -207,6 +224,7 @@ impl Cursor {
     {
         self.stage = Stage::Ended;
         self.units = units;
+        self.patterns = 0;
         self.reported = 0;
         self.found = None;
     }
@@ -227,6 +245,7 @@ impl Cursor {
         Cursor {
             stage,
             units: self.units,
+            patterns: self.patterns,
             reported: self.reported,
             found: self.found,
         }

@@ -7,7 +7,7 @@ use Rattle.automata_hybrid.specs.Cache.Caches.{CacheView, with_store, IsStoreOf}
 use Rattle.automata_hybrid.specs.Cache.Progress.{saturated, total_len}
 use Rattle.automata_hybrid.specs.Cache.Stores.{with_searched}
 use Rattle.automata_hybrid.specs.Machines.Machine.{Machine}
-use Rattle.automata_hybrid.specs.Searches.PassContracts.{IsKnownUpto}
+use Rattle.automata_hybrid.specs.Searches.PassContracts.{IsKnownUpto, half_from}
 use Rattle.automata_hybrid.specs.Searches.Progress.{EndsAtLast, IsStoppedAt, with_search_begun, IsPassRun}
 use Rattle.automata_hybrid.specs.Calls.Events.{Begin, with_progress}
 use Rattle.automata_hybrid.proofs.Searches.Directions.{begins_alive}
@@ -52,11 +52,11 @@ rest-requires-clause-at c =
     let k : IsKnownUpto d c.args.self.now c.args.cache.now.store c.args.input.now c.known_pass-known.result.at c.known_pass-known.result.id c.known_pass-known.result.found = c.known_pass-known.ensures.left c.if-known.false in
     let same = same_input c.args.input.now c.haystack-2.result.now c.get_span-2.result c.get_anchored-2.result c.get_earliest-2.result c.haystack-2.ensures.same c.get_span-2.ensures.start c.get_span-2.ensures.end c.get_anchored-2.ensures c.get_earliest-2.ensures in
     let upto =
-    subst (λ (o : Option HalfMatch). IsKnownUpto d c.args.self.now c.search_start.new.self.store c.args.input.now c.known_pass-known.result.at c.known_pass-known.result.id o) (sym c.again-before.ensures)
+    subst (λ (o : Option HalfMatch). IsKnownUpto d c.args.self.now c.search_start.new.self.store c.args.input.now c.known_pass-known.result.at c.known_pass-known.result.id o) (sym c.parts_of-before.ensures)
     (subst (λ (v : CacheView). IsKnownUpto d c.args.self.now v.store c.args.input.now c.known_pass-known.result.at c.known_pass-known.result.id c.known_pass-known.result.found) (sym c.search_start.ensures.value)
     (record { within = k.within; at = k.at; known = k.known })) in record {
       allowed = subst (λ (i : Input). Allows i.haystack i.start i.end) (sym same) c.get_span-2.ensures.within;
-      upto = subst (λ (i : Input). IsKnownUpto d c.args.self.now c.search_start.new.self.store i c.known_pass-known.result.at c.known_pass-known.result.id c.again-before.result) (sym same) upto;
+      upto = subst (λ (i : Input). IsKnownUpto d c.args.self.now c.search_start.new.self.store i c.known_pass-known.result.at c.known_pass-known.result.id (half_from c.parts_of-before.result.0 c.parts_of-before.result.1 c.parts_of-before.result.2)) (sym same) upto;
     }
 
 pub returns-in-Ok-rest-clause-effect : goal.returns-in-Ok-rest-clause-effect
