@@ -4,6 +4,7 @@ pub mod Additions
 pub mod Places
 pub mod Clears
 pub mod Usage
+pub mod Leaps
 pub mod NewRows
 pub mod Growth
 pub mod Transitions

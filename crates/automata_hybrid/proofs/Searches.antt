@@ -16,5 +16,6 @@ pub mod Follows
 pub mod Reads
 pub mod PassContracts
 pub mod SelfLoops
+pub mod Leaps
 pub mod Lanes
 pub mod KnownPasses

@@ -8,3 +8,4 @@ pub mod Changes
 pub mod Growth
 pub mod Progress
 pub mod LookUps
+pub mod Leaps

@@ -9,3 +9,4 @@ pub mod PassState
 pub mod PassContracts
 pub mod Units
 pub mod SelfLoops
+pub mod Leaps

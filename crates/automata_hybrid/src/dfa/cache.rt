@@ -1,8 +1,8 @@
-//! The cache of a lazy DFA: its store, the buffers to determinize into, and the self-loop that was followed last.
+//! The cache of a lazy DFA: its store, the buffers to determinize into, the self-loop that was followed last, leaps.
 //! Steps, start states and searches do all that they do to a cache by these methods. A state that does not fit is
 //! added after a clear, which makes the new store beside the old one: an error leaves the cache as it was.
 ghost use Rattle.std.specs.Prelude.{ℕ, ◌≡◌, ◌*◌, ◌%◌, ◌<◌, ◌≤◌, IfOk, IfErr, OnOk, OnErr, slice_index};
-ghost use Rattle.std.specs.Prelude.{length, is_some, IsSome, IsTrue, ◌+◌, ◌↔◌, ◌⊎◌, false, None, Option};
+ghost use Rattle.std.specs.Prelude.{length, is_some, IfSome, IsSome, IsTrue, ◌+◌, ◌↔◌, ◌⊎◌, false, None, Option};
 ghost use Rattle.automata_base.specs.Powersets.Powerset.{Powerset, cost, dead};
 ghost use Rattle.automata_base.specs.Retraced.Steps.{successor, start_state_of};
 ghost use Rattle.automata_base.specs.Powersets.Passes.{IsUnit};
@@ -12,7 +12,8 @@ ghost use Rattle.automata_hybrid.specs.Machines.OwnStates.{IsOwn};
 ghost use Rattle.automata_hybrid.specs.Machines.Machine.{quits_on, unit_class};
 ghost use Rattle.automata_hybrid.specs.Cache.Ids.{dead_id, unknown_id, offset_limit};
 ghost use Rattle.automata_hybrid.specs.Cache.Table.{id_of, Names, IsRowId, Leads, IsCell, LeadsByClass};
-ghost use Rattle.automata_hybrid.specs.Cache.Table.{HasItsMatchTag};
+ghost use Rattle.automata_hybrid.specs.Cache.Table.{HasItsMatchTag, HasState};
+ghost use Rattle.automata_hybrid.specs.Cache.Leaps.{AreLeaps, IsShapeOf};
 ghost use Rattle.automata_hybrid.specs.Cache.Table.{IsNewState, IsRowState};
 ghost use Rattle.automata_hybrid.specs.Cache.Stores.{IsSoundStore, cell_of, with_next, with_start};
 ghost use Rattle.automata_hybrid.specs.Cache.Stores.{with_searched};
@@ -26,6 +27,7 @@ ghost use Rattle.automata_hybrid.specs.Cache.Progress.{progress_finished, progre
 ghost use Rattle.automata_hybrid.specs.Cache.Progress.{saturated, total_len};
 ghost use Rattle.automata_config.specs.Options.{match_kind_of};
 
+use crate::dfa::leaps::{Leaping, Leaps, Shape};
 use crate::dfa::store::Store;
 use crate::dfa::{DFA, row};
 use crate::id::LazyStateID;
@@ -52,11 +54,12 @@ pub(crate) enum Found {
 
 /// The states that a lazy DFA has determinized, their transitions, and the buffers to determinize more. Its accounted
 /// bytes, `memory_usage`, never exceed the capacity of the DFA's settings, or the minimum capacity if that was raised
-/// to.
+/// to. Its leaps, which do not count, take no more than these bytes leave of it.
 pub struct Cache {
     store: Store,
     scratch: Scratch,
     self_loop: Cell<KnownLoop>,
+    leaping: Leaping,
 }
 
 // One call for an owner, whose proof then has no step for each part.
@@ -66,6 +69,7 @@ impl Drop for Cache {
             store: _store,
             scratch: _scratch,
             self_loop: _self_loop,
+            leaping: _leaping,
         } = self;
     }
 }
@@ -73,12 +77,13 @@ impl Drop for Cache {
 impl Model for Cache {
     ghost use Rattle.std.specs.Prelude.{◌≡◌};
     ghost use Rattle.automata_hybrid.specs.Cache.Caches.{CacheView};
+    ghost use Rattle.automata_hybrid.specs.Cache.Leaps.{AreCacheParts};
 
     ghost Value = { CacheView };
 
     ghost view = { λ c. record { store = c.store; count = c.scratch.count } };
 
-    ghost invariant = { λ c. c.scratch.of ≡ c.store.table.of.nfa };
+    ghost invariant = { λ c. AreCacheParts c.store c.scratch.of c.leaping.leaps };
 }
 
 /// A clone has rows of its own and shares their states, so that what is done to one does not show in the other. The
@@ -91,6 +96,7 @@ impl Clone for Cache {
             store: self.store.clone()?,
             scratch: self.scratch.clone()?,
             self_loop: self.self_loop.clone()?,
+            leaping: Leaping::new(),
         })
     }
 }
@@ -119,6 +125,7 @@ impl Cache {
             store,
             scratch,
             self_loop: Cell::new(KnownLoop::default()),
+            leaping: Leaping::new(),
         })
     }
 
@@ -276,6 +283,11 @@ impl Cache {
             × LeadsByClass self.old.store.table next q class }
         ensures { self.new ≡ with_store self.old (with_next self.old.store id class next) }
     {
+        let old = self
+            .store
+            .table
+            .cell_in_row(id, id.offset() as usize, class);
+        self.leaping.keep_if(old.is_unknown(), &self.store.searched);
         self.store.table.set_cell(id, class, next);
     }
 
@@ -296,6 +308,7 @@ impl Cache {
     {
         let bytes = self.store.cost_of(&state);
         if self.store.fits(bytes) {
+            self.leaping.drop_leaps(&self.store.searched);
             let to = self.store.add_row(state, false, bytes)?;
             return Ok((from, to));
         }
@@ -323,6 +336,7 @@ impl Cache {
     {
         let mut fresh = self.store.cleared(dfa)?;
         let from = fresh.keep_saved(&self.store.table, from)?;
+        self.leaping = Leaping::new();
         let to = self.store.replace(fresh, state, false, bytes)?;
         Ok((from, to))
     }
@@ -383,6 +397,7 @@ impl Cache {
     {
         let bytes = self.store.cost_of(&state);
         if self.store.fits(bytes) {
+            self.leaping.drop_leaps(&self.store.searched);
             let id = self.store.add_row(state, started, bytes)?;
             return Ok(id);
         }
@@ -408,6 +423,7 @@ impl Cache {
         ensures refused { IfErr result (IsAddRefused self.old self.new state) }
     {
         let fresh = self.store.cleared(dfa)?;
+        self.leaping = Leaping::new();
         let id = self.store.replace(fresh, state, started, bytes)?;
         Ok(id)
     }
@@ -445,6 +461,92 @@ impl Cache {
     /// Keeps what was found of a self-loop, for the next run over it.
     pub(crate) fn set_self_loop(&self, found: KnownLoop) {
         self.self_loop.set(found);
+    }
+
+    /// The leaps, if there are some.
+    pub(crate) fn leaps(&self) -> Option<&Leaps>
+        ensures { IfSome result (λ l. AreLeaps self.now.store.table l.now) }
+    {
+        match &self.leaping.leaps {
+            Some(leaps) => Some(leaps.as_ref()),
+            None => None,
+        }
+    }
+
+    /// The index of the row that has this ID.
+    pub(crate) fn row_index(&self, id: LazyStateID) -> usize
+        requires { IsRowId self.now.store.table id }
+        ensures row { (q : Powerset) → Names self.now.store.table id q → HasState self.now.store.table result q }
+    {
+        self.store.table.row_index(id)
+    }
+
+    /// The ID of a row without tags.
+    pub(crate) fn row_at(&self, index: usize) -> LazyStateID
+        requires { index < length self.now.store.table.rows }
+        ensures { result ≡ (index + 3) * self.now.store.table.of.stride }
+    {
+        self.store.table.row_at(index)
+    }
+
+    /// How many bytes are still searched before leaps are looked after.
+    pub(crate) fn bytes_before_leaps(&self) -> usize {
+        self.leaping
+            .due
+            .saturating_sub(self.store.searched.total_len())
+    }
+
+    /// Looks after leaps, if enough bytes were searched.
+    #[inline(always)]
+    pub(crate) fn prepare_leaps(&mut self, dfa: &DFA)
+        requires { IsCacheOf self.old dfa.now }
+        ensures { self.new ≡ self.old }
+    {
+        if self.store.searched.total_len() >= self.leaping.due {
+            self.make_leaps(dfa);
+        }
+    }
+
+    /// Makes leaps anew, if they pay and fit, and says when to look after them again. Where they cannot be made, that
+    /// is after the next clear.
+    #[inline(never)]
+    fn make_leaps(&mut self, dfa: &DFA)
+        requires { IsCacheOf self.old dfa.now }
+        ensures { self.new ≡ self.old }
+    {
+        let total = self.store.searched.total_len();
+        self.leaping = Leaping::none();
+        let Some(shape) = Shape::of(dfa.byte_classes().eoi(), self.store.table.len()) else {
+            return;
+        };
+        if shape.bytes() > self.store.room() {
+            return;
+        }
+        if total < shape.price() {
+            self.leaping.due = shape.price();
+            return;
+        }
+        if let Ok(leaps) = self.leaps_of(dfa, shape) {
+            self.leaping = Leaping {
+                leaps: Some(leaps),
+                due: total.saturating_mul(2),
+            };
+        }
+    }
+
+    /// Leaps of a shape.
+    fn leaps_of(&self, dfa: &DFA, shape: Shape) -> Result<Box<Leaps>, AllocError>
+        requires dfa { IsCacheOf self.now dfa.now }
+        requires of { IsShapeOf self.now.store.table shape }
+        requires rows { shape.rows ≡ length self.now.store.table.rows }
+        ensures leaps { IfOk result (λ b. AreLeaps self.now.store.table b.value) }
+        ensures shape { IfOk result (λ b. b.value.shape ≡ shape) }
+    {
+        dfa.see_machine();
+        let alloc = dfa.get_nfa().alloc();
+        let leaps = Leaps::of_table(alloc, &self.store.table, shape)?;
+        let boxed = Box::new(alloc, leaps)?;
+        Ok(boxed)
     }
 
     /// How often the cache was cleared.

@@ -24,6 +24,7 @@ ghost use Rattle.automata_hybrid.specs.Machines.Machine.{quits_on, unit_class};
 pub mod builder;
 pub mod cache;
 pub(crate) mod clears;
+pub(crate) mod leaps;
 pub(crate) mod progress;
 pub(crate) mod row;
 pub(crate) mod settings;

@@ -133,6 +133,13 @@ impl Store {
         row + bytes <= room && self.table.cell_count() < LazyStateID::OFFSET_LIMIT
     }
 
+    /// The bytes of the capacity that are not taken.
+    pub fn room(&self) -> usize
+        ensures { usage self.now + result ≤ self.now.table.of.capacity }
+    {
+        self.settings.capacity - self.memory_usage()
+    }
+
     /// Whether a search gives up in place of a clear.
     pub fn refuses(&self) -> bool
         ensures { result ≡ refuses_to_clear self.now }

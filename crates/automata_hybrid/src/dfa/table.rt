@@ -12,6 +12,7 @@ ghost use Rattle.automata_hybrid.specs.Machines.Machine.{IsTemplate, marked};
 ghost use Rattle.automata_hybrid.specs.Cache.Table.{id_of, with_row, fresh, Names, row_cost, IsRowId, HasState, LeadsByClass};
 ghost use Rattle.automata_hybrid.specs.Cache.Table.{IsNewState, IsSoundTable};
 ghost use Rattle.automata_hybrid.specs.Cache.Table.{IsCell, cell_at, with_cell};
+ghost use Rattle.automata_hybrid.specs.Cache.Leaps.{LeadsTo};
 
 use crate::dfa::row::Row;
 use crate::dfa::{DFA, row};
@@ -271,6 +272,31 @@ impl Table {
         ensures { self.new ≡ with_cell self.old id class next }
     {
         self.cells[id.offset() as usize + class] = next;
+    }
+
+    /// The index of the row to which a cached transition leads, if its ID has no tag, and else the number of rows.
+    pub fn row_after(&self, row: usize, class: usize) -> usize
+        requires row { row < length self.now.rows }
+        requires class { class < self.now.of.stride }
+        ensures upto { result ≤ length self.now.rows }
+        ensures leads { result < length self.now.rows → LeadsTo self.now row class result }
+    {
+        let rows = self.rows.len();
+        let offset = self.cells[(row + 3) * self.stride + class].offset_by(0);
+        let index = rows_before(offset, self.stride);
+        if index < 3 || rows + 3 <= index || index * self.stride != offset {
+            return rows;
+        }
+        index - 3
+    }
+
+    /// The ID of a row without tags.
+    pub fn row_at(&self, index: usize) -> LazyStateID
+        requires { index < length self.now.rows }
+        ensures { result ≡ (index + 3) * self.now.of.stride }
+    {
+        self.see_rows();
+        LazyStateID::at_offset((index + 3) * self.stride, 0)
     }
 
     /// A copy of a row: its state, and whether its ID has the start tag.

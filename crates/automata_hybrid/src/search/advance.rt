@@ -153,12 +153,22 @@ impl DFA {
             return first;
         }
         match way {
-            Direction::Forward => {
-                self.follow(cache, input, Direction::Forward, first.at, first.id)
-            }
-            Direction::Backward => {
-                self.follow(cache, input, Direction::Backward, first.at, first.id)
-            }
+            Direction::Forward => self.follow(
+                cache,
+                input,
+                Direction::Forward,
+                first.at,
+                first.id,
+                false,
+            ),
+            Direction::Backward => self.follow(
+                cache,
+                input,
+                Direction::Backward,
+                first.at,
+                first.id,
+                false,
+            ),
         }
     }
 

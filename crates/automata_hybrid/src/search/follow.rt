@@ -1,6 +1,7 @@
 //! Following cached transitions, eight a turn: into states that report nothing or into match states, and along
 //! self-loops.
-ghost use Rattle.std.specs.Prelude.{◌≡◌, ◌+◌, ◌-◌, ◌^◌, ◌<◌, ◌≤◌};
+ghost use Rattle.std.specs.Prelude.{◌≡◌, ◌+◌, ◌-◌, ◌^◌, ◌<◌, ◌≤◌, true, false};
+ghost use Rattle.automata_base.specs.declared.util.search.Direction.TheVariants.{Forward};
 ghost use Rattle.automata_hybrid.specs.Cache.Caches.{IsCacheOf};
 ghost use Rattle.automata_hybrid.specs.Cache.Ids.{fixed_from, HasOnly};
 ghost use Rattle.automata_hybrid.specs.Searches.PassState.{IsFollowed, IsMatchRun, IsMet, IsRun, IsTagAt, MeetsMatch};
@@ -16,7 +17,10 @@ use automata_base::util::search::{Direction, Input};
 
 /// How many bytes are followed before a self-loop is looked for again, if one was looked for in vain. That look reads
 /// up to eight cells, which is little beside so many bytes.
-const PATIENCE: usize = 128;
+pub(super) const PATIENCE: usize = 128;
+
+/// How many bytes are followed eight at once before leaps are tried.
+pub(super) const NEAR: usize = 48;
 
 /// Where cached transitions were followed to.
 #[derive(Clone, Copy)]
@@ -27,8 +31,24 @@ pub(super) struct Stop {
     pub(super) next: LazyStateID,
 }
 
+/// The place up to which transitions are followed eight at once: the last one, or a near one where leaps are tried.
+#[inline(always)]
+fn near_place(at: usize, last: usize, leaps: bool) -> usize
+    requires { at ≤ last }
+    ensures from { at ≤ result }
+    ensures upto { result ≤ last }
+    ensures last { leaps ≡ false → result ≡ last }
+{
+    if leaps && last - at > NEAR {
+        at + NEAR
+    } else {
+        last
+    }
+}
+
 impl DFA {
-    /// Follows cached transitions without a tag, from an ID that may have one.
+    /// Follows cached transitions without a tag, from an ID that may have one. Leaps are tried only where that is asked
+    /// for, and forward.
     #[inline(always)]
     pub(super) fn follow(
         &self,
@@ -37,8 +57,10 @@ impl DFA {
         way: Direction,
         start: usize,
         from: LazyStateID,
+        leaps: bool,
     ) -> Stop
         requires of { IsCacheOf cache.now self.now }
+        requires leaps { leaps ≡ true → way ≡ Forward }
         requires open { input.now.start ≤ input.now.end }
         requires within { start ≤ input.now.end - input.now.start }
         requires named { Names cache.now.store.table from (state_in way self.now input.now start) }
@@ -47,7 +69,7 @@ impl DFA {
         ensures met { IsMet way self.now cache.now.store input.now result.at result.id result.next }
     {
         if from.has_only(0) {
-            return self.follow_tag(cache, input, way, start, from, 0);
+            return self.follow_tag(cache, input, way, start, from, 0, leaps);
         }
         if start >= last_place(input) {
             return Stop {
@@ -83,10 +105,18 @@ impl DFA {
         ensures met { IsMet way self.now cache.now.store input.now result.at result.id result.next }
     {
         let _haystack = input.haystack();
-        self.follow_tag(cache, input, way, start + 1, next, LazyStateID::MATCH)
+        self.follow_tag(
+            cache,
+            input,
+            way,
+            start + 1,
+            next,
+            LazyStateID::MATCH,
+            false,
+        )
     }
 
-    /// Follows cached transitions between IDs that have a tag and no other.
+    /// Follows cached transitions between IDs that have a tag and no other. Leaps are tried only without a tag.
     #[inline(always)]
     fn follow_tag(
         &self,
@@ -96,8 +126,10 @@ impl DFA {
         start: usize,
         from: LazyStateID,
         tag: u32,
+        leaps: bool,
     ) -> Stop
         requires of { IsCacheOf cache.now self.now }
+        requires leaps { leaps ≡ true → (way ≡ Forward) × (tag ≡ 0) }
         requires open { input.now.start ≤ input.now.end }
         requires within { start ≤ input.now.end - input.now.start }
         requires at { IsTagAt way self.now cache.now.store.table input.now tag start from }
@@ -112,7 +144,8 @@ impl DFA {
         let mut at = start;
         let mut id = from;
         let mut again = start;
-        'eights: while last - at >= 8 {
+        let mut end = near_place(start, last, leaps);
+        'eights: while end - at >= 8 {
             let eight = self.follow_eight(cache, input, way, at, id, tag);
             if eight.at != at + 8 {
                 return eight;
@@ -126,15 +159,47 @@ impl DFA {
             let stop = self.follow_loop(cache, input, way, at, id);
             if stop == at {
                 again = at.saturating_add(PATIENCE);
+            } else {
+                end = near_place(stop, last, leaps);
             }
             at = stop;
+        }
+        if leaps && last - at >= NEAR {
+            return self.far_from(cache, input, at, id);
         }
         self.follow_rest(cache, input, way, at, id, tag)
     }
 
+    /// Goes on far in a run forward without a tag.
+    #[inline(always)]
+    fn far_from(&self, cache: &Cache, input: &Input<'_>, start: usize, from: LazyStateID) -> Stop
+        requires of { IsCacheOf cache.now self.now }
+        requires open { input.now.start ≤ input.now.end }
+        requires within { start ≤ input.now.end - input.now.start }
+        requires at { IsTagAt Forward self.now cache.now.store.table input.now 0 start from }
+        ensures within { result.at ≤ input.now.end - input.now.start }
+        ensures run { IsRun Forward self.now cache.now.store input.now 0 start result.at result.id }
+        ensures met { IsMet Forward self.now cache.now.store input.now result.at result.id result.next }
+    {
+        let far = self.follow_far(
+            cache,
+            input.haystack(),
+            input.get_span(),
+            input.get_anchored(),
+            input.get_earliest(),
+            start,
+            from,
+        );
+        Stop {
+            at: far.at,
+            id: far.id,
+            next: far.next,
+        }
+    }
+
     /// Follows eight of them, or those before the first other one.
     #[inline(always)]
-    fn follow_eight(
+    pub(super) fn follow_eight(
         &self,
         cache: &Cache,
         input: &Input<'_>,
@@ -174,7 +239,7 @@ impl DFA {
 
     /// Follows them one by one.
     #[inline(always)]
-    fn follow_rest(
+    pub(super) fn follow_rest(
         &self,
         cache: &Cache,
         input: &Input<'_>,
@@ -235,7 +300,7 @@ impl DFA {
 
     /// Follows the self-loop of an ID that may have a tag, if its row has one.
     #[inline(always)]
-    fn follow_loop(
+    pub(super) fn follow_loop(
         &self,
         cache: &Cache,
         input: &Input<'_>,

@@ -1,9 +1,9 @@
 //! Searches. Here is what one unit does to the state of a search. `follow` runs over cached transitions, and
 //! `self_loop` over a row that leads back to itself, by the ranges of bytes that `loop_range` finds and `lanes`
-//! compares. `known` is a pass over a span that only reads the cache, `pass` one that determinizes, and `half` one
-//! pass after another: the public searches for one end of a match. A `walk` is an overlapping search between its
-//! calls; `advance` takes it to the next match, `overlapping` is one call, and `which` collects the patterns of all.
-//! `direction` has all in which the two directions differ.
+//! compares; far in a run `leap` takes a few bytes at once. `known` is a pass over a span that only reads the cache,
+//! `pass` one that determinizes, and `half` one pass after another: the public searches for one end of a match. A
+//! `walk` is an overlapping search between its calls; `advance` takes it to the next match, `overlapping` is one call,
+//! and `which` collects the patterns of all. `direction` has all in which the two directions differ.
 ghost use Rattle.std.specs.Prelude.{◌≡◌, slice_index, ◌<◌, IfOk, IfErr};
 ghost use Rattle.std.specs.Prelude.{Some, None, true, false};
 ghost use Rattle.automata_base.specs.Powersets.Powerset.{Powerset};
@@ -25,6 +25,7 @@ mod follow;
 mod half;
 mod known;
 mod lanes;
+mod leap;
 mod loop_range;
 mod overlapping;
 mod pass;

@@ -231,7 +231,11 @@ impl DFA {
         ensures at { IsAt way self.now cache.now.store.table input.now result.at result.id result.found }
         ensures met { IsMet way self.now cache.now.store input.now result.at result.id result.next }
     {
-        let quiet = self.follow(cache, input, way, start, from);
+        let leaps = match way {
+            Direction::Forward => true,
+            Direction::Backward => false,
+        };
+        let quiet = self.follow(cache, input, way, start, from, leaps);
         if input.get_earliest() {
             return Place {
                 at: quiet.at,
@@ -340,6 +344,7 @@ impl DFA {
                 cache.end_search(offset);
                 return Ok(found);
             }
+            self.prepare_leaps(cache, run.at);
             id = next;
             at = run.at + 1;
         }

@@ -4,11 +4,12 @@ use Rattle.std.proofs.Common.{arith}
 use Rattle.automata_base.specs.Paths.Paths.{next}
 use Rattle.automata_base.specs.declared.util.search.Direction.{Direction}
 use Rattle.automata_hybrid.specs.Searches.PassState.{IsAt}
+use Rattle.automata_hybrid.specs.Cache.Caches.{CacheView, IsCacheOf}
 use Rattle.automata_hybrid.specs.Steps.Steps.{known_step}
 use Rattle.automata_hybrid.specs.Searches.Passes.{Reads, given_up_offset, tape_in}
 use Rattle.std.proofs.lemmas.Result.{IfOk-weaker}
 use Rattle.automata_hybrid.proofs.Searches.PassContracts.{dead_answer, first_answer}
-use Rattle.automata_hybrid.proofs.Searches.UnitsRead.{AreReadTo, ended_here, pass_last, pass_left_then, pass_stopped, read_exactly}
+use Rattle.automata_hybrid.proofs.Searches.UnitsRead.{AreReadBehind, AreReadTo, ended_here, pass_last, pass_left_then, pass_stopped, read_exactly}
 use Rattle.automata_hybrid.proofs.Searches.UnitsRead.{read_known, read_none, read_then, refused_here, taken_here}
 use Rattle.automata_hybrid.proofs.Searches.PassState.{at_reads, stops_dead, stops_ends, stops_last, more_leads, more_at}
 use Rattle.automata_hybrid.proofs.Searches.PassState.{unit_refuses, if_both, false_true}
@@ -102,14 +103,15 @@ loop-at-preserved c =
       | else-get_earliest-via-else-get_earliest w ↦ λ e. absurd (false_true (sym w.if-get_earliest.false ∙ (c.get_earliest.ensures ∙ e)))
     ] in
     let more : suc k ≡ c.run-run.result.at + 1 = omega arith in
+    let same : c.read_met.new.cache ≡ c.prepare_leaps.new.cache = sym c.prepare_leaps.ensures in
     record {
-      of = c.in-Ok.ensures.of;
+      of = subst (λ (v : CacheView). IsCacheOf v c.args.self.now) same c.in-Ok.ensures.of;
       within = omega (arith, inside);
-      at = subst (λ n. IsAt d c.args.self.now c.read_met.new.cache.store.table c.args.input.now n c.in-Ok.next c.found_at-found.result) more (more_at d c.args.self.now c.loop-at.cache.store.table c.read_met.new.cache.store.table c.args.input.now k c.run-run.result.id c.in-Ok.next _ c.run-run.result.found c.found_at-found.result at read c.in-Ok.ensures.answer.named (quit_free c.args.self.now _ c.in-Ok.ensures.answer.clean) (c.place_offset.result, c.place_offset.ensures.value, c.found_at-found.ensures) first (λ l. (dead_tagged c.read_met.new.cache.store.table c.in-Ok.next (c.see_bounds-in-loop-at.ensures.sound.low c.in-Ok.next) c.see_bounds-in-loop-at.ensures.sound.small _ l).1 (λ b. false_true (c.if-is_dead.ensures.1 b))));
-      progress = read_exactly d c.args.self.now c.args.input.now 0 c.args.cache.now (c.run-run.result.at + 1) c.read_met.new.cache
+      at = subst (λ (v : CacheView). IsAt d c.args.self.now v.store.table c.args.input.now (c.run-run.result.at + 1) c.in-Ok.next c.found_at-found.result) same (subst (λ n. IsAt d c.args.self.now c.read_met.new.cache.store.table c.args.input.now n c.in-Ok.next c.found_at-found.result) more (more_at d c.args.self.now c.loop-at.cache.store.table c.read_met.new.cache.store.table c.args.input.now k c.run-run.result.id c.in-Ok.next _ c.run-run.result.found c.found_at-found.result at read c.in-Ok.ensures.answer.named (quit_free c.args.self.now _ c.in-Ok.ensures.answer.clean) (c.place_offset.result, c.place_offset.ensures.value, c.found_at-found.ensures) first (λ l. (dead_tagged c.read_met.new.cache.store.table c.in-Ok.next (c.see_bounds-in-loop-at.ensures.sound.low c.in-Ok.next) c.see_bounds-in-loop-at.ensures.sound.small _ l).1 (λ b. false_true (c.if-is_dead.ensures.1 b)))));
+      progress = subst (λ (v : CacheView). AreReadBehind d c.args.self.now c.args.input.now 0 (c.run-run.result.at + 1) c.args.cache.now v) same (read_exactly d c.args.self.now c.args.input.now 0 c.args.cache.now (c.run-run.result.at + 1) c.read_met.new.cache
           (subst (λ n. AreReadTo d c.args.self.now c.args.input.now 0 n c.args.cache.now c.read_met.new.cache) more
           (read_then d c.args.self.now c.args.input.now 0 c.args.cache.now (is_store c.args.cache.now.store c.args.self.now c.requires.of c.see_bounds.ensures.bounds) c.loop-at.at k c.loop-at.cache c.loop-at.invariant.of c.loop-at.invariant.progress c.run-run.ensures.run.more at.clean c.run-run.ensures.run.known c.read_met.new.cache
-          (taken_here d c.args.self.now c.args.input.now k c.run-run.result.id (Some _) read c.byte_offset-offset.result c.loop-at.cache at.named given c.read_met.new.cache c.in-Ok.ensures.effect.taken)));
+          (taken_here d c.args.self.now c.args.input.now k c.run-run.result.id (Some _) read c.byte_offset-offset.result c.loop-at.cache at.named given c.read_met.new.cache c.in-Ok.ensures.effect.taken))));
     }
 
 pub read_met-requires-clause-valid : goal.read_met-requires-clause-valid

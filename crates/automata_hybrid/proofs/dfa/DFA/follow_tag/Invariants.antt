@@ -4,7 +4,8 @@ use Rattle.automata_hybrid.proofs.dfa.DFA.follow_tag.Given as goal
 
 abbrev pub invariant-eights : goal.invariant-eights
 invariant-eights l = record {
-  within : l.at ≤ l.last;
+  within : l.at ≤ l.end;
+  upto : l.end ≤ l.last;
   run : IsRun l.way l.self l.cache.store l.input l.tag l.fn.start l.at l.id;
 }
 

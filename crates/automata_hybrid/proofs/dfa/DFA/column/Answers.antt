@@ -1,0 +1,23 @@
+use Rattle.std.proofs.Common.{◌≡◌, ◌+◌, ◌*◌, ◌<◌, ◌^◌, suc, subst, arith}
+use Rattle.automata_hybrid.specs.Searches.Leaps.{column_of}
+use Rattle.automata_hybrid.proofs.Searches.Leaps.{column_below, column_fits}
+use Rattle.automata_hybrid.proofs.dfa.DFA.column.Goals as goal
+
+pub overflow_mul-column : goal.overflow_mul-column
+overflow_mul-column c = omega (arith, column_fits c.loop-k.column c.args.classes c.loop-k.k c.requires.few (omega (arith, c.loop-k-test.true, c.requires.short)) c.loop-k.invariant.below)
+
+pub overflow_add-column : goal.overflow_add-column
+overflow_add-column c = omega (arith, column_fits c.loop-k.column c.args.classes c.loop-k.k c.requires.few (omega (arith, c.loop-k-test.true, c.requires.short)) c.loop-k.invariant.below, c.class_of.ensures.below, c.class_of.ensures.small)
+
+pub loop-k-preserved : goal.loop-k-preserved
+loop-k-preserved c =
+    let next : suc c.loop-k.k ≡ c.loop-k.k + 1 = omega arith in
+    let low : c.class_of.result < c.args.classes = omega (arith, c.class_of.ensures.value, c.requires.classes, c.requires.rising.below _ (c.type_inv.bytes (c.args.at + c.loop-k.k)).fits) in
+    record {
+      value =
+          subst (λ k. c.loop-k.column * c.args.classes + c.class_of.result ≡ column_of c.args.self.now.classes c.args.classes c.args.bytes.now c.args.at k) next
+          (λ i. c.loop-k.invariant.value i * c.args.classes + c.class_of.ensures.value i);
+      below =
+          subst (λ k. c.loop-k.column * c.args.classes + c.class_of.result < c.args.classes ^ k) next
+          (column_below c.loop-k.column c.args.classes c.loop-k.k c.class_of.result c.loop-k.invariant.below low);
+    }

@@ -1,0 +1,318 @@
+//! Following leaps, which take a few bytes each, and between them cached transitions one by one. It is done forward and
+//! without a tag alone, far in a run.
+ghost use Rattle.std.specs.Prelude.{ℕ, ◌≡◌, ◌+◌, ◌-◌, ◌*◌, ◌^◌, ◌<◌, ◌≤◌, length, slice_index};
+ghost use Rattle.automata_base.specs.ByteClasses.Classes.{AreClasses, eoi_class};
+ghost use Rattle.automata_base.specs.Haystacks.Input.{Allows};
+ghost use Rattle.automata_base.specs.declared.util.search.Direction.TheVariants.{Forward};
+ghost use Rattle.automata_hybrid.specs.Cache.Caches.{IsCacheOf};
+ghost use Rattle.automata_hybrid.specs.Cache.Ids.{offset_limit};
+ghost use Rattle.automata_hybrid.specs.Cache.Leaps.{AreLeaps};
+ghost use Rattle.automata_hybrid.specs.Cache.Table.{IsRowId};
+ghost use Rattle.automata_hybrid.specs.Searches.Leaps.{IsLeapt, LeadsIds, column_of};
+ghost use Rattle.automata_hybrid.specs.Searches.PassContracts.{input_at};
+ghost use Rattle.automata_hybrid.specs.Searches.PassState.{IsMet, IsRun, IsTagAt};
+
+use crate::dfa::DFA;
+use crate::dfa::cache::Cache;
+use crate::dfa::leaps::{Leaps, MARK};
+use crate::id::LazyStateID;
+use crate::search::direction::{bytes_from, last_place};
+use crate::search::follow::{NEAR, PATIENCE, Stop};
+use crate::search::pass::input_of;
+use automata_base::util::search::{Anchored, Direction, Input, Span};
+
+/// Leaps that took fewer bytes than these were short.
+const SHORT: usize = 32;
+
+/// The fewest bytes that are followed one by one after leaps.
+const FEW: usize = 8;
+
+/// The most bytes that are followed one by one after short leaps.
+const MANY: usize = 256;
+
+/// After so many leaps to the same row this is in a self-loop, which other ways are better for.
+const LOOPS: usize = 32;
+
+/// Where leaps led to.
+#[derive(Clone, Copy)]
+struct Leapt {
+    /// How many bytes they took.
+    len: usize,
+    /// The place of the first cell of the row.
+    row: u32,
+}
+
+/// The ID to which leaps led.
+#[derive(Clone, Copy)]
+struct Landing {
+    /// How many bytes they took.
+    len: usize,
+    id: LazyStateID,
+}
+
+/// How often in a row leaps have led to the same row.
+#[inline(always)]
+fn again_after(same: bool, again: usize) -> usize
+    requires { again < 32 }
+    ensures { result ≤ 32 }
+{
+    if same { again + 1 } else { 0 }
+}
+
+/// How many bytes are followed one by one after leaps over so many: twice as many as before, if these were few.
+fn wait_after(len: usize, wait: usize) -> usize
+    requires some { 8 ≤ wait }
+    requires most { wait ≤ 256 }
+    ensures some { 8 ≤ result }
+    ensures most { result ≤ 256 }
+{
+    if len < SHORT { MANY.min(2 * wait) } else { FEW }
+}
+
+impl DFA {
+    /// Has a cache look after its leaps, once a search has come to a place that is far enough for leaps.
+    #[inline(always)]
+    pub(super) fn prepare_leaps(&self, cache: &mut Cache, place: usize)
+        requires { IsCacheOf cache.old self.now }
+        ensures { cache.new ≡ cache.old }
+    {
+        if place >= NEAR {
+            cache.prepare_leaps(self);
+        }
+    }
+
+    /// The column of the classes of the bytes from a place on.
+    #[inline(always)]
+    fn column(&self, classes: usize, reach: usize, bytes: &[u8], at: usize) -> usize
+        requires rising { AreClasses self.now.classes }
+        requires classes { classes ≡ eoi_class self.now.classes }
+        requires few { classes ≤ 32 }
+        requires short { reach ≤ 4 }
+        requires within { at + reach ≤ length bytes.now }
+        ensures value { result ≡ column_of self.now.classes classes bytes.now at reach }
+        ensures below { result < classes ^ reach }
+    {
+        let mut column = 0;
+        for k in 0..reach {
+            column = column * classes + self.class_of(bytes[at + k]);
+        }
+        column
+    }
+
+    /// Leaps as far as leaps lead, or until the same row has come again and again.
+    #[inline(always)]
+    fn leap_by(
+        &self,
+        cache: &Cache,
+        leaps: &Leaps,
+        reach: usize,
+        bytes: &[u8],
+        index: usize,
+    ) -> Leapt
+        requires of { IsCacheOf cache.now self.now }
+        requires leaps { AreLeaps cache.now.store.table leaps.now }
+        requires reach { reach ≡ leaps.now.shape.reach }
+        requires row { index < leaps.now.shape.rows }
+        ensures { IsLeapt cache.now.store.table leaps.now.shape bytes.now index result.len result.row }
+    {
+        self.see_machine();
+        let end = bytes.len();
+        let classes = leaps.shape.classes;
+        let mut at = 0;
+        let mut row = (index * leaps.shape.width) as u32;
+        let mut again = 0usize;
+        'leaps: while end - at >= reach {
+            let next = leaps.cell(row, self.column(classes, reach, bytes, at));
+            if next == MARK || again >= LOOPS {
+                return Leapt { len: at, row };
+            }
+            at += reach;
+            again = again_after(next == row, again);
+            row = next;
+        }
+        Leapt { len: at, row }
+    }
+
+    /// Leaps from a row, by a loop of its own for each number of bytes that a leap takes.
+    #[inline(never)]
+    fn leap(&self, cache: &Cache, leaps: &Leaps, bytes: &[u8], index: usize) -> Leapt
+        requires of { IsCacheOf cache.now self.now }
+        requires leaps { AreLeaps cache.now.store.table leaps.now }
+        requires row { index < leaps.now.shape.rows }
+        ensures { IsLeapt cache.now.store.table leaps.now.shape bytes.now index result.len result.row }
+    {
+        match leaps.shape.reach {
+            4 => self.leap_by(cache, leaps, 4, bytes, index),
+            3 => self.leap_by(cache, leaps, 3, bytes, index),
+            2 => self.leap_by(cache, leaps, 2, bytes, index),
+            _ => self.leap_by(cache, leaps, 1, bytes, index),
+        }
+    }
+
+    /// Leaps from an ID without a tag.
+    fn leap_from(&self, cache: &Cache, leaps: &Leaps, bytes: &[u8], id: LazyStateID) -> Landing
+        requires of { IsCacheOf cache.now self.now }
+        requires leaps { AreLeaps cache.now.store.table leaps.now }
+        requires valid { IsRowId cache.now.store.table id }
+        requires untagged { id < offset_limit }
+        ensures leads { LeadsIds cache.now.store.table bytes.now result.len id result.id }
+        ensures bytes { (k : ℕ) → slice_index bytes.now k < 256 }
+    {
+        cache.see_bounds();
+        let index = cache.row_index(id);
+        if index >= leaps.shape.rows {
+            return Landing { len: 0, id };
+        }
+        let leapt = self.leap(cache, leaps, bytes, index);
+        Landing {
+            len: leapt.len,
+            id: cache.row_at(leapt.row as usize / leaps.shape.width),
+        }
+    }
+
+    /// Follows cached transitions without a tag eight at once, up to a place or a little less, and a self-loop beyond.
+    fn follow_few(
+        &self,
+        cache: &Cache,
+        input: &Input<'_>,
+        start: usize,
+        from: LazyStateID,
+        end: usize,
+    ) -> Stop
+        requires of { IsCacheOf cache.now self.now }
+        requires open { input.now.start ≤ input.now.end }
+        requires within { start ≤ input.now.end - input.now.start }
+        requires upto { end ≤ input.now.end - input.now.start }
+        requires at { IsTagAt Forward self.now cache.now.store.table input.now 0 start from }
+        ensures within { result.at ≤ input.now.end - input.now.start }
+        ensures run { IsRun Forward self.now cache.now.store input.now 0 start result.at result.id }
+        ensures met { IsMet Forward self.now cache.now.store input.now result.at result.id result.next }
+    {
+        let way = Direction::Forward;
+        let _last = last_place(input);
+        let mut at = start;
+        let mut id = from;
+        let mut again = start;
+        'eights: while at < end && end - at >= 8 {
+            let eight = self.follow_eight(cache, input, way, at, id, 0);
+            if eight.at != at + 8 {
+                return eight;
+            }
+            let same = eight.id == id;
+            at = eight.at;
+            id = eight.id;
+            if at < again || !same {
+                continue;
+            }
+            let stop = self.follow_loop(cache, input, way, at, id);
+            if stop == at {
+                again = at.saturating_add(PATIENCE);
+            }
+            at = stop;
+        }
+        Stop {
+            at,
+            id,
+            next: LazyStateID::UNKNOWN,
+        }
+    }
+
+    /// Leaps, and follows some bytes one by one where leaps do not lead on: the more, the shorter leaps have been.
+    fn follow_leaps(
+        &self,
+        cache: &Cache,
+        leaps: &Leaps,
+        input: &Input<'_>,
+        start: usize,
+        from: LazyStateID,
+    ) -> Stop
+        requires of { IsCacheOf cache.now self.now }
+        requires leaps { AreLeaps cache.now.store.table leaps.now }
+        requires open { input.now.start ≤ input.now.end }
+        requires within { start ≤ input.now.end - input.now.start }
+        requires at { IsTagAt Forward self.now cache.now.store.table input.now 0 start from }
+        ensures within { result.at ≤ input.now.end - input.now.start }
+        ensures run { IsRun Forward self.now cache.now.store input.now 0 start result.at result.id }
+        ensures met { IsMet Forward self.now cache.now.store input.now result.at result.id result.next }
+    {
+        self.see_machine();
+        cache.see_bounds();
+        let last = last_place(input);
+        let mut at = start;
+        let mut id = from;
+        let mut wait = FEW;
+        'turns: while last - at >= 16 {
+            let far = self.leap_from(cache, leaps, bytes_from(input, Direction::Forward, at), id);
+            at += far.len;
+            wait = wait_after(far.len, wait);
+            let end = last.min(at + wait);
+            let few = self.follow_few(cache, input, at, far.id, end);
+            if few.at < end && end - few.at >= 8 {
+                return few;
+            }
+            at = few.at;
+            id = few.id;
+        }
+        self.follow_rest(cache, input, Direction::Forward, at, id, 0)
+    }
+
+    /// Follows cached transitions one by one, where there are no leaps, and stops where leaps may be made.
+    fn follow_until_due(
+        &self,
+        cache: &Cache,
+        input: &Input<'_>,
+        start: usize,
+        from: LazyStateID,
+    ) -> Stop
+        requires of { IsCacheOf cache.now self.now }
+        requires open { input.now.start ≤ input.now.end }
+        requires within { start ≤ input.now.end - input.now.start }
+        requires at { IsTagAt Forward self.now cache.now.store.table input.now 0 start from }
+        ensures within { result.at ≤ input.now.end - input.now.start }
+        ensures run { IsRun Forward self.now cache.now.store input.now 0 start result.at result.id }
+        ensures met { IsMet Forward self.now cache.now.store input.now result.at result.id result.next }
+    {
+        let last = last_place(input);
+        let end = last.min(start.saturating_add(cache.bytes_before_leaps()));
+        let few = self.follow_few(cache, input, start, from, end);
+        if end < last {
+            return few;
+        }
+        if few.at < last && last - few.at >= 8 {
+            return few;
+        }
+        self.follow_rest(cache, input, Direction::Forward, few.at, few.id, 0)
+    }
+
+    /// Follows cached transitions without a tag from a place that is far in a run. It is given the parts of the input,
+    /// so that a short run keeps its numbers in registers.
+    #[inline(never)]
+    pub(super) fn follow_far(
+        &self,
+        cache: &Cache,
+        haystack: &[u8],
+        span: Span,
+        anchored: Anchored,
+        earliest: bool,
+        start: usize,
+        from: LazyStateID,
+    ) -> Stop
+        requires of { IsCacheOf cache.now self.now }
+        requires allowed { Allows haystack.now span.start span.end }
+        requires open { span.start ≤ span.end }
+        requires within { start ≤ span.end - span.start }
+        requires at { IsTagAt Forward self.now cache.now.store.table
+            (input_at haystack.now span anchored earliest) 0 start from }
+        ensures within { result.at ≤ span.end - span.start }
+        ensures run { IsRun Forward self.now cache.now.store
+            (input_at haystack.now span anchored earliest) 0 start result.at result.id }
+        ensures met { IsMet Forward self.now cache.now.store
+            (input_at haystack.now span anchored earliest) result.at result.id result.next }
+    {
+        let own = input_of(haystack, span, anchored, earliest);
+        match cache.leaps() {
+            Some(leaps) => self.follow_leaps(cache, leaps, &own, start, from),
+            None => self.follow_until_due(cache, &own, start, from),
+        }
+    }
+}
