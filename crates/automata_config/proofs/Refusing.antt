@@ -8,7 +8,7 @@ use Rattle.automata_base.specs.ByteClasses.Classes.{is_quit}
 use Rattle.automata_base.specs.Nfas.Nodes.{Automaton}
 use Rattle.automata_config.specs.Options.{Options, quits_of, unicode_word_boundary_of}
 use Rattle.automata_config.specs.Settling.{has_unicode_word, settled_quits, is_unsupported, is_too_small}
-use Rattle.automata_config.specs.Settling.{greatest_offset, settling_refusal}
+use Rattle.automata_config.specs.Settling.{greatest_offset, settling_error}
 use Rattle.automata_config.specs.declared.error.BuildError.{BuildError}
 use Rattle.automata_config.specs.declared.error.BuildError.TheVariants.{InsufficientStateIDCapacity}
 use Rattle.std.proofs.Math.Bool.{or-false}
@@ -54,14 +54,14 @@ third p q r x y z w e f = ap (λ b. cond b x (cond q y (cond r z w))) e ∙ ap (
 
 pub refusal-offset :
     (o : Options) (a : Automaton) → is_unsupported o a ≡ false → is_too_small o a ≡ false → 134217727 < greatest_offset o a
-    → settling_refusal o a ≡ Some (InsufficientStateIDCapacity (greatest_offset o a))
+    → settling_error o a ≡ Some (InsufficientStateIDCapacity (greatest_offset o a))
 refusal-offset o a e f g =
     third (is_unsupported o a) (is_too_small o a) (ltb 134217727 (greatest_offset o a)) _ _ _ _ e f
     ∙ ap (λ b. cond b (Some (InsufficientStateIDCapacity (greatest_offset o a))) None) (lt-ltb 134217727 (greatest_offset o a) g)
 
 pub refusal-none :
     (o : Options) (a : Automaton) → is_unsupported o a ≡ false → is_too_small o a ≡ false → greatest_offset o a ≤ 134217727
-    → settling_refusal o a ≡ None
+    → settling_error o a ≡ None
 refusal-none o a e f g =
     third (is_unsupported o a) (is_too_small o a) (ltb 134217727 (greatest_offset o a)) _ _ _ _ e f
     ∙ ap (λ b. cond b (Some (InsufficientStateIDCapacity (greatest_offset o a))) None) (le-ltb 134217727 (greatest_offset o a) g)

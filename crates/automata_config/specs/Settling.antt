@@ -71,8 +71,8 @@ abbrev pub is_too_small : Options → Automaton → Bool
 is_too_small o a = not (skip_cache_capacity_check_of o) && nat_lt (cache_capacity_of o) (settled_minimum o a)
 
 -- Why no DFA of the NFA is built, if none is.
-abbrev pub settling_refusal : Options → Automaton → Option BuildError
-settling_refusal o a =
+abbrev pub settling_error : Options → Automaton → Option BuildError
+settling_error o a =
     if is_unsupported o a then Some Unsupported
     else (if is_too_small o a then Some (InsufficientCacheCapacity (settled_minimum o a) (cache_capacity_of o))
     else (if nat_lt max_offset (greatest_offset o a) then Some (InsufficientStateIDCapacity (greatest_offset o a))

@@ -66,7 +66,7 @@ impl Config {
     ghost use Rattle.std.specs.Prelude.{slice_set};
     ghost use Rattle.std.specs.Result.{result_err};
     ghost use Rattle.automata_config.specs.Settling.{settled_minimum, settled_stride, settled_quits, greatest_offset};
-    ghost use Rattle.automata_config.specs.Settling.{is_unsupported, settling_refusal, IsSettled};
+    ghost use Rattle.automata_config.specs.Settling.{is_unsupported, settling_error, IsSettled};
     ghost use Rattle.automata_base.specs.ByteClasses.Classes.{is_quit};
     ghost use Rattle.automata_config.specs.Options.{unset, overwritten};
     ghost use Rattle.automata_config.specs.Options as options;
@@ -327,7 +327,7 @@ impl Config {
     /// first test that fails.
     pub fn settle(&self, nfa: &NFA) -> Result<Settled, BuildError>
         ensures ok { IfOk result (IsSettled self.now nfa.now) }
-        ensures refused { result_err result ≡ settling_refusal self.now nfa.now }
+        ensures refused { result_err result ≡ settling_error self.now nfa.now }
     {
         let quits = self.settled_quits(nfa)?;
         let classes = ByteClasses::of(nfa, &quits, self.get_byte_classes());

@@ -6,7 +6,7 @@ use Rattle.std.specs.Option.{unwrap_or}
 use Rattle.automata_base.specs.Haystacks.Matches.{Match}
 use Rattle.automata_base.proofs.Paths.Orders.{none_some, some_inj}
 use Rattle.automata_config.specs.declared.error.SearchError.{SearchError}
-use Rattle.regex_automata.specs.Spans.Errors.{IsNextRefusal}
+use Rattle.regex_automata.specs.Spans.Errors.{IsNextError}
 use Rattle.regex_automata.specs.Spans.Iteration.{GoesPast}
 use Rattle.regex_automata.specs.Spans.Outcomes.{MatchLiesIn}
 use Rattle.regex_automata.specs.declared.hybrid.regex.Regex.{Regex}
@@ -39,7 +39,7 @@ module _ (p : Regex) (c : Cache) (hay : List ℕ) (last : Option ℕ) where
   gives_none true on is next = open_is on
   gives_none false on is next = (subst (λ v. IsNextMeant p hay last v) is next, refl, refl)
 
-  pub gives_error : (ended : Bool) (e : SearchError) → ended ≡ false → IsNextRefusal p c (rest_of hay last) last e →
+  pub gives_error : (ended : Bool) (e : SearchError) → ended ≡ false → IsNextError p c (rest_of hay last) last e →
       GivesMatch p c hay (Some (Err e)) last last ended true
   gives_error true e on refused = open_is on
   gives_error false e on refused = (refused, refl, refl)

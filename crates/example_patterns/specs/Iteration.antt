@@ -5,7 +5,7 @@ use Rattle.regex_hir.specs.Re.{Re}
 use Rattle.automata_base.specs.Haystacks.Input.{Input}
 use Rattle.automata_base.specs.Haystacks.Matches.{Match}
 use Rattle.automata_config.specs.declared.error.SearchError.{SearchError}
-use Rattle.regex_automata.specs.Spans.Errors.{IsNextRefusal}
+use Rattle.regex_automata.specs.Spans.Errors.{IsNextError}
 use Rattle.regex_automata.specs.Spans.Outcomes.{MatchLiesIn}
 use Rattle.regex_automata.specs.declared.hybrid.regex.Regex.{Regex}
 use Rattle.regex_automata.specs.declared.hybrid.regex.caches.Cache.{Cache}
@@ -33,7 +33,7 @@ GivesMatch regex c hay (Some (Ok m)) last last' false ended' =
     IsNextMeant regex hay last (Some m) × MatchLiesIn regex (rest_of hay last) m
     × (last' ≡ Some m.end) × (ended' ≡ false)
 GivesMatch regex c hay (Some (Err e)) last last' false ended' =
-    IsNextRefusal regex c (rest_of hay last) last e × (last' ≡ last) × (ended' ≡ true)
+    IsNextError regex c (rest_of hay last) last e × (last' ≡ last) × (ended' ≡ true)
 
 -- how many items may come: ends rise, and an error may be the last item
 abbrev pub most_left : (ended : Bool) → List ℕ → (last : Option ℕ) → ℕ

@@ -3,7 +3,7 @@ ghost use Rattle.std.specs.Prelude.{◌≡◌, ◌≤◌, List, [], ◌∷◌, I
 ghost use Rattle.std.specs.Prelude.{option_map};
 ghost use Rattle.std.specs.Option.{unwrap_or};
 ghost use Rattle.regex_hir.specs.Re.{Re};
-ghost use Rattle.regex_automata.specs.Spans.Errors.{IsNextRefusal};
+ghost use Rattle.regex_automata.specs.Spans.Errors.{IsNextError};
 ghost use Rattle.regex_automata.specs.Spans.Iteration.{GoesPast};
 ghost use Rattle.automata_config.specs.Options.{overwritten, unset};
 ghost use Rattle.regex_automata.specs.Promises.{AreCachesOf, Forward, IsHalf, IsSoundPair, IsSpanOf, IsTruthOf};
@@ -164,7 +164,7 @@ impl Pattern {
         ensures of { AreCachesOf cache.new self.now.regex }
         ensures found { IfOk result (IsNextMeant self.now.regex hay.now last) }
         ensures past { IfOk result (λ o. IfSome o (GoesPast self.now.regex (rest_of hay.now last) last)) }
-        ensures refusal { IfErr result (IsNextRefusal self.now.regex cache.new (rest_of hay.now last) last) }
+        ensures refusal { IfErr result (IsNextError self.now.regex cache.new (rest_of hay.now last) last) }
     {
         reported_is_right(self.regex.forward().get_nfa());
         reported_is_right(self.regex.reverse().get_nfa());

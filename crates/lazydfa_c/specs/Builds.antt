@@ -9,7 +9,7 @@ use Rattle.automata_base.specs.declared.util.search.MatchKind.{MatchKind}
 use Rattle.automata_base.specs.declared.util.search.MatchKind.TheVariants.{All, LeftmostFirst}
 use Rattle.automata_config.specs.Options.{Options, overwritten, quits_of, unset}
 use Rattle.automata_config.specs.declared.error.BuildError.{BuildError}
-use Rattle.regex_automata.specs.Regexes.Builds.{BuildsOne, BuildsPair, IsRefusal, pair_refusal}
+use Rattle.regex_automata.specs.Regexes.Builds.{BuildsOne, BuildsPair, IsBuildError, pair_error}
 use Rattle.regex_automata.specs.Regexes.Caches.{AreFresh}
 use Rattle.regex_automata.specs.declared.hybrid.regex.Regex.{Regex}
 use Rattle.regex_automata.specs.declared.hybrid.regex.build.RegexBuildError.{RegexBuildError}
@@ -33,17 +33,17 @@ abbrev pub IsRegexOf : Options → Automaton → Regex → Type 0
 IsRegexOf o nfa regex = BuildsOne o nfa regex
 
 -- the status is that of an error of `build_from_nfa`
-abbrev pub IsRegexRefusal : Options → Automaton → Status → Type 0
-IsRegexRefusal o nfa status = (e : RegexBuildError) × IsRefusal o nfa e × (status ≡ regex_status e)
+abbrev pub IsRegexError : Options → Automaton → Status → Type 0
+IsRegexError o nfa status = (e : RegexBuildError) × IsBuildError o nfa e × (status ≡ regex_status e)
 
 -- what `build_from_nfas` returns of two NFAs
 abbrev pub IsPairOf : Options → (forward reverse : Automaton) → Regex → Type 0
 IsPairOf o forward reverse regex = BuildsPair o forward reverse regex
 
 -- the status is that of an error of `build_from_nfas`
-abbrev pub IsPairRefusal : Options → (forward reverse : Automaton) → Status → Type 0
-IsPairRefusal o forward reverse status =
-    (e : BuildError) × (pair_refusal o forward reverse ≡ Some e) × (status ≡ build_status e)
+abbrev pub IsPairError : Options → (forward reverse : Automaton) → Status → Type 0
+IsPairError o forward reverse status =
+    (e : BuildError) × (pair_error o forward reverse ≡ Some e) × (status ≡ build_status e)
 
 -- each NFA keeps unions if it has a look cycle
 pub record AreKeeping (forward reverse front back : Automaton) : Type 0 where
@@ -55,9 +55,9 @@ abbrev pub IsKeepingPairOf : Options → (forward reverse : Automaton) → Regex
 IsKeepingPairOf o forward reverse regex =
     (front back : Automaton) × AreKeeping forward reverse front back × IsPairOf o front back regex
 
-abbrev pub IsKeepingPairRefusal : Options → (forward reverse : Automaton) → Status → Type 0
-IsKeepingPairRefusal o forward reverse status =
-    (front back : Automaton) × AreKeeping forward reverse front back × IsPairRefusal o front back status
+abbrev pub IsKeepingPairError : Options → (forward reverse : Automaton) → Status → Type 0
+IsKeepingPairError o forward reverse status =
+    (front back : Automaton) × AreKeeping forward reverse front back × IsPairError o front back status
 
 -- the object is this regex
 abbrev pub IsRegexObject : Regex → (is_sound : Bool) → Object → Type 0
@@ -129,14 +129,14 @@ OpensRegex Makes Refuses is_sound old new (Err e) = (new ≡ old) × (Refuses e 
 
 -- the same of an NFA, if there is one
 abbrev pub OpensOf : Options → (old new : Handle) → Result Automaton Status → Result (Unit {0}) Status → Type 0
-OpensOf o old new (Ok nfa) done = OpensRegex (IsRegexOf o nfa) (IsRegexRefusal o nfa) true old new done
+OpensOf o old new (Ok nfa) done = OpensRegex (IsRegexOf o nfa) (IsRegexError o nfa) true old new done
 OpensOf o old new (Err e) done = (new ≡ old) × (done ≡ Err e)
 
 -- and of two
 abbrev pub OpensPair : Options → (old new : Handle) → Automaton → Result Automaton Status
     → Result (Unit {0}) Status → Type 0
 OpensPair o old new forward (Ok reverse) done =
-    OpensRegex (IsKeepingPairOf o forward reverse) (IsKeepingPairRefusal o forward reverse) false old new done
+    OpensRegex (IsKeepingPairOf o forward reverse) (IsKeepingPairError o forward reverse) false old new done
 OpensPair o old new forward (Err e) done = (new ≡ old) × (done ≡ Err e)
 
 -- a regex of the NFA of a builder, which is put back

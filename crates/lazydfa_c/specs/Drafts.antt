@@ -4,7 +4,7 @@ use Rattle.std.specs.Prelude.{IsTrue, IsFalse, length, map, nat_le, nat_lt, set,
 use Rattle.std.specs.Prelude.{Some, None, Result, Ok, Err, if◌then◌else◌, IfOk, OnOk, OnErr, IsOk, IsOkUnless}
 use Rattle.std.specs.List.{list_all}
 use Rattle.automata_base.specs.Haystacks.LookSets.{nth_look}
-use Rattle.automata_base.specs.Nfas.Drafts.{Draft, IsAdding, IsAddingOf, blank, default_flags, draft_refusal, finished}
+use Rattle.automata_base.specs.Nfas.Drafts.{Draft, IsAdding, IsAddingOf, blank, default_flags, draft_error, finished}
 use Rattle.automata_base.specs.Nfas.Drafts.{built, outline, prefix_of, started, with_flags, with_states}
 use Rattle.automata_base.specs.Nfas.Nodes.{Automaton}
 use Rattle.automata_base.specs.Nfas.Shapes.{Shape, patched, EmptyShape, RangeShape, SparseShape, LookShape, UnionShape}
@@ -216,7 +216,7 @@ pub record MakesNfa (draft : Draft) (anchored unanchored : ℕ) (result : Result
   pub same : IfOk result (λ nfa. outline nfa ≡ built draft anchored unanchored)
   pub unfinished : (p : ℕ) → draft.pattern ≡ Some p → result ≡ Err (plain code.UnfinishedPattern)
   pub refused :
-      (error : NfaError) → draft.pattern ≡ None → draft_refusal draft anchored unanchored ≡ Some error
+      (error : NfaError) → draft.pattern ≡ None → draft_error draft anchored unanchored ≡ Some error
       → (result ≡ Err (plain (nfa_code error))) ⊎ (result ≡ Err (plain code.Memory))
   pub memory :
-      draft.pattern ≡ None → draft_refusal draft anchored unanchored ≡ None → IsOkUnless result (plain code.Memory)
+      draft.pattern ≡ None → draft_error draft anchored unanchored ≡ None → IsOkUnless result (plain code.Memory)

@@ -3,8 +3,8 @@ ghost use Rattle.std.specs.Prelude.{◌≡◌, IfErr, IfOk, Ok, OnErr, OnOk, Som
 ghost use Rattle.automata_base.specs.Nfas.Nodes.{Automaton};
 ghost use Rattle.automata_config.specs.Options.{overwritten, unset};
 ghost use Rattle.regex_automata.specs.Promises.{IsSoundPair};
-ghost use Rattle.lazydfa_c.specs.Builds.{IsFreshOf, IsKeepingPairOf, IsKeepingPairRefusal, IsPairOf, IsPairRefusal};
-ghost use Rattle.lazydfa_c.specs.Builds.{IsRegexIn, IsRegexOf, IsRegexRefusal, BuildsRegex, BuildsRegexPair};
+ghost use Rattle.lazydfa_c.specs.Builds.{IsFreshOf, IsKeepingPairOf, IsKeepingPairError, IsPairOf, IsPairError};
+ghost use Rattle.lazydfa_c.specs.Builds.{IsRegexIn, IsRegexOf, IsRegexError, BuildsRegex, BuildsRegexPair};
 ghost use Rattle.lazydfa_c.specs.Builds.{CreatesCache, IsNfaIn, IsNfaOf, NewsCache, OpensIn, OpensAfter, OpensPairIn};
 ghost use Rattle.lazydfa_c.specs.Builds.{OpensRegex, SharesRegex, WithOptions, kind_of, options_of};
 ghost use Rattle.lazydfa_c.specs.Calls.{Reads};
@@ -73,7 +73,7 @@ fn nfa_in(alloc: Global, builder: &mut Handle, starts: StartStates) -> Result<NF
 fn regex_of(nfa: NFA, config: Config) -> Result<Regex, Status>
     ensures sound { IfOk result (λ regex. ∥ IsSoundPair regex ∥₁) }
     ensures built { IfOk result (IsRegexOf (overwritten unset config) nfa) }
-    ensures refused { IfErr result (IsRegexRefusal (overwritten unset config) nfa) }
+    ensures refused { IfErr result (IsRegexError (overwritten unset config) nfa) }
 {
     let mut builder = Regex::builder();
     builder.dfa(config);
@@ -84,7 +84,7 @@ fn regex_of(nfa: NFA, config: Config) -> Result<Regex, Status>
 /// pair is not tested.
 fn pair_of(forward: NFA, reverse: NFA, config: Config) -> Result<Regex, Status>
     ensures built { IfOk result (IsPairOf (overwritten unset config) forward reverse) }
-    ensures refused { IfErr result (IsPairRefusal (overwritten unset config) forward reverse) }
+    ensures refused { IfErr result (IsPairError (overwritten unset config) forward reverse) }
 {
     let mut builder = Regex::builder();
     builder.dfa(config);
@@ -109,7 +109,7 @@ fn open(alloc: Global, handle: &mut Handle, regex: Regex, is_sound: bool) -> Res
 
 /// Opens a handle on the regex of one NFA.
 fn open_sound(alloc: Global, handle: &mut Handle, nfa: NFA, config: Config) -> Result<(), Status>
-    ensures { OpensRegex (IsRegexOf (overwritten unset config) nfa) (IsRegexRefusal (overwritten unset config) nfa) true
+    ensures { OpensRegex (IsRegexOf (overwritten unset config) nfa) (IsRegexError (overwritten unset config) nfa) true
         handle.old handle.new result }
 {
     let regex = regex_of(nfa, config)?;
@@ -124,7 +124,7 @@ fn open_pair(
     config: Config,
 ) -> Result<(), Status>
     ensures { OpensRegex (IsKeepingPairOf (overwritten unset config) nfas.0 nfas.1)
-        (IsKeepingPairRefusal (overwritten unset config) nfas.0 nfas.1) false handle.old handle.new result }
+        (IsKeepingPairError (overwritten unset config) nfas.0 nfas.1) false handle.old handle.new result }
 {
     let (forward, reverse) = nfas;
     let front = forward.keeping_unions();

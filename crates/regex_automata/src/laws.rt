@@ -1,6 +1,6 @@
 //! Laws about searches over two lazy DFAs. The contract of each function is the law; its body only cites other laws.
 ghost use Rattle.regex_automata.specs.Spans.Agreement.{MatchesAgree, TruthIffFound, TruthsAgree};
-ghost use Rattle.regex_automata.specs.Spans.Follows.{NextsFollow, RefusalsFollow, SpansFollow};
+ghost use Rattle.regex_automata.specs.Spans.Follows.{NextsFollow, ErrorsFollow, SpansFollow};
 
 use crate::hybrid::regex::Regex;
 pub use automata_base::laws::{
@@ -42,7 +42,7 @@ pub fn truth_is_found()
 /// DFA, as `is_match` and the tokens make it, this is `searches_follow`.
 pub fn spans_follow(regex: &Regex)
     ensures spans { SpansFollow }
-    ensures refusals { RefusalsFollow regex.now }
+    ensures refusals { ErrorsFollow regex.now }
     ensures nexts { NextsFollow regex.now }
 {
     answers_agree();

@@ -10,7 +10,7 @@ use Rattle.automata_base.specs.declared.nfa.thompson.building.BuildError.TheVari
 use Rattle.automata_base.specs.declared.nfa.thompson.NfaError.{NfaError}
 use Rattle.automata_base.specs.declared.nfa.thompson.NfaError.TheVariants as nfa_error
 use Rattle.automata_base.specs.Nfas.Accepted.{IsChecked}
-use Rattle.automata_base.specs.Nfas.Errors.{refusal_of}
+use Rattle.automata_base.specs.Nfas.Errors.{shapes_error}
 use Rattle.automata_base.specs.Nfas.Getters.{SkipsLazily}
 use Rattle.automata_base.specs.Nfas.Nodes.{Automaton}
 use Rattle.automata_base.specs.Nfas.Shapes.{Shape, UnionShape, RangeShape, shape_of, shape_added, built_of}
@@ -109,8 +109,8 @@ abbrev pub AreBuilt : Draft → List State → Type 0
 AreBuilt draft states = map shape_of states ≡ map built_of draft.states
 
 -- The error of the first test of `NFA::from_states` that the states which are built fail; none if they pass all.
-abbrev pub draft_refusal : Draft → (anchored unanchored : ℕ) → Option NfaError
-draft_refusal draft anchored unanchored = refusal_of (map built_of draft.states) anchored unanchored draft.starts
+abbrev pub draft_error : Draft → (anchored unanchored : ℕ) → Option NfaError
+draft_error draft anchored unanchored = shapes_error (map built_of draft.states) anchored unanchored draft.starts
 
 -- What a builder returns for an error of `NFA::from_states`: the one of memory is its own.
 abbrev pub build_error : NfaError → BuildError

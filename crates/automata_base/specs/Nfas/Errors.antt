@@ -120,8 +120,8 @@ every test [] = true
 every test (x ∷ xs) = test x && every test xs
 
 -- The error of the first test that fails; none if all pass.
-unfoldable pub refusal_of : List Shape → (anchored unanchored : ℕ) → (starts : List ℕ) → Option NfaError
-refusal_of shapes anchored unanchored starts =
+unfoldable pub shapes_error : List Shape → (anchored unanchored : ℕ) → (starts : List ℕ) → Option NfaError
+shapes_error shapes anchored unanchored starts =
     unless (leb (length shapes) (2 ^ 27) && leb (length starts) (2 ^ 27)) TooLarge
     (unless (leb (sum_by shape_alternates shapes) (2 ^ 31)) TooLarge
     (unless (starts_below (length shapes) anchored unanchored starts) StartRange
@@ -129,5 +129,5 @@ refusal_of shapes anchored unanchored starts =
     (unless (every shape_ordered shapes) Ranges
     (unless (every (shape_matches_below (length starts)) shapes) PatternRange None)))))
 
-abbrev pub states_refusal : List State → (anchored unanchored : ℕ) → (starts : List ℕ) → Option NfaError
-states_refusal states anchored unanchored starts = refusal_of (map shape_of states) anchored unanchored starts
+abbrev pub states_error : List State → (anchored unanchored : ℕ) → (starts : List ℕ) → Option NfaError
+states_error states anchored unanchored starts = shapes_error (map shape_of states) anchored unanchored starts

@@ -7,7 +7,7 @@ use Rattle.automata_base.specs.declared.nfa.thompson.State.{State}
 use Rattle.automata_base.specs.declared.nfa.thompson.State.TheVariants.{Match, Fail}
 use Rattle.automata_config.specs.Options.{quits_of, unicode_word_boundary_of, unset}
 use Rattle.automata_config.specs.Settling.{greatest_offset, has_unicode_word, holds_non_ascii, is_too_small}
-use Rattle.automata_config.specs.Settling.{is_unsupported, settling_refusal, settled_minimum, settled_stride}
+use Rattle.automata_config.specs.Settling.{is_unsupported, settling_error, settled_minimum, settled_stride}
 use Rattle.automata_base.proofs.ByteClasses.Boundaries.{stride_for-few}
 
 no_reason : {X : Type 0} (p q r : Bool) (x y z : X) → p ≡ false → q ≡ false → r ≡ false → cond p (Some x) (cond q (Some y) (cond r (Some z) None)) ≡ None
@@ -29,14 +29,14 @@ offset_fits a = let stride : settled_stride unset a ≤ 512 = stride_for-few _ i
 
 one_settles :
     (a : Automaton) → length a.states ≡ 1 → length a.start_pattern ≤ 1 → stack_room a.states ≤ 1 → has_unicode_word a ≡ false
-    → settling_refusal unset a ≡ None
+    → settling_error unset a ≡ None
 one_settles a one few room word =
     no_reason (is_unsupported unset a) (is_too_small unset a) (ltb 134217727 (greatest_offset unset a)) _ _ _
     (ap (λ b. b && not (unicode_word_boundary_of unset || holds_non_ascii (quits_of unset))) word)
     (le-ltb 2097152 (settled_minimum unset a) (minimum_fits a one few room))
     (le-ltb 134217727 (greatest_offset unset a) (offset_fits a))
 
-pub match_settles : (a : Automaton) → a.states ≡ Match 0 ∷ [] → a.start_pattern ≡ 0 ∷ [] → settling_refusal unset a ≡ None
+pub match_settles : (a : Automaton) → a.states ≡ Match 0 ∷ [] → a.start_pattern ≡ 0 ∷ [] → settling_error unset a ≡ None
 unfolding stack_room has_unicode_word
 match_settles a states starts =
     one_settles a (ap (λ (s : List State). length s) states)
@@ -44,7 +44,7 @@ match_settles a states starts =
     (subst (λ (s : List State). stack_room s ≤ 1) (sym states) (omega arith))
     (subst (λ (s : List State). has_unicode_word (record a { states = s }) ≡ false) (sym states) refl)
 
-pub fail_settles : (a : Automaton) → a.states ≡ Fail ∷ [] → a.start_pattern ≡ [] → settling_refusal unset a ≡ None
+pub fail_settles : (a : Automaton) → a.states ≡ Fail ∷ [] → a.start_pattern ≡ [] → settling_error unset a ≡ None
 unfolding stack_room has_unicode_word
 fail_settles a states starts =
     one_settles a (ap (λ (s : List State). length s) states)

@@ -29,11 +29,11 @@ use Rattle.automata_hybrid.specs.Searches.Cached.{IsOfInput, Knows, KnowsItsStar
 use Rattle.automata_hybrid.specs.Searches.Follows.{IsCostOfPass, IsCostOfPasses, IsCostOfSearch, passes_most}
 use Rattle.automata_hybrid.specs.Searches.Follows.{SearchFollows, SearchesFollow}
 use Rattle.automata_hybrid.specs.Searches.PassState.{HasLearnedUnit}
-use Rattle.automata_hybrid.specs.Searches.Passes.{Finds, HasReadNoQuit, IsPassRefusal, IsRefused, IsUnitRefusal, Reads, Skips, given_up_offset, state_in, tape_in}
+use Rattle.automata_hybrid.specs.Searches.Passes.{Finds, HasReadNoQuit, IsPassError, IsSearchError, IsUnitError, Reads, Skips, given_up_offset, state_in, tape_in}
 use Rattle.automata_hybrid.specs.Searches.Progress.{EndsAtLast, PassEnds, HasNoStart, PassesEnd, HaveTried, PassFails, IsLeftAt, IsPassLeftAt}
 use Rattle.automata_hybrid.specs.Searches.Progress.{IsSearchRun, SearchEnds, SearchFails, TriesSpan, TriesSpans}
 use Rattle.automata_hybrid.specs.Searches.Progress.{start_event, unit_event, unit_events, with_search_begun, with_search_ended, with_search_moved}
-use Rattle.automata_hybrid.specs.Steps.Starts.{IsStartRefusal, IsStartRefusalAt, MayStart, quit_behind, search_refusal}
+use Rattle.automata_hybrid.specs.Steps.Starts.{IsStartError, IsStartErrorAt, MayStart, quit_behind, start_search_error}
 use Rattle.automata_hybrid.specs.Machines.Machine.{quits_on, unit_class}
 use Rattle.automata_hybrid.proofs.Cache.Growth.{clears_none, grown_moved, grown_same, grown_trans, nothing_first, nothing_second}
 use Rattle.automata_hybrid.proofs.Calls.Laws.{Follows, all_sound, cached_idle, cached_join, cached_split, do_one, do_split}
@@ -229,7 +229,7 @@ module _ (way : Direction) (m : Machine) (input : Input) (old new : CacheView) (
 
 -- an error at a quit byte is one of the input
 pub quit_of_input :
-    (way : Direction) (m : Machine) (c : Stored) (input : Input) (k : ℕ) (e : SearchError) → IsUnitRefusal way m c input k e
+    (way : Direction) (m : Machine) (c : Stored) (input : Input) (k : ℕ) (e : SearchError) → IsUnitError way m c input k e
     → quits_on m (next (tape_in way input) k) ≡ true → IsOfInput e
 quit_of_input way m c input k (search.Match (QuitAt byte offset)) why quits = tt
 quit_of_input way m c input k (search.Match (GaveUp offset)) why quits = absurd (false_true (sym why.0 ∙ quits))
@@ -240,9 +240,9 @@ quit_of_input way m c input k search.NotAPair why quits = absurd why
 -- so is one of a search that may not start
 pub barred_of_input :
     (m : Machine) (c : Stored) (input : Input) (behind : Option ℕ) (behind_at start_at : ℕ) (e : SearchError)
-    → IsStartRefusalAt m c input.anchored behind behind_at start_at e → (MayStart m input.anchored behind → ⊥) → IsOfInput e
+    → IsStartErrorAt m c input.anchored behind behind_at start_at e → (MayStart m input.anchored behind → ⊥) → IsOfInput e
 barred_of_input m c input behind behind_at start_at e (error, why, reported, unknown) barred = subst IsOfInput (sym reported) (go error why) where
-  go : (error : StartError) → IsStartRefusal m c input.anchored behind error → IsOfInput (search_refusal error behind_at start_at)
+  go : (error : StartError) → IsStartError m c input.anchored behind error → IsOfInput (start_search_error error behind_at start_at)
   go (start.Quit byte) why = tt
   go (start.UnsupportedAnchored mode) why = tt
   go (start.Cache err) why = absurd (barred why.0)
@@ -301,7 +301,7 @@ module _ (way : Direction) (m : Machine) (input : Input) (old new : CacheView) (
   -- after some events a pass failed at the unit at place `k`
   fails_at :
       {T : Type 0} (e : SearchError) (k : ℕ) (es : List Event) (mid : CacheView) → DoAll m (start_event way input ∷ es) old mid
-      → Reads way m input k → HasReadNoQuit way m input k → IsUnitRefusal way m new.store input k e → makings es ≤ k
+      → Reads way m input k → HasReadNoQuit way m input k → IsUnitError way m new.store input k e → makings es ≤ k
       → (KnowsPass way m old.store input → AreCached m old.store es)
       → IsGrown mid new → new.count ≤ mid.count + 1
       → (KnowsUnit way m mid.store input k → (quits_on m (next (tape_in way input) k) ≡ true) × (new.count ≡ mid.count))
@@ -328,7 +328,7 @@ module _ (way : Direction) (m : Machine) (input : Input) (old new : CacheView) (
   -- it had no start
   unstarted :
       {T : Type 0} (e : SearchError) (behind_at start_at : ℕ)
-      → IsStartRefusalAt m new.store input.anchored (tape_in way input).before behind_at start_at e → HasNoStart way m input old new
+      → IsStartErrorAt m new.store input.anchored (tape_in way input).before behind_at start_at e → HasNoStart way m input old new
       → PassFollows {T = T} way m input old new (Err e)
   unstarted {T} e behind_at start_at why none = go (may_or_not m input (tape_in way input).before) where
     go :
@@ -384,7 +384,7 @@ module _ (way : Direction) (m : Machine) (input : Input) (old new : CacheView) (
 -- why a pass failed, by its run
 left_refused :
     (way : Direction) (m : Machine) (input : Input) (old new : CacheView) (e : SearchError)
-    → PassFails way m input old new e → IsPassRefusal way m new.store input e
+    → PassFails way m input old new e → IsPassError way m new.store input e
 left_refused way m input old new e (inl (why, none)) = inl why
 left_refused way m input old new e (inr (begun, starts, inl (keeps, reads, refused, left))) =
     inr (0, starts.0.0, reads, (λ j byte l unit. absurd (omega (arith, l))), refused)
@@ -394,20 +394,20 @@ left_refused way m input old new e (inr (begun, starts, inr (keeps, (k, mid, rea
 -- and why a search failed
 fails_refused :
     (way : Direction) (m : Machine) (input : Input) (old new : CacheView) (e : SearchError)
-    → SearchFails way m input old new e → IsRefused way m new.store input e
+    → SearchFails way m input old new e → IsSearchError way m new.store input e
 fails_refused way m input old new e (passes, mid, tries, ended, left) =
     let last = tries passes (omega arith) in
     (passes, last.0, last.1, left_refused way m (later way passes input) mid new e left)
 
 pub search_refused :
     (way : Direction) (m : Machine) (input : Input) (old new : CacheView) (error : Option SearchError)
-    → IsSearchRun way m input old new error → IfSome error (IsRefused way m new.store input)
+    → IsSearchRun way m input old new error → IfSome error (IsSearchError way m new.store input)
 search_refused way m input old new None run = tt
 search_refused way m input old new (Some e) run = fails_refused way m input old new e run.run
 
 pub call_refused :
     {A : Type 0} (way : Direction) (m : Machine) (input : Input) (old new : CacheView) (r : Result A SearchError)
-    → IsSearchRun way m input old new (result_err r) → IfErr r (IsRefused way m new.store input)
+    → IsSearchRun way m input old new (result_err r) → IfErr r (IsSearchError way m new.store input)
 call_refused way m input old new (Ok a) run = tt
 call_refused way m input old new (Err e) run = search_refused way m input old new (Some e) run
 

@@ -21,7 +21,7 @@ use Rattle.automata_config.specs.declared.error.SearchError.{SearchError}
 use Rattle.automata_hybrid.specs.Cache.Stores.{Stored}
 use Rattle.automata_hybrid.specs.Machines.Machine.{Machine}
 use Rattle.automata_hybrid.specs.Searches.PassState.{half_of, half_at, found_over, IsAt}
-use Rattle.automata_hybrid.specs.Searches.Passes.{IsStepRefusal, IsUnitRefusal, MeetsNoQuit, Reads}
+use Rattle.automata_hybrid.specs.Searches.Passes.{IsStepError, IsUnitError, MeetsNoQuit, Reads}
 use Rattle.automata_hybrid.specs.Searches.Passes.{given_up_offset, state_in, tape_in, reported_in, unit_offset}
 use Rattle.automata_hybrid.specs.Steps.Starts.{quit_behind}
 use Rattle.automata_hybrid.specs.Cache.Table.{Rows, Leads, Names}
@@ -331,11 +331,11 @@ pub unit_refuses :
     (found : Option HalfMatch) (e : SearchError)
     → IsAt way m t input k id found
     → next (tape_in way input) k ≡ u → unit_offset way input k ≡ quit_at → given_up_offset way input k ≡ given_up_at
-    → ((q : Powerset) → Names t id q → IsStepRefusal m c q u quit_at given_up_at e) → IsUnitRefusal way m c input k e
+    → ((q : Powerset) → Names t id q → IsStepError m c q u quit_at given_up_at e) → IsUnitError way m c input k e
 unit_refuses way m t c input k id quit_at given_up_at u found e at unit first second refused =
-    subst (λ a. IsStepRefusal m c (state_in way m input k) (next (tape_in way input) k) a (given_up_offset way input k) e) (sym first)
-    (subst (λ b. IsStepRefusal m c (state_in way m input k) (next (tape_in way input) k) quit_at b e) (sym second)
-    (subst (λ v. IsStepRefusal m c (state_in way m input k) v quit_at given_up_at e) (sym unit) (refused (state_in way m input k) at.named)))
+    subst (λ a. IsStepError m c (state_in way m input k) (next (tape_in way input) k) a (given_up_offset way input k) e) (sym first)
+    (subst (λ b. IsStepError m c (state_in way m input k) (next (tape_in way input) k) quit_at b e) (sym second)
+    (subst (λ v. IsStepError m c (state_in way m input k) v quit_at given_up_at e) (sym unit) (refused (state_in way m input k) at.named)))
 
 pub if_err :
     {A E : Type 0} (r : Result A E) (e : E) (P : E → Type 0) → IsErrAnd r (λ x. x ≡ e) → P e → IfErr r P

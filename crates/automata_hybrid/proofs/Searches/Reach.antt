@@ -19,9 +19,9 @@ use Rattle.automata_config.specs.declared.error.SearchError.TheVariants as searc
 use Rattle.automata_hybrid.specs.Cache.Stores.{Stored}
 use Rattle.automata_hybrid.specs.Cache.Usage.{GivesUp, refuses_at}
 use Rattle.automata_hybrid.specs.Machines.Machine.{Machine}
-use Rattle.automata_hybrid.specs.Searches.Passes.{tape_in, NoQuitInReach, IsRefused, IsPassRefusal, IsStepRefusal}
+use Rattle.automata_hybrid.specs.Searches.Passes.{tape_in, NoQuitInReach, IsSearchError, IsPassError, IsStepError}
 use Rattle.automata_hybrid.specs.Machines.StartSlots.{supports}
-use Rattle.automata_hybrid.specs.Steps.Starts.{quit_behind, IsStartRefusalAt}
+use Rattle.automata_hybrid.specs.Steps.Starts.{quit_behind, IsStartErrorAt}
 use Rattle.automata_hybrid.proofs.Searches.PassState.{false_true}
 use Rattle.automata_hybrid.proofs.Searches.Units.{forward_unit, forward_units, backward_unit, backward_units}
 use Rattle.automata_config.specs.Options.{minimum_cache_clear_count_of}
@@ -90,7 +90,7 @@ module _ (way : Direction) (m : Machine) (c : Stored) (input : Input) (undone : 
 
   pub start_memory :
       (behind_at start_at : ℕ) (e : SearchError)
-      → IsStartRefusalAt m c input.anchored (tape_in way input).before behind_at start_at e → e ≡ search.OutOfMemory
+      → IsStartErrorAt m c input.anchored (tape_in way input).before behind_at start_at e → e ≡ search.OutOfMemory
   start_memory behind_at start_at e (start.Quit byte, r, reported, unknown) =
       let b : ((tape_in way input).before ≡ Some byte) × (is_quit m.quits byte ≡ true) = is_behind m (tape_in way input).before byte r in
       absurd (unquit byte (behind_reach way input byte undone b.0) b.1)
@@ -100,7 +100,7 @@ module _ (way : Direction) (m : Machine) (c : Stored) (input : Input) (undone : 
 
   pub step_memory :
       (j quit_at given_up_at : ℕ) (q : Powerset) (e : SearchError)
-      → j ≤ length (tape_in way input).bytes → IsStepRefusal m c q (next (tape_in way input) j) quit_at given_up_at e → e ≡ search.OutOfMemory
+      → j ≤ length (tape_in way input).bytes → IsStepError m c q (next (tape_in way input) j) quit_at given_up_at e → e ≡ search.OutOfMemory
   step_memory j quit_at given_up_at q (search.Match (QuitAt byte offset)) l r =
       absurd (unquit byte (unit_reach way input j byte undone few l r.0) r.1)
   step_memory j quit_at given_up_at q (search.Match (UnsupportedMode reported)) l r = absurd r
@@ -108,7 +108,7 @@ module _ (way : Direction) (m : Machine) (c : Stored) (input : Input) (undone : 
   step_memory j quit_at given_up_at q search.OutOfMemory l r = refl
   step_memory j quit_at given_up_at q search.NotAPair l r = absurd r
 
-  pass_memory : (e : SearchError) → IsPassRefusal way m c input e → e ≡ search.OutOfMemory
+  pass_memory : (e : SearchError) → IsPassError way m c input e → e ≡ search.OutOfMemory
   pass_memory e (inl r) = start_memory _ _ e r
   pass_memory e (inr r) = step_memory r.0 _ _ _ e r.2.0 r.4
 
@@ -116,7 +116,7 @@ module _ (way : Direction) (m : Machine) (c : Stored) (input : Input) (undone : 
 pub refused_memory :
     (way : Direction) (m : Machine) (c : Stored) (input : Input) (e : SearchError)
     → input.end ≤ length input.haystack → c.table.of ≡ m → NoQuitInReach m input → supports m input.anchored ≡ true
-    → minimum_cache_clear_count_of m.config ≡ None → IsRefused way m c input e → e ≡ search.OutOfMemory
+    → minimum_cache_clear_count_of m.config ≡ None → IsSearchError way m c input e → e ≡ search.OutOfMemory
 refused_memory way m c input e few same reach mode free (k, tries, within, refusal) =
     let ahead = later_inside way in
     pass_memory way m c (later way k input) ahead.0 ahead.1 same clean (ap (supports m) (later_anchored way k input) ∙ mode) free e refusal

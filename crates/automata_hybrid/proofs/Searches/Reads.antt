@@ -17,8 +17,8 @@ use Rattle.automata_hybrid.specs.Cache.Stores.{with_searched}
 use Rattle.automata_hybrid.specs.Cache.Table.{Names, Rows}
 use Rattle.automata_hybrid.specs.Calls.Events.{Does, End, IsStepLeft, Move, Step, with_progress}
 use Rattle.automata_hybrid.specs.Machines.Machine.{Machine}
-use Rattle.automata_hybrid.specs.Searches.Units.{IsReadEffect, IsReadRefusal, IsStepRefusedAt}
-use Rattle.automata_hybrid.specs.Searches.Passes.{IsStepRefusal}
+use Rattle.automata_hybrid.specs.Searches.Units.{IsReadEffect, ReadFails, StepFailsAt}
+use Rattle.automata_hybrid.specs.Searches.Passes.{IsStepError}
 use Rattle.automata_hybrid.specs.Steps.Steps.{IsStepAnswer, IsStepEffect, KnowsStep, known_step}
 use Rattle.automata_hybrid.specs.Machines.Machine.{quits_on, unit_class}
 use Rattle.automata_hybrid.proofs.Searches.PassState.{false_true}
@@ -35,9 +35,9 @@ at_err (Err x) e P h p = subst (λ v. P (Err v)) (sym h) p
 -- a failed step is a refusal to read the unit
 pub reported_refusal :
     (m : Machine) (id : ℕ) (unit : Option ℕ) (quit_at at : ℕ) (old new : CacheView) (e : SearchError)
-    → IsStepRefusedAt m id unit at old new e → IsReadRefusal m id unit quit_at at old new e
+    → StepFailsAt m id unit at old new e → ReadFails m id unit quit_at at old new e
 reported_refusal m id unit quit_at at old new e h q n =
-    subst (IsStepRefusal m new.store q unit quit_at at) (sym h.reported)
+    subst (IsStepError m new.store q unit quit_at at) (sym h.reported)
     (refused m old.store new.store q unit quit_at at h.error h.refused.clean
     (λ other names known. (let one : other ≡ id = cc in h.refused.unknown (subst (λ k. KnowsStep m old.store k unit) one known)))
     (ap (λ (v : CacheView). v.store) h.refused.unchanged) (λ c. h.refused.gives_up c q n))
@@ -72,7 +72,7 @@ step_does m id unit old new next low clean below sound a e q named = go (cases_l
 
 -- one that is refused is left
 pub step_fails :
-    (m : Machine) (id : ℕ) (unit : Option ℕ) (at : ℕ) (old ended new : CacheView) (e : SearchError) → IsStepRefusedAt m id unit at old new e
+    (m : Machine) (id : ℕ) (unit : Option ℕ) (at : ℕ) (old ended new : CacheView) (e : SearchError) → StepFailsAt m id unit at old new e
     → (q : Powerset) → Names old.store.table id q → IsStepLeft m q unit old ended new
 step_fails m id unit at old ended new e r q named = inr (
   r.refused.clean,
@@ -98,7 +98,7 @@ module _ (m : Machine) (id : ℕ) (unit : Option ℕ) (at : ℕ) (old mid : Cach
   }
 
   pub moved_failed :
-      {T : Type 0} (new : CacheView) (e : SearchError) → IsStepRefusedAt m id unit at mid new e
+      {T : Type 0} (new : CacheView) (e : SearchError) → StepFailsAt m id unit at mid new e
       → IsReadEffect {T = T} m id unit (with_progress (Move at) old) (with_progress (End at) old) new (Err e)
   moved_failed new e r = record {
     alive = alive;
@@ -148,10 +148,10 @@ moved_end m id at old mid new moved (Err error) e = record {
 -- why reading the end fails: never at a quit byte
 pub end_refusal :
     {T : Type 0} (m : Machine) (id quit_at at : ℕ) (old mid new : CacheView) → mid.store.table ≡ old.store.table → (r : Result T SearchError)
-    → IfErr r (IsReadRefusal m id None at at mid new) → IfErr r (IsReadRefusal m id None quit_at at old new)
+    → IfErr r (ReadFails m id None at at mid new) → IfErr r (ReadFails m id None quit_at at old new)
 end_refusal m id quit_at at old mid new table (Ok answer) h = tt
 end_refusal m id quit_at at old mid new table (Err e) h = λ q n. go q e (h q (subst (λ (t : Rows). Names t id q) (sym table) n)) where
-  go : (q : Powerset) (e : SearchError) → IsStepRefusal m new.store q None at at e → IsStepRefusal m new.store q None quit_at at e
+  go : (q : Powerset) (e : SearchError) → IsStepError m new.store q None at at e → IsStepError m new.store q None quit_at at e
   go q (search.Match (QuitAt byte offset)) why = absurd (none_some why.0)
   go q (search.Match (GaveUp offset)) why = why
   go q (search.Match (UnsupportedMode mode)) why = why

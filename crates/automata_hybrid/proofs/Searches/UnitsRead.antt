@@ -28,9 +28,9 @@ use Rattle.automata_hybrid.specs.Searches.PassState.{HasLearnedUnit}
 use Rattle.automata_hybrid.specs.Searches.Progress.{AreUnitsRead, EndsAtLast, HasEndedAfter, HasItsStart, HasNoStart}
 use Rattle.automata_hybrid.specs.Searches.Progress.{IsLeftAt, IsPassLeftAt, IsStoppedAt, IsUnitRead, before_last, unit_event}
 use Rattle.automata_hybrid.specs.Searches.Progress.{unit_events, with_search_ended, with_search_moved}
-use Rattle.automata_hybrid.specs.Searches.Passes.{HasReadNoQuit, IsUnitRefusal, Reads, given_up_offset, state_in}
+use Rattle.automata_hybrid.specs.Searches.Passes.{HasReadNoQuit, IsUnitError, Reads, given_up_offset, state_in}
 use Rattle.automata_hybrid.specs.Searches.Passes.{tape_in}
-use Rattle.automata_hybrid.specs.Steps.Starts.{IsStartAnswer, IsStartEffect, IsStartRefusedAt, known_start}
+use Rattle.automata_hybrid.specs.Steps.Starts.{IsStartAnswer, IsStartEffect, StartFailsAt, known_start}
 use Rattle.automata_hybrid.specs.Machines.Machine.{quits_on, unit_class}
 use Rattle.automata_hybrid.proofs.Calls.Laws.{all_sound, do_join, do_one, do_split, moved_sound, searched_sound}
 use Rattle.automata_hybrid.proofs.Searches.PassState.{reads_before}
@@ -279,7 +279,7 @@ pass_last way m input k old mid new sound reads stops all ended =
 
 pub pass_stopped :
     (way : Direction) (m : Machine) (input : Input) (k : ℕ) (old new : CacheView) (e : SearchError) → Reads way m input k
-    → HasReadNoQuit way m input k → IsUnitRefusal way m new.store input k e
+    → HasReadNoQuit way m input k → IsUnitError way m new.store input k e
     → ((run : CacheView) × AreReadTo way m input 0 k old run × IsPassLeftAt way m input k run new)
     → IsStoppedAt way m input old new e
 pass_stopped way m input k old new e reads clean refused (run, all, left) =
@@ -543,7 +543,7 @@ start_had way m input old new id slots sound effect a =
 pub unstarted :
     (way : Direction) (m : Machine) (input : Input) (behind_at start_at : ℕ) (old new : CacheView) (e : SearchError)
     → length old.store.starts ≡ m.slots
-    → IsStartRefusedAt m input.anchored (tape_in way input).before behind_at start_at old new e
+    → StartFailsAt m input.anchored (tape_in way input).before behind_at start_at old new e
     → IsStartEffect m input.anchored (tape_in way input).before old new → HasNoStart way m input old new
 unstarted way m input behind_at start_at old new e slots h effect = (
   λ may. record {

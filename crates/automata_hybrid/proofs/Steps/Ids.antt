@@ -8,8 +8,8 @@ use Rattle.automata_hybrid.specs.Cache.Ids.{quit_id}
 use Rattle.automata_hybrid.specs.Cache.Caches.{CacheView, HoldsRow}
 use Rattle.automata_hybrid.specs.Cache.Stores.{Stored, IsCacheError}
 use Rattle.automata_hybrid.specs.Cache.Usage.{GivesUp}
-use Rattle.automata_hybrid.specs.Searches.PassState.{step_refusal}
-use Rattle.automata_hybrid.specs.Searches.Passes.{IsStepRefusal, LacksStep}
+use Rattle.automata_hybrid.specs.Searches.PassState.{step_error}
+use Rattle.automata_hybrid.specs.Searches.Passes.{IsStepError, LacksStep}
 use Rattle.automata_hybrid.specs.Machines.Machine.{quits_on}
 use Rattle.automata_config.specs.declared.error.StepError.{StepError}
 use Rattle.automata_config.specs.declared.error.StepError.TheVariants.{Cache, OutOfMemory}
@@ -77,7 +77,7 @@ dead_clear c id (inr (inr v)) low small b q = low_bit 29 id (low v.0 v.1) q
 pub refused :
     (m : Machine) (c c' : Stored) (q : Powerset) (unit : Option ℕ) (quit_at at : ℕ) (e : StepError)
     → quits_on m unit ≡ false → LacksStep m c q unit → c' ≡ c → (IsCacheError e → GivesUp c (successor m.nfa (match_kind_of m.config) q unit))
-    → IsStepRefusal m c' q unit quit_at at (step_refusal e at)
+    → IsStepError m c' q unit quit_at at (step_error e at)
 refused m c c' q unit quit_at at (Cache err) other lacks same gives =
     (other, subst (λ (s : Stored). GivesUp s (successor m.nfa (match_kind_of m.config) q unit)) (sym same) (gives tt), refl)
 refused m c c' q unit quit_at at OutOfMemory other lacks same gives =

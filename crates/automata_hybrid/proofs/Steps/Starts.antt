@@ -21,8 +21,8 @@ use Rattle.automata_hybrid.specs.Cache.Usage.{GivesUp, cleared}
 use Rattle.automata_hybrid.specs.Cache.Changes.{AddsRow, IsOneChange, IsStarted}
 use Rattle.automata_hybrid.specs.Cache.Caches.{CacheView, HoldsRow, IsCacheOf, counted, with_store}
 use Rattle.automata_hybrid.specs.Cache.Progress.{saturated}
-use Rattle.automata_hybrid.specs.Steps.Starts.{IsStartAnswer, IsStartEffect, IsStartRefusal, IsStartRefusalAt}
-use Rattle.automata_hybrid.specs.Steps.Starts.{IsStartRefusedAt, IsStartSlot, KnowsStart, known_start, start_row}
+use Rattle.automata_hybrid.specs.Steps.Starts.{IsStartAnswer, IsStartEffect, IsStartError, IsStartErrorAt}
+use Rattle.automata_hybrid.specs.Steps.Starts.{StartFailsAt, IsStartSlot, KnowsStart, known_start, start_row}
 use Rattle.automata_hybrid.proofs.Steps.Effects.{Keeps-started, roomy-started}
 use Rattle.automata_hybrid.proofs.Cache.Growth.{grown_counted, grown_one, grown_same}
 use Rattle.automata_hybrid.proofs.Searches.Progress.{started_progress}
@@ -308,11 +308,11 @@ module _ (m : Machine) (mode : Anchored) (behind : Option ℕ) (old new : CacheV
 -- why a search has no start state, of the states as they are after the refusal
 pub refusal_at :
     (m : Machine) (mode : Anchored) (behind : Option ℕ) (behind_at start_at : ℕ) (old new : CacheView) (e : SearchError)
-    → IsStartRefusedAt m mode behind behind_at start_at old new e
-    → IsStartRefusalAt m new.store mode behind behind_at start_at e
+    → StartFailsAt m mode behind behind_at start_at old new e
+    → IsStartErrorAt m new.store mode behind behind_at start_at e
 refusal_at m mode behind behind_at start_at old new e h = (
   h.error,
-  subst (λ (c : Stored). IsStartRefusal m c mode behind h.error) (sym (same h.refused.unchanged)) h.refused.why,
+  subst (λ (c : Stored). IsStartError m c mode behind h.error) (sym (same h.refused.unchanged)) h.refused.why,
   h.reported,
   λ knows. h.refused.unknown (subst (λ (c : Stored). KnowsStart m c mode behind) (same h.refused.unchanged) knows),
 ) where

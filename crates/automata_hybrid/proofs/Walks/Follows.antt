@@ -15,14 +15,14 @@ use Rattle.automata_hybrid.specs.Cache.Table.{IsKnownState, IsNewState, IsRowSta
 use Rattle.automata_hybrid.specs.Calls.Events.{AreCached, Begin, DoAll, End, Event, Move, makings}
 use Rattle.automata_hybrid.specs.Machines.Machine.{Machine, quits_on, unit_class}
 use Rattle.automata_hybrid.specs.Searches.Cached.{IsOfInput, KnowsItsStart, KnowsUnit}
-use Rattle.automata_hybrid.specs.Searches.Passes.{HasReadNoQuit, IsUnitRefusal, Skips, given_up_offset, tape_in}
+use Rattle.automata_hybrid.specs.Searches.Passes.{HasReadNoQuit, IsUnitError, Skips, given_up_offset, tape_in}
 use Rattle.automata_hybrid.specs.Searches.Progress.{HasItsStart, IsLeftAt, IsUnitRead, start_event, unit_event}
 use Rattle.automata_hybrid.specs.Searches.Progress.{unit_events, with_search_begun, with_search_moved}
 use Rattle.automata_hybrid.specs.Steps.Starts.{MayStart}
-use Rattle.automata_hybrid.specs.Walks.Answers.{HasItsState, HasReported, HasReportedAt, HasReportedBy, IsRefusalAt, IsResumeRefusal, IsSilent, IsWalkRefusal}
+use Rattle.automata_hybrid.specs.Walks.Answers.{HasItsState, HasReported, HasReportedAt, HasReportedBy, IsWalkErrorAt, IsResumeError, IsSilent, IsWalkError}
 use Rattle.automata_hybrid.specs.Walks.Answers.{ReportsNext, WalkReads, start_count}
 use Rattle.automata_hybrid.specs.Walks.Cached.{IsToRead, KnowsItsState, KnowsUnits, KnowsWalk}
-use Rattle.automata_hybrid.specs.Walks.Follows.{CallFollows, CallsFollow, IsKnownRefusal}
+use Rattle.automata_hybrid.specs.Walks.Follows.{CallFollows, CallsFollow, IsKnownError}
 use Rattle.automata_hybrid.specs.Walks.Progress.{EndsCall, IsCallLeftAt, IsNotResumed, IsResumed, LeavesCall, ReadsItsUnits}
 use Rattle.automata_hybrid.specs.Walks.Progress.{ReadsNoUnit}
 use Rattle.automata_hybrid.specs.Walks.State.{At, Ended, Fresh, Ids, Keeping, Stage, States, Walk}
@@ -153,7 +153,7 @@ module _ (way : Direction) (m : Machine) (input : Input) (skips : Skips m ⊎ (S
 
   module _ (old new : CacheView) (e : SearchError) where
     not_resumed :
-        (s : Stage) → HasReportedAt way m input s w.units w.reported k → IsResumeRefusal way m new.store input s w.units e
+        (s : Stage) → HasReportedAt way m input s w.units w.reported k → IsResumeError way m new.store input s w.units e
         → IsNotResumed way m input s old new → Unresumed s old new e
     not_resumed Fresh at why none = go (may_or_not m input (tape_in way input).before) where
       go :
@@ -188,7 +188,7 @@ module _ (way : Direction) (m : Machine) (input : Input) (skips : Skips m ⊎ (S
           back = λ p is. same;
           known = λ knows. absurd (lacks why (subst (λ (v : CacheView). IsKnownState v.store.table q) (sym same) (knows at.may)));
         } where
-          lacks : IsResumeRefusal way m new.store input (At q) w.units e → IsKnownState new.store.table q → ⊥
+          lacks : IsResumeError way m new.store input (At q) w.units e → IsKnownState new.store.table q → ⊥
           lacks (inl (none, gives, memory)) has = none has
           lacks (inr (gives, reported_at)) has = none_some (sym gives.0.0 ∙ has.named)
     not_resumed Ended at why none = absurd none
@@ -242,8 +242,8 @@ module _ (way : Direction) (m : Machine) (input : Input) (skips : Skips m ⊎ (S
 
     follows_err :
         (keeping : Keeping) (next : Walk) (e : SearchError)
-        → ((i : ℕ) → HasReported way m input w i → IsWalkRefusal keeping way m new.store input w i e)
-        → (KnowsUnits way m begun.store input w.units k → (new.count ≡ begun.count) × IsKnownRefusal keeping way m input w e)
+        → ((i : ℕ) → HasReported way m input w i → IsWalkError keeping way m new.store input w i e)
+        → (KnowsUnits way m begun.store input w.units k → (new.count ≡ begun.count) × IsKnownError keeping way m input w e)
         → CallFollows keeping way m input w next old new (Some e)
     follows_err keeping next e why known = record {
       rises = tt;
@@ -364,7 +364,7 @@ module _ (way : Direction) (m : Machine) (input : Input) (skips : Skips m ⊎ (S
       clean_before : (j : ℕ) → j < w.units + suc n → HasReadNoQuit way m input j
       clean_before j less i byte l unit = clean i byte (omega (arith, l, less)) unit
 
-      why : IsRefusalAt keeping way m new.store input (w.units + n) e → (i : ℕ) → HasReported way m input w i → IsWalkRefusal keeping way m new.store input w i e
+      why : IsWalkErrorAt keeping way m new.store input (w.units + n) e → (i : ℕ) → HasReported way m input w i → IsWalkError keeping way m new.store input w i e
       why refused i t = (
         reads.undone,
         inr (r.may, (w.units + n, omega arith, walks, clean, silent i (reported_here way m input w i skips t reads.on reads.all_reported), refused)),
@@ -372,7 +372,7 @@ module _ (way : Direction) (m : Machine) (input : Input) (skips : Skips m ⊎ (S
 
       -- at the next one
       call_stops :
-          IsUnitRefusal way m new.store input (w.units + n) e → IsLeftAt way m input (w.units + n) mid new
+          IsUnitError way m new.store input (w.units + n) e → IsLeftAt way m input (w.units + n) mid new
           → CallFollows keeping way m input w next old new (Some e)
       call_stops refused left =
           follows_err old begun new r reads (grown_trans begun mid new f.grown s.0) (suc n) (omega (arith, f.counted, made, s.1)) within_left keeping next e
@@ -397,7 +397,7 @@ module _ (way : Direction) (m : Machine) (input : Input) (skips : Skips m ⊎ (S
       -- or after it, since the state cannot be held
       call_unheld :
           IsUnitRead way m input (w.units + n) (with_search_moved way input (w.units + n) mid) new
-          → IsRefusalAt keeping way m new.store input (w.units + n) e → IsKnownRefusal keeping way m input w e
+          → IsWalkErrorAt keeping way m new.store input (w.units + n) e → IsKnownError keeping way m input w e
           → CallFollows keeping way m input w next old new (Some e)
       call_unheld read refused unheld =
           follows_err old begun new r reads f.grown (suc n) (omega (arith, f.counted, made)) within_left keeping next e (why refused)

@@ -17,7 +17,7 @@ use Rattle.automata_config.specs.declared.error.StepError.TheVariants as step
 use Rattle.automata_config.specs.declared.error.SearchError.{SearchError}
 use Rattle.automata_config.specs.declared.error.SearchError.TheVariants as search
 use Rattle.automata_hybrid.specs.Cache.Caches.{CacheView, IsStoreOf}
-use Rattle.automata_hybrid.specs.Cache.Growth.{IsAddRefused}
+use Rattle.automata_hybrid.specs.Cache.Growth.{AddFails}
 use Rattle.automata_hybrid.specs.Cache.Stores.{Stored}
 use Rattle.automata_hybrid.specs.Cache.Table.{IsKnownState, Leads, Rows}
 use Rattle.automata_hybrid.specs.Cache.Usage.{GivesUp}
@@ -25,11 +25,11 @@ use Rattle.automata_hybrid.specs.Machines.Machine.{Machine}
 use Rattle.automata_hybrid.specs.Machines.StartSlots.{supports}
 use Rattle.automata_hybrid.specs.Searches.Contracts.{IsUnsupported, unsupported_error}
 use Rattle.automata_hybrid.specs.Searches.Passes.{behind_offset, given_up_offset, state_in, tape_in}
-use Rattle.automata_hybrid.specs.Searches.PassState.{step_refusal}
+use Rattle.automata_hybrid.specs.Searches.PassState.{step_error}
 use Rattle.automata_hybrid.specs.Searches.Progress.{HasItsStart}
-use Rattle.automata_hybrid.specs.Steps.Starts.{IsStartAnswer, IsStartEffect, IsStartRefusal, IsStartRefusalAt}
-use Rattle.automata_hybrid.specs.Steps.Starts.{IsStartRefusedAt, quit_behind, search_refusal}
-use Rattle.automata_hybrid.specs.Walks.Answers.{HasItsState, HasReportedAt, IsPutBackRefusal, IsResumeRefusal, IsWalkOf}
+use Rattle.automata_hybrid.specs.Steps.Starts.{IsStartAnswer, IsStartEffect, IsStartError, IsStartErrorAt}
+use Rattle.automata_hybrid.specs.Steps.Starts.{StartFailsAt, quit_behind, start_search_error}
+use Rattle.automata_hybrid.specs.Walks.Answers.{HasItsState, HasReportedAt, IsPutBackError, IsResumeError, IsWalkOf}
 use Rattle.automata_hybrid.specs.Walks.Answers.{ReportsNext}
 use Rattle.automata_hybrid.specs.Walks.Parts.{IsCallAnswer, IsResumeAnswer}
 use Rattle.automata_hybrid.specs.Walks.Progress.{HasItsRow, IsNotResumed, IsResumed, IsWalkRun, LeavesCall, ReadsNoUnit}
@@ -44,10 +44,10 @@ use Rattle.automata_hybrid.proofs.Steps.Starts.{refusal_at}
 -- a start in a mode that is not supported fails for that, after no quit byte
 unsupported_start :
     (m : Machine) (c : Stored) (mode : Anchored) (behind : Option ℕ) (behind_at start_at : ℕ) (e : SearchError)
-    → IsStartRefusalAt m c mode behind behind_at start_at e → quit_behind m behind ≡ None → supports m mode ≡ false
+    → IsStartErrorAt m c mode behind behind_at start_at e → quit_behind m behind ≡ None → supports m mode ≡ false
     → e ≡ search.Match (UnsupportedMode mode)
 unsupported_start m c mode behind behind_at start_at e (error, why, reported, unknown) clear off = reported ∙ go error why where
-  go : (error : StartError) → IsStartRefusal m c mode behind error → search_refusal error behind_at start_at ≡ search.Match (UnsupportedMode mode)
+  go : (error : StartError) → IsStartError m c mode behind error → start_search_error error behind_at start_at ≡ search.Match (UnsupportedMode mode)
   go (start.Quit byte) why = absurd (none_some (sym clear ∙ why))
   go (start.UnsupportedAnchored asked) why = ap (λ a. search.Match (UnsupportedMode a)) why.2
   go (start.Cache err) why = absurd (false_true (sym off ∙ why.0.1))
@@ -59,7 +59,7 @@ pub unsupported_call :
     → w.stage ≡ Fresh → IsUnsupported way m input → LeavesCall keeping way m input w old new e → e ≡ unsupported_error input
 unsupported_call keeping way m input w old new e fresh u (reads, inl (why, none)) =
     unsupported_start m new.store input.anchored (tape_in way input).before _ _ e
-    (subst (λ (s : Stage). IsResumeRefusal way m new.store input s w.units e) fresh why) u.behind u.mode
+    (subst (λ (s : Stage). IsResumeError way m new.store input s w.units e) fresh why) u.behind u.mode
 unsupported_call keeping way m input w old new e fresh u (reads, inr (begun, resumed, stopped)) =
     let starts : HasItsStart way m input old begun = subst (λ (s : Stage). IsResumed way m input s old begun) fresh resumed in
     absurd (false_true (sym u.mode ∙ starts.0.1))
@@ -149,11 +149,11 @@ module _ (way : Direction) (m : Machine) (input : Input) (w : Walk) (old new : C
     first : w.units ≡ 0
     first = (subst (λ (s : Stage). HasReportedAt way m input s w.units w.reported k) fresh reported).1
 
-  pub start_refusal :
-      IfErr r (IsStartRefusedAt m input.anchored (tape_in way input).before (behind_offset way input) (offset_in way input 0) old new)
-      → IfErr r (IsResumeRefusal way m new.store input w.stage w.units)
-  start_refusal h =
-      subst (λ (s : Stage). IfErr r (IsResumeRefusal way m new.store input s w.units)) (sym fresh)
+  pub start_error :
+      IfErr r (StartFailsAt m input.anchored (tape_in way input).before (behind_offset way input) (offset_in way input 0) old new)
+      → IfErr r (IsResumeError way m new.store input w.stage w.units)
+  start_error h =
+      subst (λ (s : Stage). IfErr r (IsResumeError way m new.store input s w.units)) (sym fresh)
       (IfErr-weaker r _ _ (refusal_at m input.anchored (tape_in way input).before (behind_offset way input) (offset_in way input 0) old new) h)
 
   module _ (slots : length old.store.starts ≡ m.slots) (effect : IsStartEffect m input.anchored (tape_in way input).before old new) where
@@ -165,7 +165,7 @@ module _ (way : Direction) (m : Machine) (input : Input) (w : Walk) (old new : C
         (IfOk-weaker r _ _ (λ id a. start_had way m input old new id slots sound effect a) answer)
 
     pub start_left :
-        IfErr r (IsStartRefusedAt m input.anchored (tape_in way input).before (behind_offset way input) (offset_in way input 0) old new)
+        IfErr r (StartFailsAt m input.anchored (tape_in way input).before (behind_offset way input) (offset_in way input 0) old new)
         → OnErr r (IsNotResumed way m input w.stage old new)
     start_left h =
         subst (λ (s : Stage). OnErr r (IsNotResumed way m input s old new)) (sym fresh)
@@ -193,17 +193,17 @@ module _ (way : Direction) (m : Machine) (input : Input) (t : Rows) (w : Walk) (
 
   -- why that fails is why the walk cannot go on
   pub back_refusal :
-      (e : StepError) (r : SearchError) → IsAddRefused old new handle.state e → (IsKnownState old.store.table handle.state → ⊥)
-      → r ≡ step_refusal e (given_up_offset way input w.units) → IsResumeRefusal way m new.store input w.stage w.units r
+      (e : StepError) (r : SearchError) → AddFails old new handle.state e → (IsKnownState old.store.table handle.state → ⊥)
+      → r ≡ step_error e (given_up_offset way input w.units) → IsResumeError way m new.store input w.stage w.units r
   back_refusal e r refused lacks reported = go w.stage fresh on at where
-    go : (s : Stage) → (s ≡ Fresh → ⊥) → (s ≡ Ended → ⊥) → IsHeldAt t s h → IsResumeRefusal way m new.store input s w.units r
+    go : (s : Stage) → (s ≡ Fresh → ⊥) → (s ≡ Ended → ⊥) → IsHeldAt t s h → IsResumeError way m new.store input s w.units r
     go Fresh fresh on at = absurd (fresh refl)
     go Ended fresh on at = absurd (on refl)
     go (At q) fresh on at = why e refused reported where
       same : handle.state ≡ q
       same = (subst (λ (x : Held). Holds t x q) holds at).0
 
-      why : (e : StepError) → IsAddRefused old new handle.state e → r ≡ step_refusal e (given_up_offset way input w.units) → IsPutBackRefusal new.store q (given_up_offset way input w.units) r
+      why : (e : StepError) → AddFails old new handle.state e → r ≡ step_error e (given_up_offset way input w.units) → IsPutBackError new.store q (given_up_offset way input w.units) r
       why (step.Cache err) refused reported =
           inr (
             subst (GivesUp new.store) same (subst (λ (v : CacheView). GivesUp v.store handle.state) (sym refused.kept) (refused.gives_up.0 tt)),

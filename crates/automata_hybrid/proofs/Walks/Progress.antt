@@ -11,9 +11,9 @@ use Rattle.automata_hybrid.specs.Machines.Machine.{Machine}
 use Rattle.automata_hybrid.specs.Searches.Progress.{AreUnitsRead, IsLeftAt}
 use Rattle.automata_hybrid.specs.Walks.Progress.{IsCallLeftAt, IsCallStopped, ReadsNoUnit}
 use Rattle.automata_hybrid.specs.Searches.Cached.{IsOfInput}
-use Rattle.automata_hybrid.specs.Searches.Passes.{HasReadNoQuit, IsUnitRefusal, Skips}
-use Rattle.automata_hybrid.specs.Walks.Answers.{HasReportedBy, IsRefusalAt, IsSilent, WalkReads, pairs_reported_in}
-use Rattle.automata_hybrid.specs.Walks.Follows.{IsKnownRefusal}
+use Rattle.automata_hybrid.specs.Searches.Passes.{HasReadNoQuit, IsUnitError, Skips}
+use Rattle.automata_hybrid.specs.Walks.Answers.{HasReportedBy, IsWalkErrorAt, IsSilent, WalkReads, pairs_reported_in}
+use Rattle.automata_hybrid.specs.Walks.Follows.{IsKnownError}
 use Rattle.automata_hybrid.specs.Walks.State.{Ids, Keeping, States, Walk}
 use Rattle.automata_hybrid.proofs.Searches.PassState.{dead_more}
 use Rattle.automata_hybrid.proofs.Searches.UnitsRead.{AreReadTo, read_some}
@@ -70,7 +70,7 @@ arrived_read way m input from k units old new more same reads all = go (read_som
 pub call_stopped :
     (way : Direction) (m : Machine) (input : Input) (from k : ℕ) (old new : CacheView) (e : SearchError)
     → WalkReads way m input k → HasReadNoQuit way m input k → IsSilent way m input from k
-    → IsUnitRefusal way m new.store input k e
+    → IsUnitError way m new.store input k e
     → ((run : CacheView) × AreReadTo way m input from k old run × IsLeftAt way m input k run new)
     → IsCallStopped Ids way m input from old new e
 call_stopped way m input from k old new e reads clean silent refused (run, all, left) = (
@@ -80,7 +80,7 @@ call_stopped way m input from k old new e reads clean silent refused (run, all, 
   subst (HasReadNoQuit way m input) (sym all.upto) clean,
   subst (IsSilent way m input from) (sym all.upto) silent,
   all.read,
-  subst (λ j. IsUnitRefusal way m new.store input j e × IsLeftAt way m input j run new) (sym all.upto) (refused, left),
+  subst (λ j. IsUnitError way m new.store input j e × IsLeftAt way m input j run new) (sym all.upto) (refused, left),
 )
 
 -- a call that is to read units reads some
@@ -93,13 +93,13 @@ reads_some input w r (inr (inr past)) = omega (arith, r.undone, r.left, past)
 -- a failed step is a refusal at its unit, whatever is kept
 pub step_refuses :
     (keeping : Keeping) (way : Direction) (m : Machine) (c : Stored) (input : Input) (j : ℕ) (e : SearchError)
-    → IsUnitRefusal way m c input j e → IsRefusalAt keeping way m c input j e
+    → IsUnitError way m c input j e → IsWalkErrorAt keeping way m c input j e
 step_refuses Ids way m c input j e r = r
 step_refuses States way m c input j e r = inl r
 
 step_leaves :
     (keeping : Keeping) (way : Direction) (m : Machine) (input : Input) (k : ℕ) (old new : CacheView) (e : SearchError)
-    → IsUnitRefusal way m new.store input k e × IsLeftAt way m input k old new → IsCallLeftAt keeping way m input k old new e
+    → IsUnitError way m new.store input k e × IsLeftAt way m input k old new → IsCallLeftAt keeping way m input k old new e
 step_leaves Ids way m input k old new e left = left
 step_leaves States way m input k old new e left = inl left
 
@@ -112,6 +112,6 @@ call_leaves keeping way m input from old new e (n, mid, reads, clean, silent, al
 -- a refusal for what was given is one of a call that has cached all
 pub known_refusal :
     (keeping : Keeping) (way : Direction) (m : Machine) (input : Input) (w : Walk) (e : SearchError) → IsOfInput e
-    → IsKnownRefusal keeping way m input w e
+    → IsKnownError keeping way m input w e
 known_refusal Ids way m input w e given = given
 known_refusal States way m input w e given = inl given

@@ -14,7 +14,7 @@ use Rattle.automata_hybrid.specs.Machines.Machine.{Machine}
 use Rattle.automata_hybrid.specs.Searches.Passes.{NoQuitInReach, tape_in}
 use Rattle.automata_hybrid.specs.Machines.StartSlots.{supports}
 use Rattle.automata_hybrid.specs.Searches.Contracts.{IsMemory, IsUnhindered}
-use Rattle.automata_hybrid.specs.Walks.Answers.{IsResumeRefusal}
+use Rattle.automata_hybrid.specs.Walks.Answers.{IsResumeError}
 use Rattle.automata_hybrid.specs.Walks.Progress.{IsCallLeftAt, IsSetRun, LeavesCall, LeavesSet, ReadsNoUnit}
 use Rattle.automata_hybrid.specs.Walks.State.{At, Ended, Fresh, Ids, Keeping, Stage, States, Walk}
 use Rattle.automata_hybrid.proofs.Searches.Reach.{InReach, no_limit, start_memory, step_memory}
@@ -34,7 +34,7 @@ module _ (way : Direction) (m : Machine) (new : CacheView) (input : Input)
   clean byte r = reach r.0 byte r.1 r.2 r.3
 
   resume_memory :
-      (s : Stage) (units : ℕ) (e : SearchError) → input.start ≤ input.end → IsResumeRefusal way m new.store input s units e → e ≡ search.OutOfMemory
+      (s : Stage) (units : ℕ) (e : SearchError) → input.start ≤ input.end → IsResumeError way m new.store input s units e → e ≡ search.OutOfMemory
   resume_memory Fresh units e l r = start_memory way m new.store input l few same clean mode free _ _ e r
   resume_memory (At q) units e l (inl r) = r.2
   resume_memory (At q) units e l (inr r) = absurd (no_limit m new.store q same free r.0)

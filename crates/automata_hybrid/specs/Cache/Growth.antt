@@ -88,6 +88,6 @@ pub record PutsBack (q : Powerset) (old new : CacheView) : Type 0 where
 
 -- a state could not be added: nothing changed. The call gave up exactly if it had to: out of memory comes only where
 -- the state fits, or the cache may be cleared for it
-pub record IsAddRefused (old new : CacheView) (q : Powerset) (e : StepError) : Type 0 where
+pub record AddFails (old new : CacheView) (q : Powerset) (e : StepError) : Type 0 where
   pub kept : new ≡ old
   pub gives_up : IsCacheError e ↔ GivesUp old.store q

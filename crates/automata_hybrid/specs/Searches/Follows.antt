@@ -9,7 +9,7 @@ use Rattle.automata_hybrid.specs.Cache.Caches.{CacheView}
 use Rattle.automata_hybrid.specs.Cache.Growth.{HasRoom, ClearedNothing, IsGrown, IsStill}
 use Rattle.automata_hybrid.specs.Searches.Cached.{KnowsItsStart, IsOfInput, Knows}
 use Rattle.automata_hybrid.specs.Machines.Machine.{Machine}
-use Rattle.automata_hybrid.specs.Searches.Passes.{Skips, IsRefused}
+use Rattle.automata_hybrid.specs.Searches.Passes.{Skips, IsSearchError}
 use Rattle.automata_hybrid.specs.Searches.Progress.{HaveTried, TriesSpans, IsSearchRun}
 use Rattle.automata_config.specs.declared.error.SearchError.{SearchError}
 
@@ -76,7 +76,7 @@ pub record SearchFollows (way : Direction) (m : Machine) (input : Input) (old ne
   -- with all that cached, it fails because of its input alone, and changes nothing but the progress
   pub known : Knows way m old.store input → IsStill old new × IfSome error IsOfInput
   -- why it fails: one of the passes that it makes does
-  pub refused : IfSome error (IsRefused way m new.store input)
+  pub refused : IfSome error (IsSearchError way m new.store input)
   -- with a span that is done, it changes nothing at all
   pub done : input.end < input.start → new ≡ old
 

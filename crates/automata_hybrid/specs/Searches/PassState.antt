@@ -46,9 +46,9 @@ pub record IsAt (way : Direction) (m : Machine) (t : Rows) (input : Input) (k id
   pub clean : HasReadNoQuit way m input k
 
 -- the error of a step, as a search reports it at an offset
-abbrev pub step_refusal : StepError → (at : ℕ) → SearchError
-step_refusal (step.Cache err) at = search.Match (GaveUp at)
-step_refusal step.OutOfMemory at = search.OutOfMemory
+abbrev pub step_error : StepError → (at : ℕ) → SearchError
+step_error (step.Cache err) at = search.Match (GaveUp at)
+step_error step.OutOfMemory at = search.OutOfMemory
 
 -- the transition on the unit at place `k` is cached, at a class that rows have
 abbrev pub HasLearnedUnit : Direction → Machine → Stored → Input → ℕ → Type 0

@@ -22,7 +22,7 @@ use Rattle.automata_config.specs.declared.error.SearchError.TheVariants as searc
 use Rattle.automata_hybrid.specs.Cache.Stores.{Stored}
 use Rattle.automata_hybrid.specs.Cache.Usage.{GivesUp}
 use Rattle.automata_hybrid.specs.Machines.Machine.{Machine}
-use Rattle.automata_hybrid.specs.Steps.Starts.{IsStartRefusalAt, quit_behind}
+use Rattle.automata_hybrid.specs.Steps.Starts.{IsStartErrorAt, quit_behind}
 use Rattle.automata_hybrid.specs.Steps.Steps.{KnowsStep}
 use Rattle.automata_hybrid.specs.Machines.Machine.{quits_on}
 use Rattle.automata_hybrid.specs.Cache.Table.{Names}
@@ -65,14 +65,14 @@ LacksStep m c q unit = (id : ℕ) → Names c.table id q → KnowsStep m c id un
 -- why a step from a state on a unit fails: at a quit byte because of that alone; at another unit because the next state
 -- is not in the cache, does not fit, and the clear rule does not allow a clear, or because the transition is not cached
 -- and memory runs out
-abbrev pub IsStepRefusal : Machine → Stored → Powerset → Option ℕ → (quit_at given_up_at : ℕ) → SearchError → Type 0
-IsStepRefusal m c q unit quit_at given_up_at (search.Match (QuitAt byte offset)) =
+abbrev pub IsStepError : Machine → Stored → Powerset → Option ℕ → (quit_at given_up_at : ℕ) → SearchError → Type 0
+IsStepError m c q unit quit_at given_up_at (search.Match (QuitAt byte offset)) =
     (unit ≡ Some byte) × (is_quit m.quits byte ≡ true) × (offset ≡ quit_at)
-IsStepRefusal m c q unit quit_at given_up_at (search.Match (GaveUp offset)) =
+IsStepError m c q unit quit_at given_up_at (search.Match (GaveUp offset)) =
     (quits_on m unit ≡ false) × GivesUp c (successor m.nfa (match_kind_of m.config) q unit) × (offset ≡ given_up_at)
-IsStepRefusal m c q unit quit_at given_up_at (search.Match (UnsupportedMode mode)) = ⊥
-IsStepRefusal m c q unit quit_at given_up_at search.OutOfMemory = (quits_on m unit ≡ false) × LacksStep m c q unit
-IsStepRefusal m c q unit quit_at given_up_at search.NotAPair = ⊥
+IsStepError m c q unit quit_at given_up_at (search.Match (UnsupportedMode mode)) = ⊥
+IsStepError m c q unit quit_at given_up_at search.OutOfMemory = (quits_on m unit ≡ false) × LacksStep m c q unit
+IsStepError m c q unit quit_at given_up_at search.NotAPair = ⊥
 
 -- the offset of the unit at a place of a pass
 abbrev pub unit_offset : Direction → Input → ℕ → ℕ
@@ -85,9 +85,9 @@ given_up_offset Forward input k = input.start + k
 given_up_offset Backward input k = max input.start (input.end - k - 1)
 
 -- why the step on the unit at place `k` of a pass fails
-abbrev pub IsUnitRefusal : Direction → Machine → Stored → Input → ℕ → SearchError → Type 0
-IsUnitRefusal way m c input k e =
-    IsStepRefusal m c (state_in way m input k) (next (tape_in way input) k) (unit_offset way input k)
+abbrev pub IsUnitError : Direction → Machine → Stored → Input → ℕ → SearchError → Type 0
+IsUnitError way m c input k e =
+    IsStepError m c (state_in way m input k) (next (tape_in way input) k) (unit_offset way input k)
     (given_up_offset way input k) e
 
 -- the offset of the look-behind byte of a pass
@@ -96,11 +96,11 @@ behind_offset Forward input = input.start - 1
 behind_offset Backward input = input.end
 
 -- why a pass fails: its start state does, or the step on a unit that it reads, and no quit byte was met before
-abbrev pub IsPassRefusal : Direction → Machine → Stored → Input → SearchError → Type 0
-IsPassRefusal way m c input e =
-    IsStartRefusalAt m c input.anchored (tape_in way input).before (behind_offset way input) (offset_in way input 0) e
+abbrev pub IsPassError : Direction → Machine → Stored → Input → SearchError → Type 0
+IsPassError way m c input e =
+    IsStartErrorAt m c input.anchored (tape_in way input).before (behind_offset way input) (offset_in way input 0) e
     ⊎ ((k : ℕ) × (quit_behind m (tape_in way input).before ≡ None) × Reads way m input k
-    × HasReadNoQuit way m input k × IsUnitRefusal way m c input k e)
+    × HasReadNoQuit way m input k × IsUnitError way m c input k e)
 
 -- a pass over the span of an input reports this, and meets no quit byte
 abbrev pub Finds : Direction → Machine → Input → Option Pair → Type 0
@@ -117,10 +117,10 @@ abbrev pub IsFound : Direction → Machine → Input → Option Half → Type 0
 IsFound way m input answer = Answers (Finds way m) (Skips m) way input answer
 
 -- why a search fails: a pass over one of the spans that it tries does
-abbrev pub IsRefused : Direction → Machine → Stored → Input → SearchError → Type 0
-IsRefused way m c input e =
+abbrev pub IsSearchError : Direction → Machine → Stored → Input → SearchError → Type 0
+IsSearchError way m c input e =
     (k : ℕ) × Tries (Finds way m) (Skips m) way input k × (input.start + k ≤ input.end)
-    × IsPassRefusal way m c (later way k input) e
+    × IsPassError way m c (later way k input) e
 
 -- a half match with the start of the span that gave it
 abbrev pub with_base : HalfMatch → ℕ → Half

@@ -13,9 +13,9 @@ use Rattle.automata_hybrid.specs.Cache.Progress.{progress_finished}
 use Rattle.automata_hybrid.specs.Calls.Events.{Begin, DoAll, Does, End, Event, Fails, IsStepLeft, Move, Start, Step}
 use Rattle.automata_hybrid.specs.Calls.Events.{with_progress}
 use Rattle.automata_hybrid.specs.Machines.Machine.{Machine}
-use Rattle.automata_hybrid.specs.Searches.Passes.{Finds, HasReadNoQuit, IsUnitRefusal, Reads, Skips}
+use Rattle.automata_hybrid.specs.Searches.Passes.{Finds, HasReadNoQuit, IsUnitError, Reads, Skips}
 use Rattle.automata_hybrid.specs.Searches.Passes.{behind_offset, given_up_offset, state_in, tape_in}
-use Rattle.automata_hybrid.specs.Steps.Starts.{IsStartRefusalAt, MayStart}
+use Rattle.automata_hybrid.specs.Steps.Starts.{IsStartErrorAt, MayStart}
 
 -- what a pass makes of the progress before its last step, which is at an offset: backward it has ended there
 abbrev pub before_last : Direction → Searched → (at : ℕ) → Searched
@@ -95,7 +95,7 @@ IsPassLeftAt way m input k old new =
 abbrev pub IsStoppedAt : Direction → Machine → Input → (begun new : CacheView) → SearchError → Type 0
 IsStoppedAt way m input begun new e =
     (k : ℕ) × (mid : CacheView) × Reads way m input k × HasReadNoQuit way m input k
-    × IsUnitRefusal way m new.store input k e
+    × IsUnitError way m new.store input k e
     × AreUnitsRead way m input 0 k begun mid × IsPassLeftAt way m input k mid new
 
 -- a pass backward over an empty span keeps no progress
@@ -133,10 +133,10 @@ PassEnds way m input old new =
 -- a pass failed: at its start, or at a unit
 abbrev pub PassFails : Direction → Machine → Input → (old new : CacheView) → SearchError → Type 0
 PassFails way m input old new e =
-    (IsStartRefusalAt m new.store input.anchored (tape_in way input).before
+    (IsStartErrorAt m new.store input.anchored (tape_in way input).before
     (behind_offset way input) (offset_in way input 0) e × HasNoStart way m input old new)
     ⊎ ((begun : CacheView) × HasItsStart way m input old begun
-    × ((KeepsNone way input × Reads way m input 0 × IsUnitRefusal way m new.store input 0 e
+    × ((KeepsNone way input × Reads way m input 0 × IsUnitError way m new.store input 0 e
     × IsStillLeft way m input begun new)
     ⊎ ((KeepsNone way input → ⊥) × IsStoppedAt way m input (with_search_begun way input 0 begun) new e)))
 

@@ -10,23 +10,23 @@ use Rattle.automata_config.specs.declared.error.SearchError.{SearchError}
 use Rattle.automata_hybrid.specs.Cache.Caches.{CacheView}
 use Rattle.automata_hybrid.specs.Calls.Events.{Does, IsStepLeft, Step}
 use Rattle.automata_hybrid.specs.Machines.Machine.{Machine}
-use Rattle.automata_hybrid.specs.Searches.PassState.{step_refusal}
+use Rattle.automata_hybrid.specs.Searches.PassState.{step_error}
 use Rattle.automata_hybrid.specs.Searches.Progress.{IsPassLeftAt, IsStillLeft, IsUnitRead, with_search_ended}
 use Rattle.automata_hybrid.specs.Searches.Progress.{with_search_moved}
-use Rattle.automata_hybrid.specs.Searches.Passes.{IsStepRefusal}
-use Rattle.automata_hybrid.specs.Steps.Steps.{IsStepRefused}
+use Rattle.automata_hybrid.specs.Searches.Passes.{IsStepError}
+use Rattle.automata_hybrid.specs.Steps.Steps.{StepFails}
 use Rattle.automata_hybrid.specs.Machines.Machine.{quits_on}
 use Rattle.automata_hybrid.specs.Cache.Table.{Leads, Names}
 
 -- what holds if a step from an ID on a unit fails, and the error is reported at an offset
-pub record IsStepRefusedAt (m : Machine) (id : ℕ) (unit : Option ℕ) (at : ℕ) (old new : CacheView) (e : SearchError) :
+pub record StepFailsAt (m : Machine) (id : ℕ) (unit : Option ℕ) (at : ℕ) (old new : CacheView) (e : SearchError) :
     Type 0 where
   -- It stems from the error of a step.
   pub error : StepError
   -- The step fails with it.
-  pub refused : IsStepRefused m id unit old new error
+  pub refused : StepFails m id unit old new error
   -- It is reported at this offset.
-  pub reported : e ≡ step_refusal error at
+  pub reported : e ≡ step_error error at
 
 -- the ID that reading a unit from an ID returns
 pub record IsReadAnswer (m : Machine) (id : ℕ) (unit : Option ℕ) (old new : CacheView) (next : ℕ) : Type 0 where
@@ -39,10 +39,10 @@ pub record IsReadAnswer (m : Machine) (id : ℕ) (unit : Option ℕ) (old new : 
 
 -- why reading a unit from an ID fails: the step from its state does; a quit byte and the "gave up" error each have an
 -- offset
-abbrev pub IsReadRefusal :
+abbrev pub ReadFails :
     Machine → (id : ℕ) → (unit : Option ℕ) → (quit_at given_up_at : ℕ) → (old new : CacheView) → SearchError → Type 0
-IsReadRefusal m id unit quit_at given_up_at old new e =
-    (q : Powerset) → Names old.store.table id q → IsStepRefusal m new.store q unit quit_at given_up_at e
+ReadFails m id unit quit_at given_up_at old new e =
+    (q : Powerset) → Names old.store.table id q → IsStepError m new.store q unit quit_at given_up_at e
 
 -- what reading a unit from an ID makes of the cache: the step is made from where the search came to; or it fails
 -- there, and at a quit byte the search has ended

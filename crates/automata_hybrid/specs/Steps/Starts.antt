@@ -64,33 +64,33 @@ abbrev pub known_start : Machine → Stored → Anchored → Option ℕ → ℕ
 known_start m c mode behind = slice_index c.starts (slot_behind m mode behind)
 
 -- why there is no start state
-abbrev pub IsStartRefusal : Machine → Stored → Anchored → Option ℕ → StartError → Type 0
+abbrev pub IsStartError : Machine → Stored → Anchored → Option ℕ → StartError → Type 0
 -- the look-behind byte is a quit byte, and it is this one
-IsStartRefusal m c mode behind (start.Quit byte) = quit_behind m behind ≡ Some byte
+IsStartError m c mode behind (start.Quit byte) = quit_behind m behind ≡ Some byte
 -- it is none, and the anchored mode is not supported
-IsStartRefusal m c mode behind (start.UnsupportedAnchored reported) =
+IsStartError m c mode behind (start.UnsupportedAnchored reported) =
     (quit_behind m behind ≡ None) × (supports m mode ≡ false) × (reported ≡ mode)
 -- the cache does not have the state, has no room for it, and may not be cleared
-IsStartRefusal m c mode behind (start.Cache err) = MayStart m mode behind × GivesUp c (start_state_of m.nfa mode behind)
-IsStartRefusal m c mode behind start.OutOfMemory = MayStart m mode behind
+IsStartError m c mode behind (start.Cache err) = MayStart m mode behind × GivesUp c (start_state_of m.nfa mode behind)
+IsStartError m c mode behind start.OutOfMemory = MayStart m mode behind
 
 -- the error of a step, as a call for a start state reports it
-abbrev pub start_refusal : StepError → StartError
-start_refusal (step.Cache err) = start.Cache err
-start_refusal step.OutOfMemory = start.OutOfMemory
+abbrev pub start_error : StepError → StartError
+start_error (step.Cache err) = start.Cache err
+start_error step.OutOfMemory = start.OutOfMemory
 
 -- the error of a start state, as a search reports it: a quit byte and the "gave up" error each have an offset
-abbrev pub search_refusal : StartError → (behind at : ℕ) → SearchError
-search_refusal (start.Cache err) behind at = search.Match (GaveUp at)
-search_refusal (start.Quit byte) behind at = search.Match (QuitAt byte behind)
-search_refusal (start.UnsupportedAnchored mode) behind at = search.Match (UnsupportedMode mode)
-search_refusal start.OutOfMemory behind at = search.OutOfMemory
+abbrev pub start_search_error : StartError → (behind at : ℕ) → SearchError
+start_search_error (start.Cache err) behind at = search.Match (GaveUp at)
+start_search_error (start.Quit byte) behind at = search.Match (QuitAt byte behind)
+start_search_error (start.UnsupportedAnchored mode) behind at = search.Match (UnsupportedMode mode)
+start_search_error start.OutOfMemory behind at = search.OutOfMemory
 
 -- why a search has no start state: why there is none, reported with the offset of the look-behind byte or of the start;
 -- it is not cached
-abbrev pub IsStartRefusalAt : Machine → Stored → Anchored → Option ℕ → (behind_at start_at : ℕ) → SearchError → Type 0
-IsStartRefusalAt m c mode behind behind_at start_at e =
-    (error : StartError) × IsStartRefusal m c mode behind error × (e ≡ search_refusal error behind_at start_at)
+abbrev pub IsStartErrorAt : Machine → Stored → Anchored → Option ℕ → (behind_at start_at : ℕ) → SearchError → Type 0
+IsStartErrorAt m c mode behind behind_at start_at e =
+    (error : StartError) × IsStartError m c mode behind error × (e ≡ start_search_error error behind_at start_at)
     × (KnowsStart m c mode behind → ⊥)
 
 -- the ID of a start state that a call returns
@@ -120,10 +120,10 @@ pub record IsStartAnswer (m : Machine) (mode : Anchored) (behind : Option ℕ) (
   pub written : HasSlot m mode behind → known_start m new.store mode behind ≡ id
 
 -- what holds if a call for a start state fails
-pub record IsStartRefused (m : Machine) (mode : Anchored) (behind : Option ℕ) (old new : CacheView) (e : StartError) :
+pub record StartFails (m : Machine) (mode : Anchored) (behind : Option ℕ) (old new : CacheView) (e : StartError) :
     Type 0 where
   -- The error says why.
-  pub why : IsStartRefusal m old.store mode behind e
+  pub why : IsStartError m old.store mode behind e
   -- A cached start state never fails.
   pub unknown : KnowsStart m old.store mode behind → ⊥
   -- Past the last pattern nothing fails if a search may start.
@@ -132,14 +132,14 @@ pub record IsStartRefused (m : Machine) (mode : Anchored) (behind : Option ℕ) 
   pub unchanged : (new ≡ old) ⊎ (new ≡ counted old)
 
 -- the same of a search, which reports the error with the offset of the look-behind byte or of the start
-pub record IsStartRefusedAt (m : Machine) (mode : Anchored) (behind : Option ℕ) (behind_at start_at : ℕ)
+pub record StartFailsAt (m : Machine) (mode : Anchored) (behind : Option ℕ) (behind_at start_at : ℕ)
     (old new : CacheView) (e : SearchError) : Type 0 where
   -- It stems from the error of a start state.
   pub error : StartError
   -- The call for the start state fails with it.
-  pub refused : IsStartRefused m mode behind old new error
+  pub refused : StartFails m mode behind old new error
   -- It is reported at this offset.
-  pub reported : e ≡ search_refusal error behind_at start_at
+  pub reported : e ≡ start_search_error error behind_at start_at
 
 -- what asking for a start state does to the cache, whether that returns Ok or an error
 pub record IsStartEffect (m : Machine) (mode : Anchored) (behind : Option ℕ) (old new : CacheView) : Type 0 where

@@ -52,7 +52,7 @@ pub record IsStepAnswer (m : Machine) (id : ℕ) (unit : Option ℕ) (old new : 
   pub written : id < fixed_from → ClearedNothing old.store new.store → known_step m new.store id unit ≡ next
 
 -- what holds if a step from an ID on a unit fails
-pub record IsStepRefused (m : Machine) (id : ℕ) (unit : Option ℕ) (old new : CacheView) (e : StepError) : Type 0 where
+pub record StepFails (m : Machine) (id : ℕ) (unit : Option ℕ) (old new : CacheView) (e : StepError) : Type 0 where
   -- A cache error says that the successor is not there, has no room, and the cache may not be cleared for it.
   pub gives_up :
       IsCacheError e → (q : Powerset) → Names old.store.table id q

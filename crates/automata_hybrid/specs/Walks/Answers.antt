@@ -17,10 +17,10 @@ use Rattle.automata_config.specs.declared.error.SearchError.TheVariants as searc
 use Rattle.automata_hybrid.specs.Cache.Stores.{Stored}
 use Rattle.automata_hybrid.specs.Cache.Usage.{GivesUp}
 use Rattle.automata_hybrid.specs.Machines.Machine.{Machine}
-use Rattle.automata_hybrid.specs.Searches.Passes.{HasReadNoQuit, IsUnitRefusal, Skips, behind_offset}
+use Rattle.automata_hybrid.specs.Searches.Passes.{HasReadNoQuit, IsUnitError, Skips, behind_offset}
 use Rattle.automata_hybrid.specs.Searches.Passes.{given_up_offset}
 use Rattle.automata_hybrid.specs.Searches.Passes.{state_in, tape_in}
-use Rattle.automata_hybrid.specs.Steps.Starts.{IsStartRefusalAt, MayStart}
+use Rattle.automata_hybrid.specs.Steps.Starts.{IsStartErrorAt, MayStart}
 use Rattle.automata_hybrid.specs.Machines.Machine.{quits_on}
 use Rattle.automata_hybrid.specs.Cache.Table.{IsKnownState, IsRowState, Names, Rows}
 use Rattle.automata_hybrid.specs.Walks.State.{At, Ended, Fresh, Ids, Keeping, Stage, States, Walk}
@@ -107,17 +107,17 @@ ReportsNext way m input old new =
 
 -- why its state is not put back, which the cache does not have: there is no room for it and the cache may not be
 -- cleared; or that is not so, and memory runs out
-abbrev pub IsPutBackRefusal : Stored → Powerset → (given_up_at : ℕ) → SearchError → Type 0
-IsPutBackRefusal c q at e =
+abbrev pub IsPutBackError : Stored → Powerset → (given_up_at : ℕ) → SearchError → Type 0
+IsPutBackError c q at e =
     ((IsKnownState c.table q → ⊥) × (GivesUp c q → ⊥) × (e ≡ search.OutOfMemory))
     ⊎ (GivesUp c q × (e ≡ search.Match (GaveUp at)))
 
 -- why a walk cannot go on: it has not begun and its start state fails, or it has and its state is not put back
-abbrev pub IsResumeRefusal : Direction → Machine → Stored → Input → Stage → (units : ℕ) → SearchError → Type 0
-IsResumeRefusal way m c input Fresh units e =
-    IsStartRefusalAt m c input.anchored (tape_in way input).before (behind_offset way input) (offset_in way input 0) e
-IsResumeRefusal way m c input (At q) units e = IsPutBackRefusal c q (given_up_offset way input units) e
-IsResumeRefusal way m c input Ended units e = ⊥
+abbrev pub IsResumeError : Direction → Machine → Stored → Input → Stage → (units : ℕ) → SearchError → Type 0
+IsResumeError way m c input Fresh units e =
+    IsStartErrorAt m c input.anchored (tape_in way input).before (behind_offset way input) (offset_in way input 0) e
+IsResumeError way m c input (At q) units e = IsPutBackError c q (given_up_offset way input units) e
+IsResumeError way m c input Ended units e = ⊥
 
 -- the state after the unit at place `j` reports a pair, and cannot be held: the count of those who share it cannot
 -- rise, which is reported as out of memory
@@ -129,19 +129,19 @@ pub record IsUnheld (way : Direction) (m : Machine) (input : Input) (j : ℕ) (e
 
 -- why a call fails at the unit at place `j`: the step on it does; or, if states are kept, the one after it cannot be
 -- held
-abbrev pub IsRefusalAt : Keeping → Direction → Machine → Stored → Input → ℕ → SearchError → Type 0
-IsRefusalAt Ids way m c input j e = IsUnitRefusal way m c input j e
-IsRefusalAt States way m c input j e = IsUnitRefusal way m c input j e ⊎ IsUnheld way m input j e
+abbrev pub IsWalkErrorAt : Keeping → Direction → Machine → Stored → Input → ℕ → SearchError → Type 0
+IsWalkErrorAt Ids way m c input j e = IsUnitError way m c input j e
+IsWalkErrorAt States way m c input j e = IsUnitError way m c input j e ⊎ IsUnheld way m input j e
 
 -- why a call fails that was to report the pair after the first `k`: the walk cannot go on, or it fails at a unit that
 -- it reads, and no quit byte was met before; the units before report these `k` pairs
-abbrev pub IsWalkRefusal : Keeping → Direction → Machine → Stored → Input → Walk → ℕ → SearchError → Type 0
-IsWalkRefusal keeping way m c input w k e =
+abbrev pub IsWalkError : Keeping → Direction → Machine → Stored → Input → Walk → ℕ → SearchError → Type 0
+IsWalkError keeping way m c input w k e =
     (input.start ≤ input.end)
-    × ((HasReportedBy way m input w.units k × IsResumeRefusal way m c input w.stage w.units e)
+    × ((HasReportedBy way m input w.units k × IsResumeError way m c input w.stage w.units e)
     ⊎ (MayStart m input.anchored (tape_in way input).before
     × ((j : ℕ) × (w.units ≤ j) × WalkReads way m input j × HasReadNoQuit way m input j × HasReportedBy way m input j k
-    × IsRefusalAt keeping way m c input j e)))
+    × IsWalkErrorAt keeping way m c input j e)))
 
 -- the units from one place of a pass to another report nothing to a walk
 abbrev pub IsSilent : Direction → Machine → Input → (from to : ℕ) → Type 0

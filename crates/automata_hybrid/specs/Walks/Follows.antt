@@ -11,7 +11,7 @@ use Rattle.automata_hybrid.specs.Cache.Stores.{Stored}
 use Rattle.automata_hybrid.specs.Cache.Table.{IsKnownState}
 use Rattle.automata_hybrid.specs.Machines.Machine.{Machine}
 use Rattle.automata_hybrid.specs.Searches.Cached.{IsOfInput, KnowsItsStart}
-use Rattle.automata_hybrid.specs.Walks.Answers.{HasItsState, HasReported, IsUnheld, IsWalkOf, IsWalkRefusal}
+use Rattle.automata_hybrid.specs.Walks.Answers.{HasItsState, HasReported, IsUnheld, IsWalkOf, IsWalkError}
 use Rattle.automata_hybrid.specs.Walks.Answers.{ReportsNext, start_count}
 use Rattle.automata_hybrid.specs.Walks.Cached.{KnowsItsState, KnowsWalk, KnowsWhich}
 use Rattle.automata_hybrid.specs.Walks.Progress.{IsJoinedAfter, IsOpenAfter, IsSetRun, IsWalkRun, ReadsNoUnit}
@@ -19,16 +19,16 @@ use Rattle.automata_hybrid.specs.Walks.State.{At, Ids, Keeping, States, Walk}
 
 -- why a call fails though all that it uses is cached: because of its input; or, if states are kept, since the one
 -- that reports the next pair cannot be held
-abbrev pub IsKnownRefusal : Keeping → Direction → Machine → Input → Walk → SearchError → Type 0
-IsKnownRefusal Ids way m input walk e = IsOfInput e
-IsKnownRefusal States way m input walk e = IsOfInput e ⊎ ((j : ℕ) × (walk.units ≤ j) × IsUnheld way m input j e)
+abbrev pub IsKnownError : Keeping → Direction → Machine → Input → Walk → SearchError → Type 0
+IsKnownError Ids way m input walk e = IsOfInput e
+IsKnownError States way m input walk e = IsOfInput e ⊎ ((j : ℕ) × (walk.units ≤ j) × IsUnheld way m input j e)
 
 -- why the search for a set fails: a call failed that was to report the pair after the first `k`; the set has the
 -- patterns of these, and was still open with them
-abbrev pub IsWhichRefusal : Machine → Stored → Input → (set joined : List Bool) → SearchError → Type 0
-IsWhichRefusal m c input set joined e =
+abbrev pub IsSetError : Machine → Stored → Input → (set joined : List Bool) → SearchError → Type 0
+IsSetError m c input set joined e =
     (walk : Walk) × (k : ℕ) × HasReported Forward m input walk k
-    × IsWalkRefusal Ids Forward m c input walk k e
+    × IsWalkError Ids Forward m c input walk k e
     × IsJoinedAfter m input set joined k × IsOpenAfter m input set k
 
 -- what follows of a call of a walk that returns this error, or none
@@ -59,10 +59,10 @@ pub record CallFollows (keeping : Keeping) (way : Direction) (m : Machine) (inpu
   -- but the progress
   pub known :
       KnowsWalk way m old.store input walk
-      → IsStill old new × IfSome error (IsKnownRefusal keeping way m input walk)
+      → IsStill old new × IfSome error (IsKnownError keeping way m input walk)
   -- why it fails: the walk cannot go on from where it is, or it fails at a unit
   pub refused :
-      (k : ℕ) → HasReported way m input walk k → IfSome error (IsWalkRefusal keeping way m new.store input walk k)
+      (k : ℕ) → HasReported way m input walk k → IfSome error (IsWalkError keeping way m new.store input walk k)
   -- one that reads no unit changes nothing at all
   pub ready : ReadsNoUnit input walk → new ≡ old
 
@@ -81,7 +81,7 @@ pub record SetFollows (m : Machine) (input : Input) (set joined : List Bool) (ol
   -- with all that cached, it fails because of its input alone, and changes nothing but the progress
   pub known : KnowsWhich m old.store input set → IsStill old new × IfSome error IsOfInput
   -- why it fails: a call of its walk does
-  pub refused : IfSome error (IsWhichRefusal m new.store input set joined)
+  pub refused : IfSome error (IsSetError m new.store input set joined)
   -- with a span that is done, nothing at all
   pub done : input.end < input.start → new ≡ old
 

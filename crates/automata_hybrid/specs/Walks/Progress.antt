@@ -17,9 +17,9 @@ use Rattle.automata_hybrid.specs.Cache.Growth.{PutsBack}
 use Rattle.automata_hybrid.specs.Searches.Progress.{AreUnitsRead, HasEndedAfter, HasItsStart, HasNoStart, IsLeftAt}
 use Rattle.automata_hybrid.specs.Searches.Progress.{IsUnitRead}
 use Rattle.automata_hybrid.specs.Searches.Progress.{with_search_begun, with_search_moved}
-use Rattle.automata_hybrid.specs.Searches.Passes.{HasReadNoQuit, IsUnitRefusal}
+use Rattle.automata_hybrid.specs.Searches.Passes.{HasReadNoQuit, IsUnitError}
 use Rattle.automata_hybrid.specs.Cache.Table.{IsKnownState}
-use Rattle.automata_hybrid.specs.Walks.Answers.{AreWalked, HasItsState, IsResumeRefusal, IsSilent, IsUnheld}
+use Rattle.automata_hybrid.specs.Walks.Answers.{AreWalked, HasItsState, IsResumeError, IsSilent, IsUnheld}
 use Rattle.automata_hybrid.specs.Walks.Answers.{ReportsNext, WalkReads}
 use Rattle.automata_hybrid.specs.Walks.State.{At, Ended, Fresh, Ids, Keeping, Stage, States, Walk, fresh_walk}
 
@@ -66,9 +66,9 @@ EndsCall way m input walk next old new =
 
 -- a call fails at the unit at place `k`; or the unit was read, and the state after it cannot be held
 abbrev pub IsCallLeftAt : Keeping → Direction → Machine → Input → (k : ℕ) → (old new : CacheView) → SearchError → Type 0
-IsCallLeftAt Ids way m input k old new e = IsUnitRefusal way m new.store input k e × IsLeftAt way m input k old new
+IsCallLeftAt Ids way m input k old new e = IsUnitError way m new.store input k e × IsLeftAt way m input k old new
 IsCallLeftAt States way m input k old new e =
-    (IsUnitRefusal way m new.store input k e × IsLeftAt way m input k old new)
+    (IsUnitError way m new.store input k e × IsLeftAt way m input k old new)
     ⊎ (IsUnheld way m input k e × IsUnitRead way m input k (with_search_moved way input k old) new)
 
 -- a call that has begun at a place failed after the first so many units from there, which report nothing
@@ -83,7 +83,7 @@ IsCallStopped keeping way m input from begun new e =
 abbrev pub LeavesCall : Keeping → Direction → Machine → Input → Walk → (old new : CacheView) → SearchError → Type 0
 LeavesCall keeping way m input walk old new e =
     (ReadsNoUnit input walk → ⊥)
-    × ((IsResumeRefusal way m new.store input walk.stage walk.units e
+    × ((IsResumeError way m new.store input walk.stage walk.units e
     × IsNotResumed way m input walk.stage old new)
     ⊎ ((begun : CacheView) × IsResumed way m input walk.stage old begun
     × IsCallStopped keeping way m input walk.units (with_search_begun way input walk.units begun) new e))

@@ -1,7 +1,7 @@
 //! The builder of lazy DFAs, and two DFAs that need no pattern: one that always matches, and one that never does.
 ghost use Rattle.std.specs.Prelude.{◌≡◌, IfOk, IfErr, None};
 ghost use Rattle.automata_config.specs.Options.{unset, overwritten};
-ghost use Rattle.automata_config.specs.Settling.{settling_refusal};
+ghost use Rattle.automata_config.specs.Settling.{settling_error};
 ghost use Rattle.automata_hybrid.specs.Machines.Builds.{Builds, always_matching, never_matching, one_state};
 
 use crate::dfa::DFA;
@@ -74,7 +74,7 @@ impl Builder {
     /// ```
     pub fn build_from_nfa(&self, nfa: NFA) -> Result<DFA, BuildError>
         ensures ok { IfOk result (Builds self.now nfa) }
-        ensures refused { result_err result ≡ settling_refusal self.now nfa }
+        ensures refused { result_err result ≡ settling_error self.now nfa }
     {
         let settled = self.config.settle(&nfa)?;
         let dfa = DFA::of_settled(nfa, self.config, settled);
@@ -84,7 +84,7 @@ impl Builder {
 
 /// The DFA of an NFA of one state, with the default settings. The only error is out of memory.
 fn of_state(alloc: Global, state: State, starts: Vec<StateID>) -> Result<DFA, BuildError>
-    requires { settling_refusal unset (one_state state starts.items) ≡ None }
+    requires { settling_error unset (one_state state starts.items) ≡ None }
     ensures refused { IfErr result (λ e. e ≡ BuildError.OutOfMemory) }
     ensures built { IfOk result (Builds unset (one_state state starts.items)) }
 {

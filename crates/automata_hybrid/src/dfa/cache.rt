@@ -20,7 +20,7 @@ ghost use Rattle.automata_hybrid.specs.Cache.Stores.{with_searched};
 ghost use Rattle.automata_hybrid.specs.Cache.Usage.{cleared, usage, Fits};
 ghost use Rattle.automata_hybrid.specs.Cache.Changes.{AddsNext, AddsRow};
 ghost use Rattle.automata_hybrid.specs.Cache.Caches.{HoldsRow, IsCacheOf, IsStoreOf, counted, fresh_cache, with_store};
-ghost use Rattle.automata_hybrid.specs.Cache.Growth.{IsAddRefused, PutsBack};
+ghost use Rattle.automata_hybrid.specs.Cache.Growth.{AddFails, PutsBack};
 ghost use Rattle.automata_hybrid.specs.Steps.Starts.{IsStartSlot};
 ghost use Rattle.automata_hybrid.specs.Walks.State.{IsHandle};
 ghost use Rattle.automata_hybrid.specs.Cache.Progress.{progress_finished, progress_started, progress_updated};
@@ -220,7 +220,7 @@ impl Cache {
         ensures of { IsCacheOf self.new dfa.now }
         ensures named { IfOk result (λ id. Names self.new.store.table id state.now) }
         ensures back { OnOk result (PutsBack state.now self.old self.new) }
-        ensures refused { IfErr result (IsAddRefused self.old self.new state.now) }
+        ensures refused { IfErr result (AddFails self.old self.new state.now) }
     {
         self.see_bounds();
         if self.store.gives_up(state) {
@@ -304,7 +304,7 @@ impl Cache {
         requires new { IsNewState self.old.store.table state }
         ensures answer { IfOk result (λ p. AddsNext self.old.store self.new.store from state p.0 p.1) }
         ensures counted { self.new.count ≡ self.old.count }
-        ensures refused { IfErr result (IsAddRefused self.old self.new state) }
+        ensures refused { IfErr result (AddFails self.old self.new state) }
     {
         let bytes = self.store.cost_of(&state);
         if self.store.fits(bytes) {
@@ -332,7 +332,7 @@ impl Cache {
         requires full { Fits self.old.store (cost state) → ⊥ }
         ensures answer { IfOk result (λ p. AddsNext self.old.store self.new.store from state p.0 p.1) }
         ensures counted { self.new.count ≡ self.old.count }
-        ensures refused { IfErr result (IsAddRefused self.old self.new state) }
+        ensures refused { IfErr result (AddFails self.old self.new state) }
     {
         let mut fresh = self.store.cleared(dfa)?;
         let from = fresh.keep_saved(&self.store.table, from)?;
@@ -393,7 +393,7 @@ impl Cache {
         ensures answer { IfOk result (AddsRow self.old.store (cleared self.old.store) self.new.store
             (record { state = state; started = started })) }
         ensures counted { self.new.count ≡ self.old.count }
-        ensures refused { IfErr result (IsAddRefused self.old self.new state) }
+        ensures refused { IfErr result (AddFails self.old self.new state) }
     {
         let bytes = self.store.cost_of(&state);
         if self.store.fits(bytes) {
@@ -420,7 +420,7 @@ impl Cache {
         ensures answer { IfOk result (AddsRow self.old.store (cleared self.old.store) self.new.store
             (record { state = state; started = started })) }
         ensures counted { self.new.count ≡ self.old.count }
-        ensures refused { IfErr result (IsAddRefused self.old self.new state) }
+        ensures refused { IfErr result (AddFails self.old self.new state) }
     {
         let fresh = self.store.cleared(dfa)?;
         self.leaping = Leaping::new();

@@ -8,9 +8,9 @@ ghost use Rattle.automata_base.specs.ByteClasses.Classes.{is_quit};
 ghost use Rattle.automata_base.specs.Retraced.Steps.{start_state_of};
 ghost use Rattle.automata_base.specs.Haystacks.Tapes.{byte_before};
 ghost use Rattle.std.specs.Prelude.{slice_get, false};
-ghost use Rattle.automata_hybrid.specs.Steps.Starts.{quit_behind, start_refusal, search_refusal, KnowsStart};
+ghost use Rattle.automata_hybrid.specs.Steps.Starts.{quit_behind, start_error, start_search_error, KnowsStart};
 ghost use Rattle.automata_hybrid.specs.Steps.Starts.{IsStartSlot};
-ghost use Rattle.automata_hybrid.specs.Steps.Starts.{IsStartAnswer, IsStartRefused, IsStartRefusedAt, IsStartEffect};
+ghost use Rattle.automata_hybrid.specs.Steps.Starts.{IsStartAnswer, StartFails, StartFailsAt, IsStartEffect};
 ghost use Rattle.automata_hybrid.specs.Machines.StartSlots.{supports, slot_of};
 ghost use Rattle.automata_hybrid.specs.Steps.BySteps.{StartsAt};
 ghost use Rattle.automata_hybrid.specs.Cache.Caches.{IsCacheOf};
@@ -37,7 +37,7 @@ impl Cache {
         requires slot { IsStartSlot dfa.now mode prev slot }
         ensures of { IsCacheOf self.new dfa.now }
         ensures answer { IfOk result (IsStartAnswer dfa.now mode prev self.old self.new) }
-        ensures refusal { IfErr result (IsStartRefused dfa.now mode prev self.old self.new) }
+        ensures refusal { IfErr result (StartFails dfa.now mode prev self.old self.new) }
         ensures effect { IsStartEffect dfa.now mode prev self.old self.new }
     {
         self.see_bounds();
@@ -47,7 +47,7 @@ impl Cache {
         }
         match self.compute_start(dfa, slot, mode, prev) {
             Ok(id) => Ok(id),
-            Err(error) => Err(start_refusal(error)),
+            Err(error) => Err(start_error(error)),
         }
     }
 
@@ -65,7 +65,7 @@ impl Cache {
         requires unknown { KnowsStart dfa.now self.old.store mode prev → ⊥ }
         ensures of { IsCacheOf self.new dfa.now }
         ensures answer { IfOk result (IsStartAnswer dfa.now mode prev self.old self.new) }
-        ensures refusal { IfErr result (λ e. IsStartRefused dfa.now mode prev self.old self.new (start_refusal e)) }
+        ensures refusal { IfErr result (λ e. StartFails dfa.now mode prev self.old self.new (start_error e)) }
         ensures effect { IsStartEffect dfa.now mode prev self.old self.new }
     {
         self.see_bounds();
@@ -198,8 +198,8 @@ impl DFA {
 }
 
 /// The error of a start state.
-fn start_refusal(error: StepError) -> StartError
-    ensures { result ≡ start_refusal error }
+fn start_error(error: StepError) -> StartError
+    ensures { result ≡ start_error error }
 {
     match error {
         StepError::Cache(err) => StartError::Cache { err },
@@ -244,7 +244,7 @@ impl DFA {
         ensures answer { IfOk result
             (IsStartAnswer self.now config.now.anchored config.now.look_behind cache.old cache.new) }
         ensures refusal { IfErr result
-            (IsStartRefused self.now config.now.anchored config.now.look_behind cache.old cache.new) }
+            (StartFails self.now config.now.anchored config.now.look_behind cache.old cache.new) }
         ensures effect { IsStartEffect self.now config.now.anchored config.now.look_behind cache.old cache.new }
     {
         if let Some(byte) = self.quits_behind(config.get_look_behind()) {
@@ -303,7 +303,7 @@ impl DFA {
             (IsStartAnswer self.now input.now.anchored (byte_before input.now.haystack input.now.start)
             cache.old cache.new) }
         ensures refusal { IfErr result
-            (IsStartRefusedAt self.now input.now.anchored (byte_before input.now.haystack input.now.start)
+            (StartFailsAt self.now input.now.anchored (byte_before input.now.haystack input.now.start)
             (input.now.start - 1) input.now.start cache.old cache.new) }
         ensures effect { IsStartEffect self.now input.now.anchored
             (byte_before input.now.haystack input.now.start) cache.old cache.new }
@@ -316,7 +316,7 @@ impl DFA {
                 cache.see_bounds();
                 Ok(id)
             }
-            Err(error) => Err(search_refusal(
+            Err(error) => Err(start_search_error(
                 error,
                 input.start().saturating_sub(1),
                 input.start(),
@@ -341,7 +341,7 @@ impl DFA {
             (IsStartAnswer self.now input.now.anchored (slice_get input.now.haystack input.now.end)
             cache.old cache.new) }
         ensures refusal { IfErr result
-            (IsStartRefusedAt self.now input.now.anchored (slice_get input.now.haystack input.now.end)
+            (StartFailsAt self.now input.now.anchored (slice_get input.now.haystack input.now.end)
             input.now.end input.now.end cache.old cache.new) }
         ensures effect { IsStartEffect self.now input.now.anchored (slice_get input.now.haystack input.now.end)
             cache.old cache.new }
@@ -349,14 +349,14 @@ impl DFA {
         let config = start::Config::from_input_reverse(input);
         match self.start_state(cache, &config) {
             Ok(id) => Ok(id),
-            Err(error) => Err(search_refusal(error, input.end(), input.end())),
+            Err(error) => Err(start_search_error(error, input.end(), input.end())),
         }
     }
 }
 
 /// A start state's error as a search reports it: a quit byte at one offset, the "gave up" error at another.
-fn search_refusal(error: StartError, behind: usize, at: usize) -> SearchError
-    ensures { result ≡ search_refusal error behind at }
+fn start_search_error(error: StartError, behind: usize, at: usize) -> SearchError
+    ensures { result ≡ start_search_error error behind at }
 {
     match error {
         StartError::Cache { .. } => SearchError::Match(MatchError::gave_up(at)),

@@ -10,7 +10,7 @@ ghost use Rattle.automata_hybrid.specs.Cache.Caches.{HoldsRow, IsCacheOf};
 ghost use Rattle.automata_hybrid.specs.Cache.Ids.{quit_id, unknown_id, offset_limit, HasMatchTag};
 ghost use Rattle.automata_base.specs.ByteClasses.Classes.{class_in, is_quit};
 ghost use Rattle.automata_hybrid.specs.Steps.BySteps.{StepsOn};
-ghost use Rattle.automata_hybrid.specs.Steps.Steps.{IsStepAnswer, IsStepRefused, IsStepEffect, KnowsStep};
+ghost use Rattle.automata_hybrid.specs.Steps.Steps.{IsStepAnswer, StepFails, IsStepEffect, KnowsStep};
 ghost use Rattle.automata_hybrid.specs.Machines.Machine.{quits_on};
 ghost use Rattle.automata_config.specs.Options.{match_kind_of};
 
@@ -34,7 +34,7 @@ impl Cache {
         requires row { HoldsRow self.old id }
         ensures of { IsCacheOf self.new dfa.now }
         ensures answer { IfOk result (IsStepAnswer dfa.now id unit self.old self.new) }
-        ensures refusal { IfErr result (IsStepRefused dfa.now id unit self.old self.new) }
+        ensures refusal { IfErr result (StepFails dfa.now id unit self.old self.new) }
         ensures effect { IsStepEffect dfa.now id unit self.old self.new }
         ensures stands { IfOk result (StepsOn dfa.now self.old self.new id unit) }
     {
@@ -66,7 +66,7 @@ impl Cache {
         requires unknown { KnowsStep dfa.now self.old.store id unit → ⊥ }
         ensures of { IsCacheOf self.new dfa.now }
         ensures answer { IfOk result (IsStepAnswer dfa.now id unit self.old self.new) }
-        ensures refusal { IfErr result (IsStepRefused dfa.now id unit self.old self.new) }
+        ensures refusal { IfErr result (StepFails dfa.now id unit self.old self.new) }
         ensures effect { IsStepEffect dfa.now id unit self.old self.new }
     {
         self.see_bounds();
@@ -110,7 +110,7 @@ impl DFA {
         requires row { HoldsRow cache.old id }
         ensures of { IsCacheOf cache.new self.now }
         ensures answer { IfOk result (IsStepAnswer self.now id (Some byte) cache.old cache.new) }
-        ensures refusal { IfErr result (IsStepRefused self.now id (Some byte) cache.old cache.new) }
+        ensures refusal { IfErr result (StepFails self.now id (Some byte) cache.old cache.new) }
         ensures effect { IsStepEffect self.now id (Some byte) cache.old cache.new }
         ensures stands { IfOk result (StepsOn self.now cache.old cache.new id (Some byte)) }
     {
@@ -130,7 +130,7 @@ impl DFA {
         requires row { HoldsRow cache.old id }
         ensures of { IsCacheOf cache.new self.now }
         ensures answer { IfOk result (IsStepAnswer self.now id None cache.old cache.new) }
-        ensures refusal { IfErr result (IsStepRefused self.now id None cache.old cache.new) }
+        ensures refusal { IfErr result (StepFails self.now id None cache.old cache.new) }
         ensures effect { IsStepEffect self.now id None cache.old cache.new }
         ensures stands { IfOk result (StepsOn self.now cache.old cache.new id None) }
     {

@@ -9,7 +9,7 @@ ghost use Rattle.automata_base.specs.Haystacks.Tapes.{is_split};
 ghost use Rattle.automata_hybrid.specs.Cache.Caches.{IsCacheOf};
 ghost use Rattle.automata_hybrid.specs.Searches.PassState.{IsFollowed, IsMet};
 ghost use Rattle.automata_hybrid.specs.Walks.Parts.{IsAdvanceEffect, IsUnitEffect, StandsAfterUnits};
-ghost use Rattle.automata_hybrid.specs.Searches.Passes.{HasReadNoQuit, IsUnitRefusal, Skips};
+ghost use Rattle.automata_hybrid.specs.Searches.Passes.{HasReadNoQuit, IsUnitError, Skips};
 ghost use Rattle.automata_hybrid.specs.Searches.Passes.{state_in, tape_in, unit_offset};
 ghost use Rattle.automata_hybrid.specs.Cache.Table.{IsRowId, Leads, Names};
 ghost use Rattle.automata_hybrid.specs.Walks.Answers.{IsArrival, WalkReads};
@@ -53,7 +53,7 @@ impl DFA {
         ensures clean { OnOk result ((byte : ℕ) → next (tape_in way input.now) place ≡ Some byte
             → is_quit self.now.quits byte ≡ false) }
         ensures reads { WalkReads way self.now input.now place }
-        ensures refusal { IfErr result (IsUnitRefusal way self.now cache.new.store input.now place) }
+        ensures refusal { IfErr result (IsUnitError way self.now cache.new.store input.now place) }
         ensures effect { IsUnitEffect way self.now input.now place cache.old cache.new result }
     {
         cache.see_bounds();

@@ -7,7 +7,7 @@ ghost use Rattle.automata_hybrid.specs.Cache.Caches.{IsCacheOf, with_store};
 ghost use Rattle.automata_hybrid.specs.Cache.Progress.{distance};
 ghost use Rattle.automata_hybrid.specs.Searches.Progress.{KeepsNone, before_last};
 ghost use Rattle.automata_hybrid.specs.Searches.Passes.{behind_offset, given_up_offset, tape_in, unit_offset};
-ghost use Rattle.automata_hybrid.specs.Steps.Starts.{IsStartAnswer, IsStartEffect, IsStartRefusedAt};
+ghost use Rattle.automata_hybrid.specs.Steps.Starts.{IsStartAnswer, IsStartEffect, StartFailsAt};
 ghost use Rattle.automata_hybrid.specs.Cache.Stores.{with_searched};
 ghost use Rattle.automata_hybrid.specs.Searches.SelfLoops.{byte_in};
 
@@ -225,7 +225,7 @@ impl DFA {
         ensures answer { IfOk result (IsStartAnswer self.now input.now.anchored (tape_in way input.now).before
             cache.old cache.new) }
         ensures refusal { IfErr result
-            (IsStartRefusedAt self.now input.now.anchored (tape_in way input.now).before
+            (StartFailsAt self.now input.now.anchored (tape_in way input.now).before
             (behind_offset way input.now) (offset_in way input.now 0) cache.old cache.new) }
         ensures effect { IsStartEffect self.now input.now.anchored (tape_in way input.now).before
             cache.old cache.new }

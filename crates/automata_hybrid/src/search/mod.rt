@@ -9,9 +9,9 @@ ghost use Rattle.std.specs.Prelude.{Some, None, true, false};
 ghost use Rattle.automata_base.specs.Powersets.Powerset.{Powerset};
 ghost use Rattle.automata_hybrid.specs.Cache.Caches.{IsCacheOf};
 ghost use Rattle.automata_base.specs.Haystacks.Tapes.{is_split};
-ghost use Rattle.automata_hybrid.specs.Searches.PassState.{half_at, step_refusal};
-ghost use Rattle.automata_hybrid.specs.Searches.Units.{IsReadAnswer, IsReadEffect, IsReadRefusal};
-ghost use Rattle.automata_hybrid.specs.Searches.Units.{IsStepRefusedAt};
+ghost use Rattle.automata_hybrid.specs.Searches.PassState.{half_at, step_error};
+ghost use Rattle.automata_hybrid.specs.Searches.Units.{IsReadAnswer, IsReadEffect, ReadFails};
+ghost use Rattle.automata_hybrid.specs.Searches.Units.{StepFailsAt};
 ghost use Rattle.automata_hybrid.specs.Calls.Events.{End, Move, with_progress};
 ghost use Rattle.automata_hybrid.specs.Searches.Passes.{Skips};
 ghost use Rattle.automata_base.specs.declared.util.search.MatchErrorKind.TheVariants.{Quit as QuitAt};
@@ -41,8 +41,8 @@ use automata_base::util::search::{HalfMatch, Input, MatchError};
 use automata_config::error::{SearchError, StepError};
 
 /// The error of a step, at an offset.
-fn refusal(error: StepError, at: usize) -> SearchError
-    ensures { result ≡ step_refusal error at }
+fn step_error(error: StepError, at: usize) -> SearchError
+    ensures { result ≡ step_error error at }
 {
     match error {
         StepError::Cache(_) => SearchError::Match(MatchError::gave_up(at)),
@@ -104,12 +104,12 @@ impl DFA {
         requires valid { IsRowId cache.old.store.table id }
         ensures of { IsCacheOf cache.new self.now }
         ensures answer { IfOk result (IsStepAnswer self.now id (Some byte) cache.old cache.new) }
-        ensures refusal { IfErr result (IsStepRefusedAt self.now id (Some byte) at cache.old cache.new) }
+        ensures refusal { IfErr result (StepFailsAt self.now id (Some byte) at cache.old cache.new) }
         ensures effect { IsStepEffect self.now id (Some byte) cache.old cache.new }
     {
         match self.next_state(cache, id, byte) {
             Ok(next) => Ok(next),
-            Err(error) => Err(refusal(error, at)),
+            Err(error) => Err(step_error(error, at)),
         }
     }
 
@@ -128,7 +128,7 @@ impl DFA {
         requires met { met < unknown_id → met ≡ known_step self.now cache.old.store id (Some byte) }
         ensures of { IsCacheOf cache.new self.now }
         ensures answer { IfOk result (IsStepAnswer self.now id (Some byte) cache.old cache.new) }
-        ensures refusal { IfErr result (IsStepRefusedAt self.now id (Some byte) at cache.old cache.new) }
+        ensures refusal { IfErr result (StepFailsAt self.now id (Some byte) at cache.old cache.new) }
         ensures effect { IsStepEffect self.now id (Some byte) cache.old cache.new }
     {
         if met.is_unknown() {
@@ -156,7 +156,7 @@ impl DFA {
         requires met { met < unknown_id → met ≡ known_step self.now cache.old.store id (Some byte) }
         ensures of { IsCacheOf cache.new self.now }
         ensures answer { IfOk result (IsReadAnswer self.now id (Some byte) cache.old cache.new) }
-        ensures refusal { IfErr result (IsReadRefusal self.now id (Some byte) quit_at at cache.old cache.new) }
+        ensures refusal { IfErr result (ReadFails self.now id (Some byte) quit_at at cache.old cache.new) }
         ensures effect { IsReadEffect self.now id (Some byte) (with_progress (Move at) cache.old)
             (with_progress (End at) cache.old) cache.new result }
     {
@@ -189,7 +189,7 @@ impl DFA {
         requires met { met < unknown_id → met ≡ known_step self.now cache.old.store id unit }
         ensures of { IsCacheOf cache.new self.now }
         ensures answer { IfOk result (IsReadAnswer self.now id unit cache.old cache.new) }
-        ensures refusal { IfErr result (IsReadRefusal self.now id unit quit_at at cache.old cache.new) }
+        ensures refusal { IfErr result (ReadFails self.now id unit quit_at at cache.old cache.new) }
         ensures effect { IsReadEffect self.now id unit (with_progress (Move at) cache.old)
             (with_progress (End at) cache.old) cache.new result }
     {
@@ -215,7 +215,7 @@ impl DFA {
         requires valid { IsRowId cache.old.store.table id }
         ensures of { IsCacheOf cache.new self.now }
         ensures answer { IfOk result (IsReadAnswer self.now id unit cache.old cache.new) }
-        ensures refusal { IfErr result (IsReadRefusal self.now id unit quit_at at cache.old cache.new) }
+        ensures refusal { IfErr result (ReadFails self.now id unit quit_at at cache.old cache.new) }
         ensures effect { IsReadEffect self.now id unit cache.old cache.old cache.new result }
     {
         self.see_machine();
@@ -244,7 +244,7 @@ impl DFA {
         requires valid { IsRowId cache.old.store.table id }
         ensures of { IsCacheOf cache.new self.now }
         ensures answer { IfOk result (IsReadAnswer self.now id None cache.old cache.new) }
-        ensures refusal { IfErr result (IsReadRefusal self.now id None at at cache.old cache.new) }
+        ensures refusal { IfErr result (ReadFails self.now id None at at cache.old cache.new) }
         ensures effect { IsReadEffect self.now id None cache.old cache.old cache.new result }
     {
         self.see_machine();
@@ -254,7 +254,7 @@ impl DFA {
                 cache.see_bounds();
                 Ok(next)
             }
-            Err(error) => Err(refusal(error, at)),
+            Err(error) => Err(step_error(error, at)),
         }
     }
 

@@ -4,7 +4,7 @@ ghost use Rattle.std.specs.Prelude.{length, slice_index};
 ghost use Rattle.std.specs.Result.{result_err};
 ghost use Rattle.automata_base.specs.Powersets.Powerset.{Powerset};
 ghost use Rattle.automata_base.specs.declared.util.search.Direction.TheVariants.{Forward, Backward};
-ghost use Rattle.automata_hybrid.specs.Cache.Growth.{IsAddRefused};
+ghost use Rattle.automata_hybrid.specs.Cache.Growth.{AddFails};
 ghost use Rattle.automata_hybrid.specs.Cache.Caches.{IsCacheOf};
 ghost use Rattle.automata_hybrid.specs.Walks.Contracts.{IsWalkCall};
 ghost use Rattle.automata_hybrid.specs.Walks.Parts.{HoldsOn, IsCallAnswer, IsHeldWalk, IsKeptWalk};
@@ -14,7 +14,7 @@ ghost use Rattle.automata_hybrid.specs.Searches.Passes.{tape_in};
 ghost use Rattle.automata_hybrid.specs.Steps.Starts.{MayStart};
 ghost use Rattle.automata_hybrid.specs.Cache.Table.{IsKnownState, IsRowState, Names};
 ghost use Rattle.automata_hybrid.specs.Walks.Answers.{Arrives, HasReported, HasReportedBy};
-ghost use Rattle.automata_hybrid.specs.Walks.Answers.{IsResumeRefusal, IsWalkOf};
+ghost use Rattle.automata_hybrid.specs.Walks.Answers.{IsResumeError, IsWalkOf};
 ghost use Rattle.automata_hybrid.specs.Walks.Answers.{ReportsNext};
 ghost use Rattle.automata_hybrid.specs.Walks.State.{At, Ended, IsHeldAt, States, keeping_of, without_match};
 
@@ -22,7 +22,7 @@ use crate::dfa::DFA;
 use crate::dfa::cache::Cache;
 use crate::id::LazyStateID;
 use crate::search::direction::{last_place, place_offset, span_offset};
-use crate::search::refusal;
+use crate::search::step_error;
 use crate::search::walk::{Cursor, Handle, Held, OverlappingState};
 use automata_base::laws::walk_is_right;
 use automata_base::util::primitives::PatternID;
@@ -95,7 +95,7 @@ impl DFA {
         ensures of { IsCacheOf cache.new self.now }
         ensures named { IfOk result (λ id. Names cache.new.store.table id handle.now.state) }
         ensures row { OnOk result (HasItsRow self.now handle.now.state cache.old cache.new) }
-        ensures refused { IfErr result (IsAddRefused cache.old cache.new handle.now.state) }
+        ensures refused { IfErr result (AddFails cache.old cache.new handle.now.state) }
         ensures lacks { OnErr result (IsKnownState cache.old.store.table handle.now.state → ⊥) }
     {
         cache.see_bounds();
@@ -123,7 +123,7 @@ impl DFA {
         ensures answer { IfOk result
             (IsResumeAnswer way self.now input.now walk.now cache.new.store) }
         ensures refusal { IfErr result
-            (IsResumeRefusal way self.now cache.new.store input.now walk.now.stage walk.now.units) }
+            (IsResumeError way self.now cache.new.store input.now walk.now.stage walk.now.units) }
         ensures resumed { OnOk result (IsResumed way self.now input.now walk.now.stage cache.old cache.new) }
         ensures left { OnErr result (IsNotResumed way self.now input.now walk.now.stage cache.old cache.new) }
     {
@@ -137,7 +137,7 @@ impl DFA {
             Held::Row(Some(id)) => Ok(*id),
             Held::State(Some(handle)) => match self.put_back(cache, handle) {
                 Ok(id) => Ok(id),
-                Err(error) => Err(refusal(error, span_offset(input, way, walk.units()))),
+                Err(error) => Err(step_error(error, span_offset(input, way, walk.units()))),
             },
             Held::Row(None) | Held::State(None) => Err(SearchError::OutOfMemory),
         }

@@ -13,7 +13,7 @@ ghost use Rattle.automata_hybrid.specs.Searches.PassContracts.{IsUnderway, input
 ghost use Rattle.automata_hybrid.specs.Searches.PassState.{HasRun, IsAt, IsMet};
 ghost use Rattle.automata_hybrid.specs.Searches.Units.{IsEndProgress, IsStillProgress};
 ghost use Rattle.automata_hybrid.specs.Searches.Progress.{EndsAtLast, IsPassRun, IsStoppedAt, KeepsNone};
-ghost use Rattle.automata_hybrid.specs.Searches.Passes.{IsUnitRefusal};
+ghost use Rattle.automata_hybrid.specs.Searches.Passes.{IsUnitError};
 ghost use Rattle.automata_hybrid.specs.Cache.Table.{Names};
 
 use crate::dfa::DFA;
@@ -367,7 +367,7 @@ impl DFA {
         ensures of { IsCacheOf cache.new self.now }
         ensures answer { IfOk result (IsPassAnswer way self.now input.now) }
         ensures refusal { IfErr result
-            (IsUnitRefusal way self.now cache.new.store input.now (input.now.end - input.now.start)) }
+            (IsUnitError way self.now cache.new.store input.now (input.now.end - input.now.start)) }
         ensures alive { (q : Powerset) → Names cache.old.store.table id q → q ≡ dead → ⊥ }
         ensures progress { IsEndProgress way self.now input.now (input.now.end - input.now.start)
             cache.old cache.new result }
@@ -400,7 +400,7 @@ impl DFA {
         requires at { IsUnderway way self.now cache.old.store.table input.now 0 id None }
         ensures of { IsCacheOf cache.new self.now }
         ensures answer { IfOk result (IsPassAnswer way self.now input.now) }
-        ensures refusal { IfErr result (IsUnitRefusal way self.now cache.new.store input.now 0) }
+        ensures refusal { IfErr result (IsUnitError way self.now cache.new.store input.now 0) }
         ensures progress { IsStillProgress way self.now input.now cache.old cache.new result }
     {
         let at = span_offset(input, way, 0);

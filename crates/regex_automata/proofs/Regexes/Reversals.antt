@@ -12,13 +12,13 @@ use Rattle.automata_base.specs.Nfas.Unions.{IsKeepingUnions}
 use Rattle.automata_base.specs.Answers.TruePairs.{IsTruePair, KeepsUtf8}
 use Rattle.automata_base.proofs.Answers.KeptUnions.{pair_with, utf8_with}
 use Rattle.automata_config.specs.Options.{Options, match_kind_of}
-use Rattle.automata_config.specs.Settling.{settling_refusal}
+use Rattle.automata_config.specs.Settling.{settling_error}
 use Rattle.automata_config.specs.declared.error.BuildError.{BuildError}
 use Rattle.automata_config.specs.declared.error.BuildError.TheVariants.{PatternCounts}
 use Rattle.automata_config.proofs.KeptUnions.{settling_with}
 use Rattle.automata_hybrid.specs.Machines.Machine.{Machine}
 use Rattle.regex_automata.specs.declared.hybrid.regex.Regex.{Regex}
-use Rattle.regex_automata.specs.Regexes.Builds.{BuildsPair, backward, pair_refusal, pattern_count}
+use Rattle.regex_automata.specs.Regexes.Builds.{BuildsPair, backward, pair_error, pattern_count}
 use Rattle.regex_automata.specs.Regexes.SoundPairs.{IsSoundPair, forward_engine, reverse_engine}
 
 module _ (o : Options) (a b : Automaton) (p : Regex) (built : BuildsPair o a b p) where
@@ -54,12 +54,12 @@ module _ (o : Options) (a kept b : Automaton) (keeping : IsKeepingUnions a kept)
       subst (λ (k : Automaton). KeepsUtf8 Forward (engine_of k kind)) (sym keeping.0)
       (utf8_with a kind a.keeps_unions kept.keeps_unions Forward (utf8 kind))) cycles
 
-  refusal_with : (v : Bool) → pair_refusal o (record a { keeps_unions = v }) b ≡ pair_refusal o a b
+  refusal_with : (v : Bool) → pair_error o (record a { keeps_unions = v }) b ≡ pair_error o a b
   refusal_with v =
-      ap (λ r. if pattern_count a == pattern_count b then option_or r (settling_refusal (backward o) b)
+      ap (λ r. if pattern_count a == pattern_count b then option_or r (settling_error (backward o) b)
       else Some (PatternCounts (pattern_count a) (pattern_count b))) (settling_with o a v)
 
-  pub refused_of : (e : BuildError) → pair_refusal o kept b ≡ Some e → pair_refusal o a b ≡ Some e
+  pub refused_of : (e : BuildError) → pair_error o kept b ≡ Some e → pair_error o a b ≡ Some e
   refused_of e refused =
-      sym (subst (λ (k : Automaton). pair_refusal o k b ≡ pair_refusal o a b) (sym keeping.0) (refusal_with kept.keeps_unions))
+      sym (subst (λ (k : Automaton). pair_error o k b ≡ pair_error o a b) (sym keeping.0) (refusal_with kept.keeps_unions))
       ∙ refused

@@ -21,7 +21,7 @@ use Rattle.regex_automata.specs.Regexes.Caches.{AreCachesOf, AreFresh, AreStores
 use Rattle.regex_automata.specs.Replay.Caches.{AreOfCurrent}
 use Rattle.regex_automata.specs.Replay.Histories.{History}
 use Rattle.automata_base.proofs.Paths.Orders.{some_inj}
-use Rattle.regex_automata.specs.Spans.Errors.{IsFree, IsOfMemory, IsRegexRefusal}
+use Rattle.regex_automata.specs.Spans.Errors.{IsFree, IsOfMemory, IsRegexError}
 use Rattle.regex_automata.specs.Regexes.SoundPairs.{BothKeepCycles, IsSoundPair, forward_engine, reverse_engine}
 use Rattle.regex_automata.specs.declared.hybrid.regex.Regex.{Regex}
 use Rattle.regex_automata.specs.declared.hybrid.regex.caches.Cache.{Cache}
@@ -43,7 +43,7 @@ of_current regexes h c p at of forward reverse = λ r is.
 
 pub memory_of_sound :
     (p : Regex) (c : Cache) (input : Input) (e : SearchError)
-    → IsSoundPair p → IsFree p input → IsRegexRefusal p c input e → IsMemory e
+    → IsSoundPair p → IsFree p input → IsRegexError p c input e → IsMemory e
 memory_of_sound p c input e sound free h = go (h.free free) where
   go : IsOfMemory e → IsMemory e
   go (inl memory) = memory
@@ -51,13 +51,13 @@ memory_of_sound p c input e sound free h = go (h.free free) where
 
 refused_free :
     {T : Type 0} (r : Result T SearchError) (p : Regex) (c : Cache) (input : Input)
-    → IfSome (result_err r) (IsRegexRefusal p c input) → IsFree p input → IfErr r IsOfMemory
+    → IfSome (result_err r) (IsRegexError p c input) → IsFree p input → IfErr r IsOfMemory
 refused_free (Ok x) p c input h free = tt
 refused_free (Err e) p c input h free = h.free free
 
 refused_sound :
     {T : Type 0} (r : Result T SearchError) (p : Regex) (c : Cache) (input : Input)
-    → IfSome (result_err r) (IsRegexRefusal p c input) → IsSoundPair p → IsFree p input → IfErr r IsMemory
+    → IfSome (result_err r) (IsRegexError p c input) → IsSoundPair p → IsFree p input → IfErr r IsMemory
 refused_sound (Ok x) p c input h sound free = tt
 refused_sound (Err e) p c input h sound free = memory_of_sound p c input e sound free h
 
@@ -67,7 +67,7 @@ pub span_returned :
     → IsSpanReported p input r
     → (BothKeepCycles p → IfOk r (TryFinds (forward_engine p) (reverse_engine p) input))
     → (IsSoundPair p → IfOk r (IsSpan (forward_engine p) input))
-    → IfSome (result_err r) (IsRegexRefusal p c input)
+    → IfSome (result_err r) (IsRegexError p c input)
     → IsSpanOf p input r
 span_returned p input r c reported answer span errors = record {
   answer = answer;

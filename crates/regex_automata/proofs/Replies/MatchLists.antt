@@ -8,7 +8,7 @@ use Rattle.automata_base.specs.declared.util.search.Direction.TheVariants.{Forwa
 use Rattle.automata_config.specs.declared.error.SearchError.{SearchError}
 use Rattle.automata_hybrid.specs.Searches.Contracts.{IsMemory, IsUnsupported, unsupported_error}
 use Rattle.regex_automata.specs.Spans.Contracts.{ReportsUnsupported}
-use Rattle.regex_automata.specs.Spans.Errors.{IsFree, IsNextRefusal}
+use Rattle.regex_automata.specs.Spans.Errors.{IsFree, IsNextError}
 use Rattle.regex_automata.specs.Regexes.SoundPairs.{IsSoundPair}
 use Rattle.regex_automata.specs.declared.hybrid.regex.Regex.{Regex}
 use Rattle.regex_automata.specs.declared.hybrid.regex.caches.Cache.{Cache}
@@ -52,12 +52,12 @@ free_from p input start le free = record {
 -- so over a sound pair the error of the search for the next match is out of memory
 pub memory_next :
     (p : Regex) (c : Cache) (input now : Input) (last : Option ℕ) (e : SearchError) → now ≡ from now.start input
-    → input.start ≤ now.start → IsNextRefusal p c now last e → IsSoundPair p → IsFree p input → IsMemory e
+    → input.start ≤ now.start → IsNextError p c now last e → IsSoundPair p → IsFree p input → IsMemory e
 memory_next p c input now last e is le refused sound free = next refused where
   here : IsFree p now
   here = subst (IsFree p) (sym is) (free_from p input now.start le free)
 
-  next : IsNextRefusal p c now last e → IsMemory e
+  next : IsNextError p c now last e → IsMemory e
   next (inl first) = memory_of_sound p c now e sound here first
   next (inr later) =
       memory_of_sound p c (from (suc now.start) now) e sound (free_from p now (suc now.start) (omega arith) here) later.3

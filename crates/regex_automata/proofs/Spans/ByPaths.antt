@@ -15,13 +15,13 @@ use Rattle.automata_base.proofs.Answers.Turning.{turn_outcome}
 use Rattle.automata_base.specs.declared.util.search.MatchErrorKind.TheVariants.{Quit as QuitAt}
 use Rattle.automata_config.specs.declared.error.SearchError.{SearchError}
 use Rattle.automata_config.specs.declared.error.SearchError.TheVariants as search
-use Rattle.automata_hybrid.specs.Searches.Passes.{IsFound, IsRefused}
+use Rattle.automata_hybrid.specs.Searches.Passes.{IsFound, IsSearchError}
 use Rattle.automata_hybrid.proofs.Searches.Skips.{found_reported}
 use Rattle.automata_hybrid.proofs.Searches.Bounds.{found_within}
 use Rattle.automata_hybrid.proofs.Searches.Reach.{refused_memory}
 use Rattle.regex_automata.specs.Regexes.Caches.{AreCachesOf}
 use Rattle.regex_automata.specs.Spans.Outcomes.{FindsMatch, IsOutcome}
-use Rattle.regex_automata.specs.Spans.Errors.{HasReason, IsFree, IsOfMemory, IsRegexRefusal}
+use Rattle.regex_automata.specs.Spans.Errors.{HasReason, IsFree, IsOfMemory, IsRegexError}
 use Rattle.regex_automata.specs.Regexes.SoundPairs.{BothKeepCycles, IsSoundPair, forward_engine, reverse_engine}
 use Rattle.regex_automata.specs.declared.hybrid.regex.Regex.{Regex}
 use Rattle.regex_automata.specs.declared.hybrid.regex.caches.Cache.{Cache}
@@ -93,8 +93,8 @@ module _ (p : Regex) (front : ReportedIsRight p.forward.nfa) where
       go (inr (inl r)) = absurd (never_pair Backward p.reverse c.reverse.store (back input r.0) r.2.1)
       go (inr (inr r)) = r.1
 
-    pub refusal_of : (IsFree p input → IsOfMemory e) → IsRegexRefusal p c input e
-    refusal_of free =
+    pub shapes_error : (IsFree p input → IsOfMemory e) → IsRegexError p c input e
+    shapes_error free =
         record {
           reason = reason;
           free = free;
@@ -103,13 +103,13 @@ module _ (p : Regex) (front : ReportedIsRight p.forward.nfa) where
           quits = λ same byte at is. quits same byte at is reason;
         } where
           quits : p.forward.quits ≡ p.reverse.quits → (byte at : ℕ) → e ≡ search.Match (QuitAt byte at) → HasReason p c input e
-              → IsRefused Forward p.forward c.forward.store input e
+              → IsSearchError Forward p.forward c.forward.store input e
           quits same byte at is (inl r) = r
           quits same byte at is (inr (inl r)) =
               absurd
               (back_free law p.forward p.reverse c.reverse.store input r.0 byte at same given.1 (found_within Forward p.forward input r.0 given.1 r.1).2
               (found_within Forward p.forward input r.0 given.1 r.1).0.1 r.1
-              (subst (λ (v : SearchError). IsRefused Backward p.reverse c.reverse.store (back input r.0) v) is r.2.1))
+              (subst (λ (v : SearchError). IsSearchError Backward p.reverse c.reverse.store (back input r.0) v) is r.2.1))
           quits same byte at is (inr (inr r)) = absurd (not_quit (sym is ∙ r.0)) where
             not_quit : ◌≡◌ {A = SearchError} (search.Match (QuitAt byte at)) search.NotAPair → ⊥
             not_quit h = cc
@@ -131,7 +131,7 @@ free_of p c input e few of (inr (inr (apart, none))) free = inr apart
 pub refusals :
     (p : Regex) (front : ReportedIsRight p.forward.nfa) (rear : ReportedIsRight p.reverse.nfa) (ends : ReportedEndsAreRight p.reverse.nfa)
     (starts : StartsAreRight) (law : BackMeetsNone) (c : Cache) (input : Input) (given : IsInput input) (error : Option SearchError)
-    → AreCachesOf c p → IfSome error (HasReason p c input) → IfSome error (IsRegexRefusal p c input)
+    → AreCachesOf c p → IfSome error (HasReason p c input) → IfSome error (IsRegexError p c input)
 refusals p front rear ends starts law c input given None of reason = tt
 refusals p front rear ends starts law c input given (Some e) of reason =
-    refusal_of p front rear ends starts law c input given e reason (free_of p c input e given.1 of reason)
+    shapes_error p front rear ends starts law c input given e reason (free_of p c input e given.1 of reason)

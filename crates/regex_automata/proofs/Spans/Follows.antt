@@ -21,8 +21,8 @@ use Rattle.automata_hybrid.proofs.Cache.Growth.{grown_same}
 use Rattle.automata_hybrid.proofs.Searches.Follows.{search_refused, searches_follow}
 use Rattle.regex_automata.specs.Regexes.Caches.{AreCachesOf, AreGrown, KnowsBack}
 use Rattle.regex_automata.specs.Regexes.SoundPairs.{forward_engine}
-use Rattle.regex_automata.specs.Spans.Errors.{HasReason, IsBackRefused, IsOfGiven}
-use Rattle.regex_automata.specs.Spans.Follows.{NextFollows, NextsFollow, RefusalsFollow, SpanFollows, SpansFollow}
+use Rattle.regex_automata.specs.Spans.Errors.{HasReason, IsBackError, IsOfGiven}
+use Rattle.regex_automata.specs.Spans.Follows.{NextFollows, NextsFollow, ErrorsFollow, SpanFollows, SpansFollow}
 use Rattle.regex_automata.specs.Spans.Outcomes.{IsStartFound}
 use Rattle.regex_automata.specs.Spans.Runs.{IsBackRun, IsBothRun, IsErrorOfBoth, IsFrontRun, IsSpanRun}
 use Rattle.regex_automata.specs.Spans.Iteration.{FindsEmptyAt}
@@ -46,7 +46,7 @@ record BackFollows (p : Regex) (input : Input) (half : Half) (old new : CacheVie
   pub grown : IsGrown old new
   pub learned : ClearedNothing old.store new.store → error ≡ None → KnowsBack p new.store input half
   pub known : KnowsBack p old.store input half → IsStill old new × IfSome error IsOfInput
-  pub refused : IfSome error (IsBackRefused p new.store input half)
+  pub refused : IfSome error (IsBackError p new.store input half)
 
 back_follows :
     (p : Regex) (input : Input) (half : Half) (old new : CacheView) (error : Option SearchError)
@@ -59,7 +59,7 @@ back_follows p input half old new error (inl (short, same, none)) = record {
     (grown_same old new same).idle (ap (λ (v : CacheView). v.count) same),
     subst (λ (e : Option SearchError). IfSome e IsOfInput) (sym none) tt,
   );
-  refused = subst (λ (e : Option SearchError). IfSome e (IsBackRefused p new.store input half)) (sym none) tt;
+  refused = subst (λ (e : Option SearchError). IfSome e (IsBackError p new.store input half)) (sym none) tt;
 }
 back_follows p input half old new error (inr (long, run)) = record {
   cost = inr (long, f.once (λ s. yes_no s.1));
@@ -144,13 +144,13 @@ grown_of p old new of grown = (grown.0.of ∙ of.0, grown.1.of ∙ of.1)
 -- why a search for a span fails, and what that excludes
 pub refusals_follow :
     AnswersAgree → (p : Regex) → ReportedIsRight p.forward.nfa → ReportedIsRight p.reverse.nfa → ReportedEndsAreRight p.reverse.nfa
-    → StartsAreRight → BackMeetsNone → RefusalsFollow p
+    → StartsAreRight → BackMeetsNone → ErrorsFollow p
 refusals_follow agree p front rear ends starts law input old new error given of run =
     refusals p front rear ends starts law new input given error (grown_of p old new of (spans_follow agree p input old new error run).grown)
     (span_refused p input old new error run.run)
 
 pub nexts_follow :
-    AnswersAgree → (p : Regex) → KnownStays p.forward → KnownStays p.reverse → RefusalsFollow p → NextsFollow p
+    AnswersAgree → (p : Regex) → KnownStays p.forward → KnownStays p.reverse → ErrorsFollow p → NextsFollow p
 nexts_follow agree p front rear refused input last old new error given of run = go run.run where
   go :
       (IsSpanRun p input old new error × (error ≡ None → FindsEmptyAt p input last → ⊥))

@@ -16,7 +16,7 @@ use Rattle.automata_config.specs.declared.error.StartError.TheVariants as start
 use Rattle.automata_config.specs.declared.error.SearchError.TheVariants as search
 use Rattle.automata_hybrid.specs.Cache.Stores.{Stored}
 use Rattle.automata_hybrid.specs.Machines.Machine.{Machine}
-use Rattle.automata_hybrid.specs.Searches.Passes.{IsFound, IsPassRefusal, IsRefused, Skips, tape_in}
+use Rattle.automata_hybrid.specs.Searches.Passes.{IsFound, IsPassError, IsSearchError, Skips, tape_in}
 use Rattle.automata_hybrid.specs.Steps.Starts.{quit_behind}
 use Rattle.automata_base.proofs.Paths.Orders.{none_some, some_inj, some_none}
 use Rattle.regex_automata.proofs.Spans.Reports.{reported_reads}
@@ -62,7 +62,7 @@ rest_clean law m input half few within f =
 pass_free :
     (m : Machine) (c : Stored) (input : Input) (byte at : ℕ) → input.start ≤ input.end → input.end ≤ length input.haystack
     → MeetsNone (is_quit m.quits) (tape_in Backward input) (input.end - input.start)
-    → IsPassRefusal Backward m c input (search.Match (QuitAt byte at)) → ⊥
+    → IsPassError Backward m c input (search.Match (QuitAt byte at)) → ⊥
 pass_free m c input byte at ahead few clean (inl (start.Quit b, why, reported, unknown)) =
     let q = is_behind m (tape_in Backward input).before b why in
     false_true (sym (clean b (inl (sym q.0))) ∙ q.1)
@@ -77,7 +77,7 @@ pass_free m c input byte at ahead few clean (inr r) =
 pub back_free :
     (law : BackMeetsNone) (m rev : Machine) (c : Stored) (input : Input) (half : Half) (byte at : ℕ)
     → m.quits ≡ rev.quits → input.end ≤ length input.haystack → half.base ≤ half.offset → half.offset ≤ input.end
-    → IsFound Forward m input (Some half) → IsRefused Backward rev c (back input half) (search.Match (QuitAt byte at)) → ⊥
+    → IsFound Forward m input (Some half) → IsSearchError Backward rev c (back input half) (search.Match (QuitAt byte at)) → ⊥
 back_free law m rev c input half byte at same few ahead within f r = go r.1.0 where
   clean : MeetsNone (is_quit rev.quits) (reverse_tape input.haystack half.base half.offset) (half.offset - half.base)
   clean =
@@ -88,11 +88,11 @@ back_free law m rev c input half byte at same few ahead within f r = go r.1.0 wh
   go (inl z) =
       let end : half.offset - r.0 ≡ half.offset = omega (arith, z) in
       pass_free rev c (back input half) byte at ahead (omega (arith, few, within)) clean
-      (subst (λ n. IsPassRefusal Backward rev c (record (back input half) { end = n }) (search.Match (QuitAt byte at))) end r.3)
+      (subst (λ n. IsPassError Backward rev c (record (back input half) { end = n }) (search.Match (QuitAt byte at))) end r.3)
   go (inr s) = yes_no s.1
 
 -- no search alone has this error
-pub never_pair : (way : Direction) (m : Machine) (c : Stored) (input : Input) → IsRefused way m c input search.NotAPair → ⊥
+pub never_pair : (way : Direction) (m : Machine) (c : Stored) (input : Input) → IsSearchError way m c input search.NotAPair → ⊥
 never_pair way m c input (k, tries, within, inl (start.Quit b, why, reported, unknown)) = cc
 never_pair way m c input (k, tries, within, inl (start.UnsupportedAnchored mode, why, reported, unknown)) = cc
 never_pair way m c input (k, tries, within, inl (start.Cache err, why, reported, unknown)) = cc

@@ -33,17 +33,17 @@ abbrev pub pattern_count : Automaton → ℕ
 pattern_count a = length a.start_pattern
 
 -- why no regex is built: the NFAs are not for the same patterns, or a DFA cannot be built, the forward one first
-abbrev pub pair_refusal : Options → Automaton → Automaton → Option BuildError
-pair_refusal o forward reverse =
+abbrev pub pair_error : Options → Automaton → Automaton → Option BuildError
+pair_error o forward reverse =
     if pattern_count forward == pattern_count reverse
-    then option_or (settling.settling_refusal o forward) (settling.settling_refusal (backward o) reverse)
+    then option_or (settling.settling_error o forward) (settling.settling_error (backward o) reverse)
     else Some (PatternCounts (pattern_count forward) (pattern_count reverse))
 
 -- how the errors of `NFA::reversed` are named
-abbrev pub reverse_refusal : ReverseError → RegexBuildError
-reverse_refusal reverse.Starts = is.Starts
-reverse_refusal reverse.TooLarge = is.TooLarge
-reverse_refusal reverse.OutOfMemory = is.OutOfMemory
+abbrev pub reverse_build_error : ReverseError → RegexBuildError
+reverse_build_error reverse.Starts = is.Starts
+reverse_build_error reverse.TooLarge = is.TooLarge
+reverse_build_error reverse.OutOfMemory = is.OutOfMemory
 
 -- in UTF-8 mode the NFA reads valid UTF-8
 abbrev pub IsUtf8 : Automaton → Type 0
@@ -63,12 +63,12 @@ BuildsOne o forward p =
 
 -- why no regex is built of one NFA: it fails the next test after those that it passes; or it passes all, and cannot be
 -- reversed, or no pair can be built of it and of its reverse. Memory is used only after the first test
-abbrev pub IsRefusal : Options → Automaton → RegexBuildError → Type 0
-IsRefusal o forward is.NotLazy = SkipsLazily forward → ⊥
-IsRefusal o forward is.NotUtf8 = SkipsLazily forward × (IsUtf8 forward → ⊥)
-IsRefusal o forward is.Starts = PassesTwo forward × (BeginsAlike forward → ⊥)
-IsRefusal o forward is.TooLarge = PassesAll forward × MayBeTooLarge forward
-IsRefusal o forward is.OutOfMemory = SkipsLazily forward
-IsRefusal o forward (is.Build error) =
+abbrev pub IsBuildError : Options → Automaton → RegexBuildError → Type 0
+IsBuildError o forward is.NotLazy = SkipsLazily forward → ⊥
+IsBuildError o forward is.NotUtf8 = SkipsLazily forward × (IsUtf8 forward → ⊥)
+IsBuildError o forward is.Starts = PassesTwo forward × (BeginsAlike forward → ⊥)
+IsBuildError o forward is.TooLarge = PassesAll forward × MayBeTooLarge forward
+IsBuildError o forward is.OutOfMemory = SkipsLazily forward
+IsBuildError o forward (is.Build error) =
     PassesAll forward
-    × ((reverse : Automaton) × IsReversed forward reverse × (pair_refusal o forward reverse ≡ Some error))
+    × ((reverse : Automaton) × IsReversed forward reverse × (pair_error o forward reverse ≡ Some error))

@@ -10,7 +10,7 @@ use Rattle.automata_config.specs.declared.error.SearchError.{SearchError}
 use Rattle.automata_config.specs.declared.error.SearchError.TheVariants as search
 use Rattle.automata_hybrid.specs.Cache.Stores.{Stored}
 use Rattle.automata_hybrid.specs.Searches.Cached.{IsOfInput}
-use Rattle.automata_hybrid.specs.Searches.Passes.{IsFound, IsRefused, NoQuitInReach}
+use Rattle.automata_hybrid.specs.Searches.Passes.{IsFound, IsSearchError, NoQuitInReach}
 use Rattle.automata_hybrid.specs.Machines.StartSlots.{supports}
 use Rattle.regex_automata.specs.declared.hybrid.regex.Regex.{Regex}
 use Rattle.regex_automata.specs.Regexes.SoundPairs.{BothKeepCycles, IsSoundPair, forward_engine, reverse_engine}
@@ -19,15 +19,15 @@ use Rattle.regex_automata.specs.declared.hybrid.regex.caches.Cache.{Cache}
 use Rattle.automata_config.specs.Options.{minimum_cache_clear_count_of}
 
 -- the search back from a forward answer is made, and fails
-abbrev pub IsBackRefused : Regex → Stored → Input → Half → SearchError → Type 0
-IsBackRefused p c input half e =
-    (IsShort (forward_engine p) input half → ⊥) × IsRefused Backward p.reverse c (back input half) e
+abbrev pub IsBackError : Regex → Stored → Input → Half → SearchError → Type 0
+IsBackError p c input half e =
+    (IsShort (forward_engine p) input half → ⊥) × IsSearchError Backward p.reverse c (back input half) e
 
 -- the forward search fails, or the one back, or that one finds no start
 abbrev pub HasReason : Regex → Cache → Input → SearchError → Type 0
 HasReason p c input e =
-    IsRefused Forward p.forward c.forward.store input e
-    ⊎ (((half : Half) × IsFound Forward p.forward input (Some half) × IsBackRefused p c.reverse.store input half e)
+    IsSearchError Forward p.forward c.forward.store input e
+    ⊎ (((half : Half) × IsFound Forward p.forward input (Some half) × IsBackError p c.reverse.store input half e)
     ⊎ ((e ≡ search.NotAPair) × IsOutcome p input NotAPair))
 
 -- nothing prevents an answer: no quit byte is in reach, the anchored mode is supported, no clear limit is set
@@ -43,7 +43,7 @@ abbrev pub IsOfMemory : SearchError → Type 0
 IsOfMemory e = (e ≡ search.OutOfMemory) ⊎ (e ≡ search.NotAPair)
 
 -- why a search fails, and what that excludes
-pub record IsRegexRefusal (p : Regex) (c : Cache) (input : Input) (e : SearchError) : Type 0 where
+pub record IsRegexError (p : Regex) (c : Cache) (input : Input) (e : SearchError) : Type 0 where
   pub reason : HasReason p c input e
   -- if nothing prevents an answer, the error is out of memory, or that the two are no pair
   pub free : IsFree p input → IsOfMemory e
@@ -53,15 +53,15 @@ pub record IsRegexRefusal (p : Regex) (c : Cache) (input : Input) (e : SearchErr
   pub sound : IsSoundPair p → e ≡ search.NotAPair → ⊥
   -- with one quit set the search back meets no quit byte
   pub quits : p.forward.quits ≡ p.reverse.quits → (byte at : ℕ) → e ≡ search.Match (QuitAt byte at)
-      → IsRefused Forward p.forward c.forward.store input e
+      → IsSearchError Forward p.forward c.forward.store input e
 
 -- why the next match fails: the search failed, or it found an empty match at the last end and the search from one
 -- offset later failed
-abbrev pub IsNextRefusal : Regex → Cache → Input → Option ℕ → SearchError → Type 0
-IsNextRefusal p c input last e =
-    IsRegexRefusal p c input e
+abbrev pub IsNextError : Regex → Cache → Input → Option ℕ → SearchError → Type 0
+IsNextError p c input last e =
+    IsRegexError p c input e
     ⊎ ((m : Match) × FindsMatch p input (Some m) × IsEmptyAt last m
-    × IsRegexRefusal p c (from (suc input.start) input) e)
+    × IsRegexError p c (from (suc input.start) input) e)
 
 -- a search fails by what it was given, and not for lack of room
 abbrev pub IsOfGiven : SearchError → Type 0

@@ -15,7 +15,7 @@ use Rattle.regex_automata.specs.declared.hybrid.regex.Regex.{Regex}
 use Rattle.regex_automata.specs.declared.hybrid.regex.caches.Cache.{Cache}
 use Rattle.automata_config.specs.declared.error.SearchError.{SearchError}
 use Rattle.regex_automata.specs.Regexes.Caches.{AreCachesOf, AreGrown, AreStill, KnowsBoth, NothingCleared}
-use Rattle.regex_automata.specs.Spans.Errors.{HasReason, IsNextRefusal, IsOfGiven, IsRegexRefusal}
+use Rattle.regex_automata.specs.Spans.Errors.{HasReason, IsNextError, IsOfGiven, IsRegexError}
 use Rattle.regex_automata.specs.Spans.Runs.{IsNextRun, IsSpanRun}
 
 -- what a search costs the two caches of a regex: the forward one its passes, and the reverse one, if a search back from
@@ -64,7 +64,7 @@ pub record NextFollows (p : Regex) (input : Input) (last : Option ℕ) (old new 
   pub learned : NothingCleared old new → error ≡ None → KnowsNext p new input last
   pub known : KnowsNext p old input last → AreStill old new × IfSome error IsOfGiven
   -- why it fails
-  pub refused : IfSome error (IsNextRefusal p new input last)
+  pub refused : IfSome error (IsNextError p new input last)
 
 -- All this follows of each search for a span.
 abbrev pub SpansFollow : Type 0
@@ -73,10 +73,10 @@ SpansFollow =
     → IsSpanRun p input old new error → SpanFollows p input old new error
 
 -- Why each search for a span fails, and what that excludes.
-abbrev pub RefusalsFollow : Regex → Type 0
-RefusalsFollow p =
+abbrev pub ErrorsFollow : Regex → Type 0
+ErrorsFollow p =
     (input : Input) (old new : Cache) (error : Option SearchError) → IsInput input → AreCachesOf old p
-    → IsSpanRun p input old new error → IfSome error (IsRegexRefusal p new input)
+    → IsSpanRun p input old new error → IfSome error (IsRegexError p new input)
 
 -- And of each search for the next match of an iteration.
 abbrev pub NextsFollow : Regex → Type 0

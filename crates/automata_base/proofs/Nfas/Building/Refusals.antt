@@ -9,7 +9,7 @@ use Rattle.automata_base.specs.declared.nfa.thompson.building.Added.{Added}
 use Rattle.automata_base.specs.declared.nfa.thompson.building.BuildError.{BuildError}
 use Rattle.automata_base.specs.declared.nfa.thompson.building.BuildError.TheVariants.{NFA, OutOfMemory}
 use Rattle.automata_base.specs.Nfas.Drafts.{build_error}
-use Rattle.automata_base.specs.Nfas.Errors.{refusal_of, states_refusal}
+use Rattle.automata_base.specs.Nfas.Errors.{shapes_error, states_error}
 use Rattle.automata_base.specs.Nfas.Shapes.{Shape, shape_of, shape_added, built_of}
 
 apart : {A : Type 0} (x : A) (e : NfaError) → ◌≡◌ {A = Result A NfaError} (Ok x) (Err e) → ⊥
@@ -37,18 +37,18 @@ module _
     (shapes : List Shape) (bs : List State) (a u : ℕ) (starts own : List ℕ) (built : map shape_of bs ≡ map built_of shapes)
     (same : starts ≡ own)
   where
-    alike : states_refusal bs a u starts ≡ refusal_of (map built_of shapes) a u own
-    alike = ap (λ z. refusal_of z a u starts) built ∙ ap (refusal_of (map built_of shapes) a u) same
+    alike : states_error bs a u starts ≡ shapes_error (map built_of shapes) a u own
+    alike = ap (λ z. shapes_error z a u starts) built ∙ ap (shapes_error (map built_of shapes) a u) same
 
     pub ok_unrefused :
-        {A : Type 0} (r : Result A NfaError) (nfa : A) → r ≡ Ok nfa → ((e : NfaError) → states_refusal bs a u starts ≡ Some e → r ≡ Err e)
-        → (e : NfaError) → refusal_of (map built_of shapes) a u own ≡ Some e → ⊥
+        {A : Type 0} (r : Result A NfaError) (nfa : A) → r ≡ Ok nfa → ((e : NfaError) → states_error bs a u starts ≡ Some e → r ≡ Err e)
+        → (e : NfaError) → shapes_error (map built_of shapes) a u own ≡ Some e → ⊥
     ok_unrefused r nfa is refused e f = apart nfa e (sym is ∙ refused e (alike ∙ f))
 
     pub err_refused :
         {A : Type 0} (r : Result A NfaError) (x : NfaError) (answer : BuildError) → answer ≡ build_error x → r ≡ Err x
-        → ((e : NfaError) → states_refusal bs a u starts ≡ Some e → r ≡ Err e)
-        → (e : NfaError) → refusal_of (map built_of shapes) a u own ≡ Some e → (answer ≡ NFA e) ⊎ (answer ≡ OutOfMemory)
+        → ((e : NfaError) → states_error bs a u starts ≡ Some e → r ≡ Err e)
+        → (e : NfaError) → shapes_error (map built_of shapes) a u own ≡ Some e → (answer ≡ NFA e) ⊎ (answer ≡ OutOfMemory)
     err_refused {A} r x answer t is refused e f =
         go (error_is x)
       where
@@ -61,8 +61,8 @@ module _
 
     pub err_memory :
         {A : Type 0} (r : Result A NfaError) (x : NfaError) (answer : BuildError) → answer ≡ build_error x → r ≡ Err x
-        → (states_refusal bs a u starts ≡ None → IsOkUnless r nfa_error.OutOfMemory)
-        → refusal_of (map built_of shapes) a u own ≡ None → answer ≡ OutOfMemory
+        → (states_error bs a u starts ≡ None → IsOkUnless r nfa_error.OutOfMemory)
+        → shapes_error (map built_of shapes) a u own ≡ None → answer ≡ OutOfMemory
     err_memory r x answer t is memory f =
         t ∙ ap build_error (subst (λ z. IsOkUnless z nfa_error.OutOfMemory) is (memory (alike ∙ f)))
 

@@ -19,7 +19,7 @@ use Rattle.automata_base.specs.Nfas.Nfa.{Node, Range, Split, Assert, Read, Accep
 use Rattle.automata_base.specs.Nfas.Nodes.{node_of, nodes_of, ranges_of}
 use Rattle.automata_base.specs.Retraced.Reach.{IsReached, targets_at, nexts}
 use Rattle.automata_base.specs.Nfas.Errors.{alternates_of, states_below, ordered_from, state_ordered, states_ordered}
-use Rattle.automata_base.specs.Nfas.Errors.{match_below, matches_below, is_small, is_narrow, starts_below, states_refusal}
+use Rattle.automata_base.specs.Nfas.Errors.{match_below, matches_below, is_small, is_narrow, starts_below, states_error}
 use Rattle.automata_base.specs.Nfas.Errors.{unless}
 use Rattle.automata_base.specs.Nfas.ReversedSizes.{asking_edges, free_edges}
 use Rattle.automata_base.specs.Retraced.ReversedEdges.{copied, copies, copy_of, IsCopied}
@@ -427,7 +427,7 @@ turned_large states P l =
 -- The tests of `NFA::from_states` pass.
 pub fit_passes :
     (states made : List State) (P : ℕ) (entries : List ℕ) (root : ℕ) → IsFit states P made entries root
-    → length entries ≤ 2 ^ 27 → is_narrow made ≡ true → states_refusal made root root entries ≡ None
+    → length entries ≤ 2 ^ 27 → is_narrow made ≡ true → states_error made root root entries ≡ None
 fit_passes states made P entries root fit few narrow =
     refusal_is made root root entries
     ∙ (goes_on (is_small made entries) (is_narrow made) (starts_below (length made) root root entries) (states_below (length made) made)

@@ -12,7 +12,7 @@ use Rattle.automata_base.specs.declared.nfa.thompson.State.{State}
 use Rattle.automata_base.specs.declared.nfa.thompson.checks.Totals.{Totals}
 use Rattle.automata_base.specs.Nfas.Nodes.{extra_of, stack_room}
 use Rattle.automata_base.specs.Nfas.Errors.{alternates_of, is_small, is_narrow, starts_below, states_below}
-use Rattle.automata_base.specs.Nfas.Errors.{states_ordered, matches_below, unless, states_refusal, refusal_of, every}
+use Rattle.automata_base.specs.Nfas.Errors.{states_ordered, matches_below, unless, states_error, shapes_error, every}
 use Rattle.automata_base.specs.Nfas.Errors.{shape_below, shape_matches_below, shape_ordered, shape_alternates}
 use Rattle.automata_base.specs.Nfas.Shapes.{shape_of}
 use Rattle.automata_base.proofs.Powersets.ListTests.{extra_is}
@@ -44,8 +44,8 @@ all_alternates_is (x ∷ xs) =
 
 pub refusal_is :
     (states : List State) (a u : ℕ) (starts : List ℕ)
-    → states_refusal states a u starts ≡ chain (is_small states starts) (is_narrow states) (starts_below (length states) a u starts) (states_below (length states) states) (states_ordered states) (matches_below (length starts) states)
-unfolding refusal_of
+    → states_error states a u starts ≡ chain (is_small states starts) (is_narrow states) (starts_below (length states) a u starts) (states_below (length states) states) (states_ordered states) (matches_below (length starts) states)
+unfolding shapes_error
 refusal_is states a u starts =
     ap (λ n. chain (leb n (2 ^ 27) && leb (length starts) (2 ^ 27)) (leb (sum_by shape_alternates (map shape_of states)) (2 ^ 31))
     (starts_below n a u starts) (every (shape_below n) (map shape_of states)) (every shape_ordered (map shape_of states))
@@ -131,59 +131,59 @@ room_small xs h =
     all
 
 module _ (s : List State) (a u : ℕ) (t : List ℕ) where
-  pub refused_small : is_small s t ≡ false → IsReported (states_refusal s a u t) (Err TooLarge)
+  pub refused_small : is_small s t ≡ false → IsReported (states_error s a u t) (Err TooLarge)
   refused_small h =
-      reported (states_refusal s a u t) TooLarge
+      reported (states_error s a u t) TooLarge
       (refusal_is s a u t
       ∙ stops_small (is_small s t) (is_narrow s) (starts_below (length s) a u t) (states_below (length s) s) (states_ordered s) (matches_below (length t) s) h)
 
-  pub refused_wide : is_small s t ≡ true → is_narrow s ≡ false → IsReported (states_refusal s a u t) (Err TooLarge)
+  pub refused_wide : is_small s t ≡ true → is_narrow s ≡ false → IsReported (states_error s a u t) (Err TooLarge)
   refused_wide h i =
-      reported (states_refusal s a u t) TooLarge
+      reported (states_error s a u t) TooLarge
       (refusal_is s a u t
       ∙ stops_narrow (is_small s t) (is_narrow s) (starts_below (length s) a u t) (states_below (length s) s) (states_ordered s) (matches_below (length t) s) h i)
 
   pub refused_starts :
-      is_small s t ≡ true → is_narrow s ≡ true → starts_below (length s) a u t ≡ false → IsReported (states_refusal s a u t) (Err StartRange)
+      is_small s t ≡ true → is_narrow s ≡ true → starts_below (length s) a u t ≡ false → IsReported (states_error s a u t) (Err StartRange)
   refused_starts h i j =
-      reported (states_refusal s a u t) StartRange
+      reported (states_error s a u t) StartRange
       (refusal_is s a u t
       ∙ stops_starts (is_small s t) (is_narrow s) (starts_below (length s) a u t) (states_below (length s) s) (states_ordered s) (matches_below (length t) s) h i j)
 
   pub refused_targets :
       is_small s t ≡ true → is_narrow s ≡ true → starts_below (length s) a u t ≡ true → states_below (length s) s ≡ false
-      → IsReported (states_refusal s a u t) (Err StateRange)
+      → IsReported (states_error s a u t) (Err StateRange)
   refused_targets h i j k =
-      reported (states_refusal s a u t) StateRange
+      reported (states_error s a u t) StateRange
       (refusal_is s a u t
       ∙ stops_targets (is_small s t) (is_narrow s) (starts_below (length s) a u t) (states_below (length s) s) (states_ordered s) (matches_below (length t) s) h i j k)
 
   pub refused_ranges :
       is_small s t ≡ true → is_narrow s ≡ true → starts_below (length s) a u t ≡ true → states_below (length s) s ≡ true → states_ordered s ≡ false
-      → IsReported (states_refusal s a u t) (Err Ranges)
+      → IsReported (states_error s a u t) (Err Ranges)
   refused_ranges h i j k l =
-      reported (states_refusal s a u t) Ranges
+      reported (states_error s a u t) Ranges
       (refusal_is s a u t
       ∙ stops_ranges (is_small s t) (is_narrow s) (starts_below (length s) a u t) (states_below (length s) s) (states_ordered s) (matches_below (length t) s) h i j k l)
 
   last_test :
       is_small s t ≡ true → is_narrow s ≡ true → starts_below (length s) a u t ≡ true → states_below (length s) s ≡ true → states_ordered s ≡ true
-      → states_refusal s a u t ≡ unless (matches_below (length t) s) PatternRange None
+      → states_error s a u t ≡ unless (matches_below (length t) s) PatternRange None
   last_test h i j k l =
       refusal_is s a u t
       ∙ goes_on (is_small s t) (is_narrow s) (starts_below (length s) a u t) (states_below (length s) s) (states_ordered s) (matches_below (length t) s) h i j k l
 
   pub refused_patterns :
       is_small s t ≡ true → is_narrow s ≡ true → starts_below (length s) a u t ≡ true → states_below (length s) s ≡ true → states_ordered s ≡ true
-      → matches_below (length t) s ≡ false → IsReported (states_refusal s a u t) (Err PatternRange)
+      → matches_below (length t) s ≡ false → IsReported (states_error s a u t) (Err PatternRange)
   refused_patterns h i j k l m =
-      reported (states_refusal s a u t) PatternRange (last_test h i j k l ∙ ap (λ z. unless z PatternRange None) m)
+      reported (states_error s a u t) PatternRange (last_test h i j k l ∙ ap (λ z. unless z PatternRange None) m)
 
   pub refused_none :
       (totals : Totals) → is_small s t ≡ true → is_narrow s ≡ true → starts_below (length s) a u t ≡ true → states_below (length s) s ≡ true → states_ordered s ≡ true
-      → matches_below (length t) s ≡ true → IsReported (states_refusal s a u t) (Ok totals)
+      → matches_below (length t) s ≡ true → IsReported (states_error s a u t) (Ok totals)
   refused_none totals h i j k l m =
-      reported_none (states_refusal s a u t) totals (last_test h i j k l ∙ ap (λ z. unless z PatternRange None) m)
+      reported_none (states_error s a u t) totals (last_test h i j k l ∙ ap (λ z. unless z PatternRange None) m)
 
 -- What holds if all tests passed.
 pub record IsPassed (s : List State) (a u : ℕ) (t : List ℕ) : Type 0 where
@@ -197,7 +197,7 @@ pub record IsPassed (s : List State) (a u : ℕ) (t : List ℕ) : Type 0 where
   pub ordered : states_ordered s ≡ true
   pub patterns : matches_below (length t) s ≡ true
 
-pub passing : (s : List State) (a u : ℕ) (t : List ℕ) → states_refusal s a u t ≡ None → IsPassed s a u t
+pub passing : (s : List State) (a u : ℕ) (t : List ℕ) → states_error s a u t ≡ None → IsPassed s a u t
 passing s a u t none =
     let n = length s in
     let tests =

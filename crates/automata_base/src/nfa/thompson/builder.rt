@@ -47,7 +47,7 @@ impl Builder {
     ghost use Rattle.std.specs.Prelude.{IfOk, OnOk, OnErr, IsOk, IsOkUnless, slice_get};
     ghost use Rattle.automata_base.specs.Nfas.Drafts.{blank, default_flags, with_states, with_flags, started, finished};
     ghost use Rattle.automata_base.specs.Nfas.Drafts.{prefix_of};
-    ghost use Rattle.automata_base.specs.Nfas.Drafts.{IsAdding, IsAddingOf, draft_refusal, outline, built};
+    ghost use Rattle.automata_base.specs.Nfas.Drafts.{IsAdding, IsAddingOf, draft_error, outline, built};
     ghost use Rattle.automata_base.specs.Nfas.Shapes.{Shape, shape_added, patched, EmptyShape, RangeShape, SparseShape};
     ghost use Rattle.automata_base.specs.Nfas.Shapes.{LookShape, UnionShape, UnionReverseShape, CaptureShape};
     ghost use Rattle.automata_base.specs.Nfas.Shapes.{FailShape};
@@ -316,9 +316,9 @@ impl Builder {
         ensures same { IfOk result (λ nfa. outline nfa ≡ built self.now start_anchored start_unanchored) }
         ensures unfinished { (p : ℕ) → self.now.pattern ≡ Some p → result ≡ Err BuildError.UnfinishedPattern }
         ensures refused { (error : NfaError) → self.now.pattern ≡ None
-            → draft_refusal self.now start_anchored start_unanchored ≡ Some error
+            → draft_error self.now start_anchored start_unanchored ≡ Some error
             → (result ≡ Err (BuildError.NFA error)) ⊎ (result ≡ Err BuildError.OutOfMemory) }
-        ensures memory { self.now.pattern ≡ None → draft_refusal self.now start_anchored start_unanchored ≡ None
+        ensures memory { self.now.pattern ≡ None → draft_error self.now start_anchored start_unanchored ≡ None
             → IsOkUnless result BuildError.OutOfMemory }
     {
         if self.pattern.is_some() {

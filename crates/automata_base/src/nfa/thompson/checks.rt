@@ -5,7 +5,7 @@ ghost use Rattle.automata_base.specs.Nfas.Totals.{AreTotals};
 ghost use Rattle.automata_base.specs.Nfas.Errors.{transitions_below, state_below, states_below, match_below};
 ghost use Rattle.automata_base.specs.Nfas.Errors.{matches_below};
 ghost use Rattle.automata_base.specs.Nfas.Errors.{ordered_from, state_ordered, states_ordered, alternates_of};
-ghost use Rattle.automata_base.specs.Nfas.Errors.{is_small, is_narrow, starts_below, states_refusal};
+ghost use Rattle.automata_base.specs.Nfas.Errors.{is_small, is_narrow, starts_below, states_error};
 ghost use Rattle.std.specs.Prelude.{false, true, None, IsTrue, IsOk, IfOk, IfSome, OnSome};
 
 use crate::nfa::thompson::reading::add_look;
@@ -272,9 +272,9 @@ pub fn test(
     starts: &[StateID],
 ) -> Result<Totals, NfaError>
     ensures refused { (error : NfaError)
-        → states_refusal states.now anchored unanchored starts.now ≡ Some error → result ≡ Err error }
+        → states_error states.now anchored unanchored starts.now ≡ Some error → result ≡ Err error }
     ensures totals { IfOk result (AreTotals states.now) }
-    ensures passed { states_refusal states.now anchored unanchored starts.now ≡ None → IsOk result }
+    ensures passed { states_error states.now anchored unanchored starts.now ≡ None → IsOk result }
 {
     if !has_few(states, starts) {
         return Err(NfaError::TooLarge);

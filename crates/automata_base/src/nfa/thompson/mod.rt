@@ -320,7 +320,7 @@ impl NFA {
     ghost use Rattle.automata_base.specs.Nfas.Nodes.{nfa_of, stack_room};
     ghost use Rattle.automata_base.specs.Powersets.Passes.{Occurs};
     ghost use Rattle.automata_base.specs.Paths.Paths.{IsLookAcyclic, KeepsCycles};
-    ghost use Rattle.automata_base.specs.Nfas.Errors.{states_refusal};
+    ghost use Rattle.automata_base.specs.Nfas.Errors.{states_error};
     ghost use Rattle.automata_base.specs.Nfas.Totals.{AreTotals};
     ghost use Rattle.automata_base.specs.Nfas.ReversedSizes.{most_states, most_alternates, MayBeTooLarge};
     ghost use Rattle.automata_base.specs.Paths.Starts.{mode_start};
@@ -347,9 +347,9 @@ impl NFA {
         ensures same { IfOk result (λ nfa. nfa ≡ automaton
             states.items start_anchored start_unanchored start_pattern.items flags) }
         ensures refused { (error : NfaError)
-            → states_refusal states.items start_anchored start_unanchored start_pattern.items ≡ Some error
+            → states_error states.items start_anchored start_unanchored start_pattern.items ≡ Some error
             → result ≡ Err error }
-        ensures memory { states_refusal states.items start_anchored start_unanchored start_pattern.items ≡ None
+        ensures memory { states_error states.items start_anchored start_unanchored start_pattern.items ≡ None
             → IsOkUnless result NfaError.OutOfMemory }
     {
         let totals = test(
@@ -380,7 +380,7 @@ impl NFA {
         flags: Flags,
         totals: Totals,
     ) -> Result<NFA, NfaError>
-        requires passed { states_refusal states.items start_anchored start_unanchored start_pattern.items ≡ None }
+        requires passed { states_error states.items start_anchored start_unanchored start_pattern.items ≡ None }
         requires totals { AreTotals states.items totals }
         ensures same { IfOk result (λ nfa. nfa ≡ automaton
             states.items start_anchored start_unanchored start_pattern.items flags) }
@@ -430,7 +430,7 @@ impl NFA {
         flags: Flags,
         totals: Totals,
     ) -> Result<NFA, NfaError>
-        requires passed { states_refusal states.items start_anchored start_unanchored start_pattern.items ≡ None }
+        requires passed { states_error states.items start_anchored start_unanchored start_pattern.items ≡ None }
         requires totals { AreTotals states.items totals }
         ensures same { IfOk result (λ nfa. nfa ≡ automaton
             states.items start_anchored start_unanchored start_pattern.items flags) }

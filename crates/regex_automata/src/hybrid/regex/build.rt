@@ -5,8 +5,8 @@ ghost use Rattle.automata_base.specs.Nfas.Mirrors.{IsReversed};
 ghost use Rattle.automata_base.specs.declared.util.search.Direction.TheVariants.{Forward};
 ghost use Rattle.automata_base.specs.Answers.TruePairs.{IsTruePair, KeepsUtf8};
 ghost use Rattle.automata_config.specs.Options.{Options, unset, overwritten};
-ghost use Rattle.regex_automata.specs.Regexes.Builds.{BuildsOne, BuildsPair, IsUtf8, PassesAll, IsRefusal};
-ghost use Rattle.regex_automata.specs.Regexes.Builds.{pair_refusal, reverse_refusal};
+ghost use Rattle.regex_automata.specs.Regexes.Builds.{BuildsOne, BuildsPair, IsUtf8, PassesAll, IsBuildError};
+ghost use Rattle.regex_automata.specs.Regexes.Builds.{pair_error, reverse_build_error};
 ghost use Rattle.regex_automata.specs.Regexes.SoundPairs.{IsSoundPair};
 ghost use Rattle.regex_automata.specs.declared.hybrid.regex.build.RegexBuildError.TheVariants.{Build as RegexBuild};
 ghost use Rattle.regex_automata.specs.declared.hybrid.regex.build.RegexBuildError.TheVariants as regex_error;
@@ -52,7 +52,7 @@ impl From<BuildError> for RegexBuildError {
 }
 
 impl From<ReverseError> for RegexBuildError {
-    ghost from_gives = { λ error e. e ≡ reverse_refusal error };
+    ghost from_gives = { λ error e. e ≡ reverse_build_error error };
 
     fn from(error: ReverseError) -> RegexBuildError {
         match error {
@@ -86,7 +86,7 @@ fn tested_reverse(forward: &NFA) -> Result<NFA, RegexBuildError>
     ensures pair { IfOk result (λ reverse. (kind : MatchKind)
         → IsTruePair (engine_of forward.now kind) (engine_of reverse MatchKind.All)) }
     ensures utf8 { IfOk result (λ reverse. (kind : MatchKind) → KeepsUtf8 Forward (engine_of forward.now kind)) }
-    ensures refused { IfErr result (λ error. (o : Options) → IsRefusal o forward.now error) }
+    ensures refused { IfErr result (λ error. (o : Options) → IsBuildError o forward.now error) }
 {
     if !forward.skips_lazily() {
         return Err(RegexBuildError::NotLazy);
@@ -107,7 +107,7 @@ fn reverse_if(forward: &NFA, keeps: bool) -> Result<NFA, RegexBuildError>
         → IsTruePair (engine_of forward.now kind) (engine_of reverse MatchKind.All)) }
     ensures kept { IfOk result (λ reverse. IsTrue keeps) }
     ensures utf8 { (result ≡ Err RegexBuildError.NotUtf8) ↔ (IsUtf8 forward.now → ⊥) }
-    ensures refused { IfErr result (λ error. (o : Options) → IsRefusal o forward.now error) }
+    ensures refused { IfErr result (λ error. (o : Options) → IsBuildError o forward.now error) }
 {
     if !keeps {
         return Err(RegexBuildError::NotUtf8);
@@ -185,7 +185,7 @@ impl Builder {
     /// start, or the error that the two are no pair. `build_from_nfa` makes the second NFA itself.
     pub fn build_from_nfas(&self, forward: NFA, reverse: NFA) -> Result<Regex, BuildError>
         ensures ok { IfOk result (BuildsPair self.now forward reverse) }
-        ensures refused { result_err result ≡ pair_refusal self.now forward reverse }
+        ensures refused { result_err result ≡ pair_error self.now forward reverse }
     {
         if forward.pattern_len() != reverse.pattern_len() {
             return Err(BuildError::PatternCounts {
@@ -211,7 +211,7 @@ impl Builder {
     pub fn build_from_nfa(&self, forward: NFA) -> Result<Regex, RegexBuildError>
         ensures built { IfOk result (BuildsOne self.now forward) }
         ensures sound { IfOk result IsSoundPair }
-        ensures refused { IfErr result (IsRefusal self.now forward) }
+        ensures refused { IfErr result (IsBuildError self.now forward) }
     {
         match tested_reverse(&forward) {
             Err(error) => Err(error),

@@ -19,14 +19,14 @@ returns-in-Ok-clause-effect c = record {
 
 pub returns-in-Err-clause-refusal : goal.returns-in-Err-clause-refusal
 returns-in-Err-clause-refusal c =
-    reported_refusal c.args.self.now c.args.id _ c.args.at c.args.at c.args.cache.now c.next_eoi_state.new.cache c.refusal.result
-    (record { error = c.in-Err.error; refused = c.in-Err.ensures.refusal; reported = c.refusal.ensures })
+    reported_refusal c.args.self.now c.args.id _ c.args.at c.args.at c.args.cache.now c.next_eoi_state.new.cache c.step_error.result
+    (record { error = c.in-Err.error; refused = c.in-Err.ensures.refusal; reported = c.step_error.ensures })
 
 pub returns-in-Err-clause-effect : goal.returns-in-Err-clause-effect
 returns-in-Err-clause-effect c = record {
   alive = c.see_bounds.ensures.sound.alive c.args.id;
   taken = tt;
   left =
-      step_fails c.args.self.now c.args.id None c.args.at c.args.cache.now c.args.cache.now c.next_eoi_state.new.cache c.refusal.result
-      (record { error = c.in-Err.error; refused = c.in-Err.ensures.refusal; reported = c.refusal.ensures });
+      step_fails c.args.self.now c.args.id None c.args.at c.args.cache.now c.args.cache.now c.next_eoi_state.new.cache c.step_error.result
+      (record { error = c.in-Err.error; refused = c.in-Err.ensures.refusal; reported = c.step_error.ensures });
 }

@@ -2,7 +2,7 @@ use Rattle.std.proofs.Common.{◌≡◌, false, true, Some, refl, sym, subst, ar
 use Rattle.automata_base.specs.ByteClasses.Classes.{is_quit}
 use Rattle.automata_hybrid.specs.Calls.Events.{End, Move, with_progress}
 use Rattle.automata_hybrid.specs.Searches.Units.{IsReadEffect}
-use Rattle.automata_hybrid.specs.Searches.Passes.{IsStepRefusal}
+use Rattle.automata_hybrid.specs.Searches.Passes.{IsStepError}
 use Rattle.automata_hybrid.specs.Cache.Table.{Rows, Names}
 use Rattle.automata_hybrid.proofs.Searches.Contracts.{is_store}
 use Rattle.automata_hybrid.proofs.Searches.Reads.{at_err, moved_failed, moved_quit, moved_took, step_does}
@@ -37,7 +37,7 @@ returns-in_err-next-clause-effect c =
 
 pub returns-then-is_quit-clause-refusal : goal.returns-then-is_quit-clause-refusal
 returns-then-is_quit-clause-refusal c = λ q n.
-    subst (IsStepRefusal c.args.self.now c.end_search.new.self.store q (Some c.args.byte) c.args.quit_at c.args.at) (sym c.quit.ensures) (
+    subst (IsStepError c.args.self.now c.end_search.new.self.store q (Some c.args.byte) c.args.quit_at c.args.at) (sym c.quit.ensures) (
       refl,
       quits c.args.self.now c.move_search.new.self.store.table c.step_met.new.cache.store.table c.args.id c.in_ok-next.next c.args.byte q
           c.see_bounds-2.ensures.sound.small (λ p. c.see_bounds-2.ensures.sound.low c.in_ok-next.next p) (c.if-is_quit.ensures.0 refl) c.in_ok-next.ensures.answer.named

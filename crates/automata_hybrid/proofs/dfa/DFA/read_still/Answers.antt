@@ -1,8 +1,8 @@
 use Rattle.std.proofs.Common.{◌≡◌, false, true, Some, inl, refl, sym, subst, arith}
 use Rattle.std.specs.Prelude.{Err, IfErr, Ok}
 use Rattle.automata_base.specs.ByteClasses.Classes.{is_quit}
-use Rattle.automata_hybrid.specs.Searches.Units.{IsReadAnswer, IsReadEffect, IsReadRefusal}
-use Rattle.automata_hybrid.specs.Searches.Passes.{IsStepRefusal}
+use Rattle.automata_hybrid.specs.Searches.Units.{IsReadAnswer, IsReadEffect, ReadFails}
+use Rattle.automata_hybrid.specs.Searches.Passes.{IsStepError}
 use Rattle.automata_hybrid.proofs.Searches.Contracts.{is_store}
 use Rattle.automata_hybrid.proofs.Searches.Reads.{at_err, end_refusal, step_does, step_fails}
 use Rattle.automata_hybrid.proofs.Searches.PassState.{false_true}
@@ -47,8 +47,8 @@ returns-in_err-next-in-Some-clause-effect c =
 
 pub returns-then-is_quit-clause-refusal : goal.returns-then-is_quit-clause-refusal
 returns-then-is_quit-clause-refusal c = λ q n.
-    subst (λ u. IsStepRefusal c.args.self.now c.step.new.cache.store q u c.args.quit_at c.args.at c.quit.result) (sym c.in-Some.is)
-    (subst (IsStepRefusal c.args.self.now c.step.new.cache.store q (Some c.in-Some.byte) c.args.quit_at c.args.at) (sym c.quit.ensures) (
+    subst (λ u. IsStepError c.args.self.now c.step.new.cache.store q u c.args.quit_at c.args.at c.quit.result) (sym c.in-Some.is)
+    (subst (IsStepError c.args.self.now c.step.new.cache.store q (Some c.in-Some.byte) c.args.quit_at c.args.at) (sym c.quit.ensures) (
       refl,
       quits c.args.self.now c.args.cache.now.store.table c.step.new.cache.store.table c.args.id c.in_ok-next-in-Some.next c.in-Some.byte q
           c.see_bounds-in-Some.ensures.sound.small (λ p. c.see_bounds-in-Some.ensures.sound.low c.in_ok-next-in-Some.next p) (c.if-is_quit.ensures.0 refl) c.in_ok-next-in-Some.ensures.answer.named
@@ -71,5 +71,5 @@ returns-then-is_quit-clause-effect c =
 
 pub returns-in-None-clause-refusal : goal.returns-in-None-clause-refusal
 returns-in-None-clause-refusal c =
-    subst (λ u. IfErr c.read_end.result (IsReadRefusal c.args.self.now c.args.id u c.args.quit_at c.args.at c.args.cache.now c.read_end.new.cache)) (sym c.in-None.is)
+    subst (λ u. IfErr c.read_end.result (ReadFails c.args.self.now c.args.id u c.args.quit_at c.args.at c.args.cache.now c.read_end.new.cache)) (sym c.in-None.is)
     (end_refusal c.args.self.now c.args.id c.args.quit_at c.args.at c.args.cache.now c.args.cache.now c.read_end.new.cache refl c.read_end.result c.read_end.ensures.refusal)

@@ -1,10 +1,10 @@
 use Rattle.std.proofs.Common.{ℕ, ◌∙◌, Option, ap}
 use Rattle.automata_hybrid.specs.Machines.Machine.{Machine}
 use Rattle.automata_hybrid.proofs.Searches.Contracts.{is_store}
-use Rattle.automata_hybrid.proofs.Walks.Parts.{back_left, back_refusal, back_resumed, row_resumed, start_answer, start_left, start_refusal}
+use Rattle.automata_hybrid.proofs.Walks.Parts.{back_left, back_refusal, back_resumed, row_resumed, start_answer, start_left, start_error}
 use Rattle.automata_hybrid.proofs.Walks.Parts.{start_resumed}
 use Rattle.automata_hybrid.specs.Searches.Passes.{given_up_offset}
-use Rattle.automata_hybrid.specs.Searches.PassState.{step_refusal}
+use Rattle.automata_hybrid.specs.Searches.PassState.{step_error}
 use Rattle.automata_hybrid.specs.declared.search.walk.Handle.{Handle}
 use Rattle.automata_hybrid.specs.declared.search.walk.Held.TheVariants as held
 use Rattle.automata_hybrid.proofs.dfa.DFA.resume.Goals as goal
@@ -16,7 +16,7 @@ returns-then-is_fresh-clause-answer c =
 
 pub returns-then-is_fresh-clause-refusal : goal.returns-then-is_fresh-clause-refusal
 returns-then-is_fresh-clause-refusal c =
-    start_refusal c.args.way c.args.self.now c.args.input.now c.args.walk.now c.args.cache.now c.walk_start-start.new.cache c.walk_start-start.result
+    start_error c.args.way c.args.self.now c.args.input.now c.args.walk.now c.args.cache.now c.walk_start-start.new.cache c.walk_start-start.result
     (c.is_fresh.ensures.yes c.if-is_fresh.true) c.walk_start-start.ensures.refusal
 
 pub returns-then-is_fresh-clause-resumed : goal.returns-then-is_fresh-clause-resumed
@@ -58,5 +58,5 @@ returns-in-Err-clause-refusal c =
     back_refusal c.args.way c.args.self.now c.args.input.now c.args.cache.now.store.table c.args.walk.now c.args.held.now c.in-State-Some.handle
     c.args.cache.now c.put_back.new.cache
     (c.is_fresh.ensures.no c.if-is_fresh.false) c.requires.walk.reads.on c.requires.walk.holds (c.in-State-Some.is ∙ ap (λ (h : Option Handle). held.State h) (rw c.in-State-Some.is at c.in-State-Some.field-0-is))
-    c.in-Err.error c.refusal.result c.in-Err.ensures.refused c.in-Err.ensures.lacks
-    (c.refusal.ensures ∙ ap (step_refusal c.in-Err.error) (c.span_offset.ensures.value ∙ ap (given_up_offset c.args.way c.args.input.now) c.units.ensures))
+    c.in-Err.error c.step_error.result c.in-Err.ensures.refused c.in-Err.ensures.lacks
+    (c.step_error.ensures ∙ ap (step_error c.in-Err.error) (c.span_offset.ensures.value ∙ ap (given_up_offset c.args.way c.args.input.now) c.units.ensures))

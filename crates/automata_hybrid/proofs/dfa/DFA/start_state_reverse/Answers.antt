@@ -1,6 +1,6 @@
 use Rattle.std.proofs.Common.{ℕ, ◌∙◌, ap, subst}
 use Rattle.automata_base.specs.Haystacks.StartConfig.{StartConfig}
-use Rattle.automata_hybrid.specs.Steps.Starts.{IsStartAnswer, IsStartEffect, IsStartRefused, search_refusal}
+use Rattle.automata_hybrid.specs.Steps.Starts.{IsStartAnswer, IsStartEffect, StartFails, start_search_error}
 use Rattle.automata_hybrid.proofs.dfa.DFA.start_state_reverse.Goals as goal
 
 pub returns-in-Ok-clause-answer : goal.returns-in-Ok-clause-answer
@@ -24,9 +24,9 @@ returns-in-Err-clause-refusal c =
     record {
       error = e;
       refused =
-          subst (λ (s : StartConfig). IsStartRefused c.args.self.now s.anchored s.look_behind c.args.cache.now c.start_state.new.cache e)
+          subst (λ (s : StartConfig). StartFails c.args.self.now s.anchored s.look_behind c.args.cache.now c.start_state.new.cache e)
           c.from_input_reverse-config.ensures c.in-Err.ensures.refusal;
       reported =
-          c.search_refusal.ensures
-          ∙ (ap (λ (n : ℕ). search_refusal e n c.end-in-Err.result) c.end.ensures.end ∙ ap (search_refusal e c.args.input.now.end) c.end-in-Err.ensures.end);
+          c.start_search_error.ensures
+          ∙ (ap (λ (n : ℕ). start_search_error e n c.end-in-Err.result) c.end.ensures.end ∙ ap (start_search_error e c.args.input.now.end) c.end-in-Err.ensures.end);
     }

@@ -4,7 +4,7 @@ use Rattle.automata_base.specs.Answers.Answers.{offset_in}
 use Rattle.automata_base.specs.Haystacks.Tapes.{byte_before}
 use Rattle.automata_base.specs.declared.util.search.Direction.{Direction}
 use Rattle.automata_hybrid.specs.Searches.Passes.{behind_offset, tape_in}
-use Rattle.automata_hybrid.specs.Steps.Starts.{IsStartAnswer, IsStartEffect, IsStartRefusedAt}
+use Rattle.automata_hybrid.specs.Steps.Starts.{IsStartAnswer, IsStartEffect, StartFailsAt}
 use Rattle.automata_hybrid.proofs.dfa.DFA.walk_start.Goals as goal
 
 pub returns-in-Forward-clause-answer : goal.returns-in-Forward-clause-answer
@@ -15,8 +15,8 @@ returns-in-Forward-clause-answer c =
 pub returns-in-Forward-clause-refusal : goal.returns-in-Forward-clause-refusal
 returns-in-Forward-clause-refusal c =
     let at : c.args.input.now.start ≡ c.args.input.now.start + 0 = omega arith in
-    subst (λ (w : Direction). IfErr c.start_state_forward.result (IsStartRefusedAt c.args.self.now c.args.input.now.anchored (tape_in w c.args.input.now).before (behind_offset w c.args.input.now) (offset_in w c.args.input.now 0) c.args.cache.now c.start_state_forward.new.cache)) (sym c.in-Forward.is)
-    (subst (λ (n : ℕ). IfErr c.start_state_forward.result (IsStartRefusedAt c.args.self.now c.args.input.now.anchored (byte_before c.args.input.now.haystack c.args.input.now.start) (c.args.input.now.start - 1) n c.args.cache.now c.start_state_forward.new.cache)) at
+    subst (λ (w : Direction). IfErr c.start_state_forward.result (StartFailsAt c.args.self.now c.args.input.now.anchored (tape_in w c.args.input.now).before (behind_offset w c.args.input.now) (offset_in w c.args.input.now 0) c.args.cache.now c.start_state_forward.new.cache)) (sym c.in-Forward.is)
+    (subst (λ (n : ℕ). IfErr c.start_state_forward.result (StartFailsAt c.args.self.now c.args.input.now.anchored (byte_before c.args.input.now.haystack c.args.input.now.start) (c.args.input.now.start - 1) n c.args.cache.now c.start_state_forward.new.cache)) at
     c.start_state_forward.ensures.refusal)
 
 pub returns-in-Forward-clause-effect : goal.returns-in-Forward-clause-effect
@@ -32,8 +32,8 @@ returns-in-Backward-clause-answer c =
 pub returns-in-Backward-clause-refusal : goal.returns-in-Backward-clause-refusal
 returns-in-Backward-clause-refusal c =
     let at : c.args.input.now.end ≡ c.args.input.now.end - 0 = omega arith in
-    subst (λ (w : Direction). IfErr c.start_state_reverse.result (IsStartRefusedAt c.args.self.now c.args.input.now.anchored (tape_in w c.args.input.now).before (behind_offset w c.args.input.now) (offset_in w c.args.input.now 0) c.args.cache.now c.start_state_reverse.new.cache)) (sym c.in-Backward.is)
-    (subst (λ (n : ℕ). IfErr c.start_state_reverse.result (IsStartRefusedAt c.args.self.now c.args.input.now.anchored (slice_get c.args.input.now.haystack c.args.input.now.end) c.args.input.now.end n c.args.cache.now c.start_state_reverse.new.cache)) at
+    subst (λ (w : Direction). IfErr c.start_state_reverse.result (StartFailsAt c.args.self.now c.args.input.now.anchored (tape_in w c.args.input.now).before (behind_offset w c.args.input.now) (offset_in w c.args.input.now 0) c.args.cache.now c.start_state_reverse.new.cache)) (sym c.in-Backward.is)
+    (subst (λ (n : ℕ). IfErr c.start_state_reverse.result (StartFailsAt c.args.self.now c.args.input.now.anchored (slice_get c.args.input.now.haystack c.args.input.now.end) c.args.input.now.end n c.args.cache.now c.start_state_reverse.new.cache)) at
     c.start_state_reverse.ensures.refusal)
 
 pub returns-in-Backward-clause-effect : goal.returns-in-Backward-clause-effect

@@ -5,7 +5,7 @@ use Rattle.automata_base.specs.Answers.OfPasses.{ReportedEndsAreRight, ReportedI
 use Rattle.automata_base.specs.Haystacks.Input.{Input}
 use Rattle.automata_base.specs.Nfas.Nodes.{Automaton}
 use Rattle.automata_hybrid.specs.Machines.Machine.{Machine}
-use Rattle.regex_automata.specs.Spans.Errors.{IsNextRefusal}
+use Rattle.regex_automata.specs.Spans.Errors.{IsNextError}
 use Rattle.regex_automata.specs.Spans.Iteration.{GoesPast}
 use Rattle.example_patterns.proofs.Items.{refused}
 use Rattle.example_meaning.specs.Patterns.{span_input}
@@ -28,8 +28,8 @@ returns-clause-past c =
 
 pub returns-clause-refusal : goal.returns-clause-refusal
 returns-clause-refusal c =
-    subst (λ (v : Input). IfErr c.next_match.result (IsNextRefusal c.args.self.now.regex c.next_match.new.cache v c.args.last))
+    subst (λ (v : Input). IfErr c.next_match.result (IsNextError c.args.self.now.regex c.next_match.new.cache v c.args.last))
     (c.rest-input.ensures ∙ ap (λ n. span_input c.args.hay.now n (length c.args.hay.now)) c.unwrap_or.ensures)
-    (refused c.next_match.result (IsNextRefusal c.args.self.now.regex c.next_match.new.cache c.rest-input.result c.args.last)
+    (refused c.next_match.result (IsNextError c.args.self.now.regex c.next_match.new.cache c.rest-input.result c.args.last)
     (c.spans_follow.ensures.nexts c.rest-input.result c.args.last c.args.cache.now c.next_match.new.cache (result_err c.next_match.result)
     (c.haystack-haystack.ensures.bytes, c.haystack-haystack.ensures.within.1) c.requires.of c.next_match.ensures.effect).refused)

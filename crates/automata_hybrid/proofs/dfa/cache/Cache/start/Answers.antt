@@ -1,7 +1,7 @@
 use Rattle.std.proofs.Common.{◌∙◌, ◌^◌, ◌<◌, ◌≤◌, ap, arith, subst, sym}
 use Rattle.std.proofs.lemmas.Grind.{common_steps}
 use Rattle.automata_hybrid.specs.Machines.Machine.{Machine}
-use Rattle.automata_hybrid.specs.Steps.Starts.{IsStartRefused, KnowsStart}
+use Rattle.automata_hybrid.specs.Steps.Starts.{StartFails, KnowsStart}
 use Rattle.automata_hybrid.specs.Cache.Stores.{IsKnownStart}
 use Rattle.automata_hybrid.proofs.Steps.Starts.{knows_slot, known_answer, known_effect}
 use Rattle.automata_hybrid.proofs.dfa.cache.Cache.start.Goals as goal
@@ -28,4 +28,4 @@ compute_start-requires-clause-unknown c = λ knows.
 
 pub returns-in-Err-clause-refusal : goal.returns-in-Err-clause-refusal
 returns-in-Err-clause-refusal c =
-    subst (IsStartRefused c.args.dfa.now c.args.mode c.args.prev c.args.self.now c.compute_start.new.self) (sym c.start_refusal.ensures) c.in-Err.ensures.refusal
+    subst (StartFails c.args.dfa.now c.args.mode c.args.prev c.args.self.now c.compute_start.new.self) (sym c.start_error.ensures) c.in-Err.ensures.refusal

@@ -6,20 +6,20 @@ use Rattle.automata_base.specs.Nfas.ReversedSizes.{MayBeTooLarge}
 use Rattle.automata_base.specs.declared.nfa.thompson.ReverseError.{ReverseError}
 use Rattle.automata_base.specs.declared.nfa.thompson.ReverseError.TheVariants.{OutOfMemory, Starts, TooLarge}
 use Rattle.automata_config.specs.Options.{Options}
-use Rattle.regex_automata.specs.Regexes.Builds.{IsRefusal, PassesTwo, reverse_refusal}
+use Rattle.regex_automata.specs.Regexes.Builds.{IsBuildError, PassesTwo, reverse_build_error}
 use Rattle.regex_automata.proofs.hybrid.regex.build.reverse_if.Goals as goal
 
 -- an NFA that passes the tests before it is reversed cannot be
 unreversed :
     (o : Options) (a : Automaton) (e : ReverseError) → PassesTwo a → (e ≡ Starts → BeginsAlike a → ⊥)
-    → (e ≡ TooLarge → BeginsAlike a) → (e ≡ TooLarge → MayBeTooLarge a) → IsRefusal o a (reverse_refusal e)
+    → (e ≡ TooLarge → BeginsAlike a) → (e ≡ TooLarge → MayBeTooLarge a) → IsBuildError o a (reverse_build_error e)
 unreversed o a Starts passes starts alike large = (passes, starts refl)
 unreversed o a TooLarge passes starts alike large = ((passes, alike refl), large refl)
 unreversed o a OutOfMemory passes starts alike large = passes.0
 
 pub returns-in-Err-clause-refused : goal.returns-in-Err-clause-refused
 returns-in-Err-clause-refused c = λ o.
-    subst (IsRefusal o c.args.forward.now) (sym c.from.ensures)
+    subst (IsBuildError o c.args.forward.now) (sym c.from.ensures)
     (unreversed o c.args.forward.now c.in-Err.error (c.requires.lazy, c.requires.keeps.0 c.if-not-keeps.false)
     (λ is. c.in-Err.ensures.starts (ap Err is)) (λ is. c.in-Err.ensures.tested (ap Err is))
     (λ is. c.in-Err.ensures.large (ap Err is)))
