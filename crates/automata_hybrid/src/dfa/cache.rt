@@ -1,4 +1,4 @@
-//! The cache of a lazy DFA: its store, the buffers to determinize into, the self-loop that was followed last, leaps.
+//! The cache of a lazy DFA: its store, the buffers to determinize into, the self-loop that was followed last, and leaps.
 //! Steps, start states and searches do all that they do to a cache by these methods. A state that does not fit is
 //! added after a clear, which makes the new store beside the old one: an error leaves the cache as it was.
 ghost use Rattle.std.specs.Prelude.{ℕ, ◌≡◌, ◌*◌, ◌%◌, ◌<◌, ◌≤◌, IfOk, IfErr, OnOk, OnErr, slice_index};
@@ -54,7 +54,7 @@ pub(crate) enum Found {
 
 /// The states that a lazy DFA has determinized, their transitions, and the buffers to determinize more. Its accounted
 /// bytes, `memory_usage`, never exceed the capacity of the DFA's settings, or the minimum capacity if that was raised
-/// to. Its leaps, which do not count, take no more than these bytes leave of it.
+/// to.
 pub struct Cache {
     store: Store,
     scratch: Scratch,
@@ -507,8 +507,8 @@ impl Cache {
         }
     }
 
-    /// Makes leaps anew, if they pay and fit, and says when to look after them again. Where they cannot be made, that
-    /// is after the next clear.
+    /// Makes leaps anew, if they pay and fit, and says when to look after them again. Where they cannot be made, this is
+    /// after the next clear.
     #[inline(never)]
     fn make_leaps(&mut self, dfa: &DFA)
         requires { IsCacheOf self.old dfa.now }
@@ -647,6 +647,19 @@ impl Cache {
         ensures within { result ≤ self.now.store.table.of.capacity }
     {
         self.store.memory_usage()
+    }
+
+    /// The bytes that leaps take now, beside the accounted ones: by them a search over a long text reads a few bytes at a
+    /// step. Together they never exceed the capacity, or the minimum capacity if that was raised to. Leaps are made where
+    /// there is room for them, and dropped where a state is added or the cache is cleared.
+    pub fn leap_usage(&self) -> usize
+        ensures { usage self.now.store + result ≤ self.now.store.table.of.capacity }
+    {
+        self.see_bounds();
+        match &self.leaping.leaps {
+            Some(leaps) => leaps.shape.bytes(),
+            None => 0,
+        }
     }
 
     /// What is true of each cache; among it, that it is within the settings of the DFA that it belongs to. It does

@@ -170,7 +170,7 @@ impl DFA {
         }
     }
 
-    /// Follows cached transitions without a tag eight at once, up to a place or a little less, and a self-loop beyond.
+    /// Follows cached transitions without a tag eight at once, up to a place or a little less, and a self-loop beyond it.
     fn follow_few(
         &self,
         cache: &Cache,
@@ -284,8 +284,8 @@ impl DFA {
         self.follow_rest(cache, input, Direction::Forward, few.at, few.id, 0)
     }
 
-    /// Follows cached transitions without a tag from a place that is far in a run. It is given the parts of the input,
-    /// so that a short run keeps its numbers in registers.
+    /// Follows cached transitions without a tag from a place that is far in a run. It is given the parts of the input, so
+    /// that a short run keeps its numbers in registers.
     #[inline(never)]
     pub(super) fn follow_far(
         &self,

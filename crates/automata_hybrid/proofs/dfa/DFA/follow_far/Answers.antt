@@ -1,7 +1,7 @@
-use Rattle.std.proofs.Common.{subst}
+use Rattle.std.proofs.Common.{subst, sym}
 use Rattle.automata_base.specs.Haystacks.Input.{Input}
 use Rattle.automata_base.specs.declared.util.search.Direction.TheVariants.{Forward}
-use Rattle.automata_hybrid.specs.Searches.PassState.{IsRun}
+use Rattle.automata_hybrid.specs.Searches.PassState.{IsMet, IsRun, IsTagAt}
 use Rattle.automata_hybrid.proofs.dfa.DFA.follow_far.Goals as goal
 
 pub returns-in-Some-clause-run : goal.returns-in-Some-clause-run

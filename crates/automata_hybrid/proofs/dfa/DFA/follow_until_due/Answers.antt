@@ -1,3 +1,4 @@
+use Rattle.std.proofs.Common.{arith}
 use Rattle.automata_hybrid.proofs.Searches.Runs.{run_at, run_on}
 use Rattle.automata_hybrid.proofs.dfa.DFA.follow_until_due.Goals as goal
 
