@@ -1,8 +1,8 @@
 -- How leaps are made of a table: steps on one class, levels of them, and the cells of the last level.
 use Rattle.std.proofs.Common.{ℕ, zero, suc, ◌≡◌, ◌∙◌, ◌+◌, ◌-◌, ◌*◌, ◌/◌, ◌%◌, ◌^◌, ◌<◌, ◌≤◌, ◌⊎◌, inl, inr, Bool, true, false}
-use Rattle.std.proofs.Common.{List, [], ◌∷◌, ◌++◌, length, refl, slice_index, sym, ap, subst, arith, nat_lt, cond, Option, None, Some}
+use Rattle.std.proofs.Common.{List, [], ◌∷◌, ◌++◌, length, refl, slice_index, sym, ap, subst, arith, cond, Option, None, Some}
 use Rattle.std.proofs.Common.{drop, slice_get, slice_set, sum_by, take}
-use Rattle.std.proofs.Math.Nat.{mul-le-mul_left, mul-le-mul_right, pow-le-pow_left, pow-suc}
+use Rattle.std.proofs.Math.Nat.{mul-le-mul_left, mul-le-mul_right, pow-le-pow_left}
 use Rattle.std.proofs.lemmas.Bool.{cases_lt, le-ltb, lt-ltb}
 use Rattle.std.proofs.lemmas.List.{get_or-append-add, get_or-drop, get_or-set_other, get_or-take, get_or_append_left, get_or_push, length-append}
 use Rattle.std.proofs.lemmas.List.{length-drop, length-set, length-take-le}

@@ -16,7 +16,9 @@ use Rattle.automata_hybrid.specs.Steps.Steps.{known_step}
 use Rattle.automata_hybrid.specs.Machines.Machine.{unit_class}
 use Rattle.automata_hybrid.specs.Machines.Machine.{Machine}
 use Rattle.automata_hybrid.specs.Searches.PassState.{HasLearnedUnit, IsAt, IsFollowed, IsMet, IsRun, IsTagAt}
+use Rattle.automata_hybrid.specs.Searches.PassContracts.{RunsTo}
 use Rattle.automata_hybrid.specs.Searches.PassState.{IsTaken, half_at, half_of}
+use Rattle.automata_hybrid.specs.declared.search.pass.Place.{Place}
 use Rattle.automata_hybrid.specs.Searches.Passes.{HasReadNoQuit, state_in, tape_in, reported_in}
 use Rattle.automata_hybrid.specs.Cache.Table.{Leads, Names}
 use Rattle.automata_hybrid.specs.Walks.Answers.{IsSilent}
@@ -221,3 +223,23 @@ known_after {way} {m} {c} {input} {tag} {tag'} {from} {mid} f g k more less = go
   go : (k < mid) ⊎ (mid ≤ k) → HasLearnedUnit way m c input k
   go (inl before) = followed_known f k more before
   go (inr behind) = followed_known g k behind less
+
+-- what was followed without a tag takes a pass on from where it was
+pub runs_on :
+    {way : Direction} {m : Machine} {c : Stored} {input : Input} {from : ℕ} {place : Place} {to id met : ℕ}
+    → RunsTo way m c input from place → to ≤ input.end - input.start → IsFollowed way m c input 0 place.at to id
+    → IsMet way m c input to id met
+    → RunsTo way m c input from (record { at = to; id = id; found = place.found; next = met })
+runs_on {way} {m} {c} {input} {from} {place} {to} near within far met =
+    record {
+      run = record {
+        more = omega (arith, near.run.more, far.more);
+        within = within;
+        known = λ k more less. each k more less (cases_lt k place.at);
+      };
+      at = followed_at far near.at;
+      met = met;
+    } where
+      each : (k : ℕ) → from ≤ k → k < to → (k < place.at) ⊎ (place.at ≤ k) → HasLearnedUnit way m c input k
+      each k more less (inl before) = near.run.known k more before
+      each k more less (inr behind) = followed_known far k behind less

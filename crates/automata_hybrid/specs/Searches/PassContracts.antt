@@ -7,7 +7,8 @@ use Rattle.automata_base.specs.declared.util.search.Anchored.{Anchored}
 use Rattle.automata_base.specs.declared.util.search.Span.{Span}
 use Rattle.automata_hybrid.specs.Cache.Caches.{CacheView, IsCacheOf}
 use Rattle.automata_hybrid.specs.Machines.Machine.{Machine}
-use Rattle.automata_hybrid.specs.Searches.PassState.{HasLearnedUnit, IsAt, found_over}
+use Rattle.automata_hybrid.specs.Searches.PassState.{HasLearnedUnit, HasRun, IsAt, IsMet, found_over}
+use Rattle.automata_hybrid.specs.declared.search.pass.Place.{Place}
 use Rattle.automata_hybrid.specs.Cache.Stores.{Stored}
 use Rattle.automata_hybrid.specs.Searches.Passes.{MeetsNoQuit, Reads, tape_in}
 use Rattle.automata_hybrid.specs.Machines.StartSlots.{supports}
@@ -51,6 +52,12 @@ pub record IsKnownUpto (way : Direction) (m : Machine) (c : Stored) (input : Inp
   pub within : k ≤ input.end - input.start
   pub at : IsUnderway way m c.table input k id found
   pub known : (j : ℕ) → j < k → HasLearnedUnit way m c input j
+
+-- cached transitions led a pass from one place on to another, where it has this ID, has found this, and met this ID next
+pub record RunsTo (way : Direction) (m : Machine) (c : Stored) (input : Input) (from : ℕ) (to : Place) : Type 0 where
+  pub run : HasRun way m c input from to.at
+  pub at : IsAt way m c.table input to.at to.id to.found
+  pub met : IsMet way m c input to.at to.id to.next
 
 -- a half match by its parts, if there is one
 abbrev pub half_from : Bool → (pattern offset : ℕ) → Option HalfMatch

@@ -1,9 +1,9 @@
-//! Leaps: where cached transitions lead from a row on a few bytes, looked up at once. They are made of the table for all
-//! rows that it has, and by the classes of bytes. A cell says which row comes after so many bytes, if each transition on
-//! the way is cached and leads to an ID without a tag, and else that these bytes are to be followed one by one. So they
-//! say nothing that the table does not say, and no contract of a search speaks of them.
-ghost use Rattle.std.specs.Prelude.{ℕ, suc, ◌≡◌, true, false, ◌+◌, ◌*◌, ◌^◌, ◌<◌, ◌≤◌, IfOk, IfSome, None, OnOk, length, slice_index};
-ghost use Rattle.automata_base.specs.ByteClasses.Classes.{eoi_class};
+//! Leaps: where cached transitions lead from a row on a few bytes, looked up at once. They are made of the table for
+//! all rows that it has, and by the classes of bytes. A cell says which row comes after so many bytes, if each
+//! transition on the way is cached and leads to an ID without a tag, and else that these bytes are to be followed one
+//! by one. So they say nothing that the table does not say, and no contract of a search speaks of them.
+ghost use Rattle.std.specs.Prelude.{ℕ, suc, ◌≡◌, true, false, ◌+◌, ◌*◌, ◌^◌, ◌<◌, ◌≤◌, IfOk, IfSome, None, OnOk};
+ghost use Rattle.std.specs.Prelude.{length, slice_index};
 ghost use Rattle.automata_hybrid.specs.Cache.Leaps.{AreLeaps, AreSteps, IsLevel, IsShape, IsShapeOf, first_cell};
 ghost use Rattle.automata_hybrid.specs.Cache.Leaps.{leaps_bytes};
 

@@ -159,7 +159,7 @@ impl DFA {
                 Direction::Forward,
                 first.at,
                 first.id,
-                false,
+                last_place(input),
             ),
             Direction::Backward => self.follow(
                 cache,
@@ -167,7 +167,7 @@ impl DFA {
                 Direction::Backward,
                 first.at,
                 first.id,
-                false,
+                last_place(input),
             ),
         }
     }

@@ -17,10 +17,7 @@ use automata_base::util::search::{Direction, Input};
 
 /// How many bytes are followed before a self-loop is looked for again, if one was looked for in vain. That look reads
 /// up to eight cells, which is little beside so many bytes.
-pub(super) const PATIENCE: usize = 128;
-
-/// How many bytes are followed eight at once before leaps are tried.
-pub(super) const NEAR: usize = 48;
+const PATIENCE: usize = 128;
 
 /// Where cached transitions were followed to.
 #[derive(Clone, Copy)]
@@ -31,24 +28,8 @@ pub(super) struct Stop {
     pub(super) next: LazyStateID,
 }
 
-/// The place up to which transitions are followed eight at once: the last one, or a near one where leaps are tried.
-#[inline(always)]
-fn near_place(at: usize, last: usize, leaps: bool) -> usize
-    requires { at ≤ last }
-    ensures from { at ≤ result }
-    ensures upto { result ≤ last }
-    ensures last { leaps ≡ false → result ≡ last }
-{
-    if leaps && last - at > NEAR {
-        at + NEAR
-    } else {
-        last
-    }
-}
-
 impl DFA {
-    /// Follows cached transitions without a tag, from an ID that may have one. Leaps are tried only where that is asked
-    /// for, and forward.
+    /// Follows cached transitions without a tag, from an ID that may have one, up to a place, and a self-loop beyond it.
     #[inline(always)]
     pub(super) fn follow(
         &self,
@@ -57,21 +38,21 @@ impl DFA {
         way: Direction,
         start: usize,
         from: LazyStateID,
-        leaps: bool,
+        end: usize,
     ) -> Stop
         requires of { IsCacheOf cache.now self.now }
-        requires leaps { leaps ≡ true → way ≡ Forward }
         requires open { input.now.start ≤ input.now.end }
         requires within { start ≤ input.now.end - input.now.start }
+        requires upto { end ≤ input.now.end - input.now.start }
         requires named { Names cache.now.store.table from (state_in way self.now input.now start) }
         ensures within { result.at ≤ input.now.end - input.now.start }
         ensures followed { IsFollowed way self.now cache.now.store input.now 0 start result.at result.id }
         ensures met { IsMet way self.now cache.now.store input.now result.at result.id result.next }
     {
         if from.has_only(0) {
-            return self.follow_tag(cache, input, way, start, from, 0, leaps);
+            return self.follow_tag(cache, input, way, start, from, 0, end);
         }
-        if start >= last_place(input) {
+        if start >= end {
             return Stop {
                 at: start,
                 id: from,
@@ -112,13 +93,13 @@ impl DFA {
             start + 1,
             next,
             LazyStateID::MATCH,
-            false,
+            last_place(input),
         )
     }
 
-    /// Follows cached transitions between IDs that have a tag and no other. Leaps are tried only without a tag.
+    /// Follows cached transitions between IDs that have a tag and no other, up to a place, and a self-loop beyond it.
     #[inline(always)]
-    fn follow_tag(
+    pub(super) fn follow_tag(
         &self,
         cache: &Cache,
         input: &Input<'_>,
@@ -126,26 +107,25 @@ impl DFA {
         start: usize,
         from: LazyStateID,
         tag: u32,
-        leaps: bool,
+        end: usize,
     ) -> Stop
         requires of { IsCacheOf cache.now self.now }
-        requires leaps { leaps ≡ true → (way ≡ Forward) × (tag ≡ 0) }
         requires open { input.now.start ≤ input.now.end }
         requires within { start ≤ input.now.end - input.now.start }
+        requires upto { end ≤ input.now.end - input.now.start }
         requires at { IsTagAt way self.now cache.now.store.table input.now tag start from }
         ensures within { result.at ≤ input.now.end - input.now.start }
         ensures run { IsRun way self.now cache.now.store input.now tag start result.at result.id }
         ensures met { IsMet way self.now cache.now.store input.now result.at result.id result.next }
     {
-        let last = last_place(input);
-        if last - start < 8 {
-            return self.follow_rest(cache, input, way, start, from, tag);
+        let _haystack = input.haystack();
+        if start + 8 > end {
+            return self.follow_rest(cache, input, way, start, from, tag, end);
         }
         let mut at = start;
         let mut id = from;
         let mut again = start;
-        let mut end = near_place(start, last, leaps);
-        'eights: while end - at >= 8 {
+        'eights: while at + 8 <= end {
             let eight = self.follow_eight(cache, input, way, at, id, tag);
             if eight.at != at + 8 {
                 return eight;
@@ -159,47 +139,15 @@ impl DFA {
             let stop = self.follow_loop(cache, input, way, at, id);
             if stop == at {
                 again = at.saturating_add(PATIENCE);
-            } else {
-                end = near_place(stop, last, leaps);
             }
             at = stop;
         }
-        if leaps && last - at >= NEAR {
-            return self.far_from(cache, input, at, id);
-        }
-        self.follow_rest(cache, input, way, at, id, tag)
-    }
-
-    /// Goes on far in a run forward without a tag.
-    #[inline(always)]
-    fn far_from(&self, cache: &Cache, input: &Input<'_>, start: usize, from: LazyStateID) -> Stop
-        requires of { IsCacheOf cache.now self.now }
-        requires open { input.now.start ≤ input.now.end }
-        requires within { start ≤ input.now.end - input.now.start }
-        requires at { IsTagAt Forward self.now cache.now.store.table input.now 0 start from }
-        ensures within { result.at ≤ input.now.end - input.now.start }
-        ensures run { IsRun Forward self.now cache.now.store input.now 0 start result.at result.id }
-        ensures met { IsMet Forward self.now cache.now.store input.now result.at result.id result.next }
-    {
-        let far = self.follow_far(
-            cache,
-            input.haystack(),
-            input.get_span(),
-            input.get_anchored(),
-            input.get_earliest(),
-            start,
-            from,
-        );
-        Stop {
-            at: far.at,
-            id: far.id,
-            next: far.next,
-        }
+        self.follow_rest(cache, input, way, at, id, tag, end)
     }
 
     /// Follows eight of them, or those before the first other one.
     #[inline(always)]
-    pub(super) fn follow_eight(
+    fn follow_eight(
         &self,
         cache: &Cache,
         input: &Input<'_>,
@@ -237,9 +185,9 @@ impl DFA {
         }
     }
 
-    /// Follows them one by one.
+    /// Follows them one by one, up to a place.
     #[inline(always)]
-    pub(super) fn follow_rest(
+    fn follow_rest(
         &self,
         cache: &Cache,
         input: &Input<'_>,
@@ -247,19 +195,20 @@ impl DFA {
         start: usize,
         from: LazyStateID,
         tag: u32,
+        end: usize,
     ) -> Stop
         requires of { IsCacheOf cache.now self.now }
         requires open { input.now.start ≤ input.now.end }
         requires within { start ≤ input.now.end - input.now.start }
+        requires upto { end ≤ input.now.end - input.now.start }
         requires at { IsTagAt way self.now cache.now.store.table input.now tag start from }
         ensures within { result.at ≤ input.now.end - input.now.start }
         ensures run { IsRun way self.now cache.now.store input.now tag start result.at result.id }
         ensures met { IsMet way self.now cache.now.store input.now result.at result.id result.next }
     {
-        let last = last_place(input);
         let mut at = start;
         let mut row = from.offset_by(tag);
-        'rest: while at < last {
+        'rest: while at < end {
             let id = LazyStateID::at_offset(row, tag);
             let next = self.follow_byte(cache, input, way, at, id, row, tag);
             let offset = next.offset_by(tag);
@@ -300,7 +249,7 @@ impl DFA {
 
     /// Follows the self-loop of an ID that may have a tag, if its row has one.
     #[inline(always)]
-    pub(super) fn follow_loop(
+    fn follow_loop(
         &self,
         cache: &Cache,
         input: &Input<'_>,

@@ -2,24 +2,27 @@
 //! without a tag alone, far in a run.
 ghost use Rattle.std.specs.Prelude.{ℕ, ◌≡◌, ◌+◌, ◌-◌, ◌*◌, ◌^◌, ◌<◌, ◌≤◌, length, slice_index};
 ghost use Rattle.automata_base.specs.ByteClasses.Classes.{AreClasses, eoi_class};
-ghost use Rattle.automata_base.specs.Haystacks.Input.{Allows};
 ghost use Rattle.automata_base.specs.declared.util.search.Direction.TheVariants.{Forward};
 ghost use Rattle.automata_hybrid.specs.Cache.Caches.{IsCacheOf};
 ghost use Rattle.automata_hybrid.specs.Cache.Ids.{offset_limit};
 ghost use Rattle.automata_hybrid.specs.Cache.Leaps.{AreLeaps};
-ghost use Rattle.automata_hybrid.specs.Cache.Table.{IsRowId};
+ghost use Rattle.automata_hybrid.specs.Cache.Table.{IsRowId, Names};
 ghost use Rattle.automata_hybrid.specs.Searches.Leaps.{IsLeapt, LeadsIds, column_of};
-ghost use Rattle.automata_hybrid.specs.Searches.PassContracts.{input_at};
-ghost use Rattle.automata_hybrid.specs.Searches.PassState.{IsMet, IsRun, IsTagAt};
+ghost use Rattle.automata_hybrid.specs.Searches.PassContracts.{MayBegin, input_at};
+ghost use Rattle.automata_hybrid.specs.Searches.PassState.{IsFollowed, IsMet, IsRun, IsTagAt};
+ghost use Rattle.automata_hybrid.specs.Searches.Passes.{state_in};
 
 use crate::dfa::DFA;
 use crate::dfa::cache::Cache;
 use crate::dfa::leaps::{Leaps, MARK};
 use crate::id::LazyStateID;
 use crate::search::direction::{bytes_from, last_place};
-use crate::search::follow::{NEAR, PATIENCE, Stop};
+use crate::search::follow::Stop;
 use crate::search::pass::input_of;
 use automata_base::util::search::{Anchored, Direction, Input, Span};
+
+/// How many bytes are followed one by one before leaps are looked after again.
+pub(super) const NEAR: usize = 48;
 
 /// Leaps that took fewer bytes than these were short.
 const SHORT: usize = 32;
@@ -70,17 +73,6 @@ fn wait_after(len: usize, wait: usize) -> usize
 }
 
 impl DFA {
-    /// Has a cache look after its leaps, once a search has come to a place that is far enough for leaps.
-    #[inline(always)]
-    pub(super) fn prepare_leaps(&self, cache: &mut Cache, place: usize)
-        requires { IsCacheOf cache.old self.now }
-        ensures { cache.new ≡ cache.old }
-    {
-        if place >= NEAR {
-            cache.prepare_leaps(self);
-        }
-    }
-
     /// The column of the classes of the bytes from a place on.
     #[inline(always)]
     fn column(&self, classes: usize, reach: usize, bytes: &[u8], at: usize) -> usize
@@ -170,53 +162,6 @@ impl DFA {
         }
     }
 
-    /// Follows cached transitions without a tag eight at once, up to a place or a little less, and a self-loop beyond it.
-    fn follow_few(
-        &self,
-        cache: &Cache,
-        input: &Input<'_>,
-        start: usize,
-        from: LazyStateID,
-        end: usize,
-    ) -> Stop
-        requires of { IsCacheOf cache.now self.now }
-        requires open { input.now.start ≤ input.now.end }
-        requires within { start ≤ input.now.end - input.now.start }
-        requires upto { end ≤ input.now.end - input.now.start }
-        requires at { IsTagAt Forward self.now cache.now.store.table input.now 0 start from }
-        ensures within { result.at ≤ input.now.end - input.now.start }
-        ensures run { IsRun Forward self.now cache.now.store input.now 0 start result.at result.id }
-        ensures met { IsMet Forward self.now cache.now.store input.now result.at result.id result.next }
-    {
-        let way = Direction::Forward;
-        let _last = last_place(input);
-        let mut at = start;
-        let mut id = from;
-        let mut again = start;
-        'eights: while at < end && end - at >= 8 {
-            let eight = self.follow_eight(cache, input, way, at, id, 0);
-            if eight.at != at + 8 {
-                return eight;
-            }
-            let same = eight.id == id;
-            at = eight.at;
-            id = eight.id;
-            if at < again || !same {
-                continue;
-            }
-            let stop = self.follow_loop(cache, input, way, at, id);
-            if stop == at {
-                again = at.saturating_add(PATIENCE);
-            }
-            at = stop;
-        }
-        Stop {
-            at,
-            id,
-            next: LazyStateID::UNKNOWN,
-        }
-    }
-
     /// Leaps, and follows some bytes one by one where leaps do not lead on: the more, the shorter leaps have been.
     fn follow_leaps(
         &self,
@@ -246,50 +191,26 @@ impl DFA {
             at += far.len;
             wait = wait_after(far.len, wait);
             let end = last.min(at + wait);
-            let few = self.follow_few(cache, input, at, far.id, end);
-            if few.at < end && end - few.at >= 8 {
+            let few = self.follow_tag(cache, input, Direction::Forward, at, far.id, 0, end);
+            if few.at < end {
                 return few;
             }
             at = few.at;
             id = few.id;
         }
-        self.follow_rest(cache, input, Direction::Forward, at, id, 0)
+        Stop {
+            at,
+            id,
+            next: LazyStateID::UNKNOWN,
+        }
     }
 
-    /// Follows cached transitions one by one, where there are no leaps, and stops where leaps may be made.
-    fn follow_until_due(
-        &self,
-        cache: &Cache,
-        input: &Input<'_>,
-        start: usize,
-        from: LazyStateID,
-    ) -> Stop
-        requires of { IsCacheOf cache.now self.now }
-        requires open { input.now.start ≤ input.now.end }
-        requires within { start ≤ input.now.end - input.now.start }
-        requires at { IsTagAt Forward self.now cache.now.store.table input.now 0 start from }
-        ensures within { result.at ≤ input.now.end - input.now.start }
-        ensures run { IsRun Forward self.now cache.now.store input.now 0 start result.at result.id }
-        ensures met { IsMet Forward self.now cache.now.store input.now result.at result.id result.next }
-    {
-        let last = last_place(input);
-        let end = last.min(start.saturating_add(cache.bytes_before_leaps()));
-        let few = self.follow_few(cache, input, start, from, end);
-        if end < last {
-            return few;
-        }
-        if few.at < last && last - few.at >= 8 {
-            return few;
-        }
-        self.follow_rest(cache, input, Direction::Forward, few.at, few.id, 0)
-    }
-
-    /// Follows cached transitions without a tag from a place that is far in a run. It is given the parts of the input, so
-    /// that a short run keeps its numbers in registers.
+    /// Leaps, if there are leaps and from an ID without a tag. They are looked after first. It is given the parts of the
+    /// input, so that a search without leaps keeps its numbers in registers.
     #[inline(never)]
     pub(super) fn follow_far(
         &self,
-        cache: &Cache,
+        cache: &mut Cache,
         haystack: &[u8],
         span: Span,
         anchored: Anchored,
@@ -297,22 +218,29 @@ impl DFA {
         start: usize,
         from: LazyStateID,
     ) -> Stop
-        requires of { IsCacheOf cache.now self.now }
-        requires allowed { Allows haystack.now span.start span.end }
+        requires may { MayBegin self.now cache.old (input_at haystack.now span anchored earliest) }
         requires open { span.start ≤ span.end }
         requires within { start ≤ span.end - span.start }
-        requires at { IsTagAt Forward self.now cache.now.store.table
-            (input_at haystack.now span anchored earliest) 0 start from }
+        requires named { Names cache.old.store.table from (state_in Forward self.now
+            (input_at haystack.now span anchored earliest) start) }
+        ensures same { cache.new ≡ cache.old }
         ensures within { result.at ≤ span.end - span.start }
-        ensures run { IsRun Forward self.now cache.now.store
+        ensures followed { IsFollowed Forward self.now cache.old.store
             (input_at haystack.now span anchored earliest) 0 start result.at result.id }
-        ensures met { IsMet Forward self.now cache.now.store
+        ensures met { IsMet Forward self.now cache.old.store
             (input_at haystack.now span anchored earliest) result.at result.id result.next }
     {
-        let own = input_of(haystack, span, anchored, earliest);
-        match cache.leaps() {
-            Some(leaps) => self.follow_leaps(cache, leaps, &own, start, from),
-            None => self.follow_until_due(cache, &own, start, from),
+        cache.prepare_leaps(self);
+        if from.has_only(0) {
+            if let Some(leaps) = cache.leaps() {
+                let own = input_of(haystack, span, anchored, earliest);
+                return self.follow_leaps(cache, leaps, &own, start, from);
+            }
+        }
+        Stop {
+            at: start,
+            id: from,
+            next: LazyStateID::UNKNOWN,
         }
     }
 }

@@ -1,5 +1,5 @@
 //! One run over the span of an input, in either direction.
-ghost use Rattle.std.specs.Prelude.{◌≡◌, ◌-◌, ◌<◌, ◌≤◌, IfOk, IfErr, OnOk};
+ghost use Rattle.std.specs.Prelude.{ℕ, ◌≡◌, ◌-◌, ◌<◌, ◌≤◌, IfOk, IfErr, OnOk};
 ghost use Rattle.std.specs.Prelude.{None, Err};
 ghost use Rattle.std.specs.Result.{result_err};
 ghost use Rattle.automata_base.specs.Haystacks.Input.{Allows};
@@ -10,7 +10,8 @@ ghost use Rattle.automata_hybrid.specs.Searches.Contracts.{IsUnsupported, unsupp
 ghost use Rattle.automata_hybrid.specs.Searches.PassContracts.{IsKnownUpto, IsPassAnswer};
 ghost use Rattle.automata_hybrid.specs.Searches.PassContracts.{IsTakenUp, half_from};
 ghost use Rattle.automata_hybrid.specs.Searches.PassContracts.{IsUnderway, input_at};
-ghost use Rattle.automata_hybrid.specs.Searches.PassState.{HasRun, IsAt, IsMet};
+ghost use Rattle.automata_hybrid.specs.Searches.PassState.{IsAt};
+ghost use Rattle.automata_hybrid.specs.Searches.PassContracts.{RunsTo};
 ghost use Rattle.automata_hybrid.specs.Searches.Units.{IsEndProgress, IsStillProgress};
 ghost use Rattle.automata_hybrid.specs.Searches.Progress.{EndsAtLast, IsPassRun, IsStoppedAt, KeepsNone};
 ghost use Rattle.automata_hybrid.specs.Searches.Passes.{IsUnitError};
@@ -23,6 +24,7 @@ use crate::search::direction::{
     byte_at, byte_offset, bytes_read, end_before_last, keeps_none, last_place, place_offset,
     span_offset, unit_at, unit_offset,
 };
+use crate::search::leap::NEAR;
 use automata_base::util::primitives::PatternID;
 use automata_base::util::search::{Anchored, Direction, HalfMatch, Input, Span};
 use automata_config::error::SearchError;
@@ -72,6 +74,17 @@ pub(super) fn input_of<'h>(
         .span(span)
         .anchored(anchored)
         .earliest(earliest)
+}
+
+/// The place up to which a run from a place follows cached transitions before leaps are looked after.
+#[inline(always)]
+fn near_end(cache: &Cache, way: Direction, at: usize, last: usize) -> usize
+    ensures { result ≤ last }
+{
+    match way {
+        Direction::Forward => last.min(at.saturating_add(cache.bytes_before_leaps().max(NEAR))),
+        Direction::Backward => last,
+    }
 }
 
 impl DFA {
@@ -212,7 +225,8 @@ impl DFA {
     }
 
     /// Follows cached transitions as far as they report nothing, and then into states that have patterns: the last of
-    /// these is asked for its pattern. An earliest search follows the first ones alone.
+    /// these is asked for its pattern. An earliest search follows the first ones alone. Up to a place those that report
+    /// nothing are followed, and a self-loop beyond it.
     #[inline(always)]
     pub(super) fn run(
         &self,
@@ -222,20 +236,16 @@ impl DFA {
         start: usize,
         from: LazyStateID,
         found: Option<HalfMatch>,
+        end: usize,
     ) -> Place
         requires of { IsCacheOf cache.now self.now }
         requires open { input.now.start ≤ input.now.end }
         requires within { start ≤ input.now.end - input.now.start }
+        requires upto { end ≤ input.now.end - input.now.start }
         requires at { IsAt way self.now cache.now.store.table input.now start from found }
-        ensures run { HasRun way self.now cache.now.store input.now start result.at }
-        ensures at { IsAt way self.now cache.now.store.table input.now result.at result.id result.found }
-        ensures met { IsMet way self.now cache.now.store input.now result.at result.id result.next }
+        ensures { RunsTo way self.now cache.now.store input.now start result }
     {
-        let leaps = match way {
-            Direction::Forward => true,
-            Direction::Backward => false,
-        };
-        let quiet = self.follow(cache, input, way, start, from, leaps);
+        let quiet = self.follow(cache, input, way, start, from, end);
         if input.get_earliest() {
             return Place {
                 at: quiet.at,
@@ -323,8 +333,11 @@ impl DFA {
         let mut at = from;
         let mut id = start;
         let mut found = before;
+        let mut end = near_end(cache, way, from, last);
         while at < last {
-            let run = self.run(cache, input, way, at, id, found);
+            let near = self.run(cache, input, way, at, id, found, end);
+            let (run, due) = self.go_far(cache, input, way, near, end);
+            end = due;
             if run.at >= last {
                 return self.find_end(cache, input, way, run.id, run.found);
             }
@@ -344,11 +357,71 @@ impl DFA {
                 cache.end_search(offset);
                 return Ok(found);
             }
-            self.prepare_leaps(cache, run.at);
             id = next;
             at = run.at + 1;
         }
         self.find_end(cache, input, way, id, found)
+    }
+
+    /// Goes on by leaps, where a run forward has come to the place where they are looked after; and the place where they
+    /// are looked after next.
+    #[inline(always)]
+    fn go_far(
+        &self,
+        cache: &mut Cache,
+        input: &Input<'_>,
+        way: Direction,
+        near: Place,
+        end: usize,
+    ) -> (Place, usize)
+        requires of { IsCacheOf cache.old self.now }
+        requires open { input.now.start ≤ input.now.end }
+        requires upto { end ≤ input.now.end - input.now.start }
+        requires runs { (from : ℕ) × RunsTo way self.now cache.old.store input.now from near }
+        ensures same { cache.new ≡ cache.old }
+        ensures runs { (from : ℕ) → RunsTo way self.now cache.old.store input.now from near
+            → RunsTo way self.now cache.new.store input.now from result.0 }
+        ensures upto { result.1 ≤ input.now.end - input.now.start }
+    {
+        let last = last_place(input);
+        if near.at < end || near.at >= last {
+            return (near, end);
+        }
+        let far = self.leap_on(cache, input, way, near);
+        let due = near_end(cache, way, far.at, last);
+        (far, due)
+    }
+
+    /// Goes on by leaps, if there are some.
+    #[inline(always)]
+    fn leap_on(&self, cache: &mut Cache, input: &Input<'_>, way: Direction, near: Place) -> Place
+        requires of { IsCacheOf cache.old self.now }
+        requires open { input.now.start ≤ input.now.end }
+        requires runs { (from : ℕ) × RunsTo way self.now cache.old.store input.now from near }
+        ensures same { cache.new ≡ cache.old }
+        ensures runs { (from : ℕ) → RunsTo way self.now cache.old.store input.now from near
+            → RunsTo way self.now cache.new.store input.now from result }
+    {
+        match way {
+            Direction::Backward => near,
+            Direction::Forward => {
+                let far = self.follow_far(
+                    cache,
+                    input.haystack(),
+                    input.get_span(),
+                    input.get_anchored(),
+                    input.get_earliest(),
+                    near.at,
+                    near.id,
+                );
+                Place {
+                    at: far.at,
+                    id: far.id,
+                    found: near.found,
+                    next: far.next,
+                }
+            }
+        }
     }
 
     /// The step at the last place: on the byte after the span, or on the haystack's end.

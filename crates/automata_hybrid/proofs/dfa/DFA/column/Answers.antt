@@ -1,5 +1,4 @@
-use Rattle.std.proofs.Common.{◌≡◌, ◌∙◌, ◌+◌, ◌*◌, ◌<◌, ◌^◌, suc, ap, subst, sym, arith}
-use Rattle.automata_base.specs.ByteClasses.Classes.{class_in}
+use Rattle.std.proofs.Common.{◌≡◌, ◌+◌, ◌*◌, ◌<◌, ◌^◌, suc, subst, arith}
 use Rattle.automata_hybrid.specs.Searches.Leaps.{column_of}
 use Rattle.automata_hybrid.proofs.Searches.Leaps.{column_below, column_fits}
 use Rattle.automata_hybrid.proofs.dfa.DFA.column.Goals as goal

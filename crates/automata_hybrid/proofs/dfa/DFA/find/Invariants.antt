@@ -8,6 +8,7 @@ abbrev pub invariant-loop-at : goal.invariant-loop-at
 invariant-loop-at l = record {
   of : IsCacheOf l.cache l.self;
   within : l.at ≤ l.last;
+  upto : l.end ≤ l.input.end - l.input.start;
   at : IsAt l.way l.self l.cache.store.table l.input l.at l.id l.found;
   progress : AreReadBehind l.way l.self l.input 0 l.at l.fn.cache l.cache;
 }

@@ -11,8 +11,8 @@ follow_tag-requires-clause-at c =
 pub returns-then-has_only-clause-followed : goal.returns-then-has_only-clause-followed
 returns-then-has_only-clause-followed c = c.follow_tag.ensures.run.followed
 
-pub returns-then-start-last_place-clause-followed : goal.returns-then-start-last_place-clause-followed
-returns-then-start-last_place-clause-followed c =
+pub returns-then-start-end-clause-followed : goal.returns-then-start-end-clause-followed
+returns-then-start-end-clause-followed c =
     followed_none c.args.way c.args.self.now c.args.cache.now.store c.args.input.now 0 c.args.start c.args.from c.requires.named
 
 pub returns-clause-followed : goal.returns-clause-followed
@@ -22,6 +22,6 @@ returns-clause-followed c =
 pub returns-clause-met : goal.returns-clause-met
 returns-clause-met c =
     met_at c.args.way c.args.self.now c.args.cache.now.store c.args.input.now c.args.start c.args.from c.next_state_known.result c.byte_at.result
-    (omega (arith, c.if-start-last_place.false, c.last_place.ensures.place)) c.byte_at.ensures c.next_state_known.ensures.value
+    (omega (arith, c.if-start-end.false, c.requires.upto)) c.byte_at.ensures c.next_state_known.ensures.value
     (subst (λ (m : Machine). class_in c.args.self.now.classes c.byte_at.result < m.stride) (sym c.requires.of) c.next_state_known.ensures.below)
     c.next_state_known.ensures.quit c.next_state_known.ensures.named c.requires.named

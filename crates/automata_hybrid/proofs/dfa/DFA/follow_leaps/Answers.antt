@@ -9,8 +9,8 @@ turns-init c = record { within = omega (arith, c.requires.within, c.last_place-l
 pub leap_from-far-requires-clause-valid : goal.leap_from-far-requires-clause-valid
 leap_from-far-requires-clause-valid c = (_, c.turns.invariant.run.followed.named)
 
-pub follow_few-few-requires-clause-at : goal.follow_few-few-requires-clause-at
-follow_few-few-requires-clause-at c =
+pub follow_tag-few-requires-clause-at : goal.follow_tag-few-requires-clause-at
+follow_tag-few-requires-clause-at c =
     run_at c.requires.at.kind
     (run_over {c = c.args.cache.now.store} c.bytes_from.result.now c.see_machine.ensures.machine c.see_machine.ensures.rising c.requires.of c.see_bounds.ensures.bounds.rows
     c.leap_from-far.ensures.bytes c.bytes_from.ensures.units (run_at c.requires.at.kind c.turns.invariant.run) c.leap_from-far.ensures.leads)
@@ -20,17 +20,17 @@ turns-preserved c =
     let far = run_over {c = c.args.cache.now.store} c.bytes_from.result.now c.see_machine.ensures.machine c.see_machine.ensures.rising c.requires.of c.see_bounds.ensures.bounds.rows
     c.leap_from-far.ensures.bytes c.bytes_from.ensures.units (run_at c.requires.at.kind c.turns.invariant.run) c.leap_from-far.ensures.leads in
     record {
-      within = omega (arith, c.follow_few-few.ensures.within, c.last_place-last.ensures.place);
-      run = run_on (run_on c.turns.invariant.run far) c.follow_few-few.ensures.run;
+      within = omega (arith, c.follow_tag-few.ensures.within, c.last_place-last.ensures.place);
+      run = run_on (run_on c.turns.invariant.run far) c.follow_tag-few.ensures.run;
       some = c.wait_after-wait.ensures.some;
       most = c.wait_after-wait.ensures.most;
     }
 
-pub returns-then-end-few-ge8-clause-run : goal.returns-then-end-few-ge8-clause-run
-returns-then-end-few-ge8-clause-run c =
+pub returns-then-few-end-clause-run : goal.returns-then-few-end-clause-run
+returns-then-few-end-clause-run c =
     let far = run_over {c = c.args.cache.now.store} c.bytes_from.result.now c.see_machine.ensures.machine c.see_machine.ensures.rising c.requires.of c.see_bounds.ensures.bounds.rows
     c.leap_from-far.ensures.bytes c.bytes_from.ensures.units (run_at c.requires.at.kind c.turns.invariant.run) c.leap_from-far.ensures.leads in
-    run_on (run_on c.turns.invariant.run far) c.follow_few-few.ensures.run
+    run_on (run_on c.turns.invariant.run far) c.follow_tag-few.ensures.run
 
 pub returns-clause-run : goal.returns-clause-run
-returns-clause-run c = run_on c.turns.invariant.run c.follow_rest.ensures.run
+returns-clause-run c = c.turns.invariant.run

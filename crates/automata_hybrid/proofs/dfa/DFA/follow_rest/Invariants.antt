@@ -4,9 +4,9 @@ use Rattle.automata_hybrid.proofs.dfa.DFA.follow_rest.Given as goal
 
 abbrev pub invariant-rest : goal.invariant-rest
 invariant-rest l = record {
-  within : l.at ≤ l.last;
+  within : l.at ≤ l.input.end - l.input.start;
   run : IsRun l.way l.self l.cache.store l.input l.tag l.fn.start l.at (l.row + l.tag);
 }
 
 abbrev pub decreases-rest : goal.decreases-rest
-decreases-rest l = l.last - l.at
+decreases-rest l = l.end - l.at

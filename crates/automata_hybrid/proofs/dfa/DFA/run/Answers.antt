@@ -6,47 +6,41 @@ use Rattle.automata_hybrid.proofs.Searches.Runs.{matched_at}
 use Rattle.automata_hybrid.proofs.Steps.Ids.{Leads-Names}
 use Rattle.automata_hybrid.proofs.dfa.DFA.run.Goals as goal
 
-pub returns-then-get_earliest-clause-at : goal.returns-then-get_earliest-clause-at
-returns-then-get_earliest-clause-at c = followed_at c.follow-quiet.ensures.followed c.requires.at
-
-pub returns-then-get_earliest-clause-run : goal.returns-then-get_earliest-clause-run
-returns-then-get_earliest-clause-run c =
+pub returns-then-get_earliest : goal.returns-then-get_earliest
+returns-then-get_earliest c =
     let followed = c.follow-quiet.ensures.followed in
     record {
-      more = followed.more;
-      within = c.follow-quiet.ensures.within;
-      known = followed_known followed;
+      run = record { more = followed.more; within = c.follow-quiet.ensures.within; known = followed_known followed };
+      at = followed_at followed c.requires.at;
+      met = c.follow-quiet.ensures.met;
     }
 
-pub returns-then-not-has_only-clause-at : goal.returns-then-not-has_only-clause-at
-returns-then-not-has_only-clause-at c = followed_at c.follow-quiet.ensures.followed c.requires.at
-
-pub returns-then-not-has_only-clause-run : goal.returns-then-not-has_only-clause-run
-returns-then-not-has_only-clause-run c =
+pub returns-then-not-has_only : goal.returns-then-not-has_only
+returns-then-not-has_only c =
     let followed = c.follow-quiet.ensures.followed in
     record {
-      more = followed.more;
-      within = c.follow-quiet.ensures.within;
-      known = followed_known followed;
+      run = record { more = followed.more; within = c.follow-quiet.ensures.within; known = followed_known followed };
+      at = followed_at followed c.requires.at;
+      met = c.follow-quiet.ensures.met;
     }
 
-pub returns-clause-at : goal.returns-clause-at
-returns-clause-at c =
+pub returns : goal.returns
+returns c =
     let matches = c.follow_matches-stop.ensures.run.followed in
     let further = c.follow_matches-stop.ensures.run.further in
     let here : c.follow_matches-stop.result.at ≡ suc (c.follow_matches-stop.result.at - 1) = omega (arith, further) in
     let t : Rows = c.args.cache.now.store.table in
-    matched_at matches (c.follow_matches-stop.result.at - 1) c.place_offset-offset.result (sym c.get_earliest.ensures ∙ c.if-get_earliest.false) here c.place_offset-offset.ensures.value
-    ((c.see_bounds.ensures.sound.tagged _ _ matches.named).0 c.follow_matches-stop.ensures.run.reports)
-    (λ q l. ap (λ (h : HalfMatch). Some h) c.new.ensures ∙ first_half q.patterns c.first_pattern-pattern.result c.place_offset-offset.result c.args.found ((c.see_bounds.ensures.sound.tagged _ q (Leads-Names t _ q l (c.see_bounds.ensures.sound.low _ _ matches.named))).0 c.follow_matches-stop.ensures.run.reports) (c.first_pattern-pattern.ensures q (Leads-Names t _ q l (c.see_bounds.ensures.sound.low _ _ matches.named))))
-    (followed_at c.follow-quiet.ensures.followed c.requires.at)
-
-pub returns-clause-run : goal.returns-clause-run
-returns-clause-run c =
     let followed = c.follow-quiet.ensures.followed in
-    let matches = c.follow_matches-stop.ensures.run.followed in
     record {
-      more = omega (arith, followed.more, matches.more);
-      within = c.follow_matches-stop.ensures.run.within;
-      known = known_after followed matches;
+      run = record {
+        more = omega (arith, followed.more, matches.more);
+        within = c.follow_matches-stop.ensures.run.within;
+        known = known_after followed matches;
+      };
+      at =
+          matched_at matches (c.follow_matches-stop.result.at - 1) c.place_offset-offset.result (sym c.get_earliest.ensures ∙ c.if-get_earliest.false) here c.place_offset-offset.ensures.value
+          ((c.see_bounds.ensures.sound.tagged _ _ matches.named).0 c.follow_matches-stop.ensures.run.reports)
+          (λ q l. ap (λ (h : HalfMatch). Some h) c.new.ensures ∙ first_half q.patterns c.first_pattern-pattern.result c.place_offset-offset.result c.args.found ((c.see_bounds.ensures.sound.tagged _ q (Leads-Names t _ q l (c.see_bounds.ensures.sound.low _ _ matches.named))).0 c.follow_matches-stop.ensures.run.reports) (c.first_pattern-pattern.ensures q (Leads-Names t _ q l (c.see_bounds.ensures.sound.low _ _ matches.named))))
+          (followed_at followed c.requires.at);
+      met = c.follow_matches-stop.ensures.met;
     }

@@ -1,4 +1,4 @@
-use Rattle.std.proofs.Common.{◌≡◌, subst, sym, arith}
+use Rattle.std.proofs.Common.{subst, sym, arith}
 use Rattle.automata_hybrid.specs.Cache.Leaps.{AreSteps}
 use Rattle.automata_hybrid.proofs.Cache.Leaps.{steps_more}
 use Rattle.automata_hybrid.proofs.dfa.leaps.add_steps.Goals as goal

@@ -1,4 +1,4 @@
-use Rattle.std.proofs.Common.{◌≡◌, ◌*◌, ◌^◌, ◌<◌, ◌≤◌, length}
+use Rattle.std.proofs.Common.{◌≡◌, ◌*◌, ◌^◌, length}
 use Rattle.automata_hybrid.specs.Cache.Leaps.{IsLevel}
 use Rattle.automata_hybrid.proofs.dfa.leaps.last_level.Given as goal
 

@@ -1,7 +1,7 @@
-use Rattle.std.proofs.Common.{◌≡◌, ◌∙◌, ◌<◌, ◌≤◌, true, ap, refl, slice_index, subst, sym}
+use Rattle.std.proofs.Common.{◌≤◌, subst, sym}
 use Rattle.automata_hybrid.specs.Cache.Ids.{unknown_id}
 use Rattle.automata_hybrid.specs.Cache.Leaps.{AreCacheParts}
-use Rattle.automata_hybrid.specs.Cache.Table.{Rows, cell_at}
+use Rattle.automata_hybrid.specs.Cache.Table.{Rows}
 use Rattle.automata_hybrid.specs.Cache.Usage.{IsCache}
 use Rattle.automata_hybrid.specs.declared.dfa.cache.Cache.TheInside.{Inside}
 use Rattle.automata_hybrid.proofs.Cache.Leaps.{cache_next, parts_written}
