@@ -8,7 +8,8 @@ use Rattle.automata_base.specs.Haystacks.Input.{Input}
 use Rattle.automata_base.specs.Paths.Paths.{next}
 use Rattle.automata_base.specs.Powersets.Powerset.{Powerset}
 use Rattle.automata_base.specs.Retraced.Steps.{successor}
-use Rattle.automata_base.specs.declared.util.search.Direction.TheVariants.{Forward}
+use Rattle.automata_base.specs.declared.util.search.Direction.{Direction}
+use Rattle.automata_base.specs.declared.util.search.Direction.TheVariants.{Backward, Forward}
 use Rattle.automata_config.specs.Options.{match_kind_of}
 use Rattle.automata_hybrid.specs.Cache.Ids.{HasOnly, quit_id, tags, unknown_id}
 use Rattle.automata_hybrid.specs.Cache.Leaps.{AreLeaps, LeadsTo, LeapsTo, Reaches, mark}
@@ -35,14 +36,14 @@ column_below column n count class low below =
     omega (arith, l, e, below, pow-suc n count)
 
 -- the digits of a column, after the index of a row
-module _ (t : Rows) (bytes : List ℕ) (n from row : ℕ) where
+module _ (t : Rows) (way : Direction) (bytes : List ℕ) (n from row : ℕ) where
   -- one byte more
   place_more :
-      (count : ℕ) → row * n ^ suc count + column_of t.of.classes n bytes from (suc count)
-      ≡ (row * n ^ count + column_of t.of.classes n bytes from count) * n + class_in t.of.classes (slice_index bytes (from + count))
+      (count : ℕ) → row * n ^ suc count + column_of t.of.classes n way bytes from (suc count)
+      ≡ (row * n ^ count + column_of t.of.classes n way bytes from count) * n + class_in t.of.classes (byte_in way bytes (from + count))
   place_more count =
-      let class : ℕ = class_in t.of.classes (slice_index bytes (from + count)) in
-      let column : ℕ = column_of t.of.classes n bytes from count in
+      let class : ℕ = class_in t.of.classes (byte_in way bytes (from + count)) in
+      let column : ℕ = column_of t.of.classes n way bytes from count in
       ap (λ p. row * p + (column * n + class)) (pow-suc n count) ∙ moved (n ^ count) column class
     where
       moved : (p column class : ℕ) → row * (p * n) + (column * n + class) ≡ (row * p + column) * n + class
@@ -50,36 +51,36 @@ module _ (t : Rows) (bytes : List ℕ) (n from row : ℕ) where
 
   -- where these digits lead is where the bytes lead
   pub reaches_over :
-      ((k : ℕ) → class_in t.of.classes (slice_index bytes k) < n)
-      → (count to : ℕ) → Reaches t n count (row * n ^ count + column_of t.of.classes n bytes from count) to
-      → LeadsOver t bytes from count row to
+      ((k : ℕ) → class_in t.of.classes (byte_in way bytes k) < n)
+      → (count to : ℕ) → Reaches t n count (row * n ^ count + column_of t.of.classes n way bytes from count) to
+      → LeadsOver t way bytes from count row to
   reaches_over small zero to same =
       let e : row ≡ row * n ^ 0 + 0 = omega (arith, ap (λ p. row * p) (pow-zero n)) in
       e ∙ same
   reaches_over small (suc count) to (at, before, leads) =
-      let class : ℕ = class_in t.of.classes (slice_index bytes (from + count)) in
+      let class : ℕ = class_in t.of.classes (byte_in way bytes (from + count)) in
       let low : class < n = small (from + count) in
-      let place : ℕ = row * n ^ count + column_of t.of.classes n bytes from count in
-      let quotient : (row * n ^ suc count + column_of t.of.classes n bytes from (suc count)) / n ≡ place =
+      let place : ℕ = row * n ^ count + column_of t.of.classes n way bytes from count in
+      let quotient : (row * n ^ suc count + column_of t.of.classes n way bytes from (suc count)) / n ≡ place =
       ap (λ k. k / n) (place_more count) ∙ div-mul-add place n class low in
-      let rest : (row * n ^ suc count + column_of t.of.classes n bytes from (suc count)) % n ≡ class =
+      let rest : (row * n ^ suc count + column_of t.of.classes n way bytes from (suc count)) % n ≡ class =
       ap (λ k. k % n) (place_more count) ∙ mod-mul-add place n class low in
       (at, reaches_over small count at (subst (λ k. Reaches t n count k at) quotient before), subst (λ k. LeadsTo t at k to) rest leads)
 
 -- over some bytes and then over more
 pub over_on :
-    (t : Rows) (bytes : List ℕ) (row at first count to : ℕ) → LeadsOver t bytes 0 first row at
-    → LeadsOver t bytes first count at to → LeadsOver t bytes 0 (first + count) row to
-over_on t bytes row at first zero to before same =
+    (t : Rows) (way : Direction) (bytes : List ℕ) (row at first count to : ℕ) → LeadsOver t way bytes 0 first row at
+    → LeadsOver t way bytes first count at to → LeadsOver t way bytes 0 (first + count) row to
+over_on t way bytes row at first zero to before same =
     let e : first ≡ first + 0 = omega arith in
-    subst (λ n. LeadsOver t bytes 0 n row to) e (subst (LeadsOver t bytes 0 first row) same before)
-over_on t bytes row at first (suc count) to before (mid, more, leads) =
+    subst (λ n. LeadsOver t way bytes 0 n row to) e (subst (LeadsOver t way bytes 0 first row) same before)
+over_on t way bytes row at first (suc count) to before (mid, more, leads) =
     let e : suc (first + count) ≡ first + suc count = omega arith in
     let place : first + count ≡ 0 + (first + count) = omega arith in
-    subst (λ n. LeadsOver t bytes 0 n row to) e (
+    subst (λ n. LeadsOver t way bytes 0 n row to) e (
       mid,
-      over_on t bytes row at first count mid before more,
-      subst (λ k. LeadsTo t mid (class_in t.of.classes (slice_index bytes k)) to) place leads,
+      over_on t way bytes row at first count mid before more,
+      subst (λ k. LeadsTo t mid (class_in t.of.classes (byte_in way bytes k)) to) place leads,
     )
 
 -- the cell of a byte's class, if it has no tag, is where the byte leads, and the byte is no quit byte
@@ -106,15 +107,15 @@ cell_leads m c q to byte machine of plain few cell = (go (is_quit m.quits byte) 
       subst (λ (k : Machine). Leads c.table to (successor k.nfa (match_kind_of k.config) q (Some byte))) of
       (leads (Some byte) few (ap (λ (k : Machine). class_in k.classes byte) of))
 
-module _ {m : Machine} {c : Stored} {input : Input} {place : ℕ} (machine : IsMachine m) (are : AreClasses m.classes) (of : c.table.of ≡ m) (rows : AreRows c.table) where
+module _ {way : Direction} {m : Machine} {c : Stored} {input : Input} {place : ℕ} (machine : IsMachine m) (are : AreClasses m.classes) (of : c.table.of ≡ m) (rows : AreRows c.table) where
   -- one byte, by the cell of a row
   run_one :
-      (row byte to : ℕ) → byte < 256 → next (tape_in Forward input) place ≡ Some byte
-      → IsTagAt Forward m c.table input 0 place ((row + 3) * c.table.of.stride) → LeadsTo c.table row (class_in c.table.of.classes byte) to
-      → IsRun Forward m c input 0 place (suc place) ((to + 3) * c.table.of.stride)
+      (row byte to : ℕ) → byte < 256 → next (tape_in way input) place ≡ Some byte
+      → IsTagAt way m c.table input 0 place ((row + 3) * c.table.of.stride) → LeadsTo c.table row (class_in c.table.of.classes byte) to
+      → IsRun way m c input 0 place (suc place) ((to + 3) * c.table.of.stride)
   run_one row byte to few unit at leads = record {
     followed =
-        followed_one Forward m c input 0 place id next_id byte at.kind only unit known (omega (arith, below)) (λ quits. absurd (false_true (sym (both (state_in Forward m input place) at.named).0 ∙ quits)))
+        followed_one way m c input 0 place id next_id byte at.kind only unit known (omega (arith, below)) (λ quits. absurd (false_true (sym (both (state_in way m input place) at.named).0 ∙ quits)))
         (λ _ _ q n. (both q n).1) at.named;
     only = only;
   } where
@@ -145,26 +146,26 @@ module _ {m : Machine} {c : Stored} {input : Input} {place : ℕ} (machine : IsM
     both q n = cell_leads m c q next_id byte machine of (omega (arith, leads.untagged)) few
         (subst (IsCell c.table q class) value (Placed-IsCell c.table id class q rows (Names-Placed c.table id q rows n) below))
 
-module _ {m : Machine} {c : Stored} {input : Input} {place : ℕ} (bytes : List ℕ) (machine : IsMachine m) (are : AreClasses m.classes) (of : c.table.of ≡ m) (rows : AreRows c.table)
-    (small : (k : ℕ) → slice_index bytes k < 256)
-    (units : (k : ℕ) → k < length bytes → next (tape_in Forward input) (place + k) ≡ Some (byte_in Forward bytes k)) where
+module _ {way : Direction} {m : Machine} {c : Stored} {input : Input} {place : ℕ} (bytes : List ℕ) (machine : IsMachine m) (are : AreClasses m.classes) (of : c.table.of ≡ m) (rows : AreRows c.table)
+    (small : (k : ℕ) → byte_in way bytes k < 256)
+    (units : (k : ℕ) → k < length bytes → next (tape_in way input) (place + k) ≡ Some (byte_in way bytes k)) where
   run_rows :
-      (len row to : ℕ) → len ≤ length bytes → IsTagAt Forward m c.table input 0 place ((row + 3) * c.table.of.stride)
-      → LeadsOver c.table bytes 0 len row to → IsRun Forward m c input 0 place (place + len) ((to + 3) * c.table.of.stride)
+      (len row to : ℕ) → len ≤ length bytes → IsTagAt way m c.table input 0 place ((row + 3) * c.table.of.stride)
+      → LeadsOver c.table way bytes 0 len row to → IsRun way m c input 0 place (place + len) ((to + 3) * c.table.of.stride)
   run_rows zero row to within at same =
       let here : place ≡ place + 0 = omega arith in
-      run_to here (subst (λ k. IsRun Forward m c input 0 place place ((k + 3) * c.table.of.stride)) same (run_none at))
+      run_to here (subst (λ k. IsRun way m c input 0 place place ((k + 3) * c.table.of.stride)) same (run_none at))
   run_rows (suc len) row to within at (mid, before, leads) =
       let here : suc (place + len) ≡ place + suc len = omega arith in
       let one : 0 + len ≡ len = omega arith in
-      let run : IsRun Forward m c input 0 place (place + len) ((mid + 3) * c.table.of.stride) = run_rows len row mid (omega (arith, within)) at before in
-      run_to here (run_on run (run_one machine are of rows mid (slice_index bytes len) to (small len) (units len (omega (arith, within))) (run_at at.kind run) (subst (λ k. LeadsTo c.table mid (class_in c.table.of.classes (slice_index bytes k)) to) one leads)))
+      let run : IsRun way m c input 0 place (place + len) ((mid + 3) * c.table.of.stride) = run_rows len row mid (omega (arith, within)) at before in
+      run_to here (run_on run (run_one machine are of rows mid (byte_in way bytes len) to (small len) (units len (omega (arith, within))) (run_at at.kind run) (subst (λ k. LeadsTo c.table mid (class_in c.table.of.classes (byte_in way bytes k)) to) one leads)))
 
   -- a run along the bytes that lead from one ID to another
   pub run_over :
-      {len id to : ℕ} → IsTagAt Forward m c.table input 0 place id → LeadsIds c.table bytes len id to → IsRun Forward m c input 0 place (place + len) to
+      {len id to : ℕ} → IsTagAt way m c.table input 0 place id → LeadsIds c.table way bytes len id to → IsRun way m c input 0 place (place + len) to
   run_over {len} {id} {to} at ids =
-      run_id (sym ids.ends) (run_rows len ids.row ids.to ids.within (subst (IsTagAt Forward m c.table input 0 place) ids.begins at) ids.over)
+      run_id (sym ids.ends) (run_rows len ids.row ids.to ids.within (subst (IsTagAt way m c.table input 0 place) ids.begins at) ids.over)
 
 -- a column with a digit more fits
 pub column_fits : (column n count : ℕ) → n ≤ 32 → count ≤ 4 → column < n ^ count → column * n ≤ 2 ^ 25
@@ -173,14 +174,19 @@ column_fits column n count few short low =
     let b : column * n ≤ 2 ^ 20 * n = mul-le-mul_right n (omega (arith, low, a)) in
     omega (arith, b, few)
 
+-- a byte is small in whichever direction it is read
+pub byte_small : (way : Direction) (bytes : List ℕ) → ((k : ℕ) → slice_index bytes k < 256) → (k : ℕ) → byte_in way bytes k < 256
+byte_small Forward bytes small k = small k
+byte_small Backward bytes small k = small (length bytes - 1 - k)
+
 -- bytes have classes of the leaps
 pub classes_small :
-    {t : Rows} {l : Leaps} (bytes : List ℕ) → AreLeaps t l → AreClasses t.of.classes → ((k : ℕ) → slice_index bytes k < 256)
-    → (k : ℕ) → class_in t.of.classes (slice_index bytes k) < l.shape.classes
-classes_small {t} {l} bytes are classes small k = omega (arith, are.of.classes, classes.below (slice_index bytes k) (small k))
+    {t : Rows} {l : Leaps} (way : Direction) (bytes : List ℕ) → AreLeaps t l → AreClasses t.of.classes → ((k : ℕ) → byte_in way bytes k < 256)
+    → (k : ℕ) → class_in t.of.classes (byte_in way bytes k) < l.shape.classes
+classes_small {t} {l} way bytes are classes small k = omega (arith, are.of.classes, classes.below (byte_in way bytes k) (small k))
 
-module _ {t : Rows} {l : Leaps} (bytes : List ℕ) {row at first : ℕ} (are : AreLeaps t l) (small : (k : ℕ) → class_in t.of.classes (slice_index bytes k) < l.shape.classes)
-    (leapt : IsLeapt t l.shape bytes row at first) where
+module _ {t : Rows} {l : Leaps} (way : Direction) (bytes : List ℕ) {row at first : ℕ} (are : AreLeaps t l) (small : (k : ℕ) → class_in t.of.classes (byte_in way bytes k) < l.shape.classes)
+    (leapt : IsLeapt t l.shape way bytes row at first) where
   -- the place of a column of the row that leaps have come to
   pub leap_within : (column : ℕ) → column < l.shape.classes ^ l.shape.reach → first + column < length l.cells.items
   leap_within column low =
@@ -191,19 +197,19 @@ module _ {t : Rows} {l : Leaps} (bytes : List ℕ) {row at first : ℕ} (are : A
   -- one leap more
   pub leap_more :
       (cell : ℕ) → at + l.shape.reach ≤ length bytes
-      → cell ≡ slice_index l.cells.items (first + column_of t.of.classes l.shape.classes bytes at l.shape.reach)
-      → first + column_of t.of.classes l.shape.classes bytes at l.shape.reach < length l.cells.items
-      → (cell ≡ mark → ⊥) → IsLeapt t l.shape bytes row (at + l.shape.reach) cell
+      → cell ≡ slice_index l.cells.items (first + column_of t.of.classes l.shape.classes way bytes at l.shape.reach)
+      → first + column_of t.of.classes l.shape.classes way bytes at l.shape.reach < length l.cells.items
+      → (cell ≡ mark → ⊥) → IsLeapt t l.shape way bytes row (at + l.shape.reach) cell
   leap_more cell within read inside unmarked = go (are.leads (first + column) inside) where
     column : ℕ
-    column = column_of t.of.classes l.shape.classes bytes at l.shape.reach
+    column = column_of t.of.classes l.shape.classes way bytes at l.shape.reach
 
     place : first + column ≡ leapt.to * l.shape.classes ^ l.shape.reach + column
     place = ap (λ k. k + column) (leapt.first ∙ ap (λ k. leapt.to * k) are.of.shape.width)
 
     go :
         (slice_index l.cells.items (first + column) ≡ mark) ⊎ LeapsTo t l.shape (first + column) (slice_index l.cells.items (first + column))
-        → IsLeapt t l.shape bytes row (at + l.shape.reach) cell
+        → IsLeapt t l.shape way bytes row (at + l.shape.reach) cell
     go (inl marked) = absurd (unmarked (read ∙ marked))
     go (inr leads) = record {
       to = leads.to;
@@ -211,32 +217,32 @@ module _ {t : Rows} {l : Leaps} (bytes : List ℕ) {row at first : ℕ} (are : A
       first = read ∙ leads.first;
       within = within;
       over =
-          over_on t bytes row leapt.to at l.shape.reach leads.to leapt.over
-          (reaches_over t bytes l.shape.classes at leapt.to small l.shape.reach leads.to (subst (λ k. Reaches t l.shape.classes l.shape.reach k leads.to) place leads.reaches));
+          over_on t way bytes row leapt.to at l.shape.reach leads.to leapt.over
+          (reaches_over t way bytes l.shape.classes at leapt.to small l.shape.reach leads.to (subst (λ k. Reaches t l.shape.classes l.shape.reach k leads.to) place leads.reaches));
     }
 
 -- what the column of the bytes at a place gives
-module _ {m : Machine} {t : Rows} {l : Leaps} (bytes : List ℕ) {row at first reach column : ℕ} (of : t.of ≡ m) (rising : AreClasses m.classes)
-    (fits : (k : ℕ) → slice_index bytes k < 256) (are : AreLeaps t l) (far : reach ≡ l.shape.reach)
-    (value : column ≡ column_of m.classes l.shape.classes bytes at reach) (below : column < l.shape.classes ^ reach)
-    (leapt : IsLeapt t l.shape bytes row at first) where
-  small : (k : ℕ) → class_in t.of.classes (slice_index bytes k) < l.shape.classes
-  small = classes_small bytes are (subst (λ (n : Machine). AreClasses n.classes) (sym of) rising) fits
+module _ {m : Machine} {t : Rows} {l : Leaps} (way : Direction) (bytes : List ℕ) {row at first reach column : ℕ} (of : t.of ≡ m) (rising : AreClasses m.classes)
+    (fits : (k : ℕ) → byte_in way bytes k < 256) (are : AreLeaps t l) (far : reach ≡ l.shape.reach)
+    (value : column ≡ column_of m.classes l.shape.classes way bytes at reach) (below : column < l.shape.classes ^ reach)
+    (leapt : IsLeapt t l.shape way bytes row at first) where
+  small : (k : ℕ) → class_in t.of.classes (byte_in way bytes k) < l.shape.classes
+  small = classes_small way bytes are (subst (λ (n : Machine). AreClasses n.classes) (sym of) rising) fits
 
   pub cell_within : first + column < length l.cells.items
-  cell_within = leap_within bytes are small leapt column (subst (λ r. column < l.shape.classes ^ r) far below)
+  cell_within = leap_within way bytes are small leapt column (subst (λ r. column < l.shape.classes ^ r) far below)
 
-  is_column : column ≡ column_of t.of.classes l.shape.classes bytes at l.shape.reach
+  is_column : column ≡ column_of t.of.classes l.shape.classes way bytes at l.shape.reach
   is_column =
-      value ∙ (ap (λ (n : Machine). column_of n.classes l.shape.classes bytes at reach) (sym of)
-      ∙ ap (λ r. column_of t.of.classes l.shape.classes bytes at r) far)
+      value ∙ (ap (λ (n : Machine). column_of n.classes l.shape.classes way bytes at reach) (sym of)
+      ∙ ap (λ r. column_of t.of.classes l.shape.classes way bytes at r) far)
 
   pub leapt_more :
       (cell : ℕ) → reach ≤ length bytes - at → cell ≡ slice_index l.cells.items (first + column) → (cell ≡ mark → ⊥)
-      → IsLeapt t l.shape bytes row (at + reach) cell
+      → IsLeapt t l.shape way bytes row (at + reach) cell
   leapt_more cell left read unmarked =
-      subst (λ r. IsLeapt t l.shape bytes row (at + r) cell) (sym far)
-      (leap_more bytes are small leapt cell (omega (arith, left, far, leapt.within))
+      subst (λ r. IsLeapt t l.shape way bytes row (at + r) cell) (sym far)
+      (leap_more way bytes are small leapt cell (omega (arith, left, far, leapt.within))
       (read ∙ ap (λ k. slice_index l.cells.items (first + k)) is_column)
       (subst (λ k. first + k < length l.cells.items) is_column cell_within) unmarked)
 
@@ -255,9 +261,9 @@ row_of_id t id k q rows named low (r, has, state) =
 
 -- the row whose first cell has a place
 pub row_of_place :
-    {t : Rows} {l : Leaps} {bytes : List ℕ} {row len place : ℕ} → AreLeaps t l → (leapt : IsLeapt t l.shape bytes row len place)
+    {t : Rows} {l : Leaps} {way : Direction} {bytes : List ℕ} {row len place : ℕ} → AreLeaps t l → (leapt : IsLeapt t l.shape way bytes row len place)
     → place / l.shape.width ≡ leapt.to
-row_of_place {t} {l} {bytes} {row} {len} {place} are leapt =
+row_of_place {t} {l} {way} {bytes} {row} {len} {place} are leapt =
     let some : 1 ≤ l.shape.classes = omega (arith, are.of.classes) in
     let wide : 0 < l.shape.width = omega (arith, are.of.shape.width, one-le-pow l.shape.reach l.shape.classes some) in
     let e : place ≡ leapt.to * l.shape.width + 0 = omega (arith, leapt.first) in

@@ -17,7 +17,7 @@ use crate::id::LazyStateID;
 use crate::search::direction::{byte_at, byte_behind, last_place, place_offset, unit_at};
 use automata_base::util::search::{Direction, HalfMatch, Input};
 
-/// How many bytes a run forward follows at most by cached transitions one by one.
+/// How many bytes a run only reads the cache at most, but for a self-loop. The rest of a long one is for leaps.
 const MANY: usize = 256;
 
 /// How far cached transitions led a pass.
@@ -55,17 +55,6 @@ impl Known {
             id,
             found,
         }
-    }
-}
-
-/// The place up to which a run only reads the cache. The rest of a long one is for leaps.
-#[inline(always)]
-fn known_end(way: Direction, last: usize) -> usize
-    ensures { result ≤ last }
-{
-    match way {
-        Direction::Forward => last.min(MANY),
-        Direction::Backward => last,
     }
 }
 
@@ -152,7 +141,7 @@ impl DFA {
     {
         cache.see_bounds();
         let last = last_place(input);
-        let run = self.run(cache, input, way, 0, start, None, known_end(way, last));
+        let run = self.run(cache, input, way, 0, start, None, last.min(MANY));
         let next = self.known_next(cache, input, way, run.at, run.id, run.next);
         if next.is_unknown() {
             return Known::left(run.at, run.id, run.found);

@@ -1,8 +1,7 @@
-//! Following leaps, which take a few bytes each, and between them cached transitions one by one. It is done forward and
-//! without a tag alone, far in a run.
-ghost use Rattle.std.specs.Prelude.{ℕ, ◌≡◌, ◌+◌, ◌-◌, ◌*◌, ◌^◌, ◌<◌, ◌≤◌, length, slice_index};
+//! Following leaps, which take a few bytes each, and between them cached transitions one by one. It is done without a
+//! tag alone, far in a run.
+ghost use Rattle.std.specs.Prelude.{ℕ, ◌≡◌, ◌+◌, ◌-◌, ◌*◌, ◌^◌, ◌<◌, ◌≤◌, length};
 ghost use Rattle.automata_base.specs.ByteClasses.Classes.{AreClasses, eoi_class};
-ghost use Rattle.automata_base.specs.declared.util.search.Direction.TheVariants.{Forward};
 ghost use Rattle.automata_hybrid.specs.Cache.Caches.{IsCacheOf};
 ghost use Rattle.automata_hybrid.specs.Cache.Ids.{offset_limit};
 ghost use Rattle.automata_hybrid.specs.Cache.Leaps.{AreLeaps};
@@ -11,6 +10,7 @@ ghost use Rattle.automata_hybrid.specs.Searches.Leaps.{IsLeapt, LeadsIds, column
 ghost use Rattle.automata_hybrid.specs.Searches.PassContracts.{MayBegin, input_at};
 ghost use Rattle.automata_hybrid.specs.Searches.PassState.{IsFollowed, IsMet, IsRun, IsTagAt};
 ghost use Rattle.automata_hybrid.specs.Searches.Passes.{state_in};
+ghost use Rattle.automata_hybrid.specs.Searches.SelfLoops.{byte_in};
 
 use crate::dfa::DFA;
 use crate::dfa::cache::Cache;
@@ -19,6 +19,7 @@ use crate::id::LazyStateID;
 use crate::search::direction::{bytes_from, last_place};
 use crate::search::follow::Stop;
 use crate::search::pass::input_of;
+use crate::search::self_loop::byte_at;
 use automata_base::util::search::{Anchored, Direction, Input, Span};
 
 /// How many bytes are followed one by one before leaps are looked after again.
@@ -75,18 +76,25 @@ fn wait_after(len: usize, wait: usize) -> usize
 impl DFA {
     /// The column of the classes of the bytes from a place on.
     #[inline(always)]
-    fn column(&self, classes: usize, reach: usize, bytes: &[u8], at: usize) -> usize
+    fn column(
+        &self,
+        classes: usize,
+        reach: usize,
+        way: Direction,
+        bytes: &[u8],
+        at: usize,
+    ) -> usize
         requires rising { AreClasses self.now.classes }
         requires classes { classes ≡ eoi_class self.now.classes }
         requires few { classes ≤ 32 }
         requires short { reach ≤ 4 }
         requires within { at + reach ≤ length bytes.now }
-        ensures value { result ≡ column_of self.now.classes classes bytes.now at reach }
+        ensures value { result ≡ column_of self.now.classes classes way bytes.now at reach }
         ensures below { result < classes ^ reach }
     {
         let mut column = 0;
         for k in 0..reach {
-            column = column * classes + self.class_of(bytes[at + k]);
+            column = column * classes + self.class_of(byte_at(way, bytes, at + k));
         }
         column
     }
@@ -98,6 +106,7 @@ impl DFA {
         cache: &Cache,
         leaps: &Leaps,
         reach: usize,
+        way: Direction,
         bytes: &[u8],
         index: usize,
     ) -> Leapt
@@ -105,7 +114,7 @@ impl DFA {
         requires leaps { AreLeaps cache.now.store.table leaps.now }
         requires reach { reach ≡ leaps.now.shape.reach }
         requires row { index < leaps.now.shape.rows }
-        ensures { IsLeapt cache.now.store.table leaps.now.shape bytes.now index result.len result.row }
+        ensures { IsLeapt cache.now.store.table leaps.now.shape way bytes.now index result.len result.row }
     {
         self.see_machine();
         let end = bytes.len();
@@ -114,7 +123,7 @@ impl DFA {
         let mut row = (index * leaps.shape.width) as u32;
         let mut again = 0usize;
         'leaps: while end - at >= reach {
-            let next = leaps.cell(row, self.column(classes, reach, bytes, at));
+            let next = leaps.cell(row, self.column(classes, reach, way, bytes, at));
             if next == MARK || again >= LOOPS {
                 return Leapt { len: at, row };
             }
@@ -125,37 +134,72 @@ impl DFA {
         Leapt { len: at, row }
     }
 
-    /// Leaps from a row, by a loop of its own for each number of bytes that a leap takes.
-    #[inline(never)]
-    fn leap(&self, cache: &Cache, leaps: &Leaps, bytes: &[u8], index: usize) -> Leapt
+    /// Leaps from a row in a direction that is known, by a loop of its own for each number of bytes that a leap takes.
+    #[inline(always)]
+    fn leap_reach(
+        &self,
+        cache: &Cache,
+        leaps: &Leaps,
+        way: Direction,
+        bytes: &[u8],
+        index: usize,
+    ) -> Leapt
         requires of { IsCacheOf cache.now self.now }
         requires leaps { AreLeaps cache.now.store.table leaps.now }
         requires row { index < leaps.now.shape.rows }
-        ensures { IsLeapt cache.now.store.table leaps.now.shape bytes.now index result.len result.row }
+        ensures { IsLeapt cache.now.store.table leaps.now.shape way bytes.now index result.len result.row }
     {
         match leaps.shape.reach {
-            4 => self.leap_by(cache, leaps, 4, bytes, index),
-            3 => self.leap_by(cache, leaps, 3, bytes, index),
-            2 => self.leap_by(cache, leaps, 2, bytes, index),
-            _ => self.leap_by(cache, leaps, 1, bytes, index),
+            4 => self.leap_by(cache, leaps, 4, way, bytes, index),
+            3 => self.leap_by(cache, leaps, 3, way, bytes, index),
+            2 => self.leap_by(cache, leaps, 2, way, bytes, index),
+            _ => self.leap_by(cache, leaps, 1, way, bytes, index),
+        }
+    }
+
+    /// Leaps from a row.
+    #[inline(never)]
+    fn leap(
+        &self,
+        cache: &Cache,
+        leaps: &Leaps,
+        way: Direction,
+        bytes: &[u8],
+        index: usize,
+    ) -> Leapt
+        requires of { IsCacheOf cache.now self.now }
+        requires leaps { AreLeaps cache.now.store.table leaps.now }
+        requires row { index < leaps.now.shape.rows }
+        ensures { IsLeapt cache.now.store.table leaps.now.shape way bytes.now index result.len result.row }
+    {
+        match way {
+            Direction::Forward => self.leap_reach(cache, leaps, Direction::Forward, bytes, index),
+            Direction::Backward => self.leap_reach(cache, leaps, Direction::Backward, bytes, index),
         }
     }
 
     /// Leaps from an ID without a tag.
-    fn leap_from(&self, cache: &Cache, leaps: &Leaps, bytes: &[u8], id: LazyStateID) -> Landing
+    fn leap_from(
+        &self,
+        cache: &Cache,
+        leaps: &Leaps,
+        way: Direction,
+        bytes: &[u8],
+        id: LazyStateID,
+    ) -> Landing
         requires of { IsCacheOf cache.now self.now }
         requires leaps { AreLeaps cache.now.store.table leaps.now }
         requires valid { IsRowId cache.now.store.table id }
         requires untagged { id < offset_limit }
-        ensures leads { LeadsIds cache.now.store.table bytes.now result.len id result.id }
-        ensures bytes { (k : ℕ) → slice_index bytes.now k < 256 }
+        ensures leads { LeadsIds cache.now.store.table way bytes.now result.len id result.id }
+        ensures bytes { (k : ℕ) → byte_in way bytes.now k < 256 }
     {
         cache.see_bounds();
         let index = cache.row_index(id);
         if index >= leaps.shape.rows {
             return Landing { len: 0, id };
         }
-        let leapt = self.leap(cache, leaps, bytes, index);
+        let leapt = self.leap(cache, leaps, way, bytes, index);
         Landing {
             len: leapt.len,
             id: cache.row_at(leapt.row as usize / leaps.shape.width),
@@ -163,11 +207,13 @@ impl DFA {
     }
 
     /// Leaps, and follows some bytes one by one where leaps do not lead on: the more, the shorter leaps have been.
+    #[inline(always)]
     fn follow_leaps(
         &self,
         cache: &Cache,
         leaps: &Leaps,
         input: &Input<'_>,
+        way: Direction,
         start: usize,
         from: LazyStateID,
     ) -> Stop
@@ -175,10 +221,10 @@ impl DFA {
         requires leaps { AreLeaps cache.now.store.table leaps.now }
         requires open { input.now.start ≤ input.now.end }
         requires within { start ≤ input.now.end - input.now.start }
-        requires at { IsTagAt Forward self.now cache.now.store.table input.now 0 start from }
+        requires at { IsTagAt way self.now cache.now.store.table input.now 0 start from }
         ensures within { result.at ≤ input.now.end - input.now.start }
-        ensures run { IsRun Forward self.now cache.now.store input.now 0 start result.at result.id }
-        ensures met { IsMet Forward self.now cache.now.store input.now result.at result.id result.next }
+        ensures run { IsRun way self.now cache.now.store input.now 0 start result.at result.id }
+        ensures met { IsMet way self.now cache.now.store input.now result.at result.id result.next }
     {
         self.see_machine();
         cache.see_bounds();
@@ -187,11 +233,11 @@ impl DFA {
         let mut id = from;
         let mut wait = FEW;
         'turns: while last - at >= 16 {
-            let far = self.leap_from(cache, leaps, bytes_from(input, Direction::Forward, at), id);
+            let far = self.leap_from(cache, leaps, way, bytes_from(input, way, at), id);
             at += far.len;
             wait = wait_after(far.len, wait);
             let end = last.min(at + wait);
-            let few = self.follow_tag(cache, input, Direction::Forward, at, far.id, 0, end);
+            let few = self.follow_tag(cache, input, way, at, far.id, 0, end);
             if few.at < end {
                 return few;
             }
@@ -205,6 +251,36 @@ impl DFA {
         }
     }
 
+    /// Leaps in a direction, by a loop of its own.
+    #[inline(always)]
+    fn leap_along(
+        &self,
+        cache: &Cache,
+        leaps: &Leaps,
+        input: &Input<'_>,
+        way: Direction,
+        start: usize,
+        from: LazyStateID,
+    ) -> Stop
+        requires of { IsCacheOf cache.now self.now }
+        requires leaps { AreLeaps cache.now.store.table leaps.now }
+        requires open { input.now.start ≤ input.now.end }
+        requires within { start ≤ input.now.end - input.now.start }
+        requires at { IsTagAt way self.now cache.now.store.table input.now 0 start from }
+        ensures within { result.at ≤ input.now.end - input.now.start }
+        ensures run { IsRun way self.now cache.now.store input.now 0 start result.at result.id }
+        ensures met { IsMet way self.now cache.now.store input.now result.at result.id result.next }
+    {
+        match way {
+            Direction::Forward => {
+                self.follow_leaps(cache, leaps, input, Direction::Forward, start, from)
+            }
+            Direction::Backward => {
+                self.follow_leaps(cache, leaps, input, Direction::Backward, start, from)
+            }
+        }
+    }
+
     /// Leaps, if there are leaps and from an ID without a tag. They are looked after first. It is given the parts of the
     /// input, so that a search without leaps keeps its numbers in registers.
     #[inline(never)]
@@ -215,26 +291,27 @@ impl DFA {
         span: Span,
         anchored: Anchored,
         earliest: bool,
+        way: Direction,
         start: usize,
         from: LazyStateID,
     ) -> Stop
         requires may { MayBegin self.now cache.old (input_at haystack.now span anchored earliest) }
         requires open { span.start ≤ span.end }
         requires within { start ≤ span.end - span.start }
-        requires named { Names cache.old.store.table from (state_in Forward self.now
+        requires named { Names cache.old.store.table from (state_in way self.now
             (input_at haystack.now span anchored earliest) start) }
         ensures same { cache.new ≡ cache.old }
         ensures within { result.at ≤ span.end - span.start }
-        ensures followed { IsFollowed Forward self.now cache.old.store
+        ensures followed { IsFollowed way self.now cache.old.store
             (input_at haystack.now span anchored earliest) 0 start result.at result.id }
-        ensures met { IsMet Forward self.now cache.old.store
+        ensures met { IsMet way self.now cache.old.store
             (input_at haystack.now span anchored earliest) result.at result.id result.next }
     {
         cache.prepare_leaps(self);
         if from.has_only(0) {
             if let Some(leaps) = cache.leaps() {
                 let own = input_of(haystack, span, anchored, earliest);
-                return self.follow_leaps(cache, leaps, &own, start, from);
+                return self.leap_along(cache, leaps, &own, way, start, from);
             }
         }
         Stop {

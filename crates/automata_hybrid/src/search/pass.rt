@@ -78,13 +78,10 @@ pub(super) fn input_of<'h>(
 
 /// The place up to which a run from a place follows cached transitions before leaps are looked after.
 #[inline(always)]
-fn near_end(cache: &Cache, way: Direction, at: usize, last: usize) -> usize
+fn near_end(cache: &Cache, at: usize, last: usize) -> usize
     ensures { result ≤ last }
 {
-    match way {
-        Direction::Forward => last.min(at.saturating_add(cache.bytes_before_leaps().max(NEAR))),
-        Direction::Backward => last,
-    }
+    last.min(at.saturating_add(cache.bytes_before_leaps().max(NEAR)))
 }
 
 impl DFA {
@@ -333,7 +330,7 @@ impl DFA {
         let mut at = from;
         let mut id = start;
         let mut found = before;
-        let mut end = near_end(cache, way, from, last);
+        let mut end = near_end(cache, from, last);
         while at < last {
             let near = self.run(cache, input, way, at, id, found, end);
             let (run, due) = self.go_far(cache, input, way, near, end);
@@ -363,8 +360,8 @@ impl DFA {
         self.find_end(cache, input, way, id, found)
     }
 
-    /// Goes on by leaps, where a run forward has come to the place where they are looked after; and the place where they
-    /// are looked after next.
+    /// Goes on by leaps, where a run has come to the place where they are looked after; and the place where they are
+    /// looked after next.
     #[inline(always)]
     fn go_far(
         &self,
@@ -388,7 +385,7 @@ impl DFA {
             return (near, end);
         }
         let far = self.leap_on(cache, input, way, near);
-        let due = near_end(cache, way, far.at, last);
+        let due = near_end(cache, far.at, last);
         (far, due)
     }
 
@@ -402,25 +399,21 @@ impl DFA {
         ensures runs { (from : ℕ) → RunsTo way self.now cache.old.store input.now from near
             → RunsTo way self.now cache.new.store input.now from result }
     {
-        match way {
-            Direction::Backward => near,
-            Direction::Forward => {
-                let far = self.follow_far(
-                    cache,
-                    input.haystack(),
-                    input.get_span(),
-                    input.get_anchored(),
-                    input.get_earliest(),
-                    near.at,
-                    near.id,
-                );
-                Place {
-                    at: far.at,
-                    id: far.id,
-                    found: near.found,
-                    next: far.next,
-                }
-            }
+        let far = self.follow_far(
+            cache,
+            input.haystack(),
+            input.get_span(),
+            input.get_anchored(),
+            input.get_earliest(),
+            way,
+            near.at,
+            near.id,
+        );
+        Place {
+            at: far.at,
+            id: far.id,
+            found: near.found,
+            next: far.next,
         }
     }
 

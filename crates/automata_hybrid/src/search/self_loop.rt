@@ -66,7 +66,7 @@ impl KnownLoop {
 
 /// The byte at a place of a slice that is read from its front or from its back.
 #[inline(always)]
-fn byte_at(way: Direction, bytes: &[u8], at: usize) -> u8
+pub(super) fn byte_at(way: Direction, bytes: &[u8], at: usize) -> u8
     requires { at < length bytes.now }
     ensures { result ≡ byte_in way bytes.now at }
 {

@@ -1,6 +1,8 @@
-use Rattle.std.proofs.Common.{◌≡◌, ◌+◌, ◌*◌, ◌<◌, ◌^◌, suc, subst, arith}
+use Rattle.std.proofs.Common.{◌≡◌, ◌∙◌, ◌+◌, ◌*◌, ◌<◌, ◌^◌, suc, ap, subst, arith}
+use Rattle.automata_base.specs.ByteClasses.Classes.{class_in}
 use Rattle.automata_hybrid.specs.Searches.Leaps.{column_of}
-use Rattle.automata_hybrid.proofs.Searches.Leaps.{column_below, column_fits}
+use Rattle.automata_hybrid.specs.Searches.SelfLoops.{byte_in}
+use Rattle.automata_hybrid.proofs.Searches.Leaps.{byte_small, column_below, column_fits}
 use Rattle.automata_hybrid.proofs.dfa.DFA.column.Goals as goal
 
 pub overflow_mul-column : goal.overflow_mul-column
@@ -12,11 +14,13 @@ overflow_add-column c = omega (arith, column_fits c.loop-k.column c.args.classes
 pub loop-k-preserved : goal.loop-k-preserved
 loop-k-preserved c =
     let next : suc c.loop-k.k ≡ c.loop-k.k + 1 = omega arith in
-    let low : c.class_of.result < c.args.classes = omega (arith, c.class_of.ensures.value, c.requires.classes, c.requires.rising.below _ (c.type_inv.bytes (c.args.at + c.loop-k.k)).fits) in
+    let class : c.class_of.result ≡ class_in c.args.self.now.classes (byte_in c.args.way c.args.bytes.now (c.args.at + c.loop-k.k)) =
+    c.class_of.ensures.value ∙ ap (λ byte. class_in c.args.self.now.classes byte) c.byte_at.ensures in
+    let low : c.class_of.result < c.args.classes = omega (arith, class, c.requires.classes, c.requires.rising.below _ (byte_small c.args.way c.args.bytes.now (λ k. (c.type_inv.bytes k).fits) (c.args.at + c.loop-k.k))) in
     record {
       value =
-          subst (λ k. c.loop-k.column * c.args.classes + c.class_of.result ≡ column_of c.args.self.now.classes c.args.classes c.args.bytes.now c.args.at k) next
-          (λ i. c.loop-k.invariant.value i * c.args.classes + c.class_of.ensures.value i);
+          subst (λ k. c.loop-k.column * c.args.classes + c.class_of.result ≡ column_of c.args.self.now.classes c.args.classes c.args.way c.args.bytes.now c.args.at k) next
+          (λ i. c.loop-k.invariant.value i * c.args.classes + class i);
       below =
           subst (λ k. c.loop-k.column * c.args.classes + c.class_of.result < c.args.classes ^ k) next
           (column_below c.loop-k.column c.args.classes c.loop-k.k c.class_of.result c.loop-k.invariant.below low);

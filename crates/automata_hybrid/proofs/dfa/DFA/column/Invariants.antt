@@ -4,6 +4,6 @@ use Rattle.automata_hybrid.proofs.dfa.DFA.column.Given as goal
 
 abbrev pub invariant-loop-k : goal.invariant-loop-k
 invariant-loop-k l = record {
-  value : l.column ≡ column_of l.self.classes l.classes l.bytes l.at l.k;
+  value : l.column ≡ column_of l.self.classes l.classes l.way l.bytes l.at l.k;
   below : l.column < l.classes ^ l.k;
 }

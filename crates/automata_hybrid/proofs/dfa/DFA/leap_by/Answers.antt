@@ -1,7 +1,7 @@
 use Rattle.std.proofs.Common.{◌∙◌, ap, refl, arith}
 use Rattle.automata_base.specs.ByteClasses.Classes.{eoi_class}
 use Rattle.automata_hybrid.specs.Machines.Machine.{Machine}
-use Rattle.automata_hybrid.proofs.Searches.Leaps.{cell_within, leapt_more}
+use Rattle.automata_hybrid.proofs.Searches.Leaps.{byte_small, cell_within, leapt_more}
 use Rattle.automata_hybrid.proofs.dfa.DFA.leap_by.Goals as goal
 
 pub leaps-init : goal.leaps-init
@@ -15,13 +15,13 @@ column-requires-clause-classes c = c.requires.leaps.of.classes ∙ ap (λ (m : M
 
 pub cell-next-requires : goal.cell-next-requires
 cell-next-requires c =
-    cell_within c.args.bytes.now c.requires.of c.see_machine.ensures.rising (λ k. (c.type_inv.bytes k).fits) c.requires.leaps c.requires.reach
+    cell_within c.args.way c.args.bytes.now c.requires.of c.see_machine.ensures.rising (byte_small c.args.way c.args.bytes.now (λ k. (c.type_inv.bytes k).fits)) c.requires.leaps c.requires.reach
     c.column.ensures.value c.column.ensures.below c.leaps.invariant.leapt
 
 pub leaps-preserved : goal.leaps-preserved
 leaps-preserved c = record {
   leapt =
-      leapt_more c.args.bytes.now c.requires.of c.see_machine.ensures.rising (λ k. (c.type_inv.bytes k).fits) c.requires.leaps c.requires.reach
+      leapt_more c.args.way c.args.bytes.now c.requires.of c.see_machine.ensures.rising (byte_small c.args.way c.args.bytes.now (λ k. (c.type_inv.bytes k).fits)) c.requires.leaps c.requires.reach
       c.column.ensures.value c.column.ensures.below c.leaps.invariant.leapt c.cell-next.result c.leaps-test.true c.cell-next.ensures c.if-next.false;
   few = c.again_after-again.ensures;
 }

@@ -4,7 +4,7 @@ use Rattle.automata_hybrid.proofs.dfa.DFA.leap_by.Given as goal
 
 abbrev pub invariant-leaps : goal.invariant-leaps
 invariant-leaps l = record {
-  leapt : IsLeapt l.cache.store.table l.leaps.shape l.bytes l.index l.at l.row;
+  leapt : IsLeapt l.cache.store.table l.leaps.shape l.way l.bytes l.index l.at l.row;
   few : l.again ≤ 32;
 }
 
