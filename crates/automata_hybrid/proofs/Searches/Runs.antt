@@ -16,8 +16,9 @@ use Rattle.automata_hybrid.specs.Steps.Steps.{known_step}
 use Rattle.automata_hybrid.specs.Machines.Machine.{unit_class}
 use Rattle.automata_hybrid.specs.Machines.Machine.{Machine}
 use Rattle.automata_hybrid.specs.Searches.PassState.{HasLearnedUnit, IsAt, IsFollowed, IsMet, IsRun, IsTagAt}
-use Rattle.automata_hybrid.specs.Searches.PassContracts.{RunsTo}
+use Rattle.automata_hybrid.specs.Searches.PassContracts.{FollowsTo, RunsTo}
 use Rattle.automata_hybrid.specs.Searches.PassState.{IsTaken, half_at, half_of}
+use Rattle.automata_hybrid.specs.declared.search.follow.Stop.{Stop}
 use Rattle.automata_hybrid.specs.declared.search.pass.Place.{Place}
 use Rattle.automata_hybrid.specs.Searches.Passes.{HasReadNoQuit, state_in, tape_in, reported_in}
 use Rattle.automata_hybrid.specs.Cache.Table.{Leads, Names}
@@ -226,20 +227,33 @@ known_after {way} {m} {c} {input} {tag} {tag'} {from} {mid} f g k more less = go
 
 -- what was followed without a tag takes a pass on from where it was
 pub runs_on :
-    {way : Direction} {m : Machine} {c : Stored} {input : Input} {from : ℕ} {place : Place} {to id met : ℕ}
-    → RunsTo way m c input from place → to ≤ input.end - input.start → IsFollowed way m c input 0 place.at to id
-    → IsMet way m c input to id met
-    → RunsTo way m c input from (record { at = to; id = id; found = place.found; next = met })
-runs_on {way} {m} {c} {input} {from} {place} {to} near within far met =
+    {way : Direction} {m : Machine} {c : Stored} {input : Input} {from : ℕ} {place : Place} {to : Stop}
+    → RunsTo way m c input from place → FollowsTo way m c input place.at to
+    → RunsTo way m c input from (record { at = to.at; id = to.id; found = place.found; next = to.next })
+runs_on {way} {m} {c} {input} {from} {place} {to} near far =
     record {
       run = record {
-        more = omega (arith, near.run.more, far.more);
-        within = within;
+        more = omega (arith, near.run.more, far.followed.more);
+        within = far.within;
         known = λ k more less. each k more less (cases_lt k place.at);
       };
-      at = followed_at far near.at;
-      met = met;
+      at = followed_at far.followed near.at;
+      met = far.met;
     } where
-      each : (k : ℕ) → from ≤ k → k < to → (k < place.at) ⊎ (place.at ≤ k) → HasLearnedUnit way m c input k
+      each : (k : ℕ) → from ≤ k → k < to.at → (k < place.at) ⊎ (place.at ≤ k) → HasLearnedUnit way m c input k
       each k more less (inl before) = near.run.known k more before
-      each k more less (inr behind) = followed_known far k behind less
+      each k more less (inr behind) = followed_known far.followed k behind less
+
+-- a stop, from which nothing was followed
+pub follows_none :
+    {way : Direction} {m : Machine} {c : Stored} {input : Input} (stop : Stop)
+    → stop.at ≤ input.end - input.start → Names c.table stop.id (state_in way m input stop.at)
+    → IsMet way m c input stop.at stop.id stop.next → FollowsTo way m c input stop.at stop
+follows_none {way} {m} {c} {input} stop within named met =
+    record { within = within; followed = followed_none way m c input 0 stop.at stop.id named; met = met }
+
+-- what was followed to a stop is followed on
+pub follows_on :
+    {way : Direction} {m : Machine} {c : Stored} {input : Input} {from : ℕ} {stop to : Stop}
+    → FollowsTo way m c input from stop → FollowsTo way m c input stop.at to → FollowsTo way m c input from to
+follows_on near far = record { within = far.within; followed = followed_on near.followed far.followed; met = far.met }

@@ -7,7 +7,8 @@ use Rattle.automata_base.specs.declared.util.search.Anchored.{Anchored}
 use Rattle.automata_base.specs.declared.util.search.Span.{Span}
 use Rattle.automata_hybrid.specs.Cache.Caches.{CacheView, IsCacheOf}
 use Rattle.automata_hybrid.specs.Machines.Machine.{Machine}
-use Rattle.automata_hybrid.specs.Searches.PassState.{HasLearnedUnit, HasRun, IsAt, IsMet, found_over}
+use Rattle.automata_hybrid.specs.Searches.PassState.{HasLearnedUnit, HasRun, IsAt, IsFollowed, IsMet, found_over}
+use Rattle.automata_hybrid.specs.declared.search.follow.Stop.{Stop}
 use Rattle.automata_hybrid.specs.declared.search.pass.Place.{Place}
 use Rattle.automata_hybrid.specs.Cache.Stores.{Stored}
 use Rattle.automata_hybrid.specs.Searches.Passes.{MeetsNoQuit, Reads, tape_in}
@@ -52,6 +53,12 @@ pub record IsKnownUpto (way : Direction) (m : Machine) (c : Stored) (input : Inp
   pub within : k ≤ input.end - input.start
   pub at : IsUnderway way m c.table input k id found
   pub known : (j : ℕ) → j < k → HasLearnedUnit way m c input j
+
+-- cached transitions without a tag led from one place on to another, where there is this ID, and this ID was met next
+pub record FollowsTo (way : Direction) (m : Machine) (c : Stored) (input : Input) (from : ℕ) (to : Stop) : Type 0 where
+  pub within : to.at ≤ input.end - input.start
+  pub followed : IsFollowed way m c input 0 from to.at to.id
+  pub met : IsMet way m c input to.at to.id to.next
 
 -- cached transitions led a pass from one place on to another, where it has this ID, has found this, and met this ID next
 pub record RunsTo (way : Direction) (m : Machine) (c : Stored) (input : Input) (from : ℕ) (to : Place) : Type 0 where

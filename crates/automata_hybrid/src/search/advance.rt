@@ -7,6 +7,7 @@ ghost use Rattle.automata_base.specs.Paths.Paths.{next};
 ghost use Rattle.automata_base.specs.Powersets.Powerset.{Powerset};
 ghost use Rattle.automata_base.specs.Haystacks.Tapes.{is_split};
 ghost use Rattle.automata_hybrid.specs.Cache.Caches.{IsCacheOf};
+ghost use Rattle.automata_hybrid.specs.Searches.PassContracts.{FollowsTo};
 ghost use Rattle.automata_hybrid.specs.Searches.PassState.{IsFollowed, IsMet};
 ghost use Rattle.automata_hybrid.specs.Walks.Parts.{IsAdvanceEffect, IsUnitEffect, StandsAfterUnits};
 ghost use Rattle.automata_hybrid.specs.Searches.Passes.{HasReadNoQuit, IsUnitError, Skips};
@@ -23,6 +24,9 @@ use crate::search::direction::{
 use crate::search::follow::Stop;
 use automata_base::util::search::{Direction, Input};
 use automata_config::error::SearchError;
+
+/// How many bytes a walk follows cached transitions one by one before leaps are looked after.
+const MANY: usize = 256;
 
 /// Where a walk has come to: a state whose patterns match, or none at its end; and how many units it has read.
 #[derive(Clone, Copy)]
@@ -130,7 +134,8 @@ impl DFA {
         }
     }
 
-    /// Follows cached transitions to IDs without a tag: each direction has its own loop.
+    /// Follows cached transitions to IDs without a tag, up to a place, and a self-loop beyond it: each direction has its
+    /// own loop.
     #[inline(always)]
     fn follow_walk(
         &self,
@@ -139,14 +144,14 @@ impl DFA {
         way: Direction,
         start: usize,
         from: LazyStateID,
+        end: usize,
     ) -> Stop
         requires of { IsCacheOf cache.now self.now }
         requires open { input.now.start ≤ input.now.end }
         requires within { start ≤ input.now.end - input.now.start }
+        requires upto { end ≤ input.now.end - input.now.start }
         requires named { Names cache.now.store.table from (state_in way self.now input.now start) }
-        ensures within { result.at ≤ input.now.end - input.now.start }
-        ensures followed { IsFollowed way self.now cache.now.store input.now 0 start result.at result.id }
-        ensures met { IsMet way self.now cache.now.store input.now result.at result.id result.next }
+        ensures { FollowsTo way self.now cache.now.store input.now start result }
     {
         let first = self.leave_tag(cache, input, way, start, from);
         if !first.id.has_only(0) {
@@ -159,7 +164,7 @@ impl DFA {
                 Direction::Forward,
                 first.at,
                 first.id,
-                last_place(input),
+                end,
             ),
             Direction::Backward => self.follow(
                 cache,
@@ -167,9 +172,37 @@ impl DFA {
                 Direction::Backward,
                 first.at,
                 first.id,
-                last_place(input),
+                end,
             ),
         }
+    }
+
+    /// Goes on by leaps, where a walk has come to the place where they are looked after; and the place where they are
+    /// looked after next.
+    #[inline(always)]
+    fn walk_far(
+        &self,
+        cache: &mut Cache,
+        input: &Input<'_>,
+        way: Direction,
+        near: Stop,
+        end: usize,
+    ) -> (Stop, usize)
+        requires of { IsCacheOf cache.old self.now }
+        requires open { input.now.start ≤ input.now.end }
+        requires upto { end ≤ input.now.end - input.now.start }
+        requires near { FollowsTo way self.now cache.old.store input.now near.at near }
+        ensures same { cache.new ≡ cache.old }
+        ensures far { FollowsTo way self.now cache.new.store input.now near.at result.0 }
+        ensures upto { result.1 ≤ input.now.end - input.now.start }
+    {
+        let _haystack = input.haystack();
+        let last = last_place(input);
+        if near.at < end || near.at >= last {
+            return (near, end);
+        }
+        let far = self.leap_on(cache, input, way, near);
+        (far, last.min(far.at + MANY))
     }
 
     /// Goes on with a walk from its state to the next one whose patterns match. The search stays open at the last byte
@@ -196,8 +229,11 @@ impl DFA {
         let last = last_place(input);
         let mut id = from;
         let mut read = units;
+        let mut end = last.min(read + MANY);
         while read <= last {
-            let stop = self.follow_walk(cache, input, way, read, id);
+            let near = self.follow_walk(cache, input, way, read, id, end);
+            let (stop, due) = self.walk_far(cache, input, way, near, end);
+            end = due;
             let next = self.read_unit(cache, input, way, stop.id, stop.next, stop.at)?;
             cache.see_bounds();
             if next.is_dead() {

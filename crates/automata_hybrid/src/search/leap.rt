@@ -7,7 +7,7 @@ ghost use Rattle.automata_hybrid.specs.Cache.Ids.{offset_limit};
 ghost use Rattle.automata_hybrid.specs.Cache.Leaps.{AreLeaps};
 ghost use Rattle.automata_hybrid.specs.Cache.Table.{IsRowId, Names};
 ghost use Rattle.automata_hybrid.specs.Searches.Leaps.{IsLeapt, LeadsIds, column_of};
-ghost use Rattle.automata_hybrid.specs.Searches.PassContracts.{MayBegin, input_at};
+ghost use Rattle.automata_hybrid.specs.Searches.PassContracts.{FollowsTo, MayBegin, input_at};
 ghost use Rattle.automata_hybrid.specs.Searches.PassState.{IsFollowed, IsMet, IsRun, IsTagAt};
 ghost use Rattle.automata_hybrid.specs.Searches.Passes.{state_in};
 ghost use Rattle.automata_hybrid.specs.Searches.SelfLoops.{byte_in};
@@ -21,9 +21,6 @@ use crate::search::follow::Stop;
 use crate::search::pass::input_of;
 use crate::search::self_loop::byte_at;
 use automata_base::util::search::{Anchored, Direction, Input, Span};
-
-/// How many bytes are followed one by one before leaps are looked after again.
-pub(super) const NEAR: usize = 48;
 
 /// Leaps that took fewer bytes than these were short.
 const SHORT: usize = 32;
@@ -74,16 +71,41 @@ fn wait_after(len: usize, wait: usize) -> usize
 }
 
 impl DFA {
+    /// Goes on by leaps, if there are some, from a place where they are looked after.
+    #[inline(always)]
+    pub(super) fn leap_on(
+        &self,
+        cache: &mut Cache,
+        input: &Input<'_>,
+        way: Direction,
+        near: Stop,
+    ) -> Stop
+        requires of { IsCacheOf cache.old self.now }
+        requires open { input.now.start ≤ input.now.end }
+        requires near { FollowsTo way self.now cache.old.store input.now near.at near }
+        ensures same { cache.new ≡ cache.old }
+        ensures far { FollowsTo way self.now cache.new.store input.now near.at result }
+    {
+        let far = self.follow_far(
+            cache,
+            input.haystack(),
+            input.get_span(),
+            input.get_anchored(),
+            input.get_earliest(),
+            way,
+            near.at,
+            near.id,
+        );
+        Stop {
+            at: far.at,
+            id: far.id,
+            next: far.next,
+        }
+    }
+
     /// The column of the classes of the bytes from a place on.
     #[inline(always)]
-    fn column(
-        &self,
-        classes: usize,
-        reach: usize,
-        way: Direction,
-        bytes: &[u8],
-        at: usize,
-    ) -> usize
+    fn column(&self, classes: usize, reach: usize, way: Direction, bytes: &[u8], at: usize) -> usize
         requires rising { AreClasses self.now.classes }
         requires classes { classes ≡ eoi_class self.now.classes }
         requires few { classes ≤ 32 }
@@ -281,10 +303,10 @@ impl DFA {
         }
     }
 
-    /// Leaps, if there are leaps and from an ID without a tag. They are looked after first. It is given the parts of the
-    /// input, so that a search without leaps keeps its numbers in registers.
+    /// Looks after leaps, and goes on by them if there are some. It is given the parts of the input, so that a search
+    /// without leaps keeps its numbers in registers.
     #[inline(never)]
-    pub(super) fn follow_far(
+    fn follow_far(
         &self,
         cache: &mut Cache,
         haystack: &[u8],
@@ -301,17 +323,33 @@ impl DFA {
         requires named { Names cache.old.store.table from (state_in way self.now
             (input_at haystack.now span anchored earliest) start) }
         ensures same { cache.new ≡ cache.old }
-        ensures within { result.at ≤ span.end - span.start }
-        ensures followed { IsFollowed way self.now cache.old.store
-            (input_at haystack.now span anchored earliest) 0 start result.at result.id }
-        ensures met { IsMet way self.now cache.old.store
-            (input_at haystack.now span anchored earliest) result.at result.id result.next }
+        ensures far { FollowsTo way self.now cache.old.store
+            (input_at haystack.now span anchored earliest) start result }
     {
         cache.prepare_leaps(self);
+        let own = input_of(haystack, span, anchored, earliest);
+        self.leap_if(cache, &own, way, start, from)
+    }
+
+    /// Leaps, if there are leaps and from an ID without a tag.
+    #[inline(always)]
+    fn leap_if(
+        &self,
+        cache: &Cache,
+        input: &Input<'_>,
+        way: Direction,
+        start: usize,
+        from: LazyStateID,
+    ) -> Stop
+        requires of { IsCacheOf cache.now self.now }
+        requires open { input.now.start ≤ input.now.end }
+        requires within { start ≤ input.now.end - input.now.start }
+        requires named { Names cache.now.store.table from (state_in way self.now input.now start) }
+        ensures { FollowsTo way self.now cache.now.store input.now start result }
+    {
         if from.has_only(0) {
             if let Some(leaps) = cache.leaps() {
-                let own = input_of(haystack, span, anchored, earliest);
-                return self.leap_along(cache, leaps, &own, way, start, from);
+                return self.leap_along(cache, leaps, input, way, start, from);
             }
         }
         Stop {

@@ -24,10 +24,13 @@ use crate::search::direction::{
     byte_at, byte_offset, bytes_read, end_before_last, keeps_none, last_place, place_offset,
     span_offset, unit_at, unit_offset,
 };
-use crate::search::leap::NEAR;
+use crate::search::follow::Stop;
 use automata_base::util::primitives::PatternID;
 use automata_base::util::search::{Anchored, Direction, HalfMatch, Input, Span};
 use automata_config::error::SearchError;
+
+/// How many bytes are followed one by one before leaps are looked after again.
+const NEAR: usize = 48;
 
 /// Where a run is: its place, the ID of its state there, and what it found last.
 #[derive(Clone, Copy)]
@@ -384,37 +387,20 @@ impl DFA {
         if near.at < end || near.at >= last {
             return (near, end);
         }
-        let far = self.leap_on(cache, input, way, near);
+        let stop = Stop {
+            at: near.at,
+            id: near.id,
+            next: near.next,
+        };
+        let far = self.leap_on(cache, input, way, stop);
         let due = near_end(cache, far.at, last);
-        (far, due)
-    }
-
-    /// Goes on by leaps, if there are some.
-    #[inline(always)]
-    fn leap_on(&self, cache: &mut Cache, input: &Input<'_>, way: Direction, near: Place) -> Place
-        requires of { IsCacheOf cache.old self.now }
-        requires open { input.now.start ≤ input.now.end }
-        requires runs { (from : ℕ) × RunsTo way self.now cache.old.store input.now from near }
-        ensures same { cache.new ≡ cache.old }
-        ensures runs { (from : ℕ) → RunsTo way self.now cache.old.store input.now from near
-            → RunsTo way self.now cache.new.store input.now from result }
-    {
-        let far = self.follow_far(
-            cache,
-            input.haystack(),
-            input.get_span(),
-            input.get_anchored(),
-            input.get_earliest(),
-            way,
-            near.at,
-            near.id,
-        );
-        Place {
+        let run = Place {
             at: far.at,
             id: far.id,
             found: near.found,
             next: far.next,
-        }
+        };
+        (run, due)
     }
 
     /// The step at the last place: on the byte after the span, or on the haystack's end.

@@ -4,12 +4,13 @@ use Rattle.automata_base.specs.Powersets.Powerset.{dead}
 use Rattle.automata_base.specs.declared.util.search.Direction.{Direction}
 use Rattle.automata_config.specs.declared.error.SearchError.{SearchError}
 use Rattle.automata_hybrid.specs.declared.search.advance.Arrival.{Arrival}
+use Rattle.automata_hybrid.specs.Cache.Caches.{CacheView, IsCacheOf}
 use Rattle.automata_hybrid.specs.Searches.PassState.{IsFollowed}
 use Rattle.automata_hybrid.specs.Walks.Parts.{IsAdvanceEffect}
 use Rattle.automata_hybrid.specs.Searches.Passes.{HasReadNoQuit, state_in, tape_in}
 use Rattle.automata_hybrid.specs.Cache.Table.{Names}
 use Rattle.automata_hybrid.specs.Walks.Answers.{IsSilent, WalkReads}
-use Rattle.automata_hybrid.proofs.Searches.Runs.{followed_clean, followed_silent}
+use Rattle.automata_hybrid.proofs.Searches.Runs.{followed_clean, followed_on, followed_silent, follows_none}
 use Rattle.automata_hybrid.proofs.Searches.Reads.{at_err}
 use Rattle.automata_hybrid.proofs.Walks.Progress.{arrived_read, call_stopped}
 use Rattle.automata_hybrid.proofs.Searches.UnitsRead.{AreReadTo, left_then, read_exactly, read_none, read_then}
@@ -32,13 +33,14 @@ loop-read-init c =
       silent = silent_same d c.args.self.now c.args.input.now c.args.units;
       progress = read_none d c.args.self.now c.args.input.now c.args.units c.args.cache.now c.args.cache.now refl;
       reads = λ less. absurd (omega (arith, less));
+      upto = omega (arith, c.last_place-last.ensures.place);
     }
 
 pub loop-read-preserved : goal.loop-read-preserved
 loop-read-preserved c =
     let d : Direction = c.args.way in
-    let k : ℕ = c.follow_walk-stop.result.at in
-    let f : IsFollowed d c.args.self.now c.loop-read.cache.store c.args.input.now 0 c.loop-read.read k c.follow_walk-stop.result.id = c.follow_walk-stop.ensures.followed in
+    let k : ℕ = c.walk_far-stop.result.0.at in
+    let f : IsFollowed d c.args.self.now c.walk_far-stop.new.cache.store c.args.input.now 0 c.loop-read.read k c.walk_far-stop.result.0.id = (followed_on (subst (λ (v : CacheView). IsFollowed d c.args.self.now v.store c.args.input.now 0 c.loop-read.read c.follow_walk-near.result.at c.follow_walk-near.result.id) (sym c.walk_far-stop.ensures.same) c.follow_walk-near.ensures.followed) c.walk_far-stop.ensures.far.followed) in
     let more : suc k ≡ k + 1 = omega arith in
     let named : Names c.read_unit.new.cache.store.table c.in_ok-next.next (state_in d c.args.self.now c.args.input.now (suc k)) = (dead_tagged c.read_unit.new.cache.store.table c.in_ok-next.next (c.see_bounds-in-loop-read.ensures.sound.low c.in_ok-next.next) c.see_bounds-in-loop-read.ensures.sound.small _ c.in_ok-next.ensures.leads).1 (λ b. false_true (c.if-is_dead.ensures.1 b)) in
     let clean : HasReadNoQuit d c.args.self.now c.args.input.now (suc k) = clean_more d c.args.self.now c.args.input.now k (followed_clean f c.loop-read.invariant.clean) c.in_ok-next.ensures.clean in
@@ -48,30 +50,31 @@ loop-read-preserved c =
     record {
       of = c.in_ok-next.ensures.of;
       from = omega (arith, c.loop-read.invariant.from, f.more);
-      within = omega (arith, c.follow_walk-stop.ensures.within);
+      within = omega (arith, c.walk_far-stop.ensures.far.within);
       named = subst (λ n. Names c.read_unit.new.cache.store.table c.in_ok-next.next (state_in d c.args.self.now c.args.input.now n)) more named;
       clean = subst (HasReadNoQuit d c.args.self.now c.args.input.now) more clean;
       silent = subst (IsSilent d c.args.self.now c.args.input.now c.args.units) more silent;
       progress = subst (λ n. AreReadTo d c.args.self.now c.args.input.now c.args.units n c.args.cache.now c.read_unit.new.cache) more
-          (read_then d c.args.self.now c.args.input.now c.args.units c.args.cache.now (is_store c.args.cache.now.store c.args.self.now c.requires.of c.see_bounds.ensures.bounds) c.loop-read.read k c.loop-read.cache c.loop-read.invariant.of (read_exactly d c.args.self.now c.args.input.now c.args.units c.args.cache.now c.loop-read.read c.loop-read.cache c.loop-read.invariant.progress) f.more (followed_clean f c.loop-read.invariant.clean) (λ j l h. (f.taken j l h).known) c.read_unit.new.cache c.in_ok-next.ensures.effect.read);
+          (read_then d c.args.self.now c.args.input.now c.args.units c.args.cache.now (is_store c.args.cache.now.store c.args.self.now c.requires.of c.see_bounds.ensures.bounds) c.loop-read.read k c.walk_far-stop.new.cache (subst (λ (v : CacheView). IsCacheOf v c.args.self.now) (sym c.walk_far-stop.ensures.same) c.loop-read.invariant.of) (read_exactly d c.args.self.now c.args.input.now c.args.units c.args.cache.now c.loop-read.read c.walk_far-stop.new.cache (subst (λ (v : CacheView). AreReadTo d c.args.self.now c.args.input.now c.args.units c.loop-read.read c.args.cache.now v) (sym c.walk_far-stop.ensures.same) c.loop-read.invariant.progress)) f.more (followed_clean f c.loop-read.invariant.clean) (λ j l h. (f.taken j l h).known) c.read_unit.new.cache c.in_ok-next.ensures.effect.read);
       reads = λ less. (k, sym more, c.in_ok-next.ensures.reads);
+      upto = c.walk_far-stop.ensures.upto;
     }
 
 pub returns-then-is_dead-clause-arrives : goal.returns-then-is_dead-clause-arrives
 returns-then-is_dead-clause-arrives c =
     let d : Direction = c.args.way in
-    let k : ℕ = c.follow_walk-stop.result.at in
-    let f : IsFollowed d c.args.self.now c.loop-read.cache.store c.args.input.now 0 c.loop-read.read k c.follow_walk-stop.result.id = c.follow_walk-stop.ensures.followed in
+    let k : ℕ = c.walk_far-stop.result.0.at in
+    let f : IsFollowed d c.args.self.now c.walk_far-stop.new.cache.store c.args.input.now 0 c.loop-read.read k c.walk_far-stop.result.0.id = (followed_on (subst (λ (v : CacheView). IsFollowed d c.args.self.now v.store c.args.input.now 0 c.loop-read.read c.follow_walk-near.result.at c.follow_walk-near.result.id) (sym c.walk_far-stop.ensures.same) c.follow_walk-near.ensures.followed) c.walk_far-stop.ensures.far.followed) in
     let units : c.args.input.now.end - c.args.input.now.start ≡ length (tape_in d c.args.input.now).bytes = units_in d c.args.input.now c.requires.from.undone c.last_place-last.ensures.inside in
     let dies : state_in d c.args.self.now c.args.input.now (suc k) ≡ dead = (dead_tagged c.read_unit.new.cache.store.table c.in_ok-next.next (c.see_bounds-in-loop-read.ensures.sound.low c.in_ok-next.next) c.see_bounds-in-loop-read.ensures.sound.small _ c.in_ok-next.ensures.leads).0 (c.if-is_dead.ensures.0 refl) in
-    finish_dead d c.args.self.now c.args.input.now c.args.units k _ (omega (arith, c.loop-read.invariant.from, f.more)) (omega (arith, units, c.follow_walk-stop.ensures.within)) (omega arith)
+    finish_dead d c.args.self.now c.args.input.now c.args.units k _ (omega (arith, c.loop-read.invariant.from, f.more)) (omega (arith, units, c.walk_far-stop.ensures.far.within)) (omega arith)
     (clean_more d c.args.self.now c.args.input.now k (followed_clean f c.loop-read.invariant.clean) c.in_ok-next.ensures.clean) dies (followed_silent f c.loop-read.invariant.silent)
 
 pub returns-then-reports-clause-arrives : goal.returns-then-reports-clause-arrives
 returns-then-reports-clause-arrives c =
     let d : Direction = c.args.way in
-    let k : ℕ = c.follow_walk-stop.result.at in
-    let f : IsFollowed d c.args.self.now c.loop-read.cache.store c.args.input.now 0 c.loop-read.read k c.follow_walk-stop.result.id = c.follow_walk-stop.ensures.followed in
+    let k : ℕ = c.walk_far-stop.result.0.at in
+    let f : IsFollowed d c.args.self.now c.walk_far-stop.new.cache.store c.args.input.now 0 c.loop-read.read k c.walk_far-stop.result.0.id = (followed_on (subst (λ (v : CacheView). IsFollowed d c.args.self.now v.store c.args.input.now 0 c.loop-read.read c.follow_walk-near.result.at c.follow_walk-near.result.id) (sym c.walk_far-stop.ensures.same) c.follow_walk-near.ensures.followed) c.walk_far-stop.ensures.far.followed) in
     let units : c.args.input.now.end - c.args.input.now.start ≡ length (tape_in d c.args.input.now).bytes = units_in d c.args.input.now c.requires.from.undone c.last_place-last.ensures.inside in
     let more : suc k ≡ k + 1 = omega arith in
     let named : Names c.read_unit.new.cache.store.table c.in_ok-next.next (state_in d c.args.self.now c.args.input.now (suc k)) = (dead_tagged c.read_unit.new.cache.store.table c.in_ok-next.next (c.see_bounds-in-loop-read.ensures.sound.low c.in_ok-next.next) c.see_bounds-in-loop-read.ensures.sound.small _ c.in_ok-next.ensures.leads).1 (λ b. false_true (c.if-is_dead.ensures.1 b)) in
@@ -80,7 +83,7 @@ returns-then-reports-clause-arrives c =
       place = k;
       one_after = sym more;
       more = omega (arith, c.loop-read.invariant.from, f.more);
-      within = omega (arith, units, c.follow_walk-stop.ensures.within);
+      within = omega (arith, units, c.walk_far-stop.ensures.far.within);
       named = subst (λ n. Names c.read_unit.new.cache.store.table c.in_ok-next.next (state_in d c.args.self.now c.args.input.now n)) more named;
       clean = subst (HasReadNoQuit d c.args.self.now c.args.input.now) more (clean_more d c.args.self.now c.args.input.now k (followed_clean f c.loop-read.invariant.clean) c.in_ok-next.ensures.clean);
       reports = yes.1;
@@ -98,38 +101,38 @@ returns-clause-arrives c =
 pub returns-in_err-next-clause-effect : goal.returns-in_err-next-clause-effect
 returns-in_err-next-clause-effect c =
     let d : Direction = c.args.way in
-    let k : ℕ = c.follow_walk-stop.result.at in
-    let f : IsFollowed d c.args.self.now c.loop-read.cache.store c.args.input.now 0 c.loop-read.read k c.follow_walk-stop.result.id = c.follow_walk-stop.ensures.followed in
+    let k : ℕ = c.walk_far-stop.result.0.at in
+    let f : IsFollowed d c.args.self.now c.walk_far-stop.new.cache.store c.args.input.now 0 c.loop-read.read k c.walk_far-stop.result.0.id = (followed_on (subst (λ (v : CacheView). IsFollowed d c.args.self.now v.store c.args.input.now 0 c.loop-read.read c.follow_walk-near.result.at c.follow_walk-near.result.id) (sym c.walk_far-stop.ensures.same) c.follow_walk-near.ensures.followed) c.walk_far-stop.ensures.far.followed) in
     at_err c.from_residual.result _ (λ (r : Result Arrival SearchError). IsAdvanceEffect d c.args.self.now c.args.input.now c.args.units c.args.cache.now c.read_unit.new.cache r) c.from_residual.ensures.1
     (record {
       read = tt;
       left =
           call_stopped d c.args.self.now c.args.input.now c.args.units k c.args.cache.now c.read_unit.new.cache c.in_err-next.field-0.0 c.in_err-next.ensures.reads
           (followed_clean f c.loop-read.invariant.clean) (followed_silent f c.loop-read.invariant.silent) c.in_err-next.ensures.refusal
-          (left_then d c.args.self.now c.args.input.now c.args.units c.args.cache.now (is_store c.args.cache.now.store c.args.self.now c.requires.of c.see_bounds.ensures.bounds) c.loop-read.read k c.loop-read.cache c.loop-read.invariant.of (read_exactly d c.args.self.now c.args.input.now c.args.units c.args.cache.now c.loop-read.read c.loop-read.cache c.loop-read.invariant.progress) f.more (followed_clean f c.loop-read.invariant.clean) (λ j l h. (f.taken j l h).known) c.read_unit.new.cache c.in_err-next.ensures.effect.left);
+          (left_then d c.args.self.now c.args.input.now c.args.units c.args.cache.now (is_store c.args.cache.now.store c.args.self.now c.requires.of c.see_bounds.ensures.bounds) c.loop-read.read k c.walk_far-stop.new.cache (subst (λ (v : CacheView). IsCacheOf v c.args.self.now) (sym c.walk_far-stop.ensures.same) c.loop-read.invariant.of) (read_exactly d c.args.self.now c.args.input.now c.args.units c.args.cache.now c.loop-read.read c.walk_far-stop.new.cache (subst (λ (v : CacheView). AreReadTo d c.args.self.now c.args.input.now c.args.units c.loop-read.read c.args.cache.now v) (sym c.walk_far-stop.ensures.same) c.loop-read.invariant.progress)) f.more (followed_clean f c.loop-read.invariant.clean) (λ j l h. (f.taken j l h).known) c.read_unit.new.cache c.in_err-next.ensures.effect.left);
     })
 
 pub returns-then-is_dead-clause-effect : goal.returns-then-is_dead-clause-effect
 returns-then-is_dead-clause-effect c =
     let d : Direction = c.args.way in
-    let k : ℕ = c.follow_walk-stop.result.at in
-    let f : IsFollowed d c.args.self.now c.loop-read.cache.store c.args.input.now 0 c.loop-read.read k c.follow_walk-stop.result.id = c.follow_walk-stop.ensures.followed in
+    let k : ℕ = c.walk_far-stop.result.0.at in
+    let f : IsFollowed d c.args.self.now c.walk_far-stop.new.cache.store c.args.input.now 0 c.loop-read.read k c.walk_far-stop.result.0.id = (followed_on (subst (λ (v : CacheView). IsFollowed d c.args.self.now v.store c.args.input.now 0 c.loop-read.read c.follow_walk-near.result.at c.follow_walk-near.result.id) (sym c.walk_far-stop.ensures.same) c.follow_walk-near.ensures.followed) c.walk_far-stop.ensures.far.followed) in
     record {
       read =
           arrived_read d c.args.self.now c.args.input.now c.args.units k (k + 1) c.args.cache.now c.read_unit.new.cache (omega (arith, c.loop-read.invariant.from, f.more)) (omega arith) c.in_ok-next.ensures.reads
-          (read_then d c.args.self.now c.args.input.now c.args.units c.args.cache.now (is_store c.args.cache.now.store c.args.self.now c.requires.of c.see_bounds.ensures.bounds) c.loop-read.read k c.loop-read.cache c.loop-read.invariant.of (read_exactly d c.args.self.now c.args.input.now c.args.units c.args.cache.now c.loop-read.read c.loop-read.cache c.loop-read.invariant.progress) f.more (followed_clean f c.loop-read.invariant.clean) (λ j l h. (f.taken j l h).known) c.read_unit.new.cache c.in_ok-next.ensures.effect.read);
+          (read_then d c.args.self.now c.args.input.now c.args.units c.args.cache.now (is_store c.args.cache.now.store c.args.self.now c.requires.of c.see_bounds.ensures.bounds) c.loop-read.read k c.walk_far-stop.new.cache (subst (λ (v : CacheView). IsCacheOf v c.args.self.now) (sym c.walk_far-stop.ensures.same) c.loop-read.invariant.of) (read_exactly d c.args.self.now c.args.input.now c.args.units c.args.cache.now c.loop-read.read c.walk_far-stop.new.cache (subst (λ (v : CacheView). AreReadTo d c.args.self.now c.args.input.now c.args.units c.loop-read.read c.args.cache.now v) (sym c.walk_far-stop.ensures.same) c.loop-read.invariant.progress)) f.more (followed_clean f c.loop-read.invariant.clean) (λ j l h. (f.taken j l h).known) c.read_unit.new.cache c.in_ok-next.ensures.effect.read);
       left = tt;
     }
 
 pub returns-then-reports-clause-effect : goal.returns-then-reports-clause-effect
 returns-then-reports-clause-effect c =
     let d : Direction = c.args.way in
-    let k : ℕ = c.follow_walk-stop.result.at in
-    let f : IsFollowed d c.args.self.now c.loop-read.cache.store c.args.input.now 0 c.loop-read.read k c.follow_walk-stop.result.id = c.follow_walk-stop.ensures.followed in
+    let k : ℕ = c.walk_far-stop.result.0.at in
+    let f : IsFollowed d c.args.self.now c.walk_far-stop.new.cache.store c.args.input.now 0 c.loop-read.read k c.walk_far-stop.result.0.id = (followed_on (subst (λ (v : CacheView). IsFollowed d c.args.self.now v.store c.args.input.now 0 c.loop-read.read c.follow_walk-near.result.at c.follow_walk-near.result.id) (sym c.walk_far-stop.ensures.same) c.follow_walk-near.ensures.followed) c.walk_far-stop.ensures.far.followed) in
     record {
       read =
           arrived_read d c.args.self.now c.args.input.now c.args.units k (k + 1) c.args.cache.now c.read_unit.new.cache (omega (arith, c.loop-read.invariant.from, f.more)) (omega arith) c.in_ok-next.ensures.reads
-          (read_then d c.args.self.now c.args.input.now c.args.units c.args.cache.now (is_store c.args.cache.now.store c.args.self.now c.requires.of c.see_bounds.ensures.bounds) c.loop-read.read k c.loop-read.cache c.loop-read.invariant.of (read_exactly d c.args.self.now c.args.input.now c.args.units c.args.cache.now c.loop-read.read c.loop-read.cache c.loop-read.invariant.progress) f.more (followed_clean f c.loop-read.invariant.clean) (λ j l h. (f.taken j l h).known) c.read_unit.new.cache c.in_ok-next.ensures.effect.read);
+          (read_then d c.args.self.now c.args.input.now c.args.units c.args.cache.now (is_store c.args.cache.now.store c.args.self.now c.requires.of c.see_bounds.ensures.bounds) c.loop-read.read k c.walk_far-stop.new.cache (subst (λ (v : CacheView). IsCacheOf v c.args.self.now) (sym c.walk_far-stop.ensures.same) c.loop-read.invariant.of) (read_exactly d c.args.self.now c.args.input.now c.args.units c.args.cache.now c.loop-read.read c.walk_far-stop.new.cache (subst (λ (v : CacheView). AreReadTo d c.args.self.now c.args.input.now c.args.units c.loop-read.read c.args.cache.now v) (sym c.walk_far-stop.ensures.same) c.loop-read.invariant.progress)) f.more (followed_clean f c.loop-read.invariant.clean) (λ j l h. (f.taken j l h).known) c.read_unit.new.cache c.in_ok-next.ensures.effect.read);
       left = tt;
     }
 
@@ -144,3 +147,7 @@ returns-clause-effect c =
           (subst (λ n. AreReadTo d c.args.self.now c.args.input.now c.args.units n c.args.cache.now c.loop-read.cache) last.1 c.loop-read.invariant.progress);
       left = tt;
     }
+
+pub walk_far-stop-requires-clause-near : goal.walk_far-stop-requires-clause-near
+walk_far-stop-requires-clause-near c =
+    follows_none c.follow_walk-near.result c.follow_walk-near.ensures.within c.follow_walk-near.ensures.followed.named c.follow_walk-near.ensures.met

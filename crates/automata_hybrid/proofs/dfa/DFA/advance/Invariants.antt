@@ -11,6 +11,7 @@ invariant-loop-read l = record {
   of : IsCacheOf l.cache l.self;
   from : l.units ≤ l.read;
   within : l.read ≤ l.input.end - l.input.start + 1;
+  upto : l.end ≤ l.input.end - l.input.start;
   named : Names l.cache.store.table l.id (state_in l.way l.self l.input l.read);
   clean : HasReadNoQuit l.way l.self l.input l.read;
   silent : IsSilent l.way l.self l.input l.units l.read;
