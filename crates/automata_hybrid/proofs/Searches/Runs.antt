@@ -228,7 +228,7 @@ known_after {way} {m} {c} {input} {tag} {tag'} {from} {mid} f g k more less = go
 -- what was followed without a tag takes a pass on from where it was
 pub runs_on :
     {way : Direction} {m : Machine} {c : Stored} {input : Input} {from : ℕ} {place : Place} {to : Stop}
-    → RunsTo way m c input from place → FollowsTo way m c input place.at to
+    → RunsTo way m c input from place → FollowsTo way m c input 0 place.at to
     → RunsTo way m c input from (record { at = to.at; id = to.id; found = place.found; next = to.next })
 runs_on {way} {m} {c} {input} {from} {place} {to} near far =
     record {
@@ -248,12 +248,12 @@ runs_on {way} {m} {c} {input} {from} {place} {to} near far =
 pub follows_none :
     {way : Direction} {m : Machine} {c : Stored} {input : Input} (stop : Stop)
     → stop.at ≤ input.end - input.start → Names c.table stop.id (state_in way m input stop.at)
-    → IsMet way m c input stop.at stop.id stop.next → FollowsTo way m c input stop.at stop
+    → IsMet way m c input stop.at stop.id stop.next → FollowsTo way m c input 0 stop.at stop
 follows_none {way} {m} {c} {input} stop within named met =
     record { within = within; followed = followed_none way m c input 0 stop.at stop.id named; met = met }
 
 -- what was followed to a stop is followed on
 pub follows_on :
     {way : Direction} {m : Machine} {c : Stored} {input : Input} {from : ℕ} {stop to : Stop}
-    → FollowsTo way m c input from stop → FollowsTo way m c input stop.at to → FollowsTo way m c input from to
+    → FollowsTo way m c input 0 from stop → FollowsTo way m c input 0 stop.at to → FollowsTo way m c input 0 from to
 follows_on near far = record { within = far.within; followed = followed_on near.followed far.followed; met = far.met }

@@ -98,6 +98,29 @@ module _ (m : Machine) (id : ℕ) (unit : Option ℕ) (c : CacheView) (class nex
   pub cell_known : next < unknown_id → KnowsStep m c.store id unit
   cell_known low = subst (IsKnownTransition c.store id) at (subst (λ n. n < unknown_id) value low)
 
+  here :
+      IsUnit unit → (q : Powerset) → LeadsByClass c.store.table next q class
+      → Leads c.store.table next (successor c.store.table.of.nfa (match_kind_of c.store.table.of.config) q unit)
+  here is q h = h unit is (ap (λ (d : Machine). unit_class d unit) of ∙ sym at)
+
+  -- a quit byte leads to quit
+  pub cell_quits : quits_on m unit ≡ true → next ≡ quit_id m.stride
+  cell_quits q = go (cell valid.0 valid.1) where
+    go : IsCell c.store.table valid.0 class next → next ≡ quit_id m.stride
+    go (inl (a, is)) = is ∙ ap (λ (d : Machine). quit_id d.stride) of
+    go (inr (a, h)) = absurd (clash (quit q) (stands_free a))
+
+  -- and any other unit, if that is cached, to the successor
+  pub cell_leads :
+      IsUnit unit → quits_on m unit ≡ false → next < unknown_id → (q : Powerset) → Names c.store.table id q
+      → Leads c.store.table next (successor m.nfa (match_kind_of m.config) q unit)
+  cell_leads is clean low q n = go (cell q n) where
+    go : IsCell c.store.table q class next → Leads c.store.table next (successor m.nfa (match_kind_of m.config) q unit)
+    go (inl (a, e)) = absurd (clash (stands_quit a) (free clean))
+    go (inr (a, inl e)) = absurd (omega (arith, e, low))
+    go (inr (a, inr h)) =
+        subst (λ (d : Machine). Leads c.store.table next (successor d.nfa (match_kind_of d.config) q unit)) of (here is q h)
+
   -- a cached cell is the answer
   pub known_answer :
       id < fixed_from → next < unknown_id → HasItsMatchTag c.store.table next
@@ -107,8 +130,8 @@ module _ (m : Machine) (id : ℕ) (unit : Option ℕ) (c : CacheView) (class nex
     row = rowed (cell valid.0 valid.1);
     tag = tag;
     fixed = λ high. absurd (omega (arith, below, high));
-    quit = λ _ q. quits q (cell valid.0 valid.1);
-    named = λ clean q n. leads clean q n (cell q n);
+    quit = λ _ q. cell_quits q;
+    named = λ clean q n. cell_leads is clean low q n;
     known = λ _ k. value ∙ ap (cell_of c.store id) at;
     computed = λ _ not q n. absurd (not knows);
     room = λ q n not g. absurd (not knows);
@@ -118,27 +141,11 @@ module _ (m : Machine) (id : ℕ) (unit : Option ℕ) (c : CacheView) (class nex
     knows : KnowsStep m c.store id unit
     knows = cell_known low
 
-    here :
-        (q : Powerset) → LeadsByClass c.store.table next q class
-        → Leads c.store.table next (successor c.store.table.of.nfa (match_kind_of c.store.table.of.config) q unit)
-    here q h = h unit is (ap (λ (d : Machine). unit_class d unit) of ∙ sym at)
-
     rowed : IsCell c.store.table valid.0 class next → HoldsRow c next
     rowed (inl (a, is)) = inr (inl is)
     rowed (inr (a, inl is)) = absurd (omega (arith, is, low))
-    rowed (inr (a, inr h)) = leads_row c next _ (here valid.0 h)
+    rowed (inr (a, inr h)) = leads_row c next _ (here is valid.0 h)
 
-    quits : quits_on m unit ≡ true → IsCell c.store.table valid.0 class next → next ≡ quit_id m.stride
-    quits q (inl (a, is)) = is ∙ ap (λ (d : Machine). quit_id d.stride) of
-    quits q (inr (a, h)) = absurd (clash (quit q) (stands_free a))
-
-    leads :
-        quits_on m unit ≡ false → (q : Powerset) → Names c.store.table id q → IsCell c.store.table q class next
-        → Leads c.store.table next (successor m.nfa (match_kind_of m.config) q unit)
-    leads clean q n (inl (a, is)) = absurd (clash (stands_quit a) (free clean))
-    leads clean q n (inr (a, inl is)) = absurd (omega (arith, is, low))
-    leads clean q n (inr (a, inr h)) =
-        subst (λ (d : Machine). Leads c.store.table next (successor d.nfa (match_kind_of d.config) q unit)) of (here q h)
 
 -- a cell that is cached has the ID of a row
 pub cell_row :

@@ -54,10 +54,11 @@ pub record IsKnownUpto (way : Direction) (m : Machine) (c : Stored) (input : Inp
   pub at : IsUnderway way m c.table input k id found
   pub known : (j : ℕ) → j < k → HasLearnedUnit way m c input j
 
--- cached transitions without a tag led from one place on to another, where there is this ID, and this ID was met next
-pub record FollowsTo (way : Direction) (m : Machine) (c : Stored) (input : Input) (from : ℕ) (to : Stop) : Type 0 where
+-- cached transitions led a pass on from a place to this stop, each to an ID that has this tag and no other
+pub record FollowsTo (way : Direction) (m : Machine) (c : Stored) (input : Input) (tag from : ℕ) (to : Stop) :
+    Type 0 where
   pub within : to.at ≤ input.end - input.start
-  pub followed : IsFollowed way m c input 0 from to.at to.id
+  pub followed : IsFollowed way m c input tag from to.at to.id
   pub met : IsMet way m c input to.at to.id to.next
 
 -- cached transitions led a pass from one place on to another, where it has this ID, has found this, and met this ID next

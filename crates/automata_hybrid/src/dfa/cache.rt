@@ -29,6 +29,7 @@ ghost use Rattle.automata_config.specs.Options.{match_kind_of};
 
 use crate::dfa::leaps::{Leaping, Leaps, Shape};
 use crate::dfa::store::Store;
+use crate::dfa::table::Table;
 use crate::dfa::{DFA, row};
 use crate::id::LazyStateID;
 use crate::search::self_loop::KnownLoop;
@@ -242,6 +243,14 @@ impl Cache {
             || id == LazyStateID::dead(stride)
             || id == LazyStateID::quit(stride)
             || table.has_row(id)
+    }
+
+    /// Its transition table.
+    #[inline(always)]
+    pub(crate) fn table(&self) -> &Table
+        ensures { result.now ≡ self.now.store.table }
+    {
+        &self.store.table
     }
 
     /// The cell of a row at a class, which may not be computed yet.

@@ -177,30 +177,6 @@ impl DFA {
         cache.cell(id, self.class_of(byte))
     }
 
-    /// The ID of the state after a byte, from an ID whose row's offset is known; unknown if the transition is not
-    /// cached.
-    #[inline(always)]
-    pub(crate) fn next_state_in_row(
-        &self,
-        cache: &Cache,
-        id: LazyStateID,
-        row: usize,
-        byte: u8,
-    ) -> LazyStateID
-        requires of { IsCacheOf cache.now self.now }
-        requires valid { IsRowId cache.now.store.table id }
-        requires offset { row ≡ id % offset_limit }
-        ensures value { result ≡ cell_of cache.now.store id (class_in self.now.classes byte) }
-        ensures below { class_in self.now.classes byte < self.now.stride }
-        ensures quit { is_quit self.now.quits byte ≡ true → result ≡ quit_id self.now.stride }
-        ensures named { is_quit self.now.quits byte ≡ false → result < unknown_id
-            → (q : Powerset) → Names cache.now.store.table id q
-            → Leads cache.now.store.table result
-            (successor self.now.nfa (match_kind_of self.now.config) q (Some byte)) }
-    {
-        cache.cell_in_row(id, row, self.class_of(byte))
-    }
-
     /// How many patterns match at a match state: at least one. The ID has to name a row of the cache and have the match
     /// tag: `Cache::is_valid` and `LazyStateID::is_match` are the tests. `match_pattern` returns each of them.
     pub fn match_len(&self, cache: &Cache, id: LazyStateID) -> usize

@@ -68,16 +68,6 @@ impl Clone for Table {
     }
 }
 
-/// A row's cell at a class. The column is found first, so that from one row to the next there is one load alone.
-#[inline(always)]
-fn cell_in(cells: &[LazyStateID], row: usize, class: usize) -> LazyStateID
-    requires { row + class < length cells.now }
-    ensures { result ≡ slice_index cells.now (row + class) }
-{
-    let column = &cells[class..];
-    column[row]
-}
-
 /// The number of rows before an offset. The stride is a power of two, and a shift is far faster than a division.
 fn rows_before(offset: usize, stride: usize) -> usize
     requires positive { 0 < stride }
@@ -250,7 +240,8 @@ impl Table {
         id == row.id(offset)
     }
 
-    /// The cell of a row at a class. The row's offset is known: no tag has to be taken off.
+    /// The cell of a row at a class. The row's offset is known: no tag has to be taken off. The column is found first, so
+    /// that from one row to the next there is one load alone.
     #[inline(always)]
     pub fn cell_in_row(&self, id: LazyStateID, row: usize, class: usize) -> LazyStateID
         requires row { IsRowId self.now id }
@@ -260,7 +251,9 @@ impl Table {
         ensures named { (q : Powerset) → Names self.now id q → IsCell self.now q class result }
         ensures stride { self.now.of.stride ≤ 512 }
     {
-        cell_in(self.cells.as_slice(), row, class)
+        let cells = self.cells.as_slice();
+        let column = &cells[class..];
+        column[row]
     }
 
     /// Writes a transition.

@@ -151,7 +151,7 @@ impl DFA {
         requires within { start ≤ input.now.end - input.now.start }
         requires upto { end ≤ input.now.end - input.now.start }
         requires named { Names cache.now.store.table from (state_in way self.now input.now start) }
-        ensures { FollowsTo way self.now cache.now.store input.now start result }
+        ensures { FollowsTo way self.now cache.now.store input.now 0 start result }
     {
         let first = self.leave_tag(cache, input, way, start, from);
         if !first.id.has_only(0) {
@@ -164,6 +164,7 @@ impl DFA {
                 Direction::Forward,
                 first.at,
                 first.id,
+                0,
                 end,
             ),
             Direction::Backward => self.follow(
@@ -172,6 +173,7 @@ impl DFA {
                 Direction::Backward,
                 first.at,
                 first.id,
+                0,
                 end,
             ),
         }
@@ -191,9 +193,9 @@ impl DFA {
         requires of { IsCacheOf cache.old self.now }
         requires open { input.now.start ≤ input.now.end }
         requires upto { end ≤ input.now.end - input.now.start }
-        requires near { FollowsTo way self.now cache.old.store input.now near.at near }
+        requires near { FollowsTo way self.now cache.old.store input.now 0 near.at near }
         ensures same { cache.new ≡ cache.old }
-        ensures far { FollowsTo way self.now cache.new.store input.now near.at result.0 }
+        ensures far { FollowsTo way self.now cache.new.store input.now 0 near.at result.0 }
         ensures upto { result.1 ≤ input.now.end - input.now.start }
     {
         let _haystack = input.haystack();

@@ -1,9 +1,10 @@
 //! Following cached transitions, eight a turn: into states that report nothing or into match states, and along
 //! self-loops.
-ghost use Rattle.std.specs.Prelude.{◌≡◌, ◌+◌, ◌-◌, ◌^◌, ◌<◌, ◌≤◌, true, false};
+ghost use Rattle.std.specs.Prelude.{ℕ, ◌≡◌, ◌+◌, ◌-◌, ◌^◌, ◌<◌, ◌≤◌, true, false};
 ghost use Rattle.automata_base.specs.declared.util.search.Direction.TheVariants.{Forward};
 ghost use Rattle.automata_hybrid.specs.Cache.Caches.{IsCacheOf};
-ghost use Rattle.automata_hybrid.specs.Cache.Ids.{fixed_from, HasOnly};
+ghost use Rattle.automata_hybrid.specs.Cache.Ids.{fixed_from, HasOnly, IsRunTag};
+ghost use Rattle.automata_hybrid.specs.Searches.PassContracts.{FollowsTo};
 ghost use Rattle.automata_hybrid.specs.Searches.PassState.{IsFollowed, IsMatchRun, IsMet, IsRun, IsTagAt, MeetsMatch};
 ghost use Rattle.automata_hybrid.specs.Searches.Passes.{state_in};
 ghost use Rattle.automata_hybrid.specs.Searches.SelfLoops.{IsSelfLoop};
@@ -29,77 +30,10 @@ pub(super) struct Stop {
 }
 
 impl DFA {
-    /// Follows cached transitions without a tag, from an ID that may have one, up to a place, and a self-loop beyond it.
+    /// Follows cached transitions to IDs that have a tag and no other, up to a place, and a self-loop beyond it. From an ID
+    /// that has another tag it follows none.
     #[inline(always)]
     pub(super) fn follow(
-        &self,
-        cache: &Cache,
-        input: &Input<'_>,
-        way: Direction,
-        start: usize,
-        from: LazyStateID,
-        end: usize,
-    ) -> Stop
-        requires of { IsCacheOf cache.now self.now }
-        requires open { input.now.start ≤ input.now.end }
-        requires within { start ≤ input.now.end - input.now.start }
-        requires upto { end ≤ input.now.end - input.now.start }
-        requires named { Names cache.now.store.table from (state_in way self.now input.now start) }
-        ensures within { result.at ≤ input.now.end - input.now.start }
-        ensures followed { IsFollowed way self.now cache.now.store input.now 0 start result.at result.id }
-        ensures met { IsMet way self.now cache.now.store input.now result.at result.id result.next }
-    {
-        if from.has_only(0) {
-            return self.follow_tag(cache, input, way, start, from, 0, end);
-        }
-        if start >= end {
-            return Stop {
-                at: start,
-                id: from,
-                next: LazyStateID::UNKNOWN,
-            };
-        }
-        Stop {
-            at: start,
-            id: from,
-            next: self.next_state_known(cache, from, byte_at(input, way, start)),
-        }
-    }
-
-    /// Follows cached transitions into states that have patterns, from an ID after which one with the match tag alone
-    /// was met.
-    #[inline(always)]
-    pub(super) fn follow_matches(
-        &self,
-        cache: &Cache,
-        input: &Input<'_>,
-        way: Direction,
-        start: usize,
-        from: LazyStateID,
-        next: LazyStateID,
-    ) -> Stop
-        requires of { IsCacheOf cache.now self.now }
-        requires open { input.now.start ≤ input.now.end }
-        requires named { Names cache.now.store.table from (state_in way self.now input.now start) }
-        requires met { MeetsMatch way self.now cache.now.store input.now start from next }
-        ensures run { IsMatchRun way self.now cache.now.store input.now start result.at result.id }
-        ensures met { IsMet way self.now cache.now.store input.now result.at result.id result.next }
-    {
-        let _haystack = input.haystack();
-        self.follow_tag(
-            cache,
-            input,
-            way,
-            start + 1,
-            next,
-            LazyStateID::MATCH,
-            last_place(input),
-        )
-    }
-
-    /// Follows cached transitions between IDs that have a tag and no other, up to a place, and a self-loop beyond it.
-    #[inline(always)]
-    pub(super) fn follow_tag(
         &self,
         cache: &Cache,
         input: &Input<'_>,
@@ -113,12 +47,15 @@ impl DFA {
         requires open { input.now.start ≤ input.now.end }
         requires within { start ≤ input.now.end - input.now.start }
         requires upto { end ≤ input.now.end - input.now.start }
-        requires at { IsTagAt way self.now cache.now.store.table input.now tag start from }
-        ensures within { result.at ≤ input.now.end - input.now.start }
-        ensures run { IsRun way self.now cache.now.store input.now tag start result.at result.id }
-        ensures met { IsMet way self.now cache.now.store input.now result.at result.id result.next }
+        requires kind { IsRunTag tag }
+        requires named { Names cache.now.store.table from (state_in way self.now input.now start) }
+        ensures to { FollowsTo way self.now cache.now.store input.now tag start result }
+        ensures only { HasOnly tag from → HasOnly tag result.id }
     {
         let _haystack = input.haystack();
+        if !from.has_only(tag) {
+            return self.stay(cache, input, way, start, from, end);
+        }
         if start + 8 > end {
             return self.follow_rest(cache, input, way, start, from, tag, end);
         }
@@ -143,6 +80,61 @@ impl DFA {
             at = stop;
         }
         self.follow_rest(cache, input, way, at, id, tag, end)
+    }
+
+    /// A stop at a place, with the ID that comes next there, if that place is before another one.
+    #[inline(always)]
+    fn stay(
+        &self,
+        cache: &Cache,
+        input: &Input<'_>,
+        way: Direction,
+        at: usize,
+        id: LazyStateID,
+        end: usize,
+    ) -> Stop
+        requires of { IsCacheOf cache.now self.now }
+        requires open { input.now.start ≤ input.now.end }
+        requires within { at ≤ input.now.end - input.now.start }
+        requires upto { end ≤ input.now.end - input.now.start }
+        requires named { Names cache.now.store.table id (state_in way self.now input.now at) }
+        ensures { (tag : ℕ) → FollowsTo way self.now cache.now.store input.now tag at result }
+    {
+        if at >= end {
+            return Stop {
+                at,
+                id,
+                next: LazyStateID::UNKNOWN,
+            };
+        }
+        Stop {
+            at,
+            id,
+            next: self.next_state_known(cache, id, byte_at(input, way, at)),
+        }
+    }
+
+    /// Follows cached transitions into states that have patterns, from an ID after which one with the match tag alone
+    /// was met.
+    #[inline(always)]
+    pub(super) fn follow_matches(
+        &self,
+        cache: &Cache,
+        input: &Input<'_>,
+        way: Direction,
+        start: usize,
+        from: LazyStateID,
+        next: LazyStateID,
+    ) -> Stop
+        requires of { IsCacheOf cache.now self.now }
+        requires open { input.now.start ≤ input.now.end }
+        requires named { Names cache.now.store.table from (state_in way self.now input.now start) }
+        requires met { MeetsMatch way self.now cache.now.store input.now start from next }
+        ensures run { IsMatchRun way self.now cache.now.store input.now start result.at result.id }
+        ensures met { IsMet way self.now cache.now.store input.now result.at result.id result.next }
+    {
+        let last = last_place(input);
+        self.follow(cache, input, way, start + 1, next, LazyStateID::MATCH, last)
     }
 
     /// Follows eight of them, or those before the first other one.
@@ -244,7 +236,8 @@ impl DFA {
             → IsRun way self.now cache.now.store input.now tag place (place + 1) result }
         ensures met { IsMet way self.now cache.now.store input.now place id result }
     {
-        self.next_state_in_row(cache, id, row, byte_at(input, way, place))
+        let class = self.class_of(byte_at(input, way, place));
+        cache.table().cell_in_row(id, row, class)
     }
 
     /// Follows the self-loop of an ID that may have a tag, if its row has one.

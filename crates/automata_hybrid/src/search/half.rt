@@ -62,10 +62,10 @@ impl DFA {
         // What it does to the cache, and why it fails.
         ensures effect { IsSearchRun Forward self.now input.now cache.old cache.new (result_err result) }
     {
-        match self.try_search_fwd_base(cache, input)? {
-            Some((half, _)) => Ok(Some(half)),
-            None => Ok(None),
-        }
+        reported_is_right(self.get_nfa());
+        let _haystack = input.haystack();
+        let found = self.search(cache, input, Direction::Forward);
+        without_base(found)
     }
 
     /// What `try_search_fwd` returns, and where the span that gave it began: an end inside a UTF-8 encoded character is

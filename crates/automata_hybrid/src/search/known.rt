@@ -17,8 +17,9 @@ use crate::id::LazyStateID;
 use crate::search::direction::{byte_at, byte_behind, last_place, place_offset, unit_at};
 use automata_base::util::search::{Direction, HalfMatch, Input};
 
-/// How many bytes a run only reads the cache at most, but for a self-loop. The rest of a long one is for leaps.
-const MANY: usize = 256;
+/// How many bytes a pass follows before it leaves the others to its rest, which looks for leaps. A self-loop is followed
+/// beyond them.
+const FIRST_RUN: usize = 1024;
 
 /// How far cached transitions led a pass.
 #[derive(Drop)]
@@ -141,7 +142,7 @@ impl DFA {
     {
         cache.see_bounds();
         let last = last_place(input);
-        let run = self.run(cache, input, way, 0, start, None, last.min(MANY));
+        let run = self.run(cache, input, way, 0, start, None, last.min(FIRST_RUN));
         let next = self.known_next(cache, input, way, run.at, run.id, run.next);
         if next.is_unknown() {
             return Known::left(run.at, run.id, run.found);

@@ -82,9 +82,9 @@ impl DFA {
     ) -> Stop
         requires of { IsCacheOf cache.old self.now }
         requires open { input.now.start ≤ input.now.end }
-        requires near { FollowsTo way self.now cache.old.store input.now near.at near }
+        requires near { FollowsTo way self.now cache.old.store input.now 0 near.at near }
         ensures same { cache.new ≡ cache.old }
-        ensures far { FollowsTo way self.now cache.new.store input.now near.at result }
+        ensures far { FollowsTo way self.now cache.new.store input.now 0 near.at result }
     {
         let far = self.follow_far(
             cache,
@@ -259,7 +259,7 @@ impl DFA {
             at += far.len;
             wait = wait_after(far.len, wait);
             let end = last.min(at + wait);
-            let few = self.follow_tag(cache, input, way, at, far.id, 0, end);
+            let few = self.follow(cache, input, way, at, far.id, 0, end);
             if few.at < end {
                 return few;
             }
@@ -324,7 +324,7 @@ impl DFA {
             (input_at haystack.now span anchored earliest) start) }
         ensures same { cache.new ≡ cache.old }
         ensures far { FollowsTo way self.now cache.old.store
-            (input_at haystack.now span anchored earliest) start result }
+            (input_at haystack.now span anchored earliest) 0 start result }
     {
         cache.prepare_leaps(self);
         let own = input_of(haystack, span, anchored, earliest);
@@ -345,7 +345,7 @@ impl DFA {
         requires open { input.now.start ≤ input.now.end }
         requires within { start ≤ input.now.end - input.now.start }
         requires named { Names cache.now.store.table from (state_in way self.now input.now start) }
-        ensures { FollowsTo way self.now cache.now.store input.now start result }
+        ensures { FollowsTo way self.now cache.now.store input.now 0 start result }
     {
         if from.has_only(0) {
             if let Some(leaps) = cache.leaps() {

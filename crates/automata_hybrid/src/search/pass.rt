@@ -245,7 +245,7 @@ impl DFA {
         requires at { IsAt way self.now cache.now.store.table input.now start from found }
         ensures { RunsTo way self.now cache.now.store input.now start result }
     {
-        let quiet = self.follow(cache, input, way, start, from, end);
+        let quiet = self.follow(cache, input, way, start, from, 0, end);
         if input.get_earliest() {
             return Place {
                 at: quiet.at,

@@ -1,24 +1,44 @@
-use Rattle.std.proofs.Common.{◌<◌, subst, sym, arith}
+use Rattle.std.proofs.Common.{◌∙◌, ◌<◌, ◌≡◌, Some, ap, subst, sym, arith}
 use Rattle.automata_base.specs.ByteClasses.Classes.{class_in}
+use Rattle.automata_base.specs.Powersets.Powerset.{Powerset}
+use Rattle.automata_hybrid.specs.Cache.Stores.{cell_of}
+use Rattle.automata_hybrid.specs.Cache.Table.{IsCell, IsRowId, Names, Rows, cell_at}
+use Rattle.std.specs.Prelude.{slice_index}
 use Rattle.automata_hybrid.specs.Machines.Machine.{Machine}
 use Rattle.automata_hybrid.specs.Searches.PassState.{IsMet}
 use Rattle.automata_hybrid.proofs.Searches.Runs.{met_at}
+use Rattle.automata_hybrid.proofs.Steps.Steps.{cell_leads, cell_quits}
 use Rattle.automata_hybrid.proofs.dfa.DFA.follow_byte.Goals as goal
-use Rattle.automata_hybrid.proofs.dfa.DFA.follow_byte.Goals.{After-next_state_in_row}
+use Rattle.automata_hybrid.proofs.dfa.DFA.follow_byte.Goals.{After-cell_in_row}
 
-pub next_state_in_row-requires-clause-valid : goal.next_state_in_row-requires-clause-valid
-next_state_in_row-requires-clause-valid c = (_, c.requires.at.named)
+pub cell_in_row-requires-clause-row : goal.cell_in_row-requires-clause-row
+cell_in_row-requires-clause-row c = subst (λ (t : Rows). IsRowId t c.args.id) (sym c.table.ensures) (_, c.requires.at.named)
 
-pub next_state_in_row-requires-clause-offset : goal.next_state_in_row-requires-clause-offset
-next_state_in_row-requires-clause-offset c =
+pub cell_in_row-requires-clause-class : goal.cell_in_row-requires-clause-class
+cell_in_row-requires-clause-class c =
+    subst (λ (t : Rows). c.class_of-class.result < t.of.stride) (sym c.table.ensures)
+    (subst (λ (d : Machine). c.class_of-class.result < d.stride) (sym c.requires.of) c.class_of-class.ensures.below)
+
+pub cell_in_row-requires-clause-offset : goal.cell_in_row-requires-clause-offset
+cell_in_row-requires-clause-offset c =
     omega (arith, c.requires.row, c.requires.at.kind.upto, c.requires.at.kind.whole, c.requires.at.only.from, c.requires.at.only.below)
 
-met : (c : After-next_state_in_row) → IsMet c.args.way c.args.self.now c.args.cache.now.store c.args.input.now c.args.place c.args.id c.next_state_in_row.result
+met : (c : After-cell_in_row) → IsMet c.args.way c.args.self.now c.args.cache.now.store c.args.input.now c.args.place c.args.id c.cell_in_row.result
 met c =
-    met_at c.args.way c.args.self.now c.args.cache.now.store c.args.input.now c.args.place c.args.id c.next_state_in_row.result c.byte_at.result
-    c.requires.within c.byte_at.ensures c.next_state_in_row.ensures.value
-    (subst (λ (m : Machine). class_in c.args.self.now.classes c.byte_at.result < m.stride) (sym c.requires.of) c.next_state_in_row.ensures.below)
-    c.next_state_in_row.ensures.quit c.next_state_in_row.ensures.named c.requires.at.named
+    let m : Machine = c.args.self.now in
+    let value : c.cell_in_row.result ≡ cell_of c.args.cache.now.store c.args.id c.class_of-class.result =
+    c.cell_in_row.ensures.value ∙ ap (λ (t : Rows). slice_index t.cells (cell_at c.args.id c.class_of-class.result)) c.table.ensures in
+    let cell : (q : Powerset) → Names c.args.cache.now.store.table c.args.id q → IsCell c.args.cache.now.store.table q c.class_of-class.result c.cell_in_row.result =
+    subst (λ (t : Rows). (q : Powerset) → Names t c.args.id q → IsCell t q c.class_of-class.result c.cell_in_row.result) c.table.ensures c.cell_in_row.ensures.named in
+    met_at c.args.way m c.args.cache.now.store c.args.input.now c.args.place c.args.id c.cell_in_row.result c.byte_at.result
+    c.requires.within c.byte_at.ensures (value ∙ ap (cell_of c.args.cache.now.store c.args.id) c.class_of-class.ensures.value)
+    (subst (λ (d : Machine). class_in m.classes c.byte_at.result < d.stride) (sym c.requires.of) (subst (λ n. n < m.stride) c.class_of-class.ensures.value c.class_of-class.ensures.below))
+    (cell_quits m c.args.id (Some c.byte_at.result) c.args.cache.now c.class_of-class.result c.cell_in_row.result c.requires.of (_, c.requires.at.named)
+    c.class_of-class.ensures.value c.class_of-class.ensures.small c.class_of-class.ensures.quit c.class_of-class.ensures.free value cell)
+    (cell_leads m c.args.id (Some c.byte_at.result) c.args.cache.now c.class_of-class.result c.cell_in_row.result c.requires.of (_, c.requires.at.named)
+    c.class_of-class.ensures.value c.class_of-class.ensures.small c.class_of-class.ensures.quit c.class_of-class.ensures.free value cell
+    (omega arith))
+    c.requires.at.named
 
 pub returns-clause-run : goal.returns-clause-run
 returns-clause-run c = λ only. (met c (omega (arith, only.below, c.requires.at.kind.upto))).run c.args.tag c.requires.at.kind only

@@ -27,5 +27,5 @@ returns-clause-far c =
     c.get_span.ensures.start c.get_span.ensures.end c.get_anchored.ensures c.get_earliest.ensures in
     let d : Direction = c.args.way in
     let to : Stop = record { at = c.follow_far-far.result.at; id = c.follow_far-far.result.id; next = c.follow_far-far.result.next } in
-    subst (λ (v : CacheView). FollowsTo d c.args.self.now v.store c.args.input.now c.args.near.at to) (sym c.follow_far-far.ensures.same)
-    (subst (λ (i : Input). FollowsTo d c.args.self.now c.args.cache.now.store i c.args.near.at to) same c.follow_far-far.ensures.far)
+    subst (λ (v : CacheView). FollowsTo d c.args.self.now v.store c.args.input.now 0 c.args.near.at to) (sym c.follow_far-far.ensures.same)
+    (subst (λ (i : Input). FollowsTo d c.args.self.now c.args.cache.now.store i 0 c.args.near.at to) same c.follow_far-far.ensures.far)

@@ -1,27 +1,34 @@
-use Rattle.std.proofs.Common.{suc, ◌≡◌, ◌∙◌, ◌-◌, Some, ap, sym, arith}
+use Rattle.std.proofs.Common.{suc, ◌≡◌, ◌∙◌, ◌-◌, Some, ap, refl, sym, arith}
 use Rattle.automata_base.specs.Haystacks.Matches.{HalfMatch}
+use Rattle.automata_hybrid.specs.Cache.Ids.{IsRunTag}
 use Rattle.automata_hybrid.specs.Cache.Table.{Rows}
 use Rattle.automata_hybrid.proofs.Searches.Runs.{first_half, followed_at, followed_known, known_after}
 use Rattle.automata_hybrid.proofs.Searches.Runs.{matched_at}
 use Rattle.automata_hybrid.proofs.Steps.Ids.{Leads-Names}
 use Rattle.automata_hybrid.proofs.dfa.DFA.run.Goals as goal
 
+no_tag : IsRunTag 0
+no_tag = record { upto = omega arith; whole = refl }
+
+pub follow-quiet-requires-clause-kind : goal.follow-quiet-requires-clause-kind
+follow-quiet-requires-clause-kind c = no_tag
+
 pub returns-then-get_earliest : goal.returns-then-get_earliest
 returns-then-get_earliest c =
-    let followed = c.follow-quiet.ensures.followed in
+    let followed = c.follow-quiet.ensures.to.followed in
     record {
-      run = record { more = followed.more; within = c.follow-quiet.ensures.within; known = followed_known followed };
+      run = record { more = followed.more; within = c.follow-quiet.ensures.to.within; known = followed_known followed };
       at = followed_at followed c.requires.at;
-      met = c.follow-quiet.ensures.met;
+      met = c.follow-quiet.ensures.to.met;
     }
 
 pub returns-then-not-has_only : goal.returns-then-not-has_only
 returns-then-not-has_only c =
-    let followed = c.follow-quiet.ensures.followed in
+    let followed = c.follow-quiet.ensures.to.followed in
     record {
-      run = record { more = followed.more; within = c.follow-quiet.ensures.within; known = followed_known followed };
+      run = record { more = followed.more; within = c.follow-quiet.ensures.to.within; known = followed_known followed };
       at = followed_at followed c.requires.at;
-      met = c.follow-quiet.ensures.met;
+      met = c.follow-quiet.ensures.to.met;
     }
 
 pub returns : goal.returns
@@ -30,7 +37,7 @@ returns c =
     let further = c.follow_matches-stop.ensures.run.further in
     let here : c.follow_matches-stop.result.at ≡ suc (c.follow_matches-stop.result.at - 1) = omega (arith, further) in
     let t : Rows = c.args.cache.now.store.table in
-    let followed = c.follow-quiet.ensures.followed in
+    let followed = c.follow-quiet.ensures.to.followed in
     record {
       run = record {
         more = omega (arith, followed.more, matches.more);

@@ -1,41 +1,57 @@
-use Rattle.std.proofs.Common.{Some, rules, sym, subst}
-use Rattle.std.specs.Prelude.{Ok}
-use Rattle.automata_base.specs.Haystacks.Matches.{HalfMatch}
+use Rattle.std.proofs.Common.{◌∙◌, sym, ap, subst}
+use Rattle.std.specs.Result.{result_err}
+use Rattle.std.proofs.lemmas.Result.{IfErr-weaker, IfOk-weaker}
+use Rattle.automata_base.specs.Nfas.Nodes.{Automaton}
 use Rattle.automata_base.specs.declared.util.search.Direction.TheVariants.{Forward}
-use Rattle.automata_hybrid.specs.Searches.Contracts.{IsHalf}
-use Rattle.automata_hybrid.specs.Searches.Passes.{IsFound, WithoutBase}
+use Rattle.automata_base.specs.Answers.OfPasses.{ReportedEndsAreRight, ReportedIsRight}
+use Rattle.automata_base.specs.Answers.Within.{ReportedLiesWithin}
+use Rattle.automata_config.specs.Options.{match_kind_of}
+use Rattle.automata_hybrid.specs.Searches.Contracts.{IsHalf, halves}
+use Rattle.automata_hybrid.specs.Searches.Passes.{IsFound}
 use Rattle.automata_hybrid.specs.Searches.Progress.{IsSearchRun}
-use Rattle.automata_hybrid.proofs.Searches.Contracts.{err_is, found_err, found_none, found_some}
-use Rattle.automata_hybrid.proofs.Searches.Contracts.{half_err, half_none, half_some}
+use Rattle.automata_hybrid.proofs.Searches.Follows.{call_refused}
+use Rattle.automata_hybrid.proofs.Searches.Reach.{refused_memory}
+use Rattle.automata_hybrid.proofs.Searches.Contracts.{halves_err, halves_error, halves_ok}
+use Rattle.automata_hybrid.proofs.Searches.Skips.{found_reported}
+use Rattle.automata_hybrid.proofs.Searches.Bounds.{lies_in}
 use Rattle.automata_hybrid.proofs.dfa.DFA.try_search_fwd.Goals as goal
 
-pub returns-in_err-half-clause-half : goal.returns-in_err-half-clause-half
-returns-in_err-half-clause-half c =
-    half_err c.args.self.now c.args.input.now c.from_residual.result _ c.from_residual.ensures.1 c.in_err-half.ensures.based
+pub returns-clause-half : goal.returns-clause-half
+returns-clause-half c =
+    let m = c.args.self.now in
+    let input = c.args.input.now in
+    let s = c.search-found.ensures in
+    let r = c.search-found.result in
+    let cache = c.search-found.new.cache.store in
+    let haystack = c.haystack-haystack.ensures in
+    let reported = subst (λ (a : Automaton). ReportedIsRight a) c.get_nfa.ensures c.reported_is_right.ensures.answer in
+    let ends = subst (λ (a : Automaton). ReportedEndsAreRight a) c.get_nfa.ensures c.reported_is_right.ensures.ends in
+    let lies = subst ReportedLiesWithin c.get_nfa.ensures c.reported_is_right.ensures.within in
+    let found = halves_ok (IsFound Forward m input) r s.found in
+    subst (λ v. IsHalf Forward m input v) (sym c.without_base.ensures)
+    (record {
+      answer = λ cycles.
+          halves_ok _ r (IfOk-weaker r _ _
+          (λ o found. reported Forward (match_kind_of m.config) input _ cycles (haystack.bytes, haystack.within.1) (found_reported Forward m input _ found))
+          s.found);
+      nearest = λ early.
+          halves_ok _ r (IfOk-weaker r _ _
+          (λ o found. (ends Forward (match_kind_of m.config) input _ (haystack.bytes, haystack.within.1) (found_reported Forward m input _ found)).0 early)
+          s.found);
+      farthest = λ late all.
+          halves_ok _ r (IfOk-weaker r _ _
+          (λ o found. (ends Forward (match_kind_of m.config) input _ (haystack.bytes, haystack.within.1) (found_reported Forward m input _ found)).1 late all)
+          s.found);
+      within = lies_in m input lies haystack.within.1 Forward (halves r) found;
+      unsupported = λ u. ap halves (s.unsupported u);
+      free = λ f.
+          halves_err _ r
+          (IfErr-weaker r _ _ (λ e x. refused_memory Forward m cache input e haystack.within.1 s.of f.reach f.supported f.clears x)
+          (call_refused Forward m input c.args.cache.now c.search-found.new.cache r s.effect));
+      done = λ past. ap halves (s.done past);
+    })
 
-pub returns-in_err-half-clause-effect : goal.returns-in_err-half-clause-effect
-returns-in_err-half-clause-effect c =
-    subst (IsSearchRun Forward c.args.self.now c.args.input.now c.args.cache.now c.try_search_fwd_base.new.cache) (sym (err_is c.from_residual.result _ c.from_residual.ensures.1))
-    c.in_err-half.ensures.effect
-
-pub returns-in-Some-clause-half : goal.returns-in-Some-clause-half
-returns-in-Some-clause-half c =
-    subst (λ (half : HalfMatch). IsHalf Forward c.args.self.now c.args.input.now (Ok (Some half))) (search rules)
-    (half_some c.args.self.now c.args.input.now _ _ c.in-Some.is c.in_ok-half.ensures.based)
-
-pub returns-in-None-clause-half : goal.returns-in-None-clause-half
-returns-in-None-clause-half c =
-    half_none c.args.self.now c.args.input.now _ c.in-None.is c.in_ok-half.ensures.based
-
-pub returns-in_err-half-clause-found : goal.returns-in_err-half-clause-found
-returns-in_err-half-clause-found c =
-    found_err (WithoutBase (IsFound Forward c.args.self.now c.args.input.now)) c.from_residual.result _ c.from_residual.ensures.1
-
-pub returns-in-Some-clause-found : goal.returns-in-Some-clause-found
-returns-in-Some-clause-found c =
-    subst (λ (half : HalfMatch). WithoutBase (IsFound Forward c.args.self.now c.args.input.now) (Some half)) (search rules)
-    (found_some (IsFound Forward c.args.self.now c.args.input.now) _ _ c.in-Some.is c.in_ok-half.ensures.found)
-
-pub returns-in-None-clause-found : goal.returns-in-None-clause-found
-returns-in-None-clause-found c =
-    found_none (IsFound Forward c.args.self.now c.args.input.now) _ c.in-None.is c.in_ok-half.ensures.found
+pub returns-clause-effect : goal.returns-clause-effect
+returns-clause-effect c =
+    subst (IsSearchRun Forward c.args.self.now c.args.input.now c.args.cache.now c.search-found.new.cache)
+    (sym (ap result_err c.without_base.ensures ∙ halves_error c.search-found.result)) c.search-found.ensures.effect

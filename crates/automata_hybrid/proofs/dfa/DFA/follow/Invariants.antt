@@ -1,6 +1,6 @@
 use Rattle.std.proofs.Common.{◌≤◌, ◌-◌}
 use Rattle.automata_hybrid.specs.Searches.PassState.{IsRun}
-use Rattle.automata_hybrid.proofs.dfa.DFA.follow_tag.Given as goal
+use Rattle.automata_hybrid.proofs.dfa.DFA.follow.Given as goal
 
 abbrev pub invariant-eights : goal.invariant-eights
 invariant-eights l = record {

@@ -1,0 +1,25 @@
+use Rattle.std.proofs.Common.{◌<◌, sym, subst, arith}
+use Rattle.automata_base.specs.ByteClasses.Classes.{class_in}
+use Rattle.automata_hybrid.specs.Machines.Machine.{Machine}
+use Rattle.automata_hybrid.proofs.Searches.Runs.{followed_none, met_at}
+use Rattle.automata_hybrid.proofs.dfa.DFA.stay.Goals as goal
+
+pub returns-then-at-end : goal.returns-then-at-end
+returns-then-at-end c = λ tag.
+    record {
+      within = c.requires.within;
+      followed = followed_none c.args.way c.args.self.now c.args.cache.now.store c.args.input.now tag c.args.at c.args.id c.requires.named;
+      met = λ low. absurd (omega (arith, low));
+    }
+
+pub returns : goal.returns
+returns c = λ tag.
+    record {
+      within = c.requires.within;
+      followed = followed_none c.args.way c.args.self.now c.args.cache.now.store c.args.input.now tag c.args.at c.args.id c.requires.named;
+      met =
+          met_at c.args.way c.args.self.now c.args.cache.now.store c.args.input.now c.args.at c.args.id c.next_state_known.result c.byte_at.result
+          (omega (arith, c.if-at-end.false, c.requires.upto)) c.byte_at.ensures c.next_state_known.ensures.value
+          (subst (λ (m : Machine). class_in c.args.self.now.classes c.byte_at.result < m.stride) (sym c.requires.of) c.next_state_known.ensures.below)
+          c.next_state_known.ensures.quit c.next_state_known.ensures.named c.requires.named;
+    }
