@@ -1,7 +1,6 @@
 //! The states of the kit's NFA as those of the library.
 ghost use Rattle.std.specs.Prelude.{◌≡◌, ◌+◌, ◌++◌, IfOk, OnOk, false};
 ghost use Rattle.automata_base.specs.Nfas.Nodes as nodes;
-ghost use Rattle.regex_nfa.specs.Sides.{is_unicode_look};
 ghost use Rattle.example_meaning.specs.Agreeing.{HasNoUnicodeLook};
 ghost use Rattle.example_meaning.specs.Translated as translated;
 

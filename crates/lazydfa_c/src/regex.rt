@@ -1,6 +1,5 @@
 //! Regexes and caches.
 ghost use Rattle.std.specs.Prelude.{◌≡◌, IfErr, IfOk, Ok, OnErr, OnOk, Some, false, true};
-ghost use Rattle.automata_base.specs.Nfas.Nodes.{Automaton};
 ghost use Rattle.automata_config.specs.Options.{overwritten, unset};
 ghost use Rattle.regex_automata.specs.Promises.{IsSoundPair};
 ghost use Rattle.lazydfa_c.specs.Builds.{IsFreshOf, IsKeepingPairOf, IsKeepingPairError, IsPairOf, IsPairError};

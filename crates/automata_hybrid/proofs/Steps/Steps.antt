@@ -146,7 +146,6 @@ module _ (m : Machine) (id : ℕ) (unit : Option ℕ) (c : CacheView) (class nex
     rowed (inr (a, inl is)) = absurd (omega (arith, is, low))
     rowed (inr (a, inr h)) = leads_row c next _ (here is valid.0 h)
 
-
 -- a cell that is cached has the ID of a row
 pub cell_row :
     (c : CacheView) (q : Powerset) (class id : ℕ) (unit : Option ℕ) → IsUnit unit → unit_class c.store.table.of unit ≡ class

@@ -11,7 +11,7 @@ ghost use Rattle.automata_hybrid.specs.Machines.Reachable.{IsStateOf};
 ghost use Rattle.automata_hybrid.specs.Machines.OwnStates.{IsOwn};
 ghost use Rattle.automata_hybrid.specs.Machines.Machine.{quits_on, unit_class};
 ghost use Rattle.automata_hybrid.specs.Cache.Ids.{dead_id, unknown_id, offset_limit};
-ghost use Rattle.automata_hybrid.specs.Cache.Table.{id_of, Names, IsRowId, Leads, IsCell, LeadsByClass};
+ghost use Rattle.automata_hybrid.specs.Cache.Table.{id_of, Names, IsRowId, IsCell, LeadsByClass};
 ghost use Rattle.automata_hybrid.specs.Cache.Table.{HasItsMatchTag, HasState};
 ghost use Rattle.automata_hybrid.specs.Cache.Leaps.{AreLeaps, IsShapeOf};
 ghost use Rattle.automata_hybrid.specs.Cache.Table.{IsNewState, IsRowState};

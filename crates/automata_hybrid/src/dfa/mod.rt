@@ -5,16 +5,13 @@
 //! limits of their caches (`settings`).
 ghost use Rattle.std.specs.Prelude.{ℕ, ◌≡◌, ◌<◌, ◌≤◌, ◌^◌, IfOk, OnOk, OnErr, Some, None, true, false, slice_index};
 ghost use Rattle.std.specs.Prelude.{length};
-ghost use Rattle.automata_base.specs.Powersets.Powerset.{Powerset};
 ghost use Rattle.automata_base.specs.ByteClasses.Classes.{AreClasses, class_in, eoi_class, is_quit};
-ghost use Rattle.automata_base.specs.Retraced.Steps.{successor};
 ghost use Rattle.automata_base.specs.Powersets.Passes.{IsUnit};
-ghost use Rattle.automata_hybrid.specs.Machines.OwnStates.{IsOwn};
 ghost use Rattle.automata_base.specs.Powersets.Accounting.{start_slots};
 ghost use Rattle.automata_hybrid.specs.Cache.Ids.{quit_id, unknown_id};
 ghost use Rattle.automata_hybrid.specs.Machines.Machine.{IsMachine};
 ghost use Rattle.automata_config.specs.Settling.{IsSettled};
-ghost use Rattle.automata_config.specs.Options.{unset, match_kind_of};
+ghost use Rattle.automata_config.specs.Options.{unset};
 ghost use Rattle.automata_hybrid.specs.Cache.Caches.{fresh_cache};
 ghost use Rattle.automata_hybrid.specs.Machines.Builds.{built_machine};
 ghost use Rattle.automata_hybrid.specs.Cache.Stores.{fresh_store, settings_of};

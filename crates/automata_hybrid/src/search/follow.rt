@@ -1,11 +1,10 @@
 //! Following cached transitions, eight a turn: into states that report nothing or into match states, and along
 //! self-loops.
-ghost use Rattle.std.specs.Prelude.{ℕ, ◌≡◌, ◌+◌, ◌-◌, ◌^◌, ◌<◌, ◌≤◌, true, false};
-ghost use Rattle.automata_base.specs.declared.util.search.Direction.TheVariants.{Forward};
+ghost use Rattle.std.specs.Prelude.{ℕ, ◌≡◌, ◌+◌, ◌-◌, ◌^◌, ◌<◌, ◌≤◌};
 ghost use Rattle.automata_hybrid.specs.Cache.Caches.{IsCacheOf};
 ghost use Rattle.automata_hybrid.specs.Cache.Ids.{fixed_from, HasOnly, IsRunTag};
 ghost use Rattle.automata_hybrid.specs.Searches.PassContracts.{FollowsTo};
-ghost use Rattle.automata_hybrid.specs.Searches.PassState.{IsFollowed, IsMatchRun, IsMet, IsRun, IsTagAt, MeetsMatch};
+ghost use Rattle.automata_hybrid.specs.Searches.PassState.{IsMatchRun, IsMet, IsRun, IsTagAt, MeetsMatch};
 ghost use Rattle.automata_hybrid.specs.Searches.Passes.{state_in};
 ghost use Rattle.automata_hybrid.specs.Searches.SelfLoops.{IsSelfLoop};
 ghost use Rattle.automata_hybrid.specs.Cache.Table.{IsRowId, Names};

@@ -8,7 +8,7 @@ ghost use Rattle.automata_hybrid.specs.Cache.Leaps.{AreLeaps};
 ghost use Rattle.automata_hybrid.specs.Cache.Table.{IsRowId, Names};
 ghost use Rattle.automata_hybrid.specs.Searches.Leaps.{IsLeapt, LeadsIds, column_of};
 ghost use Rattle.automata_hybrid.specs.Searches.PassContracts.{FollowsTo, MayBegin, input_at};
-ghost use Rattle.automata_hybrid.specs.Searches.PassState.{IsFollowed, IsMet, IsRun, IsTagAt};
+ghost use Rattle.automata_hybrid.specs.Searches.PassState.{IsMet, IsRun, IsTagAt};
 ghost use Rattle.automata_hybrid.specs.Searches.Passes.{state_in};
 ghost use Rattle.automata_hybrid.specs.Searches.SelfLoops.{byte_in};
 
