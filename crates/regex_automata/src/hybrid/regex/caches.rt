@@ -1,4 +1,4 @@
-ghost use Rattle.std.specs.Prelude.{◌≡◌, ◌+◌, ◌^◌, ◌-◌, IfOk, OnOk, OnErr, min};
+ghost use Rattle.std.specs.Prelude.{◌≡◌, ◌+◌, ◌^◌, ◌-◌, ◌≤◌, IfOk, OnOk, OnErr, min};
 ghost use Rattle.std.specs.Borrow.{sem};
 ghost use Rattle.automata_hybrid.specs.Cache.Usage.{usage};
 ghost use Rattle.regex_automata.specs.Regexes.Caches.{AreFresh};
@@ -112,5 +112,16 @@ impl Cache {
         self.forward
             .memory_usage()
             .saturating_add(self.reverse.memory_usage())
+    }
+
+    /// The bytes that the leaps of both take now, beside the accounted ones: by them a search over a long text reads a few
+    /// bytes at a step. Each part keeps its accounted bytes and its leaps within its own capacity.
+    pub fn leap_usage(&self) -> usize
+        ensures { usage self.now.forward.store + usage self.now.reverse.store + result
+            ≤ self.now.forward.store.table.of.capacity + self.now.reverse.store.table.of.capacity }
+    {
+        self.forward
+            .leap_usage()
+            .saturating_add(self.reverse.leap_usage())
     }
 }
