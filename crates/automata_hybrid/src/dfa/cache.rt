@@ -498,14 +498,14 @@ impl Cache {
         self.store.table.row_at(index)
     }
 
-    /// How many bytes are still searched before leaps are looked after.
+    /// How many bytes are still searched before the cache looks whether to make leaps.
     pub(crate) fn bytes_before_leaps(&self) -> usize {
         self.leaping
             .due
             .saturating_sub(self.store.searched.total_len())
     }
 
-    /// Looks after leaps, if enough bytes were searched.
+    /// Looks whether to make leaps, if enough bytes were searched.
     #[inline(always)]
     pub(crate) fn prepare_leaps(&mut self, dfa: &DFA)
         requires { IsCacheOf self.old dfa.now }
@@ -516,8 +516,8 @@ impl Cache {
         }
     }
 
-    /// Makes leaps anew, if they pay and fit, and says when to look after them again. Where they cannot be made, this is
-    /// after the next clear.
+    /// Makes leaps anew, if they pay and there is room to make them, and says when to look again. Where they cannot
+    /// be made, this is after the next clear.
     #[inline(never)]
     fn make_leaps(&mut self, dfa: &DFA)
         requires { IsCacheOf self.old dfa.now }
@@ -528,7 +528,7 @@ impl Cache {
         let Some(shape) = Shape::of(dfa.byte_classes().eoi(), self.store.table.len()) else {
             return;
         };
-        if shape.bytes() > self.store.room() {
+        if shape.making() > self.store.room() {
             return;
         }
         if total < shape.price() {

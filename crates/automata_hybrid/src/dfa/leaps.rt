@@ -47,11 +47,11 @@ pub(crate) struct Leaps {
     pub(crate) cells: Vec<u32>,
 }
 
-/// The leaps of a cache, if there are some, and when to look after them.
+/// The leaps of a cache, if there are some, and when it looks whether to make them.
 #[derive(Drop)]
 pub(crate) struct Leaping {
     pub(crate) leaps: Option<Box<Leaps>>,
-    /// How many bytes were searched since the last clear when leaps are looked after next.
+    /// How many bytes were searched since the last clear when it looks next.
     pub(crate) due: usize,
 }
 
@@ -153,6 +153,18 @@ impl Shape {
         ensures { result ≡ leaps_bytes (self.rows * self.width) }
     {
         SIZE + 4 * (self.rows * self.width)
+    }
+
+    /// How many bytes are taken while these leaps are made: by them, by the rows after one byte, and by those after one
+    /// byte less than a leap takes.
+    pub(crate) fn making(self) -> usize
+        requires { IsShape self }
+        ensures { leaps_bytes (self.rows * self.width) ≤ result }
+    {
+        let steps = self.rows.saturating_add(1).saturating_mul(self.classes);
+        let level = self.rows.saturating_mul(self.width / self.classes.max(1));
+        self.bytes()
+            .saturating_add(steps.saturating_add(level).saturating_mul(4))
     }
 
     /// How many bytes are searched before these leaps are made.

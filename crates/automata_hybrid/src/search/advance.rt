@@ -25,8 +25,8 @@ use crate::search::follow::Stop;
 use automata_base::util::search::{Direction, Input};
 use automata_config::error::SearchError;
 
-/// How many bytes a walk follows cached transitions one by one before leaps are looked after.
-const MANY: usize = 256;
+/// How many bytes a walk follows one by one before it looks for leaps.
+const NEAR: usize = 256;
 
 /// Where a walk has come to: a state whose patterns match, or none at its end; and how many units it has read.
 #[derive(Clone, Copy)]
@@ -179,8 +179,8 @@ impl DFA {
         }
     }
 
-    /// Goes on by leaps, where a walk has come to the place where they are looked after; and the place where they are
-    /// looked after next.
+    /// Goes on by leaps, where a walk has come to the place where it looks for them; and the place where it looks for them
+    /// next.
     #[inline(always)]
     fn walk_far(
         &self,
@@ -204,7 +204,7 @@ impl DFA {
             return (near, end);
         }
         let far = self.leap_on(cache, input, way, near);
-        (far, last.min(far.at + MANY))
+        (far, last.min(far.at + NEAR))
     }
 
     /// Goes on with a walk from its state to the next one whose patterns match. The search stays open at the last byte
@@ -231,7 +231,7 @@ impl DFA {
         let last = last_place(input);
         let mut id = from;
         let mut read = units;
-        let mut end = last.min(read + MANY);
+        let mut end = last.min(read + NEAR);
         while read <= last {
             let near = self.follow_walk(cache, input, way, read, id, end);
             let (stop, due) = self.walk_far(cache, input, way, near, end);

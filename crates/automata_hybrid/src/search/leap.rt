@@ -71,7 +71,7 @@ fn wait_after(len: usize, wait: usize) -> usize
 }
 
 impl DFA {
-    /// Goes on by leaps, if there are some, from a place where they are looked after.
+    /// Goes on by leaps from a place, if there are some.
     #[inline(always)]
     pub(super) fn leap_on(
         &self,
@@ -303,8 +303,8 @@ impl DFA {
         }
     }
 
-    /// Looks after leaps, and goes on by them if there are some. It is given the parts of the input, so that a search
-    /// without leaps keeps its numbers in registers.
+    /// Makes leaps, if they are due, and goes on by them if there are some. It is given the parts of the input, so that
+    /// a search without leaps keeps its numbers in registers.
     #[inline(never)]
     fn follow_far(
         &self,

@@ -29,7 +29,7 @@ use automata_base::util::primitives::PatternID;
 use automata_base::util::search::{Anchored, Direction, HalfMatch, Input, Span};
 use automata_config::error::SearchError;
 
-/// How many bytes are followed one by one before leaps are looked after again.
+/// How many bytes a pass follows one by one before it looks for leaps again.
 const NEAR: usize = 48;
 
 /// Where a run is: its place, the ID of its state there, and what it found last.
@@ -79,7 +79,7 @@ pub(super) fn input_of<'h>(
         .earliest(earliest)
 }
 
-/// The place up to which a run from a place follows cached transitions before leaps are looked after.
+/// The place up to which a run from a place follows cached transitions before it looks for leaps.
 #[inline(always)]
 fn near_end(cache: &Cache, at: usize, last: usize) -> usize
     ensures { result ≤ last }
@@ -363,8 +363,8 @@ impl DFA {
         self.find_end(cache, input, way, id, found)
     }
 
-    /// Goes on by leaps, where a run has come to the place where they are looked after; and the place where they are
-    /// looked after next.
+    /// Goes on by leaps, where a run has come to the place where it looks for them; and the place where it looks for them
+    /// next.
     #[inline(always)]
     fn go_far(
         &self,
