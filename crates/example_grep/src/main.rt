@@ -15,7 +15,7 @@
 ghost use Rattle.std.specs.Prelude.{◌≡◌, List, IfOk, map};
 ghost use Rattle.regex_hir.specs.Re.{Re};
 ghost use Rattle.regex_automata.specs.Promises.{LeftmostFirst, match_kind_of};
-ghost use Rattle.example_patterns.specs.Patterns.{IsJoinedNfa, IsNfaOf, IsRegexOf};
+ghost use Rattle.example_patterns.specs.Patterns.{HasNoLookCycle, IsJoinedNfa, IsNfaOf, IsRegexOf};
 ghost use Rattle.example_grep.specs.Lines.{bytewise};
 ghost use Rattle.example_grep.specs.Greps.{AreSpansFor, IsGrepFor};
 
@@ -28,7 +28,7 @@ use crate::grep::Grep;
 use crate::lines::LineSearcher;
 use crate::options::{Options, Show};
 use crate::spans::SpanSearcher;
-use anyhow::{Result, bail};
+use anyhow::Result;
 use example_patterns::{Options as PatternOptions, Pattern, PatternError, nfa_of};
 use regex_automata::hybrid::dfa::DFA;
 use regex_automata::nfa::thompson::NFA;
@@ -50,8 +50,9 @@ fn bytewise(case_insensitive: bool) -> PatternOptions
 
 /// The NFA of the patterns.
 fn patterns_nfa(alloc: Global, options: &Options<'_>) -> Result<NFA, PatternError>
-    ensures { IfOk result (IsNfaOf (bytewise options.now.case_insensitive)
+    ensures meant { IfOk result (IsNfaOf (bytewise options.now.case_insensitive)
         (map (λ text. text.now) options.now.patterns.items)) }
+    ensures acyclic { IfOk result HasNoLookCycle }
 {
     let how = bytewise(options.case_insensitive);
     nfa_of(alloc, options.patterns.as_slice(), &how)
@@ -67,14 +68,12 @@ fn report(rt: &HostRuntime, options: &Options<'_>, error: PatternError) -> Resul
 
 /// The searcher of lines for the patterns of an NFA.
 fn line_searcher(nfa: NFA) -> Result<LineSearcher>
+    requires { HasNoLookCycle nfa }
     ensures nfa { IfOk result (λ s. s.dfa.nfa ≡ nfa) }
     ensures kind { IfOk result (λ s. match_kind_of s.dfa.config ≡ LeftmostFirst) }
     ensures searched { IfOk result (λ s. s.searched ≡ 0) }
 {
     let dfa = DFA::builder().build_from_nfa(nfa)?;
-    if !dfa.get_nfa().is_look_acyclic() {
-        bail!("a cycle passes a look-around assertion");
-    }
     LineSearcher::new(dfa)
 }
 
@@ -104,6 +103,7 @@ fn spans_of(nfa: &NFA, only_matches: bool, case_insensitive: bool) -> Result<Opt
 
 /// A grep for the patterns of an NFA, which has searched nothing.
 fn grep_of(alloc: Global, show: Show, nfa: NFA, case_insensitive: bool) -> Result<Grep>
+    requires { HasNoLookCycle nfa }
     ensures meant { IfOk result (λ grep. (res : List Re) → IsJoinedNfa (bytewise case_insensitive) res nfa
         → IsGrepFor case_insensitive res grep) }
     ensures show { IfOk result (λ grep. grep.show ≡ show) }
@@ -116,7 +116,9 @@ fn grep_of(alloc: Global, show: Show, nfa: NFA, case_insensitive: bool) -> Resul
 }
 
 /// Searches standard input. The status says whether a line had a match.
-fn search(rt: &HostRuntime, options: &Options<'_>, nfa: NFA) -> Result<ExitCode> {
+fn search(rt: &HostRuntime, options: &Options<'_>, nfa: NFA) -> Result<ExitCode>
+    requires { HasNoLookCycle nfa }
+{
     let mut grep = grep_of(rt.alloc(), options.show, nfa, options.case_insensitive)?;
     grep.run(&mut rt.reader(), &mut io::writer(rt))?;
     Ok(if grep.count() > 0 {

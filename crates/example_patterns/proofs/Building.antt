@@ -8,23 +8,27 @@ use Rattle.automata_base.specs.Nfas.Nodes.{Automaton}
 use Rattle.automata_base.specs.Nfas.Unions.{IsKeepingUnions}
 use Rattle.automata_config.specs.Options as settings
 use Rattle.automata_hybrid.specs.Machines.Machine.{Machine}
-use Rattle.regex_automata.specs.Promises.{IsLookAcyclic, IsSoundPair, LeftmostFirst, engine_of, forward_engine, match_kind_of, nfa_of}
+use Rattle.regex_automata.specs.Promises.{IsLookAcyclic, IsSoundPair, LeftmostFirst, engine_of, forward_engine, match_kind_of}
 use Rattle.regex_automata.specs.Regexes.Builds.{BuildsOne, BuildsPair}
 use Rattle.regex_automata.specs.declared.hybrid.regex.Regex.{Regex}
 use Rattle.example_meaning.specs.Translated.{engine}
 use Rattle.example_meaning.proofs.Acyclic.{joined_acyclic}
-use Rattle.example_patterns.specs.Patterns.{IsJoinedNfa, IsRegexOf}
+use Rattle.example_patterns.specs.Patterns.{HasNoLookCycle, IsJoinedNfa, IsRegexOf}
 use Rattle.example_patterns.specs.declared.compile.Options.{Options}
 
 dropped : {P : Type 0} (v : Bool) → P → (IsTrue v → P → ⊥) → v ≡ false
 dropped true p never = absurd (never refl p)
 dropped false p never = refl
 
+-- no cycle of a joined NFA passes a look
+pub has_no_look_cycle : (a : Automaton) (ks : List kit_nfa.Nfa) (utf8 : Bool) → engine_of a LeftmostFirst ≡ engine utf8 ks → HasNoLookCycle a
+has_no_look_cycle a ks utf8 same = subst IsLookAcyclic (sym (ap (λ (d : Engine). d.nfa) same)) (joined_acyclic ks)
+
 kept_is :
     (a kept : Automaton) (ks : List kit_nfa.Nfa) (utf8 : Bool) → engine_of a LeftmostFirst ≡ engine utf8 ks
     → IsKeepingUnions a kept → kept ≡ a
 kept_is a kept ks utf8 same keeping =
-    let acyclic : IsLookAcyclic (nfa_of a) = subst IsLookAcyclic (sym (ap (λ (d : Engine). d.nfa) same)) (joined_acyclic ks) in
+    let acyclic : HasNoLookCycle a = has_no_look_cycle a ks utf8 same in
     let new : kept.keeps_unions ≡ false = dropped kept.keeps_unions acyclic keeping.1.0 in
     let old : a.keeps_unions ≡ false = ap (λ (d : Engine). d.nfa.keeps_unions) same in
     keeping.0 ∙ ap (λ v. record a { keeps_unions = v }) (new ∙ sym old)

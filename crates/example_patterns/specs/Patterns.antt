@@ -7,7 +7,7 @@ use Rattle.regex_nfa.specs.declared.nfa.Nfa as kit_nfa
 use Rattle.regex_syntax.specs.declared.Config.{Config}
 use Rattle.regex_syntax.specs.Verdict.{Reads, default_config, default_flags}
 use Rattle.automata_base.specs.Nfas.Nodes.{Automaton}
-use Rattle.regex_automata.specs.Promises.{IsSoundPair, LeftmostFirst, engine_of, forward_engine}
+use Rattle.regex_automata.specs.Promises.{IsLookAcyclic, IsSoundPair, LeftmostFirst, engine_of, forward_engine, nfa_of}
 use Rattle.regex_automata.specs.declared.hybrid.regex.Regex.{Regex}
 use Rattle.example_meaning.specs.Agreeing.{Each, HasNoUnicodeLook, ImplementAll}
 use Rattle.example_meaning.specs.Translated.{engine}
@@ -35,6 +35,10 @@ AreMeanings config (text ∷ texts) (re ∷ res) = IsMeaning config text re × A
 -- some NFAs of the kit find what the patterns mean; no look of them is one of characters, unless the text is ASCII
 abbrev pub AreNfasOf : Options → List kit_nfa.Nfa → List Re → Type 0
 AreNfasOf options ks res = ImplementAll ks res × Each (λ k. options.ascii ≡ false → HasNoUnicodeLook k) ks
+
+-- no cycle of what reads nothing passes a look: such an NFA keeps its cycles without being asked to keep unions
+abbrev pub HasNoLookCycle : Automaton → Type 0
+HasNoLookCycle nfa = IsLookAcyclic (nfa_of nfa)
 
 -- the NFA joins NFAs that find what these patterns mean
 abbrev pub IsJoinedNfa : Options → List Re → Automaton → Type 0

@@ -8,7 +8,7 @@ ghost use Rattle.regex_nfa.specs.declared.nfa.Nfa as kit_nfa;
 ghost use Rattle.regex_syntax.specs.Verdict.{Reads};
 ghost use Rattle.example_meaning.specs.Translated.{engine};
 ghost use Rattle.example_patterns.specs.Drafts.{Grows, Has, IsCompiled, IsDraftOf};
-ghost use Rattle.example_patterns.specs.Patterns.{IsNfaOf, config_of};
+ghost use Rattle.example_patterns.specs.Patterns.{HasNoLookCycle, IsNfaOf, config_of};
 
 use crate::error::{Fault, PatternError};
 use crate::translate::{Origin, has_unicode_look, id_of, push_states, shifted};
@@ -201,9 +201,11 @@ impl Draft {
 /// The NFA of these patterns, in which each has its place in the list as its number. It fails at the first text that is
 /// no pattern, or that makes the patterns too large.
 ///
-/// Behind the states of the patterns stand a union of their starts and a loop that skips bytes, also for one pattern.
+/// Behind the states of the patterns stand a union of their starts and a loop that skips bytes, also for one pattern. No
+/// cycle of what reads nothing passes a look-around assertion, whatever the patterns.
 pub fn nfa_of(alloc: Global, texts: &[&str], options: &Options) -> Result<NFA, PatternError>
-    ensures { IfOk result (IsNfaOf options.now (map (λ text. text.now) texts.now)) }
+    ensures meant { IfOk result (IsNfaOf options.now (map (λ text. text.now) texts.now)) }
+    ensures acyclic { IfOk result HasNoLookCycle }
 {
     let mut draft = Draft::new(alloc, options.size_limit);
     draft.read(alloc, texts, options)?;
