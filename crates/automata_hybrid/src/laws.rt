@@ -1,5 +1,6 @@
 //! Laws that searches and walks stand on. The contract of each function is the law; what it does is to cite others.
 ghost use Rattle.automata_hybrid.specs.Cache.Caches.{IsCacheOf, IsStoreOf};
+ghost use Rattle.automata_hybrid.specs.Calls.Steps.{StartsFollow, StepsFollow};
 ghost use Rattle.automata_hybrid.specs.Machines.Machine.{IsSized};
 ghost use Rattle.automata_hybrid.specs.Walks.Follows.{CallsFollow, SetsFollow};
 ghost use Rattle.automata_hybrid.specs.Walks.SetsByPaths.{SetsHaveMatching};
@@ -50,6 +51,13 @@ pub fn cache_is_within(dfa: &DFA, cache: &Cache)
 pub fn searches_follow()
     ensures searches { SearchesFollow }
     ensures passes { PassesCost }
+{}
+
+/// What follows of a step, and of a call for a start state: how often it determinizes, how the cache grows, what it
+/// computes, what is cached after it, and what changes nothing.
+pub fn steps_follow()
+    ensures steps { StepsFollow }
+    ensures starts { StartsFollow }
 {}
 
 /// If all that a search uses was cached, and no row, start state or transition was lost, it is still cached.

@@ -1,5 +1,5 @@
 -- What follows from the events of a call: how often it determinizes, how the cache grows, and what is cached after it.
-use Rattle.std.proofs.Common.{ℕ, ◌≡◌, ◌∙◌, ◌+◌, ◌*◌, ◌<◌, ◌≤◌, ◌⊎◌, List, [], ◌∷◌, ◌++◌, Option, None, Some, inl, inr, refl}
+use Rattle.std.proofs.Common.{ℕ, ◌≡◌, ◌∙◌, ◌+◌, ◌*◌, ◌<◌, ◌≤◌, ◌⊎◌, List, [], ◌∷◌, ◌++◌, Option, None, Some, inl, inr, refl, false}
 use Rattle.std.proofs.Common.{sym, ap, subst, arith, true}
 use Rattle.std.proofs.lemmas.Bool.{cases_lt}
 use Rattle.automata_base.specs.Powersets.Powerset.{Powerset, cost}
@@ -8,12 +8,12 @@ use Rattle.automata_base.specs.declared.util.search.Anchored.{Anchored}
 use Rattle.automata_base.proofs.Paths.Orders.{none_some}
 use Rattle.automata_config.specs.Options.{match_kind_of, specialize_start_states_of}
 use Rattle.automata_hybrid.specs.declared.dfa.row.Row.{Row}
-use Rattle.automata_hybrid.specs.Cache.Caches.{CacheView, IsStoreOf, counted}
-use Rattle.automata_hybrid.specs.Cache.Changes.{IsComputed, IsStarted}
+use Rattle.automata_hybrid.specs.Cache.Caches.{CacheView, IsStoreOf}
+use Rattle.automata_hybrid.specs.Cache.Changes.{IsComputed, IsStarted, IsStateAdded, cleared_saving}
 use Rattle.automata_hybrid.specs.Cache.Growth.{ClearedNothing, IsGrown, Keeps}
 use Rattle.automata_hybrid.specs.Cache.Ids.{unknown_id}
-use Rattle.automata_hybrid.specs.Cache.Stores.{IsKnownTransition, IsSoundStore, Stored, with_searched, with_start, IsKnownStart}
-use Rattle.automata_hybrid.specs.Cache.Table.{AreRows, IsKnownState, Lacks, Leads, Names, Rows, TagsNewStates, id_of, row_id}
+use Rattle.automata_hybrid.specs.Cache.Stores.{IsKnownTransition, IsSoundStore, Stored, with_searched, IsKnownStart}
+use Rattle.automata_hybrid.specs.Cache.Table.{AreRows, HasRowIds, IsKnownState, Lacks, Leads, Names, Rows, TagsNewStates, id_of, row_id}
 use Rattle.automata_hybrid.specs.Cache.Usage.{cleared}
 use Rattle.automata_hybrid.specs.Calls.Events.{AreCached, Begin, DoAll, Does, End, Event, Fails, IsCached, IsStepLeft, MayAsk}
 use Rattle.automata_hybrid.specs.Calls.Events.{MakesStart, MakesStep, Move, Start, Step, makings, progress_after, with_progress}
@@ -28,7 +28,7 @@ use Rattle.automata_hybrid.proofs.Cache.Places.{Found, Names-Placed, Names-alive
 use Rattle.automata_hybrid.proofs.Cache.Usage.{Leads-known}
 use Rattle.automata_hybrid.proofs.Steps.Effects.{Keeps-computed, Keeps-started, only-grown, roomy-computed, roomy-started}
 use Rattle.automata_hybrid.proofs.Steps.Effects.{written-computed}
-use Rattle.automata_hybrid.proofs.Steps.StartTags.{computed_adds, computed_keeps, from_cleared, row_named, started_adds}
+use Rattle.automata_hybrid.proofs.Steps.StartTags.{AllFrom, computed_adds, computed_keeps, from_cleared, from_saving, row_named, started_adds}
 use Rattle.automata_hybrid.proofs.Steps.StartTags.{started_keeps, tagged_none, tagged_start}
 use Rattle.automata_hybrid.proofs.Steps.Starts.{started_clears}
 use Rattle.automata_hybrid.proofs.Steps.Steps.{computed_clears}
@@ -50,36 +50,52 @@ row_cheap t id q rows named =
     let p : Placed t id q = Names-Placed t id q rows named in
     subst (λ (s : Powerset). cost s ≤ t.of.greatest) p.state (rows.states p.place p.row p.has).cheap
 
--- a state that no row has, none has after a clear
-absent_cleared : (c : Stored) → IsSoundStore c → (q : Powerset) → id_of c.table q ≡ None → id_of (cleared c).table q ≡ None
-absent_cleared c sound q none = go (id_of (cleared c).table q) refl where
-  go : (o : Option ℕ) → id_of (cleared c).table q ≡ o → id_of (cleared c).table q ≡ None
+-- a state that no row has, none of a table has whose rows are all from there
+absent_from : (old t : Rows) → HasRowIds old → AllFrom old t → (q : Powerset) → id_of old q ≡ None → id_of t q ≡ None
+absent_from old t ids all q none = go (id_of t q) refl where
+  go : (o : Option ℕ) → id_of t q ≡ o → id_of t q ≡ None
   go None e = e
   go (Some id) e =
-      let f : Found (cleared c).table.of.stride (3 * (cleared c).table.of.stride) q (cleared c).table.rows id = row_named (cleared c).table id q e in
-      let was = from_cleared c f.place f.row f.has in
-      absurd (none_some (sym none ∙ subst (λ p. Names c.table (row_id ((was.0 + 3) * c.table.of.stride) f.row) p) f.state (sound.ids was.0 f.row was.1).0))
+      let f : Found t.of.stride (3 * t.of.stride) q t.rows id = row_named t id q e in
+      let was = all f.place f.row f.has in
+      absurd (none_some (sym none ∙ subst (λ p. Names old (row_id ((was.0 + 3) * old.of.stride) f.row) p) f.state (ids was.0 f.row was.1).0))
 
--- a start adds no other state
-started_only :
-    (old new : Stored) (slot id : ℕ) (r : Row) → IsSoundStore old → IsStarted old slot r new id → (q : Powerset) → IsKnownState new.table q
-    → IsKnownState old.table q ⊎ (q ≡ r.state)
-started_only old new slot id r sound (inl (leads, e)) q known =
-    let here = subst (λ (s : Stored). IsKnownState s.table q) e known in inl (record { id = here.id; named = here.named })
-started_only old new slot id r sound (inr (lacks, between, inl (fits, g), n, e)) q known =
-    let here = subst (λ (s : Stored). IsKnownState s.table q) (e ∙ ap (λ (s : Stored). with_start s slot id) g) known in
+-- a state that is added is the only one
+added_only :
+    (old emptied new : Stored) (r : Row) → HasRowIds old.table → AllFrom old.table emptied.table → IsStateAdded old emptied r new
+    → (q : Powerset) → IsKnownState new.table q → IsKnownState old.table q ⊎ (q ≡ r.state)
+added_only old emptied new r ids all (inl (fits, g)) q known =
+    let here = subst (λ (s : Stored). IsKnownState s.table q) g known in
     only-grown old.table old.table r (λ p none. none) q (record { id = here.id; named = here.named })
-started_only old new slot id r sound (inr (lacks, between, inr (full, may, g), n, e)) q known =
-    let here = subst (λ (s : Stored). IsKnownState s.table q) (e ∙ ap (λ (s : Stored). with_start s slot id) g) known in
-    only-grown old.table (cleared old).table r (absent_cleared old sound) q (record { id = here.id; named = here.named })
+added_only old emptied new r ids all (inr (full, may, g)) q known =
+    let here = subst (λ (s : Stored). IsKnownState s.table q) g known in
+    only-grown old.table emptied.table r (absent_from old.table emptied.table ids all) q (record { id = here.id; named = here.named })
 
--- the state of a start that was computed has a row, if it had none
-started_named :
-    (old new : Stored) (slot id : ℕ) (r : Row) → IsStarted old slot r new id → Lacks old.table r.state → Leads new.table id r.state
-started_named old new slot id r (inl (inl (e, dies), s)) lacks = absurd (lacks.1 dies)
-started_named old new slot id r (inl (inr named, s)) lacks = absurd (none_some (sym lacks.0 ∙ named))
-started_named old new slot id r (inr (none, between, added, named, s)) lacks =
-    subst (λ (c : Stored). Leads c.table id r.state) (sym s) (inr named)
+-- a start adds no state but its own
+pub started_only :
+    (old new : Stored) (slot id : ℕ) (r : Row) → HasRowIds old.table → IsStarted old slot r new id → (q : Powerset) → IsKnownState new.table q
+    → IsKnownState old.table q ⊎ (q ≡ r.state)
+started_only old new slot id r ids (inl (leads, e)) q known =
+    let here = subst (λ (s : Stored). IsKnownState s.table q) e known in inl (record { id = here.id; named = here.named })
+started_only old new slot id r ids (inr (lacks, between, added, n, e)) q known =
+    let here = subst (λ (s : Stored). IsKnownState s.table q) e known in
+    added_only old (cleared old) between r ids (from_cleared old) added q (record { id = here.id; named = here.named })
+
+-- and a step none but its target
+pub computed_only :
+    (old new : Stored) (id class next : ℕ) (q target : Powerset) → HasRowIds old.table → IsComputed old id class q target new next
+    → (p : Powerset) → IsKnownState new.table p → IsKnownState old.table p ⊎ (p ≡ target)
+computed_only old new id class next q target ids (inl (leads, e)) p known =
+    let here = subst (λ (s : Stored). IsKnownState s.table p) e known in inl (record { id = here.id; named = here.named })
+computed_only old new id class next q target ids (inr (lacks, from, between, added, n, to, e)) p known =
+    let here = subst (λ (s : Stored). IsKnownState s.table p) e known in
+    added_only old (cleared_saving old id) between (record { state = target; started = false }) ids (from_saving old id) added p
+    (record { id = here.id; named = here.named })
+
+-- a start that was computed leads to its state
+pub started_leads : (old new : Stored) (slot id : ℕ) (r : Row) → IsStarted old slot r new id → Leads new.table id r.state
+started_leads old new slot id r (inl (leads, e)) = subst (λ (c : Stored). Leads c.table id r.state) (sym e) leads
+started_leads old new slot id r (inr (none, between, added, named, e)) = subst (λ (c : Stored). Leads c.table id r.state) (sym e) (inr named)
 
 -- what is true of each cache
 pub store_sound : (c : Stored) (m : Machine) → IsStoreOf c m → IsSoundStore c
@@ -189,13 +205,13 @@ module _ (m : Machine) (old new : CacheView) (of : old.store.table.of ≡ m) (so
         (started_keeps old.store new.store (slot_behind m mode behind) made.id (start_row m mode behind) sound.ids after.rows.ids made.started)
         (subst (λ (d : Machine). TagsNewStates old.store.table new.store.table (specialize_start_states_of d.config)) (sym now)
         (started_adds old.store new.store (slot_behind m mode behind) made.id (start_row m mode behind) sound.ids after.rows.ids made.started))
-        (started_only old.store new.store (slot_behind m mode behind) made.id (start_row m mode behind) sound made.started)
+        (started_only old.store new.store (slot_behind m mode behind) made.id (start_row m mode behind) sound.ids made.started)
         (subst (λ (d : Machine). slot_behind d mode behind < d.slots) (sym now) within)
         (subst (λ (d : Machine). IsKnownStart new.store (slot_behind d mode behind)) (sym now) made.cached)
         (ap (λ (d : Machine). start_state_of d.nfa mode behind) (sym now)))
         (λ nothing. Keeps-started old.store new.store (slot_behind m mode behind) made.id (start_row m mode behind) made.started sound.cells (λ k. not (λ l. k)) nothing)
         (λ states room. roomy-started old.store new.store (slot_behind m mode behind) made.id (start_row m mode behind) made.started states sound.wide
-        (λ lacks. cheap made.id (start_state_of m.nfa mode behind) (started_named old.store new.store (slot_behind m mode behind) made.id (start_row m mode behind) made.started lacks) lacks) room)
+        (λ lacks. cheap made.id (start_state_of m.nfa mode behind) (started_leads old.store new.store (slot_behind m mode behind) made.id (start_row m mode behind) made.started) lacks) room)
 
 -- a cache that stays but for its progress
 cached_moved : (m : Machine) (c : Stored) (f e : Event) (s : CacheView) → s.store ≡ c → IsCached m c e → IsCached m (with_progress f s).store e
@@ -336,16 +352,10 @@ do_one m e a b does = (b, does, refl)
 
 -- what fails changes nothing but the count
 pub failed_grown : (m : Machine) (e : Event) (old new : CacheView) → Fails m e old new → IsGrown old new
-failed_grown m e old new fails = go fails.unchanged where
-  go : (new ≡ old) ⊎ (new ≡ counted old) → IsGrown old new
-  go (inl same) = grown_same old new same
-  go (inr same) = grown_counted old new same
+failed_grown m e old new fails = grown_counted old new fails.unchanged
 
 pub failed_count : (m : Machine) (e : Event) (old new : CacheView) → Fails m e old new → new.count ≤ old.count + 1
-failed_count m e old new fails = go fails.unchanged where
-  go : (new ≡ old) ⊎ (new ≡ counted old) → new.count ≤ old.count + 1
-  go (inl same) = let e : new.count ≡ old.count = ap (λ (v : CacheView). v.count) same in omega (arith, e)
-  go (inr same) = let e : new.count ≡ old.count + 1 = ap (λ (v : CacheView). v.count) same in omega (arith, e)
+failed_count m e old new fails = let e : new.count ≡ old.count + 1 = ap (λ (v : CacheView). v.count) fails.unchanged in omega (arith, e)
 
 -- a unit was left by an event that failed, or by none
 module _ (m : Machine) (q : Powerset) (unit : Option ℕ) (old come ended new : CacheView) (to : IsGrown old come) (end : IsGrown old ended)

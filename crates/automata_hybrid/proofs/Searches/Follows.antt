@@ -1,5 +1,5 @@
 -- What follows of the runs of passes and searches: what they cost a cache, how it grows, and what is cached.
-use Rattle.std.proofs.Common.{ℕ, zero, suc, ◌≡◌, ◌∙◌, ◌+◌, ◌-◌, ◌<◌, ◌≤◌, ◌⊎◌, List, [], ◌∷◌, ◌++◌, Bool, true, false, length, Option}
+use Rattle.std.proofs.Common.{ℕ, zero, suc, ◌≡◌, ◌∙◌, ◌+◌, ◌-◌, ◌<◌, ◌≤◌, ◌⊎◌, List, [], ◌∷◌, ◌++◌, true, length, Option}
 use Rattle.std.proofs.Common.{None, Some, inl, inr, refl, sym, ap, subst, arith, drop}
 use Rattle.std.proofs.lemmas.Bool.{cases_lt}
 use Rattle.std.proofs.lemmas.List.{length-reverse, length-take}
@@ -14,7 +14,7 @@ use Rattle.automata_base.specs.declared.util.search.Direction.TheVariants.{Forwa
 use Rattle.automata_base.specs.Paths.Paths.{next}
 use Rattle.automata_base.specs.declared.util.search.MatchErrorKind.TheVariants.{Quit as QuitAt, GaveUp}
 use Rattle.automata_base.specs.declared.util.search.MatchErrorKind.TheVariants.{UnsupportedAnchored as UnsupportedMode}
-use Rattle.automata_base.proofs.Paths.Orders.{none_some, some_none}
+use Rattle.automata_base.proofs.Paths.Orders.{some_none}
 use Rattle.automata_config.specs.declared.error.StartError.{StartError}
 use Rattle.automata_config.specs.declared.error.StartError.TheVariants as start
 use Rattle.automata_config.specs.declared.error.SearchError.{SearchError}
@@ -24,7 +24,6 @@ use Rattle.automata_hybrid.specs.Cache.Growth.{ClearedNothing, IsGrown, IsStill}
 use Rattle.automata_hybrid.specs.Cache.Stores.{Stored}
 use Rattle.automata_hybrid.specs.Calls.Events.{AreCached, Begin, DoAll, End, Event, IsStepLeft, MayAsk, Move, makings}
 use Rattle.automata_hybrid.specs.Machines.Machine.{Machine}
-use Rattle.automata_hybrid.specs.Machines.StartSlots.{supports}
 use Rattle.automata_hybrid.specs.Searches.Cached.{IsOfInput, Knows, KnowsItsStart, KnowsPass, KnowsUnit}
 use Rattle.automata_hybrid.specs.Searches.Follows.{IsCostOfPass, IsCostOfPasses, IsCostOfSearch, passes_most}
 use Rattle.automata_hybrid.specs.Searches.Follows.{SearchFollows, SearchesFollow}
@@ -33,8 +32,9 @@ use Rattle.automata_hybrid.specs.Searches.Passes.{Finds, HasReadNoQuit, IsPassEr
 use Rattle.automata_hybrid.specs.Searches.Progress.{EndsAtLast, PassEnds, HasNoStart, PassesEnd, HaveTried, PassFails, IsLeftAt, IsPassLeftAt}
 use Rattle.automata_hybrid.specs.Searches.Progress.{IsSearchRun, SearchEnds, SearchFails, TriesSpan, TriesSpans}
 use Rattle.automata_hybrid.specs.Searches.Progress.{start_event, unit_event, unit_events, with_search_begun, with_search_ended, with_search_moved}
-use Rattle.automata_hybrid.specs.Steps.Starts.{IsStartError, IsStartErrorAt, MayStart, quit_behind, start_search_error}
+use Rattle.automata_hybrid.specs.Steps.Starts.{IsStartError, IsStartErrorAt, MayStart, start_search_error}
 use Rattle.automata_hybrid.specs.Machines.Machine.{quits_on, unit_class}
+use Rattle.automata_hybrid.proofs.Steps.Starts.{may_or_not}
 use Rattle.automata_hybrid.proofs.Cache.Growth.{clears_none, grown_moved, grown_same, grown_trans, nothing_first, nothing_second}
 use Rattle.automata_hybrid.proofs.Calls.Laws.{Follows, all_sound, cached_idle, cached_join, cached_split, do_one, do_split}
 use Rattle.automata_hybrid.proofs.Calls.Laws.{failed_count, failed_grown, first_cached, follows_all, left_count, left_grown, left_known}
@@ -248,16 +248,6 @@ barred_of_input m c input behind behind_at start_at e (error, why, reported, unk
   go (start.Cache err) why = absurd (barred why.0)
   go start.OutOfMemory why = absurd (barred why)
 
--- a search may start, or it may not
-pub may_or_not : (m : Machine) (input : Input) (behind : Option ℕ) → MayStart m input.anchored behind ⊎ (MayStart m input.anchored behind → ⊥)
-may_or_not m input behind = go (quit_behind m behind) refl (supports m input.anchored) refl where
-  go :
-      (o : Option ℕ) → quit_behind m behind ≡ o → (b : Bool) → supports m input.anchored ≡ b
-      → MayStart m input.anchored behind ⊎ (MayStart m input.anchored behind → ⊥)
-  go None e true f = inl (e, f)
-  go None e false f = inr (λ may. false_true (sym f ∙ may.1))
-  go (Some byte) e b f = inr (λ may. none_some (sym may.0 ∙ e))
-
 -- a pass failed at a unit, to which it came
 module _ (way : Direction) (m : Machine) (input : Input) (k : ℕ) (mid new : CacheView) where
   unit_left :
@@ -330,7 +320,7 @@ module _ (way : Direction) (m : Machine) (input : Input) (old new : CacheView) (
       {T : Type 0} (e : SearchError) (behind_at start_at : ℕ)
       → IsStartErrorAt m new.store input.anchored (tape_in way input).before behind_at start_at e → HasNoStart way m input old new
       → PassFollows {T = T} way m input old new (Err e)
-  unstarted {T} e behind_at start_at why none = go (may_or_not m input (tape_in way input).before) where
+  unstarted {T} e behind_at start_at why none = go (may_or_not m input.anchored (tape_in way input).before) where
     go :
         MayStart m input.anchored (tape_in way input).before ⊎ (MayStart m input.anchored (tape_in way input).before → ⊥)
         → PassFollows {T = T} way m input old new (Err e)

@@ -1,6 +1,5 @@
 -- Units that a search reads from an ID, from what the step on each answers and changes.
-use Rattle.std.proofs.Common.{ℕ, ◌≡◌, ◌∙◌, ◌<◌, ◌≤◌, ◌⊎◌, true, false, inl, inr, None, Option, sym, ap, subst}
-use Rattle.std.proofs.Common.{arith}
+use Rattle.std.proofs.Common.{ℕ, ◌≡◌, ◌∙◌, true, inl, inr, None, Option, sym, ap, subst}
 use Rattle.std.specs.Prelude.{Result, Ok, Err, IfErr}
 use Rattle.std.specs.Result.{IsErrAnd}
 use Rattle.automata_base.specs.Powersets.Powerset.{Powerset, dead}
@@ -10,22 +9,19 @@ use Rattle.automata_base.proofs.Paths.Orders.{none_some}
 use Rattle.automata_config.specs.declared.error.SearchError.{SearchError}
 use Rattle.automata_config.specs.declared.error.SearchError.TheVariants as search
 use Rattle.automata_hybrid.specs.declared.dfa.progress.Searched.{Searched}
-use Rattle.automata_hybrid.specs.Cache.Caches.{CacheView, IsStoreOf, with_store}
-use Rattle.automata_hybrid.specs.Cache.Ids.{fixed_from, unknown_id}
+use Rattle.automata_hybrid.specs.Cache.Caches.{CacheView, with_store}
 use Rattle.automata_hybrid.specs.Cache.Progress.{progress_finished, progress_updated}
 use Rattle.automata_hybrid.specs.Cache.Stores.{with_searched}
 use Rattle.automata_hybrid.specs.Cache.Table.{Names, Rows}
 use Rattle.automata_hybrid.specs.Calls.Events.{Does, End, IsStepLeft, Move, Step, with_progress}
+use Rattle.automata_hybrid.specs.Calls.Steps.{IsStepRun}
 use Rattle.automata_hybrid.specs.Machines.Machine.{Machine}
 use Rattle.automata_hybrid.specs.Searches.Units.{IsReadEffect, ReadFails, StepFailsAt}
 use Rattle.automata_hybrid.specs.Searches.Passes.{IsStepError}
-use Rattle.automata_hybrid.specs.Steps.Steps.{IsStepAnswer, IsStepEffect, KnowsStep, known_step}
-use Rattle.automata_hybrid.specs.Machines.Machine.{quits_on, unit_class}
+use Rattle.automata_hybrid.specs.Machines.Machine.{quits_on}
 use Rattle.automata_hybrid.proofs.Searches.PassState.{false_true}
 use Rattle.automata_hybrid.proofs.Searches.UnitsRead.{finished_moved}
-use Rattle.automata_hybrid.proofs.Steps.Effects.{one_id}
 use Rattle.automata_hybrid.proofs.Steps.Ids.{refused}
-use Rattle.std.proofs.lemmas.Bool.{cases_lt}
 
 -- what holds of the error that a call handed on holds of what it answers
 pub at_err : {A E : Type 0} (r : Result A E) (e : E) (P : Result A E → Type 0) → IsErrAnd r (λ x. x ≡ e) → P (Err e) → P r
@@ -39,50 +35,14 @@ pub reported_refusal :
 reported_refusal m id unit quit_at at old new e h q n =
     subst (IsStepError m new.store q unit quit_at at) (sym h.reported)
     (refused m old.store new.store q unit quit_at at h.error h.refused.clean
-    (λ other names known. (let one : other ≡ id = cc in h.refused.unknown (subst (λ k. KnowsStep m old.store k unit) one known)))
-    (ap (λ (v : CacheView). v.store) h.refused.unchanged) (λ c. h.refused.gives_up c q n))
+    (λ other names known. (h.refused.fails q n).unknown (other, names, known))
+    (ap (λ (v : CacheView). v.store) (h.refused.fails q n).unchanged) (λ c. h.refused.gives_up c q n))
 
--- a step that is answered is its event
-pub step_does :
-    (m : Machine) (id : ℕ) (unit : Option ℕ) (old new : CacheView) (next : ℕ) → id < fixed_from → quits_on m unit ≡ false
-    → unit_class m unit < m.stride → IsStoreOf new.store m → IsStepAnswer m id unit old new next → IsStepEffect m id unit old new
-    → (q : Powerset) → Names old.store.table id q → Does m (Step q unit) old new
-step_does m id unit old new next low clean below sound a e q named = go (cases_lt (known_step m old.store id unit) unknown_id) where
-  go : (known_step m old.store id unit < unknown_id) ⊎ (unknown_id ≤ known_step m old.store id unit) → Does m (Step q unit) old new
-  go (inl known) = ((clean, below), sound, inl ((id, named, known), e.known known))
-  go (inr free) =
-      let unknown : KnowsStep m old.store id unit → ⊥ = λ k. absurd (omega (arith, k, free)) in (
-        (clean, below),
-        sound,
-        inr (
-          λ (other, names, known). (
-              let one : other ≡ id = one_id old.store.table other id q names named in
-              unknown (subst (λ k. KnowsStep m old.store k unit) one known)),
-          record {
-            id = id;
-            named = named;
-            next = next;
-            computed = a.computed low unknown q named;
-            leads = a.named clean q named;
-            starts = e.grown.starts;
-            counted = e.computed low unknown;
-          },
-        ),
-      )
-
--- one that is refused is left
+-- a step that is refused is left
 pub step_fails :
     (m : Machine) (id : ℕ) (unit : Option ℕ) (at : ℕ) (old ended new : CacheView) (e : SearchError) → StepFailsAt m id unit at old new e
     → (q : Powerset) → Names old.store.table id q → IsStepLeft m q unit old ended new
-step_fails m id unit at old ended new e r q named = inr (
-  r.refused.clean,
-  record {
-    unknown = λ (other, names, known). (
-        let one : other ≡ id = one_id old.store.table other id q names named in
-        r.refused.unknown (subst (λ k. KnowsStep m old.store k unit) one known));
-    unchanged = inr r.refused.unchanged;
-  },
-)
+step_fails m id unit at old ended new e r q named = inr (r.refused.clean, r.refused.fails q named)
 
 -- a search moved to an offset, and then the step on a unit was made from there
 module _ (m : Machine) (id : ℕ) (unit : Option ℕ) (at : ℕ) (old mid : CacheView)
@@ -110,16 +70,16 @@ module _ (m : Machine) (id : ℕ) (unit : Option ℕ) (at : ℕ) (old mid : Cach
 
   -- or it met a quit byte, and has ended there
   pub moved_quit :
-      {T : Type 0} (next new : CacheView) (e : SearchError) → quits_on m unit ≡ true → IsStepEffect m id unit mid next
+      {T : Type 0} (next new : CacheView) (e : SearchError) → quits_on m unit ≡ true → IsStepRun m id unit mid next
       → new ≡ with_store next (with_searched next.store (progress_finished next.store.searched at))
       → IsReadEffect {T = T} m id unit (with_progress (Move at) old) (with_progress (End at) old) new (Err e)
-  moved_quit next new e on effect ended = record {
+  moved_quit next new e on run ended = record {
     alive = alive;
     taken = tt;
     left = λ q named. inl (
       on,
       ended
-          ∙ (ap (λ (v : CacheView). with_progress (End at) v) (effect.quit on ∙ moved)
+          ∙ (ap (λ (v : CacheView). with_progress (End at) v) (run.quit on ∙ moved)
           ∙ ap (λ (s : Searched). with_store old (with_searched old.store s)) (finished_moved old.store.searched at at)),
     );
   }

@@ -14,28 +14,25 @@ use Rattle.automata_hybrid.specs.declared.dfa.progress.Searched.{Searched}
 use Rattle.automata_hybrid.specs.declared.dfa.row.Row.{Row}
 use Rattle.automata_hybrid.specs.Cache.Caches.{CacheView, IsStoreOf, with_store}
 use Rattle.automata_hybrid.specs.Cache.Changes.{IsComputed, cleared_saving, grown}
-use Rattle.automata_hybrid.specs.Cache.Ids.{unknown_id}
 use Rattle.automata_hybrid.specs.Cache.Progress.{progress_finished, progress_cleared, saturated, total_len}
 use Rattle.automata_hybrid.specs.Cache.Progress.{progress_updated}
-use Rattle.automata_hybrid.specs.Cache.Stores.{IsKnownStart, KeepsStarts, Stored, with_next, with_searched}
+use Rattle.automata_hybrid.specs.Cache.Stores.{KeepsStarts, Stored, with_next, with_searched}
 use Rattle.automata_hybrid.specs.Cache.Table.{Leads, Names}
 use Rattle.automata_hybrid.specs.Cache.Usage.{refuses_at, refuses_to_clear, short_of}
 use Rattle.automata_hybrid.specs.Calls.Events.{DoAll, Does, End, IsStepLeft, Move, Step, with_progress}
 use Rattle.automata_hybrid.specs.Machines.Machine.{Machine}
-use Rattle.automata_hybrid.specs.Machines.StartSlots.{slot_behind}
 use Rattle.automata_hybrid.specs.Searches.Cached.{KnowsUnit}
 use Rattle.automata_hybrid.specs.Searches.PassState.{HasLearnedUnit}
-use Rattle.automata_hybrid.specs.Searches.Progress.{AreUnitsRead, EndsAtLast, HasEndedAfter, HasItsStart, HasNoStart}
+use Rattle.automata_hybrid.specs.Searches.Progress.{AreUnitsRead, EndsAtLast, HasEndedAfter, HasNoStart}
 use Rattle.automata_hybrid.specs.Searches.Progress.{IsLeftAt, IsPassLeftAt, IsStoppedAt, IsUnitRead, before_last, unit_event}
 use Rattle.automata_hybrid.specs.Searches.Progress.{unit_events, with_search_ended, with_search_moved}
 use Rattle.automata_hybrid.specs.Searches.Passes.{HasReadNoQuit, IsUnitError, Reads, given_up_offset, state_in}
 use Rattle.automata_hybrid.specs.Searches.Passes.{tape_in}
-use Rattle.automata_hybrid.specs.Steps.Starts.{IsStartAnswer, IsStartEffect, StartFailsAt, known_start}
+use Rattle.automata_hybrid.specs.Calls.Steps.{StartFailsAt}
 use Rattle.automata_hybrid.specs.Machines.Machine.{quits_on, unit_class}
 use Rattle.automata_hybrid.proofs.Calls.Laws.{all_sound, do_join, do_one, do_split, moved_sound, searched_sound}
 use Rattle.automata_hybrid.proofs.Searches.PassState.{reads_before}
 use Rattle.automata_hybrid.proofs.Steps.Steps.{unit_no_quit}
-use Rattle.std.proofs.lemmas.Bool.{cases_lt}
 
 -- a search that moves twice is where it moved last
 pub updated_twice : (s : Searched) (x at : ℕ) → progress_updated (progress_updated s x) at ≡ progress_updated s at
@@ -506,49 +503,8 @@ pub ended_here :
     → new ≡ with_search_ended way input k mid
 ended_here way input k at mid new place ended = ended ∙ ap (λ a. with_progress (End a) mid) (sym place)
 
--- a start that is answered was cached, or was computed
-pub start_had :
-    (way : Direction) (m : Machine) (input : Input) (old new : CacheView) (id : ℕ) → length old.store.starts ≡ m.slots
-    → IsStoreOf new.store m → IsStartEffect m input.anchored (tape_in way input).before old new
-    → IsStartAnswer m input.anchored (tape_in way input).before old new id → HasItsStart way m input old new
-start_had way m input old new id slots sound effect a =
-    go (cases_lt (slot_behind m input.anchored (tape_in way input).before) m.slots)
-    (cases_lt (known_start m old.store input.anchored (tape_in way input).before) unknown_id)
-  where
-    go :
-        (slot_behind m input.anchored (tape_in way input).before < m.slots)
-        ⊎ (m.slots ≤ slot_behind m input.anchored (tape_in way input).before)
-        → (known_start m old.store input.anchored (tape_in way input).before < unknown_id)
-        ⊎ (unknown_id ≤ known_start m old.store input.anchored (tape_in way input).before)
-        → HasItsStart way m input old new
-    go (inr past) _ = (a.may, sound, inl (λ within. absurd (omega (arith, past, within)), effect.past a.may past))
-    go (inl within) (inl known) = (a.may, sound, inl (λ _. known, effect.known (a.may, (omega (arith, within, slots), known))))
-    go (inl within) (inr free) = (
-      a.may,
-      sound,
-      inr (
-        λ knows. (let known : IsKnownStart old.store (slot_behind m input.anchored (tape_in way input).before) = knows within in
-            absurd (omega (arith, known, free))),
-        record {
-          id = id;
-          started = a.computed within (λ k. absurd (omega (arith, free, k.1.1)));
-          cached = (a.learned within).1.1;
-          starts = effect.grown.starts;
-          counted = effect.computed a.may within (λ k. absurd (omega (arith, free, k.1.1)));
-        },
-      ),
-    )
-
 -- a start that failed
 pub unstarted :
     (way : Direction) (m : Machine) (input : Input) (behind_at start_at : ℕ) (old new : CacheView) (e : SearchError)
-    → length old.store.starts ≡ m.slots
-    → StartFailsAt m input.anchored (tape_in way input).before behind_at start_at old new e
-    → IsStartEffect m input.anchored (tape_in way input).before old new → HasNoStart way m input old new
-unstarted way m input behind_at start_at old new e slots h effect = (
-  λ may. record {
-    unknown = λ cached. (let within = h.refused.slot may in h.refused.unknown (may, (omega (arith, within, slots), cached within)));
-    unchanged = h.refused.unchanged;
-  },
-  effect.barred,
-)
+    → StartFailsAt m input.anchored (tape_in way input).before behind_at start_at old new e → HasNoStart way m input old new
+unstarted way m input behind_at start_at old new e h = (h.refused.fails, h.refused.barred)

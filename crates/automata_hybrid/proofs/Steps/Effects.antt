@@ -89,6 +89,23 @@ module _ (old new : Stored) (id class next : ℕ) (q target : Powerset) (has : H
         let count : new.clears ≡ saturated (old.clears + 1) = ap (λ (s : Stored). s.clears) e ∙ ap (λ (s : Stored). s.clears) g in
         absurd (counts_up old.clears new.clears count nothing.0 nothing.1)
 
+-- the transition that was computed is cached at the row of its state, also after a clear
+pub cached-computed :
+    (old new : Stored) (id class next : ℕ) (q target : Powerset) → Names old.table id q → IsComputed old id class q target new next
+    → HasCells new.table → class < new.table.of.stride → (now : ℕ) × Names new.table now q × (cell_of new now class ≡ next)
+cached-computed old new id class next q target named done has below = go done where
+  at :
+      (between : Stored) (from : ℕ) → new ≡ with_next between from class next → Names between.table from q
+      → (now : ℕ) × Names new.table now q × (cell_of new now class ≡ next)
+  at between from e n =
+      let here : Names new.table from q = subst (λ (s : Stored). Names s.table from q) (sym e) n in
+      let long : length new.table.cells ≡ length between.table.cells = ap (λ (s : Stored). length s.table.cells) e ∙ length-set between.table.cells (cell_at from class) next in
+      (from, here, ap (λ (s : Stored). cell_of s from class) e ∙ get_or-set_same between.table.cells (cell_at from class) next 0 (omega (arith, long, has from class (q, here) below)))
+
+  go : IsComputed old id class q target new next → (now : ℕ) × Names new.table now q × (cell_of new now class ≡ next)
+  go (inl (leads, e)) = at old id e named
+  go (inr (lacks, from, between, added, n, to, e)) = at between from e n
+
 -- room for one more is room for so many
 more_room : (used n each capacity : ℕ) → used + (n + 1) * each ≤ capacity → used + n * each ≤ capacity
 more_room used n each capacity l = let e : (n + 1) * each ≡ n * each + each = omega arith in omega (arith, l, e)

@@ -119,7 +119,7 @@ from_slots old k (id ∷ ids) all = from_slots old (keep_slot old k id) ids (fro
 pub from_cleared : (c : Stored) → AllFrom c.table (cleared c).table
 from_cleared c = from_slots c.table (record { table = fresh c.table.of; starts = [] }) c.starts (λ k r h. cc)
 
-from_saving : (c : Stored) (id : ℕ) → AllFrom c.table (cleared_saving c id).table
+pub from_saving : (c : Stored) (id : ℕ) → AllFrom c.table (cleared_saving c id).table
 from_saving c id = go (row_of c.table id) refl where
   go : (o : Option Row) → row_of c.table id ≡ o → AllFrom c.table (put_found (cleared c).table o)
   go None e = from_cleared c

@@ -1,49 +1,47 @@
 -- Steps: what a call answers and changes, from what its parts do.
-use Rattle.std.proofs.Common.{ℕ, ◌≡◌, ◌+◌, ◌^◌, ◌<◌, ◌≤◌, ◌⊎◌, Bool, length, true, false, Option, None, Some, refl, sym}
+use Rattle.std.proofs.Common.{ℕ, ◌≡◌, ◌+◌, ◌^◌, ◌<◌, ◌≤◌, Bool, true, false, Option, None, Some, refl, sym}
 use Rattle.std.proofs.Common.{ap, ◌∙◌, subst, arith, inl, inr}
 use Rattle.std.specs.Prelude.{slice_index}
 use Rattle.automata_base.specs.ByteClasses.Classes.{is_quit}
-use Rattle.automata_base.specs.Powersets.Powerset.{Powerset, cost}
+use Rattle.automata_base.specs.Powersets.Powerset.{Powerset}
 use Rattle.automata_base.specs.Retraced.Steps.{successor}
 use Rattle.automata_base.proofs.Paths.Orders.{none_some, some_inj}
 use Rattle.automata_base.specs.Powersets.Passes.{IsUnit}
 use Rattle.automata_hybrid.specs.Cache.Stores.{IsKnownTransition, KeepsStarts, Stored, cell_of, with_next}
 use Rattle.automata_hybrid.specs.Cache.Usage.{GivesUp}
-use Rattle.automata_hybrid.specs.Cache.Changes.{AddsNext, IsStateAdded, IsComputed, IsOneChange, cleared_saving}
-use Rattle.automata_hybrid.specs.Cache.Caches.{CacheView, HoldsRow, IsCacheOf, counted, with_store}
-use Rattle.automata_hybrid.specs.Cache.Growth.{ClearedNothing}
+use Rattle.automata_hybrid.specs.Cache.Changes.{AddsNext, IsStateAdded, IsComputed, cleared_saving}
+use Rattle.automata_hybrid.specs.Cache.Caches.{CacheView, HoldsRow, IsCacheOf, IsStoreOf, counted, with_store}
 use Rattle.automata_hybrid.specs.Cache.Ids.{fixed_from, quit_id, unknown_id}
 use Rattle.automata_hybrid.specs.Machines.Machine.{Machine}
 use Rattle.automata_hybrid.specs.Cache.Progress.{saturated}
-use Rattle.automata_hybrid.specs.Steps.Steps.{IsStepAnswer, IsStepEffect, KnowsStep}
+use Rattle.automata_hybrid.specs.Calls.Events.{IsCached, Step}
+use Rattle.automata_hybrid.specs.Calls.Steps.{IsStepRun}
+use Rattle.automata_hybrid.specs.Steps.Steps.{IsStepAnswer, KnowsStep}
 use Rattle.automata_hybrid.specs.Machines.Machine.{quits_on, unit_class}
-use Rattle.automata_hybrid.specs.Cache.Table.{IsKnownState, HasCells, HasItsMatchTag, HasRowIds, IsCell, IsRowId, Lacks, Leads, LeadsByClass}
+use Rattle.automata_hybrid.specs.Cache.Table.{HasCells, HasItsMatchTag, IsCell, IsRowId, Lacks, Leads, LeadsByClass}
 use Rattle.automata_hybrid.specs.Cache.Table.{Names, Rows}
-use Rattle.automata_hybrid.proofs.Cache.Usage.{Leads-known}
-use Rattle.automata_hybrid.proofs.Steps.Effects.{Keeps-computed, roomy-computed, written-computed}
-use Rattle.automata_hybrid.proofs.Cache.Growth.{grown_counted, grown_one, grown_same}
-use Rattle.automata_hybrid.proofs.Searches.Progress.{computed_progress}
+use Rattle.automata_hybrid.proofs.Steps.Effects.{cached-computed, one_id}
 use Rattle.automata_hybrid.proofs.Searches.PassState.{false_true}
-use Rattle.automata_hybrid.proofs.Steps.StartTags.{computed_adds, computed_keeps, same_adds, same_keeps, tagged_none}
 use Rattle.automata_hybrid.proofs.Steps.Starts.{leads_row}
 use Rattle.automata_config.specs.Options.{match_kind_of}
 
--- a step that takes no memory changes nothing
-pub same_effect :
+-- a step that takes no memory changes nothing: from a state, its transition is cached
+pub same_run :
     (m : Machine) (id : ℕ) (unit : Option ℕ) (c : CacheView)
-    → (id < fixed_from → KnowsStep m c.store id unit) → IsStepEffect m id unit c c
-same_effect m id unit c knows = record {
-  grown = grown_same c c refl;
-  counted = omega arith;
-  computed = λ low free. absurd (free (knows low));
+    → ((q : Powerset) → Names c.store.table id q → (unit_class m unit < m.stride) × IsStoreOf c.store m × KnowsStep m c.store id unit)
+    → IsStepRun m id unit c c
+same_run m id unit c known = record {
   fixed = λ h. refl;
-  quit = λ q. refl;
-  known = λ k. refl;
-  progress = inl (refl, refl);
-  start_tags = same_keeps c.store.table c.store.table refl;
-  added = same_adds c.store.table c.store.table false refl;
-  only = λ q n p has. inl has;
+  quit = λ h. refl;
+  does = λ clean q n. (let k = known q n in ((clean, k.0), k.1, inl ((id, n, k.2), refl)));
 }
+
+-- a step that is not cached from an ID is not cached from its state
+pub step_unknown :
+    (m : Machine) (id : ℕ) (unit : Option ℕ) (c : CacheView) → (KnowsStep m c.store id unit → ⊥)
+    → (q : Powerset) → Names c.store.table id q → IsCached m c.store (Step q unit) → ⊥
+step_unknown m id unit c unknown q named (other, names, known) =
+    let one : other ≡ id = one_id c.store.table other id q names named in unknown (subst (λ k. KnowsStep m c.store k unit) one known)
 
 -- a step from dead or quit answers its own ID
 pub fixed_answer :
@@ -56,11 +54,7 @@ fixed_answer m id unit c high below row = record {
   fixed = λ h. refl;
   quit = λ low q. absurd (omega (arith, low, high));
   named = λ clean q n. absurd (apart q n);
-  known = λ low k. absurd (omega (arith, low, high));
-  computed = λ low free q n. absurd (omega (arith, low, high));
-  room = λ q n free g. apart q n;
-  learned = λ low nothing. absurd (omega (arith, low, high));
-  written = λ low nothing. absurd (omega (arith, low, high));
+  cached = λ q n. absurd (apart q n);
 } where
   apart : (q : Powerset) → Names c.store.table id q → ⊥
   apart q n = let low : id < fixed_from = below q n in absurd (omega (arith, low, high))
@@ -132,15 +126,8 @@ module _ (m : Machine) (id : ℕ) (unit : Option ℕ) (c : CacheView) (class nex
     fixed = λ high. absurd (omega (arith, below, high));
     quit = λ _ q. cell_quits q;
     named = λ clean q n. cell_leads is clean low q n;
-    known = λ _ k. value ∙ ap (cell_of c.store id) at;
-    computed = λ _ not q n. absurd (not knows);
-    room = λ q n not g. absurd (not knows);
-    learned = λ _ nothing. knows;
-    written = λ _ nothing. sym (value ∙ ap (cell_of c.store id) at);
+    cached = λ q n. (id, n, sym (value ∙ ap (cell_of c.store id) at));
   } where
-    knows : KnowsStep m c.store id unit
-    knows = cell_known low
-
     rowed : IsCell c.store.table valid.0 class next → HoldsRow c next
     rowed (inl (a, is)) = inr (inl is)
     rowed (inr (a, inl is)) = absurd (omega (arith, is, low))
@@ -164,29 +151,6 @@ key_leads m t q key unit class to of at alike leads other is here =
     subst (λ (d : Machine). Leads t to (successor d.nfa (match_kind_of d.config) q other)) (sym of)
     (subst (Leads t to) (alike other is same) leads)
 
--- what a failed step makes of the cache
-pub refused_effect :
-    (m : Machine) (id : ℕ) (unit : Option ℕ) (old new : CacheView)
-    → id < fixed_from → quits_on m unit ≡ false → (KnowsStep m old.store id unit → ⊥) → new ≡ counted old
-    → IsStepEffect m id unit old new
-refused_effect m id unit old new low clean unknown e = record {
-  grown = grown_counted old new e;
-  counted = omega (arith, once);
-  computed = λ _ _. once;
-  fixed = λ high. absurd (omega (arith, low, high));
-  quit = λ q. absurd (false_true (sym clean ∙ q));
-  known = λ k. absurd (unknown k);
-  progress = inl (ap (λ (v : CacheView). v.store.clears) e, ap (λ (v : CacheView). v.store.searched) e);
-  start_tags = same_keeps old.store.table new.store.table table;
-  added = same_adds old.store.table new.store.table false table;
-  only = λ q n p has. inl (subst (λ (t : Rows). IsKnownState t p) table has);
-} where
-  once : new.count ≡ old.count + 1
-  once = ap (λ (v : CacheView). v.count) e
-
-  table : new.store.table ≡ old.store.table
-  table = ap (λ (v : CacheView). v.store.table) e
-
 -- a transition was computed and written
 pub record ComputesStep (m : Machine) (id : ℕ) (unit : Option ℕ) (old new : CacheView) (class next : ℕ) : Type 0 where
   pub done :
@@ -195,11 +159,7 @@ pub record ComputesStep (m : Machine) (id : ℕ) (unit : Option ℕ) (old new : 
   pub leads :
       (q : Powerset) → Names old.store.table id q
       → Leads new.store.table next (successor m.nfa (match_kind_of m.config) q unit)
-  pub only :
-      (q : Powerset) → Names old.store.table id q → (p : Powerset) → IsKnownState new.store.table p
-      → IsKnownState old.store.table p ⊎ (p ≡ successor m.nfa (match_kind_of m.config) q unit)
   pub starts : KeepsStarts old.store.starts new.store.starts
-  pub of : new.store.table.of ≡ old.store.table.of
   pub counted : new.count ≡ old.count + 1
 
 -- the next state was there
@@ -213,9 +173,7 @@ computes_known m id unit old mid new class next key was e leads same =
     (record {
       done = λ q n. inl (there q n, refl);
       leads = there;
-      only = λ q n p has. inl (record { id = has.id; named = has.named });
       starts = λ slot k. k;
-      of = refl;
       counted = refl;
     })
   where
@@ -242,9 +200,7 @@ computes_new m id unit old mid between new class from next state key was adds co
           subst (λ (p : Powerset). IsStateAdded old.store (cleared_saving old.store id) (record { state = p; started = false }) between.store) (is ∙ to) added.row.effect in
           inr (none, from, between.store, grew, added.saved q n, subst (λ (p : Powerset). Names between.store.table next p) (is ∙ to) added.row.named, refl));
       leads = λ q n. inr (subst (λ (p : Powerset). Names between.store.table next p) (is ∙ same q n) added.row.named);
-      only = λ q n p has. subst (λ (x : Powerset). IsKnownState old.store.table p ⊎ (p ≡ x)) (is ∙ same q n) (added.row.only p (record { id = has.id; named = has.named }));
       starts = added.row.starts;
-      of = added.row.of;
       counted = count ∙ ap (λ (v : CacheView). v.count) was;
     })
   where
@@ -266,7 +222,7 @@ computed_clears old new id class next q target small (inr (lacks, from, between,
     omega (arith, c, small)
 
 -- what was computed had room, or the cache could be cleared
-computed_room :
+pub computed_room :
     (old new : Stored) (id class next : ℕ) (q target : Powerset) → IsComputed old id class q target new next → GivesUp old target → ⊥
 computed_room old new id class next q target (inl (inl (e, d), s)) g = g.0.1 d
 computed_room old new id class next q target (inl (inr n, s)) g = none_some (sym g.0.0 ∙ n)
@@ -275,81 +231,42 @@ computed_room old new id class next q target (inr (lacks, from, between, inr (fu
 
 -- what a computed step answers, and what it makes of the cache
 module _ (m : Machine) (id : ℕ) (unit : Option ℕ) (old new : CacheView) (class next : ℕ) (step : ComputesStep m id unit old new class next)
-    (of : IsCacheOf old m) (valid : IsRowId old.store.table id) (low : id < fixed_from)
+    (valid : IsRowId old.store.table id) (low : id < fixed_from)
     (clean : quits_on m unit ≡ false) (unknown : KnowsStep m old.store id unit → ⊥)
-    (at : class ≡ unit_class m unit) (below : class < m.stride) (cells : HasCells old.store.table) where
-  within : class < old.store.table.of.stride
-  within = subst (λ (d : Machine). class < d.stride) (sym of) below
-
-  not_known : IsKnownTransition old.store id class → ⊥
-  not_known k = unknown (subst (IsKnownTransition old.store id) at k)
-
-  abbrev target : Powerset
-  target = successor m.nfa (match_kind_of m.config) valid.0 unit
-
-  done : IsComputed old.store id class valid.0 target new.store next
-  done = step.done valid.0 valid.1
-
-  written : ClearedNothing old.store new.store → cell_of new.store id (unit_class m unit) ≡ next
-  written nothing =
-      subst (λ k. cell_of new.store id k ≡ next) at
-      (written-computed old.store new.store id class next valid.0 target cells valid.1 within not_known done nothing)
-
+    (at : class ≡ unit_class m unit) (below : class < m.stride) where
   pub computed_answer :
-      ((n : ℕ) (p : Powerset) → Names new.store.table n p → n < fixed_from) → new.store.table.of.stride ≤ 512
-      → HasItsMatchTag new.store.table next → IsStepAnswer m id unit old new next
-  computed_answer lows small tag = record {
-    row = leads_row new next target (step.leads valid.0 valid.1);
+      IsCacheOf new m → HasCells new.store.table → HasItsMatchTag new.store.table next → IsStepAnswer m id unit old new next
+  computed_answer of cells tag = record {
+    row = leads_row new next _ (step.leads valid.0 valid.1);
     tag = tag;
     fixed = λ high. absurd (omega (arith, low, high));
     quit = λ _ q. absurd (false_true (sym clean ∙ q));
     named = λ _ q n. step.leads q n;
-    known = λ _ k. absurd (unknown k);
-    computed = λ _ _ q n.
-        subst (λ k. IsComputed old.store id k q (successor m.nfa (match_kind_of m.config) q unit) new.store next) at (step.done q n);
-    room = λ q n _ g. computed_room old.store new.store id class next q _ (step.done q n) g;
-    learned = λ _ nothing.
-        subst (λ n. n < unknown_id) (sym (written nothing))
-        (Leads-known new.store.table next target lows small (step.leads valid.0 valid.1));
-    written = λ _ nothing. written nothing;
+    cached = λ q n.
+        subst (λ k. (now : ℕ) × Names new.store.table now q × (cell_of new.store now k ≡ next)) at
+        (cached-computed old.store new.store id class next q _ n (step.done q n) cells (subst (λ (d : Machine). class < d.stride) (sym of) below));
   }
 
-  -- one change
-  change : IsOneChange old.store new.store
-  change = inr (inl (record {
-    id = id;
-    unit = unit;
-    below = subst (λ (d : Machine). unit_class d unit < d.stride) (sym of) (subst (λ n. n < m.stride) at below);
-    state = valid.0;
-    named = valid.1;
-    unknown = subst (λ (d : Machine). IsKnownTransition old.store id (unit_class d unit) → ⊥) (sym of) unknown;
-    next = next;
-    computed =
-        subst
-        (λ (d : Machine). IsComputed old.store id (unit_class d unit) valid.0 (successor d.nfa (match_kind_of d.config) valid.0 unit) new.store next)
-        (sym of) (subst (λ k. IsComputed old.store id k valid.0 target new.store next) at done);
-  }))
-
-  pub computed_effect :
-      length old.store.table.of.template ≡ old.store.table.of.stride → old.store.clears < 2 ^ 64
-      → cost target ≤ old.store.table.of.greatest → HasRowIds old.store.table → HasRowIds new.store.table
-      → IsStepEffect m id unit old new
-  computed_effect wide small cheap ids_old ids_new = record {
-    grown =
-        grown_one old new step.of step.counted
-        (computed_clears old.store new.store id class next valid.0 target small done) change step.starts
-        (λ q t. inl (tagged_none old.store.table new.store.table (computed_keeps old.store new.store id class next valid.0 target ids_old ids_new done) (computed_adds old.store new.store id class next valid.0 target ids_old ids_new done) q t))
-        (λ nothing. Keeps-computed old.store new.store id class next valid.0 target cells valid.1 within not_known done nothing)
-        (λ states room. roomy-computed old.store new.store id class next valid.0 target states wide (λ lacks. cheap) done room);
-    counted = omega (arith, step.counted);
-    computed = λ _ _. step.counted;
+  pub computed_run : IsStoreOf new.store m → IsStepRun m id unit old new
+  computed_run sound = record {
     fixed = λ high. absurd (omega (arith, low, high));
     quit = λ q. absurd (false_true (sym clean ∙ q));
-    known = λ k. absurd (unknown k);
-    progress = computed_progress old.store new.store id class next valid.0 target done;
-    start_tags = computed_keeps old.store new.store id class next valid.0 target ids_old ids_new done;
-    added = computed_adds old.store new.store id class next valid.0 target ids_old ids_new done;
-    only = step.only;
+    does = λ _ q n. (
+      (clean, subst (λ k. k < m.stride) at below),
+      sound,
+      inr (
+        step_unknown m id unit old unknown q n,
+        record {
+          id = id;
+          named = n;
+          next = next;
+          computed = subst (λ k. IsComputed old.store id k q (successor m.nfa (match_kind_of m.config) q unit) new.store next) at (step.done q n);
+          leads = step.leads q n;
+          starts = step.starts;
+          counted = step.counted;
+        },
+      ),
+    );
   }
 
 -- a unit that is not a quit byte, either way it is said

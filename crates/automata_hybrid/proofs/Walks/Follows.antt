@@ -31,7 +31,8 @@ use Rattle.automata_hybrid.proofs.Cache.Additions.{new_state}
 use Rattle.automata_hybrid.proofs.Cache.Growth.{grown_after, grown_again, grown_less, grown_same, grown_trans, nothing_second}
 use Rattle.automata_hybrid.proofs.Calls.Laws.{Follows, all_sound, cached_join, cached_split, do_join, do_split, failed_count}
 use Rattle.automata_hybrid.proofs.Calls.Laws.{failed_grown, follows_all, follows_one, makings_join, moved_sound, store_sound}
-use Rattle.automata_hybrid.proofs.Searches.Follows.{barred_of_input, may_or_not, moved_left, quit_of_input, tape_few, units_asked}
+use Rattle.automata_hybrid.proofs.Searches.Follows.{barred_of_input, moved_left, quit_of_input, tape_few, units_asked}
+use Rattle.automata_hybrid.proofs.Steps.Starts.{may_or_not}
 use Rattle.automata_hybrid.proofs.Searches.Follows.{units_cached, units_known, units_makings}
 use Rattle.automata_hybrid.proofs.Searches.UnitsRead.{moved_and_read}
 use Rattle.automata_hybrid.proofs.Steps.StartTags.{again_adds, again_keeps, tagged_none}
@@ -155,7 +156,7 @@ module _ (way : Direction) (m : Machine) (input : Input) (skips : Skips m ⊎ (S
     not_resumed :
         (s : Stage) → HasReportedAt way m input s w.units w.reported k → IsResumeError way m new.store input s w.units e
         → IsNotResumed way m input s old new → Unresumed s old new e
-    not_resumed Fresh at why none = go (may_or_not m input (tape_in way input).before) where
+    not_resumed Fresh at why none = go (may_or_not m input.anchored (tape_in way input).before) where
       go :
           MayStart m input.anchored (tape_in way input).before ⊎ (MayStart m input.anchored (tape_in way input).before → ⊥)
           → Unresumed Fresh old new e

@@ -1,6 +1,6 @@
 -- Going on with a walk: what the functions under its calls answer, and what they make of their cache.
 use Rattle.automata_hybrid.specs.declared.search.walk.Handle.{Handle}
-use Rattle.std.proofs.Common.{ℕ, suc, ◌≡◌, ◌∙◌, inl, inr, false, length, Option, None, Some, refl, sym, ap, subst, arith}
+use Rattle.std.proofs.Common.{ℕ, suc, ◌≡◌, ◌∙◌, inl, inr, false, Option, None, Some, refl, sym, ap, subst, arith}
 use Rattle.std.specs.Prelude.{IfErr, IfOk, OnErr, OnOk, Result}
 use Rattle.std.proofs.lemmas.Result.{IfErr-weaker, IfOk-weaker}
 use Rattle.automata_base.specs.Answers.Answers.{offset_in}
@@ -27,8 +27,9 @@ use Rattle.automata_hybrid.specs.Searches.Contracts.{IsUnsupported, unsupported_
 use Rattle.automata_hybrid.specs.Searches.Passes.{behind_offset, given_up_offset, state_in, tape_in}
 use Rattle.automata_hybrid.specs.Searches.PassState.{step_error}
 use Rattle.automata_hybrid.specs.Searches.Progress.{HasItsStart}
-use Rattle.automata_hybrid.specs.Steps.Starts.{IsStartAnswer, IsStartEffect, IsStartError, IsStartErrorAt}
-use Rattle.automata_hybrid.specs.Steps.Starts.{StartFailsAt, quit_behind, start_search_error}
+use Rattle.automata_hybrid.specs.Calls.Steps.{StartFailsAt}
+use Rattle.automata_hybrid.specs.Steps.Starts.{IsStartAnswer, IsStartError, IsStartErrorAt, quit_behind}
+use Rattle.automata_hybrid.specs.Steps.Starts.{start_search_error}
 use Rattle.automata_hybrid.specs.Walks.Answers.{HasItsState, HasReportedAt, IsPutBackError, IsResumeError, IsWalkOf}
 use Rattle.automata_hybrid.specs.Walks.Answers.{ReportsNext}
 use Rattle.automata_hybrid.specs.Walks.Parts.{IsCallAnswer, IsResumeAnswer}
@@ -38,7 +39,7 @@ use Rattle.automata_hybrid.specs.Walks.State.{States, Walk, keeping_of, without_
 use Rattle.automata_hybrid.specs.declared.search.walk.Held.{Held}
 use Rattle.automata_hybrid.specs.declared.search.walk.Held.TheVariants as held
 use Rattle.automata_hybrid.proofs.Searches.PassState.{false_true, state_first}
-use Rattle.automata_hybrid.proofs.Searches.UnitsRead.{start_had, unstarted}
+use Rattle.automata_hybrid.proofs.Searches.UnitsRead.{unstarted}
 use Rattle.automata_hybrid.proofs.Steps.Starts.{refusal_at}
 
 -- a start in a mode that is not supported fails for that, after no quit byte
@@ -156,20 +157,15 @@ module _ (way : Direction) (m : Machine) (input : Input) (w : Walk) (old new : C
       subst (λ (s : Stage). IfErr r (IsResumeError way m new.store input s w.units)) (sym fresh)
       (IfErr-weaker r _ _ (refusal_at m input.anchored (tape_in way input).before (behind_offset way input) (offset_in way input 0) old new) h)
 
-  module _ (slots : length old.store.starts ≡ m.slots) (effect : IsStartEffect m input.anchored (tape_in way input).before old new) where
-    pub start_resumed :
-        IsStoreOf new.store m → IfOk r (IsStartAnswer m input.anchored (tape_in way input).before old new)
-        → OnOk r (IsResumed way m input w.stage old new)
-    start_resumed sound answer =
-        subst (λ (s : Stage). OnOk r (IsResumed way m input s old new)) (sym fresh)
-        (IfOk-weaker r _ _ (λ id a. start_had way m input old new id slots sound effect a) answer)
+  pub start_resumed : OnOk r (HasItsStart way m input old new) → OnOk r (IsResumed way m input w.stage old new)
+  start_resumed had = subst (λ (s : Stage). OnOk r (IsResumed way m input s old new)) (sym fresh) had
 
-    pub start_left :
-        IfErr r (StartFailsAt m input.anchored (tape_in way input).before (behind_offset way input) (offset_in way input 0) old new)
-        → OnErr r (IsNotResumed way m input w.stage old new)
-    start_left h =
-        subst (λ (s : Stage). OnErr r (IsNotResumed way m input s old new)) (sym fresh)
-        (IfErr-weaker r _ _ (λ e x. unstarted way m input (behind_offset way input) (offset_in way input 0) old new e slots x effect) h)
+  pub start_left :
+      IfErr r (StartFailsAt m input.anchored (tape_in way input).before (behind_offset way input) (offset_in way input 0) old new)
+      → OnErr r (IsNotResumed way m input w.stage old new)
+  start_left h =
+      subst (λ (s : Stage). OnErr r (IsNotResumed way m input s old new)) (sym fresh)
+      (IfErr-weaker r _ _ (λ e x. unstarted way m input (behind_offset way input) (offset_in way input 0) old new e x) h)
 
 -- a walk that has begun goes on from the state that it holds
 module _ (way : Direction) (m : Machine) (input : Input) (t : Rows) (w : Walk) (h : Held) (handle : Handle) (old new : CacheView)

@@ -95,10 +95,10 @@ abbrev pub DoAll : Machine → List Event → (old new : CacheView) → Type 0
 DoAll m [] old new = new ≡ old
 DoAll m (e ∷ es) old new = (mid : CacheView) × Does m e old mid × DoAll m es mid new
 
--- an event fails: what it asks for is not cached, and nothing changes but the count
+-- an event fails: what it asks for is not cached, and nothing changes but the count of determinizations
 pub record Fails (m : Machine) (e : Event) (old new : CacheView) : Type 0 where
   pub unknown : IsCached m old.store e → ⊥
-  pub unchanged : (new ≡ old) ⊎ (new ≡ counted old)
+  pub unchanged : new ≡ counted old
 
 -- a step over a unit, to which a search came, fails; but at a quit byte it is not tried, and the search has ended
 abbrev pub IsStepLeft : Machine → Powerset → (unit : Option ℕ) → (come ended new : CacheView) → Type 0

@@ -9,12 +9,12 @@ use Rattle.automata_config.specs.declared.error.StepError.{StepError}
 use Rattle.automata_config.specs.declared.error.SearchError.{SearchError}
 use Rattle.automata_hybrid.specs.Cache.Caches.{CacheView}
 use Rattle.automata_hybrid.specs.Calls.Events.{Does, IsStepLeft, Step}
+use Rattle.automata_hybrid.specs.Calls.Steps.{StepFails}
 use Rattle.automata_hybrid.specs.Machines.Machine.{Machine}
 use Rattle.automata_hybrid.specs.Searches.PassState.{step_error}
 use Rattle.automata_hybrid.specs.Searches.Progress.{IsPassLeftAt, IsStillLeft, IsUnitRead, with_search_ended}
 use Rattle.automata_hybrid.specs.Searches.Progress.{with_search_moved}
 use Rattle.automata_hybrid.specs.Searches.Passes.{IsStepError}
-use Rattle.automata_hybrid.specs.Steps.Steps.{StepFails}
 use Rattle.automata_hybrid.specs.Machines.Machine.{quits_on}
 use Rattle.automata_hybrid.specs.Cache.Table.{Leads, Names}
 

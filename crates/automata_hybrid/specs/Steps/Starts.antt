@@ -1,6 +1,5 @@
 -- Start states: when there is one, what it is, why a call for it fails, and what that does to the cache.
-use Rattle.std.specs.Prelude.{ℕ, ◌≡◌, ◌+◌, ◌<◌, ◌≤◌, ◌⊎◌, true, false, cond, length, Option, None, Some, slice_index}
-use Rattle.automata_base.specs.Powersets.Powerset.{Powerset}
+use Rattle.std.specs.Prelude.{ℕ, ◌≡◌, ◌<◌, ◌≤◌, true, false, cond, length, Option, None, Some, slice_index}
 use Rattle.automata_base.specs.ByteClasses.Classes.{is_quit}
 use Rattle.automata_base.specs.Retraced.Steps.{start_state_of}
 use Rattle.automata_base.specs.declared.util.search.Anchored.{Anchored}
@@ -15,12 +14,10 @@ use Rattle.automata_config.specs.declared.error.SearchError.TheVariants as searc
 use Rattle.automata_hybrid.specs.declared.dfa.row.Row.{Row}
 use Rattle.automata_hybrid.specs.Cache.Ids.{dead_id}
 use Rattle.automata_hybrid.specs.Machines.Machine.{Machine}
-use Rattle.automata_hybrid.specs.Cache.Table.{IsKnownState, HasItsMatchTag, KeepsStartTags, Leads, TagsNewStates}
+use Rattle.automata_hybrid.specs.Cache.Table.{HasItsMatchTag, Leads}
 use Rattle.automata_hybrid.specs.Cache.Stores.{IsKnownStart, Stored}
 use Rattle.automata_hybrid.specs.Cache.Usage.{GivesUp}
-use Rattle.automata_hybrid.specs.Cache.Changes.{IsStarted}
-use Rattle.automata_hybrid.specs.Cache.Caches.{CacheView, HoldsRow, counted}
-use Rattle.automata_hybrid.specs.Cache.Growth.{IsGrown, KeepsProgress}
+use Rattle.automata_hybrid.specs.Cache.Caches.{CacheView, HoldsRow}
 use Rattle.automata_hybrid.specs.Machines.StartSlots.{supports, slot_behind}
 use Rattle.automata_config.specs.Options.{specialize_start_states_of}
 
@@ -104,66 +101,7 @@ pub record IsStartAnswer (m : Machine) (mode : Anchored) (behind : Option ℕ) (
   pub named : Leads new.store.table id (start_state_of m.nfa mode behind)
   -- It has the match tag exactly if its state has patterns.
   pub tag : HasItsMatchTag new.store.table id
-  -- A start state that was cached is returned as it is.
-  pub known : KnowsStart m old.store mode behind → id ≡ known_start m old.store mode behind
   -- Past the last pattern the start is dead.
   pub past : m.slots ≤ slot_behind m mode behind → id ≡ dead_id m.stride
-  -- A start state that was not cached was computed, and this is all that it did to the states.
-  pub computed :
-      HasSlot m mode behind → (KnowsStart m old.store mode behind → ⊥)
-      → IsStarted old.store (slot_behind m mode behind) (start_row m mode behind) new.store id
-  -- A start state that was not cached had room, or the cache could be cleared for it.
-  pub room : (KnowsStart m old.store mode behind → ⊥) → GivesUp old.store (start_state_of m.nfa mode behind) → ⊥
-  -- The start state is cached from then on, also if the call cleared the cache.
-  pub learned : HasSlot m mode behind → KnowsStart m new.store mode behind
-  -- It is this one that is cached.
-  pub written : HasSlot m mode behind → known_start m new.store mode behind ≡ id
-
--- what holds if a call for a start state fails
-pub record StartFails (m : Machine) (mode : Anchored) (behind : Option ℕ) (old new : CacheView) (e : StartError) :
-    Type 0 where
-  -- The error says why.
-  pub why : IsStartError m old.store mode behind e
-  -- A cached start state never fails.
-  pub unknown : KnowsStart m old.store mode behind → ⊥
-  -- Past the last pattern nothing fails if a search may start.
-  pub slot : MayStart m mode behind → HasSlot m mode behind
-  -- Nothing has changed but the count of determinizations.
-  pub unchanged : (new ≡ old) ⊎ (new ≡ counted old)
-
--- the same of a search, which reports the error with the offset of the look-behind byte or of the start
-pub record StartFailsAt (m : Machine) (mode : Anchored) (behind : Option ℕ) (behind_at start_at : ℕ)
-    (old new : CacheView) (e : SearchError) : Type 0 where
-  -- It stems from the error of a start state.
-  pub error : StartError
-  -- The call for the start state fails with it.
-  pub refused : StartFails m mode behind old new error
-  -- It is reported at this offset.
-  pub reported : e ≡ start_search_error error behind_at start_at
-
--- what asking for a start state does to the cache, whether that returns Ok or an error
-pub record IsStartEffect (m : Machine) (mode : Anchored) (behind : Option ℕ) (old new : CacheView) : Type 0 where
-  -- The cache has grown; if the call cleared nothing, nothing is lost.
-  pub grown : IsGrown old new
-  -- It determinized at most once.
-  pub counted : new.count ≤ old.count + 1
-  -- It determinized exactly once for a start that has a slot and was not cached.
-  pub computed :
-      MayStart m mode behind → HasSlot m mode behind → (KnowsStart m old.store mode behind → ⊥)
-      → new.count ≡ old.count + 1
-  -- If a search may not start, nothing has changed.
-  pub barred : (MayStart m mode behind → ⊥) → new ≡ old
-  -- If the start state is cached, nothing has changed.
-  pub known : KnowsStart m old.store mode behind → new ≡ old
-  -- Past the last pattern nothing has changed.
-  pub past : MayStart m mode behind → m.slots ≤ slot_behind m mode behind → new ≡ old
-  -- A state that was there keeps its start tag or its lack of one, through a clear too.
-  pub start_tags : KeepsStartTags old.store.table new.store.table
-  -- The progress of searches is unchanged, except for what a clear does to it.
-  pub progress : KeepsProgress old.store new.store
-  -- A state that was added has the start tag exactly if the settings specialize start states.
-  pub added : TagsNewStates old.store.table new.store.table (specialize_start_states_of m.config)
-  -- No state was added but the start state.
-  pub only :
-      (q : Powerset) → IsKnownState new.store.table q
-      → IsKnownState old.store.table q ⊎ (q ≡ start_state_of m.nfa mode behind)
+  -- From then on it is cached, also if the call cleared the cache.
+  pub cached : HasSlot m mode behind → known_start m new.store mode behind ≡ id

@@ -1,7 +1,7 @@
 //! Start states. There is a start slot for each anchored mode, and each pattern if the settings ask for that, after
 //! each kind of look-behind byte (`Start`). A slot has the ID of its start state once that was determinized, and is
 //! unknown before.
-ghost use Rattle.std.specs.Prelude.{◌≡◌, ◌+◌, ◌-◌, ◌*◌, ◌^◌, ◌<◌, ◌≤◌, ◌↔◌, IfOk, IfErr, IfSome, IfNone, Err, Some};
+ghost use Rattle.std.specs.Prelude.{◌≡◌, ◌+◌, ◌-◌, ◌*◌, ◌^◌, ◌<◌, ◌≤◌, ◌↔◌, IfOk, IfErr, OnOk, IfSome, IfNone, Err, Some};
 ghost use Rattle.automata_base.specs.ByteClasses.LookBehind.{behind_of};
 ghost use Rattle.automata_base.specs.Powersets.Powerset.{dead};
 ghost use Rattle.automata_base.specs.ByteClasses.Classes.{is_quit};
@@ -10,7 +10,8 @@ ghost use Rattle.automata_base.specs.Haystacks.Tapes.{byte_before};
 ghost use Rattle.std.specs.Prelude.{slice_get, false};
 ghost use Rattle.automata_hybrid.specs.Steps.Starts.{quit_behind, start_error, start_search_error, KnowsStart};
 ghost use Rattle.automata_hybrid.specs.Steps.Starts.{IsStartSlot};
-ghost use Rattle.automata_hybrid.specs.Steps.Starts.{IsStartAnswer, StartFails, StartFailsAt, IsStartEffect};
+ghost use Rattle.automata_hybrid.specs.Steps.Starts.{IsStartAnswer};
+ghost use Rattle.automata_hybrid.specs.Calls.Steps.{IsStartRun, StartFails, StartFailsAt};
 ghost use Rattle.automata_hybrid.specs.Machines.StartSlots.{supports, slot_of};
 ghost use Rattle.automata_hybrid.specs.Steps.BySteps.{StartsAt};
 ghost use Rattle.automata_hybrid.specs.Cache.Caches.{IsCacheOf};
@@ -38,7 +39,7 @@ impl Cache {
         ensures of { IsCacheOf self.new dfa.now }
         ensures answer { IfOk result (IsStartAnswer dfa.now mode prev self.old self.new) }
         ensures refusal { IfErr result (StartFails dfa.now mode prev self.old self.new) }
-        ensures effect { IsStartEffect dfa.now mode prev self.old self.new }
+        ensures run { OnOk result (IsStartRun dfa.now mode prev self.old self.new) }
     {
         self.see_bounds();
         let found = self.start_slot(slot);
@@ -66,7 +67,7 @@ impl Cache {
         ensures of { IsCacheOf self.new dfa.now }
         ensures answer { IfOk result (IsStartAnswer dfa.now mode prev self.old self.new) }
         ensures refusal { IfErr result (λ e. StartFails dfa.now mode prev self.old self.new (start_error e)) }
-        ensures effect { IsStartEffect dfa.now mode prev self.old self.new }
+        ensures run { OnOk result (IsStartRun dfa.now mode prev self.old self.new) }
     {
         self.see_bounds();
         let key = self.determinize_start(dfa, mode, prev)?;
@@ -245,7 +246,8 @@ impl DFA {
             (IsStartAnswer self.now config.now.anchored config.now.look_behind cache.old cache.new) }
         ensures refusal { IfErr result
             (StartFails self.now config.now.anchored config.now.look_behind cache.old cache.new) }
-        ensures effect { IsStartEffect self.now config.now.anchored config.now.look_behind cache.old cache.new }
+        ensures run { OnOk result
+            (IsStartRun self.now config.now.anchored config.now.look_behind cache.old cache.new) }
     {
         if let Some(byte) = self.quits_behind(config.get_look_behind()) {
             return Err(StartError::Quit { byte });
@@ -268,7 +270,7 @@ impl DFA {
     ) -> LazyStateID
         requires { IsCacheOf cache.now self.now }
         ensures answer { result < unknown_id → IsStartAnswer self.now mode prev cache.now cache.now result }
-        ensures effect { result < unknown_id → IsStartEffect self.now mode prev cache.now cache.now }
+        ensures run { result < unknown_id → IsStartRun self.now mode prev cache.now cache.now }
     {
         cache.see_bounds();
         if self.quits_behind(prev).is_some() {
@@ -305,8 +307,8 @@ impl DFA {
         ensures refusal { IfErr result
             (StartFailsAt self.now input.now.anchored (byte_before input.now.haystack input.now.start)
             (input.now.start - 1) input.now.start cache.old cache.new) }
-        ensures effect { IsStartEffect self.now input.now.anchored
-            (byte_before input.now.haystack input.now.start) cache.old cache.new }
+        ensures run { OnOk result (IsStartRun self.now input.now.anchored
+            (byte_before input.now.haystack input.now.start) cache.old cache.new) }
         ensures stands { IfOk result (StartsAt self.now cache.new input.now) }
     {
         let _haystack = input.haystack();
@@ -343,8 +345,8 @@ impl DFA {
         ensures refusal { IfErr result
             (StartFailsAt self.now input.now.anchored (slice_get input.now.haystack input.now.end)
             input.now.end input.now.end cache.old cache.new) }
-        ensures effect { IsStartEffect self.now input.now.anchored (slice_get input.now.haystack input.now.end)
-            cache.old cache.new }
+        ensures run { OnOk result (IsStartRun self.now input.now.anchored
+            (slice_get input.now.haystack input.now.end) cache.old cache.new) }
     {
         let config = start::Config::from_input_reverse(input);
         match self.start_state(cache, &config) {

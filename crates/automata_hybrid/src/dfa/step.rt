@@ -1,6 +1,6 @@
 //! Steps: the ID of the state after a byte, or after the haystack's end, as it is cached or by determinizing it; and
 //! the patterns that match at a state.
-ghost use Rattle.std.specs.Prelude.{◌≡◌, ◌<◌, None, Some, IfOk, IfErr, length};
+ghost use Rattle.std.specs.Prelude.{◌≡◌, ◌<◌, None, Some, IfOk, IfErr, OnOk, length};
 ghost use Rattle.std.specs.Prelude.{slice_index, true, false};
 ghost use Rattle.automata_base.specs.Powersets.Powerset.{Powerset};
 ghost use Rattle.automata_base.specs.Retraced.Steps.{successor};
@@ -10,7 +10,8 @@ ghost use Rattle.automata_hybrid.specs.Cache.Caches.{HoldsRow, IsCacheOf};
 ghost use Rattle.automata_hybrid.specs.Cache.Ids.{quit_id, unknown_id, offset_limit, HasMatchTag};
 ghost use Rattle.automata_base.specs.ByteClasses.Classes.{class_in, is_quit};
 ghost use Rattle.automata_hybrid.specs.Steps.BySteps.{StepsOn};
-ghost use Rattle.automata_hybrid.specs.Steps.Steps.{IsStepAnswer, StepFails, IsStepEffect, KnowsStep};
+ghost use Rattle.automata_hybrid.specs.Calls.Steps.{IsStepRun, StepFails};
+ghost use Rattle.automata_hybrid.specs.Steps.Steps.{IsStepAnswer, KnowsStep};
 ghost use Rattle.automata_hybrid.specs.Machines.Machine.{quits_on};
 ghost use Rattle.automata_config.specs.Options.{match_kind_of};
 
@@ -35,7 +36,7 @@ impl Cache {
         ensures of { IsCacheOf self.new dfa.now }
         ensures answer { IfOk result (IsStepAnswer dfa.now id unit self.old self.new) }
         ensures refusal { IfErr result (StepFails dfa.now id unit self.old self.new) }
-        ensures effect { IsStepEffect dfa.now id unit self.old self.new }
+        ensures run { OnOk result (IsStepRun dfa.now id unit self.old self.new) }
         ensures stands { IfOk result (StepsOn dfa.now self.old self.new id unit) }
     {
         self.see_bounds();
@@ -67,7 +68,7 @@ impl Cache {
         ensures of { IsCacheOf self.new dfa.now }
         ensures answer { IfOk result (IsStepAnswer dfa.now id unit self.old self.new) }
         ensures refusal { IfErr result (StepFails dfa.now id unit self.old self.new) }
-        ensures effect { IsStepEffect dfa.now id unit self.old self.new }
+        ensures run { OnOk result (IsStepRun dfa.now id unit self.old self.new) }
     {
         self.see_bounds();
         let class = dfa.unit_class(unit);
@@ -111,7 +112,7 @@ impl DFA {
         ensures of { IsCacheOf cache.new self.now }
         ensures answer { IfOk result (IsStepAnswer self.now id (Some byte) cache.old cache.new) }
         ensures refusal { IfErr result (StepFails self.now id (Some byte) cache.old cache.new) }
-        ensures effect { IsStepEffect self.now id (Some byte) cache.old cache.new }
+        ensures run { OnOk result (IsStepRun self.now id (Some byte) cache.old cache.new) }
         ensures stands { IfOk result (StepsOn self.now cache.old cache.new id (Some byte)) }
     {
         cache.next(self, id, Some(byte))
@@ -131,7 +132,7 @@ impl DFA {
         ensures of { IsCacheOf cache.new self.now }
         ensures answer { IfOk result (IsStepAnswer self.now id None cache.old cache.new) }
         ensures refusal { IfErr result (StepFails self.now id None cache.old cache.new) }
-        ensures effect { IsStepEffect self.now id None cache.old cache.new }
+        ensures run { OnOk result (IsStepRun self.now id None cache.old cache.new) }
         ensures stands { IfOk result (StepsOn self.now cache.old cache.new id None) }
     {
         cache.next(self, id, None)

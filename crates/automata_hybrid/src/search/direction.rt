@@ -1,13 +1,14 @@
 //! All in which the directions of a search differ. A place is counted from where the search begins; an offset is one of
 //! the haystack.
-ghost use Rattle.std.specs.Prelude.{ℕ, ◌≡◌, ◌+◌, ◌-◌, ◌^◌, ◌<◌, ◌≤◌, IfErr, IfOk, Some, true, false, length};
+ghost use Rattle.std.specs.Prelude.{ℕ, ◌≡◌, ◌+◌, ◌-◌, ◌^◌, ◌<◌, ◌≤◌, IfErr, IfOk, OnOk, Some, true, false, length};
 ghost use Rattle.automata_base.specs.Answers.Answers.{later, offset_in};
 ghost use Rattle.automata_base.specs.Paths.Paths.{next};
 ghost use Rattle.automata_hybrid.specs.Cache.Caches.{IsCacheOf, with_store};
 ghost use Rattle.automata_hybrid.specs.Cache.Progress.{distance};
-ghost use Rattle.automata_hybrid.specs.Searches.Progress.{KeepsNone, before_last};
+ghost use Rattle.automata_hybrid.specs.Searches.Progress.{HasItsStart, KeepsNone, before_last};
 ghost use Rattle.automata_hybrid.specs.Searches.Passes.{behind_offset, given_up_offset, tape_in, unit_offset};
-ghost use Rattle.automata_hybrid.specs.Steps.Starts.{IsStartAnswer, IsStartEffect, StartFailsAt};
+ghost use Rattle.automata_hybrid.specs.Calls.Steps.{StartFailsAt};
+ghost use Rattle.automata_hybrid.specs.Steps.Starts.{IsStartAnswer};
 ghost use Rattle.automata_hybrid.specs.Cache.Stores.{with_searched};
 ghost use Rattle.automata_hybrid.specs.Searches.SelfLoops.{byte_in};
 
@@ -227,8 +228,7 @@ impl DFA {
         ensures refusal { IfErr result
             (StartFailsAt self.now input.now.anchored (tape_in way input.now).before
             (behind_offset way input.now) (offset_in way input.now 0) cache.old cache.new) }
-        ensures effect { IsStartEffect self.now input.now.anchored (tape_in way input.now).before
-            cache.old cache.new }
+        ensures run { OnOk result (HasItsStart way self.now input.now cache.old cache.new) }
     {
         match way {
             Direction::Forward => self.start_state_forward(cache, input),

@@ -7,7 +7,8 @@ ghost use Rattle.automata_hybrid.specs.Cache.Table.{IsRowId, Names};
 ghost use Rattle.automata_hybrid.specs.Searches.PassContracts.{IsKnownEnd, IsKnownUpto, IsUnderway};
 ghost use Rattle.automata_hybrid.specs.Searches.PassState.{IsMet};
 ghost use Rattle.automata_hybrid.specs.Searches.Passes.{state_in, tape_in};
-ghost use Rattle.automata_hybrid.specs.Steps.Starts.{IsStartAnswer, IsStartEffect};
+ghost use Rattle.automata_hybrid.specs.Searches.Progress.{HasItsStart};
+ghost use Rattle.automata_hybrid.specs.Steps.Starts.{IsStartAnswer};
 ghost use Rattle.automata_hybrid.specs.Steps.Steps.{IsStepAnswer, known_step};
 ghost use Rattle.automata_hybrid.specs.Machines.Machine.{unit_class};
 
@@ -71,8 +72,7 @@ impl DFA {
         requires { IsCacheOf cache.now self.now }
         ensures answer { result < unknown_id → IsStartAnswer self.now input.now.anchored
             (tape_in way input.now).before cache.now cache.now result }
-        ensures effect { result < unknown_id → IsStartEffect self.now input.now.anchored
-            (tape_in way input.now).before cache.now cache.now }
+        ensures run { result < unknown_id → HasItsStart way self.now input.now cache.now cache.now }
     {
         self.start_state_known(cache, input.get_anchored(), byte_behind(input, way))
     }

@@ -4,7 +4,7 @@
 //! `pass` one that determinizes, and `half` one pass after another: the public searches for one end of a match. A
 //! `walk` is an overlapping search between its calls; `advance` takes it to the next match, `overlapping` is one call,
 //! and `which` collects the patterns of all. `direction` has all in which the two directions differ.
-ghost use Rattle.std.specs.Prelude.{◌≡◌, slice_index, ◌<◌, IfOk, IfErr};
+ghost use Rattle.std.specs.Prelude.{◌≡◌, slice_index, ◌<◌, IfOk, IfErr, OnOk};
 ghost use Rattle.std.specs.Prelude.{Some, None, true, false};
 ghost use Rattle.automata_base.specs.Powersets.Powerset.{Powerset};
 ghost use Rattle.automata_hybrid.specs.Cache.Caches.{IsCacheOf};
@@ -13,10 +13,11 @@ ghost use Rattle.automata_hybrid.specs.Searches.PassState.{half_at, step_error};
 ghost use Rattle.automata_hybrid.specs.Searches.Units.{IsReadAnswer, IsReadEffect, ReadFails};
 ghost use Rattle.automata_hybrid.specs.Searches.Units.{StepFailsAt};
 ghost use Rattle.automata_hybrid.specs.Calls.Events.{End, Move, with_progress};
+ghost use Rattle.automata_hybrid.specs.Calls.Steps.{IsStepRun};
 ghost use Rattle.automata_hybrid.specs.Searches.Passes.{Skips};
 ghost use Rattle.automata_base.specs.declared.util.search.MatchErrorKind.TheVariants.{Quit as QuitAt};
 ghost use Rattle.automata_hybrid.specs.Cache.Ids.{unknown_id, HasMatchTag};
-ghost use Rattle.automata_hybrid.specs.Steps.Steps.{IsStepAnswer, IsStepEffect, known_step};
+ghost use Rattle.automata_hybrid.specs.Steps.Steps.{IsStepAnswer, known_step};
 ghost use Rattle.automata_hybrid.specs.Cache.Table.{IsRowId, Leads, Names};
 
 mod advance;
@@ -105,7 +106,7 @@ impl DFA {
         ensures of { IsCacheOf cache.new self.now }
         ensures answer { IfOk result (IsStepAnswer self.now id (Some byte) cache.old cache.new) }
         ensures refusal { IfErr result (StepFailsAt self.now id (Some byte) at cache.old cache.new) }
-        ensures effect { IsStepEffect self.now id (Some byte) cache.old cache.new }
+        ensures run { OnOk result (IsStepRun self.now id (Some byte) cache.old cache.new) }
     {
         match self.next_state(cache, id, byte) {
             Ok(next) => Ok(next),
@@ -129,7 +130,7 @@ impl DFA {
         ensures of { IsCacheOf cache.new self.now }
         ensures answer { IfOk result (IsStepAnswer self.now id (Some byte) cache.old cache.new) }
         ensures refusal { IfErr result (StepFailsAt self.now id (Some byte) at cache.old cache.new) }
-        ensures effect { IsStepEffect self.now id (Some byte) cache.old cache.new }
+        ensures run { OnOk result (IsStepRun self.now id (Some byte) cache.old cache.new) }
     {
         if met.is_unknown() {
             return self.step(cache, id, byte, at);

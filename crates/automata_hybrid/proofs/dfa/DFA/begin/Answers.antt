@@ -5,7 +5,6 @@ use Rattle.std.proofs.lemmas.Result.{IfOk-weaker}
 use Rattle.automata_base.specs.Powersets.Powerset.{dead}
 use Rattle.automata_base.specs.declared.util.search.Direction.{Direction}
 use Rattle.automata_hybrid.specs.Cache.Caches.{CacheView}
-use Rattle.automata_hybrid.specs.Machines.Machine.{Machine}
 use Rattle.automata_hybrid.specs.Searches.PassContracts.{IsKnownUpto}
 use Rattle.automata_hybrid.specs.Calls.Events.{Begin, with_progress}
 use Rattle.automata_hybrid.specs.Searches.Progress.{EndsAtLast, IsPassRun, IsStoppedAt, with_search_begun, with_search_ended}
@@ -19,7 +18,7 @@ use Rattle.automata_hybrid.proofs.Steps.Starts.{refusal_at}
 use Rattle.automata_base.specs.Answers.Answers.{offset_in}
 use Rattle.automata_hybrid.proofs.Searches.Reads.{at_err}
 use Rattle.automata_hybrid.proofs.Searches.SpanRuns.{result_run}
-use Rattle.automata_hybrid.proofs.Searches.UnitsRead.{ended_here, pass_dies, start_had, unstarted}
+use Rattle.automata_hybrid.proofs.Searches.UnitsRead.{ended_here, pass_dies, unstarted}
 use Rattle.automata_hybrid.proofs.Searches.PassState.{at_reads, clean_start, false_true, if_both, starts_at}
 use Rattle.automata_hybrid.proofs.Searches.PassState.{starts_dead, stops_start}
 use Rattle.automata_hybrid.proofs.dfa.DFA.begin.Goals as goal
@@ -70,7 +69,7 @@ returns-in-Err-clause-effect c =
     let d : Direction = c.args.way in
     inl (
       refusal_at c.args.self.now c.args.input.now.anchored (tape_in d c.args.input.now).before (behind_offset d c.args.input.now) (offset_in d c.args.input.now 0) c.args.cache.now c.walk_start.new.cache c.in-Err.error c.in-Err.ensures.refusal,
-      unstarted d c.args.self.now c.args.input.now (behind_offset d c.args.input.now) (offset_in d c.args.input.now 0) c.args.cache.now c.walk_start.new.cache c.in-Err.error (c.see_bounds.ensures.bounds.slots ∙ ap (λ (d : Machine). d.slots) c.requires.of) c.in-Err.ensures.refusal c.in-Err.ensures.effect,
+      unstarted d c.args.self.now c.args.input.now (behind_offset d c.args.input.now) (offset_in d c.args.input.now 0) c.args.cache.now c.walk_start.new.cache c.in-Err.error c.in-Err.ensures.refusal,
     )
 
 pub returns-then-is_dead-clause-effect : goal.returns-then-is_dead-clause-effect
@@ -78,7 +77,7 @@ returns-then-is_dead-clause-effect c =
     let d : Direction = c.args.way in
     let dies : state_in d c.args.self.now c.args.input.now 0 ≡ dead = begins_dead d c.args.self.now c.walk_start.new.cache.store.table c.args.input.now c.in-Ok.start c.in-Ok.ensures.answer.named (c.see_bounds-2.ensures.sound.low c.in-Ok.start) c.see_bounds-2.ensures.sound.small (c.if-is_dead.ensures.0 refl) in (
       c.walk_start.new.cache,
-      (start_had d c.args.self.now c.args.input.now c.args.cache.now c.walk_start.new.cache c.in-Ok.start (c.see_bounds.ensures.bounds.slots ∙ ap (λ (d : Machine). d.slots) c.requires.of) (is_store c.walk_start.new.cache.store c.args.self.now c.in-Ok.ensures.of c.see_bounds-2.ensures.bounds) c.in-Ok.ensures.effect c.in-Ok.ensures.answer),
+      c.in-Ok.ensures.run,
       inl (c.if-keeps_none.ensures.yes refl, inr (stops_start d c.args.self.now c.args.input.now dies 0 (omega arith), refl)),
     )
 
@@ -89,7 +88,7 @@ returns-then-is_dead-2-clause-effect c =
     subst (λ at. c.search_start.new.self ≡ with_progress (Begin at) c.walk_start.new.cache) c.span_offset-first.ensures.value c.search_start.ensures.value in
     let dies : state_in d c.args.self.now c.args.input.now 0 ≡ dead = begins_dead d c.args.self.now c.walk_start.new.cache.store.table c.args.input.now c.in-Ok.start c.in-Ok.ensures.answer.named (c.see_bounds-2.ensures.sound.low c.in-Ok.start) c.see_bounds-2.ensures.sound.small (c.if-is_dead-2.ensures.0 refl) in (
       c.walk_start.new.cache,
-      (start_had d c.args.self.now c.args.input.now c.args.cache.now c.walk_start.new.cache c.in-Ok.start (c.see_bounds.ensures.bounds.slots ∙ ap (λ (d : Machine). d.slots) c.requires.of) (is_store c.walk_start.new.cache.store c.args.self.now c.in-Ok.ensures.of c.see_bounds-2.ensures.bounds) c.in-Ok.ensures.effect c.in-Ok.ensures.answer),
+      c.in-Ok.ensures.run,
       inr (
         c.if-keeps_none.ensures.no refl,
         pass_dies d c.args.self.now c.args.input.now (with_search_begun d c.args.input.now 0 c.walk_start.new.cache) c.end_search.new.self
@@ -112,14 +111,14 @@ returns-then-keeps_none-clause-effect c =
     (IfOk-weaker c.find_still.result _ _
     (λ _ read. (
       c.walk_start.new.cache,
-      (start_had d c.args.self.now c.args.input.now c.args.cache.now c.walk_start.new.cache c.in-Ok.start (c.see_bounds.ensures.bounds.slots ∙ ap (λ (d : Machine). d.slots) c.requires.of) (is_store c.walk_start.new.cache.store c.args.self.now c.in-Ok.ensures.of c.see_bounds-2.ensures.bounds) c.in-Ok.ensures.effect c.in-Ok.ensures.answer),
+      c.in-Ok.ensures.run,
       inl (c.if-keeps_none.ensures.yes refl, inl (reads, read)),
     ))
     c.find_still.ensures.progress.read)
     (if_both c.find_still.result _ _ _
     (λ error refused left. inr (
       c.walk_start.new.cache,
-      (start_had d c.args.self.now c.args.input.now c.args.cache.now c.walk_start.new.cache c.in-Ok.start (c.see_bounds.ensures.bounds.slots ∙ ap (λ (d : Machine). d.slots) c.requires.of) (is_store c.walk_start.new.cache.store c.args.self.now c.in-Ok.ensures.of c.see_bounds-2.ensures.bounds) c.in-Ok.ensures.effect c.in-Ok.ensures.answer),
+      c.in-Ok.ensures.run,
       inl (c.if-keeps_none.ensures.yes refl, reads, refused, left),
     ))
     c.find_still.ensures.refusal c.find_still.ensures.progress.left)
@@ -130,7 +129,7 @@ returns-clause-effect c =
     let begins : c.search_start.new.self ≡ with_search_begun d c.args.input.now 0 c.walk_start.new.cache =
     subst (λ at. c.search_start.new.self ≡ with_progress (Begin at) c.walk_start.new.cache) c.span_offset-first.ensures.value c.search_start.ensures.value in (
       c.walk_start.new.cache,
-      (start_had d c.args.self.now c.args.input.now c.args.cache.now c.walk_start.new.cache c.in-Ok.start (c.see_bounds.ensures.bounds.slots ∙ ap (λ (d : Machine). d.slots) c.requires.of) (is_store c.walk_start.new.cache.store c.args.self.now c.in-Ok.ensures.of c.see_bounds-2.ensures.bounds) c.in-Ok.ensures.effect c.in-Ok.ensures.answer),
+      c.in-Ok.ensures.run,
       inr (
         c.if-keeps_none.ensures.no refl,
         subst (λ (v : CacheView). EndsAtLast d c.args.self.now c.args.input.now v c.rest.new.cache) begins
@@ -146,7 +145,7 @@ returns-in_err-found-clause-effect c =
     at_err c.from_residual.result _ (λ r. IsPassRun d c.args.self.now c.args.input.now c.args.cache.now c.rest.new.cache (result_err r)) c.from_residual.ensures.1
     (inr (
       c.walk_start.new.cache,
-      (start_had d c.args.self.now c.args.input.now c.args.cache.now c.walk_start.new.cache c.in-Ok.start (c.see_bounds.ensures.bounds.slots ∙ ap (λ (d : Machine). d.slots) c.requires.of) (is_store c.walk_start.new.cache.store c.args.self.now c.in-Ok.ensures.of c.see_bounds-2.ensures.bounds) c.in-Ok.ensures.effect c.in-Ok.ensures.answer),
+      c.in-Ok.ensures.run,
       inr (
         c.if-keeps_none.ensures.no refl,
         subst (λ (v : CacheView). IsStoppedAt d c.args.self.now c.args.input.now v c.rest.new.cache c.in_err-found.field-0.0) begins

@@ -1,4 +1,4 @@
-use Rattle.std.proofs.Common.{Option, ◌≡◌, ◌∙◌, ◌+◌, ◌<◌, ◌^◌, None, Some, inr, length, ap, subst, sym, refl, arith}
+use Rattle.std.proofs.Common.{Option, ◌≡◌, ◌+◌, ◌<◌, ◌^◌, None, Some, inr, subst, sym, refl, arith}
 use Rattle.std.proofs.lemmas.Grind.{common_steps}
 use Rattle.automata_base.specs.Haystacks.Input.{Allows, Input}
 use Rattle.automata_base.specs.Haystacks.Matches.{HalfMatch}
@@ -6,7 +6,6 @@ use Rattle.automata_base.specs.declared.util.search.Direction.{Direction}
 use Rattle.automata_hybrid.specs.Cache.Caches.{CacheView, with_store, IsStoreOf}
 use Rattle.automata_hybrid.specs.Cache.Progress.{saturated, total_len}
 use Rattle.automata_hybrid.specs.Cache.Stores.{with_searched}
-use Rattle.automata_hybrid.specs.Machines.Machine.{Machine}
 use Rattle.automata_hybrid.specs.Searches.PassContracts.{IsKnownUpto, half_from}
 use Rattle.automata_hybrid.specs.Searches.Progress.{EndsAtLast, IsStoppedAt, with_search_begun, IsPassRun}
 use Rattle.automata_hybrid.specs.Calls.Events.{Begin, with_progress}
@@ -15,7 +14,6 @@ use Rattle.automata_hybrid.proofs.Searches.KnownPasses.{known_ended}
 use Rattle.automata_hybrid.proofs.Searches.PassContracts.{same_input}
 use Rattle.automata_hybrid.proofs.Searches.Contracts.{is_store}
 use Rattle.automata_hybrid.proofs.Searches.PassState.{starts_at}
-use Rattle.automata_hybrid.proofs.Searches.UnitsRead.{start_had}
 use Rattle.automata_hybrid.proofs.Steps.Ids.{low_bit}
 use Rattle.automata_hybrid.proofs.dfa.DFA.pass.Goals as goal
 
@@ -36,13 +34,12 @@ pub returns-then-known-clause-effect : goal.returns-then-known-clause-effect
 returns-then-known-clause-effect c =
     let d : Direction = c.args.way in
     let low : c.known_start-start.result < 2 ^ 31 = grind (arith, common_steps, c.if-is_fixed.ensures) in
-    let slots : length c.args.cache.now.store.starts ≡ c.args.self.now.slots = c.see_bounds.ensures.bounds.slots ∙ ap (λ (d : Machine). d.slots) c.requires.of in
     let sound : IsStoreOf c.args.cache.now.store c.args.self.now = (is_store c.args.cache.now.store c.args.self.now c.requires.of c.see_bounds.ensures.bounds) in
     let end = c.known_pass-known.ensures.ended c.if-known.true in
     let counted = subst (λ n. c.count_search.new.self ≡ with_store c.args.cache.now (with_searched c.args.cache.now.store (record { bytes = saturated (total_len c.args.cache.now.store.searched + n); running = None })))
     c.bytes_read.ensures c.count_search.ensures.value in (
       c.args.cache.now,
-      start_had d c.args.self.now c.args.input.now c.args.cache.now c.args.cache.now c.known_start-start.result slots sound (c.known_start-start.ensures.effect low) (c.known_start-start.ensures.answer low),
+      c.known_start-start.ensures.run low,
       inr (c.if-keeps_none.ensures.no refl, known_ended d c.args.self.now c.args.input.now c.known_pass-known.result.at c.known_pass-known.result.id c.args.cache.now c.known_pass-known.result.found c.count_search.new.self end sound counted),
     )
 
@@ -63,13 +60,10 @@ pub returns-in-Ok-rest-clause-effect : goal.returns-in-Ok-rest-clause-effect
 returns-in-Ok-rest-clause-effect c =
     let d : Direction = c.args.way in
     let low : c.known_start-start.result < 2 ^ 31 = grind (arith, common_steps, c.if-is_fixed.ensures) in
-    let slots : length c.args.cache.now.store.starts ≡ c.args.self.now.slots = c.see_bounds.ensures.bounds.slots ∙ ap (λ (d : Machine). d.slots) c.requires.of in
-    let sound : IsStoreOf c.args.cache.now.store c.args.self.now = (is_store c.args.cache.now.store c.args.self.now c.requires.of c.see_bounds.ensures.bounds) in
-    let had = start_had d c.args.self.now c.args.input.now c.args.cache.now c.args.cache.now c.known_start-start.result slots sound (c.known_start-start.ensures.effect low) (c.known_start-start.ensures.answer low) in
     let begins : c.search_start.new.self ≡ with_search_begun d c.args.input.now 0 c.args.cache.now =
     subst (λ at. c.search_start.new.self ≡ with_progress (Begin at) c.args.cache.now) c.span_offset.ensures.value c.search_start.ensures.value in (
       c.args.cache.now,
-      had,
+      c.known_start-start.ensures.run low,
       inr (
         c.if-keeps_none.ensures.no refl,
         subst (λ (v : CacheView). EndsAtLast d c.args.self.now c.args.input.now v c.rest.new.cache) begins
@@ -81,14 +75,11 @@ pub returns-in-Err-rest-clause-effect : goal.returns-in-Err-rest-clause-effect
 returns-in-Err-rest-clause-effect c =
     let d : Direction = c.args.way in
     let low : c.known_start-start.result < 2 ^ 31 = grind (arith, common_steps, c.if-is_fixed.ensures) in
-    let slots : length c.args.cache.now.store.starts ≡ c.args.self.now.slots = c.see_bounds.ensures.bounds.slots ∙ ap (λ (d : Machine). d.slots) c.requires.of in
-    let sound : IsStoreOf c.args.cache.now.store c.args.self.now = (is_store c.args.cache.now.store c.args.self.now c.requires.of c.see_bounds.ensures.bounds) in
-    let had = start_had d c.args.self.now c.args.input.now c.args.cache.now c.args.cache.now c.known_start-start.result slots sound (c.known_start-start.ensures.effect low) (c.known_start-start.ensures.answer low) in
     let begins : c.search_start.new.self ≡ with_search_begun d c.args.input.now 0 c.args.cache.now =
     subst (λ at. c.search_start.new.self ≡ with_progress (Begin at) c.args.cache.now) c.span_offset.ensures.value c.search_start.ensures.value in
     inr (
       c.args.cache.now,
-      had,
+      c.known_start-start.ensures.run low,
       inr (
         c.if-keeps_none.ensures.no refl,
         subst (λ (v : CacheView). IsStoppedAt d c.args.self.now c.args.input.now v c.rest.new.cache c.in-Err-rest.error) begins

@@ -1,6 +1,5 @@
 use Rattle.std.proofs.Common.{None, refl}
-use Rattle.automata_hybrid.proofs.Searches.Contracts.{is_store}
-use Rattle.automata_hybrid.proofs.Searches.Reads.{reported_refusal, step_does, step_fails}
+use Rattle.automata_hybrid.proofs.Searches.Reads.{reported_refusal, step_fails}
 use Rattle.automata_hybrid.proofs.dfa.DFA.read_end.Goals as goal
 
 pub returns-in-Ok-clause-answer : goal.returns-in-Ok-clause-answer
@@ -9,11 +8,7 @@ returns-in-Ok-clause-answer c = record { clean = refl; named = λ q n. c.in-Ok.e
 pub returns-in-Ok-clause-effect : goal.returns-in-Ok-clause-effect
 returns-in-Ok-clause-effect c = record {
   alive = c.see_bounds.ensures.sound.alive c.args.id;
-  taken =
-      step_does c.args.self.now c.args.id None c.args.cache.now c.next_eoi_state.new.cache c.in-Ok.next
-      (c.see_bounds.ensures.sound.low c.args.id c.requires.valid.0 c.requires.valid.1) refl c.see_machine.ensures.end
-      (is_store c.next_eoi_state.new.cache.store c.args.self.now c.in-Ok.ensures.of c.see_bounds-in-Ok.ensures.bounds)
-      c.in-Ok.ensures.answer c.in-Ok.ensures.effect;
+  taken = c.in-Ok.ensures.run.does refl;
   left = tt;
 }
 

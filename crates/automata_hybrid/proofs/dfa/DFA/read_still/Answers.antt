@@ -1,10 +1,9 @@
-use Rattle.std.proofs.Common.{◌≡◌, false, true, Some, inl, refl, sym, subst, arith}
+use Rattle.std.proofs.Common.{◌≡◌, false, true, Some, inl, refl, sym, subst}
 use Rattle.std.specs.Prelude.{Err, IfErr, Ok}
 use Rattle.automata_base.specs.ByteClasses.Classes.{is_quit}
 use Rattle.automata_hybrid.specs.Searches.Units.{IsReadAnswer, IsReadEffect, ReadFails}
 use Rattle.automata_hybrid.specs.Searches.Passes.{IsStepError}
-use Rattle.automata_hybrid.proofs.Searches.Contracts.{is_store}
-use Rattle.automata_hybrid.proofs.Searches.Reads.{at_err, end_refusal, step_does, step_fails}
+use Rattle.automata_hybrid.proofs.Searches.Reads.{at_err, end_refusal, reported_refusal, step_fails}
 use Rattle.automata_hybrid.proofs.Searches.PassState.{false_true}
 use Rattle.automata_hybrid.proofs.Steps.Ids.{quits, unquit}
 use Rattle.automata_hybrid.proofs.dfa.DFA.read_still.Goals as goal
@@ -25,13 +24,16 @@ returns-else-is_quit-clause-effect c =
     subst (λ u. IsReadEffect c.args.self.now c.args.id u c.args.cache.now c.args.cache.now c.step.new.cache (Ok c.in_ok-next-in-Some.next)) (sym c.in-Some.is)
     (record {
       alive = c.see_bounds.ensures.sound.alive c.args.id;
-      taken =
-          step_does c.args.self.now c.args.id (Some c.in-Some.byte) c.args.cache.now c.step.new.cache c.in_ok-next-in-Some.next low clean
-          (c.see_machine.ensures.bytes c.in-Some.byte (omega arith))
-          (is_store c.step.new.cache.store c.args.self.now c.in_ok-next-in-Some.ensures.of c.see_bounds-in-Some.ensures.bounds)
-          c.in_ok-next-in-Some.ensures.answer c.in_ok-next-in-Some.ensures.effect;
+      taken = c.in_ok-next-in-Some.ensures.run.does clean;
       left = tt;
     })
+
+pub returns-in_err-next-in-Some-clause-refusal : goal.returns-in_err-next-in-Some-clause-refusal
+returns-in_err-next-in-Some-clause-refusal c =
+    subst (λ u. IfErr c.from_residual.result (ReadFails c.args.self.now c.args.id u c.args.quit_at c.args.at c.args.cache.now c.step.new.cache)) (sym c.in-Some.is)
+    (at_err c.from_residual.result _ (λ r. IfErr r (ReadFails c.args.self.now c.args.id (Some c.in-Some.byte) c.args.quit_at c.args.at c.args.cache.now c.step.new.cache)) c.from_residual.ensures.1
+    (reported_refusal c.args.self.now c.args.id (Some c.in-Some.byte) c.args.quit_at c.args.at c.args.cache.now c.step.new.cache c.in_err-next-in-Some.field-0.0
+    c.in_err-next-in-Some.ensures.refusal))
 
 pub returns-in_err-next-in-Some-clause-effect : goal.returns-in_err-next-in-Some-clause-effect
 returns-in_err-next-in-Some-clause-effect c =
@@ -66,7 +68,7 @@ returns-then-is_quit-clause-effect c =
     (record {
       alive = c.see_bounds.ensures.sound.alive c.args.id;
       taken = tt;
-      left = λ q named. inl (on, c.in_ok-next-in-Some.ensures.effect.quit on);
+      left = λ q named. inl (on, c.in_ok-next-in-Some.ensures.run.quit on);
     })
 
 pub returns-in-None-clause-refusal : goal.returns-in-None-clause-refusal

@@ -1,5 +1,4 @@
 use Rattle.std.proofs.Common.{ℕ, ◌∙◌, Option, ap}
-use Rattle.automata_hybrid.specs.Machines.Machine.{Machine}
 use Rattle.automata_hybrid.proofs.Searches.Contracts.{is_store}
 use Rattle.automata_hybrid.proofs.Walks.Parts.{back_left, back_refusal, back_resumed, row_resumed, start_answer, start_left, start_error}
 use Rattle.automata_hybrid.proofs.Walks.Parts.{start_resumed}
@@ -22,15 +21,12 @@ returns-then-is_fresh-clause-refusal c =
 pub returns-then-is_fresh-clause-resumed : goal.returns-then-is_fresh-clause-resumed
 returns-then-is_fresh-clause-resumed c =
     start_resumed c.args.way c.args.self.now c.args.input.now c.args.walk.now c.args.cache.now c.walk_start-start.new.cache c.walk_start-start.result
-    (c.is_fresh.ensures.yes c.if-is_fresh.true) (c.see_bounds.ensures.bounds.slots ∙ ap (λ (m : Machine). m.slots) c.requires.of) c.walk_start-start.ensures.effect
-    (is_store c.walk_start-start.new.cache.store c.args.self.now c.walk_start-start.ensures.of c.see_bounds-then-is_fresh.ensures.bounds)
-    c.walk_start-start.ensures.answer
+    (c.is_fresh.ensures.yes c.if-is_fresh.true) c.walk_start-start.ensures.run
 
 pub returns-then-is_fresh-clause-left : goal.returns-then-is_fresh-clause-left
 returns-then-is_fresh-clause-left c =
     start_left c.args.way c.args.self.now c.args.input.now c.args.walk.now c.args.cache.now c.walk_start-start.new.cache c.walk_start-start.result
-    (c.is_fresh.ensures.yes c.if-is_fresh.true) (c.see_bounds.ensures.bounds.slots ∙ ap (λ (m : Machine). m.slots) c.requires.of) c.walk_start-start.ensures.effect
-    c.walk_start-start.ensures.refusal
+    (c.is_fresh.ensures.yes c.if-is_fresh.true) c.walk_start-start.ensures.refusal
 
 pub returns-in-Row-Some-clause-resumed : goal.returns-in-Row-Some-clause-resumed
 returns-in-Row-Some-clause-resumed c =

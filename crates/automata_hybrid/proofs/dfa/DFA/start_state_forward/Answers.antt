@@ -1,6 +1,7 @@
 use Rattle.std.proofs.Common.{ℕ, ◌≡◌, ◌-◌, ◌∙◌, ap, subst}
 use Rattle.automata_base.specs.Haystacks.StartConfig.{StartConfig}
-use Rattle.automata_hybrid.specs.Steps.Starts.{IsStartAnswer, IsStartEffect, StartFails, start_search_error}
+use Rattle.automata_hybrid.specs.Calls.Steps.{IsStartRun, StartFails}
+use Rattle.automata_hybrid.specs.Steps.Starts.{IsStartAnswer, start_search_error}
 use Rattle.automata_hybrid.proofs.Steps.BySteps.{stands_first}
 use Rattle.automata_hybrid.proofs.dfa.DFA.start_state_forward.Goals as goal
 
@@ -9,15 +10,10 @@ returns-in-Ok-clause-answer c =
     subst (λ (s : StartConfig). IsStartAnswer c.args.self.now s.anchored s.look_behind c.args.cache.now c.start_state.new.cache c.in-Ok.id)
     c.from_input_forward-config.ensures c.in-Ok.ensures.answer
 
-pub returns-in-Ok-clause-effect : goal.returns-in-Ok-clause-effect
-returns-in-Ok-clause-effect c =
-    subst (λ (s : StartConfig). IsStartEffect c.args.self.now s.anchored s.look_behind c.args.cache.now c.start_state.new.cache)
-    c.from_input_forward-config.ensures c.in-Ok.ensures.effect
-
-pub returns-in-Err-clause-effect : goal.returns-in-Err-clause-effect
-returns-in-Err-clause-effect c =
-    subst (λ (s : StartConfig). IsStartEffect c.args.self.now s.anchored s.look_behind c.args.cache.now c.start_state.new.cache)
-    c.from_input_forward-config.ensures c.in-Err.ensures.effect
+pub returns-in-Ok-clause-run : goal.returns-in-Ok-clause-run
+returns-in-Ok-clause-run c =
+    subst (λ (s : StartConfig). IsStartRun c.args.self.now s.anchored s.look_behind c.args.cache.now c.start_state.new.cache)
+    c.from_input_forward-config.ensures c.in-Ok.ensures.run
 
 pub returns-in-Err-clause-refusal : goal.returns-in-Err-clause-refusal
 returns-in-Err-clause-refusal c =

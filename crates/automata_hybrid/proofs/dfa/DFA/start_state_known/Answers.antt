@@ -7,7 +7,8 @@ use Rattle.automata_config.specs.declared.error.StartError.TheVariants.{Unsuppor
 use Rattle.automata_hybrid.specs.Machines.Machine.{Machine}
 use Rattle.automata_hybrid.specs.Machines.StartSlots.{slot_behind, supports}
 use Rattle.automata_hybrid.specs.Steps.Starts.{IsStartSlot, KnowsStart, quit_behind}
-use Rattle.automata_hybrid.proofs.Steps.Starts.{knows_slot, known_answer, known_effect}
+use Rattle.automata_hybrid.proofs.Steps.Starts.{knows_slot, known_answer, known_run}
+use Rattle.automata_hybrid.proofs.Searches.Contracts.{is_store}
 use Rattle.automata_hybrid.proofs.dfa.DFA.start_state_known.Goals as goal
 
 is_none : (o : Option ℕ) → is_some o ≡ false → o ≡ None
@@ -41,6 +42,7 @@ returns-clause-answer c = λ low.
     known_answer c.args.self.now c.args.mode c.args.prev c.args.cache.now c.in-Ok-Some.slot c.start_slot.result c.requires (slot_here c) (knows_here c low)
     c.start_slot.ensures.value low c.start_slot.ensures.leads c.start_slot.ensures.tag
 
-pub returns-clause-effect : goal.returns-clause-effect
-returns-clause-effect c = λ low.
-    known_effect c.args.self.now c.args.mode c.args.prev c.args.cache.now (knows_here c low)
+pub returns-clause-run : goal.returns-clause-run
+returns-clause-run c = λ low.
+    known_run c.args.self.now c.args.mode c.args.prev c.args.cache.now
+    (is_store c.args.cache.now.store c.args.self.now c.requires c.see_bounds.ensures.bounds) (knows_here c low)

@@ -1,10 +1,12 @@
 use Rattle.std.proofs.Common.{ℕ, ◌≡◌, ◌+◌, ◌-◌, arith, sym, subst}
-use Rattle.std.specs.Prelude.{IfErr, IfOk, slice_get}
+use Rattle.std.specs.Prelude.{IfErr, IfOk, OnOk, slice_get}
 use Rattle.automata_base.specs.Answers.Answers.{offset_in}
 use Rattle.automata_base.specs.Haystacks.Tapes.{byte_before}
 use Rattle.automata_base.specs.declared.util.search.Direction.{Direction}
 use Rattle.automata_hybrid.specs.Searches.Passes.{behind_offset, tape_in}
-use Rattle.automata_hybrid.specs.Steps.Starts.{IsStartAnswer, IsStartEffect, StartFailsAt}
+use Rattle.automata_hybrid.specs.Calls.Steps.{StartFailsAt}
+use Rattle.automata_hybrid.specs.Searches.Progress.{HasItsStart}
+use Rattle.automata_hybrid.specs.Steps.Starts.{IsStartAnswer}
 use Rattle.automata_hybrid.proofs.dfa.DFA.walk_start.Goals as goal
 
 pub returns-in-Forward-clause-answer : goal.returns-in-Forward-clause-answer
@@ -19,10 +21,10 @@ returns-in-Forward-clause-refusal c =
     (subst (λ (n : ℕ). IfErr c.start_state_forward.result (StartFailsAt c.args.self.now c.args.input.now.anchored (byte_before c.args.input.now.haystack c.args.input.now.start) (c.args.input.now.start - 1) n c.args.cache.now c.start_state_forward.new.cache)) at
     c.start_state_forward.ensures.refusal)
 
-pub returns-in-Forward-clause-effect : goal.returns-in-Forward-clause-effect
-returns-in-Forward-clause-effect c =
-    subst (λ (w : Direction). IsStartEffect c.args.self.now c.args.input.now.anchored (tape_in w c.args.input.now).before c.args.cache.now c.start_state_forward.new.cache) (sym c.in-Forward.is)
-    c.start_state_forward.ensures.effect
+pub returns-in-Forward-clause-run : goal.returns-in-Forward-clause-run
+returns-in-Forward-clause-run c =
+    subst (λ (w : Direction). OnOk c.start_state_forward.result (HasItsStart w c.args.self.now c.args.input.now c.args.cache.now c.start_state_forward.new.cache)) (sym c.in-Forward.is)
+    c.start_state_forward.ensures.run
 
 pub returns-in-Backward-clause-answer : goal.returns-in-Backward-clause-answer
 returns-in-Backward-clause-answer c =
@@ -36,7 +38,7 @@ returns-in-Backward-clause-refusal c =
     (subst (λ (n : ℕ). IfErr c.start_state_reverse.result (StartFailsAt c.args.self.now c.args.input.now.anchored (slice_get c.args.input.now.haystack c.args.input.now.end) c.args.input.now.end n c.args.cache.now c.start_state_reverse.new.cache)) at
     c.start_state_reverse.ensures.refusal)
 
-pub returns-in-Backward-clause-effect : goal.returns-in-Backward-clause-effect
-returns-in-Backward-clause-effect c =
-    subst (λ (w : Direction). IsStartEffect c.args.self.now c.args.input.now.anchored (tape_in w c.args.input.now).before c.args.cache.now c.start_state_reverse.new.cache) (sym c.in-Backward.is)
-    c.start_state_reverse.ensures.effect
+pub returns-in-Backward-clause-run : goal.returns-in-Backward-clause-run
+returns-in-Backward-clause-run c =
+    subst (λ (w : Direction). OnOk c.start_state_reverse.result (HasItsStart w c.args.self.now c.args.input.now c.args.cache.now c.start_state_reverse.new.cache)) (sym c.in-Backward.is)
+    c.start_state_reverse.ensures.run

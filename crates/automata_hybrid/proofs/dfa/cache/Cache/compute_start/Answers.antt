@@ -1,15 +1,15 @@
 use Rattle.std.proofs.Common.{◌≡◌, ◌∙◌, ◌<◌, ◌^◌, ap, arith, inr, sym, subst}
 use Rattle.automata_base.specs.Powersets.Powerset.{Powerset}
-use Rattle.automata_base.specs.Retraced.Steps.{start_state_of}
 use Rattle.automata_hybrid.specs.Cache.Caches.{CacheView}
 use Rattle.automata_hybrid.specs.Cache.LookUps.{IsLookedUp}
 use Rattle.automata_hybrid.specs.Machines.Machine.{Machine}
 use Rattle.automata_hybrid.specs.Cache.Table.{IsNewState, Leads, Names}
 use Rattle.automata_hybrid.specs.declared.dfa.cache.Found.TheVariants.{Known, New}
-use Rattle.automata_hybrid.proofs.Cache.Additions.{cheap, looked_up, new_state}
+use Rattle.automata_hybrid.proofs.Cache.Additions.{looked_up, new_state}
 use Rattle.automata_hybrid.proofs.Cache.Usage.{Leads-known}
-use Rattle.automata_hybrid.proofs.Steps.Starts.{ComputesStart, computed_answer, computed_effect, computes_known}
-use Rattle.automata_hybrid.proofs.Steps.Starts.{computes_new, refused_effect, slot_leads}
+use Rattle.automata_hybrid.proofs.Steps.Starts.{ComputesStart, computed_answer, computed_run, computes_known}
+use Rattle.automata_hybrid.proofs.Steps.Starts.{computes_new, slot_leads}
+use Rattle.automata_hybrid.proofs.Searches.Contracts.{is_store}
 use Rattle.automata_hybrid.proofs.dfa.cache.Cache.compute_start.Goals.{After-see_bounds-in-Known, After-see_bounds-in-New}
 use Rattle.automata_config.specs.Options.{Options, specialize_start_states_of}
 use Rattle.automata_hybrid.proofs.dfa.cache.Cache.compute_start.Goals as goal
@@ -30,6 +30,16 @@ new c =
     computes_new c.args.dfa.now c.args.mode c.args.prev c.args.self.now c.resolve.new.self c.add_start.new.self c.set_start-in-New.new.self c.args.slot c.in_ok-id-in-New.id c.in-New.state c.in_ok-key.key c.get_specialize_start_states-started.result
     (c.resolve.ensures.same ∙ c.determinize_start.ensures.counted) c.in_ok-id-in-New.ensures.answer c.in_ok-id-in-New.ensures.counted c.set_start-in-New.ensures.value found.0 found.1 c.in_ok-key.ensures.value (c.get_specialize_start_states-started.ensures ∙ ap (λ (o : Options). specialize_start_states_of o) c.get_config.ensures)
     c.set_start-in-New.ensures.written (subst (λ n. n < 2 ^ 31) (sym c.set_start-in-New.ensures.written) (omega (arith, low)))
+
+after_known : (c : After-see_bounds-in-Known) → c.set_start.new.self.store.table.of ≡ c.args.dfa.now
+after_known c =
+    ap (λ (v : CacheView). v.store.table.of) c.set_start.ensures.value
+    ∙ (ap (λ (v : CacheView). v.store.table.of) (c.resolve.ensures.same ∙ c.determinize_start.ensures.counted) ∙ c.requires.of)
+
+after_new : (c : After-see_bounds-in-New) → c.set_start-in-New.new.self.store.table.of ≡ c.args.dfa.now
+after_new c =
+    ap (λ (v : CacheView). v.store.table.of) c.set_start-in-New.ensures.value
+    ∙ (c.in_ok-id-in-New.ensures.answer.of ∙ (ap (λ (v : CacheView). v.store.table.of) (c.resolve.ensures.same ∙ c.determinize_start.ensures.counted) ∙ c.requires.of))
 
 pub determinize_start-requires-clause-slot : goal.determinize_start-requires-clause-slot
 determinize_start-requires-clause-slot c = (c.args.slot, c.requires.slot)
@@ -57,38 +67,21 @@ add_start-requires-clause-new c =
 pub returns-in-Known-clause-answer : goal.returns-in-Known-clause-answer
 returns-in-Known-clause-answer c =
     computed_answer c.args.dfa.now c.args.mode c.args.prev c.args.self.now c.set_start.new.self c.args.slot c.in-Known.id (known c)
-    c.requires.slot c.requires.unknown (c.see_bounds.ensures.sound.slots ∙ ap (λ (m : Machine). m.slots) c.requires.of)
-    (c.see_bounds-in-Known.ensures.sound.tagged c.in-Known.id)
+    c.requires.slot (c.see_bounds-in-Known.ensures.sound.tagged c.in-Known.id)
 
-pub returns-in-Known-clause-effect : goal.returns-in-Known-clause-effect
-returns-in-Known-clause-effect c =
-    computed_effect c.args.dfa.now c.args.mode c.args.prev c.args.self.now c.set_start.new.self c.args.slot c.in-Known.id (known c)
-    c.requires.slot c.requires.unknown (c.see_bounds.ensures.sound.slots ∙ ap (λ (m : Machine). m.slots) c.requires.of)
-    c.see_bounds.ensures.sound.cells c.see_bounds.ensures.sound.wide c.see_bounds.ensures.sound.clears (cheap c.args.dfa.now c.args.self.now.store.table.of c.in_ok-key.key (start_state_of c.args.dfa.now.nfa c.args.mode c.args.prev) c.requires.of c.in_ok-key.ensures.value c.in_ok-key.ensures.cost)
-    c.see_bounds.ensures.sound.ids c.see_bounds-in-Known.ensures.sound.ids c.requires.of
+pub returns-in-Known-clause-run : goal.returns-in-Known-clause-run
+returns-in-Known-clause-run c =
+    computed_run c.args.dfa.now c.args.mode c.args.prev c.args.self.now c.set_start.new.self c.args.slot c.in-Known.id (known c)
+    c.requires.slot (is_store c.set_start.new.self.store c.args.dfa.now (after_known c) c.see_bounds-in-Known.ensures.bounds)
+    c.requires.unknown (c.see_bounds.ensures.sound.slots ∙ ap (λ (m : Machine). m.slots) c.requires.of)
 
 pub returns-in_ok-id-in-New-clause-answer : goal.returns-in_ok-id-in-New-clause-answer
 returns-in_ok-id-in-New-clause-answer c =
     computed_answer c.args.dfa.now c.args.mode c.args.prev c.args.self.now c.set_start-in-New.new.self c.args.slot c.in_ok-id-in-New.id (new c)
-    c.requires.slot c.requires.unknown (c.see_bounds.ensures.sound.slots ∙ ap (λ (m : Machine). m.slots) c.requires.of)
-    (c.see_bounds-in-New.ensures.sound.tagged c.in_ok-id-in-New.id)
+    c.requires.slot (c.see_bounds-in-New.ensures.sound.tagged c.in_ok-id-in-New.id)
 
-pub returns-in_ok-id-in-New-clause-effect : goal.returns-in_ok-id-in-New-clause-effect
-returns-in_ok-id-in-New-clause-effect c =
-    computed_effect c.args.dfa.now c.args.mode c.args.prev c.args.self.now c.set_start-in-New.new.self c.args.slot c.in_ok-id-in-New.id (new c)
-    c.requires.slot c.requires.unknown (c.see_bounds.ensures.sound.slots ∙ ap (λ (m : Machine). m.slots) c.requires.of)
-    c.see_bounds.ensures.sound.cells c.see_bounds.ensures.sound.wide c.see_bounds.ensures.sound.clears (cheap c.args.dfa.now c.args.self.now.store.table.of c.in_ok-key.key (start_state_of c.args.dfa.now.nfa c.args.mode c.args.prev) c.requires.of c.in_ok-key.ensures.value c.in_ok-key.ensures.cost)
-    c.see_bounds.ensures.sound.ids c.see_bounds-in-New.ensures.sound.ids c.requires.of
-
-pub returns-in_err-key-clause-effect : goal.returns-in_err-key-clause-effect
-returns-in_err-key-clause-effect c =
-    refused_effect c.args.dfa.now c.args.mode c.args.prev c.args.self.now c.determinize_start.new.self c.args.slot c.requires.slot c.requires.unknown c.determinize_start.ensures.counted
-
-pub returns-in_err-id-clause-effect : goal.returns-in_err-id-clause-effect
-returns-in_err-id-clause-effect c =
-    refused_effect c.args.dfa.now c.args.mode c.args.prev c.args.self.now c.resolve.new.self c.args.slot c.requires.slot c.requires.unknown (c.resolve.ensures.same ∙ c.determinize_start.ensures.counted)
-
-pub returns-in_err-id-in-New-clause-effect : goal.returns-in_err-id-in-New-clause-effect
-returns-in_err-id-in-New-clause-effect c =
-    refused_effect c.args.dfa.now c.args.mode c.args.prev c.args.self.now c.add_start.new.self c.args.slot c.requires.slot c.requires.unknown
-    (c.in_err-id-in-New.ensures.refused.kept ∙ (c.resolve.ensures.same ∙ c.determinize_start.ensures.counted))
+pub returns-in_ok-id-in-New-clause-run : goal.returns-in_ok-id-in-New-clause-run
+returns-in_ok-id-in-New-clause-run c =
+    computed_run c.args.dfa.now c.args.mode c.args.prev c.args.self.now c.set_start-in-New.new.self c.args.slot c.in_ok-id-in-New.id (new c)
+    c.requires.slot (is_store c.set_start-in-New.new.self.store c.args.dfa.now (after_new c) c.see_bounds-in-New.ensures.bounds)
+    c.requires.unknown (c.see_bounds.ensures.sound.slots ∙ ap (λ (m : Machine). m.slots) c.requires.of)
