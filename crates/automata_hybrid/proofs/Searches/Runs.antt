@@ -15,7 +15,7 @@ use Rattle.automata_hybrid.specs.Cache.Ids.{HasOnly, IsRunTag, quit_id}
 use Rattle.automata_hybrid.specs.Steps.Steps.{known_step}
 use Rattle.automata_hybrid.specs.Machines.Machine.{unit_class}
 use Rattle.automata_hybrid.specs.Machines.Machine.{Machine}
-use Rattle.automata_hybrid.specs.Searches.PassState.{HasLearnedUnit, IsAt, IsFollowed, IsMet, IsRun, IsTagAt}
+use Rattle.automata_hybrid.specs.Searches.PassState.{HasLearnedUnit, IsAt, IsFollowed, IsMet, IsNextCell, IsRun, IsTagAt}
 use Rattle.automata_hybrid.specs.Searches.PassContracts.{FollowsTo, RunsTo}
 use Rattle.automata_hybrid.specs.Searches.PassState.{IsTaken, half_at, half_of}
 use Rattle.automata_hybrid.specs.declared.search.follow.Stop.{Stop}
@@ -103,6 +103,14 @@ met_at way m c input k id to byte within unit value below quit named at = λ low
         only = only;
       });
 }
+
+-- what stands in the cell of a byte that was read
+pub next_cell :
+    (way : Direction) (m : Machine) (c : Stored) (input : Input) (k id to byte : ℕ)
+    → next (tape_in way input) k ≡ Some byte → to ≡ cell_of c id (class_in m.classes byte) → IsNextCell way m c input k id to
+next_cell way m c input k id to byte unit value = (λ _. same, λ free known. absurd (omega (arith, free, known, same))) where
+  same : to ≡ known_step m c id (next (tape_in way input) k)
+  same = value ∙ ap (known_step m c id) (sym unit)
 
 -- a run between IDs with a tag: nothing yet, and on
 pub run_none :

@@ -7,7 +7,7 @@ use Rattle.automata_base.specs.declared.util.search.Anchored.{Anchored}
 use Rattle.automata_base.specs.declared.util.search.Span.{Span}
 use Rattle.automata_hybrid.specs.Cache.Caches.{CacheView, IsCacheOf}
 use Rattle.automata_hybrid.specs.Machines.Machine.{Machine}
-use Rattle.automata_hybrid.specs.Searches.PassState.{HasLearnedUnit, HasRun, IsAt, IsFollowed, IsMet, found_over}
+use Rattle.automata_hybrid.specs.Searches.PassState.{HasLearnedUnit, HasRun, IsAt, IsFollowed, IsMet, IsNextCell, found_over}
 use Rattle.automata_hybrid.specs.declared.search.follow.Stop.{Stop}
 use Rattle.automata_hybrid.specs.declared.search.pass.Place.{Place}
 use Rattle.automata_hybrid.specs.Cache.Stores.{Stored}

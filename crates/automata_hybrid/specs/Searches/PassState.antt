@@ -19,7 +19,7 @@ use Rattle.automata_hybrid.specs.Searches.Passes.{HasReadNoQuit, tape_in, state_
 use Rattle.automata_hybrid.specs.Cache.Stores.{Stored}
 use Rattle.automata_hybrid.specs.Searches.Cached.{KnowsUnit}
 use Rattle.automata_hybrid.specs.Cache.Ids.{HasMatchTag, HasOnly, IsRunTag, unknown_id}
-use Rattle.automata_hybrid.specs.Steps.Steps.{known_step}
+use Rattle.automata_hybrid.specs.Steps.Steps.{IsCellRead, known_step}
 use Rattle.automata_hybrid.specs.Machines.Machine.{unit_class}
 use Rattle.automata_config.specs.Options.{match_kind_of}
 
@@ -78,6 +78,10 @@ pub record IsTagAt (way : Direction) (m : Machine) (t : Rows) (input : Input) (t
 pub record IsRun (way : Direction) (m : Machine) (c : Stored) (input : Input) (tag from to id : ℕ) : Type 0 where
   pub followed : IsFollowed way m c input tag from to id
   pub only : HasOnly tag id
+
+-- this was read in the cell of the unit at place `k`, in the row of an ID
+abbrev pub IsNextCell : Direction → Machine → Stored → Input → (k id cell : ℕ) → Type 0
+IsNextCell way m c input k id cell = IsCellRead m c id (next (tape_in way input) k) cell
 
 -- the cached transition on the byte at place `k` leads from one ID to another; a pass follows it, if that has no tag or
 -- the match tag alone

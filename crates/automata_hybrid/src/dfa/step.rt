@@ -55,7 +55,7 @@ impl Cache {
 
     /// Computes a transition that is not cached.
     #[inline(never)]
-    fn compute_next(
+    pub(crate) fn compute_next(
         &mut self,
         dfa: &DFA,
         id: LazyStateID,

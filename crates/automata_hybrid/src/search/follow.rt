@@ -4,7 +4,7 @@ ghost use Rattle.std.specs.Prelude.{ℕ, ◌≡◌, ◌+◌, ◌-◌, ◌^◌, �
 ghost use Rattle.automata_hybrid.specs.Cache.Caches.{IsCacheOf};
 ghost use Rattle.automata_hybrid.specs.Cache.Ids.{fixed_from, HasOnly, IsRunTag};
 ghost use Rattle.automata_hybrid.specs.Searches.PassContracts.{FollowsTo};
-ghost use Rattle.automata_hybrid.specs.Searches.PassState.{IsMatchRun, IsMet, IsRun, IsTagAt, MeetsMatch};
+ghost use Rattle.automata_hybrid.specs.Searches.PassState.{IsMatchRun, IsMet, IsNextCell, IsRun, IsTagAt, MeetsMatch};
 ghost use Rattle.automata_hybrid.specs.Searches.Passes.{state_in};
 ghost use Rattle.automata_hybrid.specs.Searches.SelfLoops.{IsSelfLoop};
 ghost use Rattle.automata_hybrid.specs.Cache.Table.{IsRowId, Names};
@@ -49,11 +49,17 @@ impl DFA {
         requires kind { IsRunTag tag }
         requires named { Names cache.now.store.table from (state_in way self.now input.now start) }
         ensures to { FollowsTo way self.now cache.now.store input.now tag start result }
+        ensures read { result.at < end
+            → IsNextCell way self.now cache.now.store input.now result.at result.id result.next }
         ensures only { HasOnly tag from → HasOnly tag result.id }
     {
         let _haystack = input.haystack();
         if !from.has_only(tag) {
-            return self.stay(cache, input, way, start, from, end);
+            return Stop {
+                at: start,
+                id: from,
+                next: self.next_known(cache, input, way, start, from, end),
+            };
         }
         if start + 8 > end {
             return self.follow_rest(cache, input, way, start, from, tag, end);
@@ -81,9 +87,10 @@ impl DFA {
         self.follow_rest(cache, input, way, at, id, tag, end)
     }
 
-    /// A stop at a place, with the ID that comes next there, if that place is before another one.
+    /// The ID that comes next at a place, if that is before another one: unknown if the transition is not cached, and if
+    /// the place is not before it.
     #[inline(always)]
-    fn stay(
+    pub(super) fn next_known(
         &self,
         cache: &Cache,
         input: &Input<'_>,
@@ -91,26 +98,18 @@ impl DFA {
         at: usize,
         id: LazyStateID,
         end: usize,
-    ) -> Stop
+    ) -> LazyStateID
         requires of { IsCacheOf cache.now self.now }
         requires open { input.now.start ≤ input.now.end }
-        requires within { at ≤ input.now.end - input.now.start }
         requires upto { end ≤ input.now.end - input.now.start }
         requires named { Names cache.now.store.table id (state_in way self.now input.now at) }
-        ensures { (tag : ℕ) → FollowsTo way self.now cache.now.store input.now tag at result }
+        ensures met { IsMet way self.now cache.now.store input.now at id result }
+        ensures read { at < end → IsNextCell way self.now cache.now.store input.now at id result }
     {
         if at >= end {
-            return Stop {
-                at,
-                id,
-                next: LazyStateID::UNKNOWN,
-            };
+            return LazyStateID::UNKNOWN;
         }
-        Stop {
-            at,
-            id,
-            next: self.next_state_known(cache, id, byte_at(input, way, at)),
-        }
+        self.next_state_known(cache, id, byte_at(input, way, at))
     }
 
     /// Follows cached transitions into states that have patterns, from an ID after which one with the match tag alone
@@ -131,6 +130,8 @@ impl DFA {
         requires met { MeetsMatch way self.now cache.now.store input.now start from next }
         ensures run { IsMatchRun way self.now cache.now.store input.now start result.at result.id }
         ensures met { IsMet way self.now cache.now.store input.now result.at result.id result.next }
+        ensures read { result.at < input.now.end - input.now.start
+            → IsNextCell way self.now cache.now.store input.now result.at result.id result.next }
     {
         let last = last_place(input);
         self.follow(cache, input, way, start + 1, next, LazyStateID::MATCH, last)
@@ -154,6 +155,8 @@ impl DFA {
         ensures upto { result.at ≤ start + 8 }
         ensures run { IsRun way self.now cache.now.store input.now tag start result.at result.id }
         ensures met { IsMet way self.now cache.now.store input.now result.at result.id result.next }
+        ensures read { result.at < start + 8
+            → IsNextCell way self.now cache.now.store input.now result.at result.id result.next }
     {
         let mut row = from.offset_by(tag);
         for k in 0..8usize {
@@ -196,6 +199,8 @@ impl DFA {
         ensures within { result.at ≤ input.now.end - input.now.start }
         ensures run { IsRun way self.now cache.now.store input.now tag start result.at result.id }
         ensures met { IsMet way self.now cache.now.store input.now result.at result.id result.next }
+        ensures read { result.at < end
+            → IsNextCell way self.now cache.now.store input.now result.at result.id result.next }
     {
         let mut at = start;
         let mut row = from.offset_by(tag);
@@ -234,6 +239,7 @@ impl DFA {
         ensures run { HasOnly tag result
             → IsRun way self.now cache.now.store input.now tag place (place + 1) result }
         ensures met { IsMet way self.now cache.now.store input.now place id result }
+        ensures read { IsNextCell way self.now cache.now.store input.now place id result }
     {
         let class = self.class_of(byte_at(input, way, place));
         cache.table().cell_in_row(id, row, class)

@@ -5,7 +5,7 @@ ghost use Rattle.automata_hybrid.specs.Cache.Caches.{IsCacheOf};
 ghost use Rattle.automata_hybrid.specs.Cache.Ids.{unknown_id};
 ghost use Rattle.automata_hybrid.specs.Cache.Table.{IsRowId, Names};
 ghost use Rattle.automata_hybrid.specs.Searches.PassContracts.{IsKnownEnd, IsKnownUpto, IsUnderway};
-ghost use Rattle.automata_hybrid.specs.Searches.PassState.{IsMet};
+ghost use Rattle.automata_hybrid.specs.Searches.PassState.{IsMet, IsNextCell};
 ghost use Rattle.automata_hybrid.specs.Searches.Passes.{state_in, tape_in};
 ghost use Rattle.automata_hybrid.specs.Searches.Progress.{HasItsStart};
 ghost use Rattle.automata_hybrid.specs.Steps.Starts.{IsStartAnswer};
@@ -22,11 +22,21 @@ use automata_base::util::search::{Direction, HalfMatch, Input};
 /// beyond them.
 const FIRST_RUN: usize = 1024;
 
+/// Why a pass over cached transitions stopped.
+#[derive(Clone, Copy)]
+pub(super) enum KnownStop {
+    /// The pass has ended with the unit at the place.
+    Ended,
+    /// The transition on the byte at the place is not cached.
+    Missing,
+    /// It is left to the rest of the pass.
+    Left,
+}
+
 /// How far cached transitions led a pass.
 #[derive(Drop)]
 pub(super) struct Known {
-    /// Whether the pass has ended with the unit at the place.
-    pub(super) ended: bool,
+    pub(super) stop: KnownStop,
     pub(super) at: usize,
     /// The ID of the state at the place.
     pub(super) id: LazyStateID,
@@ -35,27 +45,36 @@ pub(super) struct Known {
 }
 
 impl Known {
-    /// A pass has ended with the unit at a place.
-    fn ended(at: usize, id: LazyStateID, found: Option<HalfMatch>) -> Known
-        ensures { result ≡ record { ended = true; at = at; id = id; found = found } }
+    /// A pass stopped so at a place.
+    fn new(stop: KnownStop, at: usize, id: LazyStateID, found: Option<HalfMatch>) -> Known
+        ensures { result ≡ record { stop = stop; at = at; id = id; found = found } }
     {
         Known {
-            ended: true,
+            stop,
             at,
             id,
             found,
         }
     }
 
-    /// A pass is left at a place, where it does not go on by a cached transition.
-    fn left(at: usize, id: LazyStateID, found: Option<HalfMatch>) -> Known
-        ensures { result ≡ record { ended = false; at = at; id = id; found = found } }
+    /// Whether the pass has ended.
+    pub(super) fn has_ended(&self) -> bool
+        ensures yes { result ≡ true → self.now.stop ≡ KnownStop.Ended }
+        ensures no { result ≡ false → self.now.stop ≡ KnownStop.Ended → ⊥ }
     {
-        Known {
-            ended: false,
-            at,
-            id,
-            found,
+        match self.stop {
+            KnownStop::Ended => true,
+            KnownStop::Missing | KnownStop::Left => false,
+        }
+    }
+
+    /// Whether it stopped at a transition that is not cached.
+    pub(super) fn is_missing(&self) -> bool
+        ensures { result ≡ true → self.now.stop ≡ KnownStop.Missing }
+    {
+        match self.stop {
+            KnownStop::Missing => true,
+            KnownStop::Ended | KnownStop::Left => false,
         }
     }
 }
@@ -113,6 +132,7 @@ impl DFA {
             (next (tape_in way input.now) at) cache.now cache.now result }
         ensures below { result < unknown_id
             → unit_class self.now (next (tape_in way input.now) at) < self.now.stride }
+        ensures met { unknown_id ≤ result → unknown_id ≤ met }
     {
         if met.is_unknown() {
             if at < last_place(input) {
@@ -135,31 +155,37 @@ impl DFA {
     ) -> Known
         requires of { IsCacheOf cache.now self.now }
         requires at { IsUnderway way self.now cache.now.store.table input.now 0 start None }
-        ensures ended { result.ended ≡ true
+        ensures ended { result.stop ≡ KnownStop.Ended
             → IsKnownEnd way self.now cache.now input.now result.at result.id result.found }
-        ensures left { result.ended ≡ false
+        ensures left { (result.stop ≡ KnownStop.Ended → ⊥)
             → IsKnownUpto way self.now cache.now.store input.now result.at result.id result.found }
+        ensures missing { result.stop ≡ KnownStop.Missing
+            → IsNextCell way self.now cache.now.store input.now result.at result.id unknown_id }
     {
         cache.see_bounds();
         let last = last_place(input);
-        let run = self.run(cache, input, way, 0, start, None, last.min(FIRST_RUN));
+        let end = last.min(FIRST_RUN);
+        let run = self.run(cache, input, way, 0, start, None, end);
         let next = self.known_next(cache, input, way, run.at, run.id, run.next);
         if next.is_unknown() {
-            return Known::left(run.at, run.id, run.found);
+            if run.at < end {
+                return Known::new(KnownStop::Missing, run.at, run.id, run.found);
+            }
+            return Known::new(KnownStop::Left, run.at, run.id, run.found);
         }
         if next.is_dead() {
-            return Known::ended(run.at, run.id, run.found);
+            return Known::new(KnownStop::Ended, run.at, run.id, run.found);
         }
         if next.is_quit() {
-            return Known::left(run.at, run.id, run.found);
+            return Known::new(KnownStop::Left, run.at, run.id, run.found);
         }
         let found = self.found_at(cache, next, place_offset(input, way, run.at), run.found);
         if run.at >= last {
-            return Known::ended(run.at, run.id, found);
+            return Known::new(KnownStop::Ended, run.at, run.id, found);
         }
         if input.get_earliest() && found.is_some() {
-            return Known::ended(run.at, run.id, found);
+            return Known::new(KnownStop::Ended, run.at, run.id, found);
         }
-        Known::left(run.at + 1, next, found)
+        Known::new(KnownStop::Left, run.at + 1, next, found)
     }
 }

@@ -8,7 +8,7 @@ ghost use Rattle.automata_hybrid.specs.Cache.Leaps.{AreLeaps};
 ghost use Rattle.automata_hybrid.specs.Cache.Table.{IsRowId, Names};
 ghost use Rattle.automata_hybrid.specs.Searches.Leaps.{IsLeapt, LeadsIds, column_of};
 ghost use Rattle.automata_hybrid.specs.Searches.PassContracts.{FollowsTo, MayBegin, input_at};
-ghost use Rattle.automata_hybrid.specs.Searches.PassState.{IsMet, IsRun, IsTagAt};
+ghost use Rattle.automata_hybrid.specs.Searches.PassState.{IsMet, IsNextCell, IsRun, IsTagAt};
 ghost use Rattle.automata_hybrid.specs.Searches.Passes.{state_in};
 ghost use Rattle.automata_hybrid.specs.Searches.SelfLoops.{byte_in};
 
@@ -85,6 +85,8 @@ impl DFA {
         requires near { FollowsTo way self.now cache.old.store input.now 0 near.at near }
         ensures same { cache.new ≡ cache.old }
         ensures far { FollowsTo way self.now cache.new.store input.now 0 near.at result }
+        ensures read { result.at < input.now.end - input.now.start
+            → IsNextCell way self.now cache.new.store input.now result.at result.id result.next }
     {
         let far = self.follow_far(
             cache,
@@ -247,6 +249,8 @@ impl DFA {
         ensures within { result.at ≤ input.now.end - input.now.start }
         ensures run { IsRun way self.now cache.now.store input.now 0 start result.at result.id }
         ensures met { IsMet way self.now cache.now.store input.now result.at result.id result.next }
+        ensures read { result.at < input.now.end - input.now.start
+            → IsNextCell way self.now cache.now.store input.now result.at result.id result.next }
     {
         self.see_machine();
         cache.see_bounds();
@@ -269,7 +273,7 @@ impl DFA {
         Stop {
             at,
             id,
-            next: LazyStateID::UNKNOWN,
+            next: self.next_known(cache, input, way, at, id, last),
         }
     }
 
@@ -292,6 +296,8 @@ impl DFA {
         ensures within { result.at ≤ input.now.end - input.now.start }
         ensures run { IsRun way self.now cache.now.store input.now 0 start result.at result.id }
         ensures met { IsMet way self.now cache.now.store input.now result.at result.id result.next }
+        ensures read { result.at < input.now.end - input.now.start
+            → IsNextCell way self.now cache.now.store input.now result.at result.id result.next }
     {
         match way {
             Direction::Forward => {
@@ -325,6 +331,9 @@ impl DFA {
         ensures same { cache.new ≡ cache.old }
         ensures far { FollowsTo way self.now cache.old.store
             (input_at haystack.now span anchored earliest) 0 start result }
+        ensures read { result.at < span.end - span.start
+            → IsNextCell way self.now cache.old.store
+            (input_at haystack.now span anchored earliest) result.at result.id result.next }
     {
         cache.prepare_leaps(self);
         let own = input_of(haystack, span, anchored, earliest);
@@ -345,7 +354,9 @@ impl DFA {
         requires open { input.now.start ≤ input.now.end }
         requires within { start ≤ input.now.end - input.now.start }
         requires named { Names cache.now.store.table from (state_in way self.now input.now start) }
-        ensures { FollowsTo way self.now cache.now.store input.now 0 start result }
+        ensures far { FollowsTo way self.now cache.now.store input.now 0 start result }
+        ensures read { result.at < input.now.end - input.now.start
+            → IsNextCell way self.now cache.now.store input.now result.at result.id result.next }
     {
         if from.has_only(0) {
             if let Some(leaps) = cache.leaps() {
@@ -355,7 +366,7 @@ impl DFA {
         Stop {
             at: start,
             id: from,
-            next: LazyStateID::UNKNOWN,
+            next: self.next_known(cache, input, way, start, from, last_place(input)),
         }
     }
 }

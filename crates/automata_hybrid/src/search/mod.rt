@@ -17,7 +17,7 @@ ghost use Rattle.automata_hybrid.specs.Calls.Steps.{IsStepRun};
 ghost use Rattle.automata_hybrid.specs.Searches.Passes.{Skips};
 ghost use Rattle.automata_base.specs.declared.util.search.MatchErrorKind.TheVariants.{Quit as QuitAt};
 ghost use Rattle.automata_hybrid.specs.Cache.Ids.{unknown_id, HasMatchTag};
-ghost use Rattle.automata_hybrid.specs.Steps.Steps.{IsStepAnswer, known_step};
+ghost use Rattle.automata_hybrid.specs.Steps.Steps.{IsCellRead, IsStepAnswer, known_step};
 ghost use Rattle.automata_hybrid.specs.Cache.Table.{IsRowId, Leads, Names};
 
 mod advance;
@@ -114,47 +114,50 @@ impl DFA {
         }
     }
 
-    /// Takes one step over `byte`. `met` is the next ID if the caller has seen it, and else unknown.
+    /// Takes one step over `byte`, after which `cell` stands in the row: a step that is not cached is computed.
     // It has no `inline(always)`: each one makes `search` grow, until the compiler drops the mark of that.
     fn step_met(
         &self,
         cache: &mut Cache,
         id: LazyStateID,
-        met: LazyStateID,
+        cell: LazyStateID,
         byte: u8,
         at: usize,
     ) -> Result<LazyStateID, SearchError>
         requires of { IsCacheOf cache.old self.now }
         requires valid { IsRowId cache.old.store.table id }
-        requires met { met < unknown_id → met ≡ known_step self.now cache.old.store id (Some byte) }
+        requires cell { IsCellRead self.now cache.old.store id (Some byte) cell }
         ensures of { IsCacheOf cache.new self.now }
         ensures answer { IfOk result (IsStepAnswer self.now id (Some byte) cache.old cache.new) }
         ensures refusal { IfErr result (StepFailsAt self.now id (Some byte) at cache.old cache.new) }
         ensures run { OnOk result (IsStepRun self.now id (Some byte) cache.old cache.new) }
     {
-        if met.is_unknown() {
-            return self.step(cache, id, byte, at);
-        }
         cache.see_bounds();
         let _cell = cache.cell(id, self.class_of(byte));
-        Ok(met)
+        if !cell.is_unknown() {
+            return Ok(cell);
+        }
+        match cache.compute_next(self, id, Some(byte)) {
+            Ok(next) => Ok(next),
+            Err(error) => Err(step_error(error, at)),
+        }
     }
 
-    /// Takes one step over `byte` and moves the search there. `met` is the next ID if the caller has seen it, and else
-    /// unknown. A quit byte ends the search, and is an error at its own offset.
+    /// Takes one step over `byte`, after which `cell` stands in the row, and moves the search there. A quit byte ends the
+    /// search, and is an error at its own offset.
     #[inline(always)]
     fn read_met(
         &self,
         cache: &mut Cache,
         id: LazyStateID,
-        met: LazyStateID,
+        cell: LazyStateID,
         byte: u8,
         quit_at: usize,
         at: usize,
     ) -> Result<LazyStateID, SearchError>
         requires of { IsCacheOf cache.old self.now }
         requires valid { IsRowId cache.old.store.table id }
-        requires met { met < unknown_id → met ≡ known_step self.now cache.old.store id (Some byte) }
+        requires cell { IsCellRead self.now cache.old.store id (Some byte) cell }
         ensures of { IsCacheOf cache.new self.now }
         ensures answer { IfOk result (IsReadAnswer self.now id (Some byte) cache.old cache.new) }
         ensures refusal { IfErr result (ReadFails self.now id (Some byte) quit_at at cache.old cache.new) }
@@ -164,13 +167,33 @@ impl DFA {
         self.see_machine();
         cache.see_bounds();
         cache.move_search(at);
-        let next = self.step_met(cache, id, met, byte, at)?;
+        let next = self.step_met(cache, id, cell, byte, at)?;
         cache.see_bounds();
         if next.is_quit() {
             cache.end_search(at);
             return Err(quit(byte, quit_at));
         }
         Ok(next)
+    }
+
+    /// The ID after a byte: the one that was met, or if none was, what stands in the row.
+    #[inline(always)]
+    fn met_or_cell(
+        &self,
+        cache: &Cache,
+        id: LazyStateID,
+        met: LazyStateID,
+        byte: u8,
+    ) -> LazyStateID
+        requires of { IsCacheOf cache.now self.now }
+        requires valid { IsRowId cache.now.store.table id }
+        requires met { met < unknown_id → met ≡ known_step self.now cache.now.store id (Some byte) }
+        ensures { IsCellRead self.now cache.now.store id (Some byte) result }
+    {
+        if met.is_unknown() {
+            return self.next_state_known(cache, id, byte);
+        }
+        met
     }
 
     /// The state after a unit, to which the search moves. `met` is the next ID if the caller has seen it, and else
@@ -195,7 +218,10 @@ impl DFA {
             (with_progress (End at) cache.old) cache.new result }
     {
         match unit {
-            Some(byte) => self.read_met(cache, id, met, byte, quit_at, at),
+            Some(byte) => {
+                let cell = self.met_or_cell(cache, id, met, byte);
+                self.read_met(cache, id, cell, byte, quit_at, at)
+            }
             None => {
                 cache.move_search(at);
                 self.read_end(cache, id, at)

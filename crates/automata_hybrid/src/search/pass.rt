@@ -1,16 +1,17 @@
 //! One run over the span of an input, in either direction.
-ghost use Rattle.std.specs.Prelude.{ℕ, ◌≡◌, ◌-◌, ◌<◌, ◌≤◌, IfOk, IfErr, OnOk};
+ghost use Rattle.std.specs.Prelude.{true, ℕ, ◌≡◌, ◌-◌, ◌<◌, ◌≤◌, IfOk, IfErr, OnOk};
 ghost use Rattle.std.specs.Prelude.{None, Err};
 ghost use Rattle.std.specs.Result.{result_err};
 ghost use Rattle.automata_base.specs.Haystacks.Input.{Allows};
 ghost use Rattle.automata_base.specs.Paths.Paths.{next};
 ghost use Rattle.automata_base.specs.Powersets.Powerset.{Powerset, dead};
+ghost use Rattle.automata_hybrid.specs.Cache.Ids.{unknown_id};
 ghost use Rattle.automata_hybrid.specs.Cache.Caches.{IsCacheOf};
 ghost use Rattle.automata_hybrid.specs.Searches.Contracts.{IsUnsupported, unsupported_error};
 ghost use Rattle.automata_hybrid.specs.Searches.PassContracts.{IsKnownUpto, IsPassAnswer};
 ghost use Rattle.automata_hybrid.specs.Searches.PassContracts.{IsTakenUp, half_from};
 ghost use Rattle.automata_hybrid.specs.Searches.PassContracts.{IsUnderway, input_at};
-ghost use Rattle.automata_hybrid.specs.Searches.PassState.{IsAt};
+ghost use Rattle.automata_hybrid.specs.Searches.PassState.{IsAt, IsNextCell};
 ghost use Rattle.automata_hybrid.specs.Searches.PassContracts.{RunsTo};
 ghost use Rattle.automata_hybrid.specs.Searches.Units.{IsEndProgress, IsStillProgress};
 ghost use Rattle.automata_hybrid.specs.Searches.Progress.{EndsAtLast, IsPassRun, IsStoppedAt, KeepsNone};
@@ -124,7 +125,7 @@ impl DFA {
             };
         }
         let known = self.known_pass(cache, input, way, start);
-        if known.ended {
+        if known.has_ended() {
             cache.count_search(bytes_read(input, way, known.at));
             return Ok(known.found);
         }
@@ -139,6 +140,7 @@ impl DFA {
             way,
             known.at,
             known.id,
+            known.is_missing(),
             before.0,
             before.1,
             before.2,
@@ -218,6 +220,7 @@ impl DFA {
             0,
             start,
             false,
+            false,
             PatternID::ZERO,
             0,
         )?;
@@ -243,7 +246,9 @@ impl DFA {
         requires within { start ≤ input.now.end - input.now.start }
         requires upto { end ≤ input.now.end - input.now.start }
         requires at { IsAt way self.now cache.now.store.table input.now start from found }
-        ensures { RunsTo way self.now cache.now.store input.now start result }
+        ensures runs { RunsTo way self.now cache.now.store input.now start result }
+        ensures read { result.at < end
+            → IsNextCell way self.now cache.now.store input.now result.at result.id result.next }
     {
         let quiet = self.follow(cache, input, way, start, from, 0, end);
         if input.get_earliest() {
@@ -286,6 +291,7 @@ impl DFA {
         way: Direction,
         from: usize,
         start: LazyStateID,
+        missing: bool,
         has: bool,
         pattern: PatternID,
         offset: usize,
@@ -293,6 +299,8 @@ impl DFA {
         requires of { IsCacheOf cache.old self.now }
         requires at { IsTakenUp way self.now cache.old.store
             (input_at haystack.now span anchored earliest) from start (half_from has pattern offset) }
+        requires missing { missing ≡ true → IsNextCell way self.now cache.old.store
+            (input_at haystack.now span anchored earliest) from start unknown_id }
         ensures of { IsCacheOf cache.new self.now }
         ensures answer { IfOk result (IsPassAnswer way self.now
             (input_at haystack.now span anchored earliest)) }
@@ -302,27 +310,37 @@ impl DFA {
             (input_at haystack.now span anchored earliest) cache.old cache.new) }
     {
         let own = input_of(haystack, span, anchored, earliest);
-        let before = half_from(has, pattern, offset);
+        let next = if missing {
+            LazyStateID::UNKNOWN
+        } else {
+            self.next_known(cache, &own, way, from, start, last_place(&own))
+        };
+        let place = Place {
+            at: from,
+            id: start,
+            found: half_from(has, pattern, offset),
+            next,
+        };
         match way {
-            Direction::Forward => self.find(cache, &own, Direction::Forward, from, start, before),
-            Direction::Backward => self.find(cache, &own, Direction::Backward, from, start, before),
+            Direction::Forward => self.find(cache, &own, Direction::Forward, place),
+            Direction::Backward => self.find(cache, &own, Direction::Backward, place),
         }
     }
 
     /// What the rest of a pass finds, from a place that it has reached, in a direction that is known where this is
-    /// inlined.
+    /// inlined. It begins with the step at that place, where it has not come to the end of the span.
     #[inline(always)]
     fn find(
         &self,
         cache: &mut Cache,
         input: &Input<'_>,
         way: Direction,
-        from: usize,
-        start: LazyStateID,
-        before: Option<HalfMatch>,
+        from: Place,
     ) -> Result<Option<HalfMatch>, SearchError>
         requires of { IsCacheOf cache.old self.now }
-        requires at { IsKnownUpto way self.now cache.old.store input.now from start before }
+        requires at { IsKnownUpto way self.now cache.old.store input.now from.at from.id from.found }
+        requires next { from.at < input.now.end - input.now.start
+            → IsNextCell way self.now cache.old.store input.now from.at from.id from.next }
         ensures of { IsCacheOf cache.new self.now }
         ensures answer { IfOk result (IsPassAnswer way self.now input.now) }
         ensures ended { OnOk result (EndsAtLast way self.now input.now cache.old cache.new) }
@@ -330,17 +348,9 @@ impl DFA {
     {
         cache.see_bounds();
         let last = last_place(input);
-        let mut at = from;
-        let mut id = start;
-        let mut found = before;
-        let mut end = near_end(cache, from, last);
-        while at < last {
-            let near = self.run(cache, input, way, at, id, found, end);
-            let (run, due) = self.go_far(cache, input, way, near, end);
-            end = due;
-            if run.at >= last {
-                return self.find_end(cache, input, way, run.id, run.found);
-            }
+        let mut run = from;
+        let mut end = near_end(cache, run.at, last);
+        while run.at < last {
             let offset = byte_offset(input, way, run.at);
             let byte = byte_at(input, way, run.at);
             let next = match self.read_met(cache, run.id, run.next, byte, offset, offset) {
@@ -352,15 +362,17 @@ impl DFA {
                 cache.end_search(offset);
                 return Ok(run.found);
             }
-            found = self.found_at(cache, next, place_offset(input, way, run.at), run.found);
+            let found = self.found_at(cache, next, place_offset(input, way, run.at), run.found);
             if input.get_earliest() && found.is_some() {
                 cache.end_search(offset);
                 return Ok(found);
             }
-            id = next;
-            at = run.at + 1;
+            let near = self.run(cache, input, way, run.at + 1, next, found, end);
+            let (far, due) = self.go_far(cache, input, way, near, end);
+            run = far;
+            end = due;
         }
-        self.find_end(cache, input, way, id, found)
+        self.find_end(cache, input, way, run.id, run.found)
     }
 
     /// Goes on by leaps, where a run has come to the place where it looks for them; and the place where it looks for them
@@ -378,9 +390,13 @@ impl DFA {
         requires open { input.now.start ≤ input.now.end }
         requires upto { end ≤ input.now.end - input.now.start }
         requires runs { (from : ℕ) × RunsTo way self.now cache.old.store input.now from near }
+        requires read { near.at < end
+            → IsNextCell way self.now cache.old.store input.now near.at near.id near.next }
         ensures same { cache.new ≡ cache.old }
         ensures runs { (from : ℕ) → RunsTo way self.now cache.old.store input.now from near
             → RunsTo way self.now cache.new.store input.now from result.0 }
+        ensures read { result.0.at < input.now.end - input.now.start → IsNextCell way self.now cache.new.store
+            input.now result.0.at result.0.id result.0.next }
         ensures upto { result.1 ≤ input.now.end - input.now.start }
     {
         let last = last_place(input);

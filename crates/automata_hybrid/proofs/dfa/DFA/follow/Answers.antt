@@ -1,11 +1,16 @@
 use Rattle.std.proofs.Common.{◌∙◌, sym, arith}
 use Rattle.automata_hybrid.proofs.Searches.PassState.{false_true}
-use Rattle.automata_hybrid.proofs.Searches.Runs.{run_at, run_none, run_on}
+use Rattle.automata_hybrid.proofs.Searches.Runs.{followed_none, run_at, run_none, run_on}
 use Rattle.automata_hybrid.proofs.Searches.SelfLoops.{run_loop}
 use Rattle.automata_hybrid.proofs.dfa.DFA.follow.Goals as goal
 
 pub returns-then-not-has_only-clause-to : goal.returns-then-not-has_only-clause-to
-returns-then-not-has_only-clause-to c = c.stay.ensures c.args.tag
+returns-then-not-has_only-clause-to c =
+    record {
+      within = c.requires.within;
+      followed = followed_none c.args.way c.args.self.now c.args.cache.now.store c.args.input.now c.args.tag c.args.start c.args.from c.requires.named;
+      met = c.next_known.ensures.met;
+    }
 
 pub returns-then-not-has_only-clause-only : goal.returns-then-not-has_only-clause-only
 returns-then-not-has_only-clause-only c = λ only. absurd (false_true (sym c.if-not-has_only.true ∙ c.has_only.ensures.1 only))
@@ -60,6 +65,10 @@ returns-then-eight-at-clause-to c =
       followed = (run_on c.eights.invariant.run c.follow_eight-eight.ensures.run).followed;
       met = c.follow_eight-eight.ensures.met;
     }
+
+pub returns-then-eight-at-clause-read : goal.returns-then-eight-at-clause-read
+returns-then-eight-at-clause-read c = λ less.
+    c.follow_eight-eight.ensures.read (omega (arith, c.if-eight-at.true, c.follow_eight-eight.ensures.upto))
 
 pub returns-then-eight-at-clause-only : goal.returns-then-eight-at-clause-only
 returns-then-eight-at-clause-only c = λ only. c.follow_eight-eight.ensures.run.only

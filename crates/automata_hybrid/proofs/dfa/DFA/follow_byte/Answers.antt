@@ -6,7 +6,7 @@ use Rattle.automata_hybrid.specs.Cache.Table.{IsCell, IsRowId, Names, Rows, cell
 use Rattle.std.specs.Prelude.{slice_index}
 use Rattle.automata_hybrid.specs.Machines.Machine.{Machine}
 use Rattle.automata_hybrid.specs.Searches.PassState.{IsMet}
-use Rattle.automata_hybrid.proofs.Searches.Runs.{met_at}
+use Rattle.automata_hybrid.proofs.Searches.Runs.{met_at, next_cell}
 use Rattle.automata_hybrid.proofs.Steps.Steps.{cell_leads, cell_quits}
 use Rattle.automata_hybrid.proofs.dfa.DFA.follow_byte.Goals as goal
 use Rattle.automata_hybrid.proofs.dfa.DFA.follow_byte.Goals.{After-cell_in_row}
@@ -39,6 +39,13 @@ met c =
     c.class_of-class.ensures.value c.class_of-class.ensures.small c.class_of-class.ensures.quit c.class_of-class.ensures.free value cell
     (omega arith))
     c.requires.at.named
+
+pub returns-clause-read : goal.returns-clause-read
+returns-clause-read c =
+    let value : c.cell_in_row.result ≡ cell_of c.args.cache.now.store c.args.id c.class_of-class.result =
+    c.cell_in_row.ensures.value ∙ ap (λ (t : Rows). slice_index t.cells (cell_at c.args.id c.class_of-class.result)) c.table.ensures in
+    next_cell c.args.way c.args.self.now c.args.cache.now.store c.args.input.now c.args.place c.args.id c.cell_in_row.result c.byte_at.result
+    c.byte_at.ensures (value ∙ ap (cell_of c.args.cache.now.store c.args.id) c.class_of-class.ensures.value)
 
 pub returns-clause-run : goal.returns-clause-run
 returns-clause-run c = λ only. (met c (omega (arith, only.below, c.requires.at.kind.upto))).run c.args.tag c.requires.at.kind only

@@ -39,3 +39,6 @@ returns-then-few-end-clause-met c = c.follow-few.ensures.to.met
 
 pub returns-clause-run : goal.returns-clause-run
 returns-clause-run c = c.turns.invariant.run
+
+pub next_known-requires-clause-named : goal.next_known-requires-clause-named
+next_known-requires-clause-named c = c.turns.invariant.run.followed.named

@@ -8,6 +8,7 @@ use Rattle.automata_hybrid.proofs.Searches.Directions.{units_in}
 use Rattle.automata_hybrid.proofs.Searches.KnownPasses.{known_dead, known_first, known_last, known_leads, known_more}
 use Rattle.automata_hybrid.proofs.Searches.PassState.{false_true, none_is, some_is}
 use Rattle.automata_hybrid.proofs.Steps.Ids.{dead_clear}
+use Rattle.automata_hybrid.specs.declared.search.known.KnownStop.TheVariants.{Ended}
 use Rattle.automata_hybrid.proofs.dfa.DFA.known_pass.Goals as goal
 use Rattle.automata_hybrid.proofs.dfa.DFA.known_pass.Goals.{else-get_earliest-via-then-get_earliest+else-is_some}
 use Rattle.automata_hybrid.proofs.dfa.DFA.known_pass.Goals.{else-get_earliest-via-else-get_earliest}
@@ -18,9 +19,9 @@ found_at-found-requires-clause-leads c =
     let k : ℕ = c.run-run.result.at in
     let low : c.known_next-next.result < 2 ^ 31 = grind (arith, common_steps, c.if-is_unknown.ensures.size) in
     let upto : IsKnownUpto d c.args.self.now c.args.cache.now.store c.args.input.now k c.run-run.result.id c.run-run.result.found = record {
-      within = c.run-run.ensures.run.within;
-      at = record { undone = c.requires.at.undone; may = c.requires.at.may; at = c.run-run.ensures.at };
-      known = λ j below. c.run-run.ensures.run.known j (omega arith) below;
+      within = c.run-run.ensures.runs.run.within;
+      at = record { undone = c.requires.at.undone; may = c.requires.at.may; at = c.run-run.ensures.runs.at };
+      known = λ j below. c.run-run.ensures.runs.run.known j (omega arith) below;
     } in
     let few : k ≤ length (tape_in d c.args.input.now).bytes = (let u = units_in d c.args.input.now c.requires.at.undone c.last_place-last.ensures.inside in omega (arith, u, upto.within)) in
     (_, known_leads d c.args.self.now c.args.input.now k c.run-run.result.id c.args.cache.now c.run-run.result.found c.known_next-next.result c.requires.of c.see_bounds.ensures.sound upto few (subst (λ n. n < 2 ^ 31) (c.known_next-next.ensures.value low) low) (c.known_next-next.ensures.answer low) (c.known_next-next.ensures.below low) (λ b. false_true (c.if-is_quit.ensures.1 b)))
@@ -31,12 +32,12 @@ returns-then-is_dead-clause-ended c =
     let k : ℕ = c.run-run.result.at in
     let low : c.known_next-next.result < 2 ^ 31 = grind (arith, common_steps, c.if-is_unknown.ensures.size) in
     let upto : IsKnownUpto d c.args.self.now c.args.cache.now.store c.args.input.now k c.run-run.result.id c.run-run.result.found = record {
-      within = c.run-run.ensures.run.within;
-      at = record { undone = c.requires.at.undone; may = c.requires.at.may; at = c.run-run.ensures.at };
-      known = λ j below. c.run-run.ensures.run.known j (omega arith) below;
+      within = c.run-run.ensures.runs.run.within;
+      at = record { undone = c.requires.at.undone; may = c.requires.at.may; at = c.run-run.ensures.runs.at };
+      known = λ j below. c.run-run.ensures.runs.run.known j (omega arith) below;
     } in
     let few : k ≤ length (tape_in d c.args.input.now).bytes = (let u = units_in d c.args.input.now c.requires.at.undone c.last_place-last.ensures.inside in omega (arith, u, upto.within)) in
-    subst (λ (r : Known). r.ended ≡ true → IsKnownEnd d c.args.self.now c.args.cache.now c.args.input.now r.at r.id r.found) (sym c.ended.ensures)
+    subst (λ (r : Known). r.stop ≡ Ended → IsKnownEnd d c.args.self.now c.args.cache.now c.args.input.now r.at r.id r.found) (sym c.new-then-is_dead.ensures)
     (λ _. known_dead d c.args.self.now c.args.input.now k c.run-run.result.id c.args.cache.now c.run-run.result.found c.known_next-next.result c.requires.of c.see_bounds.ensures.sound upto few (subst (λ n. n < 2 ^ 31) (c.known_next-next.ensures.value low) low) (c.known_next-next.ensures.answer low) (c.known_next-next.ensures.below low) (dead_clear c.args.cache.now c.known_next-next.result (c.known_next-next.ensures.answer low).row (c.see_bounds.ensures.sound.low c.known_next-next.result) c.see_bounds.ensures.sound.small (c.if-is_dead.ensures.0 refl)) (c.if-is_dead.ensures.0 refl))
 
 pub returns-then-run-last-clause-ended : goal.returns-then-run-last-clause-ended
@@ -45,12 +46,12 @@ returns-then-run-last-clause-ended c =
     let k : ℕ = c.run-run.result.at in
     let low : c.known_next-next.result < 2 ^ 31 = grind (arith, common_steps, c.if-is_unknown.ensures.size) in
     let upto : IsKnownUpto d c.args.self.now c.args.cache.now.store c.args.input.now k c.run-run.result.id c.run-run.result.found = record {
-      within = c.run-run.ensures.run.within;
-      at = record { undone = c.requires.at.undone; may = c.requires.at.may; at = c.run-run.ensures.at };
-      known = λ j below. c.run-run.ensures.run.known j (omega arith) below;
+      within = c.run-run.ensures.runs.run.within;
+      at = record { undone = c.requires.at.undone; may = c.requires.at.may; at = c.run-run.ensures.runs.at };
+      known = λ j below. c.run-run.ensures.runs.run.known j (omega arith) below;
     } in
     let few : k ≤ length (tape_in d c.args.input.now).bytes = (let u = units_in d c.args.input.now c.requires.at.undone c.last_place-last.ensures.inside in omega (arith, u, upto.within)) in
-    subst (λ (r : Known). r.ended ≡ true → IsKnownEnd d c.args.self.now c.args.cache.now c.args.input.now r.at r.id r.found) (sym c.ended-then-run-last.ensures)
+    subst (λ (r : Known). r.stop ≡ Ended → IsKnownEnd d c.args.self.now c.args.cache.now c.args.input.now r.at r.id r.found) (sym c.new-then-run-last.ensures)
     (λ _. known_last d c.args.self.now c.args.input.now k c.run-run.result.id c.args.cache.now c.run-run.result.found c.known_next-next.result c.requires.of c.see_bounds.ensures.sound upto few (subst (λ n. n < 2 ^ 31) (c.known_next-next.ensures.value low) low) (c.known_next-next.ensures.answer low) (c.known_next-next.ensures.below low) (λ b. false_true (c.if-is_quit.ensures.1 b)) c.found_at-found.result c.place_offset.result c.place_offset.ensures.value c.found_at-found.ensures (let u = units_in d c.args.input.now c.requires.at.undone c.last_place-last.ensures.inside in omega (arith, u, upto.within, c.if-run-last.true, c.last_place-last.ensures.place)))
 
 pub returns-then-is_some-clause-ended : goal.returns-then-is_some-clause-ended
@@ -59,12 +60,12 @@ returns-then-is_some-clause-ended c =
     let k : ℕ = c.run-run.result.at in
     let low : c.known_next-next.result < 2 ^ 31 = grind (arith, common_steps, c.if-is_unknown.ensures.size) in
     let upto : IsKnownUpto d c.args.self.now c.args.cache.now.store c.args.input.now k c.run-run.result.id c.run-run.result.found = record {
-      within = c.run-run.ensures.run.within;
-      at = record { undone = c.requires.at.undone; may = c.requires.at.may; at = c.run-run.ensures.at };
-      known = λ j below. c.run-run.ensures.run.known j (omega arith) below;
+      within = c.run-run.ensures.runs.run.within;
+      at = record { undone = c.requires.at.undone; may = c.requires.at.may; at = c.run-run.ensures.runs.at };
+      known = λ j below. c.run-run.ensures.runs.run.known j (omega arith) below;
     } in
     let few : k ≤ length (tape_in d c.args.input.now).bytes = (let u = units_in d c.args.input.now c.requires.at.undone c.last_place-last.ensures.inside in omega (arith, u, upto.within)) in
-    subst (λ (r : Known). r.ended ≡ true → IsKnownEnd d c.args.self.now c.args.cache.now c.args.input.now r.at r.id r.found) (sym c.ended-then-is_some.ensures)
+    subst (λ (r : Known). r.stop ≡ Ended → IsKnownEnd d c.args.self.now c.args.cache.now c.args.input.now r.at r.id r.found) (sym c.new-then-is_some.ensures)
     (λ _. known_first d c.args.self.now c.args.input.now k c.run-run.result.id c.args.cache.now c.run-run.result.found c.known_next-next.result c.requires.of c.see_bounds.ensures.sound upto few (subst (λ n. n < 2 ^ 31) (c.known_next-next.ensures.value low) low) (c.known_next-next.ensures.answer low) (c.known_next-next.ensures.below low) (λ b. false_true (c.if-is_quit.ensures.1 b)) c.found_at-found.result c.place_offset.result c.place_offset.ensures.value c.found_at-found.ensures (sym c.get_earliest.ensures ∙ c.if-get_earliest.true) (some_is c.found_at-found.result c.if-is_some.ensures))
 
 pub returns-clause-left : goal.returns-clause-left
@@ -73,9 +74,9 @@ returns-clause-left c =
     let k : ℕ = c.run-run.result.at in
     let low : c.known_next-next.result < 2 ^ 31 = grind (arith, common_steps, c.if-is_unknown.ensures.size) in
     let upto : IsKnownUpto d c.args.self.now c.args.cache.now.store c.args.input.now k c.run-run.result.id c.run-run.result.found = record {
-      within = c.run-run.ensures.run.within;
-      at = record { undone = c.requires.at.undone; may = c.requires.at.may; at = c.run-run.ensures.at };
-      known = λ j below. c.run-run.ensures.run.known j (omega arith) below;
+      within = c.run-run.ensures.runs.run.within;
+      at = record { undone = c.requires.at.undone; may = c.requires.at.may; at = c.run-run.ensures.runs.at };
+      known = λ j below. c.run-run.ensures.runs.run.known j (omega arith) below;
     } in
     let few : k ≤ length (tape_in d c.args.input.now).bytes = (let u = units_in d c.args.input.now c.requires.at.undone c.last_place-last.ensures.inside in omega (arith, u, upto.within)) in
     let less : k < c.args.input.now.end - c.args.input.now.start = omega (arith, c.if-run-last.false, c.last_place-last.ensures.place) in
@@ -85,7 +86,7 @@ returns-clause-left c =
       | else-get_earliest-via-then-get_earliest+else-is_some w ↦ λ e. none_is c.found_at-found.result (sym w.is_some.ensures ∙ w.if-is_some.false)
       | else-get_earliest-via-else-get_earliest w ↦ λ e. absurd (false_true (sym w.if-get_earliest.false ∙ (c.get_earliest.ensures ∙ e)))
     ] in
-    subst (λ (r : Known). r.ended ≡ false → IsKnownUpto d c.args.self.now c.args.cache.now.store c.args.input.now r.at r.id r.found) (sym c.left-2.ensures)
+    subst (λ (r : Known). (r.stop ≡ Ended → ⊥) → IsKnownUpto d c.args.self.now c.args.cache.now.store c.args.input.now r.at r.id r.found) (sym c.new-2.ensures)
     (λ _. subst (λ n. IsKnownUpto d c.args.self.now c.args.cache.now.store c.args.input.now n c.known_next-next.result c.found_at-found.result) more
     (known_more d c.args.self.now c.args.input.now k c.run-run.result.id c.args.cache.now c.run-run.result.found c.known_next-next.result c.requires.of c.see_bounds.ensures.sound upto few (subst (λ n. n < 2 ^ 31) (c.known_next-next.ensures.value low) low) (c.known_next-next.ensures.answer low) (c.known_next-next.ensures.below low) (λ b. false_true (c.if-is_quit.ensures.1 b)) c.found_at-found.result c.place_offset.result c.place_offset.ensures.value c.found_at-found.ensures (λ b. false_true (c.if-is_dead.ensures.1 b)) first less))
 
@@ -93,18 +94,28 @@ pub returns-then-is_unknown-clause-left : goal.returns-then-is_unknown-clause-le
 returns-then-is_unknown-clause-left c =
     let d : Direction = c.args.way in
     let upto : IsKnownUpto d c.args.self.now c.args.cache.now.store c.args.input.now c.run-run.result.at c.run-run.result.id c.run-run.result.found = record {
-      within = c.run-run.ensures.run.within;
-      at = record { undone = c.requires.at.undone; may = c.requires.at.may; at = c.run-run.ensures.at };
-      known = λ j below. c.run-run.ensures.run.known j (omega arith) below;
+      within = c.run-run.ensures.runs.run.within;
+      at = record { undone = c.requires.at.undone; may = c.requires.at.may; at = c.run-run.ensures.runs.at };
+      known = λ j below. c.run-run.ensures.runs.run.known j (omega arith) below;
     } in
-    subst (λ (r : Known). r.ended ≡ false → IsKnownUpto d c.args.self.now c.args.cache.now.store c.args.input.now r.at r.id r.found) (sym c.left.ensures) (λ _. upto)
+    subst (λ (r : Known). (r.stop ≡ Ended → ⊥) → IsKnownUpto d c.args.self.now c.args.cache.now.store c.args.input.now r.at r.id r.found) (sym c.new-then-is_unknown.ensures) (λ _. upto)
+
+pub returns-then-run-end-clause-left : goal.returns-then-run-end-clause-left
+returns-then-run-end-clause-left c =
+    let d : Direction = c.args.way in
+    let upto : IsKnownUpto d c.args.self.now c.args.cache.now.store c.args.input.now c.run-run.result.at c.run-run.result.id c.run-run.result.found = record {
+      within = c.run-run.ensures.runs.run.within;
+      at = record { undone = c.requires.at.undone; may = c.requires.at.may; at = c.run-run.ensures.runs.at };
+      known = λ j below. c.run-run.ensures.runs.run.known j (omega arith) below;
+    } in
+    subst (λ (r : Known). (r.stop ≡ Ended → ⊥) → IsKnownUpto d c.args.self.now c.args.cache.now.store c.args.input.now r.at r.id r.found) (sym c.new.ensures) (λ _. upto)
 
 pub returns-then-is_quit-clause-left : goal.returns-then-is_quit-clause-left
 returns-then-is_quit-clause-left c =
     let d : Direction = c.args.way in
     let upto : IsKnownUpto d c.args.self.now c.args.cache.now.store c.args.input.now c.run-run.result.at c.run-run.result.id c.run-run.result.found = record {
-      within = c.run-run.ensures.run.within;
-      at = record { undone = c.requires.at.undone; may = c.requires.at.may; at = c.run-run.ensures.at };
-      known = λ j below. c.run-run.ensures.run.known j (omega arith) below;
+      within = c.run-run.ensures.runs.run.within;
+      at = record { undone = c.requires.at.undone; may = c.requires.at.may; at = c.run-run.ensures.runs.at };
+      known = λ j below. c.run-run.ensures.runs.run.known j (omega arith) below;
     } in
-    subst (λ (r : Known). r.ended ≡ false → IsKnownUpto d c.args.self.now c.args.cache.now.store c.args.input.now r.at r.id r.found) (sym c.left-then-is_quit.ensures) (λ _. upto)
+    subst (λ (r : Known). (r.stop ≡ Ended → ⊥) → IsKnownUpto d c.args.self.now c.args.cache.now.store c.args.input.now r.at r.id r.found) (sym c.new-then-is_quit.ensures) (λ _. upto)

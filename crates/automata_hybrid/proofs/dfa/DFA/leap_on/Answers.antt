@@ -1,9 +1,10 @@
-use Rattle.std.proofs.Common.{sym, subst}
+use Rattle.std.proofs.Common.{◌-◌, ◌<◌, sym, subst}
 use Rattle.automata_base.specs.declared.util.search.Direction.{Direction}
 use Rattle.automata_base.specs.Haystacks.Input.{Input, IsAllowed}
 use Rattle.automata_hybrid.specs.Cache.Caches.{CacheView}
 use Rattle.automata_hybrid.specs.Cache.Table.{Names}
 use Rattle.automata_hybrid.specs.Searches.PassContracts.{FollowsTo}
+use Rattle.automata_hybrid.specs.Searches.PassState.{IsNextCell}
 use Rattle.automata_hybrid.specs.Searches.Passes.{state_in}
 use Rattle.automata_hybrid.specs.declared.search.follow.Stop.{Stop}
 use Rattle.automata_hybrid.proofs.Searches.PassContracts.{same_input}
@@ -29,3 +30,12 @@ returns-clause-far c =
     let to : Stop = record { at = c.follow_far-far.result.at; id = c.follow_far-far.result.id; next = c.follow_far-far.result.next } in
     subst (λ (v : CacheView). FollowsTo d c.args.self.now v.store c.args.input.now 0 c.args.near.at to) (sym c.follow_far-far.ensures.same)
     (subst (λ (i : Input). FollowsTo d c.args.self.now c.args.cache.now.store i 0 c.args.near.at to) same c.follow_far-far.ensures.far)
+
+pub returns-clause-read : goal.returns-clause-read
+returns-clause-read c =
+    let same = same_input c.args.input.now c.haystack.result.now c.get_span.result c.get_anchored.result c.get_earliest.result c.haystack.ensures.same
+    c.get_span.ensures.start c.get_span.ensures.end c.get_anchored.ensures c.get_earliest.ensures in
+    let d : Direction = c.args.way in
+    subst (λ (v : CacheView). c.follow_far-far.result.at < c.args.input.now.end - c.args.input.now.start → IsNextCell d c.args.self.now v.store c.args.input.now c.follow_far-far.result.at c.follow_far-far.result.id c.follow_far-far.result.next) (sym c.follow_far-far.ensures.same)
+    (subst (λ (i : Input). c.follow_far-far.result.at < i.end - i.start → IsNextCell d c.args.self.now c.args.cache.now.store i c.follow_far-far.result.at c.follow_far-far.result.id c.follow_far-far.result.next) same c.follow_far-far.ensures.read)
+

@@ -15,6 +15,8 @@ use Rattle.automata_hybrid.proofs.Searches.PassContracts.{same_input}
 use Rattle.automata_hybrid.proofs.Searches.Contracts.{is_store}
 use Rattle.automata_hybrid.proofs.Searches.PassState.{starts_at}
 use Rattle.automata_hybrid.proofs.Steps.Ids.{low_bit}
+use Rattle.automata_hybrid.specs.Cache.Ids.{unknown_id}
+use Rattle.automata_hybrid.specs.Searches.PassState.{IsNextCell}
 use Rattle.automata_hybrid.proofs.dfa.DFA.pass.Goals as goal
 
 pub known_pass-known-requires-clause-at : goal.known_pass-known-requires-clause-at
@@ -30,12 +32,12 @@ known_pass-known-requires-clause-at c =
           (λ b. (let l : c.known_start-start.result < 2 ^ 29 = grind (arith, common_steps, c.if-is_fixed.ensures) in low_bit 30 c.known_start-start.result (omega (arith, l)) b)));
     }
 
-pub returns-then-known-clause-effect : goal.returns-then-known-clause-effect
-returns-then-known-clause-effect c =
+pub returns-then-has_ended-clause-effect : goal.returns-then-has_ended-clause-effect
+returns-then-has_ended-clause-effect c =
     let d : Direction = c.args.way in
     let low : c.known_start-start.result < 2 ^ 31 = grind (arith, common_steps, c.if-is_fixed.ensures) in
     let sound : IsStoreOf c.args.cache.now.store c.args.self.now = (is_store c.args.cache.now.store c.args.self.now c.requires.of c.see_bounds.ensures.bounds) in
-    let end = c.known_pass-known.ensures.ended c.if-known.true in
+    let end = c.known_pass-known.ensures.ended (c.has_ended.ensures.yes c.if-has_ended.true) in
     let counted = subst (λ n. c.count_search.new.self ≡ with_store c.args.cache.now (with_searched c.args.cache.now.store (record { bytes = saturated (total_len c.args.cache.now.store.searched + n); running = None })))
     c.bytes_read.ensures c.count_search.ensures.value in (
       c.args.cache.now,
@@ -46,7 +48,7 @@ returns-then-known-clause-effect c =
 pub rest-requires-clause-at : goal.rest-requires-clause-at
 rest-requires-clause-at c =
     let d : Direction = c.args.way in
-    let k : IsKnownUpto d c.args.self.now c.args.cache.now.store c.args.input.now c.known_pass-known.result.at c.known_pass-known.result.id c.known_pass-known.result.found = c.known_pass-known.ensures.left c.if-known.false in
+    let k : IsKnownUpto d c.args.self.now c.args.cache.now.store c.args.input.now c.known_pass-known.result.at c.known_pass-known.result.id c.known_pass-known.result.found = c.known_pass-known.ensures.left (c.has_ended.ensures.no c.if-has_ended.false) in
     let same = same_input c.args.input.now c.haystack-2.result.now c.get_span-2.result c.get_anchored-2.result c.get_earliest-2.result c.haystack-2.ensures.same c.get_span-2.ensures.start c.get_span-2.ensures.end c.get_anchored-2.ensures c.get_earliest-2.ensures in
     let upto =
     subst (λ (o : Option HalfMatch). IsKnownUpto d c.args.self.now c.search_start.new.self.store c.args.input.now c.known_pass-known.result.at c.known_pass-known.result.id o) (sym c.parts_of-before.ensures)
@@ -55,6 +57,15 @@ rest-requires-clause-at c =
       allowed = subst (λ (i : Input). Allows i.haystack i.start i.end) (sym same) c.get_span-2.ensures.within;
       upto = subst (λ (i : Input). IsKnownUpto d c.args.self.now c.search_start.new.self.store i c.known_pass-known.result.at c.known_pass-known.result.id (half_from c.parts_of-before.result.0 c.parts_of-before.result.1 c.parts_of-before.result.2)) (sym same) upto;
     }
+
+pub rest-requires-clause-missing : goal.rest-requires-clause-missing
+rest-requires-clause-missing c = λ missing.
+    let d : Direction = c.args.way in
+    let same = same_input c.args.input.now c.haystack-2.result.now c.get_span-2.result c.get_anchored-2.result c.get_earliest-2.result c.haystack-2.ensures.same c.get_span-2.ensures.start c.get_span-2.ensures.end c.get_anchored-2.ensures c.get_earliest-2.ensures in
+    let cell = c.known_pass-known.ensures.missing (c.is_missing.ensures missing) in
+    subst (λ (i : Input). IsNextCell d c.args.self.now c.search_start.new.self.store i c.known_pass-known.result.at c.known_pass-known.result.id unknown_id) (sym same)
+    (subst (λ (v : CacheView). IsNextCell d c.args.self.now v.store c.args.input.now c.known_pass-known.result.at c.known_pass-known.result.id unknown_id) (sym c.search_start.ensures.value)
+    (cell.0, cell.1))
 
 pub returns-in-Ok-rest-clause-effect : goal.returns-in-Ok-rest-clause-effect
 returns-in-Ok-rest-clause-effect c =

@@ -13,8 +13,8 @@ no_tag = record { upto = omega arith; whole = refl }
 pub follow-quiet-requires-clause-kind : goal.follow-quiet-requires-clause-kind
 follow-quiet-requires-clause-kind c = no_tag
 
-pub returns-then-get_earliest : goal.returns-then-get_earliest
-returns-then-get_earliest c =
+pub returns-then-get_earliest-clause-runs : goal.returns-then-get_earliest-clause-runs
+returns-then-get_earliest-clause-runs c =
     let followed = c.follow-quiet.ensures.to.followed in
     record {
       run = record { more = followed.more; within = c.follow-quiet.ensures.to.within; known = followed_known followed };
@@ -22,8 +22,8 @@ returns-then-get_earliest c =
       met = c.follow-quiet.ensures.to.met;
     }
 
-pub returns-then-not-has_only : goal.returns-then-not-has_only
-returns-then-not-has_only c =
+pub returns-then-not-has_only-clause-runs : goal.returns-then-not-has_only-clause-runs
+returns-then-not-has_only-clause-runs c =
     let followed = c.follow-quiet.ensures.to.followed in
     record {
       run = record { more = followed.more; within = c.follow-quiet.ensures.to.within; known = followed_known followed };
@@ -31,8 +31,8 @@ returns-then-not-has_only c =
       met = c.follow-quiet.ensures.to.met;
     }
 
-pub returns : goal.returns
-returns c =
+pub returns-clause-runs : goal.returns-clause-runs
+returns-clause-runs c =
     let matches = c.follow_matches-stop.ensures.run.followed in
     let further = c.follow_matches-stop.ensures.run.further in
     let here : c.follow_matches-stop.result.at ≡ suc (c.follow_matches-stop.result.at - 1) = omega (arith, further) in
