@@ -164,11 +164,11 @@ impl DFA {
     {
         cache.see_bounds();
         let last = last_place(input);
-        let end = last.min(FIRST_RUN);
-        let run = self.run(cache, input, way, 0, start, None, end);
+        let run = self.run(cache, input, way, 0, start, None, last.min(FIRST_RUN));
         let next = self.known_next(cache, input, way, run.at, run.id, run.next);
         if next.is_unknown() {
-            if run.at < end {
+            // Two comparisons: the end of the first run would have to be kept for one.
+            if run.at < FIRST_RUN && run.at < last {
                 return Known::new(KnownStop::Missing, run.at, run.id, run.found);
             }
             return Known::new(KnownStop::Left, run.at, run.id, run.found);
