@@ -6,9 +6,8 @@
 --     what a call of a walk returns                        Walks.Contracts: IsWalkCall
 --     what a set of patterns is joined with                Walks.Contracts: IsWhich; Walks.SetsByPaths
 --     what they do to their cache, and what follows        Walks.Progress: IsWalkRun, IsSetRun; Walks.Follows
---     what a step returns, and what it does or why not     Steps.Steps: IsStepAnswer; Calls.Steps: IsStepRun, StepFails
---     the same of a start state                            Steps.Starts: IsStartAnswer; Calls.Steps: IsStartRun, StartFails
---     what follows of both                                 Calls.Steps: StepsFollow, StartsFollow
+--     what a step returns, and a start state               Steps.Steps: IsStepAnswer; Steps.Starts: IsStartAnswer
+--     what they do, when they fail, and what follows       Calls.Steps: IsStepRun, StepFails, StepsFollow, StartsFollow
 --     a search by steps                                    Steps.BySteps: StandsAt, IsStepAt; Cache.Caches: HoldsRow
 --     how much memory, and when a clear is allowed         Cache.Usage: usage, Fits, refuses_to_clear
 --     what every call keeps of a cache                     Cache.Growth: IsGrown

@@ -23,6 +23,7 @@ use Rattle.automata_hybrid.specs.declared.search.pass.Place.{Place}
 use Rattle.automata_hybrid.specs.Searches.Passes.{HasReadNoQuit, state_in, tape_in, reported_in}
 use Rattle.automata_hybrid.specs.Cache.Table.{Leads, Names}
 use Rattle.automata_hybrid.specs.Walks.Answers.{IsSilent}
+use Rattle.automata_hybrid.proofs.Steps.Steps.{cell_read}
 use Rattle.automata_hybrid.proofs.Cache.Places.{Names-silent}
 use Rattle.automata_base.proofs.Paths.Orders.{some_inj}
 use Rattle.automata_hybrid.proofs.Searches.PassState.{false_true, found_more, reported_quiet, state_more}
@@ -108,9 +109,7 @@ met_at way m c input k id to byte within unit value below quit named at = λ low
 pub next_cell :
     (way : Direction) (m : Machine) (c : Stored) (input : Input) (k id to byte : ℕ)
     → next (tape_in way input) k ≡ Some byte → to ≡ cell_of c id (class_in m.classes byte) → IsNextCell way m c input k id to
-next_cell way m c input k id to byte unit value = (λ _. same, λ free known. absurd (omega (arith, free, known, same))) where
-  same : to ≡ known_step m c id (next (tape_in way input) k)
-  same = value ∙ ap (known_step m c id) (sym unit)
+next_cell way m c input k id to byte unit value = cell_read m c id (next (tape_in way input) k) to (value ∙ ap (known_step m c id) (sym unit))
 
 -- a run between IDs with a tag: nothing yet, and on
 pub run_none :

@@ -16,7 +16,7 @@ use Rattle.automata_hybrid.specs.Machines.Machine.{Machine}
 use Rattle.automata_hybrid.specs.Cache.Progress.{saturated}
 use Rattle.automata_hybrid.specs.Calls.Events.{IsCached, Step}
 use Rattle.automata_hybrid.specs.Calls.Steps.{IsStepRun}
-use Rattle.automata_hybrid.specs.Steps.Steps.{IsStepAnswer, KnowsStep}
+use Rattle.automata_hybrid.specs.Steps.Steps.{IsCellRead, IsStepAnswer, KnowsStep, known_step}
 use Rattle.automata_hybrid.specs.Machines.Machine.{quits_on, unit_class}
 use Rattle.automata_hybrid.specs.Cache.Table.{HasCells, HasItsMatchTag, IsCell, IsRowId, Lacks, Leads, LeadsByClass}
 use Rattle.automata_hybrid.specs.Cache.Table.{Names, Rows}
@@ -35,6 +35,11 @@ same_run m id unit c known = record {
   quit = λ h. refl;
   does = λ clean q n. (let k = known q n in ((clean, k.0), k.1, inl ((id, n, k.2), refl)));
 }
+
+-- what stands in a cell was read there
+pub cell_read :
+    (m : Machine) (c : Stored) (id : ℕ) (unit : Option ℕ) (cell : ℕ) → cell ≡ known_step m c id unit → IsCellRead m c id unit cell
+cell_read m c id unit cell same = (λ _. same, λ free known. absurd (omega (arith, free, known, same)))
 
 -- a step that is not cached from an ID is not cached from its state
 pub step_unknown :

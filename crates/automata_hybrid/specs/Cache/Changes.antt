@@ -56,8 +56,8 @@ pub record AddsNext (old new : Stored) (from : ℕ) (q : Powerset) (now next : �
   -- That row is there, and has this ID now.
   pub saved : (p : Powerset) → Names old.table from p → Names new.table now p
 
--- the whole effect of computing a transition from a state to a target: the ID of the target is written, at the row as it
--- is after the target was added, if no row had it
+-- the whole effect of computing a transition from a state to a target: the ID of the target is written, at the row as
+-- it is after the target was added, if no row had it
 abbrev pub IsComputed : Stored → (id class : ℕ) → (q target : Powerset) → Stored → ℕ → Type 0
 IsComputed old id class q target new next =
     (Leads old.table next target × (new ≡ with_next old id class next))

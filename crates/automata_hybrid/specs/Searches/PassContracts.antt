@@ -7,7 +7,7 @@ use Rattle.automata_base.specs.declared.util.search.Anchored.{Anchored}
 use Rattle.automata_base.specs.declared.util.search.Span.{Span}
 use Rattle.automata_hybrid.specs.Cache.Caches.{CacheView, IsCacheOf}
 use Rattle.automata_hybrid.specs.Machines.Machine.{Machine}
-use Rattle.automata_hybrid.specs.Searches.PassState.{HasLearnedUnit, HasRun, IsAt, IsFollowed, IsMet, IsNextCell, found_over}
+use Rattle.automata_hybrid.specs.Searches.PassState.{HasLearnedUnit, HasRun, IsAt, IsFollowed, IsMet, found_over}
 use Rattle.automata_hybrid.specs.declared.search.follow.Stop.{Stop}
 use Rattle.automata_hybrid.specs.declared.search.pass.Place.{Place}
 use Rattle.automata_hybrid.specs.Cache.Stores.{Stored}
@@ -61,7 +61,8 @@ pub record FollowsTo (way : Direction) (m : Machine) (c : Stored) (input : Input
   pub followed : IsFollowed way m c input tag from to.at to.id
   pub met : IsMet way m c input to.at to.id to.next
 
--- cached transitions led a pass from one place on to another, where it has this ID, has found this, and met this ID next
+-- cached transitions led a pass from one place on to another, where it has this ID, has found this, and met this ID
+-- next
 pub record RunsTo (way : Direction) (m : Machine) (c : Stored) (input : Input) (from : ℕ) (to : Place) : Type 0 where
   pub run : HasRun way m c input from to.at
   pub at : IsAt way m c.table input to.at to.id to.found

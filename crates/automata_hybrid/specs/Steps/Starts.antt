@@ -1,4 +1,5 @@
--- Start states: when there is one, what it is, why a call for it fails, and what that does to the cache.
+-- Start states: when there is one, what it is, and why a call for it fails. What it makes of the cache stands in
+-- Calls.Steps.
 use Rattle.std.specs.Prelude.{ℕ, ◌≡◌, ◌<◌, ◌≤◌, true, false, cond, length, Option, None, Some, slice_index}
 use Rattle.automata_base.specs.ByteClasses.Classes.{is_quit}
 use Rattle.automata_base.specs.Retraced.Steps.{start_state_of}

@@ -93,30 +93,10 @@ impl DFA {
         splits(input, offset)
     }
 
-    /// The state after a byte, which is the quit state at a quit byte. An error is at this offset.
-    fn step(
-        &self,
-        cache: &mut Cache,
-        id: LazyStateID,
-        byte: u8,
-        at: usize,
-    ) -> Result<LazyStateID, SearchError>
-        requires of { IsCacheOf cache.old self.now }
-        requires valid { IsRowId cache.old.store.table id }
-        ensures of { IsCacheOf cache.new self.now }
-        ensures answer { IfOk result (IsStepAnswer self.now id (Some byte) cache.old cache.new) }
-        ensures refusal { IfErr result (StepFailsAt self.now id (Some byte) at cache.old cache.new) }
-        ensures run { OnOk result (IsStepRun self.now id (Some byte) cache.old cache.new) }
-    {
-        match self.next_state(cache, id, byte) {
-            Ok(next) => Ok(next),
-            Err(error) => Err(step_error(error, at)),
-        }
-    }
-
-    /// Takes one step over `byte`, after which `cell` stands in the row: a step that is not cached is computed.
+    /// The state after a byte, which is the quit state at a quit byte. `cell` was read in the row, so that a step that
+    /// is not cached is computed without another look. An error is at this offset.
     // It has no `inline(always)`: each one makes `search` grow, until the compiler drops the mark of that.
-    fn step_met(
+    fn step(
         &self,
         cache: &mut Cache,
         id: LazyStateID,
@@ -143,8 +123,8 @@ impl DFA {
         }
     }
 
-    /// Takes one step over `byte`, after which `cell` stands in the row, and moves the search there. A quit byte ends the
-    /// search, and is an error at its own offset.
+    /// The state after a byte, to which the search moves. `cell` was read in the row. A quit byte ends the search, and
+    /// is an error at its own offset.
     #[inline(always)]
     fn read_met(
         &self,
@@ -167,7 +147,7 @@ impl DFA {
         self.see_machine();
         cache.see_bounds();
         cache.move_search(at);
-        let next = self.step_met(cache, id, cell, byte, at)?;
+        let next = self.step(cache, id, cell, byte, at)?;
         cache.see_bounds();
         if next.is_quit() {
             cache.end_search(at);
@@ -178,13 +158,7 @@ impl DFA {
 
     /// The ID after a byte: the one that was met, or if none was, what stands in the row.
     #[inline(always)]
-    fn met_or_cell(
-        &self,
-        cache: &Cache,
-        id: LazyStateID,
-        met: LazyStateID,
-        byte: u8,
-    ) -> LazyStateID
+    fn met_or_cell(&self, cache: &Cache, id: LazyStateID, met: LazyStateID, byte: u8) -> LazyStateID
         requires of { IsCacheOf cache.now self.now }
         requires valid { IsRowId cache.now.store.table id }
         requires met { met < unknown_id → met ≡ known_step self.now cache.now.store id (Some byte) }
@@ -249,7 +223,8 @@ impl DFA {
         cache.see_bounds();
         match unit {
             Some(byte) => {
-                let next = self.step(cache, id, byte, at)?;
+                let cell = self.next_state_known(cache, id, byte);
+                let next = self.step(cache, id, cell, byte, at)?;
                 cache.see_bounds();
                 if next.is_quit() {
                     return Err(quit(byte, quit_at));

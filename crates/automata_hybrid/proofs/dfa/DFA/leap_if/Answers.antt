@@ -1,4 +1,3 @@
-use Rattle.std.proofs.Common.{arith}
 use Rattle.automata_hybrid.proofs.Searches.Runs.{followed_none}
 use Rattle.automata_hybrid.proofs.dfa.DFA.leap_if.Goals as goal
 

@@ -38,4 +38,3 @@ returns-clause-read c =
     let d : Direction = c.args.way in
     subst (λ (v : CacheView). c.follow_far-far.result.at < c.args.input.now.end - c.args.input.now.start → IsNextCell d c.args.self.now v.store c.args.input.now c.follow_far-far.result.at c.follow_far-far.result.id c.follow_far-far.result.next) (sym c.follow_far-far.ensures.same)
     (subst (λ (i : Input). c.follow_far-far.result.at < i.end - i.start → IsNextCell d c.args.self.now c.args.cache.now.store i c.follow_far-far.result.at c.follow_far-far.result.id c.follow_far-far.result.next) same c.follow_far-far.ensures.read)
-

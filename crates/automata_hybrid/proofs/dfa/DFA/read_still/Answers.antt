@@ -6,6 +6,7 @@ use Rattle.automata_hybrid.specs.Searches.Passes.{IsStepError}
 use Rattle.automata_hybrid.proofs.Searches.Reads.{at_err, end_refusal, reported_refusal, step_fails}
 use Rattle.automata_hybrid.proofs.Searches.PassState.{false_true}
 use Rattle.automata_hybrid.proofs.Steps.Ids.{quits, unquit}
+use Rattle.automata_hybrid.proofs.Steps.Steps.{cell_read}
 use Rattle.automata_hybrid.proofs.dfa.DFA.read_still.Goals as goal
 
 pub returns-else-is_quit-clause-answer : goal.returns-else-is_quit-clause-answer
@@ -75,3 +76,7 @@ pub returns-in-None-clause-refusal : goal.returns-in-None-clause-refusal
 returns-in-None-clause-refusal c =
     subst (λ u. IfErr c.read_end.result (ReadFails c.args.self.now c.args.id u c.args.quit_at c.args.at c.args.cache.now c.read_end.new.cache)) (sym c.in-None.is)
     (end_refusal c.args.self.now c.args.id c.args.quit_at c.args.at c.args.cache.now c.args.cache.now c.read_end.new.cache refl c.read_end.result c.read_end.ensures.refusal)
+
+pub step-requires-clause-cell : goal.step-requires-clause-cell
+step-requires-clause-cell c =
+    cell_read c.args.self.now c.args.cache.now.store c.args.id (Some c.in-Some.byte) c.next_state_known-cell.result c.next_state_known-cell.ensures.value
