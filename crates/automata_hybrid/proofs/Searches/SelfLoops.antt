@@ -18,8 +18,8 @@ use Rattle.automata_hybrid.specs.Searches.PassState.{IsFollowed, IsRun, IsTagAt}
 use Rattle.automata_hybrid.specs.Searches.Passes.{state_in, tape_in}
 use Rattle.automata_hybrid.specs.Cache.Stores.{Stored, cell_of}
 use Rattle.automata_hybrid.specs.Cache.Table.{IsCell, IsRowId, Leads, Names}
-use Rattle.automata_hybrid.specs.declared.search.loop_range.LoopRange.{LoopRange}
-use Rattle.automata_hybrid.specs.declared.search.self_loop.KnownLoop.{KnownLoop}
+use Rattle.automata_hybrid.specs.declared.dfa.self_loops.LoopRange.{LoopRange}
+use Rattle.automata_hybrid.specs.declared.dfa.self_loops.KnownLoop.{KnownLoop}
 use Rattle.automata_hybrid.proofs.Searches.Runs.{followed_none, followed_on, followed_one}
 use Rattle.automata_hybrid.proofs.Searches.PassState.{false_true}
 

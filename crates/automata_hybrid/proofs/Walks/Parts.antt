@@ -1,5 +1,5 @@
 -- Going on with a walk: what the functions under its calls answer, and what they make of their cache.
-use Rattle.automata_hybrid.specs.declared.search.walk.Handle.{Handle}
+use Rattle.automata_hybrid.specs.declared.dfa.handle.Handle.{Handle}
 use Rattle.std.proofs.Common.{ℕ, suc, ◌≡◌, ◌∙◌, inl, inr, false, Option, None, Some, refl, sym, ap, subst, arith}
 use Rattle.std.specs.Prelude.{IfErr, IfOk, OnErr, OnOk, Result}
 use Rattle.std.proofs.lemmas.Result.{IfErr-weaker, IfOk-weaker}

@@ -27,13 +27,13 @@ ghost use Rattle.automata_hybrid.specs.Cache.Progress.{progress_finished, progre
 ghost use Rattle.automata_hybrid.specs.Cache.Progress.{saturated, total_len};
 ghost use Rattle.automata_config.specs.Options.{match_kind_of};
 
+use crate::dfa::handle::Handle;
 use crate::dfa::leaps::{Leaping, Leaps, Shape};
+use crate::dfa::self_loops::KnownLoop;
 use crate::dfa::store::Store;
 use crate::dfa::table::Table;
 use crate::dfa::{DFA, row};
 use crate::id::LazyStateID;
-use crate::search::self_loop::KnownLoop;
-use crate::search::walk::Handle;
 use automata_base::util::determinize::{Key, Scratch, State, next_key, start_key};
 use automata_base::util::primitives::PatternID;
 use automata_base::util::search::Anchored;

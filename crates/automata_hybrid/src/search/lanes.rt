@@ -3,7 +3,7 @@ ghost use Rattle.std.specs.Prelude.{◌+◌, ◌<◌, ◌≡◌, ◌≤◌, ◌^
 ghost use Rattle.std.specs.Int.{bit_at};
 ghost use Rattle.automata_hybrid.specs.Searches.SelfLoops.{HasByte, HasEither, above, byte_in, lane_of};
 
-use crate::search::loop_range::LoopRange;
+use crate::dfa::self_loops::LoopRange;
 use automata_base::util::search::Direction;
 use std::simd::prelude::*;
 

@@ -7,33 +7,8 @@ ghost use Rattle.automata_hybrid.specs.Cache.Table.{IsRowId};
 
 use crate::dfa::DFA;
 use crate::dfa::cache::Cache;
+use crate::dfa::self_loops::LoopRange;
 use crate::id::LazyStateID;
-
-/// A range of bytes: so many from a lowest one on, where 0 follows 255, and how many classes they are of.
-#[derive(Clone, Copy, Default)]
-pub(crate) struct LoopRange {
-    pub(super) low: u8,
-    pub(super) size: u8,
-    pub(super) classes: u16,
-}
-
-impl LoopRange {
-    /// A range of no byte.
-    pub(super) fn none() -> LoopRange
-        ensures { result.size ≡ 0 }
-    {
-        LoopRange {
-            low: 0,
-            size: 0,
-            classes: 0,
-        }
-    }
-
-    /// Whether it has no byte.
-    pub(super) fn is_empty(&self) -> bool {
-        self.size == 0
-    }
-}
 
 impl DFA {
     /// Whether a row has a cached self-loop on the bytes from one on, before another: on those of each class.

@@ -30,7 +30,7 @@ mod leap;
 mod loop_range;
 mod overlapping;
 mod pass;
-pub(crate) mod self_loop;
+mod self_loop;
 pub mod walk;
 mod which;
 

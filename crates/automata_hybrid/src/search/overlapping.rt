@@ -20,10 +20,11 @@ ghost use Rattle.automata_hybrid.specs.Walks.State.{At, Ended, IsHeldAt, States,
 
 use crate::dfa::DFA;
 use crate::dfa::cache::Cache;
+use crate::dfa::handle::Handle;
 use crate::id::LazyStateID;
 use crate::search::direction::{last_place, place_offset, span_offset};
 use crate::search::step_error;
-use crate::search::walk::{Cursor, Handle, Held, OverlappingState};
+use crate::search::walk::{Cursor, Held, OverlappingState};
 use automata_base::laws::walk_is_right;
 use automata_base::util::primitives::PatternID;
 use automata_base::util::search::{Direction, HalfMatch, Input};

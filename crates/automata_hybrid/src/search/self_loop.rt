@@ -9,9 +9,9 @@ ghost use Rattle.automata_hybrid.specs.Cache.Table.{IsRowId};
 
 use crate::dfa::DFA;
 use crate::dfa::cache::Cache;
+use crate::dfa::self_loops::{AGAIN, KnownLoop, LoopRange};
 use crate::id::LazyStateID;
 use crate::search::lanes::{LANES, are_in, are_in_either, count_in_either};
-use crate::search::loop_range::LoopRange;
 use automata_base::util::search::Direction;
 
 /// Where fewer bytes are left, no self-loop is looked for: a look in vain reads up to eight cells, which are read again.
@@ -20,49 +20,8 @@ const FEW: usize = 16;
 /// How many bytes of a self-loop are followed eight at once before its ranges are looked for.
 const MANY: usize = 256;
 
-/// How many bytes to read before ranges are looked for again, after they had many classes or missed too often.
-const AGAIN: usize = 2048;
-
-/// Ranges of more classes than these are not kept from one run to the next, since each class is tested then.
-const CLASSES: u16 = 8;
-
 /// A scan ends if more than one byte in `LANES` was outside its ranges, counted as if it had read so many bytes more.
 const MISSES: usize = 256;
-
-/// What was found of a row's self-loop: two ranges of its bytes.
-#[derive(Clone, Copy, Default)]
-pub(crate) struct KnownLoop {
-    id: LazyStateID,
-    first: LoopRange,
-    second: LoopRange,
-    /// How many bytes are still followed eight at once before ranges are looked for.
-    wait: usize,
-}
-
-impl KnownLoop {
-    /// A self-loop of which no range is known.
-    fn new(id: LazyStateID, wait: usize) -> KnownLoop {
-        KnownLoop {
-            id,
-            first: LoopRange::none(),
-            second: LoopRange::none(),
-            wait,
-        }
-    }
-
-    /// What is kept of two ranges for the next run.
-    fn kept(id: LazyStateID, first: LoopRange, second: LoopRange) -> KnownLoop {
-        if first.classes.saturating_add(second.classes) > CLASSES {
-            return KnownLoop::new(id, AGAIN);
-        }
-        KnownLoop {
-            id,
-            first,
-            second,
-            wait: 0,
-        }
-    }
-}
 
 /// The byte at a place of a slice that is read from its front or from its back.
 #[inline(always)]

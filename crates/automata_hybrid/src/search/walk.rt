@@ -4,35 +4,18 @@ ghost use Rattle.std.specs.Prelude.{None};
 ghost use Rattle.automata_base.specs.Powersets.Powerset.{Powerset};
 ghost use Rattle.automata_hybrid.specs.Cache.Table.{IsRowId, Names};
 ghost use Rattle.automata_hybrid.specs.Walks.State.{At, Ended, Fresh, States, ended_walk, fresh_walk, keeping_of};
-ghost use Rattle.automata_hybrid.specs.Walks.State.{Holds, HoldsNone, IsHandle, IsHeldItself, with_match};
+ghost use Rattle.automata_hybrid.specs.Walks.State.{Holds, HoldsNone, IsHeldItself, with_match};
 ghost use Rattle.automata_hybrid.specs.Walks.State.{without_match};
 
 use crate::dfa::cache::Cache;
+use crate::dfa::handle::Handle;
 use crate::id::LazyStateID;
-use automata_base::util::determinize::{Key, State};
+use automata_base::util::determinize::State;
 use automata_base::util::search::HalfMatch;
 use std::alloc::AllocError;
 use std::fmt;
 use std::marker::Model;
 use std::snapshot::Snapshot;
-
-/// A powerset state, shared with the rows of caches, and its key in their maps.
-#[derive(Drop)]
-pub(crate) struct Handle {
-    pub(crate) state: State,
-    pub(crate) key: Key,
-}
-
-impl Handle {
-    /// It allocates nothing. It fails only if the state cannot be shared once more.
-    pub(crate) fn of(state: &State) -> Result<Handle, AllocError>
-        ensures { IfOk result (λ handle. IsHandle handle state.now) }
-    {
-        let key = state.key()?;
-        let state = state.clone()?;
-        Ok(Handle { state, key })
-    }
-}
 
 /// What is held of a walk's state: the state itself, or, in a walk that lasts for one call only, the ID of its row.
 /// There is none before the walk begins.

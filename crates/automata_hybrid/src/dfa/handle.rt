@@ -1,0 +1,24 @@
+//! A powerset state that is held beside the rows of caches.
+ghost use Rattle.std.specs.Prelude.{IfOk};
+ghost use Rattle.automata_hybrid.specs.Walks.State.{IsHandle};
+
+use automata_base::util::determinize::{Key, State};
+use std::alloc::AllocError;
+
+/// A powerset state, shared with the rows of caches, and its key in their maps.
+#[derive(Drop)]
+pub(crate) struct Handle {
+    pub(crate) state: State,
+    pub(crate) key: Key,
+}
+
+impl Handle {
+    /// It allocates nothing. It fails only if the state cannot be shared once more.
+    pub(crate) fn of(state: &State) -> Result<Handle, AllocError>
+        ensures { IfOk result (λ handle. IsHandle handle state.now) }
+    {
+        let key = state.key()?;
+        let state = state.clone()?;
+        Ok(Handle { state, key })
+    }
+}
