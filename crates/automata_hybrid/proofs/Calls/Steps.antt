@@ -250,7 +250,16 @@ module _ (m : Machine) (mode : Anchored) (behind : Option ℕ) (old new : CacheV
 
   -- it failed
   failed_start : (e : StartError) → StartFails m mode behind old new e → FailedStartFollows m mode behind old new
-  failed_start e fails = record { effect = go (may_or_not m mode behind); unknown = unknown; slot = slot } where
+  failed_start e fails = record {
+    effect = go (may_or_not m mode behind);
+    unknown = unknown;
+    slot = slot;
+    unchanged = same (may_or_not m mode behind);
+  } where
+    same : MayStart m mode behind ⊎ (MayStart m mode behind → ⊥) → (new ≡ old) ⊎ (new ≡ counted old)
+    same (inl may) = inr (fails.fails may).unchanged
+    same (inr barred) = inl (fails.barred barred)
+
     unknown : KnowsStart m old.store mode behind → ⊥
     unknown k = (fails.fails k.0).unknown (λ _. k.1.1)
 

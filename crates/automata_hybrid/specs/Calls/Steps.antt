@@ -178,6 +178,8 @@ pub record FailedStartFollows (m : Machine) (mode : Anchored) (behind : Option �
   pub unknown : KnowsStart m old.store mode behind → ⊥
   -- Past the last pattern nothing fails if a search may start.
   pub slot : MayStart m mode behind → HasSlot m mode behind
+  -- Nothing has changed but the count of determinizations.
+  pub unchanged : (new ≡ old) ⊎ (new ≡ counted old)
 
 -- All this follows of each call for a start state over a cache of the DFA.
 abbrev pub StartsFollow : Type 0
