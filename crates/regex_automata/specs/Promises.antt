@@ -64,9 +64,16 @@ pub use Rattle.automata_hybrid.specs.Cache.Caches.{HoldsRow}
 -- unit at an offset; what a step over it means; the first pattern of a match state; the first match, or none.
 pub use Rattle.automata_hybrid.specs.Steps.BySteps.{StandsAt, IsUnitAt, IsStepAt, IsFirstPattern, HasPatterns}
 pub use Rattle.automata_hybrid.specs.Steps.BySteps.{IsFirstMatch, FirstMatchIsFound}
+-- The ID that a step and a call for a start state return; what they make of the cache, one event each; when they fail;
+-- and what follows, by `laws::steps_follow`.
+pub use Rattle.automata_hybrid.specs.Steps.Steps.{IsStepAnswer}
+pub use Rattle.automata_hybrid.specs.Steps.Starts.{IsStartAnswer}
+pub use Rattle.automata_hybrid.specs.Calls.Steps.{IsStepRun, StepFails, IsStartRun, StartFails}
+pub use Rattle.automata_hybrid.specs.Calls.Steps.{StepFollows, FailedStepFollows, StepsFollow}
+pub use Rattle.automata_hybrid.specs.Calls.Steps.{StartFollows, FailedStartFollows, StartsFollow}
 -- Nothing but a lack of memory prevents an answer. What a search makes of its cache, event by event; and what follows
--- of it, by `laws::searches_follow` and `laws::spans_follow`: among others, until the next clear nothing is lost, and if
--- all that a search uses is cached, nothing changes but the progress.
+-- of it, by `laws::searches_follow` and `laws::spans_follow`: among others, until the next clear nothing is lost, and
+-- if all that a search uses is cached, nothing changes but the progress.
 pub use Rattle.automata_hybrid.specs.Searches.Contracts.{IsMemory, IsUnhindered}
 pub use Rattle.automata_hybrid.specs.Searches.Progress.{IsSearchRun}
 pub use Rattle.automata_hybrid.specs.Searches.Follows.{SearchFollows, SearchesFollow}
