@@ -3,7 +3,6 @@ pub mod Alike
 pub mod Backs
 pub mod Bytes
 pub mod Chosen
-pub mod Computed
 pub mod Empties
 pub mod KeptUnions
 pub mod Loops
@@ -11,11 +10,9 @@ pub mod Answered
 pub mod Once
 pub mod Right
 pub mod Rising
-pub mod Samples
 pub mod Starts
 pub mod Text
 pub mod Total
 pub mod Tried
-pub mod TruePairs
 pub mod Turning
 pub mod Units

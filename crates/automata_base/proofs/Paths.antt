@@ -5,8 +5,6 @@ pub mod Cuts
 pub mod Decisions
 pub mod Finals
 pub mod FirstVisits
-pub mod Follow
-pub mod Follows
 pub mod Fuels
 pub mod Included
 pub mod Invariants
@@ -20,14 +18,11 @@ pub mod Machines
 pub mod Orders
 pub mod Places
 pub mod Readings
-pub mod Rows
-pub mod Samples
 pub mod Searches
 pub mod Selecting
 pub mod Sets
 pub mod Sift
 pub mod Steps
 pub mod Truths
-pub mod Unfree
 pub mod Unique
 pub mod Walks

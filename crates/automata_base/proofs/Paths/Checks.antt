@@ -22,24 +22,3 @@ nodes_below N (x ∷ xs) = node_below N x && nodes_below N xs
 -- Each edge leads to a state.
 abbrev pub is_in_range : Nfa → Bool
 is_in_range n = nodes_below (length n.nodes) n.nodes
-
-abbrev pub no_way_back : Nfa → ℕ → Node → Bool
-no_way_back n q (Split alternates) = true
-no_way_back n q (Assert look next) = not (is_in q (closure_of n all_true (next ∷ [])))
-no_way_back n q (Read ranges) = true
-no_way_back n q (Accept p) = true
-
-abbrev pub no_ways_back : Nfa → ℕ → List Node → Bool
-no_ways_back n q [] = true
-no_ways_back n q (x ∷ xs) = no_way_back n q x && no_ways_back n (suc q) xs
-
--- No cycle of epsilon edges passes a look.
-abbrev pub is_look_cycle_free : Nfa → Bool
-is_look_cycle_free n = no_ways_back n 0 n.nodes
-
-abbrev pub unit_fits : Option ℕ → Bool
-unit_fits None = true
-unit_fits (Some u) = ltb u 256
-
-abbrev pub tape_fits : Tape → Bool
-tape_fits t = all_below 256 t.bytes && unit_fits t.after

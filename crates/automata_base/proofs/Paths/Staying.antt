@@ -43,12 +43,6 @@ ends_stay (Assert look next) e = refl
 ends_stay (Read ranges) e = refl
 ends_stay (Accept p) e = refl
 
-fork_stays : (x : Node) (e r : ℕ) → fork_at x e ≡ Some r → stays_at x ≡ true → ⊥
-fork_stays (Split alternates) e r f s = true≢false (sym s)
-fork_stays (Assert look next) e r f s = none_some f
-fork_stays (Read ranges) e r f s = none_some f
-fork_stays (Accept p) e r f s = none_some f
-
 pub fork_hop : (x : Node) (A : Truth) (e r : ℕ) → fork_at x e ≡ Some r → hop_at x A e ≡ Some r
 fork_hop (Split alternates) A e r f = f
 fork_hop (Assert look next) A e r f = absurd (none_some f)

@@ -80,12 +80,6 @@ ids_of_end ids front begin kept code (Ok x) is joined first all =
     (All-append IsId begin (drop 1 kept) all is.ids)
 ids_of_end ids front begin kept code (Err x) is joined first all = tt
 
--- A front, and the first state of the end after it.
-pub first_of_end :
-    (list front end : List ℕ) (k : ℕ) → list ≡ front ++ end → k ≡ length front + 1 → take k list ≡ front ++ take 1 end
-first_of_end list front end k joined at =
-    ap (λ z. take z list) at ∙ ap (take (length front + 1)) joined ∙ take-append-add front end 1
-
 -- ---- what a list leads to
 
 pub cut_some : (n : Nfa) (xs ys : List ℕ) → has_match n xs ≡ true → cut n (xs ++ ys) ≡ cut n xs
@@ -235,10 +229,6 @@ picks_next g xs out more front i x o l e s m h =
     ∙ ap (λ z. out ++ z) (sym (some_put o (pick g (drop (i + 1) xs))))
     ∙ ap (λ z. out ++ cons_some z (pick g (drop (i + 1) xs))) (sym s)
     ∙ ap (λ z. out ++ pick g z) (sym (next_drop xs i x l e)) ∙ h
-
-pub option_few : (o : Option ℕ) (out more : List ℕ) (k : ℕ) → more ≡ out ++ option_to_list o → length out ≤ k → length more ≤ k + 1
-option_few None out more k m l = let a = ap length m in let c = length-append out [] in omega (arith, a, c, l)
-option_few (Some x) out more k m l = let a = ap length m in let c = length-append out (x ∷ []) in omega (arith, a, c, l)
 
 pub picks_done : (g : ℕ → Option ℕ) (xs out front : List ℕ) (i : ℕ) → length xs ≤ i → out ++ pick g (drop i xs) ≡ front → out ≡ front
 picks_done g xs out front i l h = sym (ap (λ z. out ++ pick g z) (drop_all i xs l) ∙ append-nil out) ∙ h

@@ -80,12 +80,6 @@ pub record Added (m : Node) (old new : List (Vec ℕ Global)) (u : ℕ) : Type 0
 nothing : (xs ys : List ℕ) (o : Option ℕ) → o ≡ None → ys ≡ xs → ys ≡ xs ++ option_to_list o
 nothing xs ys o none same = same ∙ (sym (append-nil xs) ∙ ap (λ z. xs ++ option_to_list z) (sym none))
 
-pub added_init : (m : Node) (old : List (Vec ℕ Global)) (u : ℕ) → ((v : ℕ) → v < u → takes_at m v ≡ None) → Added m old old u
-added_init m old u none = record {
-  below = λ v few l. nothing (list_at (lists_of old) v) (list_at (lists_of old) v) (takes_at m v) (none v l) refl;
-  above = λ v few l. refl;
-}
-
 pub added_next :
     (m : Node) (old rows new : List (Vec ℕ Global)) (u w : ℕ) (o : Option ℕ)
     → u < 256 → w ≡ u → o ≡ takes_at m w → list_at (lists_of new) u ≡ list_at (lists_of rows) u ++ option_to_list o
@@ -124,15 +118,6 @@ pub added_none :
 added_none m old rows u w o small same is_o none a =
     added_next m old rows rows u w o small same is_o
     (nothing (list_at (lists_of rows) u) (list_at (lists_of rows) u) o none refl) (λ v ne. refl) a
-
-pub added_all :
-    (m : Node) (old rows : List (Vec ℕ Global)) (u end : ℕ) → end ≤ u → ((v : ℕ) → v < 256 → end ≤ v → takes_at m v ≡ None)
-    → Added m old rows u → AddsEdges m old rows
-added_all m old rows u end l none a v small =
-    ⊎_elim (λ (k : v < u). a.below v small k)
-    (λ (k : u ≤ v).
-    nothing (list_at (lists_of old) v) (list_at (lists_of rows) v) (takes_at m v) (none v small (omega (arith, l, k))) (a.above v small k))
-    (cases_lt v u)
 
 -- The rows of a list, of which those from an index on are left to read.
 pub record Filling (n : Nfa) (list : List ℕ) (rows : List (Vec ℕ Global)) (i : ℕ) : Type 0 where

@@ -45,8 +45,11 @@ Tries Reports skipping way input k =
 
 -- A pattern, the offset where its path ends, and the start of the span that gave it.
 pub record Half : Type 0 where
+  -- the pattern of the path
   pub pattern : ℕ
+  -- the offset where the path ends; in a reverse search the match begins there
   pub offset : ℕ
+  -- where the span begins that gave it: after the input's start only if offsets inside a character were skipped
   pub base : ℕ
 
 -- What is reported over the first span for which that is nothing or not split. If split places are skipped, an anchored
@@ -69,12 +72,13 @@ Answers Reports skipping way input (Some half) =
 abbrev pub IsAnswer : Direction → Engine → Input → Option Half → Type 0
 IsAnswer way d input answer = Answers (SelectsOver way d) (IsSkipping d) way input answer
 
--- The pairs of a walk with their offsets; and without the split ones.
+-- The pairs of a walk, each with its offset instead of its place.
 abbrev pub with_offsets : Direction → Input → List Pair → List Pair
 with_offsets way input [] = []
 with_offsets way input (pair ∷ pairs) =
     record pair { place = offset_in way input pair.place } ∷ with_offsets way input pairs
 
+-- The pairs that are not at an offset inside a character.
 abbrev pub without_split : List ℕ → List Pair → List Pair
 without_split h [] = []
 without_split h (pair ∷ pairs) = cond (is_split h pair.place) (without_split h pairs) (pair ∷ without_split h pairs)
@@ -111,6 +115,7 @@ abbrev pub first_alone : Bool → List Pair → List Pair
 first_alone earliest [] = []
 first_alone earliest (pair ∷ pairs) = pair ∷ cond earliest [] pairs
 
+-- Some pair of the list is of this pattern.
 abbrev pub HasPattern : ℕ → List Pair → Type 0
 HasPattern p [] = ⊥
 HasPattern p (pair ∷ pairs) = (p ≡ pair.pattern) ⊎ HasPattern p pairs

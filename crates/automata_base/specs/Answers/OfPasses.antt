@@ -16,6 +16,7 @@ abbrev pub reported_over : Direction → Automaton → MatchKind → Input → O
 reported_over way a kind input =
     reported_by kind input.earliest a input.anchored (tape_of way input.haystack input.start input.end)
 
+-- the pass over the span of an input reports this
 abbrev pub ReportsOver : Direction → Automaton → MatchKind → Input → Option Pair → Type 0
 ReportsOver way a kind input reported = reported ≡ reported_over way a kind input
 
@@ -36,19 +37,21 @@ ReportedIsOne =
     (way : Direction) (a : Automaton) (kind : MatchKind) (input : Input) (first second : Option Half)
     → IsReported way a kind input first → IsReported way a kind input second → first ≡ second
 
--- what a rule of ends says over the span of an input, which is not done
+-- what a rule of ends says on a tape, from a first state; nothing if there is no first state
 abbrev pub EndsFrom : (Rule : Nfa → Tape → ℕ → Option Pair → Type 0) → Engine → Tape → Option ℕ → Option Pair → Type 0
 EndsFrom Rule d t None answer = answer ≡ None
 EndsFrom Rule d t (Some q) answer = Rule d.nfa t q answer
 
+-- what a rule of ends says over the span of an input, which is not done
 abbrev pub EndsOver : (Rule : Nfa → Tape → ℕ → Option Pair → Type 0) → Direction → Engine → Input → Option Pair → Type 0
 EndsOver Rule way d input answer =
     EndsFrom Rule d (tape_of way input.haystack input.start input.end) (first_state d input.anchored) answer
 
--- a search answers the nearest end, or the farthest one, over the first span for which that is nothing or not split
+-- a search answers the nearest end, over the first span for which that is nothing or not split
 abbrev pub IsNearestAnswer : Direction → Engine → Input → Option Half → Type 0
 IsNearestAnswer way d input answer = Answers (EndsOver IsNearest way d) (IsSkipping d) way input answer
 
+-- a search answers the farthest end, over the first span for which that is nothing or not split
 abbrev pub IsFarthestAnswer : Direction → Engine → Input → Option Half → Type 0
 IsFarthestAnswer way d input answer = Answers (EndsOver IsFarthest way d) (IsSkipping d) way input answer
 

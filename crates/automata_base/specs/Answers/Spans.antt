@@ -77,17 +77,19 @@ ReportsBy Fronts Backs f input (Found (Some m)) =
 ReportsBy Fronts Backs f input NotAPair =
     (half : Half) × Fronts input (Some half) × FindsStartBy Backs f input half None
 
--- If both answer by the ordered paths.
+-- The start of the match that a forward answer ends, if the search back answers by the ordered paths.
 abbrev pub FindsStart : Engine → Engine → Input → Half → Option ℕ → Type 0
 FindsStart f r input half start = FindsStartBy (IsAnswer Backward r) f input half start
 
+-- What a search over a forward and a reverse DFA returns, if both answer by the ordered paths.
 abbrev pub IsTrySearch : Engine → Engine → Input → Outcome → Type 0
 IsTrySearch f r input outcome = ReportsBy (IsAnswer Forward f) (IsAnswer Backward r) f input outcome
 
--- If the one back finds the farthest place alone, whatever the order of its paths.
+-- What it returns if the search back finds the farthest place alone, whatever the order of its paths.
 abbrev pub IsFarSearch : Engine → Engine → Input → Outcome → Type 0
 IsFarSearch f r input outcome = ReportsBy (IsAnswer Forward f) (IsFarthestAnswer Backward r) f input outcome
 
+-- The input whose span begins at this offset.
 abbrev pub from : ℕ → Input → Input
 from start input = record input { start = start }
 
@@ -118,13 +120,15 @@ AreFirst Finds input start last [] = Unit {0}
 AreFirst Finds input start last (m ∷ ms) =
     IsNextItem Finds input start last (Some m) × AreFirst Finds input m.end (Some m.end) ms
 
--- The matches of an input, one after another: by the spans of its paths, and by the search over two DFAs.
+-- The matches of an input, one after another, by the spans of its paths.
 abbrev pub AreSpans : Engine → Input → List Match → Type 0
 AreSpans d input ms = AreMatches (IsSpan d) input input.start None ms
 
+-- A search over two DFAs that answer by the ordered paths finds this match, or none.
 abbrev pub TryFinds : Engine → Engine → Input → Option Match → Type 0
 TryFinds f r input answer = IsTrySearch f r input (Found answer)
 
+-- The matches of an input, one after another, as searches over two such DFAs find them.
 abbrev pub AreFound : Engine → Engine → Input → List Match → Type 0
 AreFound f r input ms = AreMatches (TryFinds f r) input input.start None ms
 

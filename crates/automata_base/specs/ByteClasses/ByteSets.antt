@@ -18,14 +18,17 @@ unfoldable pub word_of : (ℕ → Bool) → ℕ → ℕ
 word_of truth zero = 0
 word_of truth (suc count) = (if truth 0 then 1 else 0) + 2 * word_of (λ i. truth (suc i)) count
 
--- The words of the set that these truths say.
+-- The word `k` of the set that these truths say.
 abbrev pub word_at : List Bool → ℕ → ℕ
 word_at truths k = word_of (λ i. is_quit truths (64 * k + i)) 64
 
+-- The four words of the set that these truths say.
 unfoldable pub words_of : List Bool → List ℕ
 words_of truths = word_at truths 0 ∷ word_at truths 1 ∷ word_at truths 2 ∷ word_at truths 3 ∷ []
 
 -- Four words.
 pub record IsByteSet (words : List ℕ) : Type 0 where
+  -- there are four words
   pub whole : length words ≡ 4
+  -- each has 64 bits
   pub small : (k : ℕ) → k < 4 → slice_index words k < 2 ^ 64

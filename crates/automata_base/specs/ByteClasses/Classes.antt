@@ -15,6 +15,7 @@ is_quit quits byte = slice_index_or quits byte false
 abbrev pub bounds : (lo hi : ℕ) → ℕ → Bool
 bounds lo hi byte = eqb byte lo || eqb byte (hi + 1)
 
+-- One of these ranges has a boundary before the byte: it begins there, or ends at the byte before.
 abbrev pub transitions_bound : List Transition → ℕ → Bool
 transitions_bound [] byte = false
 transitions_bound (t ∷ ts) byte = bounds t.lo t.hi byte || transitions_bound ts byte
@@ -49,6 +50,7 @@ state_bounds terminator (is.Capture next pattern index slot) byte = false
 state_bounds terminator is.Fail byte = false
 state_bounds terminator (is.Match pattern) byte = false
 
+-- Whether some state has a boundary before the byte.
 abbrev pub states_bound : (terminator : ℕ) → List State → ℕ → Bool
 states_bound terminator [] byte = false
 states_bound terminator (s ∷ ss) byte = state_bounds terminator s byte || states_bound terminator ss byte
@@ -71,9 +73,11 @@ class_of a quits on byte = boundary_count (is_boundary a quits on) byte
 abbrev pub class_in : List ℕ → ℕ → ℕ
 class_in classes byte = slice_index classes byte
 
+-- The class of the end of the input: the one after the last class of bytes.
 abbrev pub eoi_class : List ℕ → ℕ
 eoi_class classes = class_in classes 255 + 1
 
+-- How many classes there are, with that of the end of the input.
 abbrev pub alphabet_length : List ℕ → ℕ
 alphabet_length classes = class_in classes 255 + 2
 
@@ -84,14 +88,19 @@ stride_for length =
     else (if nat_le length 16 then 16 else (if nat_le length 32 then 32 else (if nat_le length 64 then 64
     else (if nat_le length 128 then 128 else (if nat_le length 256 then 256 else 512)))))))
 
+-- The cells of a row of the table: how many classes there are, rounded up to a power of two.
 abbrev pub stride_of : List ℕ → ℕ
 stride_of classes = stride_for (alphabet_length classes)
 
 -- Classes of the 256 bytes: they rise by at most one from byte to byte.
 pub record AreClasses (classes : List ℕ) : Type 0 where
+  -- there is a class for each byte
   pub whole : length classes ≡ 256
+  -- the next byte has the same class or the next one
   pub rising : (byte : ℕ) → byte < 255
       → (class_in classes byte ≤ class_in classes (byte + 1))
       × (class_in classes (byte + 1) ≤ class_in classes byte + 1)
+  -- the last byte has the greatest class
   pub below : (byte : ℕ) → byte < 256 → class_in classes byte ≤ class_in classes 255
+  -- there are at most 256 classes of bytes, counted from 0
   pub few : class_in classes 255 ≤ 255

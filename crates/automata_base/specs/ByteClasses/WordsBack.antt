@@ -15,6 +15,7 @@ truth_in words byte h = get_or-map-range_with_len (has_byte words) 0 256 byte by
     none_more : (byte : ℕ) → 0 + byte ≡ byte
     none_more byte = omega arith
 
+-- The list says something of each of the 256 bytes.
 pub whole : (words : List ℕ) → length (truths_of words) ≡ 256
 unfolding truths_of
 whole words = length-map-range_with_len (has_byte words) 0 256

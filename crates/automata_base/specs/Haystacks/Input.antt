@@ -6,16 +6,22 @@ use Rattle.automata_base.specs.declared.util.search.Anchored.TheVariants.{No, Ye
 
 -- What is searched: the span `start..end` of a haystack. It is done if `start` is past `end`.
 pub record Input : Type 0 where
+  -- the bytes that are searched; looks see those beside the span too
   pub haystack : List ℕ
+  -- the offset where the span begins
   pub start : ℕ
+  -- the offset where the span ends, exclusive
   pub end : ℕ
+  -- the anchored mode: unanchored, anchored at the start, or anchored there and of one pattern
   pub anchored : Anchored
+  -- whether the search stops as soon as it has found a match
   pub earliest : Bool
 
 -- A span may be set: it ends in the haystack, and begins at most one after its end, where it is done.
 abbrev pub Allows : List ℕ → ℕ → ℕ → Type 0
 Allows haystack start end = (start ≤ end + 1) × (end ≤ length haystack)
 
+-- The span of an input is one that may be set.
 abbrev pub IsAllowed : Input → Type 0
 IsAllowed input = Allows input.haystack input.start input.end
 

@@ -16,15 +16,17 @@ within lo hi u = leb lo u && leb u hi
 abbrev pub is_word_byte : ℕ → Bool
 is_word_byte u = within 48 57 u || within 65 90 u || eqb u 95 || within 97 122 u
 
--- The byte on one side of a place: absent only outside the haystack.
+-- Whether there is no byte on one side of a place: so it is only outside the haystack.
 abbrev pub is_absent : Option ℕ → Bool
 is_absent None = true
 is_absent (Some u) = false
 
+-- Whether there is a byte, and it is this one.
 abbrev pub is_byte : ℕ → Option ℕ → Bool
 is_byte b None = false
 is_byte b (Some u) = eqb u b
 
+-- Whether there is a byte, and it is a word byte.
 abbrev pub is_word : Option ℕ → Bool
 is_word None = false
 is_word (Some u) = is_word_byte u
@@ -34,11 +36,12 @@ abbrev pub differ : Bool → Bool → Bool
 differ true b = not b
 differ false b = b
 
--- The byte of `\r\n` that is read first, which under the reverse flag is the line feed; and the one read second.
+-- The byte of `\r\n` that is read first: under the reverse flag it is the line feed.
 abbrev pub first_half : Bool → ℕ
 first_half false = 13
 first_half true = 10
 
+-- The byte of `\r\n` that is read second.
 abbrev pub second_half : Bool → ℕ
 second_half false = 10
 second_half true = 13

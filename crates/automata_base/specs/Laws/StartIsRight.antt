@@ -19,7 +19,9 @@ ReportSpans Reports =
 -- This holds of one that answers both ways by the ordered paths, and of one whose search back finds the farthest place
 -- alone, as a pass of any reverse NFA does.
 pub record StartsAreRight : Type 0 where
+  -- it holds if the search back answers by the ordered paths
   pub paths : ReportSpans IsTrySearch
+  -- it holds if the search back finds the farthest place alone
   pub farthest : ReportSpans IsFarSearch
 
 -- If both engines are sound, the search over them finds the match of the paths, or that there is none.
@@ -44,9 +46,13 @@ abbrev pub IterationsAreOne : Type 0
 IterationsAreOne =
     (d : Engine) (input : Input) (ms ms' : List Match) → AreSpans d input ms → AreSpans d input ms' → ms ≡ ms'
 
+-- Matches, answers and iterations are unique.
 pub record AreOne : Type 0 where
+  -- an input has at most one match
   pub span : SpansAreOne
+  -- a search has at most one answer
   pub answer : AnswersAreOne
+  -- an iteration has at most one list of matches
   pub list : IterationsAreOne
 
 -- An iteration over a true pair reports the spans.
@@ -61,6 +67,7 @@ EndsRise =
     (d : Engine) (input : Input) (ms : List Match) → input.end ≤ length input.haystack → AreSpans d input ms
     → Rise input.end None ms × (length ms ≤ suc (input.end - input.start))
 
+-- The same of the matches that searches over two DFAs find.
 abbrev pub FoundEndsRise : Type 0
 FoundEndsRise =
     (f r : Engine) (input : Input) (ms : List Match) → input.end ≤ length input.haystack → AreFound f r input ms
@@ -68,7 +75,9 @@ FoundEndsRise =
 
 -- By paths, and over any two DFAs.
 pub record AllEndsRise : Type 0 where
+  -- it is so of the matches of the paths
   pub spans : EndsRise
+  -- it is so of the matches that searches over two DFAs find
   pub found : FoundEndsRise
 
 -- If the input is not earliest or nothing is skipped, there is a match exactly if a search finds one.

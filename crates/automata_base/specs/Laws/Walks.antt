@@ -21,11 +21,12 @@ SpanReports way a kind input pairs =
 abbrev pub AreReported : Direction → Automaton → MatchKind → Input → List Pair → Type 0
 AreReported way a kind input found = Walks (SpanReports way a kind) (IsSkipping (engine_of a kind)) way input found
 
--- each walk has such a list, and one alone
+-- each walk has such a list
 abbrev pub WalksAreReported : Automaton → Type 0
 WalksAreReported a =
     (way : Direction) (kind : MatchKind) (input : Input) → (found : List Pair) × AreReported way a kind input found
 
+-- a walk has no two such lists
 abbrev pub WalksAreOne : Type 0
 WalksAreOne =
     (way : Direction) (a : Automaton) (kind : MatchKind) (input : Input) (first second : List Pair)
@@ -45,6 +46,7 @@ OverlappingIsReported a =
     → KeepsCycles (nfa_of a) → IsInput input → IsOverlapping way (engine_of a kind) input found
     → AreReported way a kind input found
 
+-- the pair is in the list
 abbrev pub InPairs : Pair → List Pair → Type 0
 InPairs pair [] = ⊥
 InPairs pair (x ∷ xs) = (pair ≡ x) ⊎ InPairs pair xs

@@ -17,14 +17,23 @@ IsInRange n =
 
 -- At most 2^27 states, and at most 2^27 patterns, each number in range, ranges in order.
 pub record IsChecked (a : Automaton) : Type 0 where
+  -- there are at most 2^27 states
   pub small : length a.states ≤ 2 ^ 27
+  -- there are at most 2^27 patterns
   pub few : length a.start_pattern ≤ 2 ^ 27
+  -- each edge leads to one of the states
   pub range : IsInRange (nfa_of a)
+  -- the anchored start is one of the states
   pub anchored : a.start_anchored < length a.states
+  -- the unanchored start is one of the states
   pub unanchored : a.start_unanchored < length a.states
+  -- the start of each pattern is one of the states
   pub starts : All (λ s. s < length a.states) a.start_pattern
+  -- no range is reversed, and those of a sparse state are sorted and do not overlap
   pub ordered : states_ordered a.states ≡ true
+  -- the stack of a closure needs at most 2^31 + 1 entries
   pub room : stack_room a.states ≤ 2 ^ 31 + 1
+  -- each match state is of a pattern that the NFA has
   pub patterns : (q p : ℕ) → accepts (nfa_of a) q ≡ Some p → p < length a.start_pattern
 
 -- The set of the looks that are states of the NFA.

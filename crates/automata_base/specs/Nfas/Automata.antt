@@ -8,7 +8,7 @@ use Rattle.automata_base.specs.Paths.Paths.{IsLookAcyclic}
 use Rattle.automata_base.specs.Nfas.Accepted.{IsChecked, IsLooks}
 use Rattle.automata_base.specs.Nfas.Getters.{HasEmpty, SkipsLazily}
 
--- What contracts see of an NFA, by its parts, and by its data.
+-- What contracts see of an NFA, by its parts; it does not keep unions.
 abbrev pub automaton : List State → (anchored unanchored : ℕ) → (starts : List ℕ) → Flags → Automaton
 automaton states anchored unanchored starts flags = record {
   states = states;
@@ -19,6 +19,7 @@ automaton states anchored unanchored starts flags = record {
   keeps_unions = false;
 }
 
+-- What contracts see of an NFA, by its data.
 abbrev pub automaton_of : Data → (keeps_unions : Bool) → Automaton
 automaton_of d keeps_unions = record {
   states = d.states.items;
@@ -31,9 +32,15 @@ automaton_of d keeps_unions = record {
 
 -- The data of an NFA that `NFA::from_states` accepts: what it says of itself was computed when it was made.
 pub record IsConsistent (d : Data) (keeps_unions : Bool) : Type 0 where
+  -- it passes the tests of `NFA::from_states`
   pub checked : IsChecked (automaton_of d keeps_unions)
+  -- the set of looks that it holds has just the looks that are its states
   pub looks : IsLooks (automaton_of d keeps_unions) d.looks
+  -- the room that it holds is what the stack of a closure needs
   pub room : d.room ≡ stack_room d.states.items
+  -- it says correctly whether it has the empty match
   pub empty : IsTrue d.has_empty ↔ HasEmpty (automaton_of d keeps_unions)
+  -- it says correctly whether unanchored searches begin anchored, or after any bytes, the fewest first
   pub skips : IsTrue d.skips_lazily ↔ SkipsLazily (automaton_of d keeps_unions)
+  -- it says correctly whether no cycle of edges that read nothing passes a look
   pub acyclic : IsTrue d.is_look_acyclic ↔ IsLookAcyclic (nfa_of (automaton_of d keeps_unions))

@@ -18,11 +18,16 @@ use Rattle.automata_base.specs.Nfas.Shapes.{Shape, UnionShape, RangeShape, shape
 -- Its states as they were added and patched, the pattern that was started and not finished, the starts of the
 -- finished patterns, and the flags.
 pub record Draft : Type 0 where
+  -- the states, as they were added and patched
   pub states : List Shape
+  -- the pattern that was started and not finished, if there is one
   pub pattern : Option ℕ
+  -- the starts of the finished patterns
   pub starts : List ℕ
+  -- the flags that the NFA will have
   pub flags : Flags
 
+-- The draft that a builder holds.
 abbrev pub draft_of : Inside → Draft
 draft_of b = record {
   states = map shape_added b.states.items;
@@ -35,18 +40,21 @@ draft_of b = record {
 abbrev pub blank : Flags → Draft
 blank flags = record { states = []; pattern = None; starts = []; flags = flags }
 
+-- The flags of a new builder: neither UTF-8 nor reverse, and lines end at `\n`.
 abbrev pub default_flags : Flags
 default_flags = record { utf8 = false; reverse = false; line_terminator = 10 }
 
--- The same with other states, with a pattern started, and with it finished.
+-- The same draft with these states.
 abbrev pub with_states : Draft → List Shape → Draft
 with_states draft states =
     record { states = states; pattern = draft.pattern; starts = draft.starts; flags = draft.flags }
 
+-- The same draft with the next pattern started.
 abbrev pub started : Draft → Draft
 started draft =
     record { states = draft.states; pattern = Some (length draft.starts); starts = draft.starts; flags = draft.flags }
 
+-- The same draft with its pattern finished, whose start is this state.
 abbrev pub finished : Draft → ℕ → Draft
 finished draft start =
     record { states = draft.states; pattern = None; starts = draft.starts ++ start ∷ []; flags = draft.flags }
@@ -64,27 +72,40 @@ prefix_of draft start =
 -- A call that adds states returns the ID of the first of them, or an error, and then it changes nothing. It fails if
 -- IDs run out, and otherwise only if the allocation fails.
 pub record IsAdding (old new : Draft) (result : Result ℕ BuildError) (shapes : List Shape) : Type 0 where
+  -- the ID that it returns is that of the first state added
   pub id : IfOk result (λ id. id ≡ length old.states)
+  -- if it returns an ID, these states come after those that were there
   pub added : OnOk result (new ≡ with_states old (old.states ++ shapes))
+  -- if it fails, it changes nothing
   pub same : OnErr result (new ≡ old)
+  -- it fails with this error if IDs run out
   pub large : 2147483647 < length old.states + length shapes → result ≡ Err TooLarge
+  -- otherwise it fails only if the allocation fails
   pub memory : length old.states + length shapes ≤ 2147483647 → IsOkUnless result OutOfMemory
 
 -- The same of a call that needs a started pattern: without one it fails, and changes nothing.
 pub record IsAddingOf
     (old new : Draft) (result : Result ℕ BuildError) (shape : ℕ → Shape)
     : Type 0 where
+  -- without a started pattern it fails, and changes nothing
   pub none : old.pattern ≡ None → (result ≡ Err NoPattern) × (new ≡ old)
+  -- with one it adds a state for that pattern
   pub one : (p : ℕ) → old.pattern ≡ Some p → IsAdding old new result (shape p ∷ [])
 
 -- An NFA by the shapes of its states.
 pub record Outline : Type 0 where
+  -- the shapes of its states
   pub states : List Shape
+  -- the state where anchored searches begin
   pub start_anchored : ℕ
+  -- the state where unanchored searches begin
   pub start_unanchored : ℕ
+  -- the state where anchored searches of each pattern begin
   pub start_pattern : List ℕ
+  -- its UTF-8 flag, its reverse flag and its line terminator
   pub flags : Flags
 
+-- The outline of an NFA.
 abbrev pub outline : Automaton → Outline
 outline a = record {
   states = map shape_of a.states;

@@ -10,11 +10,17 @@ pub use Rattle.automata_base.specs.declared.util.search.Anchored.TheVariants.{No
 
 -- The starts are those of an anchored search, of an unanchored one, and of each pattern.
 pub record Engine : Type 0 where
+  -- the NFA, as paths see it
   pub nfa : Nfa
+  -- the state where anchored searches begin
   pub anchored : ℕ
+  -- the state where unanchored searches begin
   pub unanchored : ℕ
+  -- the state where anchored searches of each pattern begin
   pub starts : List ℕ
+  -- whether offsets inside a character are skipped, if the NFA has the empty match
   pub utf8 : Bool
+  -- the match kind, which says which path is the match
   pub kind : MatchKind
 
 -- The state where the paths of an anchored mode start; none past the last pattern.
@@ -27,6 +33,7 @@ first_state d (Pattern k) = slice_get d.starts k
 abbrev pub MatchesEmpty : Nfa → (starts : List ℕ) → Type 0
 MatchesEmpty n starts = (start q p : ℕ) × In start starts × HasEpsilonPath n start q × (accepts n q ≡ Some p)
 
+-- A match is reached from some pattern's start without reading a byte, looks taken as true.
 abbrev pub HasEmptyMatch : Engine → Type 0
 HasEmptyMatch d = MatchesEmpty d.nfa d.starts
 

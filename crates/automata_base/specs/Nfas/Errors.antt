@@ -11,6 +11,7 @@ use Rattle.automata_base.specs.Nfas.Shapes.{Shape, EmptyShape, RangeShape, Spars
 use Rattle.automata_base.specs.Nfas.Shapes.{UnionShape, UnionReverseShape, BinaryUnionShape, CaptureShape, FailShape}
 use Rattle.automata_base.specs.Nfas.Shapes.{MatchShape, shape_of}
 
+-- Each of these ranges leads to a state below the bound.
 abbrev pub transitions_below : ℕ → List Transition → Bool
 transitions_below n [] = true
 transitions_below n (t ∷ ts) = ltb t.next n && transitions_below n ts
@@ -29,9 +30,11 @@ shape_below n (CaptureShape next pattern index slot) = ltb next n
 shape_below n FailShape = true
 shape_below n (MatchShape pattern) = true
 
+-- Each state number of a state of an NFA is in range.
 abbrev pub state_below : ℕ → State → Bool
 state_below n state = shape_below n (shape_of state)
 
+-- Each state number of these states is in range.
 abbrev pub states_below : ℕ → List State → Bool
 states_below n [] = true
 states_below n (x ∷ xs) = state_below n x && states_below n xs
@@ -50,18 +53,21 @@ shape_matches_below P (CaptureShape next pattern index slot) = true
 shape_matches_below P FailShape = true
 shape_matches_below P (MatchShape pattern) = ltb pattern P
 
+-- The pattern of a state of an NFA is in range, if it is a match state.
 abbrev pub match_below : ℕ → State → Bool
 match_below P state = shape_matches_below P (shape_of state)
 
+-- Each pattern of these states is in range.
 abbrev pub matches_below : ℕ → List State → Bool
 matches_below P [] = true
 matches_below P (x ∷ xs) = match_below P x && matches_below P xs
 
--- Ranges are not reversed, and those of a sparse state are sorted and do not overlap.
+-- None of these ranges is reversed or begins below the bound, and they are sorted and do not overlap.
 abbrev pub ordered_from : ℕ → List Transition → Bool
 ordered_from low [] = true
 ordered_from low (t ∷ ts) = leb low t.lo && leb t.lo t.hi && ordered_from (t.hi + 1) ts
 
+-- Ranges are not reversed, and those of a sparse state are sorted and do not overlap.
 abbrev pub shape_ordered : Shape → Bool
 shape_ordered (EmptyShape next) = true
 shape_ordered (RangeShape lo hi next) = leb lo hi
@@ -75,9 +81,11 @@ shape_ordered (CaptureShape next pattern index slot) = true
 shape_ordered FailShape = true
 shape_ordered (MatchShape pattern) = true
 
+-- The ranges of a state of an NFA are in order.
 abbrev pub state_ordered : State → Bool
 state_ordered state = shape_ordered (shape_of state)
 
+-- The ranges of each of these states are in order.
 abbrev pub states_ordered : List State → Bool
 states_ordered [] = true
 states_ordered (x ∷ xs) = state_ordered x && states_ordered xs
@@ -96,6 +104,7 @@ shape_alternates (CaptureShape next pattern index slot) = 0
 shape_alternates FailShape = 0
 shape_alternates (MatchShape pattern) = 0
 
+-- How many alternates a state of an NFA has.
 abbrev pub alternates_of : State → ℕ
 alternates_of state = shape_alternates (shape_of state)
 
@@ -115,6 +124,7 @@ starts_below n anchored unanchored starts = ltb anchored n && ltb unanchored n &
 abbrev pub unless : Bool → NfaError → Option NfaError → Option NfaError
 unless passes error later = if passes then later else Some error
 
+-- Whether each of these states passes the test.
 abbrev pub every : (Shape → Bool) → List Shape → Bool
 every test [] = true
 every test (x ∷ xs) = test x && every test xs
@@ -129,5 +139,6 @@ shapes_error shapes anchored unanchored starts =
     (unless (every shape_ordered shapes) Ranges
     (unless (every (shape_matches_below (length starts)) shapes) PatternRange None)))))
 
+-- The error of the first test of `NFA::from_states` that these states fail; none if they pass all.
 abbrev pub states_error : List State → (anchored unanchored : ℕ) → (starts : List ℕ) → Option NfaError
 states_error states anchored unanchored starts = shapes_error (map shape_of states) anchored unanchored starts

@@ -65,6 +65,7 @@ HasArcAt (Accept p) Free next = ⊥
 HasArcAt (Accept p) (Asks look) next = ⊥
 HasArcAt (Accept p) (Reads lo hi) next = ⊥
 
+-- The state has an edge with that label to `next`.
 abbrev pub HasArc : Nfa → ℕ → Label → ℕ → Type 0
 HasArc n q l next = HasArcAt (node n q) l next
 
@@ -79,6 +80,7 @@ abbrev pub IsLed : Nfa → (q : ℕ) → (way : List ℕ) → (z : ℕ) → Type
 IsLed n q [] z = q ≡ z
 IsLed n q (r ∷ way) z = ((l : Label) × HasArc n q l r) × IsLed n r way z
 
+-- Edges lead from `q` to `z`, over any number of states.
 abbrev pub LeadsTo : Nfa → (q z : ℕ) → Type 0
 LeadsTo n q z = (way : List ℕ) × IsLed n q way z
 
@@ -86,11 +88,13 @@ LeadsTo n q z = (way : List ℕ) × IsLed n q way z
 abbrev pub IsKept : Nfa → (first p q : ℕ) → Type 0
 IsKept n first p q = LeadsTo n first q × ((z : ℕ) × LeadsTo n q z × (accepts n z ≡ Some p))
 
+-- The edge reads a byte or tests a look.
 abbrev pub IsAsking : Label → Type 0
 IsAsking Free = ⊥
 IsAsking (Asks look) = Unit {0}
 IsAsking (Reads lo hi) = Unit {0}
 
+-- The node is a union, or a capture or a fail state, which paths see as unions.
 abbrev pub IsUnion : Node → Type 0
 IsUnion (Split alternates) = Unit {0}
 IsUnion (Assert look next) = ⊥
@@ -107,28 +111,40 @@ IsEdgeTo n m first p place t x =
 -- the reversed edges to `t`, and of a match where paths begin at `t`; or it is the only one of these itself. None of
 -- them repeats, and no two of them read, test or match the same and go on to the same state.
 pub record IsReversedAt (n m : Nfa) (first p : ℕ) (place : ℕ → ℕ) (t : ℕ) (xs : List ℕ) : Type 0 where
+  -- the state for `t` is the union of these states, or is the only one of them
   pub stands : (node m (place t) ≡ Split xs) ⊎ ((xs ≡ place t ∷ []) × IsEdgeTo n m first p place t (place t))
+  -- each of them is a reversed edge to `t`, or a match if paths begin at `t`
   pub sound :
       (x : ℕ) → In x xs
       → ((s : ℕ) × (l : Label) × IsKept n first p s × HasArc n s l t × IsReversedArc m x l (place s))
       ⊎ ((t ≡ first) × (node m x ≡ Accept p))
+  -- each edge to `t` from a state that is kept is reversed to one of them
   pub arcs :
       (s : ℕ) (l : Label) → IsKept n first p s → HasArc n s l t
       → (x : ℕ) × In x xs × IsReversedArc m x l (place s)
+  -- if paths begin at `t`, one of them is a match of the pattern
   pub reported : t ≡ first → (x : ℕ) × In x xs × (node m x ≡ Accept p)
+  -- none of them repeats
   pub distinct : Distinct xs
+  -- no two of them that read, test or match do the same and go on to the same state
   pub once : (x y : ℕ) → In x xs → In y xs → node m x ≡ node m y → IsUnion (node m x) ⊎ (x ≡ y)
 
 -- The entry goes on to the states that stand for the matches of the pattern.
 pub record IsEntry (n m : Nfa) (first p entry : ℕ) (place : ℕ → ℕ) (xs : List ℕ) : Type 0 where
+  -- the entry is the union of these states
   pub union : node m entry ≡ Split xs
+  -- each of them stands for a match state of the pattern that is kept
   pub sound : (x : ℕ) → In x xs → (q : ℕ) × IsKept n first p q × (accepts n q ≡ Some p) × (x ≡ place q)
+  -- each match state of the pattern that edges reach from the first state has its state among them
   pub matches : (q : ℕ) → LeadsTo n first q → accepts n q ≡ Some p → In (place q) xs
+  -- none of them repeats
   pub distinct : Distinct xs
 
 -- The part for the pattern `p` has a state for each state of `n` that it keeps. Its backward paths begin at `entry`.
 pub record IsPart (n m : Nfa) (first p entry : ℕ) (place : ℕ → ℕ) : Type 0 where
+  -- backward paths begin at the entry, which goes on to the states for the matches
   pub enters : (xs : List ℕ) × IsEntry n m first p entry place xs
+  -- each state that is kept has its state, with the reversed edges
   pub turned : (t : ℕ) → IsKept n first p t → (xs : List ℕ) × IsReversedAt n m first p place t xs
 
 -- The state is the entry, or stands for a state that is kept, or is an alternate of one that does.
@@ -141,12 +157,19 @@ IsOfPart n m first p entry place x =
 -- `m` is `n` reversed: it has a part for each pattern, whose paths begin at its entry, and at the root those of all.
 -- `place p q` is the state for `q` in the part for the pattern `p`. There are no other states.
 pub record IsMirror (n m : Nfa) (first : ℕ) (entries : List ℕ) (root : ℕ) : Type 0 where
+  -- lines end at the same byte
   pub terminator : m.terminator ≡ n.terminator
+  -- the reverse flag is flipped
   pub reverse : m.reverse ≡ not n.reverse
+  -- the root is the union of the entries
   pub roots : node m root ≡ Split entries
+  -- each pattern has an entry of its own
   pub distinct : Distinct entries
+  -- the state that stands for a state in the part for a pattern
   pub place : (p q : ℕ) → ℕ
+  -- each pattern has a part, whose backward paths begin at its entry
   pub parts : (p entry : ℕ) → slice_get entries p ≡ Some entry → IsPart n m first p entry (place p)
+  -- there are no other states than the root and those of the parts
   pub only :
       (x : ℕ) → x < length m.nodes
       → (x ≡ root)
@@ -158,9 +181,13 @@ reversed_flags f = record { utf8 = f.utf8; reverse = not f.reverse; line_termina
 
 -- The NFA `b` is `a` reversed. Anchored and unanchored searches of it begin at one state.
 pub record IsReversed (a b : Automaton) : Type 0 where
+  -- they have the same number of patterns
   pub patterns : length b.start_pattern ≡ length a.start_pattern
+  -- both or neither are in UTF-8 mode
   pub utf8 : b.flags.utf8 ≡ a.flags.utf8
+  -- anchored and unanchored searches of it begin at one state
   pub one_start : b.start_unanchored ≡ b.start_anchored
+  -- its states are those of the other NFA reversed, the edges of dense states taken as ranges
   pub mirror : IsMirror (ranged_nfa a) (nfa_of b) a.start_anchored b.start_pattern b.start_anchored
 
 -- The empty match is reached from some pattern's start exactly if it is reached from the anchored start.

@@ -5,8 +5,11 @@ use Rattle.automata_base.specs.Haystacks.Looks.{Look, within}
 
 -- Bytes from `lo` to `hi` lead to `next`.
 pub record Range : Type 0 where
+  -- the first byte of the range
   pub lo : ℕ
+  -- the last byte of the range, inclusive
   pub hi : ℕ
+  -- the state that these bytes lead to
   pub next : ℕ
 
 -- A union has its alternates in order, a capture its one target, fail none; a byte state has its ranges.
@@ -16,12 +19,18 @@ pub data Node : Type 0 where
   Read : List Range → Node
   Accept : ℕ → Node
 
+-- An NFA, as paths and powerset states see it.
 pub record Nfa : Type 0 where
+  -- its states; the number of a state is its index
   pub nodes : List Node
+  -- the byte that ends a line, for the looks of lines
   pub terminator : ℕ
+  -- whether it reads the haystack backward, so that of `\r\n` it reads the line feed first
   pub reverse : Bool
+  -- whether powerset states keep its unions of two or more alternates
   pub keeps_unions : Bool
 
+-- The node, or a fail state if there is none.
 abbrev pub node_or_fail : Option Node → Node
 node_or_fail None = Split []
 node_or_fail (Some x) = x
@@ -34,6 +43,7 @@ node n q = node_or_fail (slice_get n.nodes q)
 abbrev pub Truth : Type 0
 Truth = Look → Bool
 
+-- Where the edge `e` of a state leads that reads nothing; a look has one, the edge 0, where it holds.
 abbrev pub hop_at : Node → Truth → ℕ → Option ℕ
 hop_at (Split alternates) A e = slice_get alternates e
 hop_at (Assert look next) A zero = cond (A look) (Some next) None
@@ -50,6 +60,7 @@ abbrev pub takes_in : List Range → ℕ → Option ℕ
 takes_in [] u = None
 takes_in (r ∷ rs) u = cond (within r.lo r.hi u) (Some r.next) (takes_in rs u)
 
+-- Where a state leads on the byte `u`, if it reads it.
 abbrev pub takes_at : Node → ℕ → Option ℕ
 takes_at (Split alternates) u = None
 takes_at (Assert look next) u = None
@@ -60,6 +71,7 @@ takes_at (Accept p) u = None
 abbrev pub takes : Nfa → ℕ → ℕ → Option ℕ
 takes n q u = takes_at (node n q) u
 
+-- The pattern of a state, if it is a match state.
 abbrev pub accepts_at : Node → Option ℕ
 accepts_at (Split alternates) = None
 accepts_at (Assert look next) = None
@@ -88,6 +100,7 @@ splits_at (Accept p) = false
 abbrev pub keeps : Nfa → ℕ → Bool
 keeps n q = stays_at (node n q) || (splits_at (node n q) && n.keeps_unions)
 
+-- The state, if powerset states keep it.
 abbrev pub keep : Nfa → ℕ → Option ℕ
 keep n q = cond (keeps n q) (Some q) None
 
@@ -98,6 +111,7 @@ ends_at (Assert look next) = false
 ends_at (Read ranges) = true
 ends_at (Accept p) = true
 
+-- The state, if it reads a byte or is a match.
 abbrev pub ends : Nfa → ℕ → Option ℕ
 ends n q = cond (ends_at (node n q)) (Some q) None
 

@@ -6,9 +6,11 @@ use Rattle.automata_base.specs.declared.nfa.thompson.Transition.{Transition}
 use Rattle.automata_base.specs.declared.nfa.thompson.Flags.{Flags}
 use Rattle.automata_base.specs.Nfas.Nfa.{Nfa, Node, Range, Split, Assert, Read, Accept}
 
+-- A transition of the code as a range.
 abbrev pub range_of : Transition → Range
 range_of t = record { lo = t.lo; hi = t.hi; next = t.next }
 
+-- The ranges of a sparse state, in order.
 abbrev pub ranges_of : List Transition → List Range
 ranges_of [] = []
 ranges_of (t ∷ ts) = range_of t ∷ ranges_of ts
@@ -31,17 +33,24 @@ node_of (is.Capture next pattern index slot) = Split (next ∷ [])
 node_of is.Fail = Split []
 node_of (is.Match pattern) = Accept pattern
 
+-- The nodes of these states, in order.
 abbrev pub nodes_of : List State → List Node
 nodes_of [] = []
 nodes_of (x ∷ xs) = node_of x ∷ nodes_of xs
 
 -- What contracts see of an NFA.
 pub record Automaton : Type 0 where
+  -- its states; the ID of a state is its index
   pub states : List State
+  -- the state where anchored searches begin
   pub start_anchored : ℕ
+  -- the state where unanchored searches begin
   pub start_unanchored : ℕ
+  -- the state where anchored searches of each pattern begin
   pub start_pattern : List ℕ
+  -- its UTF-8 flag, its reverse flag and its line terminator
   pub flags : Flags
+  -- whether powerset states keep its unions of two or more alternates
   pub keeps_unions : Bool
 
 -- What paths see of an NFA.

@@ -21,6 +21,7 @@ pub data Shape : Type 0 where
   FailShape : Shape
   MatchShape : (pattern : ℕ) → Shape
 
+-- The shape of a state of an NFA.
 abbrev pub shape_of : State → Shape
 shape_of (is.ByteRange lo hi next) = RangeShape lo hi next
 shape_of (is.Sparse ts) = SparseShape ts.items
@@ -32,6 +33,7 @@ shape_of (is.Capture next pattern index slot) = CaptureShape next pattern index 
 shape_of is.Fail = FailShape
 shape_of (is.Match pattern) = MatchShape pattern
 
+-- The shape of a state that a builder keeps.
 abbrev pub shape_added : Added → Shape
 shape_added (was.Empty next) = EmptyShape next
 shape_added (was.Range t) = RangeShape t.lo t.hi t.next

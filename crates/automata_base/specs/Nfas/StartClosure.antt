@@ -18,23 +18,32 @@ use Rattle.automata_base.specs.declared.nfa.thompson.start_closure.StartClosure.
 
 -- The states visited from the unanchored start, in order, whichever looks hold.
 pub record IsVisited (a : Automaton) (closure : Members) : Type 0 where
+  -- the set has room for each state of the NFA
   pub whole : closure.capacity ≡ length a.states
+  -- its members are the states visited from the unanchored start, in order, whichever looks hold
   pub visited : (A : Truth) → Visits (nfa_of a) A (a.start_unanchored ∷ []) [] closure.items
 
 -- What powerset states keep of a closure that has no look.
 pub record IsKept (n : Nfa) (closure kept : List ℕ) : Type 0 where
+  -- it is what powerset states keep of the closure, in order
   pub same : kept ≡ pick (keep n) closure
+  -- it is no longer than the closure
   pub few : length kept ≤ length closure
+  -- it has no look
   pub looks : (other : Look) → any_state (λ look. eqb (look_index look) (look_index other)) n kept ≡ false
 
--- The bytes of NFA states behind the first of them.
+-- The bytes of NFA states after the first of them.
 pub record IsRestCode (kept code : List ℕ) : Type 0 where
+  -- whatever state comes before, the bytes of all are those of the first one, and then these
   pub joined : (before : ℕ) → ids_code before kept ≡ ids_code before (take 1 kept) ++ code
+  -- the states after the first one have numbers that IDs may have
   pub ids : All IsId (drop 1 kept)
 
 -- These are the targets of a list on a byte, and no state of the list matches.
 pub record AreTargets (n : Nfa) (list : List ℕ) (u : ℕ) (row : List ℕ) : Type 0 where
+  -- no state of the list matches
   pub unmatched : has_match n list ≡ false
+  -- these are the states that its byte states lead to on the byte
   pub same : row ≡ targets n (Some u) list
 
 -- Each row has the targets of a list on a byte: row k those on byte k.
@@ -48,7 +57,11 @@ AddsEdges node old new =
 
 -- The closure of the unanchored start, what is kept of it, its bytes and its targets.
 pub record IsStartClosure (a : Automaton) (c : StartClosure) : Type 0 where
+  -- the states visited from the unanchored start
   pub closure : IsVisited a c.set
+  -- what powerset states keep of them
   pub kept : IsKept (nfa_of a) c.set.items c.kept.items
+  -- the bytes of those kept, without the first one
   pub code : IsRestCode c.kept.items c.code.items
+  -- where those kept lead on each byte
   pub rows : AreRows (nfa_of a) c.kept.items c.rows.items

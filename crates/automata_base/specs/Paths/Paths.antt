@@ -6,23 +6,29 @@ use Rattle.automata_base.specs.Nfas.Nfa.{Nfa, Split, Assert, Truth, node, hop, t
 
 -- A span as a search reads it: its bytes in the order in which they are read, and the bytes of the haystack beside it.
 pub record Tape : Type 0 where
+  -- the byte before the first one that is read, if the haystack has it
   pub before : Option ℕ
+  -- the bytes of the span, in the order in which they are read
   pub bytes : List ℕ
+  -- the byte after the last one that is read, if the haystack has it
   pub after : Option ℕ
 
+-- The byte before a place: that beside the span at its first place.
 abbrev pub prev_in : Option ℕ → List ℕ → ℕ → Option ℕ
 prev_in before bytes zero = before
 prev_in before bytes (suc i) = slice_get bytes i
 
+-- The byte after a place: that beside the span after its last byte.
 abbrev pub next_in : List ℕ → Option ℕ → ℕ → Option ℕ
 next_in [] after i = after
 next_in (u ∷ us) after zero = Some u
 next_in (u ∷ us) after (suc i) = next_in us after i
 
--- The byte before a place, and the one after it.
+-- The byte before a place of a tape.
 abbrev pub prev : Tape → ℕ → Option ℕ
 prev t i = prev_in t.before t.bytes i
 
+-- The byte after a place of a tape.
 abbrev pub next : Tape → ℕ → Option ℕ
 next t i = next_in t.bytes t.after i
 
@@ -56,15 +62,16 @@ IsPath n t start i q path = IsPathFrom n t 0 [] start path i q
 abbrev pub all_true : Truth
 all_true look = true
 
--- `q` leads to `z` by edges that stay at their place, looks taken as true: by these edges, and by some.
+-- `q` leads to `z` by these edges, which stay at their place, looks taken as true.
 abbrev pub Run : Nfa → ℕ → List ℕ → ℕ → Type 0
 Run n q [] z = q ≡ z
 Run n q (e ∷ path) z = (r : ℕ) × (hop n all_true q e ≡ Some r) × Run n r path z
 
+-- `q` leads to `z` by any number of edges that stay at their place, looks taken as true.
 abbrev pub HasEpsilonPath : Nfa → ℕ → ℕ → Type 0
 HasEpsilonPath n q z = (path : List ℕ) × Run n q path z
 
--- By at least one such edge.
+-- `q` leads to `z` by at least one such edge.
 abbrev pub LeadsOn : Nfa → ℕ → ℕ → Type 0
 LeadsOn n q z = (e r : ℕ) × (hop n all_true q e ≡ Some r) × HasEpsilonPath n r z
 

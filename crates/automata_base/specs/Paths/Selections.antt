@@ -29,13 +29,16 @@ IsFirstAt n t start i patterns =
     × ((other : ℕ) (more : List ℕ) → Accepts n t start i other more → Upto path more)
     × ((j other : ℕ) (more : List ℕ) → j < i → Accepts n t start j other more → Before path more))
 
+-- The patterns that a walk under a match kind reports at place `i`.
 abbrev pub ArePatternsAt : MatchKind → Nfa → Tape → ℕ → ℕ → List ℕ → Type 0
 ArePatternsAt All n t start i patterns = IsAllAt n t start i patterns
 ArePatternsAt LeftmostFirst n t start i patterns = IsFirstAt n t start i patterns
 
 -- A pattern and a place.
 pub record Pair : Type 0 where
+  -- the number of the pattern, counted from 0
   pub pattern : ℕ
+  -- where a path of it ends: a place on a tape, or the offset there
   pub place : ℕ
 
 -- These patterns, each at the place.

@@ -3,6 +3,7 @@ use Rattle.std.specs.Prelude.{ℕ, cond, List, [], ◌∷◌, ◌++◌}
 use Rattle.automata_base.specs.Lists.{In}
 use Rattle.automata_base.specs.Nfas.Nfa.{Nfa, Node, Split, Assert, Read, Accept, Truth, node}
 
+-- Where the edges of a state lead that stay at their place, in order; a look has one, where it holds.
 abbrev pub children_at : Node → Truth → List ℕ
 children_at (Split alternates) A = alternates
 children_at (Assert look next) A = cond (A look) (next ∷ []) []

@@ -8,9 +8,11 @@ use Rattle.automata_base.specs.Powersets.Powerset.{Powerset, IsPowerset, IsId}
 
 -- ---- the bytes of a state
 
+-- 1 if it is so, and 0 if not
 abbrev pub bit : Bool → ℕ
 bit b = if b then 1 else 0
 
+-- whether there are any patterns
 abbrev pub has_any : List ℕ → Bool
 has_any [] = false
 has_any (p ∷ ps) = true
@@ -52,6 +54,7 @@ unfoldable pub ids_code : ℕ → List ℕ → List ℕ
 ids_code before [] = []
 ids_code before (id ∷ ids) = varint (difference before id) ++ ids_code id ids
 
+-- the bytes of a state: its flags, the looks known and needed, its patterns, and its NFA states
 abbrev pub code : Powerset → List ℕ
 code q =
     flag_byte (has_any q.patterns) (is_listed q.patterns) q.word q.half
@@ -86,10 +89,12 @@ numbers (b ∷ bytes) = if nat_lt b 128 then b ∷ numbers bytes else with_low (
 abbrev pub id_at : ℕ → ℕ → ℕ
 id_at before z = if z % 2 == 0 then before + z / 2 else before - (z + 1) / 2
 
+-- the NFA states at these differences, each from the one before
 unfoldable pub ids_of : ℕ → List ℕ → List ℕ
 ids_of before [] = []
 ids_of before (z ∷ zs) = id_at before z ∷ ids_of (id_at before z) zs
 
+-- the patterns: none, those listed, or pattern 0 alone
 abbrev pub patterns_of : List ℕ → List ℕ
 patterns_of bytes =
     if is_set 1 bytes then (if is_set 2 bytes then numbers_at (number_at bytes 9) (drop 13 bytes) else 0 ∷ []) else []
@@ -98,6 +103,7 @@ patterns_of bytes =
 abbrev pub ids_bytes : List ℕ → List ℕ
 ids_bytes bytes = if is_set 2 bytes then drop (4 * number_at bytes 9) (drop 13 bytes) else drop 9 bytes
 
+-- the powerset state that the bytes stand for
 abbrev pub decoded : List ℕ → Powerset
 decoded bytes = record {
   nfa = ids_of 0 (numbers (ids_bytes bytes));
@@ -110,7 +116,9 @@ decoded bytes = record {
 
 -- the bytes are those of a powerset state
 pub record IsCode (bytes : List ℕ) : Type 0 where
+  -- what the bytes stand for is a powerset state
   pub state : IsPowerset (decoded bytes)
+  -- its bytes are these
   pub same : code (decoded bytes) ≡ bytes
 
 -- ---- reading
@@ -126,6 +134,9 @@ IsFront bytes n tail = (more : ℕ) × (n < 2 ^ 35) × FitsGroups more n × (byt
 
 -- the bytes are those of NFA states after this one
 pub record AreIds (before : ℕ) (bytes : List ℕ) : Type 0 where
+  -- the NFA state before has a number that an ID may have
   pub first : IsId before
+  -- so has each NFA state that the bytes stand for
   pub ids : AllByRecursion IsId (ids_of before (numbers bytes))
+  -- the bytes are those of these states
   pub same : ids_code before (ids_of before (numbers bytes)) ≡ bytes

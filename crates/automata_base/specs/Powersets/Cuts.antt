@@ -5,6 +5,7 @@ use Rattle.automata_base.specs.Nfas.Nfa.{Nfa, takes, accepts}
 pub use Rattle.automata_base.specs.declared.util.search.MatchKind.{MatchKind}
 pub use Rattle.automata_base.specs.declared.util.search.MatchKind.TheVariants.{All, LeftmostFirst}
 
+-- A state and what comes after it, which is dropped if the state matches a pattern.
 abbrev pub cut_after : Option ℕ → ℕ → List ℕ → List ℕ
 cut_after None q rest = q ∷ rest
 cut_after (Some p) q rest = q ∷ []

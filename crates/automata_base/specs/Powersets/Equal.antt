@@ -18,6 +18,7 @@ powerset_eq a b =
     && (pointwise nat_eq a.patterns b.patterns
     && ((a.known == b.known) && ((a.needed == b.needed) && (beq a.word b.word && beq a.half b.half))))
 
+-- the test says correctly whether two powerset states are equal
 pub powerset_eq-Decides : (a b : Powerset) → Decides (powerset_eq a b) (a ≡ b)
 powerset_eq-Decides a b =
     let marks = Decides-and _ _ (booleans_Decides a.word b.word) (booleans_Decides a.half b.half) in

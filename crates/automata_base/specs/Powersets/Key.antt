@@ -21,5 +21,7 @@ IsListed (Own made) = ListsItsStates made.value
 
 -- what holds for the bytes of every key
 pub record IsKey (b : Bytes) : Type 0 where
+  -- they are the bytes of a powerset state
   pub code : IsCode (bytes_of b)
+  -- if there is a list with them, it is that of the state's NFA states
   pub listed : IsListed b

@@ -36,6 +36,7 @@ abbrev pub IsKnownLook : Nfa → Option ℕ → Look → Type 0
 IsKnownLook n prev look =
     Occurs n look × ((next : Option ℕ) → IsUnit next → holds n.terminator n.reverse look prev next ≡ true)
 
+-- Whether a look asks for word bytes.
 abbrev pub is_word_look : Look → Bool
 is_word_look Start = false
 is_word_look End = false
@@ -45,6 +46,7 @@ is_word_look StartCRLF = false
 is_word_look EndCRLF = false
 is_word_look look = true
 
+-- Whether a look asks for `\r` and `\n`.
 abbrev pub is_crlf_look : Look → Bool
 is_crlf_look StartCRLF = true
 is_crlf_look EndCRLF = true

@@ -6,11 +6,17 @@ use Rattle.automata_base.specs.Lists.{Distinct}
 -- a powerset state: NFA states in order, patterns, the looks known and needed, whether it is after a word byte, and
 -- half way through a CRLF
 pub record Powerset : Type 0 where
+  -- its NFA states, the preferred first
   pub nfa : List ℕ
+  -- the patterns that match at the place before the unit that led to it
   pub patterns : List ℕ
+  -- the looks that hold whatever unit comes next, if it needs any: bit k stands for look k
   pub known : ℕ
+  -- the looks among its NFA states: bit k stands for look k
   pub needed : ℕ
+  -- whether the byte just read is a word byte, if the NFA has a look that asks for word bytes
   pub word : Bool
+  -- whether the byte just read is the first of `\r\n` in reading order, if the NFA has a look that asks for it
   pub half : Bool
 
 -- a number of an NFA state or a pattern
@@ -19,10 +25,15 @@ IsId id = id < 2147483647
 
 -- what holds for every powerset state
 pub record IsPowerset (q : Powerset) : Type 0 where
+  -- its NFA states have numbers that IDs may have
   pub nfa : AllByRecursion IsId q.nfa
+  -- so have its patterns
   pub patterns : AllByRecursion IsId q.patterns
+  -- no pattern repeats
   pub distinct : Distinct q.patterns
+  -- the looks known are a number of four bytes
   pub known : q.known < 2 ^ 32
+  -- the looks needed are a number of four bytes
   pub needed : q.needed < 2 ^ 32
 
 -- the cost of a state without its lists

@@ -14,12 +14,15 @@ use Rattle.automata_base.specs.Answers.Within.{ReportsOwn}
 
 -- the powerset state where the searches of a mode start after a byte, or after none
 pub record IsStartMade (a : Automaton) (mode : Anchored) (prev : Option ℕ) (made : Powerset) : Type 0 where
-  -- it is the start by the definition, and what the function returns that contracts name
+  -- it is the start by the definition
   pub start : IsStartOf a mode prev made
+  -- it is what the function returns that contracts name
   pub same : made ≡ start_state_of a mode prev
-  -- its patterns, the looks that it needs and its NFA states are the automaton's
+  -- its patterns are the automaton's
   pub own : ReportsOwn a made
+  -- the looks that it needs are the automaton's
   pub looks : NeedsOwnLooks a made
+  -- its NFA states are the automaton's
   pub is_of : IsOf a made
   -- it costs no more than any state of the automaton may
   pub bounded : cost made ≤ max_cost a
@@ -27,20 +30,24 @@ pub record IsStartMade (a : Automaton) (mode : Anchored) (prev : Option ℕ) (ma
 -- the powerset state that another leads to on a unit
 pub record IsStepMade (a : Automaton) (kind : MatchKind) (from : Powerset) (unit : Option ℕ)
     (made : Powerset) : Type 0 where
-  -- it is the successor by the definition, and what the function returns that contracts name
+  -- it is the successor by the definition
   pub step : IsSuccessor (nfa_of a) kind from unit made
+  -- it is what the function returns that contracts name
   pub same : made ≡ successor a kind from unit
-  -- its patterns, the looks that it needs and its NFA states are the automaton's
+  -- its patterns are the automaton's
   pub own : ReportsOwn a made
+  -- the looks that it needs are the automaton's
   pub looks : NeedsOwnLooks a made
+  -- its NFA states are the automaton's
   pub is_of : IsOf a made
   -- it costs no more than any state of the automaton may
   pub bounded : cost made ≤ max_cost a
 
 -- the patterns that the states of a list match
 pub record AreMatched (a : Automaton) (list patterns : List ℕ) : Type 0 where
-  -- they stand in the order of the list, and none of them twice
+  -- they stand in the order of the list, each at its first occurrence
   pub once : IsOnce (pick (accepts (nfa_of a)) list) patterns
+  -- no pattern repeats
   pub distinct : Distinct patterns
   -- they are no more than the automaton has
   pub few : length patterns ≤ length a.start_pattern
@@ -49,7 +56,9 @@ pub record AreMatched (a : Automaton) (list patterns : List ℕ) : Type 0 where
 pub record IsClosureMade (a : Automaton) (matched roots : List ℕ) (unit : Option ℕ) (made : Powerset) : Type 0 where
   -- it is that by the definition
   pub closure : IsClosureOf (nfa_of a) matched roots unit made
+  -- it has these patterns
   pub patterns : made.patterns ≡ matched
-  -- its NFA states are the automaton's, and no more of them
+  -- its NFA states are the automaton's
   pub is_of : IsOf a made
+  -- it has no more of them than the automaton
   pub few : length made.nfa ≤ length a.states

@@ -8,12 +8,16 @@ use Rattle.automata_base.specs.declared.util.determinize.scratch.Scratch.TheInsi
 
 -- What contracts see: the NFA that it was made for, and how often it was used.
 pub record ScratchView : Type 0 where
+  -- the NFA that it was made for
   pub of : Automaton
+  -- the count of determinizations in it
   pub count : ℕ
 
+-- What contracts see of the room to determinize.
 abbrev pub view_of : Inside → ScratchView
 view_of s = record { of = s.of.value; count = s.count.number }
 
+-- What holds for all room to determinize.
 pub record IsScratch (s : Inside) : Type 0 where
   -- its NFA passed the tests of `NFA::from_states`
   pub checked : IsChecked s.of.value

@@ -26,15 +26,17 @@ meets c r = leb c.first r.hi && leb r.lo c.last
 abbrev pub pairs_in : ℕ → Range → Class → List ℕ
 pairs_in s r c = cond (meets c r) (pair r.next (slice_index c.to s) ∷ []) []
 
--- By all classes; and where several ranges lead.
+-- Where a range leads by all classes.
 abbrev pub range_pairs : List Class → ℕ → Range → List ℕ
 range_pairs [] s r = []
 range_pairs (c ∷ cs) s r = pairs_in s r c ++ range_pairs cs s r
 
+-- Where several ranges lead by all classes.
 abbrev pub ranges_pairs : List Class → ℕ → List Range → List ℕ
 ranges_pairs classes s [] = []
 ranges_pairs classes s (r ∷ rs) = range_pairs classes s r ++ ranges_pairs classes s rs
 
+-- Where a state of the NFA leads by reading a byte, with this state of the decoder.
 abbrev pub byte_pairs : List Class → ℕ → Node → List ℕ
 byte_pairs classes s (Split alternates) = []
 byte_pairs classes s (Assert look next) = []
@@ -49,6 +51,7 @@ pairs_at s ids = map (λ q. pair q s) ids
 abbrev pub node_pairs : List Class → ℕ → Node → List ℕ
 node_pairs classes s x = pairs_at s (children_at x all_true) ++ byte_pairs classes s x
 
+-- Where the pair of a number leads, looks taken as true.
 abbrev pub pairs_of : List Class → List State → ℕ → List ℕ
 pairs_of classes states x = node_pairs classes (x % 11) (node_in states (x / 11))
 

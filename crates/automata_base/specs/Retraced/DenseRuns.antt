@@ -6,6 +6,7 @@ use Rattle.automata_base.specs.declared.nfa.thompson.Transition.{Transition}
 use Rattle.automata_base.specs.Nfas.Nfa.{Nfa, Node, Read}
 use Rattle.automata_base.specs.Nfas.Nodes.{Automaton, node_of, ranges_of}
 
+-- Whether the list begins with this number.
 abbrev pub starts_with : ℕ → List ℕ → Bool
 starts_with x [] = false
 starts_with x (y ∷ ys) = eqb y x
@@ -33,6 +34,7 @@ ranged (is.Capture next pattern index slot) = node_of (is.Capture next pattern i
 ranged is.Fail = node_of is.Fail
 ranged (is.Match pattern) = node_of (is.Match pattern)
 
+-- These states, each with its edges as ranges.
 abbrev pub ranged_nodes : List State → List Node
 ranged_nodes [] = []
 ranged_nodes (x ∷ xs) = ranged x ∷ ranged_nodes xs

@@ -34,15 +34,24 @@ AreFollowed n targets visited (frame ∷ below) =
 pub record IsUnderSearch
     (n : ℕ) (targets : ℕ → List ℕ) (visited finished : List ℕ) (frames : List Frame)
     : Type 0 where
+  -- each state visited is finished, or still on the stack
   pub visits : (q : ℕ) → In q visited → In q finished ⊎ In q (states_in frames)
+  -- the states on the stack exist, and the edges followed from them lead to states visited
   pub follows : AreFollowed n targets visited frames
+  -- each state on the stack leads to those above it
   pub chain : IsChain targets (states_in frames)
+  -- an edge from a finished state leads to a state that is finished or on the stack
   pub closed : (p r : ℕ) → In p finished → In r (targets p) → In r finished ⊎ In r (states_in frames)
+  -- a finished state that leads to one that is not finished is on a cycle
   pub cyclic : (p q : ℕ) → In p finished → (In q finished → ⊥) → LeadsBy targets p q → LeadsBy targets p p
+  -- the states finished so far stand in a finishing order
   pub order : IsFinishingOrder targets finished
 
 -- Each state is in the order, and they stand in a finishing order.
 pub record IsWholeOrder (n : ℕ) (targets : ℕ → List ℕ) (xs : List ℕ) : Type 0 where
+  -- the list is in a finishing order
   pub order : IsFinishingOrder targets xs
+  -- each of the `n` states is in it
   pub whole : (q : ℕ) → q < n → In q xs
+  -- no other state is in it
   pub below : (q : ℕ) → In q xs → q < n

@@ -10,7 +10,10 @@ Extends before after = (more : List ℕ) × (after ≡ before ++ more)
 -- Of these children some at the front were visited, and the others wait before what waited. `before` and `after` are
 -- the states visited.
 pub record IsExpanded (n : Nfa) (A : Truth) (children before after waited waiting : List ℕ) : Type 0 where
+  -- a closure that was under way before these children is still under way after them
   pub way : (roots tail : List ℕ) → IsUnderWay n A roots (children ++ (waited ++ tail)) before
       → IsUnderWay n A roots (waiting ++ tail) after
+  -- the states visited before come first among those visited after
   pub grown : Extends before after
+  -- so many of the children were visited; the others wait first
   pub left : (visited : ℕ) × (waiting ≡ drop visited children ++ waited)

@@ -20,6 +20,7 @@ abbrev pub pair_at : List ℕ → ℕ → Option Pair → Option Pair
 pair_at [] i other = other
 pair_at (p ∷ rest) i other = Some (record { pattern = p; place = i })
 
+-- the earlier pair if there is one, else the other
 abbrev pub earlier_or : Option Pair → Option Pair → Option Pair
 earlier_or None other = other
 earlier_or (Some pair) other = Some pair
@@ -47,9 +48,11 @@ state_after a kind mode t k = after_units (start_state_of a mode t.before) (succ
 abbrev pub reported_at : Automaton → MatchKind → Anchored → Tape → ℕ → List ℕ
 reported_at a kind mode t i = (state_after a kind mode t (suc i)).patterns
 
+-- the last match that the first `k` units report: the first pattern of the last place that has one
 unfoldable pub last_reported : Automaton → MatchKind → Anchored → Tape → ℕ → Option Pair
 last_reported a kind mode t k = last_among (reported_at a kind mode t) k
 
+-- the first match that the first `k` units report: the first pattern of the first place that has one
 unfoldable pub first_reported : Automaton → MatchKind → Anchored → Tape → ℕ → Option Pair
 first_reported a kind mode t k = first_among (reported_at a kind mode t) k
 
@@ -66,16 +69,19 @@ reported_by kind earliest a mode t = reported_upto kind earliest a mode t (suc (
 unfoldable pub pairs_reported : Automaton → MatchKind → Anchored → Tape → ℕ → List Pair
 pairs_reported a kind mode t k = pairs_among (reported_at a kind mode t) k
 
--- the same of an NFA and the state where its paths start
+-- the powerset state after the first `k` units, of an NFA and the state where its paths start
 abbrev pub pass_of : Nfa → MatchKind → ℕ → Tape → ℕ → Powerset
 pass_of n kind start t k = after_units (start_behind n start t.before) (successor_of n kind) t k
 
+-- the patterns that this pass reports at place `i`
 abbrev pub reported_of : Nfa → MatchKind → ℕ → Tape → ℕ → List ℕ
 reported_of n kind start t i = (pass_of n kind start t (suc i)).patterns
 
+-- what a search reports of this pass: an earliest one the first match, any other the last one
 abbrev pub search_of : MatchKind → (earliest : Bool) → Nfa → Tape → ℕ → Option Pair
 search_of kind true n t start = first_among (reported_of n kind start t) (suc (length t.bytes))
 search_of kind false n t start = last_among (reported_of n kind start t) (suc (length t.bytes))
 
+-- the pairs that the first `k` units of this pass report, in order
 abbrev pub pairs_upto : Nfa → MatchKind → ℕ → Tape → ℕ → List Pair
 pairs_upto n kind start t k = pairs_among (reported_of n kind start t) k

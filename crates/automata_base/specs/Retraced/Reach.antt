@@ -10,12 +10,15 @@ use Rattle.automata_base.specs.Nfas.Nodes.{nodes_of}
 use Rattle.automata_base.specs.Paths.Paths.{all_true}
 use Rattle.automata_base.specs.Powersets.Closure.{children_at}
 
+-- The node of a state, by its number; past the last one a fail state.
 abbrev pub node_in : List State → ℕ → Node
 node_in states q = node_or_fail (slice_get (nodes_of states) q)
 
+-- Where these ranges lead.
 abbrev pub nexts : List Range → List ℕ
 nexts ranges = map (λ range. range.next) ranges
 
+-- Where the edges of a state lead that read a byte.
 abbrev pub byte_targets : Node → List ℕ
 byte_targets (Split alternates) = []
 byte_targets (Assert look next) = []
@@ -27,6 +30,7 @@ abbrev pub targets_at : Edges → Node → List ℕ
 targets_at Epsilon x = children_at x all_true
 targets_at Every x = children_at x all_true ++ byte_targets x
 
+-- Where the edges of the state of a number lead, looks taken as true.
 abbrev pub targets_of : Edges → List State → ℕ → List ℕ
 targets_of edges states q = targets_at edges (node_in states q)
 
@@ -35,6 +39,7 @@ abbrev pub Route : (ℕ → List ℕ) → ℕ → List ℕ → ℕ → Type 0
 Route targets q [] z = q ≡ z
 Route targets q (r ∷ rs) z = In r (targets q) × Route targets r rs z
 
+-- Some root leads to `z` by these targets.
 abbrev pub IsReachedBy : (ℕ → List ℕ) → List ℕ → ℕ → Type 0
 IsReachedBy targets roots z = (root : ℕ) × (way : List ℕ) × In root roots × Route targets root way z
 
@@ -42,6 +47,7 @@ IsReachedBy targets roots z = (root : ℕ) × (way : List ℕ) × In root roots 
 abbrev pub IsReached : Edges → List State → List ℕ → ℕ → Type 0
 IsReached edges states roots z = IsReachedBy (targets_of edges states) roots z
 
+-- The node is a match state.
 abbrev pub IsMatchAt : Node → Type 0
 IsMatchAt x = (p : ℕ) × (accepts_at x ≡ Some p)
 
@@ -73,6 +79,7 @@ second_of (a ∷ []) first = None
 second_of (a ∷ b ∷ []) first = cond (eqb a first) (Some b) None
 second_of (a ∷ b ∷ c ∷ rest) first = None
 
+-- The second alternate of a state that has two, if the first is `first`.
 abbrev pub second_at : Node → ℕ → Option ℕ
 second_at (Split alternates) first = second_of alternates first
 second_at (Assert look next) first = None

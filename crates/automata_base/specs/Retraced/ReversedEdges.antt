@@ -22,9 +22,12 @@ lists_of (v ∷ vs) = v.items ∷ lists_of vs
 
 -- For each state its alternates. The helpers come after the states, so helper k has the number of states plus k.
 pub record Turns : Type 0 where
+  -- for each state the states that it goes on to, once edges are reversed
   pub lists : List (List ℕ)
+  -- the states that stand for reversed edges that read a byte or test a look, and for the match
   pub helpers : List State
 
+-- The alternates and helpers that the code holds.
 abbrev pub turns_of : EdgesByTarget → Turns
 turns_of t = record { lists = lists_of t.lists.items; helpers = t.helpers.items }
 
@@ -40,18 +43,20 @@ list_at [] k = []
 list_at (xs ∷ rest) zero = xs
 list_at (xs ∷ rest) (suc k) = list_at rest k
 
--- Whether `x` is there, and whether it is the last one.
+-- Whether there is a number, and it is `x`.
 abbrev pub is_of : Option ℕ → (x : ℕ) → Bool
 is_of None x = false
 is_of (Some y) x = eqb y x
 
+-- Whether `x` is the last of the list.
 abbrev pub ends_in : List ℕ → (x : ℕ) → Bool
 ends_in xs x = is_of (slice_get xs (length xs - 1)) x
 
--- Adds `x` after the alternates of the state `k`, unless it is the last of them.
+-- These alternates and `x` after them, unless it is the last of them.
 abbrev pub put : List ℕ → (x : ℕ) → List ℕ
 put xs x = cond (ends_in xs x) xs (xs ++ x ∷ [])
 
+-- Adds `x` after the alternates of the state `k`, unless it is the last of them.
 abbrev pub put_at : List (List ℕ) → ℕ → (x : ℕ) → List (List ℕ)
 put_at [] k x = []
 put_at (xs ∷ rest) zero x = put xs x ∷ rest
@@ -68,15 +73,17 @@ turn_by t helper to = record {
   helpers = t.helpers ++ helper ∷ [];
 }
 
+-- The edges from one state to these, which read nothing, are turned one after another.
 abbrev pub turn_all : Turns → (from : ℕ) → List ℕ → Turns
 turn_all t from [] = t
 turn_all t from (x ∷ xs) = turn_all (turn_free t from x) from xs
 
+-- The edges of one state that read a byte, one for each range, are turned one after another.
 abbrev pub turn_ranges : Turns → (from : ℕ) → List Transition → Turns
 turn_ranges t from [] = t
 turn_ranges t from (r ∷ rs) = turn_ranges (turn_by t (is.ByteRange r.lo r.hi from) r.next) from rs
 
--- Each edge of the state `from`.
+-- Each edge of the state `from` is turned.
 abbrev pub turn_state : Turns → (from : ℕ) → State → Turns
 turn_state t from (is.ByteRange lo hi next) = turn_by t (is.ByteRange lo hi from) next
 turn_state t from (is.Sparse ts) = turn_ranges t from ts.items
@@ -88,7 +95,7 @@ turn_state t from (is.Capture next pattern index slot) = turn_free t from next
 turn_state t from is.Fail = t
 turn_state t from (is.Match pattern) = t
 
--- Each edge of these states.
+-- Each edge of these states is turned.
 abbrev pub turn_states : Turns → List State → List ℕ → Turns
 turn_states t states [] = t
 turn_states t states (q ∷ qs) = turn_states (turn_state t q (slice_index_or states q is.Fail)) states qs
@@ -109,6 +116,7 @@ IsHead n helpers alternates s =
     ((v : Vec ℕ Global) × (s ≡ is.Union v) × (v.items ≡ alternates))
     ⊎ ((j : ℕ) × (alternates ≡ (n + j) ∷ []) × (slice_get helpers j ≡ Some s))
 
+-- What is made of each state's alternates, in order.
 abbrev pub AreHeads : (n : ℕ) → List State → List (List ℕ) → List State → Type 0
 AreHeads n helpers [] [] = Unit {0}
 AreHeads n helpers [] (s ∷ ss) = ⊥
@@ -170,19 +178,27 @@ AreTurned states reached first turned =
 -- reached from the roots; and the entry goes on to the copies of the roots.
 pub record IsCopied (nodes : List Node) (turned : List State) (roots : List ℕ) (p entry base : ℕ) (items : List ℕ) :
     Type 0 where
+  -- the states that are copied are those that edges reach from the roots
   pub reached : (q : ℕ) → In q items ↔ IsReached Every turned roots q
+  -- each is copied once
   pub distinct : Distinct items
+  -- their copies stand one after another, from `base` on
   pub each :
       (k q : ℕ) → slice_get items k ≡ Some q
       → slice_get nodes (base + k) ≡ Some (copied (copy_of base items) p (slice_index_or turned q is.Fail))
+  -- the entry goes on to the copies of the roots
   pub enters : slice_get nodes entry ≡ Some (Split (map (copy_of base items) roots))
+  -- the entry comes after the copies
   pub ends : entry ≡ base + length items
 
 -- Where copies begin, and of which states they are.
 pub record Copied : Type 0 where
+  -- the number of the first copy
   pub base : ℕ
+  -- the states that are copied, in this order
   pub items : List ℕ
 
+-- The copies for the pattern `p`; none past the last one.
 abbrev pub part_at : List Copied → (p : ℕ) → Copied
 part_at [] p = record { base = 0; items = [] }
 part_at (x ∷ xs) zero = x
@@ -190,29 +206,46 @@ part_at (x ∷ xs) (suc p) = part_at xs p
 
 -- The nodes are copies for each pattern, and each entry after them.
 pub record HaveCopies (nodes : List Node) (states turned : List State) (reached entries : List ℕ) : Type 0 where
+  -- where the copies for each pattern begin, and of which states they are
   pub parts : List Copied
+  -- each pattern has its copies and its entry
   pub few : length parts ≡ length entries
+  -- they are copies of the turned states that are reached from the match states of the pattern
   pub each :
       (p entry : ℕ) → slice_get entries p ≡ Some entry
       → IsCopied nodes turned (matches_in states p reached) p entry (part_at parts p).base (part_at parts p).items
+  -- each node is one of these copies, or an entry
   pub only :
       (x : ℕ) → x < length nodes
       → (p entry : ℕ) × (slice_get entries p ≡ Some entry) × ((part_at parts p).base ≤ x) × (x ≤ entry)
+  -- each entry is one of the nodes
   pub inside : (e : ℕ) → In e entries → e < length nodes
+  -- no entry repeats
   pub distinct : Distinct entries
 
 -- These states are what a reversed NFA is made of: the copies for each pattern, and after them the root, which goes on
 -- to each pattern's entry.
 pub record AreReversed (states : List State) (first patterns : ℕ) (made : List State) (entries : List ℕ) (root : ℕ) :
     Type 0 where
+  -- the states with their edges reversed, for all patterns
   pub turned : List State
+  -- the states of the NFA that have a part in it
   pub reached : List ℕ
+  -- all states that are made but the root, as nodes
   pub nodes : List Node
+  -- the reached states are those that edges lead to from the first one
   pub reach : (q : ℕ) → In q reached ↔ IsReached Every states (first ∷ []) q
+  -- no reached state repeats
   pub distinct : Distinct reached
+  -- each reached state is one of the NFA's
   pub below : (q : ℕ) → In q reached → q < length states
+  -- the turned states are made of their reversed edges
   pub turns : AreTurned states reached first turned
+  -- the states that are made are the copies and entries, and the root, which goes on to each entry
   pub whole : nodes_of made ≡ nodes ++ Split entries ∷ []
+  -- the root is the last one
   pub starts : root ≡ length nodes
+  -- the nodes are copies for each pattern, each with its entry
   pub copies : HaveCopies nodes states turned reached entries
+  -- there is an entry for each pattern
   pub few : length entries ≡ patterns

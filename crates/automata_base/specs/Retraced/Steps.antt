@@ -8,6 +8,7 @@ use Rattle.automata_base.specs.Nfas.Nodes.{Automaton, nfa_of}
 use Rattle.automata_base.specs.Powersets.Powerset.{Powerset, dead}
 use Rattle.automata_base.specs.Paths.Starts.{mode_start}
 
+-- the powerset state where searches from a first state start; without one the dead state
 abbrev pub start_or_dead : Nfa → Option ℕ → Option ℕ → Powerset
 start_or_dead n None prev = dead
 start_or_dead n (Some start) prev = start_behind n start prev

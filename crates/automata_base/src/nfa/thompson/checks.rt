@@ -221,7 +221,7 @@ fn count_alternates(state: &State) -> usize
 }
 
 /// What the states of an NFA come to.
-#[derive(Clone, Copy, Debug)]
+#[derive(Clone, Copy)]
 pub struct Totals {
     /// The room that the stack of a closure needs, in states.
     pub room: usize,

@@ -17,7 +17,7 @@ use crate::util::primitives::StateID;
 use std::alloc::{AllocError, Global};
 
 /// A state on the stack of the search, and the first of its edges that was not followed.
-#[derive(Clone, Copy, Debug)]
+#[derive(Clone, Copy)]
 pub struct Frame {
     /// The state.
     pub state: StateID,
@@ -26,7 +26,7 @@ pub struct Frame {
 }
 
 // An edge of a state, by its number and its target.
-#[derive(Clone, Copy, Debug)]
+#[derive(Clone, Copy)]
 struct Edge {
     number: usize,
     target: StateID,

@@ -6,6 +6,7 @@ mod building;
 mod checks;
 mod copies;
 mod cycles;
+mod debug;
 mod finishing;
 mod reach;
 pub(crate) mod reading;
@@ -27,7 +28,7 @@ use crate::util::primitives::{PatternID, StateID};
 use crate::util::search::{Anchored, MatchKind};
 use std::alloc::{AllocError, Global};
 use std::marker::Model;
-use std::rc::Rc;
+use std::sync::Arc;
 use thiserror::Error;
 
 /// An edge that reads a byte: from `lo` to `hi`, both included, it leads to `next`.
@@ -216,7 +217,6 @@ impl From<AllocError> for ReverseError {
 }
 
 // What the clones of an NFA share.
-#[derive(Debug)]
 struct Data {
     states: Vec<State>,
     start_anchored: StateID,
@@ -249,12 +249,11 @@ impl Drop for Data {
 }
 
 /// A Thompson NFA: its states, its starts and its flags. Clones share them and allocate nothing.
-#[derive(Debug)]
 pub struct NFA {
-    data: Rc<Data>,
+    data: Arc<Data>,
     alloc: Global,
     keeps_unions: bool,
-    start_closure: Option<Rc<StartClosure>>,
+    start_closure: Option<Arc<StartClosure>>,
 }
 
 // One call for an owner, whose proof then has no step for each part.
@@ -458,7 +457,7 @@ impl NFA {
             skips_lazily,
             is_look_acyclic,
         };
-        match Rc::new(alloc, data) {
+        match Arc::new(alloc, data) {
             Ok(data) => Ok(NFA {
                 data,
                 alloc,

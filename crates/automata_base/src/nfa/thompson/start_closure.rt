@@ -19,8 +19,7 @@ use crate::util::determinize::write::push_ids;
 use crate::util::look::LookSet;
 use crate::util::primitives::StateID;
 use std::alloc::{AllocError, Global};
-use std::fmt;
-use std::rc::Rc;
+use std::sync::Arc;
 
 /// How many states the closure of the unanchored start has at least if it is kept.
 const FEWEST: usize = 24;
@@ -43,15 +42,6 @@ pub(crate) struct StartClosure {
     /// For each byte, where the kept states lead on it, in order. There are no rows if a kept state matches or if it would
     /// take too long to make them.
     pub rows: Vec<Vec<StateID>>,
-}
-
-/// How many states are kept, and not which.
-impl fmt::Debug for StartClosure {
-    fn fmt<W: fmt::Write>(&self, f: &mut fmt::Formatter<W>) -> fmt::Result {
-        f.debug_struct("StartClosure")
-            .field("kept", &self.kept.len())
-            .finish_non_exhaustive()
-    }
 }
 
 impl StartClosure {
@@ -187,7 +177,7 @@ fn rows_if_plain(nfa: &NFA, kept: &[StateID]) -> Result<Vec<Vec<StateID>>, Alloc
 
 /// The closure of the unanchored start, with what powerset states keep of it, unless a state of it is a look, on which
 /// it would hang.
-fn with_kept(nfa: &NFA, set: SparseSet) -> Result<Option<Rc<StartClosure>>, AllocError>
+fn with_kept(nfa: &NFA, set: SparseSet) -> Result<Option<Arc<StartClosure>>, AllocError>
     requires whole { set.capacity ≡ length nfa.now.states }
     requires visited { Visits (nfa_of nfa.now) (truth_of 0) (nfa.now.start_unanchored ∷ []) [] set.items }
     ensures { IfOk result (λ kept. IfSome kept (λ closure. IsStartClosure nfa.now closure.value)) }
@@ -206,13 +196,13 @@ fn with_kept(nfa: &NFA, set: SparseSet) -> Result<Option<Rc<StartClosure>>, Allo
         code,
         rows,
     };
-    let closure = Rc::new(alloc, closure)?;
+    let closure = Arc::new(alloc, closure)?;
     Ok(Some(closure))
 }
 
 /// The closure of the unanchored start, if it is to be kept: it has many states, and no look. Of an NFA that has few
 /// states nothing is computed.
-pub fn start_closure_of(nfa: &NFA) -> Result<Option<Rc<StartClosure>>, AllocError>
+pub fn start_closure_of(nfa: &NFA) -> Result<Option<Arc<StartClosure>>, AllocError>
     ensures { IfOk result (λ kept. IfSome kept (λ closure. IsStartClosure nfa.now closure.value)) }
 {
     if nfa.states().len() < FEWEST {
