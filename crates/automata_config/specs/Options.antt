@@ -6,15 +6,26 @@ use Rattle.automata_base.specs.declared.util.search.MatchKind.TheVariants.{Leftm
 
 -- An option that was not set has its default.
 pub record Options : Type 0 where
+  -- which matches a search reports
   pub match_kind : Option MatchKind
+  -- whether each pattern has start states of its own, for anchored searches of it alone
   pub starts_for_each_pattern : Option Bool
+  -- whether bytes that the NFA does not distinguish share a class
   pub byte_classes : Option Bool
+  -- whether Unicode word boundaries are tried: decided as ASCII ones, with quit bytes from 0x80 on
   pub unicode_word_boundary : Option Bool
+  -- for each byte, whether it is in the quit set
   pub quits : Option (List Bool)
+  -- whether the IDs of start states are tagged as such
   pub specialize_start_states : Option Bool
+  -- the most bytes that a cache may account for
   pub cache_capacity : Option ℕ
+  -- whether a capacity below the minimum is raised to it, instead of being an error
   pub skip_cache_capacity_check : Option Bool
+  -- the number of clears after which a search may give up; if it is set to none, it never does
   pub minimum_cache_clear_count : Option (Option ℕ)
+  -- the bytes for each state which keep a search from giving up, if so many were searched since the last clear; if it
+  -- is set to none, no number does
   pub minimum_bytes_per_state : Option (Option ℕ)
 
 -- No option is set.
@@ -47,39 +58,47 @@ overwritten old new = record {
   minimum_bytes_per_state = option_or new.minimum_bytes_per_state old.minimum_bytes_per_state;
 }
 
--- What is set, or the default.
+-- Which matches a search reports: by default `MatchKind::LeftmostFirst`.
 abbrev pub match_kind_of : Options → MatchKind
 match_kind_of o = unwrap_or o.match_kind LeftmostFirst
 
+-- Whether each pattern has start states of its own: by default it has none.
 abbrev pub starts_for_each_pattern_of : Options → Bool
 starts_for_each_pattern_of o = unwrap_or o.starts_for_each_pattern false
 
+-- Whether bytes that the NFA does not distinguish share a class: by default they do.
 abbrev pub byte_classes_of : Options → Bool
 byte_classes_of o = unwrap_or o.byte_classes true
 
+-- Whether Unicode word boundaries are tried: by default they are not.
 abbrev pub unicode_word_boundary_of : Options → Bool
 unicode_word_boundary_of o = unwrap_or o.unicode_word_boundary false
 
+-- The quit set without a byte.
 unfoldable pub no_quits : List Bool
 no_quits = replicate 256 false
 
--- For each byte, whether it is in the quit set that was configured.
+-- For each byte, whether it is in the quit set that was configured: by default none is.
 abbrev pub quits_of : Options → List Bool
 quits_of o = unwrap_or o.quits no_quits
 
+-- Whether the IDs of start states are tagged as such: by default they are not.
 abbrev pub specialize_start_states_of : Options → Bool
 specialize_start_states_of o = unwrap_or o.specialize_start_states false
 
--- Two mebibytes by default.
+-- The most bytes that a cache may account for: by default two mebibytes.
 abbrev pub cache_capacity_of : Options → ℕ
 cache_capacity_of o = unwrap_or o.cache_capacity 2097152
 
+-- Whether a capacity below the minimum is raised to it: by default it is an error.
 abbrev pub skip_cache_capacity_check_of : Options → Bool
 skip_cache_capacity_check_of o = unwrap_or o.skip_cache_capacity_check false
 
+-- The number of clears after which a search may give up: by default none, and it never does.
 abbrev pub minimum_cache_clear_count_of : Options → Option ℕ
 minimum_cache_clear_count_of o = unwrap_or o.minimum_cache_clear_count None
 
+-- The bytes for each state which keep a search from giving up: by default no number does.
 abbrev pub minimum_bytes_per_state_of : Options → Option ℕ
 minimum_bytes_per_state_of o = unwrap_or o.minimum_bytes_per_state None
 

@@ -24,10 +24,12 @@ use Rattle.automata_config.specs.declared.error.BuildError.TheVariants.{Insuffic
 abbrev pub occurs : Automaton → Look → Bool
 occurs a look = any_node (λ other. eqb (look_index other) (look_index look)) (nfa_of a).nodes
 
+-- The looks that ask for word characters of Unicode.
 abbrev pub unicode_word_looks : List Look
 unicode_word_looks =
     WordUnicode ∷ WordUnicodeNegate ∷ WordStartUnicode ∷ WordEndUnicode ∷ WordStartHalfUnicode ∷ WordEndHalfUnicode ∷ []
 
+-- Whether some state of the NFA is one of these looks.
 unfoldable pub has_unicode_word : Automaton → Bool
 has_unicode_word a = list_any (occurs a) unicode_word_looks
 
@@ -35,6 +37,7 @@ has_unicode_word a = list_any (occurs a) unicode_word_looks
 unfoldable pub are_quits : (quits : List Bool) → (first count : ℕ) → Bool
 are_quits quits first count = list_all (is_quit quits) (range_with_len first count)
 
+-- Whether every byte from 0x80 on is in the quit set.
 abbrev pub holds_non_ascii : (quits : List Bool) → Bool
 holds_non_ascii quits = are_quits quits 128 128
 
@@ -52,9 +55,11 @@ settled_quits o a =
 abbrev pub settled_stride : Options → Automaton → ℕ
 settled_stride o a = stride_for (class_of a (settled_quits o a) (byte_classes_of o) 255 + 2)
 
+-- How many start slots a cache of the DFA has.
 abbrev pub settled_slots : Options → Automaton → ℕ
 settled_slots o a = start_slots a (starts_for_each_pattern_of o)
 
+-- The minimum capacity of a cache of the DFA, in bytes.
 unfoldable pub settled_minimum : Options → Automaton → ℕ
 settled_minimum o a = minimum_capacity (settled_stride o a) (settled_slots o a) (max_cost a) (fixed_cost a)
 
@@ -80,7 +85,11 @@ settling_error o a =
 
 -- What is settled: the quit set, the classes of bytes, and the capacity, which is at least the minimum.
 pub record IsSettled (o : Options) (a : Automaton) (s : Settled) : Type 0 where
+  -- the quit set: what was configured, and the bytes from 0x80 on if the heuristic needs them
   pub quits : s.quits ≡ settled_quits o a
+  -- the class of each byte
   pub classes : (byte : ℕ) → byte < 256 → class_in s.classes byte ≡ class_of a s.quits (byte_classes_of o) byte
+  -- the effective capacity: what was configured, or the minimum if that is larger
   pub capacity : s.capacity ≡ effective_capacity (cache_capacity_of o) (settled_minimum o a)
+  -- the offset of each row in a table of the minimum capacity fits into its ID
   pub offsets : greatest_offset o a ≤ max_offset
