@@ -1,6 +1,6 @@
 pub mod PassState
 pub mod Progress
-pub mod UnitsRead
+pub mod Goes
 pub mod Skips
 pub mod Units
 pub mod Reach

@@ -178,28 +178,6 @@ module _ (t : Rows) (n : ℕ) where
       (level_more count level steps next (next ++ piece) i long within at (length-append next piece ∙ ap (λ k. length next + k) wide)
       (λ k l. get_or_append_left next piece 0 k l) (λ class l. get_or-append-add next piece class 0 ∙ same class l) are before now)
 
--- the places of first cells in place of the rows make the cells of leaps
-pub cells_lead :
-    (t : Rows) (s : Shape) (level cells : List ℕ) → s.rows ≡ length t.rows → IsLevel t s.classes s.reach level
-    → length cells ≡ length level
-    → ((k : ℕ) → k < length level → slice_index cells k ≡ first_cell s.rows s.width (slice_index level k))
-    → (place : ℕ) → place < length cells → (slice_index cells place ≡ mark) ⊎ LeapsTo t s place (slice_index cells place)
-cells_lead t s level cells all are long scaled place l = go (cases_lt row s.rows) where
-  row : ℕ
-  row = slice_index level place
-
-  value : slice_index cells place ≡ first_cell s.rows s.width row
-  value = scaled place (omega (arith, l, long))
-
-  go : (row < s.rows) ⊎ (s.rows ≤ row) → (slice_index cells place ≡ mark) ⊎ LeapsTo t s place (slice_index cells place)
-  go (inl known) = inr (record {
-    to = row;
-    known = known;
-    first = value ∙ ap (λ b. cond b (row * s.width) mark) (lt-ltb row s.rows known);
-    reaches = (are place (omega (arith, l, long))).reaches (omega (arith, known, all));
-  })
-  go (inr none) = inl (value ∙ ap (λ b. cond b (row * s.width) mark) (le-ltb row s.rows none))
-
 -- leaps stay those of the table, if a cell is written that was unknown
 module _ (t : Rows) (id class next : ℕ) (unknown : unknown_id ≤ slice_index t.cells (cell_at id class)) where
   leads_kept : (row c to : ℕ) → LeadsTo t row c to → LeadsTo (with_cell t id class next) row c to
@@ -251,16 +229,6 @@ parts_kept c new nfa (Some l) of stay same parts = record {
       (subst (λ k. k + leaps_bytes (length l.value.cells.items) ≤ c.table.of.capacity) (sym same) parts.within);
 }
 
--- with the same table and as many start slots
-pub parts_same :
-    (c new : Stored) (nfa : Automaton) (held : Option (Box Leaps)) → new.table ≡ c.table → length new.starts ≡ length c.starts
-    → AreCacheParts c nfa held → AreCacheParts new nfa held
-parts_same c new nfa held table starts =
-    parts_kept c new nfa held (ap (λ (t : Rows). t.of) table) (λ l are. subst (λ (t : Rows). AreLeaps t l) (sym table) are) used where
-      used : usage new ≡ usage c
-      used = λ i. cell_size * length (table i).cells + cell_size * starts i + row_size * (length (table i).rows + 3)
-          + entry_size * (length (table i).rows + 1) + fixed_rows_cost + sum_by row_cost (table i).rows + (table i).of.fixed
-
 -- a transition takes no room
 used_next : (c : Stored) (id class next : ℕ) → usage (with_next c id class next) ≡ usage c
 used_next c id class next =
@@ -297,16 +265,6 @@ parts_written c nfa old new id class next unknown free kept dropped parts = go u
   go : (b : Bool) → unknown ≡ b → AreCacheParts (with_next c id class next) nfa new
   go true e = subst (λ (l : Option (Box Leaps)). AreCacheParts (with_next c id class next) nfa l) (sym (kept e)) (parts_next c nfa old id class next (free e) parts)
   go false e = subst (λ (l : Option (Box Leaps)). AreCacheParts (with_next c id class next) nfa l) (sym (dropped e)) (parts_none (with_next c id class next) nfa parts.scratch)
-
--- with leaps that were made
-pub parts_made :
-    (c : Stored) (nfa : Automaton) (b : Box Leaps) → nfa ≡ c.table.of.nfa → AreLeaps c.table b.value
-    → usage c + leaps_bytes (b.value.shape.rows * b.value.shape.width) ≤ c.table.of.capacity → AreCacheParts c nfa (Some b)
-parts_made c nfa b same are within = record {
-  scratch = same;
-  leaps = are;
-  within = subst (λ k. usage c + leaps_bytes k ≤ c.table.of.capacity) (sym are.cells) within;
-}
 
 -- with a start slot written
 slice_get_set :

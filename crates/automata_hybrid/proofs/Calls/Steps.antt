@@ -125,7 +125,7 @@ module _ (m : Machine) (id : ℕ) (unit : Option ℕ) (old new : CacheView) (sou
         ((p : Powerset) → Names old.store.table id p → (x : Powerset) → IsKnownState new.store.table x → IsKnownState old.store.table x ⊎ (x ≡ to p))
         → IsStepEffect m id unit old new
     made_effect only = record {
-      grown = (follows_one m (Step q unit) old new sound.of before ((clean, class), after, inr (not, made))).grown;
+      grown = (follows_one m old old.store.searched new sound (Step q unit) ((clean, class), after, inr (not, made))).grown;
       counted = omega (arith, made.counted);
       computed = λ _ _. made.counted;
       fixed = λ high. absurd (omega (arith, low, high));
@@ -168,7 +168,7 @@ module _ (m : Machine) (id : ℕ) (unit : Option ℕ) (old new : CacheView) (sou
 
     took : (q : Powerset) → Names old.store.table id q → Took q
     took q named = go (quits_on m unit) refl where
-      events : quits_on m unit ≡ false → Does m (Step q unit) old new → Took q
+      events : quits_on m unit ≡ false → Does m (Step q unit) old old new → Took q
       events clean (may, after, inl (cached, same)) = inl same
       events clean (may, after, inr (not, made)) = inr (clean, may.1, not, made, after)
 
@@ -294,7 +294,7 @@ module _ (m : Machine) (mode : Anchored) (behind : Option ℕ) (old new : CacheV
     knows_start : IsCached m old.store (Start mode behind) → HasSlot m mode behind → KnowsStart m old.store mode behind
     knows_start cached within = (a.may, (omega (arith, within, sound.slots), cached within))
 
-    answered_start : Does m (Start mode behind) old new → StartFollows m mode behind old new id
+    answered_start : Does m (Start mode behind) old old new → StartFollows m mode behind old new id
     answered_start (may, after, inl (cached, same)) = record {
       effect = start_still same (λ _ within. knows_start cached within);
       known = λ k. subst (λ (v : CacheView). id ≡ known_start m v.store mode behind) same (sym (a.cached (omega (arith, k.1.0, sound.slots))));
@@ -318,7 +318,7 @@ module _ (m : Machine) (mode : Anchored) (behind : Option ℕ) (old new : CacheV
       room (inr past) unknown gives = gives.0.1 (dies past a.named)
     answered_start (may, after, inr (not, made)) = record {
       effect = record {
-        grown = (follows_one m (Start mode behind) old new sound.of was (may, after, inr (not, made))).grown;
+        grown = (follows_one m old old.store.searched new sound (Start mode behind) (may, after, inr (not, made))).grown;
         counted = omega (arith, made.counted);
         computed = λ _ _ _. made.counted;
         barred = λ never. absurd (never may);

@@ -14,7 +14,6 @@ use Rattle.automata_base.specs.declared.util.search.Direction.{Direction}
 use Rattle.automata_base.specs.declared.util.search.Direction.TheVariants.{Forward, Backward}
 use Rattle.automata_base.proofs.Paths.Orders.{some_inj}
 use Rattle.automata_hybrid.specs.Machines.Machine.{Machine}
-use Rattle.automata_hybrid.specs.Searches.Progress.{IsAfterEnd, KeepsNone}
 use Rattle.automata_hybrid.specs.Searches.Passes.{given_up_offset, state_in, tape_in, unit_offset}
 use Rattle.automata_hybrid.specs.Searches.SelfLoops.{byte_in}
 use Rattle.automata_hybrid.specs.Cache.Table.{Rows, Leads, Names}
@@ -132,18 +131,6 @@ pub span_unit :
     → given_up_offset way input k ≡ unit_offset way input k
 span_unit Forward input k l = refl
 span_unit Backward input k l = omega (arith, l)
-
--- a place before the last one is not the end of a pass back
-pub not_behind :
-    (way : Direction) (input : Input) (k : ℕ) → k < input.end - input.start
-    → input.end - input.start ≡ length (tape_in way input).bytes → IsAfterEnd way input k → ⊥
-not_behind Forward input k l units behind = behind
-not_behind Backward input k l units behind = absurd (omega (arith, l, units, behind))
-
--- no progress is kept of an empty span alone
-pub none_empty : (way : Direction) (input : Input) → KeepsNone way input → input.start ≡ input.end
-none_empty Forward input none = absurd none
-none_empty Backward input none = none
 
 -- the input of which a search begins later
 pub later_none : (way : Direction) (input : Input) → input ≡ later way 0 input

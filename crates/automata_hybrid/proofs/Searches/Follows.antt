@@ -1,5 +1,5 @@
 -- What follows of the runs of passes and searches: what they cost a cache, how it grows, and what is cached.
-use Rattle.std.proofs.Common.{ℕ, zero, suc, ◌≡◌, ◌∙◌, ◌+◌, ◌-◌, ◌<◌, ◌≤◌, ◌⊎◌, List, [], ◌∷◌, ◌++◌, true, length, Option}
+use Rattle.std.proofs.Common.{ℕ, zero, suc, ◌≡◌, ◌∙◌, ◌+◌, ◌-◌, ◌<◌, ◌≤◌, ◌⊎◌, List, true, false, length, Option}
 use Rattle.std.proofs.Common.{None, Some, inl, inr, refl, sym, ap, subst, arith, drop}
 use Rattle.std.proofs.lemmas.Bool.{cases_lt}
 use Rattle.std.proofs.lemmas.List.{length-reverse, length-take}
@@ -22,26 +22,25 @@ use Rattle.automata_config.specs.declared.error.SearchError.TheVariants as searc
 use Rattle.automata_hybrid.specs.Cache.Caches.{CacheView, IsStoreOf}
 use Rattle.automata_hybrid.specs.Cache.Growth.{ClearedNothing, IsGrown, IsStill}
 use Rattle.automata_hybrid.specs.Cache.Stores.{Stored}
-use Rattle.automata_hybrid.specs.Calls.Events.{AreCached, Begin, DoAll, End, Event, IsStepLeft, MayAsk, Move, makings}
 use Rattle.automata_hybrid.specs.Machines.Machine.{Machine}
 use Rattle.automata_hybrid.specs.Searches.Cached.{IsOfInput, Knows, KnowsItsStart, KnowsPass, KnowsUnit}
 use Rattle.automata_hybrid.specs.Searches.Follows.{IsCostOfPass, IsCostOfPasses, IsCostOfSearch, passes_most}
 use Rattle.automata_hybrid.specs.Searches.Follows.{SearchFollows, SearchesFollow}
 use Rattle.automata_hybrid.specs.Searches.PassState.{HasLearnedUnit}
-use Rattle.automata_hybrid.specs.Searches.Passes.{Finds, HasReadNoQuit, IsPassError, IsSearchError, IsUnitError, Reads, Skips, given_up_offset, state_in, tape_in}
-use Rattle.automata_hybrid.specs.Searches.Progress.{EndsAtLast, PassEnds, HasNoStart, PassesEnd, HaveTried, PassFails, IsLeftAt, IsPassLeftAt}
+use Rattle.automata_hybrid.specs.Searches.Passes.{Finds, IsPassError, IsSearchError, IsUnitError, Reads, Skips, given_up_offset, state_in, tape_in}
+use Rattle.automata_hybrid.specs.Searches.Progress.{Goes, HasItsStart, IsStoppedAt, IsUnitRead, PassEnds, HasNoStart, PassesEnd, HaveTried, PassFails}
 use Rattle.automata_hybrid.specs.Searches.Progress.{IsSearchRun, SearchEnds, SearchFails, TriesSpan, TriesSpans}
-use Rattle.automata_hybrid.specs.Searches.Progress.{start_event, unit_event, unit_events, with_search_begun, with_search_ended, with_search_moved}
+use Rattle.automata_hybrid.specs.Searches.Progress.{start_event, unit_event, with_search_begun}
+use Rattle.automata_hybrid.specs.Cache.Progress.{progress_finished, progress_updated}
 use Rattle.automata_hybrid.specs.Steps.Starts.{IsStartError, IsStartErrorAt, MayStart, start_search_error}
 use Rattle.automata_hybrid.specs.Machines.Machine.{quits_on, unit_class}
 use Rattle.automata_hybrid.proofs.Steps.Starts.{may_or_not}
 use Rattle.automata_hybrid.proofs.Cache.Growth.{clears_none, grown_moved, grown_same, grown_trans, nothing_first, nothing_second}
-use Rattle.automata_hybrid.proofs.Calls.Laws.{Follows, all_sound, cached_idle, cached_join, cached_split, do_one, do_split}
-use Rattle.automata_hybrid.proofs.Calls.Laws.{failed_count, failed_grown, first_cached, follows_all, left_count, left_grown, left_known}
-use Rattle.automata_hybrid.proofs.Calls.Laws.{makings_join, moved_sound}
+use Rattle.automata_hybrid.proofs.Calls.Laws.{Follows, LeftFollows, failed_count, failed_grown, follows_one, left_follows}
+use Rattle.automata_hybrid.proofs.Calls.Laws.{searched_sound}
 use Rattle.automata_hybrid.proofs.Searches.Cached.{HasLearnedAll, LearnedSpans, search_still, spans_all, spans_more, spans_still}
+use Rattle.automata_hybrid.proofs.Searches.Cached.{unit_still}
 use Rattle.automata_hybrid.proofs.Searches.Costs.{AreCounted, cost_all, cost_known, cost_of_pass, cost_once, counted_more, tries_before}
-use Rattle.automata_hybrid.proofs.Searches.Directions.{none_empty}
 use Rattle.automata_hybrid.proofs.Searches.PassState.{false_true, reads_before}
 use Rattle.automata_hybrid.proofs.Steps.Steps.{no_quit_unit}
 
@@ -55,58 +54,71 @@ tape_few Backward input =
     let l = length-reverse (between input.haystack input.start input.end) in
     omega (arith, l, few_between input.haystack input.start input.end)
 
-module _ (way : Direction) (m : Machine) (input : Input) where
-  pub units_makings : (from n : ℕ) → makings (unit_events way m input from n) ≡ n
-  units_makings from zero = refl
-  units_makings from (suc n) =
-      let all : makings (unit_events way m input from (suc n)) ≡ makings (unit_events way m input from n) + 1 =
-      makings_join (unit_events way m input from n) (Move (given_up_offset way input (from + n)) ∷ unit_event way m input (from + n) ∷ []) in
-      omega (arith, all, units_makings from n)
+-- what follows of so many units that are read from a place on
+pub record GoesFollow (way : Direction) (m : Machine) (input : Input) (from n : ℕ) (old new : CacheView) : Type 0 where
+  pub grown : IsGrown old new
+  pub counted : new.count ≤ old.count + n
+  -- if the transition on each unit was cached, nothing was determinized
+  pub known : ((j : ℕ) → from ≤ j → j < from + n → KnowsUnit way m old.store input j) → new.count ≡ old.count
+  -- with nothing cleared each is cached then
+  pub learned :
+      ClearedNothing old.store new.store → (j : ℕ) → from ≤ j → j < from + n → HasLearnedUnit way m new.store input j
+  -- none of them is a quit byte
+  pub clean : (j : ℕ) → from ≤ j → j < from + n → quits_on m (next (tape_in way input) j) ≡ false
+  pub sound : IsStoreOf new.store m
 
-  -- if the transition on each unit is cached, what they ask for is
-  pub units_cached :
-      (c : Stored) (from n : ℕ) → ((j : ℕ) → from ≤ j → j < from + n → KnowsUnit way m c input j)
-      → AreCached m c (unit_events way m input from n)
-  units_cached c from zero each = tt
-  units_cached c from (suc n) each =
-      cached_join m c (unit_events way m input from n) (Move (given_up_offset way input (from + n)) ∷ unit_event way m input (from + n) ∷ [])
-      (units_cached c from n (λ j more less. each j more (omega (arith, less)))) (tt, (each (from + n) (omega arith) (omega arith), tt))
+-- what is cached still is where nothing is determinized
+unit_idle :
+    (way : Direction) (m : Machine) (input : Input) (old new : CacheView) → IsGrown old new → new.count ≡ old.count
+    → (j : ℕ) → KnowsUnit way m old.store input j → KnowsUnit way m new.store input j
+unit_idle way m input old new grown same j knows = subst (λ (c : Stored). KnowsUnit way m c input j) (sym (grown.idle same).1) knows
 
-  -- and the other way round
-  pub units_known :
-      (c : Stored) (from n : ℕ) → AreCached m c (unit_events way m input from n)
-      → (j : ℕ) → from ≤ j → j < from + n → KnowsUnit way m c input j
-  units_known c from zero all j more less = absurd (omega (arith, more, less))
-  units_known c from (suc n) all j more less = go (λ before. units_known c from n parts.0 j more before) (cases_lt j (from + n)) where
-    parts : AreCached m c (unit_events way m input from n) × AreCached m c (Move (given_up_offset way input (from + n)) ∷ unit_event way m input (from + n) ∷ [])
-    parts = cached_split m c (unit_events way m input from n) (Move (given_up_offset way input (from + n)) ∷ unit_event way m input (from + n) ∷ []) all
+-- one more
+module _ (way : Direction) (m : Machine) (input : Input) (from n : ℕ) (old mid new : CacheView) (f : GoesFollow way m input from n old mid)
+    (here : IsUnitRead way m input (from + n) mid new) where
+  g : Follows m (unit_event way m input (from + n)) mid new
+  g =
+      follows_one m mid (progress_updated mid.store.searched (given_up_offset way input (from + n))) new f.sound
+      (unit_event way m input (from + n)) here
 
-    go : (j < from + n → KnowsUnit way m c input j) → (j < from + n) ⊎ (from + n ≤ j) → KnowsUnit way m c input j
-    go earlier (inl before) = earlier before
-    go earlier (inr behind) =
-        let same : from + n ≡ j = omega (arith, behind, less) in
-        subst (KnowsUnit way m c input) same parts.1.1.0
+  -- the last one or one before it
+  at : (j : ℕ) → from ≤ j → j < from + suc n → (P : ℕ → Type 0) → (j < from + n → P j) → P (from + n) → P j
+  at j more less P earlier last = go (cases_lt j (from + n)) where
+    go : (j < from + n) ⊎ (from + n ≤ j) → P j
+    go (inl within) = earlier within
+    go (inr behind) = let same : from + n ≡ j = omega (arith, behind, less) in subst P same last
 
-  -- none of them is a quit byte, and rows have the class of each
-  pub units_asked :
-      (from n : ℕ) (old new : CacheView) → DoAll m (unit_events way m input from n) old new
-      → (j : ℕ) → from ≤ j → j < from + n → MayAsk m (unit_event way m input j)
-  units_asked from zero old new all j more less = absurd (omega (arith, more, less))
-  units_asked from (suc n) old new all j more less =
-      let parts = do_split m (unit_events way m input from n) (Move (given_up_offset way input (from + n)) ∷ unit_event way m input (from + n) ∷ []) old new all in
-      go parts.0 parts.2 (λ before. units_asked from n old parts.0 parts.1 j more before) (cases_lt j (from + n))
-    where
-      go :
-          (mid : CacheView) → DoAll m (Move (given_up_offset way input (from + n)) ∷ unit_event way m input (from + n) ∷ []) mid new
-          → (j < from + n → MayAsk m (unit_event way m input j)) → (j < from + n) ⊎ (from + n ≤ j) → MayAsk m (unit_event way m input j)
-      go mid last earlier (inl before) = earlier before
-      go mid (moved, moves, (read, reads, same)) earlier (inr behind) =
-          let here : from + n ≡ j = omega (arith, behind, less) in
-          subst (λ i. MayAsk m (unit_event way m input i)) here reads.0
+  one_more_follows : GoesFollow way m input from (suc n) old new
+  one_more_follows = record {
+    grown = grown_trans old mid new f.grown g.grown;
+    counted = omega (arith, f.counted, g.counted);
+    known = λ knows. (
+        let idle = f.known (λ j more less. knows j more (omega (arith, less))) in
+        g.known (unit_idle way m input old mid f.grown idle (from + n) (knows (from + n) (omega arith) (omega arith))) ∙ idle);
+    learned = λ nothing j more less. (
+        let first = nothing_first old mid new f.grown g.grown nothing in
+        let second = nothing_second old mid new f.grown g.grown nothing in
+        at j more less (HasLearnedUnit way m new.store input)
+        (λ within. unit_still way m mid.store new.store input g.grown.of (g.grown.kept second) j (f.learned first j more within))
+        (g.learned second, subst (λ (d : Machine). unit_class m (next (tape_in way input) (from + n)) < d.stride) (sym g.sound.of) here.0.1));
+    clean = λ j more less.
+        at j more less (λ i. quits_on m (next (tape_in way input) i) ≡ false) (λ within. f.clean j more within) here.0.0;
+    sound = g.sound;
+  }
 
-  pub units_clean : (n : ℕ) (old new : CacheView) → DoAll m (unit_events way m input 0 n) old new → HasReadNoQuit way m input n
-  units_clean n old new all j byte less unit =
-      no_quit_unit m (next (tape_in way input) j) (units_asked 0 n old new all j (omega arith) (omega (arith, less))).0 byte unit
+pub goes_follow :
+    (way : Direction) (m : Machine) (input : Input) (from n : ℕ) (old new : CacheView) → IsStoreOf old.store m
+    → Goes way m input from n old new → GoesFollow way m input from n old new
+goes_follow way m input from zero old new sound same = record {
+  grown = grown_same old new same;
+  counted = (let count : new.count ≡ old.count = ap (λ (v : CacheView). v.count) same in omega (arith, count));
+  known = λ knows. ap (λ (v : CacheView). v.count) same;
+  learned = λ nothing j more less. absurd (omega (arith, more, less));
+  clean = λ j more less. absurd (omega (arith, more, less));
+  sound = subst (λ (v : CacheView). IsStoreOf v.store m) (sym same) sound;
+}
+goes_follow way m input from (suc n) old new sound (mid, before, here) =
+    one_more_follows way m input from n old mid new (goes_follow way m input from n old mid sound before) here
 
 -- what follows of a pass, by what it returns
 pub record PassFollows {T : Type 0} (way : Direction) (m : Machine) (input : Input) (old new : CacheView)
@@ -122,110 +134,54 @@ pub record PassFollows {T : Type 0} (way : Direction) (m : Machine) (input : Inp
   pub learned : ClearedNothing old.store new.store → OnOk result (HasLearnedAll way m new.store input)
   pub sound : OnOk result (IsStoreOf new.store m)
 
--- what a pass that reads so many units does after its start
-abbrev after_start : Direction → Machine → Input → (units : ℕ) → List Event
-after_start way m input units =
-    Begin (given_up_offset way input 0) ∷ (unit_events way m input 0 units ++ (End (given_up_offset way input (0 + (units - 1))) ∷ []))
-
+-- a pass has ended
 module _ (way : Direction) (m : Machine) (input : Input) (old new : CacheView) (sound : IsStoreOf old.store m) where
-  -- a pass asked for its start state, and then did the rest
-  module _ (es : List Event) (all : DoAll m (start_event way input ∷ es) old new) where
-    f : Follows m (start_event way input ∷ es) old new
-    f = follows_all m (start_event way input ∷ es) old new sound all
-
-    may : MayStart m input.anchored (tape_in way input).before
-    may = all.1.0
-
-    pub pass_follows :
-        {T : Type 0} (answer : T) → makings es ≤ input.end - input.start + 1
-        → (KnowsPass way m old.store input → AreCached m old.store es)
-        → (AreCached m new.store es → (k : ℕ) → Reads way m input k → HasLearnedUnit way m new.store input k)
-        → PassFollows way m input old new (Ok answer)
-    pass_follows answer few uses leaves = record {
-      counted = (let c : new.count ≤ old.count + suc (makings es) = f.counted in omega (arith, few, c));
-      started = λ begins. omega (arith, few, first_cached m (start_event way input) es old new sound begins all);
-      grown = f.grown;
-      known = λ knows. (f.grown.idle (f.known ((knows may).0, uses knows)), tt);
-      learned = λ nothing. (let l = f.learned nothing in (l.0, leaves l.1));
-      sound = all_sound m (start_event way input ∷ es) old new sound all;
-    }
-
-  below : (k : ℕ) → IsStoreOf new.store m → MayAsk m (unit_event way m input k) → unit_class m (next (tape_in way input) k) < new.store.table.of.stride
-  below k after asked = subst (λ (d : Machine). unit_class m (next (tape_in way input) k) < d.stride) (sym after.of) asked.1
-
-  ends_at_last :
-      {T : Type 0} (answer : T) (begun : CacheView) → DoAll m (start_event way input ∷ []) old begun
-      → EndsAtLast way m input (with_search_begun way input 0 begun) new → PassFollows way m input old new (Ok answer)
-  ends_at_last answer begun (first, starts, same) (units, reads, all) =
-      let begins : first ≡ begun = sym same in
-      let parts = do_split m (unit_events way m input 0 units) (End (given_up_offset way input (0 + (units - 1))) ∷ []) (with_search_begun way input 0 begun) new all in
-      go begins parts.0 parts.1
-    where
-      whole : first ≡ begun → DoAll m (start_event way input ∷ (after_start way m input units)) old new
-      whole begins = (
-        first,
-        starts,
-        (
-          with_search_begun way input 0 first,
-          (tt, moved_sound m (Begin (given_up_offset way input 0)) first starts.1, inl (tt, refl)),
-          subst (λ (v : CacheView). DoAll m (unit_events way m input 0 units ++ (End (given_up_offset way input (0 + (units - 1))) ∷ [])) (with_search_begun way input 0 v) new) (sym begins) all,
-        ),
-      )
-
-      few : makings (after_start way m input units) ≤ input.end - input.start + 1
-      few = count units refl where
-        made : makings (after_start way m input units) ≡ makings (unit_events way m input 0 units) + 0
-        made = makings_join (unit_events way m input 0 units) (End (given_up_offset way input (0 + (units - 1))) ∷ [])
-
-        count : (n : ℕ) → n ≡ units → makings (after_start way m input units) ≤ input.end - input.start + 1
-        count zero is = omega (arith, made, units_makings way m input 0 units, is)
-        count (suc n) is =
-            let last : n ≤ length (tape_in way input).bytes = (reads.0 n (omega (arith, is))).0 in
-            omega (arith, made, units_makings way m input 0 units, is, last, tape_few way input)
-
-      some_before : (k : ℕ) → Reads way m input k → (k < units) ⊎ (units ≤ k) → k < units
-      some_before k read (inl less) = less
-      some_before k read (inr more) = absurd (reads.1 (reads_before way m input units k more read))
-
-      go :
-          first ≡ begun → (mid : CacheView) → DoAll m (unit_events way m input 0 units) (with_search_begun way input 0 begun) mid
-          → PassFollows way m input old new (Ok answer)
-      go begins mid before =
-          let all_of = whole begins in
-          let asked = units_asked way m input 0 units (with_search_begun way input 0 begun) mid before in
-          let clean = units_clean way m input units (with_search_begun way input 0 begun) mid before in
-          let after = all_sound m (start_event way input ∷ (after_start way m input units)) old new sound all_of in
-          pass_follows (after_start way m input units) all_of answer few
-          (λ knows. (
-            tt,
-            cached_join m old.store (unit_events way m input 0 units) (End (given_up_offset way input (0 + (units - 1))) ∷ [])
-                (units_cached way m input old.store 0 units
-                (λ j more less. (knows starts.0).1 j (reads.0 j (omega (arith, less))) (λ i byte l unit. clean i byte (omega (arith, l, less)) unit)))
-                (tt, tt),
-          ))
-          (λ cached k read. (
-          let less : k < units = (some_before k read (cases_lt k units)) in (
-            units_known way m input new.store 0 units
-                (cached_split m new.store (unit_events way m input 0 units) (End (given_up_offset way input (0 + (units - 1))) ∷ []) cached.1).0
-                k (omega arith) (omega (arith, less)),
-            below k after (asked k (omega arith) (omega (arith, less))),
-          )))
-
-  -- a pass has ended
   pub pass_ended : {T : Type 0} (answer : T) → PassEnds way m input old new → PassFollows way m input old new (Ok answer)
-  pass_ended answer (begun, starts, inl (keeps, inl (reads, read))) =
-      let all : DoAll m (start_event way input ∷ unit_event way m input 0 ∷ []) old new = (begun, starts, do_one m (unit_event way m input 0) begun new read) in
-      pass_follows (unit_event way m input 0 ∷ []) all answer (omega arith)
-      (λ knows. ((knows starts.0).1 0 reads (λ j byte l unit. absurd (omega (arith, l))), tt))
-      (λ cached k more. (
-      let none : k ≡ 0 = omega (arith, more.0, tape_few way input, none_empty way input keeps) in
-      subst (HasLearnedUnit way m new.store input) (sym none) (cached.0, below 0 read.1 read.0)))
-  pass_ended answer (begun, starts, inl (keeps, inr (none, same))) =
-      let all : DoAll m (start_event way input ∷ []) old new = (begun, starts, same) in
-      pass_follows [] all answer (omega arith) (λ knows. tt)
-      (λ cached k more. absurd (none (reads_before way m input 0 k (omega arith) more)))
-  pass_ended answer (begun, starts, inr (keeps, last)) =
-      ends_at_last answer begun (do_one m (start_event way input) old begun starts) last
+  pass_ended answer (mid, starts, (units, reads, (last, goes, ended))) = record {
+    counted = omega (arith, s.counted, g.counted, same, few);
+    started = λ begins. (let idle = s.known begins in omega (arith, idle, g.counted, same, few));
+    grown = grown_trans old mid new s.grown rest;
+    known = λ knows. (
+        let idle = s.known (knows starts.0).0 in
+        let all : last.count ≡ mid.count =
+        g.known (λ j more less. unit_idle way m input old mid s.grown idle j
+        ((knows starts.0).1 j (reads.0 j (omega (arith, less))) (λ i byte l unit. no_quit_unit m _ (g.clean i (omega arith) (omega (arith, l, less))) byte unit))) in
+        ((grown_trans old mid new s.grown rest).idle (same ∙ (all ∙ idle)), tt));
+    learned = λ nothing. (
+        let first = nothing_first old mid new s.grown rest nothing in
+        let second = nothing_first begun last new g.grown (grown_moved last new ended) (nothing_second old mid new s.grown rest nothing) in (
+          λ l. rest.starts _ (s.learned first l),
+          λ k read. subst (λ (v : CacheView). HasLearnedUnit way m v.store input k) (sym ended)
+              (g.learned second k (omega arith) (some_before k read (cases_lt k units))),
+        ));
+    sound = subst (λ (v : CacheView). IsStoreOf v.store m) (sym ended) (searched_sound m last.store _ g.sound);
+  } where
+    begun : CacheView
+    begun = with_search_begun way input 0 mid
+
+    s : Follows m (start_event way input) old mid
+    s = follows_one m old old.store.searched mid sound (start_event way input) starts
+
+    g : GoesFollow way m input 0 units begun last
+    g = goes_follow way m input 0 units begun last (searched_sound m mid.store _ s.sound) goes
+
+    same : new.count ≡ last.count
+    same = ap (λ (v : CacheView). v.count) ended
+
+    rest : IsGrown mid new
+    rest = grown_trans mid begun new (grown_moved mid begun refl) (grown_trans begun last new g.grown (grown_moved last new ended))
+
+    few : units ≤ input.end - input.start + 1
+    few = count units refl where
+      count : (n : ℕ) → n ≡ units → units ≤ input.end - input.start + 1
+      count zero is = omega (arith, is)
+      count (suc n) is =
+          let within : n ≤ length (tape_in way input).bytes = (reads.0 n (omega (arith, is))).0 in
+          omega (arith, is, within, tape_few way input)
+
+    some_before : (k : ℕ) → Reads way m input k → (k < units) ⊎ (units ≤ k) → k < 0 + units
+    some_before k read (inl less) = omega (arith, less)
+    some_before k read (inr more) = absurd (reads.1 (reads_before way m input units k more read))
 
 -- an error at a quit byte is one of the input
 pub quit_of_input :
@@ -248,72 +204,46 @@ barred_of_input m c input behind behind_at start_at e (error, why, reported, unk
   go (start.Cache err) why = absurd (barred why.0)
   go start.OutOfMemory why = absurd (barred why)
 
--- a pass failed at a unit, to which it came
-module _ (way : Direction) (m : Machine) (input : Input) (k : ℕ) (mid new : CacheView) where
-  unit_left :
-      (come ended : CacheView) → IsGrown mid come → IsGrown mid ended → come.count ≡ mid.count → ended.count ≡ mid.count
-      → (KnowsUnit way m mid.store input k → KnowsUnit way m come.store input k)
-      → IsStepLeft m (state_in way m input k) (next (tape_in way input) k) come ended new
-      → IsGrown mid new × (new.count ≤ mid.count + 1)
-      × (KnowsUnit way m mid.store input k → (quits_on m (next (tape_in way input) k) ≡ true) × (new.count ≡ mid.count))
-  unit_left come ended to end a b knows left = (
-    left_grown m (state_in way m input k) (next (tape_in way input) k) mid come ended new to end left,
-    left_count m (state_in way m input k) (next (tape_in way input) k) mid come ended new to end left mid.count (omega (arith, a)) (omega (arith, b)),
-    λ here. (
-        let quit = left_known m (state_in way m input k) (next (tape_in way input) k) mid come ended new to end left (knows here) in
-        (quit.0, ap (λ (v : CacheView). v.count) quit.1 ∙ b)),
-  )
-
-  pub moved_left :
-      IsLeftAt way m input k mid new
-      → IsGrown mid new × (new.count ≤ mid.count + 1)
-      × (KnowsUnit way m mid.store input k → (quits_on m (next (tape_in way input) k) ≡ true) × (new.count ≡ mid.count))
-  moved_left left =
-      unit_left (with_search_moved way input k mid) (with_search_ended way input k mid)
-      (grown_moved mid (with_search_moved way input k mid) refl) (grown_moved mid (with_search_ended way input k mid) refl) refl refl (λ h. h) left
-
-  pub left_at :
-      IsPassLeftAt way m input k mid new
-      → IsGrown mid new × (new.count ≤ mid.count + 1)
-      × (KnowsUnit way m mid.store input k → (quits_on m (next (tape_in way input) k) ≡ true) × (new.count ≡ mid.count))
-  left_at (inl (behind, left)) =
-      unit_left (with_search_ended way input k mid) (with_search_ended way input k mid)
-      (grown_moved mid (with_search_ended way input k mid) refl) (grown_moved mid (with_search_ended way input k mid) refl) refl refl (λ h. h) left
-  left_at (inr (inner, left)) = moved_left left
-
-  pub still_left :
-      IsStepLeft m (state_in way m input k) (next (tape_in way input) k) mid mid new
-      → IsGrown mid new × (new.count ≤ mid.count + 1)
-      × (KnowsUnit way m mid.store input k → (quits_on m (next (tape_in way input) k) ≡ true) × (new.count ≡ mid.count))
-  still_left left = unit_left mid mid (grown_same mid mid refl) (grown_same mid mid refl) refl refl (λ h. h) left
-
+-- a pass has failed
 module _ (way : Direction) (m : Machine) (input : Input) (old new : CacheView) (sound : IsStoreOf old.store m) where
-  -- after some events a pass failed at the unit at place `k`
-  fails_at :
-      {T : Type 0} (e : SearchError) (k : ℕ) (es : List Event) (mid : CacheView) → DoAll m (start_event way input ∷ es) old mid
-      → Reads way m input k → HasReadNoQuit way m input k → IsUnitError way m new.store input k e → makings es ≤ k
-      → (KnowsPass way m old.store input → AreCached m old.store es)
-      → IsGrown mid new → new.count ≤ mid.count + 1
-      → (KnowsUnit way m mid.store input k → (quits_on m (next (tape_in way input) k) ≡ true) × (new.count ≡ mid.count))
-      → PassFollows {T = T} way m input old new (Err e)
-  fails_at e k es mid all reads clean refused few uses grown once quits = record {
-    counted = (let c : mid.count ≤ old.count + suc (makings es) = f.counted in omega (arith, c, few, once, reads.0, tape_few way input));
-    started = λ begins. omega (arith, first_cached m (start_event way input) es old mid sound begins all, few, once, reads.0, tape_few way input);
+  -- at a unit
+  stopped :
+      {T : Type 0} (e : SearchError) (mid : CacheView) → HasItsStart way m input old mid
+      → IsStoppedAt way m input (with_search_begun way input 0 mid) new e → PassFollows {T = T} way m input old new (Err e)
+  stopped e mid starts (k, last, reads, clean, refused, goes, left) = record {
+    counted = omega (arith, s.counted, g.counted, l.counted, reads.0, tape_few way input);
+    started = λ begins. (let idle = s.known begins in omega (arith, idle, g.counted, l.counted, reads.0, tape_few way input));
     grown = whole;
     known = λ knows. (
-        let idle : mid.count ≡ old.count = f.known ((knows all.1.0).0, uses knows) in
-        let here : AreCached m mid.store (unit_event way m input k ∷ []) =
-        cached_idle m old mid f.grown idle (unit_event way m input k ∷ []) ((knows all.1.0).1 k reads clean, tt) in
-        let quit = quits here.0 in
-        (whole.idle (quit.1 ∙ idle), quit_of_input way m new.store input k e refused quit.0));
+        let idle = s.known (knows starts.0).0 in
+        let unit : (j : ℕ) → j ≤ k → KnowsUnit way m mid.store input j =
+        λ j less. unit_idle way m input old mid s.grown idle j
+        ((knows starts.0).1 j (reads_before way m input j k less reads) (λ i byte l unit. clean i byte (omega (arith, l, less)) unit)) in
+        let all : last.count ≡ mid.count = g.known (λ j more less. unit j (omega (arith, less))) in
+        let quit = l.known (unit_idle way m input begun last g.grown all k (unit k (omega arith))) in
+        (whole.idle (quit.1 ∙ (all ∙ idle)), quit_of_input way m new.store input k e refused quit.0));
     learned = λ nothing. tt;
     sound = tt;
   } where
-    f : Follows m (start_event way input ∷ es) old mid
-    f = follows_all m (start_event way input ∷ es) old mid sound all
+    begun : CacheView
+    begun = with_search_begun way input 0 mid
+
+    s : Follows m (start_event way input) old mid
+    s = follows_one m old old.store.searched mid sound (start_event way input) starts
+
+    g : GoesFollow way m input 0 k begun last
+    g = goes_follow way m input 0 k begun last (searched_sound m mid.store _ s.sound) goes
+
+    l : LeftFollows m (state_in way m input k) (next (tape_in way input) k) last new
+    l =
+        left_follows m (state_in way m input k) (next (tape_in way input) k) last new
+        (progress_updated last.store.searched (given_up_offset way input k))
+        (progress_finished last.store.searched (given_up_offset way input k)) left
 
     whole : IsGrown old new
-    whole = grown_trans old mid new f.grown grown
+    whole =
+        grown_trans old mid new s.grown
+        (grown_trans mid begun new (grown_moved mid begun refl) (grown_trans begun last new g.grown l.grown))
 
   -- it had no start
   unstarted :
@@ -347,38 +277,16 @@ module _ (way : Direction) (m : Machine) (input : Input) (old new : CacheView) (
           sound = tt;
         }
 
-  -- a pass has failed
   pub pass_left : {T : Type 0} (e : SearchError) → PassFails way m input old new e → PassFollows {T = T} way m input old new (Err e)
   pass_left e (inl (why, none)) = unstarted e _ _ why none
-  pass_left e (inr (begun, starts, inl (keeps, reads, refused, left))) =
-      let s = still_left way m input 0 begun new left in
-      fails_at e 0 [] begun (do_one m (start_event way input) old begun starts) reads (λ j byte l unit. absurd (omega (arith, l))) refused (omega arith)
-      (λ knows. tt) s.0 s.1 s.2
-  pass_left e (inr (begun, starts, inr (keeps, (k, mid, reads, clean, refused, units, left)))) =
-      let s = left_at way m input k mid new left in
-      let all : DoAll m (start_event way input ∷ Begin (given_up_offset way input 0) ∷ unit_events way m input 0 k) old mid = (
-        begun,
-        starts,
-        (with_search_begun way input 0 begun, (tt, moved_sound m (Begin (given_up_offset way input 0)) begun starts.1, inl (tt, refl)), units),
-      ) in
-      let made : makings (Begin (given_up_offset way input 0) ∷ unit_events way m input 0 k) ≡ k = units_makings way m input 0 k in
-      fails_at e k (Begin (given_up_offset way input 0) ∷ unit_events way m input 0 k) mid all reads clean refused (omega (arith, made))
-      (λ knows. (
-        tt,
-        units_cached way m input old.store 0 k
-            (λ j more less. (knows starts.0).1 j (reads_before way m input j k (omega (arith, less)) reads)
-            (λ i byte l unit. clean i byte (omega (arith, l, less)) unit)),
-      ))
-      s.0 s.1 s.2
+  pass_left e (inr (mid, starts, left)) = stopped e mid starts left
 
 -- why a pass failed, by its run
 left_refused :
     (way : Direction) (m : Machine) (input : Input) (old new : CacheView) (e : SearchError)
     → PassFails way m input old new e → IsPassError way m new.store input e
 left_refused way m input old new e (inl (why, none)) = inl why
-left_refused way m input old new e (inr (begun, starts, inl (keeps, reads, refused, left))) =
-    inr (0, starts.0.0, reads, (λ j byte l unit. absurd (omega (arith, l))), refused)
-left_refused way m input old new e (inr (begun, starts, inr (keeps, (k, mid, reads, clean, refused, units, left)))) =
+left_refused way m input old new e (inr (mid, starts, (k, last, reads, clean, refused, goes, left))) =
     inr (k, starts.0.0, reads, clean, refused)
 
 -- and why a search failed
@@ -419,9 +327,6 @@ later_few Backward k input = omega arith
 module _ (way : Direction) (m : Machine) (input : Input) where
   -- one pass more
   module _ (k : ℕ) (old between new : CacheView) (tries : TriesSpan way m input k) (before : SpansFollow way m input k old between) where
-    abbrev now : Input
-    now = later way k input
-
     idle : Knows way m old.store input → KnowsPass way m between.store (later way k input)
     idle knows = search_still way m input old between before.grown (before.known knows) knows k tries.0 tries.1
 

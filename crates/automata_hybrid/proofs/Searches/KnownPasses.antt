@@ -8,10 +8,8 @@ use Rattle.automata_base.specs.declared.util.search.Direction.{Direction}
 use Rattle.automata_base.specs.Answers.Answers.{offset_in}
 use Rattle.automata_base.specs.Paths.Paths.{next}
 use Rattle.automata_base.specs.Powersets.Powerset.{Powerset, dead}
-use Rattle.automata_hybrid.specs.declared.dfa.progress.Searched.{Searched}
 use Rattle.automata_hybrid.specs.Cache.Caches.{CacheView, IsCacheOf, IsStoreOf, with_store}
-use Rattle.automata_hybrid.specs.Calls.Events.{Begin, Move}
-use Rattle.automata_hybrid.specs.Cache.Progress.{distance, saturated, progress_started, total_len}
+use Rattle.automata_hybrid.specs.Cache.Progress.{distance, saturated, total_len}
 use Rattle.automata_hybrid.specs.Cache.Stores.{IsSoundStore, with_searched}
 use Rattle.automata_hybrid.specs.Cache.Ids.{HasDeadTag, HasQuitTag, quit_id}
 use Rattle.automata_hybrid.specs.Cache.Table.{Leads, Rows}
@@ -19,16 +17,16 @@ use Rattle.automata_hybrid.specs.Machines.Machine.{Machine}
 use Rattle.automata_hybrid.specs.Searches.PassContracts.{IsKnownEnd, IsKnownUpto, IsPassAnswer}
 use Rattle.automata_hybrid.specs.Searches.PassState.{HasLearnedUnit, half_at}
 use Rattle.automata_hybrid.specs.Searches.Passes.{Reads, given_up_offset, state_in, tape_in}
-use Rattle.automata_hybrid.specs.Searches.Progress.{EndsAtLast, with_search_begun, with_search_moved}
+use Rattle.automata_hybrid.specs.Searches.Progress.{EndsAtLast, with_search_begun}
 use Rattle.automata_hybrid.specs.Searches.Units.{IsReadAnswer}
 use Rattle.automata_hybrid.specs.Steps.Steps.{IsStepAnswer, KnowsStep}
 use Rattle.automata_hybrid.specs.Machines.Machine.{quits_on, unit_class}
 use Rattle.automata_hybrid.proofs.Searches.PassContracts.{dead_answer, dead_stops, first_answer, first_stops, last_answer}
-use Rattle.automata_hybrid.proofs.Searches.PassState.{at_reads, more_at, more_leads, stops_last}
-use Rattle.automata_hybrid.proofs.Steps.Steps.{no_quit_unit, unit_no_quit}
-use Rattle.automata_hybrid.proofs.Calls.Laws.{moved_sound}
+use Rattle.automata_hybrid.proofs.Searches.PassState.{at_reads, more_at, more_leads, reads_before, stops_last}
+use Rattle.automata_hybrid.proofs.Steps.Steps.{no_quit_unit}
+use Rattle.automata_hybrid.proofs.Calls.Laws.{searched_sound}
 use Rattle.automata_hybrid.proofs.Steps.Ids.{dead_tagged, unquit}
-use Rattle.automata_hybrid.proofs.Searches.UnitsRead.{finished_moved, pass_last, read_exactly, read_none, read_then}
+use Rattle.automata_hybrid.proofs.Searches.Goes.{goes_known, goes_none, pass_last}
 
 -- a unit on which a step leads to an ID without the quit tag is no quit byte
 pub clean_unit :
@@ -47,24 +45,25 @@ module _ (way : Direction) (m : Machine) (input : Input) (k id : ℕ) (c : Cache
             + distance (record { start = given_up_offset way input 0; place = given_up_offset way input k }));
         running = None;
       }))) where
-    quiet : quits_on m (next (tape_in way input) k) ≡ false
-    quiet = unit_no_quit m (next (tape_in way input) k) (λ byte unit. end.answer.clean.1 k byte end.reads unit)
-
-    class : unit_class m (next (tape_in way input) k) < m.stride
-    class = subst (λ (d : Machine). unit_class m (next (tape_in way input) k) < d.stride) sound.of end.known.1
-
     pub known_ended : EndsAtLast way m input (with_search_begun way input 0 c) new
     known_ended =
-        let begun : CacheView = with_search_begun way input 0 c in
-        let there : IsStoreOf begun.store m = moved_sound m (Begin (given_up_offset way input 0)) c sound in
-        pass_last way m input k begun (with_search_moved way input k begun) new there end.reads (end.stops (suc k) (omega arith))
-        (read_then way m input 0 begun there 0 k begun sound.of
-        (read_exactly way m input 0 begun 0 begun (read_none way m input 0 begun begun refl))
-        (omega arith) end.upto.at.at.clean (λ j from below. end.upto.known j below) (with_search_moved way input k begun)
-        ((quiet, class), moved_sound m (Move (given_up_offset way input k)) begun there, inl (end.known.0, refl)))
-        (counted
-        ∙ ap (λ (s : Searched). with_store c (with_searched c.store s))
-        (sym (finished_moved (progress_started c.store.searched (given_up_offset way input 0)) (given_up_offset way input k) (given_up_offset way input k))))
+        pass_last way m input k begun begun new end.reads (end.stops (suc k) (omega arith))
+        (goes_known way m input 0 begun 0 (suc k) begun there (goes_none way m input 0 begun) (omega arith)
+        (λ j byte less unit. end.answer.clean.1 j byte (reads_before way m input j k (omega (arith, less)) end.reads) unit)
+        (λ j from less. upto j (omega (arith, less)) (cases_lt j k)))
+        counted
+      where
+        begun : CacheView
+        begun = with_search_begun way input 0 c
+
+        there : IsStoreOf begun.store m
+        there = searched_sound m c.store _ sound
+
+        upto : (j : ℕ) → j ≤ k → (j < k) ⊎ (k ≤ j) → HasLearnedUnit way m c.store input j
+        upto j less (inl before) = end.upto.known j before
+        upto j less (inr more) =
+            let same : k ≡ j = omega (arith, less, more) in
+            subst (HasLearnedUnit way m c.store input) same end.known
 
 -- a pass stands at a place up to which all was cached, and so is the transition on its unit there, which is no quit byte
 module _ (way : Direction) (m : Machine) (input : Input) (k id : ℕ) (c : CacheView) (before : Option HalfMatch) (to : ℕ)
@@ -107,8 +106,8 @@ module _ (way : Direction) (m : Machine) (input : Input) (k id : ℕ) (c : Cache
   pub known_dead : HasDeadTag to → IsKnownEnd way m c input k id before
   known_dead dead_to =
       ends_known before
-      (dead_stops way m input k id (next (tape_in way input) k) before c c c {s = c.store.searched} refl upto.at refl to None answer dies)
-      (dead_answer way m input k id (next (tape_in way input) k) before c c c {s = c.store.searched} refl upto.at refl to None answer dies few)
+      (dead_stops way m input k id (next (tape_in way input) k) before c c upto.at refl to None answer dies)
+      (dead_answer way m input k id (next (tape_in way input) k) before c c upto.at refl to None answer dies few)
     where
       dies : Leads c.store.table to (state_in way m input (suc k)) → state_in way m input (suc k) ≡ dead
       dies l = (dead_tagged c.store.table to (sound.low to) sound.small (state_in way m input (suc k)) l).0 dead_to
@@ -119,14 +118,14 @@ module _ (way : Direction) (m : Machine) (input : Input) (k id : ℕ) (c : Cache
     pub known_last : k ≡ length (tape_in way input).bytes → IsKnownEnd way m c input k id half
     known_last last =
         ends_known half (stops_last way m input k last)
-        (last_answer way m input k id (next (tape_in way input) k) before c c c {s = c.store.searched} refl upto.at refl to half answer at place reports last)
+        (last_answer way m input k id (next (tape_in way input) k) before c c upto.at refl to half answer at place reports last)
 
     -- and where it is earliest, and found something
     pub known_first : input.earliest ≡ true → (half ≡ None → ⊥) → IsKnownEnd way m c input k id half
     known_first early some =
         ends_known half
-        (first_stops way m input k id (next (tape_in way input) k) before c c c {s = c.store.searched} refl upto.at refl to half answer at place reports early some)
-        (first_answer way m input k id (next (tape_in way input) k) before c c c {s = c.store.searched} refl upto.at refl to half answer at place reports early some few)
+        (first_stops way m input k id (next (tape_in way input) k) before c c upto.at refl to half answer at place reports early some)
+        (first_answer way m input k id (next (tape_in way input) k) before c c upto.at refl to half answer at place reports early some few)
 
     -- and else it goes on
     pub known_more :

@@ -1,6 +1,6 @@
 -- What a pass answers and makes of its cache, from what its parts do.
-use Rattle.std.proofs.Common.{ℕ, suc, ◌≡◌, ◌≤◌, length, Option, Some, None, true, false, sym}
-use Rattle.std.proofs.Common.{List, Bool, subst}
+use Rattle.std.proofs.Common.{ℕ, suc, ◌≡◌, ◌≤◌, length, Option, Some, None, true, false}
+use Rattle.std.proofs.Common.{List, Bool}
 use Rattle.automata_base.specs.Answers.Answers.{offset_in}
 use Rattle.automata_base.specs.ByteClasses.Classes.{is_quit}
 use Rattle.automata_base.specs.Haystacks.Input.{Input}
@@ -9,18 +9,14 @@ use Rattle.automata_base.specs.declared.util.search.Anchored.{Anchored}
 use Rattle.automata_base.specs.declared.util.search.Span.{Span}
 use Rattle.automata_base.specs.Paths.Paths.{next}
 use Rattle.automata_base.specs.Powersets.Powerset.{Powerset, dead}
-use Rattle.automata_base.specs.Retraced.Steps.{successor}
 use Rattle.automata_base.specs.declared.util.search.Direction.{Direction}
-use Rattle.automata_config.specs.Options.{match_kind_of}
-use Rattle.automata_hybrid.specs.declared.dfa.progress.Searched.{Searched}
-use Rattle.automata_hybrid.specs.Cache.Caches.{CacheView, with_store}
+use Rattle.automata_hybrid.specs.Cache.Caches.{CacheView}
 use Rattle.automata_hybrid.specs.Machines.Machine.{Machine}
 use Rattle.automata_hybrid.specs.Searches.PassContracts.{IsPassAnswer, IsUnderway, input_at}
 use Rattle.automata_hybrid.specs.Searches.PassState.{half_at}
 use Rattle.automata_hybrid.specs.Searches.Units.{IsReadAnswer}
 use Rattle.automata_hybrid.specs.Searches.Passes.{Reads, state_in, tape_in}
-use Rattle.automata_hybrid.specs.Cache.Stores.{with_searched}
-use Rattle.automata_hybrid.specs.Cache.Table.{Leads, Names}
+use Rattle.automata_hybrid.specs.Cache.Table.{Leads}
 use Rattle.automata_hybrid.proofs.Searches.PassState.{clean_dead, clean_ends, clean_last, more_dead, more_ends, more_last}
 use Rattle.automata_hybrid.proofs.Searches.PassState.{stops_dead, stops_ends}
 use Rattle.automata_hybrid.proofs.Steps.Steps.{no_quit_unit}
@@ -38,19 +34,12 @@ same_input input haystack span anchored earliest h s e a f = λ i. record {
   earliest = f i;
 }
 
--- a pass stands at a place, where the search may move, and reads a unit there
+-- a pass stands at a place, and reads a unit there
 module _ (way : Direction) (m : Machine) (input : Input) (k id : ℕ) (u : Option ℕ) (found : Option HalfMatch)
-    (old mid after : CacheView) {s : Searched} (moved : mid ≡ with_store old (with_searched old.store s))
-    (underway : IsUnderway way m old.store.table input k id found)
+    (old after : CacheView) (underway : IsUnderway way m old.store.table input k id found)
     (unit : next (tape_in way input) k ≡ u) where
-  there : (q : Powerset) → Names old.store.table id q → Names mid.store.table id q
-  there q n = subst (λ (v : CacheView). Names v.store.table id q) (sym moved) n
-
   -- what it answers
-  module _ (n : ℕ) (half : Option HalfMatch) (a : IsReadAnswer m id u mid after n) where
-    reads : (q : Powerset) → Names old.store.table id q → Leads after.store.table n (successor m.nfa (match_kind_of m.config) q u)
-    reads q h = a.named q (there q h)
-
+  module _ (n : ℕ) (half : Option HalfMatch) (a : IsReadAnswer m id u old after n) where
     free : (byte : ℕ) → u ≡ Some byte → is_quit m.quits byte ≡ false
     free = no_quit_unit m u a.clean
 
@@ -60,8 +49,8 @@ module _ (way : Direction) (m : Machine) (input : Input) (k id : ℕ) (u : Optio
         → ((q : Powerset) → Leads after.store.table n q → half ≡ half_at q.patterns at found)
         → k ≡ length (tape_in way input).bytes → IsPassAnswer way m input half
     last_answer at place reports last = record {
-      found = more_last way m old.store.table after.store.table input k id n u found half underway.at unit reads free (at, place, reports) last;
-      clean = clean_last way m old.store.table after.store.table input k id n u found half underway.at unit reads free last underway.may.0;
+      found = more_last way m old.store.table after.store.table input k id n u found half underway.at unit a.named free (at, place, reports) last;
+      clean = clean_last way m old.store.table after.store.table input k id n u found half underway.at unit a.named free last underway.may.0;
       supported = underway.may.1;
     }
 
@@ -69,13 +58,13 @@ module _ (way : Direction) (m : Machine) (input : Input) (k id : ℕ) (u : Optio
     module _ (dies : Leads after.store.table n (state_in way m input (suc k)) → state_in way m input (suc k) ≡ dead) where
       pub dead_answer : k ≤ length (tape_in way input).bytes → IsPassAnswer way m input found
       dead_answer few = record {
-        found = more_dead way m old.store.table after.store.table input k id n u found half underway.at unit reads free dies few;
-        clean = clean_dead way m old.store.table after.store.table input k id n u found half underway.at unit reads free dies underway.may.0;
+        found = more_dead way m old.store.table after.store.table input k id n u found half underway.at unit a.named free dies few;
+        clean = clean_dead way m old.store.table after.store.table input k id n u found half underway.at unit a.named free dies underway.may.0;
         supported = underway.may.1;
       }
 
       pub dead_stops : (j : ℕ) → suc k ≤ j → Reads way m input j → ⊥
-      dead_stops = stops_dead way m old.store.table after.store.table input k id n u found half underway.at unit reads free dies
+      dead_stops = stops_dead way m old.store.table after.store.table input k id n u found half underway.at unit a.named free dies
 
     -- where an earliest pass found something
     module _ (at : ℕ) (place : at ≡ offset_in way input k)
@@ -83,10 +72,10 @@ module _ (way : Direction) (m : Machine) (input : Input) (k id : ℕ) (u : Optio
         (early : input.earliest ≡ true) (some : half ≡ None → ⊥) where
       pub first_answer : k ≤ length (tape_in way input).bytes → IsPassAnswer way m input half
       first_answer few = record {
-        found = more_ends way m old.store.table after.store.table input k id n u found half underway.at unit reads free (at, place, reports) few early some;
-        clean = clean_ends way m old.store.table after.store.table input k id n u found half underway.at unit reads free (at, place, reports) early some underway.may.0;
+        found = more_ends way m old.store.table after.store.table input k id n u found half underway.at unit a.named free (at, place, reports) few early some;
+        clean = clean_ends way m old.store.table after.store.table input k id n u found half underway.at unit a.named free (at, place, reports) early some underway.may.0;
         supported = underway.may.1;
       }
 
       pub first_stops : (j : ℕ) → suc k ≤ j → Reads way m input j → ⊥
-      first_stops = stops_ends way m old.store.table after.store.table input k id n u found half underway.at unit reads free (at, place, reports) early some
+      first_stops = stops_ends way m old.store.table after.store.table input k id n u found half underway.at unit a.named free (at, place, reports) early some

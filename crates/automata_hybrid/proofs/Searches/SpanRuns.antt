@@ -12,13 +12,6 @@ use Rattle.automata_hybrid.specs.Searches.Passes.{Finds, Skips}
 use Rattle.automata_hybrid.specs.Searches.Progress.{PassEnds, PassesEnd, HaveTried, PassFails, IsPassRun, IsSearchRun}
 use Rattle.automata_hybrid.proofs.Searches.Progress.{spans_before, spans_tried}
 
--- what a pass makes of its cache, by what it returns
-pub result_run :
-    {A : Type 0} (way : Direction) (m : Machine) (input : Input) (old new : CacheView) (r : Result A SearchError)
-    → OnOk r (PassEnds way m input old new) → IfErr r (PassFails way m input old new) → IsPassRun way m input old new (result_err r)
-result_run way m input old new (Ok a) ends fails = ends
-result_run way m input old new (Err e) ends fails = fails
-
 -- a search has made the passes over the spans before the one that begins `k` places later
 module _ (way : Direction) (m : Machine) (input : Input) (k : ℕ) (tries : Tries (Finds way m) (Skips m) way input k)
     (old between : CacheView) (ended : PassesEnd way m input k old between) where

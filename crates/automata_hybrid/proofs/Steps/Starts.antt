@@ -58,7 +58,7 @@ leads_row c id q (inr names) = inr (inr (q, names))
 -- a start state that is cached changes nothing
 pub known_run :
     (m : Machine) (mode : Anchored) (behind : Option ℕ) (c : CacheView)
-    → IsStoreOf c.store m → KnowsStart m c.store mode behind → Does m (Start mode behind) c c
+    → IsStoreOf c.store m → KnowsStart m c.store mode behind → Does m (Start mode behind) c c c
 known_run m mode behind c sound knows = (knows.0, sound, inl (λ _. knows.1.1, refl))
 
 -- and is answered as it stands
@@ -84,19 +84,6 @@ known_answer m mode behind c slot id of at knows value low may tag = record {
       subst (λ (p : Powerset). Leads c.store.table id p)
       (first mode behind (ap (λ (d : Machine). slot_behind d mode behind) of ∙ sym at.at)
       ∙ ap (λ (d : Machine). start_state_of d.nfa mode behind) of) leads
-
--- a start that failed, and determinized
-pub refused_start :
-    (m : Machine) (mode : Anchored) (behind : Option ℕ) (old new : CacheView) (slot : ℕ) (e : StartError)
-    → IsStartSlot m mode behind slot → (KnowsStart m old.store mode behind → ⊥) → length old.store.starts ≡ m.slots → new ≡ counted old
-    → IsStartError m old.store mode behind e → StartFails m mode behind old new e
-refused_start m mode behind old new slot e at unknown slots same why = record {
-  why = why;
-  fails = λ may. record { unknown = λ cached. unknown (may, (omega (arith, at.at, at.within, slots), cached within)); unchanged = same };
-  barred = λ not. absurd (not at.may);
-} where
-  within : slot_behind m mode behind < m.slots
-  within = omega (arith, at.at, at.within)
 
 -- a start was computed and written
 pub record ComputesStart (m : Machine) (mode : Anchored) (behind : Option ℕ) (old new : CacheView) (slot id : ℕ) : Type 0 where
@@ -217,7 +204,7 @@ module _ (m : Machine) (mode : Anchored) (behind : Option ℕ) (old new : CacheV
 
   pub computed_run :
       IsStoreOf new.store m → (KnowsStart m old.store mode behind → ⊥) → length old.store.starts ≡ m.slots
-      → Does m (Start mode behind) old new
+      → Does m (Start mode behind) old old new
   computed_run sound unknown slots = (
     at.may,
     sound,

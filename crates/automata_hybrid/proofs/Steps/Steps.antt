@@ -14,8 +14,9 @@ use Rattle.automata_hybrid.specs.Cache.Caches.{CacheView, HoldsRow, IsCacheOf, I
 use Rattle.automata_hybrid.specs.Cache.Ids.{fixed_from, quit_id, unknown_id}
 use Rattle.automata_hybrid.specs.Machines.Machine.{Machine}
 use Rattle.automata_hybrid.specs.Cache.Progress.{saturated}
-use Rattle.automata_hybrid.specs.Calls.Events.{IsCached, Step}
+use Rattle.automata_hybrid.specs.Calls.Events.{Does, IsCached, Step, moved}
 use Rattle.automata_hybrid.specs.Calls.Steps.{IsStepRun}
+use Rattle.automata_hybrid.specs.Searches.Units.{IsStepTaken}
 use Rattle.automata_hybrid.specs.Steps.Steps.{IsCellRead, IsStepAnswer, KnowsStep, known_step}
 use Rattle.automata_hybrid.specs.Machines.Machine.{quits_on, unit_class}
 use Rattle.automata_hybrid.specs.Cache.Table.{HasCells, HasItsMatchTag, IsCell, IsRowId, Lacks, Leads, LeadsByClass}
@@ -36,17 +37,42 @@ same_run m id unit c known = record {
   does = λ clean q n. (let k = known q n in ((clean, k.0), k.1, inl ((id, n, k.2), refl)));
 }
 
--- what stands in a cell was read there
-pub cell_read :
-    (m : Machine) (c : Stored) (id : ℕ) (unit : Option ℕ) (cell : ℕ) → cell ≡ known_step m c id unit → IsCellRead m c id unit cell
-cell_read m c id unit cell same = (λ _. same, λ free known. absurd (omega (arith, free, known, same)))
-
 -- a step that is not cached from an ID is not cached from its state
 pub step_unknown :
     (m : Machine) (id : ℕ) (unit : Option ℕ) (c : CacheView) → (KnowsStep m c.store id unit → ⊥)
     → (q : Powerset) → Names c.store.table id q → IsCached m c.store (Step q unit) → ⊥
 step_unknown m id unit c unknown q named (other, names, known) =
     let one : other ≡ id = one_id c.store.table other id q names named in unknown (subst (λ k. KnowsStep m c.store k unit) one known)
+
+-- of a search that moved before it made a step
+module _ (m : Machine) (id : ℕ) (unit : Option ℕ) (at : ℕ) (old new : CacheView) where
+  pub moved_answer : (next : ℕ) → IsStepAnswer m id unit (moved at old) new next → IsStepAnswer m id unit old new next
+  moved_answer next a = record {
+    row = a.row;
+    tag = a.tag;
+    fixed = a.fixed;
+    quit = a.quit;
+    named = a.named;
+    cached = a.cached;
+  }
+
+  pub moved_run :
+      (KnowsStep m old.store id unit → ⊥) → quits_on m unit ≡ false → IsStepRun m id unit (moved at old) new
+      → IsStepTaken m id unit at old new
+  moved_run unknown clean run = record {
+    quit = λ on. absurd (false_true (sym clean ∙ on));
+    taken = λ free q named. go q named (run.does free q named);
+  } where
+    go :
+        (q : Powerset) → Names old.store.table id q → Does m (Step q unit) (moved at old) (moved at old) new
+        → Does m (Step q unit) old (moved at old) new
+    go q named (asked, after, inl (cached, same)) = absurd (step_unknown m id unit old unknown q named cached)
+    go q named (asked, after, inr (not, made)) = (asked, after, inr (not, made))
+
+-- what stands in a cell was read there
+pub cell_read :
+    (m : Machine) (c : Stored) (id : ℕ) (unit : Option ℕ) (cell : ℕ) → cell ≡ known_step m c id unit → IsCellRead m c id unit cell
+cell_read m c id unit cell same = (λ _. same, λ free known. absurd (omega (arith, free, known, same)))
 
 -- a step from dead or quit answers its own ID
 pub fixed_answer :

@@ -1,5 +1,5 @@
 -- What follows of what a call of a walk makes of its cache.
-use Rattle.std.proofs.Common.{ℕ, zero, suc, ◌≡◌, ◌∙◌, ◌+◌, ◌-◌, ◌<◌, ◌≤◌, ◌⊎◌, List, [], ◌∷◌, ◌++◌, length, Option, None}
+use Rattle.std.proofs.Common.{ℕ, zero, suc, ◌≡◌, ◌∙◌, ◌+◌, ◌-◌, ◌<◌, ◌≤◌, ◌⊎◌, List, length, Option, None}
 use Rattle.std.proofs.Common.{Some, false, true, inl, inr, refl, sym, ap, subst, arith}
 use Rattle.std.proofs.lemmas.Bool.{cases_lt}
 use Rattle.automata_base.specs.ByteClasses.Classes.{is_quit}
@@ -12,12 +12,13 @@ use Rattle.automata_config.specs.declared.error.SearchError.{SearchError}
 use Rattle.automata_hybrid.specs.Cache.Caches.{CacheView, IsStoreOf, counted}
 use Rattle.automata_hybrid.specs.Cache.Growth.{ClearedNothing, IsGrown, PutsBack}
 use Rattle.automata_hybrid.specs.Cache.Table.{IsKnownState, IsNewState, IsRowState, id_of}
-use Rattle.automata_hybrid.specs.Calls.Events.{AreCached, Begin, DoAll, End, Event, Move, makings}
 use Rattle.automata_hybrid.specs.Machines.Machine.{Machine, quits_on, unit_class}
 use Rattle.automata_hybrid.specs.Searches.Cached.{IsOfInput, KnowsItsStart, KnowsUnit}
-use Rattle.automata_hybrid.specs.Searches.Passes.{HasReadNoQuit, IsUnitError, Skips, given_up_offset, tape_in}
-use Rattle.automata_hybrid.specs.Searches.Progress.{HasItsStart, IsLeftAt, IsUnitRead, start_event, unit_event}
-use Rattle.automata_hybrid.specs.Searches.Progress.{unit_events, with_search_begun, with_search_moved}
+use Rattle.automata_hybrid.specs.Searches.Passes.{HasReadNoQuit, IsUnitError, Skips, given_up_offset, state_in, tape_in}
+use Rattle.automata_hybrid.specs.Searches.Progress.{Goes, GoesToEnd, HasItsStart, IsLeftAt, IsUnitRead, start_event}
+use Rattle.automata_hybrid.specs.Searches.Progress.{with_search_begun}
+use Rattle.automata_hybrid.specs.Searches.PassState.{HasLearnedUnit}
+use Rattle.automata_hybrid.specs.Cache.Progress.{progress_finished, progress_updated}
 use Rattle.automata_hybrid.specs.Steps.Starts.{MayStart}
 use Rattle.automata_hybrid.specs.Walks.Answers.{HasItsState, HasReported, HasReportedAt, HasReportedBy, IsWalkErrorAt, IsResumeError, IsSilent, IsWalkError}
 use Rattle.automata_hybrid.specs.Walks.Answers.{ReportsNext, WalkReads, start_count}
@@ -28,13 +29,12 @@ use Rattle.automata_hybrid.specs.Walks.Progress.{ReadsNoUnit}
 use Rattle.automata_hybrid.specs.Walks.State.{At, Ended, Fresh, Ids, Keeping, Stage, States, Walk}
 use Rattle.automata_hybrid.specs.declared.dfa.row.Row.{Row}
 use Rattle.automata_hybrid.proofs.Cache.Additions.{new_state}
-use Rattle.automata_hybrid.proofs.Cache.Growth.{grown_after, grown_again, grown_less, grown_same, grown_trans, nothing_second}
-use Rattle.automata_hybrid.proofs.Calls.Laws.{Follows, all_sound, cached_join, cached_split, do_join, do_split, failed_count}
-use Rattle.automata_hybrid.proofs.Calls.Laws.{failed_grown, follows_all, follows_one, makings_join, moved_sound, store_sound}
-use Rattle.automata_hybrid.proofs.Searches.Follows.{barred_of_input, moved_left, quit_of_input, tape_few, units_asked}
+use Rattle.automata_hybrid.proofs.Cache.Growth.{grown_after, grown_again, grown_less, grown_moved, grown_same, grown_trans}
+use Rattle.automata_hybrid.proofs.Cache.Growth.{nothing_first, nothing_second}
+use Rattle.automata_hybrid.proofs.Calls.Laws.{Follows, LeftFollows, failed_count, failed_grown, follows_one, left_follows}
+use Rattle.automata_hybrid.proofs.Calls.Laws.{searched_sound, store_sound}
+use Rattle.automata_hybrid.proofs.Searches.Follows.{GoesFollow, barred_of_input, goes_follow, quit_of_input, tape_few}
 use Rattle.automata_hybrid.proofs.Steps.Starts.{may_or_not}
-use Rattle.automata_hybrid.proofs.Searches.Follows.{units_cached, units_known, units_makings}
-use Rattle.automata_hybrid.proofs.Searches.UnitsRead.{moved_and_read}
 use Rattle.automata_hybrid.proofs.Steps.StartTags.{again_adds, again_keeps, tagged_none}
 use Rattle.automata_hybrid.proofs.Steps.Steps.{no_quit_unit}
 use Rattle.automata_hybrid.proofs.Walks.Cached.{HasLearnedUnits, has_state, nothing_after, state_after, still_same, unit_knows}
@@ -116,8 +116,8 @@ module _ (way : Direction) (m : Machine) (input : Input) (skips : Skips m ⊎ (S
       back = λ q is. absurd (fresh_at q is);
       learned = cached starts;
     } where
-      f : Follows m (start_event way input ∷ []) old begun
-      f = follows_one m (start_event way input) old begun sound.of (store_sound old.store m sound) starts
+      f : Follows m (start_event way input) old begun
+      f = follows_one m old old.store.searched begun sound (start_event way input) starts
 
       still : HasItsStart way m input old begun → KnowsItsStart way m old.store input → begun ≡ old
       still (asked, after, inl (known, same)) knows = same
@@ -277,62 +277,52 @@ module _ (way : Direction) (m : Machine) (input : Input) (skips : Skips m ⊎ (S
     here : HasReportedBy way m input w.units k
     here = reported_here way m input w k skips reported reads.on reads.all_reported
 
-    begin :
-        (es : List Event) (new : CacheView) → DoAll m es (with_search_begun way input w.units begun) new
-        → DoAll m (Begin (given_up_offset way input w.units) ∷ es) begun new
-    begin es new all = (
-      with_search_begun way input w.units begun,
-      (tt, moved_sound m (Begin (given_up_offset way input w.units)) begun r.sound, inl (tt, refl)),
-      all,
-    )
+    -- the search began at the first unit
+    abbrev start : CacheView
+    start = with_search_begun way input w.units begun
+
+    goes : (n : ℕ) (mid : CacheView) → Goes way m input w.units n start mid → GoesFollow way m input w.units n start mid
+    goes n mid all = goes_follow way m input w.units n start mid (searched_sound m begun.store _ r.sound) all
+
+    grows : (mid : CacheView) → IsGrown start mid → IsGrown begun mid
+    grows mid grown = grown_trans begun start mid (grown_moved begun start refl) grown
 
     -- no unit is a quit byte up to where it has read
-    clean_to :
-        (n : ℕ) (a b : CacheView) → DoAll m (unit_events way m input w.units n) a b → HasReadNoQuit way m input (w.units + n)
-    clean_to n a b all j byte less unit = go (cases_lt j w.units) where
+    clean_to : (n : ℕ) (mid : CacheView) → GoesFollow way m input w.units n start mid → HasReadNoQuit way m input (w.units + n)
+    clean_to n mid g j byte less unit = go (cases_lt j w.units) where
       go : (j < w.units) ⊎ (w.units ≤ j) → is_quit m.quits byte ≡ false
       go (inl before) = clean_here way m input w k reported reads.on j byte before unit
-      go (inr behind) = no_quit_unit m (unit_at (tape_in way input) j) (units_asked way m input w.units n a b all j behind less).0 byte unit
+      go (inr behind) = no_quit_unit m (unit_at (tape_in way input) j) (g.clean j behind less) byte unit
 
-    -- what so many units ask for is cached, where each is that is read
-    use_cached :
+    -- each unit that is read is cached
+    uses :
         (n : ℕ) → ((j : ℕ) → w.units ≤ j → j < w.units + n → WalkReads way m input j × IsSilent way m input w.units j)
         → ((j : ℕ) → j < w.units + n → HasReadNoQuit way m input j) → KnowsUnits way m begun.store input w.units k
-        → AreCached m begun.store (unit_events way m input w.units n)
-    use_cached n each clean knows =
-        units_cached way m input begun.store w.units n
-        (λ j more less. knows j more (each j more less).0 (clean j less) ((each j more less).1 k here))
+        → (j : ℕ) → w.units ≤ j → j < w.units + n → KnowsUnit way m begun.store input j
+    uses n each clean knows j more less = knows j more (each j more less).0 (clean j less) ((each j more less).1 k here)
 
     -- the units were read, and then no more were
     call_reads :
         (keeping : Keeping) (next : Walk) (new : CacheView) (n : ℕ) → ReportsNext way m input w next
-        → next.units ≡ w.units + n → ReadsItsUnits way m input w next
-        → DoAll m (unit_events way m input w.units n ++ (End (given_up_offset way input (w.units + (n - 1))) ∷ [])) (with_search_begun way input w.units begun) new
+        → next.units ≡ w.units + n → ReadsItsUnits way m input w next → GoesToEnd way m input w.units n start new
         → CallFollows keeping way m input w next old new None
-    call_reads keeping next new n reports count its all =
-        follows_ok old begun new r reads f.grown n (omega (arith, f.counted, made)) (within n refl) keeping next count
-        (λ nothing j t i more walks clean by. known j t i more walks by (f.learned nothing).1 (cases_lt i next.units))
-        (λ knows. f.known (
-          tt,
-          cached_join m begun.store (unit_events way m input w.units n) last
-              (use_cached n (λ j more less. its.0 j more (omega (arith, less, count))) (λ j less i byte l unit. clean i byte (omega (arith, l, less)) unit) knows) (tt, tt),
-        ))
+    call_reads keeping next new n reports count its (mid, all, ended) =
+        follows_ok old begun new r reads (grows new rest) n (omega (arith, g.counted, same)) (within n refl) keeping next count
+        (λ nothing j t i more walks clean by. known j t i more walks by (nothing_first start mid new g.grown last nothing) (cases_lt i next.units))
+        (λ knows. same ∙ g.known
+        (uses n (λ j more less. its.0 j more (omega (arith, less, count))) (λ j less i byte l unit. clean_to n mid g i byte (omega (arith, l, less)) unit) knows))
       where
-        last : List Event
-        last = End (given_up_offset way input (w.units + (n - 1))) ∷ []
+        g : GoesFollow way m input w.units n start mid
+        g = goes n mid all
 
-        f : Follows m (Begin (given_up_offset way input w.units) ∷ (unit_events way m input w.units n ++ last)) begun new
-        f = follows_all m (Begin (given_up_offset way input w.units) ∷ (unit_events way m input w.units n ++ last)) begun new r.sound (begin (unit_events way m input w.units n ++ last) new all)
+        last : IsGrown mid new
+        last = grown_moved mid new ended
 
-        made : makings (Begin (given_up_offset way input w.units) ∷ (unit_events way m input w.units n ++ last)) ≡ n
-        made =
-            let both : makings (unit_events way m input w.units n ++ last) ≡ makings (unit_events way m input w.units n) + 0 = makings_join (unit_events way m input w.units n) last in
-            omega (arith, both, units_makings way m input w.units n)
+        rest : IsGrown start new
+        rest = grown_trans start mid new g.grown last
 
-        clean : HasReadNoQuit way m input (w.units + n)
-        clean =
-            let parts = do_split m (unit_events way m input w.units n) last (with_search_begun way input w.units begun) new all in
-            clean_to n (with_search_begun way input w.units begun) parts.0 parts.1
+        same : new.count ≡ mid.count
+        same = ap (λ (v : CacheView). v.count) ended
 
         within : (i : ℕ) → i ≡ n → w.units + n ≤ input.end - input.start + 1
         within zero is = omega (arith, is, reads.left)
@@ -342,17 +332,16 @@ module _ (way : Direction) (m : Machine) (input : Input) (skips : Skips m ⊎ (S
 
         known :
             (j : ℕ) → HasReported way m input w j → (i : ℕ) → w.units ≤ i → WalkReads way m input i → HasReportedBy way m input i j
-            → AreCached m new.store (unit_events way m input w.units n ++ last) → (i < next.units) ⊎ (next.units ≤ i) → KnowsUnit way m new.store input i
-        known j t i more walks by cached (inl less) =
-            units_known way m input new.store w.units n (cached_split m new.store (unit_events way m input w.units n) last cached).0 i more (omega (arith, less, count))
-        known j t i more walks by cached (inr past) =
+            → ClearedNothing start.store mid.store → (i < next.units) ⊎ (next.units ≤ i) → KnowsUnit way m new.store input i
+        known j t i more walks by nothing (inl less) =
+            subst (λ (v : CacheView). KnowsUnit way m v.store input i) (sym ended) (g.learned nothing i more (omega (arith, less, count))).0
+        known j t i more walks by nothing (inr past) =
             absurd (next_stops next j (reports j t).0 its.1 i past walks by)
 
     -- it failed after so many units
     module _ (keeping : Keeping) (next : Walk) (new mid : CacheView) (e : SearchError) (n : ℕ)
         (walks : WalkReads way m input (w.units + n)) (clean : HasReadNoQuit way m input (w.units + n))
-        (silent : IsSilent way m input w.units (w.units + n))
-        (all : DoAll m (unit_events way m input w.units n) (with_search_begun way input w.units begun) mid) where
+        (silent : IsSilent way m input w.units (w.units + n)) (all : Goes way m input w.units n start mid) where
       within_left : w.units + suc n ≤ input.end - input.start + 1
       within_left = let one : w.units + n ≤ length (tape_in way input).bytes = walks.0 in omega (arith, one, tape_few way input)
 
@@ -376,51 +365,33 @@ module _ (way : Direction) (m : Machine) (input : Input) (skips : Skips m ⊎ (S
           IsUnitError way m new.store input (w.units + n) e → IsLeftAt way m input (w.units + n) mid new
           → CallFollows keeping way m input w next old new (Some e)
       call_stops refused left =
-          follows_err old begun new r reads (grown_trans begun mid new f.grown s.0) (suc n) (omega (arith, f.counted, made, s.1)) within_left keeping next e
+          follows_err old begun new r reads (grows new (grown_trans start mid new g.grown l.grown)) (suc n) (omega (arith, g.counted, l.counted)) within_left keeping next e
           (why (step_refuses keeping way m new.store input (w.units + n) e refused))
           (λ knows. (
-          let idle : mid.count ≡ begun.count = f.known (tt, use_cached n (λ j more less. each j more (omega (arith, less))) (λ j less. clean_before j (omega (arith, less))) knows) in
-          let quit = s.2 (unit_knows way m begun mid input w.units (w.units + n) k f.grown idle knows (omega arith) walks clean (silent k here)) in
+          let idle : mid.count ≡ begun.count = g.known (λ j more less. uses (suc n) each clean_before knows j more (omega (arith, less))) in
+          let quit = l.known (unit_knows way m begun mid input w.units (w.units + n) k (grows mid g.grown) idle knows (omega arith) walks clean (silent k here)) in
           (quit.1 ∙ idle, known_refusal keeping way m input w e (quit_of_input way m new.store input (w.units + n) e refused quit.0))))
         where
-          f : Follows m (Begin (given_up_offset way input w.units) ∷ unit_events way m input w.units n) begun mid
-          f = follows_all m (Begin (given_up_offset way input w.units) ∷ unit_events way m input w.units n) begun mid r.sound (begin (unit_events way m input w.units n) mid all)
+          g : GoesFollow way m input w.units n start mid
+          g = goes n mid all
 
-          made : makings (Begin (given_up_offset way input w.units) ∷ unit_events way m input w.units n) ≡ n
-          made = units_makings way m input w.units n
-
-          s :
-              IsGrown mid new × (new.count ≤ mid.count + 1)
-              × (KnowsUnit way m mid.store input (w.units + n)
-              → (quits_on m (unit_at (tape_in way input) (w.units + n)) ≡ true) × (new.count ≡ mid.count))
-          s = moved_left way m input (w.units + n) mid new left
+          l : LeftFollows m (state_in way m input (w.units + n)) (unit_at (tape_in way input) (w.units + n)) mid new
+          l =
+              left_follows m (state_in way m input (w.units + n)) (unit_at (tape_in way input) (w.units + n)) mid new
+              (progress_updated mid.store.searched (given_up_offset way input (w.units + n)))
+              (progress_finished mid.store.searched (given_up_offset way input (w.units + n))) left
 
       -- or after it, since the state cannot be held
       call_unheld :
-          IsUnitRead way m input (w.units + n) (with_search_moved way input (w.units + n) mid) new
+          IsUnitRead way m input (w.units + n) mid new
           → IsWalkErrorAt keeping way m new.store input (w.units + n) e → IsKnownError keeping way m input w e
           → CallFollows keeping way m input w next old new (Some e)
       call_unheld read refused unheld =
-          follows_err old begun new r reads f.grown (suc n) (omega (arith, f.counted, made)) within_left keeping next e (why refused)
-          (λ knows. (f.known (tt, use_cached (suc n) each clean_before knows), unheld))
+          follows_err old begun new r reads (grows new g.grown) (suc n) g.counted within_left keeping next e (why refused)
+          (λ knows. (g.known (uses (suc n) each clean_before knows), unheld))
         where
-          unit : List Event
-          unit = Move (given_up_offset way input (w.units + n)) ∷ unit_event way m input (w.units + n) ∷ []
-
-          sound : IsStoreOf mid.store m
-          sound =
-              all_sound m (unit_events way m input w.units n) (with_search_begun way input w.units begun) mid
-              (moved_sound m (Begin (given_up_offset way input w.units)) begun r.sound) all
-
-          f : Follows m (Begin (given_up_offset way input w.units) ∷ unit_events way m input w.units (suc n)) begun new
-          f =
-              follows_all m (Begin (given_up_offset way input w.units) ∷ unit_events way m input w.units (suc n)) begun new r.sound
-              (begin (unit_events way m input w.units (suc n)) new
-              (do_join m (unit_events way m input w.units n) unit (with_search_begun way input w.units begun) mid new all
-              (moved_and_read way m input (w.units + n) mid new sound read)))
-
-          made : makings (Begin (given_up_offset way input w.units) ∷ unit_events way m input w.units (suc n)) ≡ suc n
-          made = units_makings way m input w.units (suc n)
+          g : GoesFollow way m input w.units (suc n) start new
+          g = goes (suc n) new (mid, all, read)
 
   -- a call that answered
   pub call_ended :
@@ -459,34 +430,23 @@ module _ (way : Direction) (m : Machine) (input : Input) (skips : Skips m ⊎ (S
     few = λ l. omega (arith, l, same);
     learned = λ there nothing j more less. absurd (omega (arith, more, less, same));
   }
-  call_leaves_units next old new sound (over, inr (reads, begun, n, resumed, count, its, all)) = record {
-    sound = after;
+  call_leaves_units next old new sound (over, inr (reads, begun, n, resumed, count, its, (mid, all, ended))) = record {
+    sound = subst (λ (v : CacheView). IsStoreOf v.store m) (sym ended) (searched_sound m mid.store _ g.sound);
     few = within n refl;
     learned = λ there nothing j more less. (
         let inside : j < w.units + n = omega (arith, less, count) in
-        let cached = f.learned (nothing_second old begun new (r.there there) f.grown nothing) in (
-          units_known way m input new.store w.units n (cached_split m new.store (unit_events way m input w.units n) last cached.1).0 j more inside,
-          subst (λ (d : Machine). unit_class m (unit_at (tape_in way input) j) < d.stride) (sym after.of)
-              (units_asked way m input w.units n (with_search_begun way input w.units begun) parts.0 parts.1 j more inside).1,
-        ));
+        let first = nothing_second old begun new (r.there there) rest nothing in
+        subst (λ (v : CacheView). HasLearnedUnit way m v.store input j) (sym ended)
+        (g.learned (nothing_first (with_search_begun way input w.units begun) mid new g.grown (grown_moved mid new ended) first) j more inside));
   } where
-    last : List Event
-    last = End (given_up_offset way input (w.units + (n - 1))) ∷ []
-
     r : Resumed w.stage old begun
     r = has_resumed old begun sound w.stage reported resumed
 
-    whole : DoAll m (Begin (given_up_offset way input w.units) ∷ (unit_events way m input w.units n ++ last)) begun new
-    whole = begin old begun r (to_read reads) (unit_events way m input w.units n ++ last) new all
+    g : GoesFollow way m input w.units n (with_search_begun way input w.units begun) mid
+    g = goes old begun r (to_read reads) n mid all
 
-    f : Follows m (Begin (given_up_offset way input w.units) ∷ (unit_events way m input w.units n ++ last)) begun new
-    f = follows_all m (Begin (given_up_offset way input w.units) ∷ (unit_events way m input w.units n ++ last)) begun new r.sound whole
-
-    after : IsStoreOf new.store m
-    after = all_sound m (Begin (given_up_offset way input w.units) ∷ (unit_events way m input w.units n ++ last)) begun new r.sound whole
-
-    parts : (mid : CacheView) × DoAll m (unit_events way m input w.units n) (with_search_begun way input w.units begun) mid × DoAll m last mid new
-    parts = do_split m (unit_events way m input w.units n) last (with_search_begun way input w.units begun) new all
+    rest : IsGrown begun new
+    rest = grown_trans begun mid new (grows old begun r (to_read reads) mid g.grown) (grown_moved mid new ended)
 
     within : (i : ℕ) → i ≡ n → w.units ≤ input.end - input.start + 1 → next.units ≤ input.end - input.start + 1
     within zero is l = omega (arith, is, count, l)

@@ -39,7 +39,7 @@ use Rattle.automata_hybrid.specs.Walks.State.{States, Walk, keeping_of, without_
 use Rattle.automata_hybrid.specs.declared.search.walk.Held.{Held}
 use Rattle.automata_hybrid.specs.declared.search.walk.Held.TheVariants as held
 use Rattle.automata_hybrid.proofs.Searches.PassState.{false_true, state_first}
-use Rattle.automata_hybrid.proofs.Searches.UnitsRead.{unstarted}
+use Rattle.automata_hybrid.proofs.Searches.Goes.{unstarted}
 use Rattle.automata_hybrid.proofs.Steps.Starts.{refusal_at}
 
 -- a start in a mode that is not supported fails for that, after no quit byte

@@ -8,7 +8,7 @@ use Rattle.automata_hybrid.specs.Cache.Caches.{CacheView}
 use Rattle.automata_hybrid.specs.Cache.Stores.{Stored}
 use Rattle.automata_hybrid.specs.Walks.Cached.{IsToRead}
 use Rattle.automata_hybrid.specs.Machines.Machine.{Machine}
-use Rattle.automata_hybrid.specs.Searches.Progress.{AreUnitsRead, IsLeftAt}
+use Rattle.automata_hybrid.specs.Searches.Progress.{Goes, IsLeftAt}
 use Rattle.automata_hybrid.specs.Walks.Progress.{IsCallLeftAt, IsCallStopped, ReadsNoUnit}
 use Rattle.automata_hybrid.specs.Searches.Cached.{IsOfInput}
 use Rattle.automata_hybrid.specs.Searches.Passes.{HasReadNoQuit, IsUnitError, Skips}
@@ -16,7 +16,7 @@ use Rattle.automata_hybrid.specs.Walks.Answers.{HasReportedBy, IsWalkErrorAt, Is
 use Rattle.automata_hybrid.specs.Walks.Follows.{IsKnownError}
 use Rattle.automata_hybrid.specs.Walks.State.{Ids, Keeping, States, Walk}
 use Rattle.automata_hybrid.proofs.Searches.PassState.{dead_more}
-use Rattle.automata_hybrid.proofs.Searches.UnitsRead.{AreReadTo, read_some}
+use Rattle.automata_hybrid.proofs.Searches.Goes.{GoesTo, goes_some}
 use Rattle.automata_hybrid.proofs.Walks.Reports.{reported_rises}
 
 -- a walk reads the units before one that it reads
@@ -57,13 +57,13 @@ silent_before way m input from j to more less silent k t = subst (HasReportedBy 
 -- a walk has read units up to where it is
 pub arrived_read :
     (way : Direction) (m : Machine) (input : Input) (from k units : ℕ) (old new : CacheView) → from ≤ k → suc k ≡ units
-    → WalkReads way m input k → AreReadTo way m input from (suc k) old new
-    → (n : ℕ) × (units ≡ suc (from + n)) × WalkReads way m input (from + n) × AreUnitsRead way m input from (suc n) old new
-arrived_read way m input from k units old new more same reads all = go (read_some way m input from k old new more all) where
+    → WalkReads way m input k → GoesTo way m input from (suc k) old new
+    → (n : ℕ) × (units ≡ suc (from + n)) × WalkReads way m input (from + n) × Goes way m input from (suc n) old new
+arrived_read way m input from k units old new more same reads all = go (goes_some way m input from k old new more all) where
   go :
-      ((n : ℕ) × (from + n ≡ k) × AreUnitsRead way m input from (suc n) old new)
+      ((n : ℕ) × (from + n ≡ k) × Goes way m input from (suc n) old new)
       → (n : ℕ) × (units ≡ suc (from + n)) × WalkReads way m input (from + n)
-      × AreUnitsRead way m input from (suc n) old new
+      × Goes way m input from (suc n) old new
   go (n, here, read) = (n, omega (arith, here, same), subst (WalkReads way m input) (sym here) reads, read)
 
 -- a call that failed at a unit
@@ -71,15 +71,15 @@ pub call_stopped :
     (way : Direction) (m : Machine) (input : Input) (from k : ℕ) (old new : CacheView) (e : SearchError)
     → WalkReads way m input k → HasReadNoQuit way m input k → IsSilent way m input from k
     → IsUnitError way m new.store input k e
-    → ((run : CacheView) × AreReadTo way m input from k old run × IsLeftAt way m input k run new)
+    → (run : CacheView) → GoesTo way m input from k old run → IsLeftAt way m input k run new
     → IsCallStopped Ids way m input from old new e
-call_stopped way m input from k old new e reads clean silent refused (run, all, left) = (
+call_stopped way m input from k old new e reads clean silent refused run all left = (
   all.units,
   run,
   subst (WalkReads way m input) (sym all.upto) reads,
   subst (HasReadNoQuit way m input) (sym all.upto) clean,
   subst (IsSilent way m input from) (sym all.upto) silent,
-  all.read,
+  all.goes,
   subst (λ j. IsUnitError way m new.store input j e × IsLeftAt way m input j run new) (sym all.upto) (refused, left),
 )
 

@@ -14,14 +14,14 @@ use Rattle.automata_hybrid.specs.Cache.Stores.{with_searched}
 use Rattle.automata_hybrid.specs.Cache.Table.{Rows}
 use Rattle.automata_hybrid.specs.Machines.Machine.{Machine}
 use Rattle.automata_hybrid.specs.Searches.Passes.{HasReadNoQuit, Skips, given_up_offset, state_in, tape_in}
-use Rattle.automata_hybrid.specs.Searches.Progress.{AreUnitsRead, HasEndedAfter, IsUnitRead, with_search_begun, with_search_moved}
+use Rattle.automata_hybrid.specs.Searches.Progress.{Goes, GoesToEnd, IsUnitRead, with_search_begun, with_search_moved}
 use Rattle.automata_hybrid.specs.Walks.Answers.{Arrives, IsArrival, IsSilent, IsUnheld, WalkReads}
 use Rattle.automata_hybrid.specs.Walks.Cached.{IsToRead}
 use Rattle.automata_hybrid.specs.Walks.Parts.{IsAdvanceEffect}
 use Rattle.automata_hybrid.specs.Walks.Progress.{IsCallStopped, IsResumed, IsWalkRun}
 use Rattle.automata_hybrid.specs.Walks.State.{Ended, Keeping, States, Walk}
 use Rattle.automata_hybrid.specs.declared.search.advance.Arrival.{Arrival}
-use Rattle.automata_hybrid.proofs.Searches.UnitsRead.{ended_after, ended_here, read_last}
+use Rattle.automata_hybrid.proofs.Searches.Goes.{ended_here}
 use Rattle.automata_hybrid.proofs.Steps.Steps.{unit_no_quit}
 use Rattle.automata_hybrid.proofs.Walks.Progress.{reads_some, silent_before, walk_reads_before}
 
@@ -44,7 +44,7 @@ module _ (way : Direction) (m : Machine) (input : Input) (w : Walk) (old between
   abbrev Last : Type 0
   Last =
       (n : ℕ) × (arrival.units ≡ suc (w.units + n)) × WalkReads way m input (w.units + n)
-      × AreUnitsRead way m input w.units (suc n) begun mid
+      × Goes way m input w.units (suc n) begun mid
 
   last : Last
   last = a.read
@@ -54,12 +54,11 @@ module _ (way : Direction) (m : Machine) (input : Input) (w : Walk) (old between
       (place : at ≡ given_up_offset way input (arrival.units - 1))
       (ends : new ≡ with_store mid (with_searched mid.store (progress_finished mid.store.searched at)))
       (stops : next.stage ≡ Ended → (next.found ≡ None) × (WalkReads way m input arrival.units → ⊥)) where
-    ends_at : HasEndedAfter way m input w.units (suc last.0) (with_search_begun way input w.units between) new
+    ends_at : GoesToEnd way m input w.units (suc last.0) (with_search_begun way input w.units between) new
     ends_at =
         let k : w.units + (suc last.0 - 1) ≡ arrival.units - 1 = omega (arith, last.1) in
-        subst (λ (c : CacheView). HasEndedAfter way m input w.units (suc last.0) c new) begins
-        (ended_after way m input w.units (suc last.0) begun mid new sound last.3
-        (ended_here way input (w.units + (suc last.0 - 1)) at mid new (ap (given_up_offset way input) k ∙ sym place) ends))
+        subst (λ (c : CacheView). GoesToEnd way m input w.units (suc last.0) c new) begins
+        (mid, last.3, ended_here way input (w.units + (suc last.0 - 1)) at mid new (ap (given_up_offset way input) k ∙ sym place) ends)
 
     pub run_on : IsWalkRun keeping way m input w next old new None
     run_on = record {
@@ -102,12 +101,9 @@ module _ (way : Direction) (m : Machine) (input : Input) (w : Walk) (old between
     left_unheld : IsCallStopped States way m input w.units (with_search_begun way input w.units between) mid search.OutOfMemory
     left_unheld =
         subst (λ (c : CacheView). IsCallStopped States way m input w.units c mid search.OutOfMemory) begins
-        (go (read_last way m input w.units last.0 begun mid last.3))
+        (go last.3)
       where
-        go :
-            ((before : CacheView) × AreUnitsRead way m input w.units last.0 begun before
-            × IsUnitRead way m input (w.units + last.0) (with_search_moved way input (w.units + last.0) before) mid)
-            → IsCallStopped States way m input w.units begun mid search.OutOfMemory
+        go : Goes way m input w.units (suc last.0) begun mid → IsCallStopped States way m input w.units begun mid search.OutOfMemory
         go (before, reads, unit) = (
           last.0,
           before,

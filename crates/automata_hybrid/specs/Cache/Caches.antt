@@ -9,7 +9,9 @@ use Rattle.automata_hybrid.specs.Cache.Stores.{Stored, fresh_store}
 
 -- what contracts see of a cache: its states, and how often it determinized
 pub record CacheView : Type 0 where
+  -- Its rows, its start slots, how often it was cleared, and the progress of searches.
   pub store : Stored
+  -- The count of determinizations.
   pub count : ℕ
 
 -- the cache belongs to this machine
@@ -19,13 +21,19 @@ IsCacheOf c m = c.store.table.of ≡ m
 -- a cache of this DFA: its rows fit together, each start slot has its own start or none yet, and its accounted bytes
 -- are within the settings
 pub record IsStoreOf (c : Stored) (m : Machine) : Type 0 where
+  -- It belongs to the DFA.
   pub of : c.table.of ≡ m
+  -- Its rows and cells fit each other.
   pub rows : AreRows c.table
+  -- Each start slot has its own start state, or none yet.
   pub starts : AllStarts c.table c.starts
+  -- There are as many start slots as the DFA has.
   pub slots : length c.starts ≡ m.slots
+  -- Its accounted bytes are within the capacity.
   pub within : usage c ≤ m.capacity
-  -- A row has at most 512 cells, and a new one has as many as each row.
+  -- A row has at most 512 cells.
   pub small : c.table.of.stride ≤ 512
+  -- A new row has as many cells as each row.
   pub wide : length c.table.of.template ≡ c.table.of.stride
   -- The count of clears is a number of 64 bits.
   pub clears : c.clears < 2 ^ 64

@@ -75,23 +75,36 @@ IsStarted old slot r new id =
 
 -- a transition that was not cached is computed
 pub record IsStepChange (old new : Stored) : Type 0 where
+  -- The ID of the state that is stepped from.
   pub id : ℕ
+  -- The unit that is stepped over.
   pub unit : Option ℕ
+  -- Rows have a cell for its class.
   pub below : unit_class old.table.of unit < old.table.of.stride
+  -- The state that is stepped from.
   pub state : Powerset
+  -- The ID names it.
   pub named : Names old.table id state
+  -- The transition was not cached.
   pub unknown : IsKnownTransition old id (unit_class old.table.of unit) → ⊥
+  -- The ID that the transition leads to now.
   pub next : ℕ
+  -- The successor was computed, and this ID written.
   pub computed :
       IsComputed old id (unit_class old.table.of unit) state
       (successor old.table.of.nfa (match_kind_of old.table.of.config) state unit) new next
 
 -- a start state that was not cached is computed
 pub record IsStartChange (old new : Stored) : Type 0 where
+  -- The anchored mode.
   pub mode : Anchored
+  -- The look-behind byte, if there is one.
   pub behind : Option ℕ
+  -- They have a start slot.
   pub within : slot_behind old.table.of mode behind < old.table.of.slots
+  -- Their start state was not cached.
   pub unknown : IsKnownStart old (slot_behind old.table.of mode behind) → ⊥
+  -- The ID that the slot has now.
   pub id : ℕ
   -- Its row has the start tag if the settings specialize start states.
   pub started :
@@ -103,9 +116,13 @@ pub record IsStartChange (old new : Stored) : Type 0 where
 
 -- a state that the cache lacks, as after a clear, is put back without the start tag
 pub record IsBackChange (old new : Stored) : Type 0 where
+  -- The state that is put back.
   pub state : Powerset
+  -- No row had it, and it is not dead.
   pub lacks : Lacks old.table state
+  -- It is reachable.
   pub reached : IsReachable old.table.of state
+  -- It was added, without the start tag.
   pub added : IsStateAdded old (cleared old) (record { state = state; started = false }) new
 
 -- a step, a start state, or a state that is put back; one that fails changes nothing

@@ -35,7 +35,9 @@ put t r = cond (is_some (id_of t r.state)) t (with_row t r)
 
 -- rows and slots while start states are kept
 pub record Kept : Type 0 where
+  -- The rows kept so far, after the fixed ones.
   pub table : Rows
+  -- The slots kept so far, each with its new ID.
   pub starts : List ℕ
 
 -- the row that was found is put there, and its slot has its new ID

@@ -18,8 +18,11 @@ use Rattle.automata_hybrid.specs.Cache.Table.{IsRowId, Names, Rows}
 
 -- nothing is lost: each row, each cached start state and each cached transition is as it was
 pub record Keeps (old new : Stored) : Type 0 where
+  -- the ID of each row names the same state
   pub rows : (id : ℕ) (q : Powerset) → Names old.table id q → Names new.table id q
+  -- each start slot that was cached has the same ID
   pub starts : (slot : ℕ) → IsKnownStart old slot → slice_index new.starts slot ≡ slice_index old.starts slot
+  -- each transition that was cached leads to the same ID
   pub cells :
       (id class : ℕ) → IsRowId old.table id → class < old.table.of.stride → IsKnownTransition old id class
       → cell_of new id class ≡ cell_of old id class
@@ -37,7 +40,9 @@ KeepsProgress old new =
 
 -- there is room for so many more states, whatever they cost
 pub record HasRoom (c : Stored) (states : ℕ) : Type 0 where
+  -- the accounted bytes stay within the capacity, if each state is of the greatest cost
   pub capacity : usage c + states * (row_usage c.table.of + c.table.of.greatest) ≤ c.table.of.capacity
+  -- the offsets of their rows are below the limit of IDs
   pub offsets : (k : ℕ) → k < states → length c.table.cells + k * c.table.of.stride < offset_limit
 
 -- a state's ID has the start tag
@@ -57,8 +62,11 @@ IsStill old new = (new.count ≡ old.count) × (new.store ≡ with_searched old.
 
 -- a cache after steps and searches, by what it was before
 pub record IsGrown (old new : CacheView) : Type 0 where
+  -- it belongs to the same DFA
   pub of : new.store.table.of ≡ old.store.table.of
+  -- the count of determinizations has not fallen
   pub counted : old.count ≤ new.count
+  -- the count of clears has not fallen
   pub clears : old.store.clears ≤ new.store.clears
   -- each determinization made one change: so a state that was added fitted, or the cache was cleared for it
   pub made : AreChanges (new.count - old.count) old.store new.store
@@ -80,14 +88,21 @@ pub record IsGrown (old new : CacheView) : Type 0 where
 -- a state that the cache lacks is added again, without the start tag; the cache is cleared for it only if it does not
 -- fit, and nothing is determinized
 pub record PutsBack (q : Powerset) (old new : CacheView) : Type 0 where
+  -- the ID that the state has then
   pub id : ℕ
+  -- it names the state
   pub named : Names new.store.table id q
+  -- the state was added; if it did not fit, the cache was cleared first
   pub added : IsStateAdded old.store (cleared old.store) (record { state = q; started = false }) new.store
+  -- each start state that was cached is cached
   pub starts : KeepsStarts old.store.starts new.store.starts
+  -- nothing was determinized
   pub counted : new.count ≡ old.count
 
 -- a state could not be added: nothing changed. The call gave up exactly if it had to: out of memory comes only where
 -- the state fits, or the cache may be cleared for it
 pub record AddFails (old new : CacheView) (q : Powerset) (e : StepError) : Type 0 where
+  -- nothing changed
   pub kept : new ≡ old
+  -- the error is one of the cache exactly if the call had to give up
   pub gives_up : IsCacheError e ↔ GivesUp old.store q

@@ -1,6 +1,6 @@
 -- Leaps: where cells lead from a row on a few classes, one after another, by IDs without a tag.
 use Rattle.std.specs.Prelude.{ℕ, zero, suc, ◌≡◌, ◌+◌, ◌*◌, ◌/◌, ◌%◌, ◌^◌, ◌<◌, ◌≤◌, ◌⊎◌, List, Option, IfSome, length}
-use Rattle.std.specs.Prelude.{slice_index, cond, nat_lt, ◌-◌}
+use Rattle.std.specs.Prelude.{slice_index, cond, nat_lt, ◌-◌, max}
 use Rattle.std.specs.Global.{Box}
 use Rattle.automata_base.specs.ByteClasses.Classes.{eoi_class}
 use Rattle.automata_base.specs.Nfas.Nodes.{Automaton}
@@ -17,7 +17,9 @@ mark = 2 ^ 32 - 1
 
 -- the cell of a row at a class has the ID of a row, without a tag
 pub record LeadsTo (t : Rows) (row class to : ℕ) : Type 0 where
+  -- the cell has the offset of the row that it leads to
   pub cell : slice_index t.cells ((row + 3) * t.of.stride + class) ≡ (to + 3) * t.of.stride
+  -- that offset is below the limit, so that as an ID it has no tag
   pub untagged : (to + 3) * t.of.stride < offset_limit
 
 -- a place is a row's index and then so many classes, as the digits of a number to the base of `n`: from that row they
@@ -28,30 +30,46 @@ Reaches t n (suc count) place to = (row : ℕ) × Reaches t n count (place / n) 
 
 -- how many bytes a leap takes, and how many cells a row has: one for each sequence of so many classes
 pub record IsShape (s : Shape) : Type 0 where
+  -- there are at most 32 classes
   pub few : s.classes ≤ 32
+  -- a leap takes at least one byte
   pub some : 0 < s.reach
+  -- a leap takes at most four bytes
   pub short : s.reach ≤ 4
+  -- a row has a cell for each sequence of as many classes as a leap takes bytes
   pub width : s.width ≡ s.classes ^ s.reach
+  -- a row has at most 2^10 cells
   pub narrow : s.width ≤ 2 ^ 10
+  -- at most 2^18 rows have leaps
   pub rows : s.rows ≤ 2 ^ 18
 
 -- leaps of this shape for a table
 pub record IsShapeOf (t : Rows) (s : Shape) : Type 0 where
+  -- it is a shape of leaps
   pub shape : IsShape s
+  -- its classes are those of bytes, without that of the end
   pub classes : s.classes ≡ eoi_class t.of.classes
+  -- the rows that have leaps are rows of the table
   pub rows : s.rows ≤ length t.rows
 
 -- a cell has the place of the first cell of the row to which the classes of its own place lead
 pub record LeapsTo (t : Rows) (s : Shape) (place cell : ℕ) : Type 0 where
+  -- the row to which the classes lead
   pub to : ℕ
+  -- it is one of those that have leaps
   pub known : to < s.rows
+  -- the cell has the place of the first cell of that row
   pub first : cell ≡ to * s.width
+  -- the classes of the cell's own place lead to that row
   pub reaches : Reaches t s.classes s.reach place to
 
 -- each cell is marked or says where its classes lead
 pub record AreLeaps (t : Rows) (l : Leaps) : Type 0 where
+  -- their shape is one for the table
   pub of : IsShapeOf t l.shape
+  -- there are as many cells as the rows of the shape have
   pub cells : length l.cells.items ≡ l.shape.rows * l.shape.width
+  -- each cell is marked, or leads over its classes to a row
   pub leads :
       (place : ℕ) → place < length l.cells.items
       → (slice_index l.cells.items place ≡ mark) ⊎ LeapsTo t l.shape place (slice_index l.cells.items place)
@@ -60,18 +78,29 @@ pub record AreLeaps (t : Rows) (l : Leaps) : Type 0 where
 abbrev pub leaps_bytes : ℕ → ℕ
 leaps_bytes cells = 64 + 4 * cells
 
+-- the bytes that stand while leaps are made: these leaps, where one byte leads from each row and from none, and where one
+-- byte less than a leap takes leads from each row
+abbrev pub making_bytes : Shape → ℕ
+making_bytes s = leaps_bytes (s.rows * s.width) + 4 * ((s.rows + 1) * s.classes + s.rows * (s.width / max s.classes 1))
+
 -- the parts of a cache: its buffers are for its NFA, and leaps, if there are some, are of its table and within the
 -- capacity beside what it accounts for
 pub record AreCacheParts (c : Stored) (nfa : Automaton) (held : Option (Box Leaps)) : Type 0 where
+  -- the buffers are for the NFA of the cache
   pub scratch : nfa ≡ c.table.of.nfa
+  -- leaps are of its table
   pub leaps : IfSome held (λ l. AreLeaps c.table l.value)
+  -- the accounted bytes and those of the leaps are within the capacity
   pub within : IfSome held (λ l. usage c + leaps_bytes (length l.value.cells.items) ≤ c.table.of.capacity)
 
 -- a step on one class: from a row to a row or, if it is not cached or has a tag, to none, which counts as the one after
 -- the last
 pub record IsStepOf (t : Rows) (n place to : ℕ) : Type 0 where
+  -- it leads to a row, or to none, which is the one after the last
   pub upto : to ≤ length t.rows
+  -- if it leads to a row, it begins at one
   pub from : to < length t.rows → place / n < length t.rows
+  -- if it leads to a row, the cell of the class leads there
   pub leads : to < length t.rows → LeadsTo t (place / n) (place % n) to
 
 -- steps of a table, class by class for each row
@@ -80,9 +109,12 @@ AreSteps t n steps = (place : ℕ) → place < length steps → IsStepOf t n pla
 
 -- where so many classes lead from each row: to a row or to none
 pub record IsLevelCell (t : Rows) (n count place to : ℕ) : Type 0 where
+  -- this is a row, or none, which is the one after the last
   pub upto : to ≤ length t.rows
+  -- if it is a row, the classes lead there
   pub reaches : to < length t.rows → Reaches t n count place to
 
+-- where each sequence of so many classes leads from each row: to a row or to none
 abbrev pub IsLevel : Rows → ℕ → ℕ → List ℕ → Type 0
 IsLevel t n count level = (place : ℕ) → place < length level → IsLevelCell t n count place (slice_index level place)
 

@@ -12,9 +12,13 @@ use Rattle.automata_config.specs.Options.{minimum_cache_clear_count_of, minimum_
 
 -- what contracts see of a cache
 pub record Stored : Type 0 where
+  -- The rows of states, and their transitions.
   pub table : Rows
+  -- The ID in each start slot, or the unknown one.
   pub starts : List ℕ
+  -- How often it was cleared, up to the greatest number of 64 bits.
   pub clears : ℕ
+  -- The progress of searches.
   pub searched : Searched
 
 -- what the cache of a machine is bounded by
@@ -79,14 +83,21 @@ with_searched c s = record { table = c.table; starts = c.starts; clears = c.clea
 
 -- what is true of each cache
 pub record IsSoundStore (c : Stored) : Type 0 where
-  -- A row has at most 512 cells, and a new one has as many as each row.
+  -- A row has at most 512 cells.
   pub small : c.table.of.stride ≤ 512
+  -- A new row has as many cells as each row.
   pub wide : length c.table.of.template ≡ c.table.of.stride
+  -- Each row is found by its state, and its offset is below the limit.
   pub ids : HasRowIds c.table
+  -- IDs of rows have no high tag.
   pub low : HasLowIds c.table
+  -- An ID has the match tag exactly if its state has patterns.
   pub tagged : (id : ℕ) → HasItsMatchTag c.table id
+  -- No row has the dead state.
   pub alive : HasNoDeadRow c.table
+  -- Each row has a state of the automaton.
   pub own : HasOwnStates c.table
+  -- Each row has a cell for each class.
   pub cells : HasCells c.table
   -- There are as many slots as start states of the DFA.
   pub slots : length c.starts ≡ c.table.of.slots

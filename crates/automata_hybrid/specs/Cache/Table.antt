@@ -32,8 +32,11 @@ row_cost r = cost r.state
 
 -- what contracts see of a table: the rows after the three fixed ones, and all cells
 pub record Rows : Type 0 where
+  -- The DFA that the table belongs to.
   pub of : Machine
+  -- The cells of all rows, those of the three fixed ones first.
   pub cells : List ℕ
+  -- The rows after the fixed ones, each with its state.
   pub rows : List Row
 
 -- the ID that rows give a state, the first of them standing at an offset
@@ -69,7 +72,9 @@ TagsNewStates old new started =
 
 -- some row has this state
 pub record IsKnownState (t : Rows) (q : Powerset) : Type 0 where
+  -- The ID of that row.
   pub id : ℕ
+  -- It names the state.
   pub named : Names t id q
 
 -- the dead ID for the dead state, and else a row's
@@ -118,18 +123,27 @@ HasRowIds t =
 
 -- a state that a row may have: one of the DFA, which costs no more than a state may, and is not dead
 pub record IsRowState (m : Machine) (q : Powerset) : Type 0 where
+  -- It is a state of the DFA.
   pub own : IsStateOf m q
+  -- It costs no more than a state may.
   pub cheap : cost q ≤ m.greatest
+  -- It is not dead.
   pub alive : q ≡ dead → ⊥
 
 -- rows and cells fit each other: the fixed rows come first, no state has two rows, and each cached cell leads where its
 -- row's state goes
 pub record AreRows (t : Rows) : Type 0 where
+  -- There are as many cells as all rows have.
   pub whole : length t.cells ≡ (length t.rows + 3) * t.of.stride
+  -- The offset of the last row is below the limit.
   pub small : length t.cells < offset_limit + t.of.stride
+  -- The fixed rows come first.
   pub fixed : take (3 * t.of.stride) t.cells ≡ fixed_rows t.of.stride
+  -- Each cached cell leads where its row's state goes.
   pub stepped : IsStepped t
+  -- Each row is found by its state, and its offset is below the limit.
   pub ids : HasRowIds t
+  -- Each row has a state that a row may have.
   pub states : (k : ℕ) (r : Row) → slice_get t.rows k ≡ Some r → IsRowState t.of r.state
 
 -- some row has exactly this ID
@@ -158,14 +172,21 @@ HasOwnStates t = (id : ℕ) (q : Powerset) → Names t id q → IsOwn t.of.nfa q
 
 -- what is true of the rows of each table
 pub record IsSoundTable (t : Rows) : Type 0 where
+  -- Rows and cells fit each other.
   pub rows : AreRows t
+  -- Each cell of a new row is quit or unknown.
   pub template : IsTemplate t.of.stride t.of.template
   -- The states cost no more than so many of the dearest.
   pub costs : sum_by row_cost t.rows ≤ length t.rows * t.of.greatest
+  -- IDs of rows have no high tag.
   pub low : HasLowIds t
+  -- An ID has the match tag exactly if its state has patterns.
   pub tagged : (id : ℕ) → HasItsMatchTag t id
+  -- No row has the dead state.
   pub alive : HasNoDeadRow t
+  -- Each row has a state of the automaton.
   pub own : HasOwnStates t
+  -- Each row has a cell for each class.
   pub cells : HasCells t
 
 -- the row at an index has this state
@@ -188,9 +209,15 @@ with_cell t id class next = record { of = t.of; cells = slice_set t.cells (cell_
 -- the parts of a table: its rows fit together, a new row and the length of each are its machine's, the map finds each
 -- state's row, and the costs are those of all states
 pub record IsHeld (t : Rows) (s : ℕ) (row : List ℕ) (map : StateMap) (costs : ℕ) : Type 0 where
+  -- Rows and cells fit each other.
   pub rows : AreRows t
+  -- Each cell of a new row is quit or unknown.
   pub cells : IsTemplate t.of.stride t.of.template
+  -- The length of a row is that of the machine.
   pub stride : s ≡ t.of.stride
+  -- A new row is that of the machine.
   pub template : row ≡ t.of.template
+  -- The map has for each state the ID of its row.
   pub mapped : (q : Powerset) → get powerset_eq map q ≡ id_of t q
+  -- The costs are those of all states.
   pub costs_of : costs ≡ sum_by row_cost t.rows

@@ -71,14 +71,21 @@ pub record IsCleared (old new : Stored) : Type 0 where
 
 -- the slots name their states, and the accounted bytes are within the capacity; these settings are those of the machine
 pub record IsCache (c : Stored) (settings : Settings) : Type 0 where
+  -- Each slot has its own start state, or none yet.
   pub named : AllStarts c.table c.starts
+  -- The accounted bytes are within the capacity.
   pub within : usage c ≤ c.table.of.capacity
+  -- The capacity is at least the minimum.
   pub enough :
       minimum_capacity c.table.of.stride (length c.starts) c.table.of.greatest c.table.of.fixed
       ≤ c.table.of.capacity
+  -- The offsets of rows in a table of the minimum capacity are below the limit.
   pub offsets : (length c.starts + 4) * c.table.of.stride < offset_limit
+  -- There are as many slots as the machine has.
   pub slots : length c.starts ≡ c.table.of.slots
+  -- The settings are those of the machine.
   pub same : settings ≡ settings_of c.table.of
+  -- The capacity is a number of 64 bits.
   pub bounded : c.table.of.capacity < 2 ^ 64
 
 -- why a call gives up at a state: it is not there, it does not fit, and the clear rule does not allow a clear

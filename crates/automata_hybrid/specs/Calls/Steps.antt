@@ -29,7 +29,7 @@ pub record IsStepRun (m : Machine) (id : ℕ) (unit : Option ℕ) (old new : Cac
   pub quit : quits_on m unit ≡ true → new ≡ old
   -- Any other unit is stepped over from the state that the ID names.
   pub does :
-      quits_on m unit ≡ false → (q : Powerset) → Names old.store.table id q → Does m (Step q unit) old new
+      quits_on m unit ≡ false → (q : Powerset) → Names old.store.table id q → Does m (Step q unit) old old new
 
 -- what holds if a step from an ID on a unit fails
 pub record StepFails (m : Machine) (id : ℕ) (unit : Option ℕ) (old new : CacheView) (e : StepError) : Type 0 where
@@ -46,7 +46,7 @@ pub record StepFails (m : Machine) (id : ℕ) (unit : Option ℕ) (old new : Cac
 
 -- what a call for a start state makes of it, if it returns Ok: it is one event
 abbrev pub IsStartRun : Machine → Anchored → Option ℕ → (old new : CacheView) → Type 0
-IsStartRun m mode behind old new = Does m (Start mode behind) old new
+IsStartRun m mode behind old new = Does m (Start mode behind) old old new
 
 -- what holds if a call for a start state fails
 pub record StartFails (m : Machine) (mode : Anchored) (behind : Option ℕ) (old new : CacheView) (e : StartError) :
@@ -96,6 +96,7 @@ pub record IsStepEffect (m : Machine) (id : ℕ) (unit : Option ℕ) (old new : 
 
 -- what follows of a step that returns this ID
 pub record StepFollows (m : Machine) (id : ℕ) (unit : Option ℕ) (old new : CacheView) (next : ℕ) : Type 0 where
+  -- It does to the cache what each step does.
   pub effect : IsStepEffect m id unit old new
   -- A transition that was cached is returned as it is.
   pub known : id < fixed_from → KnowsStep m old.store id unit → next ≡ known_step m old.store id unit
@@ -114,6 +115,7 @@ pub record StepFollows (m : Machine) (id : ℕ) (unit : Option ℕ) (old new : C
 
 -- what follows of one that fails
 pub record FailedStepFollows (m : Machine) (id : ℕ) (unit : Option ℕ) (old new : CacheView) : Type 0 where
+  -- It does to the cache what each step does.
   pub effect : IsStepEffect m id unit old new
   -- A cached transition never fails.
   pub unknown : KnowsStep m old.store id unit → ⊥
@@ -158,6 +160,7 @@ pub record IsStartEffect (m : Machine) (mode : Anchored) (behind : Option ℕ) (
 -- what follows of a call for a start state that returns this ID
 pub record StartFollows (m : Machine) (mode : Anchored) (behind : Option ℕ) (old new : CacheView) (id : ℕ) :
     Type 0 where
+  -- It does to the cache what each call for a start state does.
   pub effect : IsStartEffect m mode behind old new
   -- A start state that was cached is returned as it is.
   pub known : KnowsStart m old.store mode behind → id ≡ known_start m old.store mode behind
@@ -173,6 +176,7 @@ pub record StartFollows (m : Machine) (mode : Anchored) (behind : Option ℕ) (o
 -- what follows of one that fails
 pub record FailedStartFollows (m : Machine) (mode : Anchored) (behind : Option ℕ) (old new : CacheView) :
     Type 0 where
+  -- It does to the cache what each call for a start state does.
   pub effect : IsStartEffect m mode behind old new
   -- A cached start state never fails.
   pub unknown : KnowsStart m old.store mode behind → ⊥

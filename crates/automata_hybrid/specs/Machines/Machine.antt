@@ -15,15 +15,25 @@ use Rattle.automata_hybrid.specs.Cache.Ids.{quit_id, unknown_id, offset_limit}
 -- numbers that its caches need: the cells of a row, the start slots, the cells of a new row (quit at quit classes, and
 -- else unknown), the most that a state costs, and the room for determinization
 pub record Machine : Type 0 where
+  -- its NFA
   pub nfa : Automaton
+  -- its settings
   pub config : Options
+  -- the class of each byte
   pub classes : List ℕ
+  -- for each byte, whether it is a quit byte
   pub quits : List Bool
+  -- the most bytes that a cache may account for
   pub capacity : ℕ
+  -- how many cells a row has
   pub stride : ℕ
+  -- how many start slots a cache has
   pub slots : ℕ
+  -- the cells of a new row: quit at the classes of quit bytes, and else unknown
   pub template : List ℕ
+  -- the most bytes that a state costs
   pub greatest : ℕ
+  -- the bytes that a cache accounts for as its room for determinization
   pub fixed : ℕ
 
 -- the class of a byte or of the end
@@ -45,38 +55,57 @@ marked classes quits stride (suc byte) =
 
 -- a row of a stride that is positive, a power of two and at most 512, each cell quit or unknown
 pub record IsTemplate (stride : ℕ) (template : List ℕ) : Type 0 where
+  -- a row has at least one cell
   pub positive : 0 < stride
+  -- a row has at most 512 cells
   pub small : stride ≤ 512
+  -- a row has as many cells as some number of classes needs, which is a power of two
   pub power : (length : ℕ) × (stride ≡ stride_for length)
+  -- a new row is as long as each row
   pub whole : length template ≡ stride
+  -- each of its cells is quit or unknown
   pub cells :
       (class : ℕ) → class < stride → (slice_index template class ≡ quit_id stride)
       ⊎ (slice_index template class ≡ unknown_id)
 
 -- the numbers of a DFA are those of its automaton, its settings and its classes, and so is a new row
 pub record IsSized (m : Machine) : Type 0 where
+  -- a row has as many cells as there are classes, that of the end too, rounded up to a power of two
   pub stride : m.stride ≡ stride_of m.classes
+  -- there are as many start slots as the NFA and the settings need
   pub slots : m.slots ≡ start_slots m.nfa (starts_for_each_pattern_of m.config)
+  -- a new row is quit at the classes of quit bytes, and else unknown
   pub template : m.template ≡ marked m.classes m.quits m.stride 256
+  -- the greatest cost is that of a state with every pattern and every NFA state
   pub greatest : m.greatest ≡ max_cost m.nfa
+  -- the room for determinization is what the NFA needs
   pub fixed : m.fixed ≡ fixed_cost m.nfa
 
 -- what each lazy DFA keeps: its numbers are its own, each byte and the end have a class, whose units step alike, and a
 -- fresh cache fits
 pub record IsMachine (m : Machine) : Type 0 where
+  -- its numbers are those of its automaton, its settings and its classes
   pub sizes : IsSized m
+  -- a row has at most 512 cells, in number a power of two, and each cell of a new one is quit or unknown
   pub template : IsTemplate m.stride m.template
+  -- a row has a cell for each class, and for that of the end
   pub below : eoi_class m.classes < m.stride
+  -- a new row is quit at the class of each quit byte
   pub quit :
       (byte : ℕ) → byte < 256 → is_quit m.quits byte ≡ true
       → slice_index m.template (class_in m.classes byte) ≡ quit_id m.stride
+  -- a new row is unknown at the class of each other byte
   pub free :
       (byte : ℕ) → byte < 256 → is_quit m.quits byte ≡ false
       → slice_index m.template (class_in m.classes byte) ≡ unknown_id
+  -- a new row is unknown at the class of the end
   pub end_free : slice_index m.template (eoi_class m.classes) ≡ unknown_id
+  -- units of one class lead each state to the same successor
   pub alike :
       (q : Powerset) (unit other : Option ℕ) → IsOwn m.nfa q → IsUnit unit → IsUnit other
       → unit_class m unit ≡ unit_class m other
       → successor m.nfa (match_kind_of m.config) q unit ≡ successor m.nfa (match_kind_of m.config) q other
+  -- the capacity is at least the minimum
   pub enough : minimum_capacity m.stride m.slots m.greatest m.fixed ≤ m.capacity
+  -- the offsets of rows in a table of the minimum capacity are below the limit
   pub offsets : (m.slots + 4) * m.stride < offset_limit

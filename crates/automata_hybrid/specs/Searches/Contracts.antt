@@ -28,14 +28,20 @@ IsMemory e = e ≡ search.OutOfMemory
 -- nothing but a lack of memory can prevent an answer: no quit byte is in reach, the anchored mode is supported, and no
 -- limit on clears is set
 pub record IsUnhindered (m : Machine) (input : Input) : Type 0 where
+  -- No quit byte is in reach.
   pub reach : NoQuitInReach m input
+  -- The anchored mode is supported.
   pub supported : supports m input.anchored ≡ true
+  -- No limit on clears is set.
   pub clears : minimum_cache_clear_count_of m.config ≡ None
 
 -- the span is not done, the look-behind byte is no quit byte, and the anchored mode is not supported
 pub record IsUnsupported (way : Direction) (m : Machine) (input : Input) : Type 0 where
+  -- The span is not done.
   pub undone : input.start ≤ input.end
+  -- The look-behind byte is no quit byte.
   pub behind : quit_behind m (tape_in way input).before ≡ None
+  -- The anchored mode is not supported.
   pub mode : supports m input.anchored ≡ false
 
 -- the error that reports it
@@ -45,12 +51,13 @@ unsupported_error input = search.Match (UnsupportedMode input.anchored)
 -- what a search in a direction returns: an option, seen as an answer by `Is`, which lies where `Lies` says
 pub record IsAnswered {A : Type 0} (Is : (Option Half → Type 0) → Option A → Type 0) (Lies : Option A → Type 0)
     (way : Direction) (m : Machine) (input : Input) (result : Result (Option A) SearchError) : Type 0 where
-  -- By the paths of the NFA alone: if it keeps its cycles, the answer of the ordered paths;
+  -- By the paths of the NFA alone, if it keeps its cycles: the answer of the ordered paths.
   pub answer :
       KeepsCycles (nfa_of m.nfa) → IfOk result (Is (IsAnswer way (engine_of m.nfa (match_kind_of m.config)) input))
-  -- for every NFA, the nearest end in an earliest search, and in any other under `MatchKind::All` the farthest one.
+  -- For every NFA, in an earliest search: the nearest end.
   pub nearest :
       input.earliest ≡ true → IfOk result (Is (IsNearestAnswer way (engine_of m.nfa (match_kind_of m.config)) input))
+  -- For every NFA, in any other search under `MatchKind::All`: the farthest end.
   pub farthest :
       input.earliest ≡ false → match_kind_of m.config ≡ KindAll
       → IfOk result (Is (IsFarthestAnswer way (engine_of m.nfa (match_kind_of m.config)) input))

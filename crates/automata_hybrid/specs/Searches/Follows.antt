@@ -21,6 +21,7 @@ passes_most (suc passes) bytes = passes_most passes bytes + (bytes - passes + 2)
 
 -- what a pass over the span of an input costs a cache
 pub record IsCostOfPass (way : Direction) (m : Machine) (input : Input) (old new : CacheView) : Type 0 where
+  -- it determinizes at most once for each byte of the span, for its start and at its end
   pub counted : new.count ≤ old.count + (input.end - input.start + 2)
   -- a start state that is cached is not determinized again
   pub started : KnowsItsStart way m old.store input → new.count ≤ old.count + (input.end - input.start + 1)
@@ -39,8 +40,9 @@ pub record IsCostOfPasses (way : Direction) (m : Machine) (input : Input) (passe
     (old new : CacheView) : Type 0 where
   -- each is over a span that the search tries
   pub tried : TriesSpans way m input passes
-  -- each costs what a pass over its span may; and so all of them together
+  -- each costs what a pass over its span may
   pub each : AreCostsInTurn way m input passes old new
+  -- together they determinize at most as often as so many passes may
   pub counted : new.count ≤ old.count + passes_most passes (input.end - input.start)
   -- a start state that is cached is not determinized again: if those of all are, each pass determinizes once less
   pub started :

@@ -22,17 +22,28 @@ column_of classes n way bytes from (suc count) =
 
 -- leaps led over so many of some bytes to a row, of whose cells the first has this place
 pub record IsLeapt (t : Rows) (s : Shape) (way : Direction) (bytes : List ℕ) (row len place : ℕ) : Type 0 where
+  -- the row to which the bytes led
   pub to : ℕ
+  -- it is one of those that have leaps
   pub known : to < s.rows
+  -- the place is that of its first cell
   pub first : place ≡ to * s.width
+  -- there are at least so many bytes
   pub within : len ≤ length bytes
+  -- they lead there by the cells of their classes
   pub over : LeadsOver t way bytes 0 len row to
 
 -- so many of some bytes lead from one ID to another, each of them without a tag
 pub record LeadsIds (t : Rows) (way : Direction) (bytes : List ℕ) (len id next : ℕ) : Type 0 where
+  -- the row of the first ID
   pub row : ℕ
+  -- the row of the other one
   pub to : ℕ
+  -- the first ID is the offset of its row, without a tag
   pub begins : id ≡ (row + 3) * t.of.stride
+  -- the other one is the offset of its row, without a tag
   pub ends : next ≡ (to + 3) * t.of.stride
+  -- there are at least so many bytes
   pub within : len ≤ length bytes
+  -- they lead from the one row to the other
   pub over : LeadsOver t way bytes 0 len row to

@@ -50,22 +50,31 @@ pub record IsUnderway (way : Direction) (m : Machine) (t : Rows) (input : Input)
 -- a pass over the span of an input has read its first `k` units, all by cached transitions
 pub record IsKnownUpto (way : Direction) (m : Machine) (c : Stored) (input : Input) (k id : ℕ)
     (found : Option HalfMatch) : Type 0 where
+  -- These units are bytes of the span.
   pub within : k ≤ input.end - input.start
+  -- The pass has read them, is in the state of the ID, and has found this.
   pub at : IsUnderway way m c.table input k id found
+  -- The transition on each of them is cached.
   pub known : (j : ℕ) → j < k → HasLearnedUnit way m c input j
 
 -- cached transitions led a pass on from a place to this stop, each to an ID that has this tag and no other
 pub record FollowsTo (way : Direction) (m : Machine) (c : Stored) (input : Input) (tag from : ℕ) (to : Stop) :
     Type 0 where
+  -- The stop is in the span.
   pub within : to.at ≤ input.end - input.start
+  -- Cached transitions led the pass there, each to an ID that has this tag and no other.
   pub followed : IsFollowed way m c input tag from to.at to.id
+  -- The ID that was met next is the one that the next byte leads to, unless it is the unknown one.
   pub met : IsMet way m c input to.at to.id to.next
 
 -- cached transitions led a pass from one place on to another, where it has this ID, has found this, and met this ID
 -- next
 pub record RunsTo (way : Direction) (m : Machine) (c : Stored) (input : Input) (from : ℕ) (to : Place) : Type 0 where
+  -- Cached transitions led the pass there.
   pub run : HasRun way m c input from to.at
+  -- It has this ID there, and has found this.
   pub at : IsAt way m c.table input to.at to.id to.found
+  -- The ID that was met next is the one that the next byte leads to, unless it is the unknown one.
   pub met : IsMet way m c input to.at to.id to.next
 
 -- a half match by its parts, if there is one
@@ -78,6 +87,7 @@ pub record IsTakenUp (way : Direction) (m : Machine) (c : Stored) (input : Input
     (found : Option HalfMatch) : Type 0 where
   -- The span lies in the haystack.
   pub allowed : IsAllowed input
+  -- The pass has read its first `k` units by cached transitions.
   pub upto : IsKnownUpto way m c input k id found
 
 -- cached transitions led a pass to its unit at place `k`, which it reads from a state that this ID names by a cached
@@ -86,11 +96,13 @@ pub record IsKnownEnd (way : Direction) (m : Machine) (c : CacheView) (input : I
     (half : Option HalfMatch) : Type 0 where
   -- This was found before.
   pub before : Option HalfMatch
+  -- Cached transitions led the pass to the unit.
   pub upto : IsKnownUpto way m c.store input k id before
   -- It is what the pass answers.
   pub answer : IsPassAnswer way m input half
-  -- The unit is the last one that the pass reads.
+  -- The pass reads the unit.
   pub reads : Reads way m input k
+  -- It reads none after it.
   pub stops : (j : ℕ) → suc k ≤ j → Reads way m input j → ⊥
   -- Its transition is cached.
   pub known : HasLearnedUnit way m c.store input k

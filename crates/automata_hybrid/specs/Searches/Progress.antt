@@ -1,38 +1,29 @@
 -- What the passes of a search make of their cache: their events, unit by unit, up to one that fails.
-use Rattle.std.specs.Prelude.{ℕ, zero, suc, ◌≡◌, ◌<◌, ◌≤◌, ◌+◌, ◌-◌, ◌⊎◌, List, [], ◌∷◌, ◌++◌, length}
+use Rattle.std.specs.Prelude.{ℕ, zero, suc, ◌≡◌, ◌<◌, ◌≤◌, ◌+◌, ◌-◌, ◌⊎◌}
 use Rattle.std.specs.Prelude.{Option, None, Some, MatchOption}
 use Rattle.automata_base.specs.Answers.Answers.{Tries, later, offset_in}
 use Rattle.automata_base.specs.Haystacks.Input.{Input}
 use Rattle.automata_base.specs.Paths.Paths.{next}
 use Rattle.automata_base.specs.declared.util.search.Direction.{Direction}
-use Rattle.automata_base.specs.declared.util.search.Direction.TheVariants.{Forward, Backward}
 use Rattle.automata_config.specs.declared.error.SearchError.{SearchError}
-use Rattle.automata_hybrid.specs.declared.dfa.progress.Searched.{Searched}
 use Rattle.automata_hybrid.specs.Cache.Caches.{CacheView, IsStoreOf}
-use Rattle.automata_hybrid.specs.Cache.Progress.{progress_finished}
-use Rattle.automata_hybrid.specs.Calls.Events.{Begin, DoAll, Does, End, Event, Fails, IsStepLeft, Move, Start, Step}
-use Rattle.automata_hybrid.specs.Calls.Events.{with_progress}
+use Rattle.automata_hybrid.specs.Calls.Events.{Does, Event, Fails, IsStepLeft, Start, Step, begun, ended, moved}
 use Rattle.automata_hybrid.specs.Machines.Machine.{Machine}
 use Rattle.automata_hybrid.specs.Searches.Passes.{Finds, HasReadNoQuit, IsUnitError, Reads, Skips}
 use Rattle.automata_hybrid.specs.Searches.Passes.{behind_offset, given_up_offset, state_in, tape_in}
 use Rattle.automata_hybrid.specs.Steps.Starts.{IsStartErrorAt, MayStart}
 
--- what a pass makes of the progress before its last step, which is at an offset: backward it has ended there
-abbrev pub before_last : Direction → Searched → (at : ℕ) → Searched
-before_last Forward s at = s
-before_last Backward s at = progress_finished s at
-
 -- with the search begun at the unit at a place
 abbrev pub with_search_begun : Direction → Input → (k : ℕ) → CacheView → CacheView
-with_search_begun way input k = with_progress (Begin (given_up_offset way input k))
+with_search_begun way input k = begun (given_up_offset way input k)
 
 -- with the search come to that unit
 abbrev pub with_search_moved : Direction → Input → (k : ℕ) → CacheView → CacheView
-with_search_moved way input k = with_progress (Move (given_up_offset way input k))
+with_search_moved way input k = moved (given_up_offset way input k)
 
 -- with the search ended at that unit
 abbrev pub with_search_ended : Direction → Input → (k : ℕ) → CacheView → CacheView
-with_search_ended way input k = with_progress (End (given_up_offset way input k))
+with_search_ended way input k = ended (given_up_offset way input k)
 
 -- a pass asks for its start state
 abbrev pub start_event : Direction → Input → Event
@@ -42,25 +33,20 @@ start_event way input = Start input.anchored (tape_in way input).before
 abbrev pub unit_event : Direction → Machine → Input → (k : ℕ) → Event
 unit_event way m input k = Step (state_in way m input k) (next (tape_in way input) k)
 
--- it reads so many units from a place on: it moves to each, and steps over it
-abbrev pub unit_events : Direction → Machine → Input → (from units : ℕ) → List Event
-unit_events way m input from zero = []
-unit_events way m input from (suc units) =
-    unit_events way m input from units
-    ++ (Move (given_up_offset way input (from + units)) ∷ unit_event way m input (from + units) ∷ [])
-
--- the unit at place `k` is read
+-- the unit at place `k` is read: the search moves to it if its step is not cached
 abbrev pub IsUnitRead : Direction → Machine → Input → (k : ℕ) → (old new : CacheView) → Type 0
-IsUnitRead way m input k old new = Does m (unit_event way m input k) old new
+IsUnitRead way m input k old new = Does m (unit_event way m input k) old (with_search_moved way input k old) new
 
 -- so many units from a place on are read, one after another
-abbrev pub AreUnitsRead : Direction → Machine → Input → (from units : ℕ) → (old new : CacheView) → Type 0
-AreUnitsRead way m input from units old new = DoAll m (unit_events way m input from units) old new
+abbrev pub Goes : Direction → Machine → Input → (from units : ℕ) → (old new : CacheView) → Type 0
+Goes way m input from zero old new = new ≡ old
+Goes way m input from (suc units) old new =
+    (mid : CacheView) × Goes way m input from units old mid × IsUnitRead way m input (from + units) mid new
 
 -- and then the search ends: at the last of them, or if there is none, at the place
-abbrev pub HasEndedAfter : Direction → Machine → Input → (from units : ℕ) → (old new : CacheView) → Type 0
-HasEndedAfter way m input from units old new =
-    DoAll m (unit_events way m input from units ++ (End (given_up_offset way input (from + (units - 1))) ∷ [])) old new
+abbrev pub GoesToEnd : Direction → Machine → Input → (from units : ℕ) → (old new : CacheView) → Type 0
+GoesToEnd way m input from units old new =
+    (mid : CacheView) × Goes way m input from units old mid × (new ≡ with_search_ended way input (from + (units - 1)) mid)
 
 -- the search failed at the unit at place `k`, to which it moved
 abbrev pub IsLeftAt : Direction → Machine → Input → (k : ℕ) → (old new : CacheView) → Type 0
@@ -76,46 +62,17 @@ ReadsUnits way m input units =
 -- a pass that has begun reads its units, and ends at the last of them
 abbrev pub EndsAtLast : Direction → Machine → Input → (begun new : CacheView) → Type 0
 EndsAtLast way m input begun new =
-    (units : ℕ) × ReadsUnits way m input units × HasEndedAfter way m input 0 units begun new
-
--- the last unit of a pass backward, after its span: the pass has ended before it reads it
-abbrev pub IsAfterEnd : Direction → Input → ℕ → Type 0
-IsAfterEnd Forward input k = ⊥
-IsAfterEnd Backward input k = k ≡ length (tape_in Backward input).bytes
-
--- a pass failed so at a unit; but backward, at its last one, it had ended
-abbrev pub IsPassLeftAt : Direction → Machine → Input → (k : ℕ) → (old new : CacheView) → Type 0
-IsPassLeftAt way m input k old new =
-    (IsAfterEnd way input k
-    × IsStepLeft m (state_in way m input k) (next (tape_in way input) k) (with_search_ended way input k old)
-    (with_search_ended way input k old) new)
-    ⊎ ((IsAfterEnd way input k → ⊥) × IsLeftAt way m input k old new)
+    (units : ℕ) × ReadsUnits way m input units × GoesToEnd way m input 0 units begun new
 
 -- a pass that has begun reads some units, and fails at the next one
 abbrev pub IsStoppedAt : Direction → Machine → Input → (begun new : CacheView) → SearchError → Type 0
 IsStoppedAt way m input begun new e =
     (k : ℕ) × (mid : CacheView) × Reads way m input k × HasReadNoQuit way m input k
-    × IsUnitError way m new.store input k e
-    × AreUnitsRead way m input 0 k begun mid × IsPassLeftAt way m input k mid new
-
--- a pass backward over an empty span keeps no progress
-abbrev pub KeepsNone : Direction → Input → Type 0
-KeepsNone Forward input = ⊥
-KeepsNone Backward input = input.start ≡ input.end
-
--- its one unit was read, unless its start state is dead
-abbrev pub EndsStill : Direction → Machine → Input → (begun new : CacheView) → Type 0
-EndsStill way m input begun new =
-    (Reads way m input 0 × IsUnitRead way m input 0 begun new) ⊎ ((Reads way m input 0 → ⊥) × (new ≡ begun))
-
--- or it failed at that unit
-abbrev pub IsStillLeft : Direction → Machine → Input → (begun new : CacheView) → Type 0
-IsStillLeft way m input begun new =
-    IsStepLeft m (state_in way m input 0) (next (tape_in way input) 0) begun begun new
+    × IsUnitError way m new.store input k e × Goes way m input 0 k begun mid × IsLeftAt way m input k mid new
 
 -- a pass has its start state
 abbrev pub HasItsStart : Direction → Machine → Input → (old new : CacheView) → Type 0
-HasItsStart way m input old new = Does m (start_event way input) old new
+HasItsStart way m input old new = Does m (start_event way input) old old new
 
 -- it has none: if a search may not start, nothing has changed at all
 abbrev pub HasNoStart : Direction → Machine → Input → (old new : CacheView) → Type 0
@@ -126,19 +83,16 @@ HasNoStart way m input old new =
 -- a pass has ended
 abbrev pub PassEnds : Direction → Machine → Input → (old new : CacheView) → Type 0
 PassEnds way m input old new =
-    (begun : CacheView) × HasItsStart way m input old begun
-    × ((KeepsNone way input × EndsStill way m input begun new)
-    ⊎ ((KeepsNone way input → ⊥) × EndsAtLast way m input (with_search_begun way input 0 begun) new))
+    (mid : CacheView) × HasItsStart way m input old mid
+    × EndsAtLast way m input (with_search_begun way input 0 mid) new
 
 -- a pass failed: at its start, or at a unit
 abbrev pub PassFails : Direction → Machine → Input → (old new : CacheView) → SearchError → Type 0
 PassFails way m input old new e =
     (IsStartErrorAt m new.store input.anchored (tape_in way input).before
     (behind_offset way input) (offset_in way input 0) e × HasNoStart way m input old new)
-    ⊎ ((begun : CacheView) × HasItsStart way m input old begun
-    × ((KeepsNone way input × Reads way m input 0 × IsUnitError way m new.store input 0 e
-    × IsStillLeft way m input begun new)
-    ⊎ ((KeepsNone way input → ⊥) × IsStoppedAt way m input (with_search_begun way input 0 begun) new e)))
+    ⊎ ((mid : CacheView) × HasItsStart way m input old mid
+    × IsStoppedAt way m input (with_search_begun way input 0 mid) new e)
 
 -- what a pass makes of its cache, by the error that it returns, if it fails
 abbrev pub IsPassRun : Direction → Machine → Input → (old new : CacheView) → Option SearchError → Type 0
@@ -178,4 +132,5 @@ SearchFails way m input old new e =
 -- what a search makes of its cache, by the error that it returns, if it fails
 pub record IsSearchRun (way : Direction) (m : Machine) (input : Input) (old new : CacheView)
     (error : Option SearchError) : Type 0 where
+  -- without an error its passes have ended; with one, the last of them failed
   pub run : MatchOption error (SearchEnds way m input old new) (SearchFails way m input old new)

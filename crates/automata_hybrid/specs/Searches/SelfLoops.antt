@@ -39,19 +39,26 @@ lane_of Backward k = 31 - k
 
 -- an ID's row leads back to it on a byte, which is no quit byte: the transition is cached, at a class that rows have
 pub record LoopsOn (m : Machine) (c : Stored) (id byte : ℕ) : Type 0 where
+  -- the byte is no quit byte
   pub clean : is_quit m.quits byte ≡ false
+  -- the transition is cached
   pub known : IsKnownTransition c id (class_in m.classes byte)
+  -- rows have its class
   pub below : class_in m.classes byte < c.table.of.stride
+  -- it leads back to the ID
   pub back :
       (q : Powerset) → Names c.table id q → Leads c.table id (successor m.nfa (match_kind_of m.config) q (Some byte))
 
 -- an ID's row leads back to it on each byte of a range
 pub record IsLoopRange (m : Machine) (c : Stored) (id : ℕ) (r : LoopRange) : Type 0 where
+  -- the row leads back on each byte of the range
   pub loops : (byte : ℕ) → byte < 256 → HasByte r byte → LoopsOn m c id byte
 
 -- and on each byte of the two ranges that are kept of its self-loop
 pub record IsKnownLoop (m : Machine) (c : Stored) (id : ℕ) (k : KnownLoop) : Type 0 where
+  -- the row leads back on each byte of the first range
   pub first : IsLoopRange m c id k.first
+  -- the row leads back on each byte of the second range
   pub second : IsLoopRange m c id k.second
 
 -- and on each byte of a list from a place on, before another
@@ -60,8 +67,11 @@ LoopsOver m c id way bytes from to = (k : ℕ) → from ≤ k → k < to → Loo
 
 -- and so it does up to a place within the list
 pub record IsLoopRun (m : Machine) (c : Stored) (id : ℕ) (way : Direction) (bytes : List ℕ) (from to : ℕ) : Type 0 where
+  -- it does not end before it begins
   pub more : from ≤ to
+  -- it ends in the list
   pub within : to ≤ length bytes
+  -- the row leads back on each byte of the run
   pub loops : LoopsOver m c id way bytes from to
 
 -- the unit at place `k` of a pass is a byte on which an ID's row leads back to it
@@ -70,5 +80,7 @@ LoopsAt way m c input id k = (byte : ℕ) × (next (tape_in way input) k ≡ Som
 
 -- so is each unit from a place on, before another
 pub record IsSelfLoop (way : Direction) (m : Machine) (c : Stored) (input : Input) (id from to : ℕ) : Type 0 where
+  -- they do not end before they begin
   pub more : from ≤ to
+  -- each of them is a byte on which the row leads back
   pub loops : (k : ℕ) → from ≤ k → k < to → LoopsAt way m c input id k

@@ -24,9 +24,11 @@ IsFirstMatch m input half = IsPassAnswer Forward m input half
 pub record StandsAt (m : Machine) (c : CacheView) (input : Input) (at id : ℕ) : Type 0 where
   -- It ends at its first match.
   pub early : input.earliest ≡ true
-  -- The offset is in the span, which lies in the haystack.
+  -- The offset is at or after the span's start.
   pub from : input.start ≤ at
+  -- The offset is at or before the span's end.
   pub upto : at ≤ input.end
+  -- The span ends in the haystack.
   pub inside : input.end ≤ length input.haystack
   -- The cache has the row of the ID.
   pub row : HoldsRow c id

@@ -42,8 +42,11 @@ half_nth (pair ∷ pairs) (suc k) = half_nth pairs k
 
 -- by its first `n` units a pass reports `k` pairs to a walk, the split ones left out if they are skipped
 pub record HasReportedBy (way : Direction) (m : Machine) (input : Input) (n k : ℕ) : Type 0 where
+  -- the pairs that it reports to the walk, by their offsets
   pub pairs : List Pair
+  -- they are the pairs of the pass, without the split ones if these are skipped
   pub unsplit : AreUnsplit (Skips m) way input (pairs_reported_in way m input n) pairs
+  -- there are `k` of them
   pub count : k ≡ length pairs
 
 -- a walk over this input reads the unit at place `k`: the state there is not dead
@@ -59,27 +62,45 @@ WalkMeetsNoQuit way m input =
 -- reported `reported` patterns of this state, at least one, and `k` pairs in all
 pub record StandsAtState (way : Direction) (m : Machine) (input : Input) (q : Powerset) (units reported k : ℕ) :
     Type 0 where
+  -- the span is not done
   pub undone : input.start ≤ input.end
+  -- the search may start
   pub may : MayStart m input.anchored (tape_in way input).before
+  -- the place of the last unit read
   pub place : ℕ
+  -- the walk stands after this unit
   pub one_after : units ≡ suc place
+  -- the unit is a byte of the span, or the one after it
   pub within : place ≤ length (tape_in way input).bytes
+  -- the state is that after these units
   pub state : q ≡ state_in way m input units
+  -- it is a state that a row may have
   pub row : IsRowState m q
+  -- none of these units is a quit byte
   pub clean : HasReadNoQuit way m input units
+  -- the place is not one that is skipped
   pub unskipped : Skips m → is_split input.haystack (offset_in way input place) ≡ false
+  -- a pattern of the state is reported
   pub some : 0 < reported
+  -- the state has as many patterns as are reported, or more
   pub few : reported ≤ length q.patterns
+  -- how many pairs were reported before those of the state
   pub earlier : ℕ
+  -- the units before the last one report so many
   pub before : HasReportedBy way m input place earlier
+  -- in all those are reported, and the patterns of the state that were
   pub count : k ≡ earlier + reported
 
 -- a walk has reported all that there is to report: its span was done, or it met no quit byte to its end
 pub record HasReportedAll (way : Direction) (m : Machine) (input : Input) (k : ℕ) : Type 0 where
+  -- the span was done, or the walk met no quit byte to its end
   pub clean :
       (input.end < input.start) ⊎ (MayStart m input.anchored (tape_in way input).before × WalkMeetsNoQuit way m input)
+  -- the whole list of the walk
   pub pairs : List Pair
+  -- it is what the pass reports, by offsets, without the split ones if these are skipped
   pub all : AreWalked way m input pairs
+  -- no pair of it is left to be reported
   pub none_left : length pairs ≤ k
 
 -- a walk has reported `k` pairs in all, by where it stands
@@ -122,9 +143,13 @@ IsResumeError way m c input Ended units e = ⊥
 -- the state after the unit at place `j` reports a pair, and cannot be held: the count of those who share it cannot
 -- rise, which is reported as out of memory
 pub record IsUnheld (way : Direction) (m : Machine) (input : Input) (j : ℕ) (e : SearchError) : Type 0 where
+  -- the unit is no quit byte
   pub clean : quits_on m (next (tape_in way input) j) ≡ false
+  -- the state after it has patterns
   pub reports : 0 < length (state_in way m input (suc j)).patterns
+  -- its place is not one that is skipped
   pub unskipped : Skips m → is_split input.haystack (offset_in way input j) ≡ false
+  -- the error is out of memory
   pub memory : e ≡ search.OutOfMemory
 
 -- why a call fails at the unit at place `j`: the step on it does; or, if states are kept, the one after it cannot be
@@ -150,21 +175,34 @@ IsSilent way m input from to = (k : ℕ) → HasReportedBy way m input from k �
 -- from its first `from` units a walk went on, without a quit byte, to a state that reports patterns at a place that is
 -- not skipped, and the ID names it
 pub record Arrives (way : Direction) (m : Machine) (t : Rows) (input : Input) (from id units : ℕ) : Type 0 where
+  -- the place of the last unit read
   pub place : ℕ
+  -- the walk stands after this unit
   pub one_after : units ≡ suc place
+  -- it has read at least one unit more
   pub more : from ≤ place
+  -- the unit is a byte of the span, or the one after it
   pub within : place ≤ length (tape_in way input).bytes
+  -- the ID names the state after these units
   pub named : Names t id (state_in way m input units)
+  -- none of these units is a quit byte
   pub clean : HasReadNoQuit way m input units
+  -- the state has patterns
   pub reports : (q : Powerset) → Names t id q → 0 < length q.patterns
+  -- the place is not one that is skipped
   pub unskipped : Skips m → is_split input.haystack (offset_in way input place) ≡ false
+  -- the units before the last one report nothing more
   pub silent : IsSilent way m input from place
 
 -- from its first `from` units a walk went on, without a quit byte, to its end after `units` of them
 pub record Finishes (way : Direction) (m : Machine) (input : Input) (from units : ℕ) : Type 0 where
+  -- it has read no fewer units than before
   pub more : from ≤ units
+  -- it meets no quit byte
   pub clean : WalkMeetsNoQuit way m input
+  -- the units after the first `from` report nothing
   pub silent : IsSilent way m input from (suc (length (tape_in way input).bytes))
+  -- it reads no unit after these
   pub stops : (j : ℕ) → units ≤ j → WalkReads way m input j → ⊥
 
 -- a walk went on to a state that reports patterns, if there is an ID, or to its end, if there is none

@@ -19,9 +19,13 @@ use Rattle.automata_hybrid.specs.Walks.State.{At, Ended, Fresh, Stage, Walk}
 
 -- the next call of a walk reads units: it has not ended, has reported all of where it stands, and units are left
 pub record IsToRead (input : Input) (stage : Stage) (units reported : ℕ) : Type 0 where
+  -- the span is not done
   pub undone : input.start ≤ input.end
+  -- the walk has not ended
   pub on : stage ≡ Ended → ⊥
+  -- all patterns of the state where it stands are reported
   pub all_reported : (q : Powerset) → stage ≡ At q → length q.patterns ≤ reported
+  -- at least one unit is left
   pub left : units ≤ input.end - input.start
 
 -- what a walk goes on from is cached: its start, or the state that it holds, which the cache has

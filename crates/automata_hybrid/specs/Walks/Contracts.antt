@@ -54,12 +54,14 @@ JoinsReported m input old new =
 -- what a set is joined with, by passes and by paths
 pub record IsSetReported (m : Machine) (input : Input) (old new : List Bool)
     (result : Result (Unit {0}) SearchError) : Type 0 where
+  -- for every NFA, the set is joined with the patterns that the walk reports
   pub found : OnOk result (JoinsReported m input old new)
   -- if the NFA keeps its cycles, those of the ordered paths
   pub paths :
       KeepsCycles (nfa_of m.nfa)
       → OnOk result (ArePatternsFound (engine_of m.nfa (match_kind_of m.config)) input (length old) (members old)
       (members new))
+  -- the capacity of the set is unchanged
   pub capacity : length new ≡ length old
   -- an anchored mode that is not supported is reported, and the set is unchanged
   pub unsupported : IsUnsupported Forward m input → (result ≡ Err (unsupported_error input)) × (new ≡ old)
@@ -74,6 +76,7 @@ pub record IsWhich (m : Machine) (input : Input) (old new : List Bool)
       KeepsCycles (nfa_of m.nfa)
       → OnOk result (ArePatternsFound (engine_of m.nfa (match_kind_of m.config)) input (length old) (members old)
       (members new))
+  -- the capacity of the set is unchanged
   pub capacity : length new ≡ length old
   -- an anchored mode that is not supported is reported, and the set is unchanged
   pub unsupported : IsUnsupported Forward m input → (result ≡ Err (unsupported_error input)) × (new ≡ old)

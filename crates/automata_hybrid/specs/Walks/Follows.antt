@@ -34,10 +34,11 @@ IsSetError m c input set joined e =
 -- what follows of a call of a walk that returns this error, or none
 pub record CallFollows (keeping : Keeping) (way : Direction) (m : Machine) (input : Input) (walk next : Walk)
     (old new : CacheView) (error : Option SearchError) : Type 0 where
-  -- it determinizes at most once for each unit by which the units read rise, and once for a start state; a call that
-  -- fails at most once for each unit left
+  -- if it answers, the units read have not become fewer
   pub rises : IfNone error (walk.units ≤ next.units)
+  -- if it answers, it determinizes at most once for each unit by which they rise, and once for a start state
   pub cost : IfNone error (new.count + walk.units ≤ old.count + next.units + start_count walk.stage)
+  -- whether it answers or fails, it determinizes at most once for each unit left, and once for a start state
   pub most : new.count ≤ old.count + (input.end - input.start + 1 - walk.units) + start_count walk.stage
   -- a start state that is cached is not determinized again
   pub started :
@@ -46,8 +47,9 @@ pub record CallFollows (keeping : Keeping) (way : Direction) (m : Machine) (inpu
       × IfNone error (new.count + walk.units ≤ old.count + next.units)
   -- nothing is cleared if there is room for as many states, and for the walk's own
   pub roomy : HasRoom old.store (input.end - input.start + 1 - walk.units + 1) → new.store.clears ≡ old.store.clears
-  -- the cache has grown as by one determinization more; if it had the walk's state, as by those that were made
+  -- the cache has grown as by one determinization more than were made
   pub grown : IsGrown old (counted new)
+  -- if it had the walk's state, the cache has grown as by those that were made
   pub there : HasItsState old.store.table walk.stage → IsGrown old new
   -- a held state that the cache lacks is put back first, and the cache grows from there
   pub put_back :
@@ -69,8 +71,9 @@ pub record CallFollows (keeping : Keeping) (way : Direction) (m : Machine) (inpu
 -- what follows of the search for a set that returns this error, or none
 pub record SetFollows (m : Machine) (input : Input) (set joined : List Bool) (old new : CacheView)
     (error : Option SearchError) : Type 0 where
-  -- over a span of n bytes it determinizes at most n + 2 times, and clears nothing if there is room for as many states
+  -- over a span of n bytes it determinizes at most n + 2 times
   pub cost : new.count ≤ old.count + (input.end - input.start + 2)
+  -- it clears nothing if there is room for as many states
   pub roomy : HasRoom old.store (input.end - input.start + 2) → new.store.clears ≡ old.store.clears
   -- a start state that is cached is not determinized again
   pub started : KnowsItsStart Forward m old.store input → new.count ≤ old.count + (input.end - input.start + 1)

@@ -9,7 +9,7 @@ use Rattle.automata_hybrid.specs.Cache.Stores.{Stored}
 use Rattle.automata_hybrid.specs.Cache.Caches.{CacheView}
 use Rattle.automata_hybrid.specs.Walks.Cached.{IsToRead}
 use Rattle.automata_hybrid.specs.Machines.Machine.{Machine}
-use Rattle.automata_hybrid.specs.Searches.Progress.{AreUnitsRead, IsLeftAt, IsUnitRead, with_search_moved}
+use Rattle.automata_hybrid.specs.Searches.Progress.{Goes, IsLeftAt, IsUnitRead, with_search_moved}
 use Rattle.automata_hybrid.specs.Walks.Progress.{IsCallStopped}
 use Rattle.automata_hybrid.specs.Searches.Passes.{state_in, tape_in}
 use Rattle.automata_hybrid.specs.Steps.Starts.{MayStart}
@@ -22,24 +22,33 @@ use Rattle.automata_hybrid.specs.declared.search.walk.Held.{Held}
 -- a walk over this input, and what is held is the state where it stands
 pub record IsHeldWalk (way : Direction) (m : Machine) (input : Input) (t : Rows) (w : Walk) (held : Held) :
     Type 0 where
+  -- it is a walk over this input
   pub reported : IsWalkOf way m input w
+  -- what is held is the state where it stands
   pub holds : IsHeldAt t w.stage held
 
 -- and it is the state itself
 pub record IsKeptWalk (way : Direction) (m : Machine) (input : Input) (w : Walk) (held : Held) : Type 0 where
+  -- it is a walk over this input
   pub reported : IsWalkOf way m input w
+  -- what is held is the state itself where it stands
   pub itself : IsHeldItself w.stage held
 
 -- a walk whose next call reads units
 pub record ReadsOn (way : Direction) (m : Machine) (input : Input) (t : Rows) (w : Walk) (held : Held) :
     Type 0 where
+  -- it is a walk over this input
   pub reported : IsWalkOf way m input w
+  -- what is held is the state where it stands
   pub holds : IsHeldAt t w.stage held
+  -- its next call reads units
   pub reads : IsToRead input w.stage w.units w.reported
 
 -- what a call makes of what is held: it is the state where the walk stands then, and as much is kept of it
 pub record HoldsOn (t : Rows) (next : Walk) (old new : Held) : Type 0 where
+  -- what is held now is the state where the walk stands then
   pub holds : IsHeldAt t next.stage new
+  -- as much is kept of it as before: the state itself, or its ID
   pub keeping : keeping_of new ≡ keeping_of old
 
 -- what a call of a walk answers
@@ -59,16 +68,20 @@ pub record IsResumeAnswer (way : Direction) (m : Machine) (input : Input) (walk 
 
 -- a walk has read so many units, and at least one is left: the ID names its state there
 pub record StandsAfterUnits (way : Direction) (m : Machine) (t : Rows) (input : Input) (units id : ℕ) : Type 0 where
+  -- the span is not done
   pub undone : input.start ≤ input.end
+  -- at least one unit is left
   pub left : units ≤ input.end - input.start
+  -- the ID names the state after these units
   pub named : Names t id (state_in way m input units)
 
 -- what reading the next unit makes of the cache
 pub record IsUnitEffect {T : Type 0} (way : Direction) (m : Machine) (input : Input) (place : ℕ) (old new : CacheView)
     (result : Result T SearchError) : Type 0 where
-  -- the search moved to the unit, and it was read; or is left there
+  -- if it returns Ok, the search moved to the unit, and it was read
   pub read :
-      OnOk result (IsUnitRead way m input place (with_search_moved way input place old) new)
+      OnOk result (IsUnitRead way m input place old new)
+  -- if it fails, the search is left at the unit
   pub left : OnErr result (IsLeftAt way m input place old new)
 
 -- what going on over the units of a walk from there makes of the cache
@@ -77,6 +90,6 @@ pub record IsAdvanceEffect (way : Direction) (m : Machine) (input : Input) (unit
   -- it read these units, one after another
   pub read :
       IfOk result (λ a. (n : ℕ) × (a.units ≡ suc (units + n)) × WalkReads way m input (units + n)
-      × AreUnitsRead way m input units (suc n) old new)
+      × Goes way m input units (suc n) old new)
   -- or failed at one
   pub left : IfErr result (IsCallStopped Ids way m input units old new)

@@ -14,7 +14,7 @@ use Rattle.automata_hybrid.specs.Cache.Caches.{CacheView, IsStoreOf}
 use Rattle.automata_hybrid.specs.Walks.Cached.{IsOpen}
 use Rattle.automata_hybrid.specs.Machines.Machine.{Machine}
 use Rattle.automata_hybrid.specs.Cache.Growth.{PutsBack}
-use Rattle.automata_hybrid.specs.Searches.Progress.{AreUnitsRead, HasEndedAfter, HasItsStart, HasNoStart, IsLeftAt}
+use Rattle.automata_hybrid.specs.Searches.Progress.{Goes, GoesToEnd, HasItsStart, HasNoStart, IsLeftAt}
 use Rattle.automata_hybrid.specs.Searches.Progress.{IsUnitRead}
 use Rattle.automata_hybrid.specs.Searches.Progress.{with_search_begun, with_search_moved}
 use Rattle.automata_hybrid.specs.Searches.Passes.{HasReadNoQuit, IsUnitError}
@@ -62,21 +62,21 @@ EndsCall way m input walk next old new =
     × ((ReadsNoUnit input walk × (next.units ≡ walk.units) × (new ≡ old))
     ⊎ ((ReadsNoUnit input walk → ⊥) × (begun : CacheView) × (units : ℕ) × IsResumed way m input walk.stage old begun
     × (next.units ≡ walk.units + units) × ReadsItsUnits way m input walk next
-    × HasEndedAfter way m input walk.units units (with_search_begun way input walk.units begun) new))
+    × GoesToEnd way m input walk.units units (with_search_begun way input walk.units begun) new))
 
 -- a call fails at the unit at place `k`; or the unit was read, and the state after it cannot be held
 abbrev pub IsCallLeftAt : Keeping → Direction → Machine → Input → (k : ℕ) → (old new : CacheView) → SearchError → Type 0
 IsCallLeftAt Ids way m input k old new e = IsUnitError way m new.store input k e × IsLeftAt way m input k old new
 IsCallLeftAt States way m input k old new e =
     (IsUnitError way m new.store input k e × IsLeftAt way m input k old new)
-    ⊎ (IsUnheld way m input k e × IsUnitRead way m input k (with_search_moved way input k old) new)
+    ⊎ (IsUnheld way m input k e × IsUnitRead way m input k old new)
 
 -- a call that has begun at a place failed after the first so many units from there, which report nothing
 abbrev pub IsCallStopped :
     Keeping → Direction → Machine → Input → (from : ℕ) → (begun new : CacheView) → SearchError → Type 0
 IsCallStopped keeping way m input from begun new e =
     (units : ℕ) × (mid : CacheView) × WalkReads way m input (from + units) × HasReadNoQuit way m input (from + units)
-    × IsSilent way m input from (from + units) × AreUnitsRead way m input from units begun mid
+    × IsSilent way m input from (from + units) × Goes way m input from units begun mid
     × IsCallLeftAt keeping way m input (from + units) mid new e
 
 -- a call that is to read units failed: the walk could not go on, or it failed at a unit

@@ -14,7 +14,9 @@ use Rattle.automata_hybrid.specs.Walks.Contracts.{JoinsReported}
 
 -- some path of the pattern from the start, through the span of an input, ends in a match, at some offset
 pub record MatchesIn (m : Machine) (input : Input) (start pattern : ℕ) : Type 0 where
+  -- The offset where the path ends.
   pub at : ℕ
+  -- Some path of the pattern ends there in a match.
   pub accepted : IsAccepted Forward m.nfa input start (record { pattern = pattern; place = at })
 
 -- under `MatchKind::All`, for every NFA, and by the start of the input's anchored mode

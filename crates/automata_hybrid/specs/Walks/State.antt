@@ -18,9 +18,13 @@ pub data Stage : Type 0 where
 
 -- how many units it has read, how many patterns of its state it has reported, and its match
 pub record Walk : Type 0 where
+  -- where it stands
   pub stage : Stage
+  -- how many units it has read
   pub units : ℕ
+  -- how many patterns of the state where it stands it has reported
   pub reported : ℕ
+  -- the match that its last call reported, if it reported one
   pub found : Option HalfMatch
 
 -- a walk that has not begun

@@ -13,7 +13,7 @@ ghost use Rattle.automata_hybrid.specs.Machines.Machine.{quits_on, unit_class};
 ghost use Rattle.automata_hybrid.specs.Cache.Ids.{dead_id, unknown_id, offset_limit};
 ghost use Rattle.automata_hybrid.specs.Cache.Table.{id_of, Names, IsRowId, IsCell, LeadsByClass};
 ghost use Rattle.automata_hybrid.specs.Cache.Table.{HasItsMatchTag, HasState};
-ghost use Rattle.automata_hybrid.specs.Cache.Leaps.{AreLeaps, IsShapeOf};
+ghost use Rattle.automata_hybrid.specs.Cache.Leaps.{AreLeaps, IsShapeOf, making_bytes};
 ghost use Rattle.automata_hybrid.specs.Cache.Table.{IsNewState, IsRowState};
 ghost use Rattle.automata_hybrid.specs.Cache.Stores.{IsSoundStore, cell_of, with_next, with_start};
 ghost use Rattle.automata_hybrid.specs.Cache.Stores.{with_searched};
@@ -498,32 +498,34 @@ impl Cache {
         self.store.table.row_at(index)
     }
 
-    /// How many bytes are still searched before the cache looks whether to make leaps.
-    pub(crate) fn bytes_before_leaps(&self) -> usize {
+    /// How many bytes are still searched before the cache looks whether to make leaps, once the open search has come to
+    /// an offset. While all is cached it stands at an earlier one.
+    pub(crate) fn bytes_before_leaps(&self, at: usize) -> usize {
         self.leaping
             .due
-            .saturating_sub(self.store.searched.total_len())
+            .saturating_sub(self.store.searched.total_at(at))
     }
 
-    /// Looks whether to make leaps, if enough bytes were searched.
+    /// Looks whether to make leaps, if enough bytes were searched once the open search has come to an offset.
     #[inline(always)]
-    pub(crate) fn prepare_leaps(&mut self, dfa: &DFA)
+    pub(crate) fn prepare_leaps(&mut self, dfa: &DFA, at: usize)
         requires { IsCacheOf self.old dfa.now }
         ensures { self.new ≡ self.old }
     {
-        if self.store.searched.total_len() >= self.leaping.due {
-            self.make_leaps(dfa);
+        let total = self.store.searched.total_at(at);
+        if total >= self.leaping.due {
+            self.make_leaps(dfa, total);
         }
     }
 
-    /// Makes leaps anew, if they pay and there is room to make them, and says when to look again. Where they cannot
-    /// be made, this is after the next clear.
+    /// Makes leaps anew, if they pay after so many searched bytes and there is room to make them, and says when to look
+    /// again. Where there is no room, this is after the next clear; where an allocation fails, once twice as many bytes
+    /// were searched.
     #[inline(never)]
-    fn make_leaps(&mut self, dfa: &DFA)
+    fn make_leaps(&mut self, dfa: &DFA, total: usize)
         requires { IsCacheOf self.old dfa.now }
         ensures { self.new ≡ self.old }
     {
-        let total = self.store.searched.total_len();
         self.leaping = Leaping::none();
         let Some(shape) = Shape::of(dfa.byte_classes().eoi(), self.store.table.len()) else {
             return;
@@ -535,19 +537,18 @@ impl Cache {
             self.leaping.due = shape.price();
             return;
         }
-        if let Ok(leaps) = self.leaps_of(dfa, shape) {
-            self.leaping = Leaping {
-                leaps: Some(leaps),
-                due: total.saturating_mul(2),
-            };
+        match self.leaps_of(dfa, shape) {
+            Ok(leaps) => self.leaping.leaps = Some(leaps),
+            Err(_) => self.leaping.due = total.saturating_mul(2),
         }
     }
 
-    /// Leaps of a shape.
+    /// Leaps of a shape, for which there is room, also while they are made.
     fn leaps_of(&self, dfa: &DFA, shape: Shape) -> Result<Box<Leaps>, AllocError>
         requires dfa { IsCacheOf self.now dfa.now }
         requires of { IsShapeOf self.now.store.table shape }
         requires rows { shape.rows ≡ length self.now.store.table.rows }
+        requires room { usage self.now.store + making_bytes shape ≤ self.now.store.table.of.capacity }
         ensures leaps { IfOk result (λ b. AreLeaps self.now.store.table b.value) }
         ensures shape { IfOk result (λ b. b.value.shape ≡ shape) }
     {
@@ -646,10 +647,7 @@ impl Cache {
     /// the capacity, or the minimum capacity if that was raised to.
     ///
     /// ```rust
-    /// /// How many bytes the cache accounts for.
-    /// pub fn memory_usage(&self) -> usize {
-    ///     self.cache.memory_usage()
-    /// }
+    /// self.cache.memory_usage()
     /// ```
     pub fn memory_usage(&self) -> usize
         ensures usage { result ≡ usage self.now.store }

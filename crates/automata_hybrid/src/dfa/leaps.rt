@@ -5,7 +5,7 @@
 ghost use Rattle.std.specs.Prelude.{ℕ, suc, ◌≡◌, true, false, ◌+◌, ◌*◌, ◌^◌, ◌<◌, ◌≤◌, IfOk, IfSome, None, OnOk};
 ghost use Rattle.std.specs.Prelude.{length, slice_index};
 ghost use Rattle.automata_hybrid.specs.Cache.Leaps.{AreLeaps, AreSteps, IsLevel, IsShape, IsShapeOf, first_cell};
-ghost use Rattle.automata_hybrid.specs.Cache.Leaps.{leaps_bytes};
+ghost use Rattle.automata_hybrid.specs.Cache.Leaps.{leaps_bytes, making_bytes};
 
 use crate::dfa::progress::Searched;
 use crate::dfa::table::Table;
@@ -159,12 +159,11 @@ impl Shape {
     /// byte less than a leap takes.
     pub(crate) fn making(self) -> usize
         requires { IsShape self }
-        ensures { leaps_bytes (self.rows * self.width) ≤ result }
+        ensures { result ≡ making_bytes self }
     {
-        let steps = self.rows.saturating_add(1).saturating_mul(self.classes);
-        let level = self.rows.saturating_mul(self.width / self.classes.max(1));
-        self.bytes()
-            .saturating_add(steps.saturating_add(level).saturating_mul(4))
+        let steps = (self.rows + 1) * self.classes;
+        let level = self.rows * (self.width / self.classes.max(1));
+        self.bytes() + 4 * (steps + level)
     }
 
     /// How many bytes are searched before these leaps are made.

@@ -41,6 +41,15 @@ impl Searched {
         }
     }
 
+    /// The searched bytes once the open search has come to an offset.
+    pub fn total_at(&self, at: usize) -> usize
+        ensures { result ≡ total_len (progress_updated self.now at) }
+    {
+        let mut come = *self;
+        come.update(at);
+        come.total_len()
+    }
+
     /// A search begins at an offset.
     pub fn start(&mut self, at: usize)
         ensures { self.new ≡ progress_started self.old at }

@@ -3,13 +3,12 @@
 ghost use Rattle.std.specs.Prelude.{ℕ, ◌≡◌, ◌+◌, ◌-◌, ◌^◌, ◌<◌, ◌≤◌, IfErr, IfOk, OnOk, Some, true, false, length};
 ghost use Rattle.automata_base.specs.Answers.Answers.{later, offset_in};
 ghost use Rattle.automata_base.specs.Paths.Paths.{next};
-ghost use Rattle.automata_hybrid.specs.Cache.Caches.{IsCacheOf, with_store};
+ghost use Rattle.automata_hybrid.specs.Cache.Caches.{IsCacheOf};
 ghost use Rattle.automata_hybrid.specs.Cache.Progress.{distance};
-ghost use Rattle.automata_hybrid.specs.Searches.Progress.{HasItsStart, KeepsNone, before_last};
+ghost use Rattle.automata_hybrid.specs.Searches.Progress.{HasItsStart};
 ghost use Rattle.automata_hybrid.specs.Searches.Passes.{behind_offset, given_up_offset, tape_in, unit_offset};
 ghost use Rattle.automata_hybrid.specs.Calls.Steps.{StartFailsAt};
 ghost use Rattle.automata_hybrid.specs.Steps.Starts.{IsStartAnswer};
-ghost use Rattle.automata_hybrid.specs.Cache.Stores.{with_searched};
 ghost use Rattle.automata_hybrid.specs.Searches.SelfLoops.{byte_in};
 
 use crate::dfa::DFA;
@@ -150,7 +149,6 @@ pub(crate) fn byte_behind(input: &Input<'_>, way: Direction) -> Option<u8>
 #[inline(always)]
 pub(crate) fn bytes_read(input: &Input<'_>, way: Direction, place: usize) -> usize
     requires within { place ≤ input.now.end - input.now.start }
-    requires kept { KeepsNone way input.now → ⊥ }
     requires open { input.now.start ≤ input.now.end }
     ensures { result ≡ distance (record {
       start = given_up_offset way input.now 0;
@@ -159,32 +157,7 @@ pub(crate) fn bytes_read(input: &Input<'_>, way: Direction, place: usize) -> usi
 {
     match way {
         Direction::Forward => place,
-        Direction::Backward => place.min(input.end() - input.start() - 1),
-    }
-}
-
-/// Whether a run over the span keeps no progress: one back over an empty span.
-#[inline(always)]
-pub(crate) fn keeps_none(input: &Input<'_>, way: Direction) -> bool
-    ensures yes { result ≡ true → KeepsNone way input.now }
-    ensures no { result ≡ false → KeepsNone way input.now → ⊥ }
-{
-    match way {
-        Direction::Forward => false,
-        Direction::Backward => input.start() == input.end(),
-    }
-}
-
-/// A run back has ended before it reads the byte after its span.
-#[inline(always)]
-pub(crate) fn end_before_last(cache: &mut Cache, way: Direction, at: usize)
-    ensures value { cache.new ≡ with_store cache.old (with_searched cache.old.store
-        (before_last way cache.old.store.searched at)) }
-    ensures table { cache.new.store.table ≡ cache.old.store.table }
-{
-    match way {
-        Direction::Forward => {}
-        Direction::Backward => cache.end_search(at),
+        Direction::Backward => place.min((input.end() - input.start()).saturating_sub(1)),
     }
 }
 

@@ -98,7 +98,7 @@ impl DFA {
 
     /// The ID after a unit: the unknown one if it is not cached.
     #[inline(always)]
-    fn known_step(&self, cache: &Cache, id: LazyStateID, unit: Option<u8>) -> LazyStateID
+    pub(super) fn known_step(&self, cache: &Cache, id: LazyStateID, unit: Option<u8>) -> LazyStateID
         requires of { IsCacheOf cache.now self.now }
         requires valid { IsRowId cache.now.store.table id }
         ensures value { result ≡ known_step self.now cache.now.store id unit }

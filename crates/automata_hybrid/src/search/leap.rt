@@ -16,7 +16,7 @@ use crate::dfa::DFA;
 use crate::dfa::cache::Cache;
 use crate::dfa::leaps::{Leaps, MARK};
 use crate::id::LazyStateID;
-use crate::search::direction::{bytes_from, last_place};
+use crate::search::direction::{bytes_from, last_place, span_offset};
 use crate::search::follow::Stop;
 use crate::search::pass::input_of;
 use crate::search::self_loop::byte_at;
@@ -335,8 +335,8 @@ impl DFA {
             → IsNextCell way self.now cache.old.store
             (input_at haystack.now span anchored earliest) result.at result.id result.next }
     {
-        cache.prepare_leaps(self);
         let own = input_of(haystack, span, anchored, earliest);
+        cache.prepare_leaps(self, span_offset(&own, way, start));
         self.leap_if(cache, &own, way, start, from)
     }
 

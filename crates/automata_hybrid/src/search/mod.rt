@@ -11,9 +11,8 @@ ghost use Rattle.automata_hybrid.specs.Cache.Caches.{IsCacheOf};
 ghost use Rattle.automata_base.specs.Haystacks.Tapes.{is_split};
 ghost use Rattle.automata_hybrid.specs.Searches.PassState.{half_at, step_error};
 ghost use Rattle.automata_hybrid.specs.Searches.Units.{IsReadAnswer, IsReadEffect, ReadFails};
-ghost use Rattle.automata_hybrid.specs.Searches.Units.{StepFailsAt};
-ghost use Rattle.automata_hybrid.specs.Calls.Events.{End, Move, with_progress};
-ghost use Rattle.automata_hybrid.specs.Calls.Steps.{IsStepRun};
+ghost use Rattle.automata_hybrid.specs.Searches.Units.{IsStepTaken, StepFailsAt};
+ghost use Rattle.automata_hybrid.specs.Calls.Events.{moved};
 ghost use Rattle.automata_hybrid.specs.Searches.Passes.{Skips};
 ghost use Rattle.automata_base.specs.declared.util.search.MatchErrorKind.TheVariants.{Quit as QuitAt};
 ghost use Rattle.automata_hybrid.specs.Cache.Ids.{unknown_id, HasMatchTag};
@@ -93,85 +92,95 @@ impl DFA {
         splits(input, offset)
     }
 
-    /// The state after a byte, which is the quit state at a quit byte. `cell` was read in the row, so that a step that
-    /// is not cached is computed without another look. An error is at this offset.
+    /// The state after a unit, which is the quit state at a quit byte. `cell` was read in the row, so that a step that
+    /// is not cached is computed without another look. The search moves to the unit if it is computed. An error is at
+    /// this offset.
     // It has no `inline(always)`: each one makes `search` grow, until the compiler drops the mark of that.
     fn step(
         &self,
         cache: &mut Cache,
         id: LazyStateID,
         cell: LazyStateID,
-        byte: u8,
+        unit: Option<u8>,
         at: usize,
     ) -> Result<LazyStateID, SearchError>
         requires of { IsCacheOf cache.old self.now }
         requires valid { IsRowId cache.old.store.table id }
-        requires cell { IsCellRead self.now cache.old.store id (Some byte) cell }
+        requires cell { IsCellRead self.now cache.old.store id unit cell }
         ensures of { IsCacheOf cache.new self.now }
-        ensures answer { IfOk result (IsStepAnswer self.now id (Some byte) cache.old cache.new) }
-        ensures refusal { IfErr result (StepFailsAt self.now id (Some byte) at cache.old cache.new) }
-        ensures run { OnOk result (IsStepRun self.now id (Some byte) cache.old cache.new) }
+        ensures answer { IfOk result (IsStepAnswer self.now id unit cache.old cache.new) }
+        ensures refusal { IfErr result (StepFailsAt self.now id unit at (moved at cache.old) cache.new) }
+        ensures run { OnOk result (IsStepTaken self.now id unit at cache.old cache.new) }
     {
         cache.see_bounds();
-        let _cell = cache.cell(id, self.class_of(byte));
+        let _cell = cache.cell(id, self.unit_class(unit));
         if !cell.is_unknown() {
             return Ok(cell);
         }
-        match cache.compute_next(self, id, Some(byte)) {
+        cache.move_search(at);
+        match cache.compute_next(self, id, unit) {
             Ok(next) => Ok(next),
             Err(error) => Err(step_error(error, at)),
         }
     }
 
-    /// The state after a byte, to which the search moves. `cell` was read in the row. A quit byte ends the search, and
-    /// is an error at its own offset.
+    /// The state after a unit. `cell` was read in the row. A quit byte ends the search, and is an error at its own offset.
     #[inline(always)]
     fn read_met(
         &self,
         cache: &mut Cache,
         id: LazyStateID,
         cell: LazyStateID,
-        byte: u8,
+        unit: Option<u8>,
         quit_at: usize,
         at: usize,
     ) -> Result<LazyStateID, SearchError>
         requires of { IsCacheOf cache.old self.now }
         requires valid { IsRowId cache.old.store.table id }
-        requires cell { IsCellRead self.now cache.old.store id (Some byte) cell }
+        requires cell { IsCellRead self.now cache.old.store id unit cell }
         ensures of { IsCacheOf cache.new self.now }
-        ensures answer { IfOk result (IsReadAnswer self.now id (Some byte) cache.old cache.new) }
-        ensures refusal { IfErr result (ReadFails self.now id (Some byte) quit_at at cache.old cache.new) }
-        ensures effect { IsReadEffect self.now id (Some byte) (with_progress (Move at) cache.old)
-            (with_progress (End at) cache.old) cache.new result }
+        ensures answer { IfOk result (IsReadAnswer self.now id unit cache.old cache.new) }
+        ensures refusal { IfErr result (ReadFails self.now id unit quit_at at cache.old cache.new) }
+        ensures effect { IsReadEffect self.now id unit at cache.old cache.new result }
     {
         self.see_machine();
         cache.see_bounds();
-        cache.move_search(at);
-        let next = self.step(cache, id, cell, byte, at)?;
+        let next = self.step(cache, id, cell, unit, at)?;
         cache.see_bounds();
-        if next.is_quit() {
-            cache.end_search(at);
-            return Err(quit(byte, quit_at));
+        match unit {
+            None => Ok(next),
+            Some(byte) => {
+                if next.is_quit() {
+                    cache.end_search(at);
+                    return Err(quit(byte, quit_at));
+                }
+                Ok(next)
+            }
         }
-        Ok(next)
     }
 
-    /// The ID after a byte: the one that was met, or if none was, what stands in the row.
+    /// The ID after a unit: the one that was met, or if none was, what stands in the row.
     #[inline(always)]
-    fn met_or_cell(&self, cache: &Cache, id: LazyStateID, met: LazyStateID, byte: u8) -> LazyStateID
+    fn met_or_cell(
+        &self,
+        cache: &Cache,
+        id: LazyStateID,
+        met: LazyStateID,
+        unit: Option<u8>,
+    ) -> LazyStateID
         requires of { IsCacheOf cache.now self.now }
         requires valid { IsRowId cache.now.store.table id }
-        requires met { met < unknown_id → met ≡ known_step self.now cache.now.store id (Some byte) }
-        ensures { IsCellRead self.now cache.now.store id (Some byte) result }
+        requires met { met < unknown_id → met ≡ known_step self.now cache.now.store id unit }
+        ensures { IsCellRead self.now cache.now.store id unit result }
     {
         if met.is_unknown() {
-            return self.next_state_known(cache, id, byte);
+            return self.known_step(cache, id, unit);
         }
         met
     }
 
-    /// The state after a unit, to which the search moves. `met` is the next ID if the caller has seen it, and else
-    /// unknown. A quit byte ends the search, and is an error at its own offset.
+    /// The state after a unit. `met` is the next ID if the caller has seen it, and else unknown. A quit byte ends the
+    /// search, and is an error at its own offset.
     #[inline(always)]
     fn read(
         &self,
@@ -188,76 +197,10 @@ impl DFA {
         ensures of { IsCacheOf cache.new self.now }
         ensures answer { IfOk result (IsReadAnswer self.now id unit cache.old cache.new) }
         ensures refusal { IfErr result (ReadFails self.now id unit quit_at at cache.old cache.new) }
-        ensures effect { IsReadEffect self.now id unit (with_progress (Move at) cache.old)
-            (with_progress (End at) cache.old) cache.new result }
+        ensures effect { IsReadEffect self.now id unit at cache.old cache.new result }
     {
-        match unit {
-            Some(byte) => {
-                let cell = self.met_or_cell(cache, id, met, byte);
-                self.read_met(cache, id, cell, byte, quit_at, at)
-            }
-            None => {
-                cache.move_search(at);
-                self.read_end(cache, id, at)
-            }
-        }
-    }
-
-    /// The state after a unit, to which no search moves.
-    fn read_still(
-        &self,
-        cache: &mut Cache,
-        id: LazyStateID,
-        unit: Option<u8>,
-        quit_at: usize,
-        at: usize,
-    ) -> Result<LazyStateID, SearchError>
-        requires of { IsCacheOf cache.old self.now }
-        requires valid { IsRowId cache.old.store.table id }
-        ensures of { IsCacheOf cache.new self.now }
-        ensures answer { IfOk result (IsReadAnswer self.now id unit cache.old cache.new) }
-        ensures refusal { IfErr result (ReadFails self.now id unit quit_at at cache.old cache.new) }
-        ensures effect { IsReadEffect self.now id unit cache.old cache.old cache.new result }
-    {
-        self.see_machine();
-        cache.see_bounds();
-        match unit {
-            Some(byte) => {
-                let cell = self.next_state_known(cache, id, byte);
-                let next = self.step(cache, id, cell, byte, at)?;
-                cache.see_bounds();
-                if next.is_quit() {
-                    return Err(quit(byte, quit_at));
-                }
-                Ok(next)
-            }
-            None => self.read_end(cache, id, at),
-        }
-    }
-
-    /// The state after the haystack's end. An error is at this offset.
-    fn read_end(
-        &self,
-        cache: &mut Cache,
-        id: LazyStateID,
-        at: usize,
-    ) -> Result<LazyStateID, SearchError>
-        requires of { IsCacheOf cache.old self.now }
-        requires valid { IsRowId cache.old.store.table id }
-        ensures of { IsCacheOf cache.new self.now }
-        ensures answer { IfOk result (IsReadAnswer self.now id None cache.old cache.new) }
-        ensures refusal { IfErr result (ReadFails self.now id None at at cache.old cache.new) }
-        ensures effect { IsReadEffect self.now id None cache.old cache.old cache.new result }
-    {
-        self.see_machine();
-        cache.see_bounds();
-        match self.next_eoi_state(cache, id) {
-            Ok(next) => {
-                cache.see_bounds();
-                Ok(next)
-            }
-            Err(error) => Err(step_error(error, at)),
-        }
+        let cell = self.met_or_cell(cache, id, met, unit);
+        self.read_met(cache, id, cell, unit, quit_at, at)
     }
 
     /// The first pattern of a match state. An NFA of one pattern needs no look-up.

@@ -13,8 +13,8 @@ ghost use Rattle.automata_hybrid.specs.Searches.PassContracts.{IsTakenUp, half_f
 ghost use Rattle.automata_hybrid.specs.Searches.PassContracts.{IsUnderway, input_at};
 ghost use Rattle.automata_hybrid.specs.Searches.PassState.{IsAt, IsNextCell};
 ghost use Rattle.automata_hybrid.specs.Searches.PassContracts.{RunsTo};
-ghost use Rattle.automata_hybrid.specs.Searches.Units.{IsEndProgress, IsStillProgress};
-ghost use Rattle.automata_hybrid.specs.Searches.Progress.{EndsAtLast, IsPassRun, IsStoppedAt, KeepsNone};
+ghost use Rattle.automata_hybrid.specs.Searches.Units.{IsEndProgress};
+ghost use Rattle.automata_hybrid.specs.Searches.Progress.{EndsAtLast, IsPassRun, IsStoppedAt};
 ghost use Rattle.automata_hybrid.specs.Searches.Passes.{IsUnitError};
 ghost use Rattle.automata_hybrid.specs.Cache.Table.{Names};
 
@@ -22,8 +22,7 @@ use crate::dfa::DFA;
 use crate::dfa::cache::Cache;
 use crate::id::LazyStateID;
 use crate::search::direction::{
-    byte_at, byte_offset, bytes_read, end_before_last, keeps_none, last_place, place_offset,
-    span_offset, unit_at, unit_offset,
+    byte_at, byte_offset, bytes_read, last_place, place_offset, span_offset, unit_at, unit_offset,
 };
 use crate::search::follow::Stop;
 use automata_base::util::primitives::PatternID;
@@ -82,10 +81,13 @@ pub(super) fn input_of<'h>(
 
 /// The place up to which a run from a place follows cached transitions before it looks for leaps.
 #[inline(always)]
-fn near_end(cache: &Cache, at: usize, last: usize) -> usize
-    ensures { result ≤ last }
+fn near_end(cache: &Cache, input: &Input<'_>, way: Direction, at: usize) -> usize
+    requires open { input.now.start ≤ input.now.end }
+    requires within { at ≤ input.now.end - input.now.start }
+    ensures { result ≤ input.now.end - input.now.start }
 {
-    last.min(at.saturating_add(cache.bytes_before_leaps().max(NEAR)))
+    let due = cache.bytes_before_leaps(span_offset(input, way, at));
+    last_place(input).min(at.saturating_add(due.max(NEAR)))
 }
 
 impl DFA {
@@ -111,7 +113,7 @@ impl DFA {
     {
         cache.see_bounds();
         let start = self.known_start(cache, input, way);
-        if start.is_fixed() || keeps_none(input, way) {
+        if start.is_fixed() {
             return match self.begin_of(
                 cache,
                 input.haystack(),
@@ -198,12 +200,6 @@ impl DFA {
             Err(error) => return Err(error),
         };
         cache.see_bounds();
-        if keeps_none(input, way) {
-            if start.is_dead() {
-                return Ok(None);
-            }
-            return self.find_still(cache, input, way, start);
-        }
         let first = span_offset(input, way, 0);
         cache.search_start(first);
         if start.is_dead() {
@@ -349,11 +345,11 @@ impl DFA {
         cache.see_bounds();
         let last = last_place(input);
         let mut run = from;
-        let mut end = near_end(cache, run.at, last);
+        let mut end = near_end(cache, input, way, run.at);
         while run.at < last {
             let offset = byte_offset(input, way, run.at);
             let byte = byte_at(input, way, run.at);
-            let next = match self.read_met(cache, run.id, run.next, byte, offset, offset) {
+            let next = match self.read_met(cache, run.id, run.next, Some(byte), offset, offset) {
                 Ok(next) => next,
                 Err(error) => return Err(error),
             };
@@ -409,7 +405,7 @@ impl DFA {
             next: near.next,
         };
         let far = self.leap_on(cache, input, way, stop);
-        let due = near_end(cache, far.at, last);
+        let due = near_end(cache, input, way, far.at);
         let run = Place {
             at: far.at,
             id: far.id,
@@ -443,7 +439,6 @@ impl DFA {
         cache.see_bounds();
         let last = last_place(input);
         let at = span_offset(input, way, last);
-        end_before_last(cache, way, at);
         let unit = unit_at(input, way, last);
         let met = LazyStateID::UNKNOWN;
         let next = match self.read(cache, id, met, unit, unit_offset(input, way, last), at) {
@@ -452,28 +447,5 @@ impl DFA {
         };
         cache.end_search(at);
         Ok(self.found_at(cache, next, place_offset(input, way, last), found))
-    }
-
-    /// What a pass finds by its last step, over an empty span of which no progress is kept.
-    #[inline(always)]
-    fn find_still(
-        &self,
-        cache: &mut Cache,
-        input: &Input<'_>,
-        way: Direction,
-        id: LazyStateID,
-    ) -> Result<Option<HalfMatch>, SearchError>
-        requires of { IsCacheOf cache.old self.now }
-        requires none { KeepsNone way input.now }
-        requires at { IsUnderway way self.now cache.old.store.table input.now 0 id None }
-        ensures of { IsCacheOf cache.new self.now }
-        ensures answer { IfOk result (IsPassAnswer way self.now input.now) }
-        ensures refusal { IfErr result (IsUnitError way self.now cache.new.store input.now 0) }
-        ensures progress { IsStillProgress way self.now input.now cache.old cache.new result }
-    {
-        let at = span_offset(input, way, 0);
-        let unit = unit_at(input, way, 0);
-        let next = self.read_still(cache, id, unit, unit_offset(input, way, 0), at)?;
-        Ok(self.found_at(cache, next, place_offset(input, way, 0), None))
     }
 }

@@ -4,7 +4,7 @@ use Rattle.automata_base.specs.Powersets.Powerset.{dead}
 use Rattle.automata_base.specs.declared.util.search.Direction.{Direction}
 use Rattle.automata_config.specs.declared.error.SearchError.{SearchError}
 use Rattle.automata_hybrid.specs.declared.search.advance.Arrival.{Arrival}
-use Rattle.automata_hybrid.specs.Cache.Caches.{CacheView, IsCacheOf}
+use Rattle.automata_hybrid.specs.Cache.Caches.{CacheView}
 use Rattle.automata_hybrid.specs.Searches.PassState.{IsFollowed}
 use Rattle.automata_hybrid.specs.Walks.Parts.{IsAdvanceEffect}
 use Rattle.automata_hybrid.specs.Searches.Passes.{HasReadNoQuit, state_in, tape_in}
@@ -13,7 +13,7 @@ use Rattle.automata_hybrid.specs.Walks.Answers.{IsSilent, WalkReads}
 use Rattle.automata_hybrid.proofs.Searches.Runs.{followed_clean, followed_on, followed_silent, follows_none}
 use Rattle.automata_hybrid.proofs.Searches.Reads.{at_err}
 use Rattle.automata_hybrid.proofs.Walks.Progress.{arrived_read, call_stopped}
-use Rattle.automata_hybrid.proofs.Searches.UnitsRead.{AreReadTo, left_then, read_exactly, read_none, read_then}
+use Rattle.automata_hybrid.proofs.Searches.Goes.{GoesTo, goes_more, goes_none, goes_on}
 use Rattle.automata_hybrid.proofs.Searches.PassState.{false_true}
 use Rattle.automata_hybrid.proofs.Steps.Ids.{dead_tagged}
 use Rattle.automata_hybrid.proofs.Walks.Reports.{clean_more, finish_dead, finish_read, silent_same, silent_step}
@@ -31,7 +31,7 @@ loop-read-init c =
       named = c.requires.from.named;
       clean = c.requires.clean;
       silent = silent_same d c.args.self.now c.args.input.now c.args.units;
-      progress = read_none d c.args.self.now c.args.input.now c.args.units c.args.cache.now c.args.cache.now refl;
+      progress = goes_none d c.args.self.now c.args.input.now c.args.units c.args.cache.now;
       reads = λ less. absurd (omega (arith, less));
       upto = omega (arith, c.last_place-last.ensures.place);
     }
@@ -54,8 +54,11 @@ loop-read-preserved c =
       named = subst (λ n. Names c.read_unit.new.cache.store.table c.in_ok-next.next (state_in d c.args.self.now c.args.input.now n)) more named;
       clean = subst (HasReadNoQuit d c.args.self.now c.args.input.now) more clean;
       silent = subst (IsSilent d c.args.self.now c.args.input.now c.args.units) more silent;
-      progress = subst (λ n. AreReadTo d c.args.self.now c.args.input.now c.args.units n c.args.cache.now c.read_unit.new.cache) more
-          (read_then d c.args.self.now c.args.input.now c.args.units c.args.cache.now (is_store c.args.cache.now.store c.args.self.now c.requires.of c.see_bounds.ensures.bounds) c.loop-read.read k c.walk_far-stop.new.cache (subst (λ (v : CacheView). IsCacheOf v c.args.self.now) (sym c.walk_far-stop.ensures.same) c.loop-read.invariant.of) (read_exactly d c.args.self.now c.args.input.now c.args.units c.args.cache.now c.loop-read.read c.walk_far-stop.new.cache (subst (λ (v : CacheView). AreReadTo d c.args.self.now c.args.input.now c.args.units c.loop-read.read c.args.cache.now v) (sym c.walk_far-stop.ensures.same) c.loop-read.invariant.progress)) f.more (followed_clean f c.loop-read.invariant.clean) (λ j l h. (f.taken j l h).known) c.read_unit.new.cache c.in_ok-next.ensures.effect.read);
+      progress = subst (λ n. GoesTo d c.args.self.now c.args.input.now c.args.units n c.args.cache.now c.read_unit.new.cache) more
+          (goes_more d c.args.self.now c.args.input.now c.args.units c.args.cache.now k c.walk_far-stop.new.cache c.read_unit.new.cache
+          (goes_on d c.args.self.now c.args.input.now c.args.units c.args.cache.now (is_store c.args.cache.now.store c.args.self.now c.requires.of c.see_bounds.ensures.bounds) c.loop-read.read k c.walk_far-stop.new.cache
+          (subst (λ (v : CacheView). GoesTo d c.args.self.now c.args.input.now c.args.units c.loop-read.read c.args.cache.now v) (sym c.walk_far-stop.ensures.same) c.loop-read.invariant.progress)
+          f.more (followed_clean f c.loop-read.invariant.clean) (λ j l h. (f.taken j l h).known)) c.in_ok-next.ensures.effect.read);
       reads = λ less. (k, sym more, c.in_ok-next.ensures.reads);
       upto = c.walk_far-stop.ensures.upto;
     }
@@ -109,7 +112,10 @@ returns-in_err-next-clause-effect c =
       left =
           call_stopped d c.args.self.now c.args.input.now c.args.units k c.args.cache.now c.read_unit.new.cache c.in_err-next.field-0.0 c.in_err-next.ensures.reads
           (followed_clean f c.loop-read.invariant.clean) (followed_silent f c.loop-read.invariant.silent) c.in_err-next.ensures.refusal
-          (left_then d c.args.self.now c.args.input.now c.args.units c.args.cache.now (is_store c.args.cache.now.store c.args.self.now c.requires.of c.see_bounds.ensures.bounds) c.loop-read.read k c.walk_far-stop.new.cache (subst (λ (v : CacheView). IsCacheOf v c.args.self.now) (sym c.walk_far-stop.ensures.same) c.loop-read.invariant.of) (read_exactly d c.args.self.now c.args.input.now c.args.units c.args.cache.now c.loop-read.read c.walk_far-stop.new.cache (subst (λ (v : CacheView). AreReadTo d c.args.self.now c.args.input.now c.args.units c.loop-read.read c.args.cache.now v) (sym c.walk_far-stop.ensures.same) c.loop-read.invariant.progress)) f.more (followed_clean f c.loop-read.invariant.clean) (λ j l h. (f.taken j l h).known) c.read_unit.new.cache c.in_err-next.ensures.effect.left);
+          c.walk_far-stop.new.cache
+          (goes_on d c.args.self.now c.args.input.now c.args.units c.args.cache.now (is_store c.args.cache.now.store c.args.self.now c.requires.of c.see_bounds.ensures.bounds) c.loop-read.read k c.walk_far-stop.new.cache
+          (subst (λ (v : CacheView). GoesTo d c.args.self.now c.args.input.now c.args.units c.loop-read.read c.args.cache.now v) (sym c.walk_far-stop.ensures.same) c.loop-read.invariant.progress)
+          f.more (followed_clean f c.loop-read.invariant.clean) (λ j l h. (f.taken j l h).known)) c.in_err-next.ensures.effect.left;
     })
 
 pub returns-then-is_dead-clause-effect : goal.returns-then-is_dead-clause-effect
@@ -120,7 +126,10 @@ returns-then-is_dead-clause-effect c =
     record {
       read =
           arrived_read d c.args.self.now c.args.input.now c.args.units k (k + 1) c.args.cache.now c.read_unit.new.cache (omega (arith, c.loop-read.invariant.from, f.more)) (omega arith) c.in_ok-next.ensures.reads
-          (read_then d c.args.self.now c.args.input.now c.args.units c.args.cache.now (is_store c.args.cache.now.store c.args.self.now c.requires.of c.see_bounds.ensures.bounds) c.loop-read.read k c.walk_far-stop.new.cache (subst (λ (v : CacheView). IsCacheOf v c.args.self.now) (sym c.walk_far-stop.ensures.same) c.loop-read.invariant.of) (read_exactly d c.args.self.now c.args.input.now c.args.units c.args.cache.now c.loop-read.read c.walk_far-stop.new.cache (subst (λ (v : CacheView). AreReadTo d c.args.self.now c.args.input.now c.args.units c.loop-read.read c.args.cache.now v) (sym c.walk_far-stop.ensures.same) c.loop-read.invariant.progress)) f.more (followed_clean f c.loop-read.invariant.clean) (λ j l h. (f.taken j l h).known) c.read_unit.new.cache c.in_ok-next.ensures.effect.read);
+          (goes_more d c.args.self.now c.args.input.now c.args.units c.args.cache.now k c.walk_far-stop.new.cache c.read_unit.new.cache
+          (goes_on d c.args.self.now c.args.input.now c.args.units c.args.cache.now (is_store c.args.cache.now.store c.args.self.now c.requires.of c.see_bounds.ensures.bounds) c.loop-read.read k c.walk_far-stop.new.cache
+          (subst (λ (v : CacheView). GoesTo d c.args.self.now c.args.input.now c.args.units c.loop-read.read c.args.cache.now v) (sym c.walk_far-stop.ensures.same) c.loop-read.invariant.progress)
+          f.more (followed_clean f c.loop-read.invariant.clean) (λ j l h. (f.taken j l h).known)) c.in_ok-next.ensures.effect.read);
       left = tt;
     }
 
@@ -132,7 +141,10 @@ returns-then-reports-clause-effect c =
     record {
       read =
           arrived_read d c.args.self.now c.args.input.now c.args.units k (k + 1) c.args.cache.now c.read_unit.new.cache (omega (arith, c.loop-read.invariant.from, f.more)) (omega arith) c.in_ok-next.ensures.reads
-          (read_then d c.args.self.now c.args.input.now c.args.units c.args.cache.now (is_store c.args.cache.now.store c.args.self.now c.requires.of c.see_bounds.ensures.bounds) c.loop-read.read k c.walk_far-stop.new.cache (subst (λ (v : CacheView). IsCacheOf v c.args.self.now) (sym c.walk_far-stop.ensures.same) c.loop-read.invariant.of) (read_exactly d c.args.self.now c.args.input.now c.args.units c.args.cache.now c.loop-read.read c.walk_far-stop.new.cache (subst (λ (v : CacheView). AreReadTo d c.args.self.now c.args.input.now c.args.units c.loop-read.read c.args.cache.now v) (sym c.walk_far-stop.ensures.same) c.loop-read.invariant.progress)) f.more (followed_clean f c.loop-read.invariant.clean) (λ j l h. (f.taken j l h).known) c.read_unit.new.cache c.in_ok-next.ensures.effect.read);
+          (goes_more d c.args.self.now c.args.input.now c.args.units c.args.cache.now k c.walk_far-stop.new.cache c.read_unit.new.cache
+          (goes_on d c.args.self.now c.args.input.now c.args.units c.args.cache.now (is_store c.args.cache.now.store c.args.self.now c.requires.of c.see_bounds.ensures.bounds) c.loop-read.read k c.walk_far-stop.new.cache
+          (subst (λ (v : CacheView). GoesTo d c.args.self.now c.args.input.now c.args.units c.loop-read.read c.args.cache.now v) (sym c.walk_far-stop.ensures.same) c.loop-read.invariant.progress)
+          f.more (followed_clean f c.loop-read.invariant.clean) (λ j l h. (f.taken j l h).known)) c.in_ok-next.ensures.effect.read);
       left = tt;
     }
 
@@ -144,7 +156,7 @@ returns-clause-effect c =
     record {
       read =
           arrived_read d c.args.self.now c.args.input.now c.args.units last.0 c.loop-read.read c.args.cache.now c.loop-read.cache (omega (arith, less, last.1)) (sym last.1) last.2
-          (subst (λ n. AreReadTo d c.args.self.now c.args.input.now c.args.units n c.args.cache.now c.loop-read.cache) last.1 c.loop-read.invariant.progress);
+          (subst (λ n. GoesTo d c.args.self.now c.args.input.now c.args.units n c.args.cache.now c.loop-read.cache) last.1 c.loop-read.invariant.progress);
       left = tt;
     }
 

@@ -3,7 +3,7 @@ use Rattle.automata_hybrid.specs.Cache.Caches.{IsCacheOf}
 use Rattle.automata_hybrid.specs.Searches.Passes.{HasReadNoQuit, state_in}
 use Rattle.automata_hybrid.specs.Cache.Table.{Names}
 use Rattle.automata_hybrid.specs.Walks.Answers.{IsSilent, WalkReads}
-use Rattle.automata_hybrid.proofs.Searches.UnitsRead.{AreReadTo}
+use Rattle.automata_hybrid.proofs.Searches.Goes.{GoesTo}
 use Rattle.automata_hybrid.proofs.dfa.DFA.advance.Given as goal
 
 abbrev pub invariant-loop-read : goal.invariant-loop-read
@@ -15,7 +15,7 @@ invariant-loop-read l = record {
   named : Names l.cache.store.table l.id (state_in l.way l.self l.input l.read);
   clean : HasReadNoQuit l.way l.self l.input l.read;
   silent : IsSilent l.way l.self l.input l.units l.read;
-  progress : AreReadTo l.way l.self l.input l.units l.read l.fn.cache l.cache;
+  progress : GoesTo l.way l.self l.input l.units l.read l.fn.cache l.cache;
   reads : l.units < l.read → (k : ℕ) × (l.read ≡ suc k) × WalkReads l.way l.self l.input k;
 }
 

@@ -1,25 +1,21 @@
 use Rattle.std.proofs.Common.{◌≡◌, ◌∙◌, ap, None, refl, sym, subst, inl, inr, arith}
 use Rattle.std.specs.Result.{result_err}
 use Rattle.automata_base.specs.Haystacks.Input.{Allows, Input}
-use Rattle.std.proofs.lemmas.Result.{IfOk-weaker}
 use Rattle.automata_base.specs.Powersets.Powerset.{dead}
 use Rattle.automata_base.specs.declared.util.search.Direction.{Direction}
 use Rattle.automata_hybrid.specs.Cache.Caches.{CacheView}
 use Rattle.automata_hybrid.specs.Searches.PassContracts.{IsKnownUpto}
-use Rattle.automata_hybrid.specs.Calls.Events.{Begin, with_progress}
+use Rattle.automata_hybrid.specs.Calls.Events.{begun}
 use Rattle.automata_hybrid.specs.Searches.Progress.{EndsAtLast, IsPassRun, IsStoppedAt, with_search_begun, with_search_ended}
-use Rattle.automata_hybrid.specs.Searches.Passes.{Reads, behind_offset, given_up_offset, state_in, tape_in}
+use Rattle.automata_hybrid.specs.Searches.Passes.{behind_offset, state_in, tape_in}
 use Rattle.automata_hybrid.specs.Cache.Table.{Rows, Names}
 use Rattle.automata_hybrid.proofs.Searches.Directions.{begins_alive, begins_dead}
 use Rattle.automata_hybrid.proofs.Searches.PassContracts.{same_input}
-use Rattle.automata_hybrid.proofs.Searches.Contracts.{is_store}
-use Rattle.automata_hybrid.proofs.Calls.Laws.{moved_sound}
 use Rattle.automata_hybrid.proofs.Steps.Starts.{refusal_at}
 use Rattle.automata_base.specs.Answers.Answers.{offset_in}
 use Rattle.automata_hybrid.proofs.Searches.Reads.{at_err}
-use Rattle.automata_hybrid.proofs.Searches.SpanRuns.{result_run}
-use Rattle.automata_hybrid.proofs.Searches.UnitsRead.{ended_here, pass_dies, unstarted}
-use Rattle.automata_hybrid.proofs.Searches.PassState.{at_reads, clean_start, false_true, if_both, starts_at}
+use Rattle.automata_hybrid.proofs.Searches.Goes.{ended_here, pass_dies, unstarted}
+use Rattle.automata_hybrid.proofs.Searches.PassState.{clean_start, false_true, starts_at}
 use Rattle.automata_hybrid.proofs.Searches.PassState.{starts_dead, stops_start}
 use Rattle.automata_hybrid.proofs.dfa.DFA.begin.Goals as goal
 
@@ -27,12 +23,6 @@ pub returns-then-is_dead-clause-answer : goal.returns-then-is_dead-clause-answer
 returns-then-is_dead-clause-answer c =
     let d : Direction = c.args.way in
     let dies : state_in d c.args.self.now c.args.input.now 0 ≡ dead = begins_dead d c.args.self.now c.walk_start.new.cache.store.table c.args.input.now c.in-Ok.start c.in-Ok.ensures.answer.named (c.see_bounds-2.ensures.sound.low c.in-Ok.start) c.see_bounds-2.ensures.sound.small (c.if-is_dead.ensures.0 refl) in
-    record { found = starts_dead d c.args.self.now c.args.input.now dies; clean = clean_start d c.args.self.now c.args.input.now dies c.in-Ok.ensures.answer.may.0; supported = c.in-Ok.ensures.answer.may.1 }
-
-pub returns-then-is_dead-2-clause-answer : goal.returns-then-is_dead-2-clause-answer
-returns-then-is_dead-2-clause-answer c =
-    let d : Direction = c.args.way in
-    let dies : state_in d c.args.self.now c.args.input.now 0 ≡ dead = begins_dead d c.args.self.now c.walk_start.new.cache.store.table c.args.input.now c.in-Ok.start c.in-Ok.ensures.answer.named (c.see_bounds-2.ensures.sound.low c.in-Ok.start) c.see_bounds-2.ensures.sound.small (c.if-is_dead-2.ensures.0 refl) in
     record { found = starts_dead d c.args.self.now c.args.input.now dies; clean = clean_start d c.args.self.now c.args.input.now dies c.in-Ok.ensures.answer.may.0; supported = c.in-Ok.ensures.answer.may.1 }
 
 pub rest-requires-clause-at : goal.rest-requires-clause-at
@@ -46,22 +36,12 @@ rest-requires-clause-at c =
         may = c.in-Ok.ensures.answer.may;
         at = starts_at d c.args.self.now c.search_start.new.self.store.table c.args.input.now c.in-Ok.start
             (subst (λ (t : Rows). Names t c.in-Ok.start (state_in d c.args.self.now c.args.input.now 0)) (sym c.search_start.ensures.table)
-            (begins_alive d c.args.self.now c.walk_start.new.cache.store.table c.args.input.now c.in-Ok.start c.in-Ok.ensures.answer.named (c.see_bounds-2.ensures.sound.low c.in-Ok.start) c.see_bounds-2.ensures.sound.small (λ b. false_true (c.if-is_dead-2.ensures.1 b))));
+            (begins_alive d c.args.self.now c.walk_start.new.cache.store.table c.args.input.now c.in-Ok.start c.in-Ok.ensures.answer.named (c.see_bounds-2.ensures.sound.low c.in-Ok.start) c.see_bounds-2.ensures.sound.small (λ b. false_true (c.if-is_dead.ensures.1 b))));
       };
     } in record {
       allowed = subst (λ (i : Input). Allows i.haystack i.start i.end) (sym (same_input c.args.input.now c.haystack.result.now c.get_span.result c.get_anchored.result c.get_earliest.result c.haystack.ensures.same c.get_span.ensures.start c.get_span.ensures.end c.get_anchored.ensures c.get_earliest.ensures)) c.get_span.ensures.within;
       upto = subst (λ (i : Input). IsKnownUpto d c.args.self.now c.search_start.new.self.store i 0 c.in-Ok.start None)
           (sym (same_input c.args.input.now c.haystack.result.now c.get_span.result c.get_anchored.result c.get_earliest.result c.haystack.ensures.same c.get_span.ensures.start c.get_span.ensures.end c.get_anchored.ensures c.get_earliest.ensures)) at;
-    }
-
-pub find_still-requires-clause-at : goal.find_still-requires-clause-at
-find_still-requires-clause-at c =
-    let d : Direction = c.args.way in
-    record {
-      undone = c.requires.«open»;
-      may = c.in-Ok.ensures.answer.may;
-      at = starts_at d c.args.self.now c.walk_start.new.cache.store.table c.args.input.now c.in-Ok.start
-          (begins_alive d c.args.self.now c.walk_start.new.cache.store.table c.args.input.now c.in-Ok.start c.in-Ok.ensures.answer.named (c.see_bounds-2.ensures.sound.low c.in-Ok.start) c.see_bounds-2.ensures.sound.small (λ b. false_true (c.if-is_dead.ensures.1 b)));
     }
 
 pub returns-in-Err-clause-effect : goal.returns-in-Err-clause-effect
@@ -75,80 +55,37 @@ returns-in-Err-clause-effect c =
 pub returns-then-is_dead-clause-effect : goal.returns-then-is_dead-clause-effect
 returns-then-is_dead-clause-effect c =
     let d : Direction = c.args.way in
+    let begins : c.search_start.new.self ≡ with_search_begun d c.args.input.now 0 c.walk_start.new.cache =
+    subst (λ at. c.search_start.new.self ≡ begun at c.walk_start.new.cache) c.span_offset-first.ensures.value c.search_start.ensures.value in
     let dies : state_in d c.args.self.now c.args.input.now 0 ≡ dead = begins_dead d c.args.self.now c.walk_start.new.cache.store.table c.args.input.now c.in-Ok.start c.in-Ok.ensures.answer.named (c.see_bounds-2.ensures.sound.low c.in-Ok.start) c.see_bounds-2.ensures.sound.small (c.if-is_dead.ensures.0 refl) in (
       c.walk_start.new.cache,
       c.in-Ok.ensures.run,
-      inl (c.if-keeps_none.ensures.yes refl, inr (stops_start d c.args.self.now c.args.input.now dies 0 (omega arith), refl)),
+      pass_dies d c.args.self.now c.args.input.now (with_search_begun d c.args.input.now 0 c.walk_start.new.cache) c.end_search.new.self
+          (stops_start d c.args.self.now c.args.input.now dies 0 (omega arith))
+          (ended_here d c.args.input.now 0 c.span_offset-first.result c.search_start.new.self c.end_search.new.self (sym c.span_offset-first.ensures.value) c.end_search.ensures.value
+          ∙ ap (λ (v : CacheView). with_search_ended d c.args.input.now 0 v) begins),
     )
-
-pub returns-then-is_dead-2-clause-effect : goal.returns-then-is_dead-2-clause-effect
-returns-then-is_dead-2-clause-effect c =
-    let d : Direction = c.args.way in
-    let begins : c.search_start.new.self ≡ with_search_begun d c.args.input.now 0 c.walk_start.new.cache =
-    subst (λ at. c.search_start.new.self ≡ with_progress (Begin at) c.walk_start.new.cache) c.span_offset-first.ensures.value c.search_start.ensures.value in
-    let dies : state_in d c.args.self.now c.args.input.now 0 ≡ dead = begins_dead d c.args.self.now c.walk_start.new.cache.store.table c.args.input.now c.in-Ok.start c.in-Ok.ensures.answer.named (c.see_bounds-2.ensures.sound.low c.in-Ok.start) c.see_bounds-2.ensures.sound.small (c.if-is_dead-2.ensures.0 refl) in (
-      c.walk_start.new.cache,
-      c.in-Ok.ensures.run,
-      inr (
-        c.if-keeps_none.ensures.no refl,
-        pass_dies d c.args.self.now c.args.input.now (with_search_begun d c.args.input.now 0 c.walk_start.new.cache) c.end_search.new.self
-            (moved_sound c.args.self.now (Begin (given_up_offset d c.args.input.now 0)) c.walk_start.new.cache (is_store c.walk_start.new.cache.store c.args.self.now c.in-Ok.ensures.of c.see_bounds-2.ensures.bounds))
-            (stops_start d c.args.self.now c.args.input.now dies)
-            (ended_here d c.args.input.now 0 c.span_offset-first.result c.search_start.new.self c.end_search.new.self (sym c.span_offset-first.ensures.value) c.end_search.ensures.value
-            ∙ ap (λ (v : CacheView). with_search_ended d c.args.input.now 0 v) begins),
-      ),
-    )
-
-pub returns-then-keeps_none-clause-effect : goal.returns-then-keeps_none-clause-effect
-returns-then-keeps_none-clause-effect c =
-    let d : Direction = c.args.way in
-    let reads : Reads d c.args.self.now c.args.input.now 0 =
-    at_reads d c.args.self.now c.walk_start.new.cache.store.table c.args.input.now 0 c.in-Ok.start None
-    (starts_at d c.args.self.now c.walk_start.new.cache.store.table c.args.input.now c.in-Ok.start
-    (begins_alive d c.args.self.now c.walk_start.new.cache.store.table c.args.input.now c.in-Ok.start c.in-Ok.ensures.answer.named (c.see_bounds-2.ensures.sound.low c.in-Ok.start) c.see_bounds-2.ensures.sound.small (λ b. false_true (c.if-is_dead.ensures.1 b))))
-    (omega arith) (c.see_bounds-2.ensures.sound.alive c.in-Ok.start) in
-    result_run d c.args.self.now c.args.input.now c.args.cache.now c.find_still.new.cache c.find_still.result
-    (IfOk-weaker c.find_still.result _ _
-    (λ _ read. (
-      c.walk_start.new.cache,
-      c.in-Ok.ensures.run,
-      inl (c.if-keeps_none.ensures.yes refl, inl (reads, read)),
-    ))
-    c.find_still.ensures.progress.read)
-    (if_both c.find_still.result _ _ _
-    (λ error refused left. inr (
-      c.walk_start.new.cache,
-      c.in-Ok.ensures.run,
-      inl (c.if-keeps_none.ensures.yes refl, reads, refused, left),
-    ))
-    c.find_still.ensures.refusal c.find_still.ensures.progress.left)
 
 pub returns-clause-effect : goal.returns-clause-effect
 returns-clause-effect c =
     let d : Direction = c.args.way in
     let begins : c.search_start.new.self ≡ with_search_begun d c.args.input.now 0 c.walk_start.new.cache =
-    subst (λ at. c.search_start.new.self ≡ with_progress (Begin at) c.walk_start.new.cache) c.span_offset-first.ensures.value c.search_start.ensures.value in (
+    subst (λ at. c.search_start.new.self ≡ begun at c.walk_start.new.cache) c.span_offset-first.ensures.value c.search_start.ensures.value in (
       c.walk_start.new.cache,
       c.in-Ok.ensures.run,
-      inr (
-        c.if-keeps_none.ensures.no refl,
-        subst (λ (v : CacheView). EndsAtLast d c.args.self.now c.args.input.now v c.rest.new.cache) begins
-            (subst (λ (i : Input). EndsAtLast d c.args.self.now i c.search_start.new.self c.rest.new.cache) (same_input c.args.input.now c.haystack.result.now c.get_span.result c.get_anchored.result c.get_earliest.result c.haystack.ensures.same c.get_span.ensures.start c.get_span.ensures.end c.get_anchored.ensures c.get_earliest.ensures) c.in_ok-found.ensures.ended),
-      ),
+      subst (λ (v : CacheView). EndsAtLast d c.args.self.now c.args.input.now v c.rest.new.cache) begins
+          (subst (λ (i : Input). EndsAtLast d c.args.self.now i c.search_start.new.self c.rest.new.cache) (same_input c.args.input.now c.haystack.result.now c.get_span.result c.get_anchored.result c.get_earliest.result c.haystack.ensures.same c.get_span.ensures.start c.get_span.ensures.end c.get_anchored.ensures c.get_earliest.ensures) c.in_ok-found.ensures.ended),
     )
 
 pub returns-in_err-found-clause-effect : goal.returns-in_err-found-clause-effect
 returns-in_err-found-clause-effect c =
     let d : Direction = c.args.way in
     let begins : c.search_start.new.self ≡ with_search_begun d c.args.input.now 0 c.walk_start.new.cache =
-    subst (λ at. c.search_start.new.self ≡ with_progress (Begin at) c.walk_start.new.cache) c.span_offset-first.ensures.value c.search_start.ensures.value in
+    subst (λ at. c.search_start.new.self ≡ begun at c.walk_start.new.cache) c.span_offset-first.ensures.value c.search_start.ensures.value in
     at_err c.from_residual.result _ (λ r. IsPassRun d c.args.self.now c.args.input.now c.args.cache.now c.rest.new.cache (result_err r)) c.from_residual.ensures.1
     (inr (
       c.walk_start.new.cache,
       c.in-Ok.ensures.run,
-      inr (
-        c.if-keeps_none.ensures.no refl,
-        subst (λ (v : CacheView). IsStoppedAt d c.args.self.now c.args.input.now v c.rest.new.cache c.in_err-found.field-0.0) begins
-            (subst (λ (i : Input). IsStoppedAt d c.args.self.now i c.search_start.new.self c.rest.new.cache c.in_err-found.field-0.0) (same_input c.args.input.now c.haystack.result.now c.get_span.result c.get_anchored.result c.get_earliest.result c.haystack.ensures.same c.get_span.ensures.start c.get_span.ensures.end c.get_anchored.ensures c.get_earliest.ensures) c.in_err-found.ensures.left),
-      ),
+      subst (λ (v : CacheView). IsStoppedAt d c.args.self.now c.args.input.now v c.rest.new.cache c.in_err-found.field-0.0) begins
+          (subst (λ (i : Input). IsStoppedAt d c.args.self.now i c.search_start.new.self c.rest.new.cache c.in_err-found.field-0.0) (same_input c.args.input.now c.haystack.result.now c.get_span.result c.get_anchored.result c.get_earliest.result c.haystack.ensures.same c.get_span.ensures.start c.get_span.ensures.end c.get_anchored.ensures c.get_earliest.ensures) c.in_err-found.ensures.left),
     ))

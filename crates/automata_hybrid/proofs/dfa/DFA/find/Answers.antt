@@ -1,20 +1,20 @@
 use Rattle.automata_hybrid.proofs.Searches.Contracts.{is_store}
-use Rattle.std.proofs.Common.{ℕ, Option, suc, ◌≡◌, ◌∙◌, ◌+◌, ◌-◌, ◌<◌, ◌≤◌, true, length, Some, None, inr, refl, sym, subst}
+use Rattle.std.proofs.Common.{ℕ, Option, suc, ◌≡◌, ◌∙◌, ◌+◌, ◌-◌, ◌<◌, ◌≤◌, true, length, Some, None, refl, sym, subst}
 use Rattle.std.proofs.Common.{arith}
 use Rattle.automata_base.specs.Paths.Paths.{next}
 use Rattle.automata_base.specs.declared.util.search.Direction.{Direction}
 use Rattle.automata_hybrid.specs.Searches.PassState.{IsAt}
-use Rattle.automata_hybrid.specs.Cache.Caches.{CacheView, IsCacheOf}
+use Rattle.automata_hybrid.specs.Cache.Caches.{CacheView, IsCacheOf, IsStoreOf}
 use Rattle.automata_hybrid.specs.Steps.Steps.{IsCellRead}
 use Rattle.automata_hybrid.specs.Searches.Passes.{Reads, given_up_offset, tape_in}
 use Rattle.std.proofs.lemmas.Result.{IfOk-weaker}
 use Rattle.automata_hybrid.proofs.Searches.PassContracts.{dead_answer, first_answer}
-use Rattle.automata_hybrid.proofs.Searches.UnitsRead.{AreReadBehind, AreReadTo, ended_here, pass_last, pass_left_then, pass_stopped, read_exactly}
-use Rattle.automata_hybrid.proofs.Searches.UnitsRead.{read_known, read_none, read_then, refused_here, taken_here}
+use Rattle.automata_hybrid.proofs.Searches.Goes.{GoesTo, ended_here, goes_known, goes_more, goes_none, left_here, pass_last}
+use Rattle.automata_hybrid.proofs.Searches.Goes.{pass_stopped, taken_here}
 use Rattle.automata_hybrid.proofs.Searches.PassState.{at_reads, stops_dead, stops_ends, stops_last, more_leads, more_at}
 use Rattle.automata_hybrid.proofs.Searches.PassState.{unit_refuses, if_both, false_true}
-use Rattle.automata_hybrid.proofs.Searches.PassState.{some_is, none_is}
-use Rattle.automata_hybrid.proofs.Searches.Directions.{not_behind, quit_free, span_unit, units_in}
+use Rattle.automata_hybrid.proofs.Searches.PassState.{none_is, some_is}
+use Rattle.automata_hybrid.proofs.Searches.Directions.{quit_free, span_unit, units_in}
 use Rattle.automata_hybrid.proofs.Steps.Ids.{dead_tagged}
 use Rattle.automata_hybrid.proofs.dfa.DFA.find.Goals as goal
 use Rattle.automata_hybrid.proofs.dfa.DFA.find.Goals.{else-get_earliest-via-then-get_earliest+else-is_some}
@@ -30,9 +30,9 @@ loop-run-init c =
       at = c.requires.at.at.at;
       read = c.requires.next;
       progress =
-          read_known d c.args.self.now c.args.input.now 0 c.args.cache.now (is_store c.args.cache.now.store c.args.self.now c.requires.of c.see_bounds.ensures.bounds) 0 c.args.from.at c.args.cache.now c.requires.of
-          (read_exactly d c.args.self.now c.args.input.now 0 c.args.cache.now 0 c.args.cache.now
-          (read_none d c.args.self.now c.args.input.now 0 c.args.cache.now c.args.cache.now refl))
+          goes_known d c.args.self.now c.args.input.now 0 c.args.cache.now 0 c.args.from.at c.args.cache.now
+          (is_store c.args.cache.now.store c.args.self.now c.requires.of c.see_bounds.ensures.bounds)
+          (goes_none d c.args.self.now c.args.input.now 0 c.args.cache.now)
           (omega arith) c.requires.at.at.at.clean (λ j from below. c.requires.at.known j below);
     }
 
@@ -59,7 +59,7 @@ returns-then-is_dead-clause-answer c =
     let at : IsAt d c.args.self.now c.loop-run.cache.store.table c.args.input.now k c.loop-run.run.id c.loop-run.run.found = c.loop-run.invariant.at in
     let read : next (tape_in d c.args.input.now) k ≡ Some c.byte_at-byte.result = c.byte_at-byte.ensures in
     let few : k ≤ length (tape_in d c.args.input.now).bytes = (let u = units_in d c.args.input.now c.requires.at.at.undone c.last_place-last.ensures.inside in omega (arith, u, inside)) in
-    dead_answer d c.args.self.now c.args.input.now k c.loop-run.run.id _ c.loop-run.run.found c.loop-run.cache c.loop-run.cache c.read_met.new.cache {s = c.loop-run.cache.store.searched} refl (record { undone = c.requires.at.at.undone; may = c.requires.at.at.may; at = at }) read c.in-Ok.next None c.in-Ok.ensures.answer (λ l. (dead_tagged c.read_met.new.cache.store.table c.in-Ok.next (c.see_bounds-in-loop-run.ensures.sound.low c.in-Ok.next) c.see_bounds-in-loop-run.ensures.sound.small _ l).0 (c.if-is_dead.ensures.0 refl)) few
+    dead_answer d c.args.self.now c.args.input.now k c.loop-run.run.id _ c.loop-run.run.found c.loop-run.cache c.read_met.new.cache (record { undone = c.requires.at.at.undone; may = c.requires.at.at.may; at = at }) read c.in-Ok.next None c.in-Ok.ensures.answer (λ l. (dead_tagged c.read_met.new.cache.store.table c.in-Ok.next (c.see_bounds-in-loop-run.ensures.sound.low c.in-Ok.next) c.see_bounds-in-loop-run.ensures.sound.small _ l).0 (c.if-is_dead.ensures.0 refl)) few
 
 pub found_at-found-requires-clause-leads : goal.found_at-found-requires-clause-leads
 found_at-found-requires-clause-leads c =
@@ -79,7 +79,7 @@ returns-then-is_some-clause-answer c =
     let at : IsAt d c.args.self.now c.loop-run.cache.store.table c.args.input.now k c.loop-run.run.id c.loop-run.run.found = c.loop-run.invariant.at in
     let read : next (tape_in d c.args.input.now) k ≡ Some c.byte_at-byte.result = c.byte_at-byte.ensures in
     let few : k ≤ length (tape_in d c.args.input.now).bytes = (let u = units_in d c.args.input.now c.requires.at.at.undone c.last_place-last.ensures.inside in omega (arith, u, inside)) in
-    first_answer d c.args.self.now c.args.input.now k c.loop-run.run.id _ c.loop-run.run.found c.loop-run.cache c.loop-run.cache c.read_met.new.cache {s = c.loop-run.cache.store.searched} refl (record { undone = c.requires.at.at.undone; may = c.requires.at.at.may; at = at }) read c.in-Ok.next c.found_at-found.result c.in-Ok.ensures.answer c.place_offset.result c.place_offset.ensures.value c.found_at-found.ensures (sym c.get_earliest.ensures ∙ c.if-get_earliest.true) (some_is c.found_at-found.result c.if-is_some.ensures) few
+    first_answer d c.args.self.now c.args.input.now k c.loop-run.run.id _ c.loop-run.run.found c.loop-run.cache c.read_met.new.cache (record { undone = c.requires.at.at.undone; may = c.requires.at.at.may; at = at }) read c.in-Ok.next c.found_at-found.result c.in-Ok.ensures.answer c.place_offset.result c.place_offset.ensures.value c.found_at-found.ensures (sym c.get_earliest.ensures ∙ c.if-get_earliest.true) (some_is c.found_at-found.result c.if-is_some.ensures) few
 
 pub run-near-requires-clause-at : goal.run-near-requires-clause-at
 run-near-requires-clause-at c =
@@ -111,12 +111,10 @@ loop-run-preserved c =
     let given : given_up_offset d c.args.input.now k ≡ c.byte_offset-offset.result = span_unit d c.args.input.now k inside ∙ sym c.byte_offset-offset.ensures.unit in
     let read : next (tape_in d c.args.input.now) k ≡ Some c.byte_at-byte.result = c.byte_at-byte.ensures in
     let more : suc k ≡ c.loop-run.run.at + 1 = omega arith in
-    let sound = is_store c.args.cache.now.store c.args.self.now c.requires.of c.see_bounds.ensures.bounds in
-    let behind : AreReadBehind d c.args.self.now c.args.input.now 0 (c.loop-run.run.at + 1) c.args.cache.now c.read_met.new.cache =
-    read_exactly d c.args.self.now c.args.input.now 0 c.args.cache.now (c.loop-run.run.at + 1) c.read_met.new.cache
-    (subst (λ n. AreReadTo d c.args.self.now c.args.input.now 0 n c.args.cache.now c.read_met.new.cache) more
-    (read_then d c.args.self.now c.args.input.now 0 c.args.cache.now sound k k c.loop-run.cache c.loop-run.invariant.of c.loop-run.invariant.progress (omega arith) at.clean (λ j from below. absurd (omega (arith, from, below))) c.read_met.new.cache
-    (taken_here d c.args.self.now c.args.input.now k c.loop-run.run.id (Some _) read c.byte_offset-offset.result c.loop-run.cache at.named given c.read_met.new.cache c.in-Ok.ensures.effect.taken))) in
+    let sound = is_store c.read_met.new.cache.store c.args.self.now c.in-Ok.ensures.of c.see_bounds-in-loop-run.ensures.bounds in
+    let behind : GoesTo d c.args.self.now c.args.input.now 0 (c.loop-run.run.at + 1) c.args.cache.now c.read_met.new.cache =
+    subst (λ n. GoesTo d c.args.self.now c.args.input.now 0 n c.args.cache.now c.read_met.new.cache) more (goes_more d c.args.self.now c.args.input.now 0 c.args.cache.now k c.loop-run.cache c.read_met.new.cache c.loop-run.invariant.progress
+    (taken_here d c.args.self.now c.args.input.now k c.loop-run.run.id c.byte_offset-offset.result (Some _) c.loop-run.cache c.read_met.new.cache read given at.named c.in-Ok.ensures.effect.taken)) in
     let far = c.go_far-far.ensures.runs (c.loop-run.run.at + 1) c.run-near.ensures.runs in
     let of : IsCacheOf c.go_far-far.new.cache c.args.self.now = subst (λ (v : CacheView). IsCacheOf v c.args.self.now) (sym c.go_far-far.ensures.same) c.in-Ok.ensures.of in
     record {
@@ -126,8 +124,9 @@ loop-run-preserved c =
       at = far.at;
       read = c.go_far-far.ensures.read;
       progress =
-          read_known d c.args.self.now c.args.input.now 0 c.args.cache.now sound (c.loop-run.run.at + 1) c.go_far-far.result.0.at c.go_far-far.new.cache of
-          (subst (λ (v : CacheView). AreReadBehind d c.args.self.now c.args.input.now 0 (c.loop-run.run.at + 1) c.args.cache.now v) (sym c.go_far-far.ensures.same) behind)
+          goes_known d c.args.self.now c.args.input.now 0 c.args.cache.now (c.loop-run.run.at + 1) c.go_far-far.result.0.at c.go_far-far.new.cache
+          (subst (λ (v : CacheView). IsStoreOf v.store c.args.self.now) (sym c.go_far-far.ensures.same) sound)
+          (subst (λ (v : CacheView). GoesTo d c.args.self.now c.args.input.now 0 (c.loop-run.run.at + 1) c.args.cache.now v) (sym c.go_far-far.ensures.same) behind)
           far.run.more far.at.clean far.run.known;
     }
 
@@ -146,15 +145,12 @@ returns-in-Err-clause-left c =
     let given : given_up_offset d c.args.input.now k ≡ c.byte_offset-offset.result = span_unit d c.args.input.now k inside ∙ sym c.byte_offset-offset.ensures.unit in
     let read : next (tape_in d c.args.input.now) k ≡ Some c.byte_at-byte.result = c.byte_at-byte.ensures in
     let few : k ≤ length (tape_in d c.args.input.now).bytes = (let u = units_in d c.args.input.now c.requires.at.at.undone c.last_place-last.ensures.inside in omega (arith, u, inside)) in
-    (pass_stopped d c.args.self.now c.args.input.now k c.args.cache.now c.read_met.new.cache c.in-Err.error
+    pass_stopped d c.args.self.now c.args.input.now k c.args.cache.now c.loop-run.cache c.read_met.new.cache c.in-Err.error
     (at_reads d c.args.self.now c.loop-run.cache.store.table c.args.input.now k c.loop-run.run.id c.loop-run.run.found at few c.in-Err.ensures.effect.alive) at.clean
     (unit_refuses d c.args.self.now c.loop-run.cache.store.table c.read_met.new.cache.store c.args.input.now k c.loop-run.run.id c.byte_offset-offset.result c.byte_offset-offset.result _ c.loop-run.run.found c.in-Err.error
     at read (sym c.byte_offset-offset.ensures.unit) given c.in-Err.ensures.refusal)
-    (pass_left_then d c.args.self.now c.args.input.now 0 c.args.cache.now (is_store c.args.cache.now.store c.args.self.now c.requires.of c.see_bounds.ensures.bounds) k k c.loop-run.cache c.loop-run.invariant.of c.loop-run.invariant.progress (omega arith) at.clean (λ j from below. absurd (omega (arith, from, below))) c.read_met.new.cache
-    (inr (
-      not_behind d c.args.input.now k inside (units_in d c.args.input.now c.requires.at.at.undone c.last_place-last.ensures.inside),
-      refused_here d c.args.self.now c.args.input.now k c.loop-run.run.id (Some _) read c.byte_offset-offset.result c.loop-run.cache at.named given c.read_met.new.cache c.in-Err.ensures.effect.left,
-    ))))
+    c.loop-run.invariant.progress
+    (left_here d c.args.self.now c.args.input.now k c.loop-run.run.id c.byte_offset-offset.result (Some _) c.loop-run.cache c.read_met.new.cache read given at.named c.in-Err.ensures.effect.left)
 
 pub returns-then-is_dead-clause-ended : goal.returns-then-is_dead-clause-ended
 returns-then-is_dead-clause-ended c =
@@ -166,10 +162,10 @@ returns-then-is_dead-clause-ended c =
     let read : next (tape_in d c.args.input.now) k ≡ Some c.byte_at-byte.result = c.byte_at-byte.ensures in
     let few : k ≤ length (tape_in d c.args.input.now).bytes = (let u = units_in d c.args.input.now c.requires.at.at.undone c.last_place-last.ensures.inside in omega (arith, u, inside)) in
     let stops : Reads d c.args.self.now c.args.input.now (suc k) → ⊥ = stops_dead d c.args.self.now c.loop-run.cache.store.table c.read_met.new.cache.store.table c.args.input.now k c.loop-run.run.id c.in-Ok.next _ c.loop-run.run.found None at read c.in-Ok.ensures.answer.named (quit_free c.args.self.now _ c.in-Ok.ensures.answer.clean) (λ l. (dead_tagged c.read_met.new.cache.store.table c.in-Ok.next (c.see_bounds-in-loop-run.ensures.sound.low c.in-Ok.next) c.see_bounds-in-loop-run.ensures.sound.small _ l).0 (c.if-is_dead.ensures.0 refl)) (suc k) (omega arith) in
-    pass_last d c.args.self.now c.args.input.now k c.args.cache.now c.read_met.new.cache c.end_search.new.self (is_store c.args.cache.now.store c.args.self.now c.requires.of c.see_bounds.ensures.bounds)
+    pass_last d c.args.self.now c.args.input.now k c.args.cache.now c.read_met.new.cache c.end_search.new.self
     (at_reads d c.args.self.now c.loop-run.cache.store.table c.args.input.now k c.loop-run.run.id c.loop-run.run.found at few c.in-Ok.ensures.effect.alive) stops
-    (read_then d c.args.self.now c.args.input.now 0 c.args.cache.now (is_store c.args.cache.now.store c.args.self.now c.requires.of c.see_bounds.ensures.bounds) k k c.loop-run.cache c.loop-run.invariant.of c.loop-run.invariant.progress (omega arith) at.clean (λ j from below. absurd (omega (arith, from, below))) c.read_met.new.cache
-    (taken_here d c.args.self.now c.args.input.now k c.loop-run.run.id (Some _) read c.byte_offset-offset.result c.loop-run.cache at.named given c.read_met.new.cache c.in-Ok.ensures.effect.taken))
+    (goes_more d c.args.self.now c.args.input.now 0 c.args.cache.now k c.loop-run.cache c.read_met.new.cache c.loop-run.invariant.progress
+    (taken_here d c.args.self.now c.args.input.now k c.loop-run.run.id c.byte_offset-offset.result (Some _) c.loop-run.cache c.read_met.new.cache read given at.named c.in-Ok.ensures.effect.taken))
     (ended_here d c.args.input.now k c.byte_offset-offset.result c.read_met.new.cache c.end_search.new.self given c.end_search.ensures.value)
 
 pub returns-then-is_some-clause-ended : goal.returns-then-is_some-clause-ended
@@ -182,10 +178,10 @@ returns-then-is_some-clause-ended c =
     let read : next (tape_in d c.args.input.now) k ≡ Some c.byte_at-byte.result = c.byte_at-byte.ensures in
     let few : k ≤ length (tape_in d c.args.input.now).bytes = (let u = units_in d c.args.input.now c.requires.at.at.undone c.last_place-last.ensures.inside in omega (arith, u, inside)) in
     let stops : Reads d c.args.self.now c.args.input.now (suc k) → ⊥ = stops_ends d c.args.self.now c.loop-run.cache.store.table c.read_met.new.cache.store.table c.args.input.now k c.loop-run.run.id c.in-Ok.next _ c.loop-run.run.found c.found_at-found.result at read c.in-Ok.ensures.answer.named (quit_free c.args.self.now _ c.in-Ok.ensures.answer.clean) (c.place_offset.result, c.place_offset.ensures.value, c.found_at-found.ensures) (sym c.get_earliest.ensures ∙ c.if-get_earliest.true) (some_is c.found_at-found.result c.if-is_some.ensures) (suc k) (omega arith) in
-    pass_last d c.args.self.now c.args.input.now k c.args.cache.now c.read_met.new.cache c.end_search-then-is_some.new.self (is_store c.args.cache.now.store c.args.self.now c.requires.of c.see_bounds.ensures.bounds)
+    pass_last d c.args.self.now c.args.input.now k c.args.cache.now c.read_met.new.cache c.end_search-then-is_some.new.self
     (at_reads d c.args.self.now c.loop-run.cache.store.table c.args.input.now k c.loop-run.run.id c.loop-run.run.found at few c.in-Ok.ensures.effect.alive) stops
-    (read_then d c.args.self.now c.args.input.now 0 c.args.cache.now (is_store c.args.cache.now.store c.args.self.now c.requires.of c.see_bounds.ensures.bounds) k k c.loop-run.cache c.loop-run.invariant.of c.loop-run.invariant.progress (omega arith) at.clean (λ j from below. absurd (omega (arith, from, below))) c.read_met.new.cache
-    (taken_here d c.args.self.now c.args.input.now k c.loop-run.run.id (Some _) read c.byte_offset-offset.result c.loop-run.cache at.named given c.read_met.new.cache c.in-Ok.ensures.effect.taken))
+    (goes_more d c.args.self.now c.args.input.now 0 c.args.cache.now k c.loop-run.cache c.read_met.new.cache c.loop-run.invariant.progress
+    (taken_here d c.args.self.now c.args.input.now k c.loop-run.run.id c.byte_offset-offset.result (Some _) c.loop-run.cache c.read_met.new.cache read given at.named c.in-Ok.ensures.effect.taken))
     (ended_here d c.args.input.now k c.byte_offset-offset.result c.read_met.new.cache c.end_search-then-is_some.new.self given c.end_search-then-is_some.ensures.value)
 
 pub returns-clause-ended : goal.returns-clause-ended
@@ -195,10 +191,12 @@ returns-clause-ended c =
     let k : ℕ = c.args.input.now.end - c.args.input.now.start in
     let at : IsAt d c.args.self.now c.loop-run.cache.store.table c.args.input.now k c.loop-run.run.id c.loop-run.run.found = subst (λ k. IsAt d c.args.self.now c.loop-run.cache.store.table c.args.input.now k c.loop-run.run.id c.loop-run.run.found) same c.loop-run.invariant.at in
     let units : k ≡ length (tape_in d c.args.input.now).bytes = units_in d c.args.input.now c.requires.at.at.undone c.last_place-last.ensures.inside in
+    let before : GoesTo d c.args.self.now c.args.input.now 0 k c.args.cache.now c.loop-run.cache = subst (λ k. GoesTo d c.args.self.now c.args.input.now 0 k c.args.cache.now c.loop-run.cache) same c.loop-run.invariant.progress in
+    let reads : Reads d c.args.self.now c.args.input.now k = at_reads d c.args.self.now c.loop-run.cache.store.table c.args.input.now k c.loop-run.run.id c.loop-run.run.found at (omega (arith, units)) c.find_end.ensures.alive in
     IfOk-weaker c.find_end.result _ _
-    (λ _ ended. pass_last d c.args.self.now c.args.input.now k c.args.cache.now ended.0 c.find_end.new.cache (is_store c.args.cache.now.store c.args.self.now c.requires.of c.see_bounds.ensures.bounds)
-    (at_reads d c.args.self.now c.loop-run.cache.store.table c.args.input.now k c.loop-run.run.id c.loop-run.run.found at (omega (arith, units)) c.find_end.ensures.alive) (λ r. stops_last d c.args.self.now c.args.input.now k units (suc k) (omega arith) r)
-    (read_then d c.args.self.now c.args.input.now 0 c.args.cache.now (is_store c.args.cache.now.store c.args.self.now c.requires.of c.see_bounds.ensures.bounds) c.loop-run.run.at k c.loop-run.cache c.loop-run.invariant.of c.loop-run.invariant.progress (omega (arith, same)) at.clean (λ j from below. absurd (omega (arith, from, below, same))) ended.0 ended.1) ended.2)
+    (λ _ ended. pass_last d c.args.self.now c.args.input.now k c.args.cache.now ended.0 c.find_end.new.cache reads
+    (λ r. stops_last d c.args.self.now c.args.input.now k units (suc k) (omega arith) r)
+    (goes_more d c.args.self.now c.args.input.now 0 c.args.cache.now k c.loop-run.cache ended.0 before ended.1) ended.2)
     c.find_end.ensures.progress.ended
 
 pub returns-clause-left : goal.returns-clause-left
@@ -208,10 +206,11 @@ returns-clause-left c =
     let k : ℕ = c.args.input.now.end - c.args.input.now.start in
     let at : IsAt d c.args.self.now c.loop-run.cache.store.table c.args.input.now k c.loop-run.run.id c.loop-run.run.found = subst (λ k. IsAt d c.args.self.now c.loop-run.cache.store.table c.args.input.now k c.loop-run.run.id c.loop-run.run.found) same c.loop-run.invariant.at in
     let units : k ≡ length (tape_in d c.args.input.now).bytes = units_in d c.args.input.now c.requires.at.at.undone c.last_place-last.ensures.inside in
+    let before : GoesTo d c.args.self.now c.args.input.now 0 k c.args.cache.now c.loop-run.cache = subst (λ k. GoesTo d c.args.self.now c.args.input.now 0 k c.args.cache.now c.loop-run.cache) same c.loop-run.invariant.progress in
+    let reads : Reads d c.args.self.now c.args.input.now k = at_reads d c.args.self.now c.loop-run.cache.store.table c.args.input.now k c.loop-run.run.id c.loop-run.run.found at (omega (arith, units)) c.find_end.ensures.alive in
     if_both c.find_end.result _ _ _
-    (λ error refused left. pass_stopped d c.args.self.now c.args.input.now k c.args.cache.now c.find_end.new.cache error
-    (at_reads d c.args.self.now c.loop-run.cache.store.table c.args.input.now k c.loop-run.run.id c.loop-run.run.found at (omega (arith, units)) c.find_end.ensures.alive) at.clean refused
-    (pass_left_then d c.args.self.now c.args.input.now 0 c.args.cache.now (is_store c.args.cache.now.store c.args.self.now c.requires.of c.see_bounds.ensures.bounds) c.loop-run.run.at k c.loop-run.cache c.loop-run.invariant.of c.loop-run.invariant.progress (omega (arith, same)) at.clean (λ j from below. absurd (omega (arith, from, below, same))) c.find_end.new.cache left))
+    (λ error refused left. pass_stopped d c.args.self.now c.args.input.now k c.args.cache.now c.loop-run.cache c.find_end.new.cache error
+    reads at.clean refused before left)
     c.find_end.ensures.refusal c.find_end.ensures.progress.left
 
 pub loop-run-smaller : goal.loop-run-smaller

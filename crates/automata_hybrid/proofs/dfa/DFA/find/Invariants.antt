@@ -1,7 +1,7 @@
 use Rattle.std.proofs.Common.{◌<◌, ◌≤◌, ◌-◌}
 use Rattle.automata_hybrid.specs.Cache.Caches.{IsCacheOf}
 use Rattle.automata_hybrid.specs.Searches.PassState.{IsAt, IsNextCell}
-use Rattle.automata_hybrid.proofs.Searches.UnitsRead.{AreReadBehind}
+use Rattle.automata_hybrid.proofs.Searches.Goes.{GoesTo}
 use Rattle.automata_hybrid.proofs.dfa.DFA.find.Given as goal
 
 abbrev pub invariant-loop-run : goal.invariant-loop-run
@@ -13,7 +13,7 @@ invariant-loop-run l = record {
   read :
       l.run.at < l.input.end - l.input.start
       → IsNextCell l.way l.self l.cache.store l.input l.run.at l.run.id l.run.next;
-  progress : AreReadBehind l.way l.self l.input 0 l.run.at l.fn.cache l.cache;
+  progress : GoesTo l.way l.self l.input 0 l.run.at l.fn.cache l.cache;
 }
 
 abbrev pub decreases-loop-run : goal.decreases-loop-run

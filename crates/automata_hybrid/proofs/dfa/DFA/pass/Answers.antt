@@ -8,7 +8,7 @@ use Rattle.automata_hybrid.specs.Cache.Progress.{saturated, total_len}
 use Rattle.automata_hybrid.specs.Cache.Stores.{with_searched}
 use Rattle.automata_hybrid.specs.Searches.PassContracts.{IsKnownUpto, half_from}
 use Rattle.automata_hybrid.specs.Searches.Progress.{EndsAtLast, IsStoppedAt, with_search_begun, IsPassRun}
-use Rattle.automata_hybrid.specs.Calls.Events.{Begin, with_progress}
+use Rattle.automata_hybrid.specs.Calls.Events.{begun}
 use Rattle.automata_hybrid.proofs.Searches.Directions.{begins_alive}
 use Rattle.automata_hybrid.proofs.Searches.KnownPasses.{known_ended}
 use Rattle.automata_hybrid.proofs.Searches.PassContracts.{same_input}
@@ -42,7 +42,7 @@ returns-then-has_ended-clause-effect c =
     c.bytes_read.ensures c.count_search.ensures.value in (
       c.args.cache.now,
       c.known_start-start.ensures.run low,
-      inr (c.if-keeps_none.ensures.no refl, known_ended d c.args.self.now c.args.input.now c.known_pass-known.result.at c.known_pass-known.result.id c.args.cache.now c.known_pass-known.result.found c.count_search.new.self end sound counted),
+      known_ended d c.args.self.now c.args.input.now c.known_pass-known.result.at c.known_pass-known.result.id c.args.cache.now c.known_pass-known.result.found c.count_search.new.self end sound counted,
     )
 
 pub rest-requires-clause-at : goal.rest-requires-clause-at
@@ -72,14 +72,11 @@ returns-in-Ok-rest-clause-effect c =
     let d : Direction = c.args.way in
     let low : c.known_start-start.result < 2 ^ 31 = grind (arith, common_steps, c.if-is_fixed.ensures) in
     let begins : c.search_start.new.self ≡ with_search_begun d c.args.input.now 0 c.args.cache.now =
-    subst (λ at. c.search_start.new.self ≡ with_progress (Begin at) c.args.cache.now) c.span_offset.ensures.value c.search_start.ensures.value in (
+    subst (λ at. c.search_start.new.self ≡ begun at c.args.cache.now) c.span_offset.ensures.value c.search_start.ensures.value in (
       c.args.cache.now,
       c.known_start-start.ensures.run low,
-      inr (
-        c.if-keeps_none.ensures.no refl,
-        subst (λ (v : CacheView). EndsAtLast d c.args.self.now c.args.input.now v c.rest.new.cache) begins
-            (subst (λ (i : Input). EndsAtLast d c.args.self.now i c.search_start.new.self c.rest.new.cache) (same_input c.args.input.now c.haystack-2.result.now c.get_span-2.result c.get_anchored-2.result c.get_earliest-2.result c.haystack-2.ensures.same c.get_span-2.ensures.start c.get_span-2.ensures.end c.get_anchored-2.ensures c.get_earliest-2.ensures) c.in-Ok-rest.ensures.ended),
-      ),
+      subst (λ (v : CacheView). EndsAtLast d c.args.self.now c.args.input.now v c.rest.new.cache) begins
+          (subst (λ (i : Input). EndsAtLast d c.args.self.now i c.search_start.new.self c.rest.new.cache) (same_input c.args.input.now c.haystack-2.result.now c.get_span-2.result c.get_anchored-2.result c.get_earliest-2.result c.haystack-2.ensures.same c.get_span-2.ensures.start c.get_span-2.ensures.end c.get_anchored-2.ensures c.get_earliest-2.ensures) c.in-Ok-rest.ensures.ended),
     )
 
 pub returns-in-Err-rest-clause-effect : goal.returns-in-Err-rest-clause-effect
@@ -87,15 +84,12 @@ returns-in-Err-rest-clause-effect c =
     let d : Direction = c.args.way in
     let low : c.known_start-start.result < 2 ^ 31 = grind (arith, common_steps, c.if-is_fixed.ensures) in
     let begins : c.search_start.new.self ≡ with_search_begun d c.args.input.now 0 c.args.cache.now =
-    subst (λ at. c.search_start.new.self ≡ with_progress (Begin at) c.args.cache.now) c.span_offset.ensures.value c.search_start.ensures.value in
+    subst (λ at. c.search_start.new.self ≡ begun at c.args.cache.now) c.span_offset.ensures.value c.search_start.ensures.value in
     inr (
       c.args.cache.now,
       c.known_start-start.ensures.run low,
-      inr (
-        c.if-keeps_none.ensures.no refl,
-        subst (λ (v : CacheView). IsStoppedAt d c.args.self.now c.args.input.now v c.rest.new.cache c.in-Err-rest.error) begins
-            (subst (λ (i : Input). IsStoppedAt d c.args.self.now i c.search_start.new.self c.rest.new.cache c.in-Err-rest.error) (same_input c.args.input.now c.haystack-2.result.now c.get_span-2.result c.get_anchored-2.result c.get_earliest-2.result c.haystack-2.ensures.same c.get_span-2.ensures.start c.get_span-2.ensures.end c.get_anchored-2.ensures c.get_earliest-2.ensures) c.in-Err-rest.ensures.left),
-      ),
+      subst (λ (v : CacheView). IsStoppedAt d c.args.self.now c.args.input.now v c.rest.new.cache c.in-Err-rest.error) begins
+          (subst (λ (i : Input). IsStoppedAt d c.args.self.now i c.search_start.new.self c.rest.new.cache c.in-Err-rest.error) (same_input c.args.input.now c.haystack-2.result.now c.get_span-2.result c.get_anchored-2.result c.get_earliest-2.result c.haystack-2.ensures.same c.get_span-2.ensures.start c.get_span-2.ensures.end c.get_anchored-2.ensures c.get_earliest-2.ensures) c.in-Err-rest.ensures.left),
     )
 
 pub returns-in-Ok-clause-effect : goal.returns-in-Ok-clause-effect

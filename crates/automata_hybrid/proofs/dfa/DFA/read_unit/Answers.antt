@@ -6,7 +6,7 @@ use Rattle.automata_hybrid.specs.Searches.Passes.{state_in}
 use Rattle.automata_hybrid.specs.Cache.Table.{Leads}
 use Rattle.automata_hybrid.specs.Steps.Steps.{known_step}
 use Rattle.automata_hybrid.proofs.Searches.PassState.{state_more}
-use Rattle.automata_hybrid.proofs.Searches.UnitsRead.{refused_here, taken_here}
+use Rattle.automata_hybrid.proofs.Searches.Goes.{left_here, taken_here}
 use Rattle.automata_hybrid.proofs.dfa.DFA.read_unit.Goals as goal
 use Rattle.automata_config.specs.Options.{match_kind_of}
 
@@ -28,10 +28,10 @@ returns-clause-effect c =
     record {
       read =
           IfOk-weaker c.read.result _ _
-          (λ _ taken. taken_here d c.args.self.now c.args.input.now c.args.place c.args.id c.unit_at.result (sym c.unit_at.ensures) c.span_offset-at.result c.args.cache.now c.requires.at.named (sym c.span_offset-at.ensures.value) c.read.new.cache taken)
+          (λ _ taken. taken_here d c.args.self.now c.args.input.now c.args.place c.args.id c.span_offset-at.result c.unit_at.result c.args.cache.now c.read.new.cache (sym c.unit_at.ensures) (sym c.span_offset-at.ensures.value) c.requires.at.named taken)
           c.read.ensures.effect.taken;
       left =
           IfErr-weaker c.read.result _ _
-          (λ _ left. refused_here d c.args.self.now c.args.input.now c.args.place c.args.id c.unit_at.result (sym c.unit_at.ensures) c.span_offset-at.result c.args.cache.now c.requires.at.named (sym c.span_offset-at.ensures.value) c.read.new.cache left)
+          (λ _ left. left_here d c.args.self.now c.args.input.now c.args.place c.args.id c.span_offset-at.result c.unit_at.result c.args.cache.now c.read.new.cache (sym c.unit_at.ensures) (sym c.span_offset-at.ensures.value) c.requires.at.named left)
           c.read.ensures.effect.left;
     }

@@ -10,8 +10,8 @@ use Rattle.automata_hybrid.specs.Cache.Caches.{CacheView, with_store}
 use Rattle.automata_hybrid.specs.Machines.Machine.{Machine}
 use Rattle.automata_hybrid.specs.Cache.Progress.{progress_started}
 use Rattle.automata_hybrid.specs.Walks.Parts.{IsAdvanceEffect, IsCallAnswer}
-use Rattle.automata_hybrid.specs.Searches.Progress.{HasEndedAfter, with_search_begun}
-use Rattle.automata_hybrid.specs.Calls.Events.{Begin, with_progress}
+use Rattle.automata_hybrid.specs.Searches.Progress.{GoesToEnd, with_search_begun}
+use Rattle.automata_hybrid.specs.Calls.Events.{begun as began}
 use Rattle.automata_hybrid.proofs.Searches.Contracts.{is_store}
 use Rattle.automata_hybrid.specs.Walks.Progress.{IsCallStopped, IsWalkRun}
 use Rattle.automata_hybrid.specs.Searches.Passes.{HasReadNoQuit, given_up_offset, state_in, tape_in}
@@ -23,7 +23,7 @@ use Rattle.automata_hybrid.specs.declared.search.advance.Arrival.{Arrival}
 use Rattle.automata_hybrid.proofs.Searches.Reads.{at_err}
 use Rattle.automata_hybrid.proofs.Searches.Skips.{skips_or_not}
 use Rattle.automata_hybrid.proofs.Walks.Progress.{call_leaves, reads_some}
-use Rattle.automata_hybrid.proofs.Searches.UnitsRead.{ended_after, ended_here}
+use Rattle.automata_hybrid.proofs.Searches.Goes.{ended_here}
 use Rattle.automata_hybrid.proofs.Steps.Ids.{dead_tagged}
 use Rattle.automata_hybrid.proofs.Walks.Calls.{clean_here, ended_at, next_finishes, reported_here}
 use Rattle.automata_hybrid.proofs.Walks.Reports.{finish_start}
@@ -74,7 +74,7 @@ returns-then-is_dead-clause-effect c =
     let leads : Leads c.search_start.new.self.store.table c.in_ok-from.from (state_in d m input w.units) = subst (λ (t : Rows). Leads t c.in_ok-from.from (state_in d m input w.units)) (sym c.search_start.ensures.table) c.in_ok-from.ensures.answer.leads in
     let dies : state_in d m input w.units ≡ dead = (dead_tagged c.search_start.new.self.store.table c.in_ok-from.from (c.see_bounds-2.ensures.sound.low c.in_ok-from.from) c.see_bounds-2.ensures.sound.small _ leads).0 (c.if-is_dead.ensures.0 refl) in
     let begins : c.search_start.new.self ≡ with_search_begun d input w.units between =
-    subst (λ at. c.search_start.new.self ≡ with_progress (Begin at) between) first c.search_start.ensures.value in
+    subst (λ at. c.search_start.new.self ≡ began at between) first c.search_start.ensures.value in
     subst (λ (x : Walk). IsWalkRun (keeping_of c.args.held.now) d m input w x c.args.cache.now new None) (sym same)
     (record {
       of = (is_store c.args.cache.now.store c.args.self.now c.requires.of c.see_bounds.ensures.bounds);
@@ -87,11 +87,12 @@ returns-then-is_dead-clause-effect c =
           c.in_ok-from.ensures.resumed,
           omega arith,
           (λ k more less. absurd (omega (arith, more, less)), λ over reads. reads.1 dies),
-          subst (λ (v : CacheView). HasEndedAfter d m input w.units 0 v new) begins
-              (ended_after d m input w.units 0 c.search_start.new.self c.search_start.new.self new
-              (is_store c.search_start.new.self.store c.args.self.now (ap (λ (t : Rows). t.of) c.search_start.ensures.table ∙ c.in_ok-from.ensures.of) c.see_bounds-2.ensures.bounds) refl
-              (ended_here d input (w.units + (0 - 1)) c.span_offset-place.result c.search_start.new.self new
-              (ap (given_up_offset d input) (omega arith) ∙ sym first) c.end_search.ensures.value)),
+          subst (λ (v : CacheView). GoesToEnd d m input w.units 0 v new) begins (
+            c.search_start.new.self,
+            refl,
+            ended_here d input (w.units + (0 - 1)) c.span_offset-place.result c.search_start.new.self new
+                (ap (given_up_offset d input) (omega arith) ∙ sym first) c.end_search.ensures.value,
+          ),
         ),
       );
     })
@@ -108,7 +109,7 @@ returns-in_err-arrival-clause-effect c =
     let begun : CacheView = c.search_start.new.self in
     let new : CacheView = c.advance.new.cache in
     let begins : begun ≡ with_search_begun d input w.units between =
-    subst (λ at. begun ≡ with_progress (Begin at) between) first c.search_start.ensures.value in
+    subst (λ at. begun ≡ began at between) first c.search_start.ensures.value in
     let left : IsCallStopped Ids d m input w.units (with_search_begun d input w.units between) new c.in_err-arrival.field-0.0 =
     subst (λ (b : CacheView). IsCallStopped Ids d m input w.units b new c.in_err-arrival.field-0.0) begins
     (subst (λ n. IsCallStopped Ids d m input n begun new c.in_err-arrival.field-0.0) c.units-2.ensures c.in_err-arrival.ensures.effect.left) in

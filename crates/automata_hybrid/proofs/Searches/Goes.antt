@@ -1,0 +1,155 @@
+-- Units that are read one after another, and the end of a pass after them.
+use Rattle.std.proofs.Common.{ℕ, zero, suc, ◌≡◌, ◌∙◌, ◌+◌, ◌-◌, ◌<◌, ◌≤◌, ◌⊎◌, false, Option, inl, inr, refl, sym, ap, subst, arith}
+use Rattle.std.proofs.Common.{eq-or-lt_of_le}
+use Rattle.automata_base.specs.Haystacks.Input.{Input}
+use Rattle.automata_base.specs.Paths.Paths.{next}
+use Rattle.automata_base.specs.Powersets.Powerset.{Powerset}
+use Rattle.automata_base.specs.declared.util.search.Direction.{Direction}
+use Rattle.automata_config.specs.declared.error.SearchError.{SearchError}
+use Rattle.automata_hybrid.specs.declared.dfa.progress.Searched.{Searched}
+use Rattle.automata_hybrid.specs.Cache.Caches.{CacheView, IsStoreOf, with_store}
+use Rattle.automata_hybrid.specs.Cache.Progress.{progress_finished}
+use Rattle.automata_hybrid.specs.Cache.Stores.{Stored, with_searched}
+use Rattle.automata_hybrid.specs.Cache.Table.{Names}
+use Rattle.automata_hybrid.specs.Calls.Events.{Does, IsStepLeft, Step, ended, moved}
+use Rattle.automata_hybrid.specs.Calls.Steps.{StartFailsAt}
+use Rattle.automata_hybrid.specs.Machines.Machine.{Machine, quits_on, unit_class}
+use Rattle.automata_hybrid.specs.Searches.PassState.{HasLearnedUnit}
+use Rattle.automata_hybrid.specs.Searches.Progress.{EndsAtLast, Goes, HasNoStart, IsLeftAt, IsStoppedAt, IsUnitRead, with_search_ended}
+use Rattle.automata_hybrid.specs.Searches.Passes.{HasReadNoQuit, IsUnitError, Reads, given_up_offset, state_in, tape_in}
+use Rattle.automata_hybrid.proofs.Searches.PassState.{reads_before}
+use Rattle.automata_hybrid.proofs.Steps.Steps.{unit_no_quit}
+
+-- the units from one place to another were read
+pub record GoesTo (way : Direction) (m : Machine) (input : Input) (from to : ℕ) (old new : CacheView) : Type 0 where
+  pub units : ℕ
+  pub upto : from + units ≡ to
+  pub goes : Goes way m input from units old new
+
+module _ (way : Direction) (m : Machine) (input : Input) (from : ℕ) (old : CacheView) where
+  pub goes_none : GoesTo way m input from from old old
+  goes_none = record { units = 0; upto = omega arith; goes = refl }
+
+  -- one more
+  pub goes_more :
+      (k : ℕ) (mid new : CacheView) → GoesTo way m input from k old mid → IsUnitRead way m input k mid new
+      → GoesTo way m input from (suc k) old new
+  goes_more k mid new before here =
+      let last : from + before.units ≡ k = before.upto in
+      record {
+        units = suc before.units;
+        upto = omega (arith, last);
+        goes = (mid, before.goes, subst (λ j. IsUnitRead way m input j mid new) (sym last) here);
+      }
+
+  -- the cache after them is one of the DFA
+  pub goes_sound : (n : ℕ) (new : CacheView) → IsStoreOf old.store m → Goes way m input from n old new → IsStoreOf new.store m
+  goes_sound zero new sound same = subst (λ (v : CacheView). IsStoreOf v.store m) (sym same) sound
+  goes_sound (suc n) new sound (mid, before, here) = here.1
+
+  -- units whose transitions are cached change nothing
+  pub goes_known :
+      (k to : ℕ) (c : CacheView) → IsStoreOf c.store m → GoesTo way m input from k old c → k ≤ to
+      → HasReadNoQuit way m input to → ((j : ℕ) → k ≤ j → j < to → HasLearnedUnit way m c.store input j)
+      → GoesTo way m input from to old c
+  goes_known k zero c sound before more clean known =
+      let none : k ≡ 0 = omega (arith, more) in
+      subst (λ n. GoesTo way m input from n old c) none before
+  goes_known k (suc to) c sound before more clean known =
+      go (eq-or-lt_of_le more) (λ less. goes_known k to c sound before less
+      (λ j byte below unit. clean j byte (omega (arith, below)) unit) (λ j from below. known j from (omega (arith, below))))
+    where
+      here : HasLearnedUnit way m c.store input to → IsUnitRead way m input to c c
+      here learned = (
+        (
+          unit_no_quit m (next (tape_in way input) to) (λ byte unit. clean to byte (omega arith) unit),
+          subst (λ (d : Machine). unit_class m (next (tape_in way input) to) < d.stride) sound.of learned.1,
+        ),
+        sound,
+        inl (learned.0, refl),
+      )
+
+      go : (k ≡ suc to) ⊎ (k < suc to) → (k ≤ to → GoesTo way m input from to old c) → GoesTo way m input from (suc to) old c
+      go (inl same) upto = subst (λ n. GoesTo way m input from n old c) same before
+      go (inr less) upto = goes_more to c c (upto (omega (arith, less))) (here (known to (omega (arith, less)) (omega arith)))
+
+-- and then cached ones were followed
+pub goes_on :
+    (way : Direction) (m : Machine) (input : Input) (from : ℕ) (old : CacheView) → IsStoreOf old.store m → (k to : ℕ) (c : CacheView)
+    → GoesTo way m input from k old c → k ≤ to → HasReadNoQuit way m input to
+    → ((j : ℕ) → k ≤ j → j < to → HasLearnedUnit way m c.store input j) → GoesTo way m input from to old c
+goes_on way m input from old sound k to c before more clean known =
+    goes_known way m input from old k to c (goes_sound way m input from old before.units c sound before.goes) before more clean known
+
+-- at least one was read
+pub goes_some :
+    (way : Direction) (m : Machine) (input : Input) (from k : ℕ) (old new : CacheView) → from ≤ k → GoesTo way m input from (suc k) old new
+    → (n : ℕ) × (from + n ≡ k) × Goes way m input from (suc n) old new
+goes_some way m input from k old new more all =
+    let upto : from + all.units ≡ suc k = all.upto in
+    let one : all.units ≡ suc (all.units - 1) = omega (arith, upto, more) in
+    (all.units - 1, omega (arith, upto, more), subst (λ n. Goes way m input from n old new) one all.goes)
+
+-- a pass has ended where the unit that it read was its last one
+pub pass_last :
+    (way : Direction) (m : Machine) (input : Input) (k : ℕ) (old mid new : CacheView) → Reads way m input k
+    → (Reads way m input (suc k) → ⊥) → GoesTo way m input 0 (suc k) old mid
+    → new ≡ with_search_ended way input k mid → EndsAtLast way m input old new
+pass_last way m input k old mid new reads stops all last =
+    let upto : 0 + all.units ≡ suc k = all.upto in
+    let same : all.units ≡ suc k = omega (arith, upto) in
+    let at : 0 + (all.units - 1) ≡ k = omega (arith, upto) in (
+      all.units,
+      (
+        λ j less. reads_before way m input j k (omega (arith, less, same)) reads,
+        subst (λ n. Reads way m input n → ⊥) (sym same) stops,
+      ),
+      (mid, all.goes, last ∙ ap (λ j. with_search_ended way input j mid) (sym at)),
+    )
+
+-- or it failed at the next one
+pub pass_stopped :
+    (way : Direction) (m : Machine) (input : Input) (k : ℕ) (old mid new : CacheView) (e : SearchError) → Reads way m input k
+    → HasReadNoQuit way m input k → IsUnitError way m new.store input k e
+    → GoesTo way m input 0 k old mid → IsLeftAt way m input k mid new → IsStoppedAt way m input old new e
+pass_stopped way m input k old mid new e reads clean refused all left =
+    let upto : 0 + all.units ≡ k = all.upto in
+    let same : all.units ≡ k = omega (arith, upto) in
+    (k, mid, reads, clean, refused, subst (λ n. Goes way m input 0 n old mid) same all.goes, left)
+
+-- a pass whose start is dead reads nothing
+pub pass_dies :
+    (way : Direction) (m : Machine) (input : Input) (begun new : CacheView) → (Reads way m input 0 → ⊥)
+    → new ≡ with_search_ended way input 0 begun → EndsAtLast way m input begun new
+pass_dies way m input begun new none last = (0, (λ j less. absurd (omega (arith, less)), none), (begun, refl, last))
+
+-- the unit at a place was come to at its offset, from an ID that names the state there
+module _ (way : Direction) (m : Machine) (input : Input) (k id at : ℕ) (unit : Option ℕ) (c new : CacheView)
+    (is : next (tape_in way input) k ≡ unit) (place : given_up_offset way input k ≡ at)
+    (named : Names c.store.table id (state_in way m input k)) where
+  -- and read
+  pub taken_here :
+      ((q : Powerset) → Names c.store.table id q → Does m (Step q unit) c (moved at c) new) → IsUnitRead way m input k c new
+  taken_here taken =
+      subst (λ a. Does m (Step (state_in way m input k) (next (tape_in way input) k)) c (moved a c) new) (sym place)
+      (subst (λ u. Does m (Step (state_in way m input k) u) c (moved at c) new) (sym is) (taken (state_in way m input k) named))
+
+  -- or not
+  pub left_here :
+      ((q : Powerset) → Names c.store.table id q → IsStepLeft m q unit (moved at c) (ended at c) new) → IsLeftAt way m input k c new
+  left_here left =
+      subst (λ a. IsStepLeft m (state_in way m input k) (next (tape_in way input) k) (moved a c) (ended a c) new) (sym place)
+      (subst (λ u. IsStepLeft m (state_in way m input k) u (moved at c) (ended at c) new) (sym is) (left (state_in way m input k) named))
+
+-- a search was ended at the offset of a unit
+pub ended_here :
+    (way : Direction) (input : Input) (k at : ℕ) (mid new : CacheView) → given_up_offset way input k ≡ at
+    → new ≡ with_store mid (with_searched mid.store (progress_finished mid.store.searched at))
+    → new ≡ with_search_ended way input k mid
+ended_here way input k at mid new place last = last ∙ ap (λ a. ended a mid) (sym place)
+
+-- a start that failed
+pub unstarted :
+    (way : Direction) (m : Machine) (input : Input) (behind_at start_at : ℕ) (old new : CacheView) (e : SearchError)
+    → StartFailsAt m input.anchored (tape_in way input).before behind_at start_at old new e → HasNoStart way m input old new
+unstarted way m input behind_at start_at old new e h = (h.refused.fails, h.refused.barred)
