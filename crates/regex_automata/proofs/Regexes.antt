@@ -1,1 +1,2 @@
+pub mod Capacities
 pub mod Reversals

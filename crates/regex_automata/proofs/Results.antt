@@ -1,16 +1,12 @@
 -- Results, by cases.
 use Rattle.std.proofs.Common.{◌≡◌, ap}
-use Rattle.std.specs.Prelude.{Result, Ok, Err, IfOk, OnOk}
+use Rattle.std.specs.Prelude.{Result, Ok, Err, IfOk}
 use Rattle.std.specs.Result.{IsErrAnd}
 
 module _ {A E : Type 0} where
   pub if_ok : (r : Result A E) (e : E) (P : A → Type 0) → IsErrAnd r (λ x. x ≡ e) → IfOk r P
   if_ok (Ok a) e P h = absurd h
   if_ok (Err x) e P h = tt
-
-  pub on_ok : (r : Result A E) (e : E) (P : Type 0) → IsErrAnd r (λ x. x ≡ e) → OnOk r P
-  on_ok (Ok a) e P h = absurd h
-  on_ok (Err x) e P h = tt
 
   pub is_err : (r : Result A E) (e : E) → IsErrAnd r (λ x. x ≡ e) → r ≡ Err e
   is_err (Ok a) e h = absurd h

@@ -11,3 +11,4 @@ pub mod Ends
 pub mod Effects
 pub mod Follows
 pub mod Reports
+pub mod OfPaths

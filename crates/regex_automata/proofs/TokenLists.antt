@@ -1,3 +1,4 @@
 pub mod Refusals
 pub mod Lists
 pub mod Tiling
+pub mod OfPaths

@@ -51,12 +51,18 @@ pub use Rattle.regex_automata.specs.Spans.Outcomes.{FindsMatch}
 -- One item of `find_iter`: the match or the error that it gives, and what is left to be searched after it; its match
 -- may be sliced from the haystack.
 pub use Rattle.regex_automata.specs.Spans.Iteration.{GivesItem, LiesInHaystack}
+-- What the passes over an input report is what its paths define, over a sound pair, by `laws::matches_are_spans`; an item
+-- of `find_iter` by the paths; what a loop has collected.
+pub use Rattle.regex_automata.specs.Spans.Iteration.{AreCollected, ComesTo}
+pub use Rattle.regex_automata.specs.Spans.OfPaths.{CollectsMatches, IsItemOfPaths, LoopsCollect, MatchesAreSpans, SpansAreOfPaths}
 -- The patterns of a set, as a list; a member of a list.
 pub use Rattle.automata_base.specs.Haystacks.PatternSet.{members}
 pub use Rattle.automata_base.specs.Lists.{In}
 -- A token at an offset: it begins there, ends later, and has the bytes between. No token at an offset: the search there
 -- finds no match, or an empty one. The type `Token` itself is in `specs.declared.tokens.Token`.
 pub use Rattle.regex_automata.specs.Tokens.{IsTokenAt, IsNoTokenAt}
+-- What tokens are by the paths, if the NFA keeps its cycles, by `laws::tokens_are_spans`; a list of them.
+pub use Rattle.regex_automata.specs.Tokens.{AreOfPaths, AreTokenSpans, HasNoSpanPast, TokensAreSpans}
 -- A step may be taken from this ID: the cache has its row. Each start and each step gives this for the ID that it
 -- returns.
 pub use Rattle.automata_hybrid.specs.Cache.Caches.{HoldsRow}

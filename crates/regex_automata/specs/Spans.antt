@@ -6,3 +6,4 @@ pub mod Iteration
 pub mod Errors
 pub mod Runs
 pub mod Follows
+pub mod OfPaths

@@ -2,7 +2,8 @@
 use Rattle.std.specs.Prelude.{ℕ, ◌≡◌, ◌<◌, ◌≤◌, ◌⊎◌, ◌-◌, ◌++◌, Bool, true, false, if◌then◌else◌, nat_lt, List, [], ◌∷◌}
 use Rattle.std.specs.Prelude.{length, Option, None, Some, Result, Ok, Err, IfOk, IfSome, slice_range}
 use Rattle.automata_base.specs.Answers.Answers.{IsAnswer}
-use Rattle.automata_base.specs.Nfas.Engines.{engine_of}
+use Rattle.automata_base.specs.Answers.Spans.{IsSpan}
+use Rattle.automata_base.specs.Nfas.Engines.{Engine, engine_of}
 use Rattle.automata_base.specs.Haystacks.Input.{Input}
 use Rattle.automata_base.specs.Haystacks.Matches.{HalfMatch, Match}
 use Rattle.automata_base.specs.Nfas.Nodes.{nfa_of}
@@ -48,10 +49,11 @@ IsItemAt m h end offset item =
     × ((answer : Result (Option HalfMatch) SearchError)
     × SearchReturns m h end offset answer × (item ≡ item_of offset answer))
 
--- the bytes of a match; and of matches, joined
+-- the bytes of a match
 abbrev pub match_bytes : List ℕ → Match → List ℕ
 match_bytes h t = slice_range h t.start t.end
 
+-- the bytes of matches, joined
 abbrev pub joined : List ℕ → List Match → List ℕ
 joined h [] = []
 joined h (t ∷ ts) = match_bytes h t ++ joined h ts
@@ -62,17 +64,24 @@ match_of t = record { pattern = t.pattern; start = t.span.start; end = t.span.en
 
 -- a token at an offset: the item there, with its bytes
 pub record IsTokenAt (m : Machine) (h : List ℕ) (end offset : ℕ) (t : Token) : Type 0 where
+  -- it is the item at the offset
   pub item : IsItemAt m h end offset (Ok (match_of t))
+  -- it has the bytes of its span
   pub bytes : t.bytes.now ≡ match_bytes h (match_of t)
-  -- it begins at the offset, goes past it, and lies before the span's end, and its pattern is one of the NFA's
+  -- it begins at the offset
   pub start : t.span.start ≡ offset
+  -- it ends after the offset
   pub past : offset < t.span.end
+  -- it ends at or before the span's end
   pub within : t.span.end ≤ end
+  -- its pattern is one of the NFA's
   pub pattern : t.pattern < length m.nfa.start_pattern
 
 -- no token at an offset before the span's end: the search there finds no match, or an empty one
 pub record IsNoTokenAt (m : Machine) (h : List ℕ) (end offset : ℕ) : Type 0 where
+  -- the offset is before the span's end
   pub within : offset < end
+  -- the search there finds no match, or one that ends at the offset
   pub none :
       SearchReturns m h end offset (Ok None)
       ⊎ ((pattern : ℕ)
@@ -164,9 +173,39 @@ pub record AreTokensUpto (m : Machine) (input : Input) (ts : List Match) (error 
       KeepsCycles (nfa_of m.nfa)
       → AreFoundBy (λ i. WithoutBase (IsAnswer Forward (engine_of m.nfa (match_kind_of m.config)) i))
       input.haystack input.end input.start ts error
-  -- their bytes joined are a beginning of the span's bytes, and without an error all of them
+  -- their bytes, joined, are a beginning of the span's bytes
   pub beginning :
       IsBeginningOf (joined input.haystack ts) (slice_range input.haystack input.start input.end)
+  -- without an error they are all of the span's bytes
   pub whole : error ≡ None → joined input.haystack ts ≡ slice_range input.haystack input.start input.end
   -- if nothing prevents an answer, an error is no token or out of memory
   pub free : IsUnhindered m (asked input.haystack input.end input.start) → IfSome error IsNoTokenOrMemory
+
+-- the spans of a tokenizer by the ordered paths, one after another: each that of an anchored search from where the one
+-- before ended
+abbrev pub AreTokenSpans : Engine → List ℕ → (end offset : ℕ) → List Match → Type 0
+AreTokenSpans d h end offset [] = Unit {0}
+AreTokenSpans d h end offset (t ∷ ts) = IsSpan d (asked h end offset) (Some t) × AreTokenSpans d h end t.end ts
+
+-- the anchored search at an offset has no span by the ordered paths, or an empty one there
+abbrev pub HasNoSpanPast : Engine → List ℕ → (end offset : ℕ) → Type 0
+HasNoSpanPast d h end offset =
+    IsSpan d (asked h end offset) None
+    ⊎ ((pattern : ℕ) × IsSpan d (asked h end offset) (Some (record { pattern = pattern; start = offset; end = offset })))
+
+-- what tokens are by the ordered paths
+pub record AreOfPaths (m : Machine) (d : Engine) (h : List ℕ) (end : ℕ) : Type 0 where
+  -- a token is the span of the search at its offset
+  pub token : (offset : ℕ) (t : Token) → IsTokenAt m h end offset t → IsSpan d (asked h end offset) (Some (match_of t))
+  -- where there is none, that search has no span or an empty one
+  pub none : (offset : ℕ) → IsNoTokenAt m h end offset → HasNoSpanPast d h end offset
+  -- tokens that are collected are these spans, one after another
+  pub list :
+      (offset : ℕ) (ts : List Match) (error : Option TokenError) → AreGiven m h end offset ts error
+      → AreTokenSpans d h end offset ts
+
+-- So it is if the NFA keeps its cycles.
+abbrev pub TokensAreSpans : Type 0
+TokensAreSpans =
+    (m : Machine) (h : List ℕ) (end : ℕ)
+    → KeepsCycles (nfa_of m.nfa) → AreOfPaths m (engine_of m.nfa (match_kind_of m.config)) h end

@@ -1,6 +1,8 @@
 //! Laws about searches over two lazy DFAs. The contract of each function is the law; its body only cites other laws.
 ghost use Rattle.regex_automata.specs.Spans.Agreement.{MatchesAgree, TruthIffFound, TruthsAgree};
 ghost use Rattle.regex_automata.specs.Spans.Follows.{NextsFollow, ErrorsFollow, SpansFollow};
+ghost use Rattle.regex_automata.specs.Spans.OfPaths.{LoopsCollect, MatchesAreSpans};
+ghost use Rattle.regex_automata.specs.Tokens.{TokensAreSpans};
 
 use crate::hybrid::regex::Regex;
 pub use automata_base::laws::{
@@ -35,6 +37,24 @@ pub fn truth_is_found()
 {
     passes_report_paths();
 }
+
+/// Over a sound pair, what the passes of both DFAs report are the spans that the ordered paths define: the match of a
+/// search, the match after another, the match of each item of `find_iter`, and the list of them. And how a loop over
+/// `find_iter` collects such a list, turn by turn.
+pub fn matches_are_spans(regex: &Regex)
+    ensures spans { MatchesAreSpans regex.now }
+    ensures loops { LoopsCollect }
+{
+    reported_is_right(regex.forward().get_nfa());
+    reported_is_right(regex.reverse().get_nfa());
+    start_is_right();
+}
+
+/// Each token is the span that the ordered paths define for an anchored search at its offset, if the NFA keeps its
+/// cycles; and where there is no token, that search has no span, or an empty one.
+pub fn tokens_are_spans()
+    ensures { TokensAreSpans }
+{}
 
 /// What follows of what a search for a span makes of the two caches, and one for the next match: how often it
 /// determinizes, and when it clears nothing; that until the next clear nothing is lost; that all that it used is cached

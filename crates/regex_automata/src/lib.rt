@@ -6,6 +6,7 @@ pub mod hybrid;
 pub mod laws;
 pub mod nfa;
 pub mod replay;
+mod threads;
 pub mod tokens;
 pub mod util;
 

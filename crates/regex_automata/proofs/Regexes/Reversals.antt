@@ -1,6 +1,5 @@
 -- A regex of an NFA that passes the tests and of the reversed one is a sound pair.
 use Rattle.std.proofs.Common.{◌≡◌, ◌∙◌, Bool, Some, ap, sym, subst}
-use Rattle.std.specs.Option.{option_or}
 use Rattle.std.specs.Prelude.{◌==◌, if◌then◌else◌}
 use Rattle.automata_base.specs.declared.util.search.MatchKind.{MatchKind}
 use Rattle.automata_base.specs.declared.util.search.MatchKind.TheVariants.{All}
@@ -18,7 +17,7 @@ use Rattle.automata_config.specs.declared.error.BuildError.TheVariants.{PatternC
 use Rattle.automata_config.proofs.KeptUnions.{settling_with}
 use Rattle.automata_hybrid.specs.Machines.Machine.{Machine}
 use Rattle.regex_automata.specs.declared.hybrid.regex.Regex.{Regex}
-use Rattle.regex_automata.specs.Regexes.Builds.{BuildsPair, backward, pair_error, pattern_count}
+use Rattle.regex_automata.specs.Regexes.Builds.{BuildsPair, backward, error_of_two, pair_error, pattern_count}
 use Rattle.regex_automata.specs.Regexes.SoundPairs.{IsSoundPair, forward_engine, reverse_engine}
 
 module _ (o : Options) (a b : Automaton) (p : Regex) (built : BuildsPair o a b p) where
@@ -56,7 +55,7 @@ module _ (o : Options) (a kept b : Automaton) (keeping : IsKeepingUnions a kept)
 
   refusal_with : (v : Bool) → pair_error o (record a { keeps_unions = v }) b ≡ pair_error o a b
   refusal_with v =
-      ap (λ r. if pattern_count a == pattern_count b then option_or r (settling_error (backward o) b)
+      ap (λ r. if pattern_count a == pattern_count b then error_of_two r (settling_error (backward o) b)
       else Some (PatternCounts (pattern_count a) (pattern_count b))) (settling_with o a v)
 
   pub refused_of : (e : BuildError) → pair_error o kept b ≡ Some e → pair_error o a b ≡ Some e

@@ -12,7 +12,7 @@ use Rattle.regex_automata.specs.Spans.Iteration.{AreCollected}
 use Rattle.regex_automata.specs.Spans.Outcomes.{FindsMatch, IsStartFound}
 use Rattle.regex_automata.specs.declared.hybrid.regex.Regex.{Regex}
 use Rattle.regex_automata.proofs.Spans.Costs.{back_within}
-use Rattle.regex_automata.proofs.Spans.Lists.{ComesTo}
+use Rattle.regex_automata.specs.Spans.Iteration.{ComesTo}
 
 module _ (p : Regex) where
   -- a match lies in the span

@@ -6,17 +6,11 @@ use Rattle.automata_base.specs.Haystacks.Input.{Input}
 use Rattle.automata_base.specs.Haystacks.Matches.{Match}
 use Rattle.automata_base.specs.Answers.Spans.{AreFirst, AreMatches, IsNextItem, from}
 use Rattle.automata_config.specs.declared.error.SearchError.{SearchError}
-use Rattle.regex_automata.specs.Spans.Iteration.{AreCollected, GivesItem, IsBeginning, IsNextMatch}
+use Rattle.regex_automata.specs.Spans.Iteration.{AreCollected, ComesTo, GivesItem, IsBeginning, IsNextMatch}
 use Rattle.regex_automata.specs.Spans.Outcomes.{FindsMatch}
 use Rattle.regex_automata.specs.declared.hybrid.regex.Regex.{Regex}
 use Rattle.automata_base.proofs.Answers.Once.{FindsOnce, next_none, next_some}
 use Rattle.automata_base.proofs.Answers.Rising.{all_first, first_right, matches_right}
-
--- the first matches of an iteration, and where it is after them
-abbrev pub ComesTo : (Finds : Input → Option Match → Type 0) → Input → ℕ → Option ℕ → List Match → ℕ → Option ℕ → Type 0
-ComesTo Finds input start last [] start' last' = (start ≡ start') × (last ≡ last')
-ComesTo Finds input start last (m ∷ ms) start' last' =
-    IsNextItem Finds input start last (Some m) × ComesTo Finds input m.end (Some m.end) ms start' last'
 
 module _ (Finds : Input → Option Match → Type 0) (input : Input) where
   -- one more

@@ -1,6 +1,6 @@
 -- What the tokens of a span are, by the answers of its searches, and how they tile it.
 use Rattle.std.proofs.Common.{ℕ, ◌≡◌, ◌∙◌, ◌<◌, ◌≤◌, ◌+◌, ◌-◌, ◌⊎◌, inl, inr, Bool, true, false, List, [], ◌∷◌, ◌++◌}
-use Rattle.std.proofs.Common.{length, take, drop, append_assoc, Option, Some, None, refl, sym, ap, subst, arith}
+use Rattle.std.proofs.Common.{take, drop, append_assoc, Option, Some, None, refl, sym, ap, subst, arith}
 use Rattle.std.specs.Prelude.{Result, Ok, Err, IfSome, nat_lt, if◌then◌else◌, slice_range}
 use Rattle.std.proofs.Math.Seq.{take-add}
 use Rattle.std.proofs.lemmas.Bool.{ltb-true, ltb-false}
@@ -22,7 +22,7 @@ use Rattle.regex_automata.proofs.TokenLists.Refusals.{no_search, same_search}
 same_place : (a b : ℕ) → NoToken a ≡ NoToken b → a ≡ b
 same_place a b h = cc
 
-module _ (m : Machine) (h : List ℕ) (end : ℕ) (few : end ≤ length h) where
+module _ (m : Machine) (h : List ℕ) (end : ℕ) where
   half_in : (offset : ℕ) (half : HalfMatch) → SearchReturns m h end offset (Ok (Some half)) → LiesIn m (asked h end offset) half
   half_in offset half returned = returned.0.within
 
@@ -38,7 +38,7 @@ module _ (m : Machine) (h : List ℕ) (end : ℕ) (few : end ≤ length h) where
   past_place offset half t past returned is =
       subst (λ (n : Match). Reports offset n) (sym is) (returned, refl, past, (half_in offset half returned).upto)
 
-  token_is : (offset : ℕ) (t : Match) → IsItemAt m h end offset (Ok t) → Reports offset t
+  pub token_is : (offset : ℕ) (t : Match) → IsItemAt m h end offset (Ok t) → Reports offset t
   token_is offset t (ahead, (Ok (Some half), returned, is)) = go (nat_lt offset half.offset) refl where
     go : (past : Bool) → nat_lt offset half.offset ≡ past → Reports offset t
     go true e =

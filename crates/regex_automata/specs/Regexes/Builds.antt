@@ -1,6 +1,5 @@
 -- What a regex's builder makes of two NFAs, or why it fails.
-use Rattle.std.specs.Prelude.{ℕ, ◌≡◌, ◌==◌, false, true, if◌then◌else◌, length, Option, Some}
-use Rattle.std.specs.Option.{option_or}
+use Rattle.std.specs.Prelude.{ℕ, ◌≡◌, ◌==◌, false, true, if◌then◌else◌, length, max, Option, None, Some}
 use Rattle.automata_base.specs.Nfas.Getters.{SkipsLazily}
 use Rattle.automata_base.specs.Nfas.Mirrors.{BeginsAlike, IsReversed}
 use Rattle.automata_base.specs.Nfas.Nodes.{Automaton}
@@ -14,7 +13,7 @@ use Rattle.automata_base.specs.declared.util.search.MatchKind.TheVariants.{All}
 use Rattle.automata_config.specs.Options.{Options}
 use Rattle.automata_config.specs.Settling as settling
 use Rattle.automata_config.specs.declared.error.BuildError.{BuildError}
-use Rattle.automata_config.specs.declared.error.BuildError.TheVariants.{PatternCounts}
+use Rattle.automata_config.specs.declared.error.BuildError.TheVariants.{InsufficientCacheCapacity, PatternCounts}
 use Rattle.automata_hybrid.specs.Machines.Builds as dfa
 use Rattle.regex_automata.specs.declared.hybrid.regex.Regex.{Regex}
 use Rattle.regex_automata.specs.declared.hybrid.regex.build.RegexBuildError.{RegexBuildError}
@@ -32,12 +31,42 @@ BuildsPair o forward reverse p = dfa.Builds o forward p.forward × dfa.Builds (b
 abbrev pub pattern_count : Automaton → ℕ
 pattern_count a = length a.start_pattern
 
+-- two errors in one: the first, and if both are of a capacity that is too small, the greater minimum
+abbrev pub joined_error : BuildError → BuildError → BuildError
+joined_error (InsufficientCacheCapacity minimum given) (InsufficientCacheCapacity other asked) =
+    InsufficientCacheCapacity (max minimum other) given
+joined_error first second = first
+
+-- the error of the forward DFA, which comes first, or that of the reverse one, if there is any
+abbrev pub error_of_two : (forward reverse : Option BuildError) → Option BuildError
+error_of_two (Some first) (Some second) = Some (joined_error first second)
+error_of_two (Some first) None = Some first
+error_of_two None reverse = reverse
+
+-- why a DFA cannot be built of the one NFA or of the other
+abbrev pub error_of_both : Options → Automaton → Automaton → Option BuildError
+error_of_both o forward reverse =
+    error_of_two (settling.settling_error o forward) (settling.settling_error (backward o) reverse)
+
 -- why no regex is built: the NFAs are not for the same patterns, or a DFA cannot be built, the forward one first
 abbrev pub pair_error : Options → Automaton → Automaton → Option BuildError
 pair_error o forward reverse =
     if pattern_count forward == pattern_count reverse
-    then option_or (settling.settling_error o forward) (settling.settling_error (backward o) reverse)
+    then error_of_both o forward reverse
     else Some (PatternCounts (pattern_count forward) (pattern_count reverse))
+
+-- with this capacity, and with the other settings and both NFAs as they are, a build does not fail for its capacity
+abbrev pub IsEnough : Options → Automaton → Automaton → (capacity : ℕ) → Type 0
+IsEnough o forward reverse capacity =
+    (minimum given : ℕ)
+    → pair_error (record o { cache_capacity = Some capacity }) forward reverse
+    ≡ Some (InsufficientCacheCapacity minimum given)
+    → ⊥
+
+-- if the error is that the capacity is too small, the minimum that it names is enough for both DFAs
+abbrev pub NamesEnough : Options → Automaton → Automaton → BuildError → Type 0
+NamesEnough o forward reverse error =
+    (minimum given : ℕ) → error ≡ InsufficientCacheCapacity minimum given → IsEnough o forward reverse minimum
 
 -- how the errors of `NFA::reversed` are named
 abbrev pub reverse_build_error : ReverseError → RegexBuildError
@@ -49,10 +78,11 @@ reverse_build_error reverse.OutOfMemory = is.OutOfMemory
 abbrev pub IsUtf8 : Automaton → Type 0
 IsUtf8 forward = forward.flags.utf8 ≡ true → ReadsUtf8 Forward forward
 
--- the tests that an NFA passes: the first two; and all three, with that of its starts
+-- the NFA passes the first two tests: it skips lazily, and in UTF-8 mode it reads valid UTF-8
 abbrev pub PassesTwo : Automaton → Type 0
 PassesTwo forward = SkipsLazily forward × IsUtf8 forward
 
+-- the NFA passes all three tests: the first two, and it begins alike
 abbrev pub PassesAll : Automaton → Type 0
 PassesAll forward = PassesTwo forward × BeginsAlike forward
 
@@ -71,4 +101,5 @@ IsBuildError o forward is.TooLarge = PassesAll forward × MayBeTooLarge forward
 IsBuildError o forward is.OutOfMemory = SkipsLazily forward
 IsBuildError o forward (is.Build error) =
     PassesAll forward
-    × ((reverse : Automaton) × IsReversed forward reverse × (pair_error o forward reverse ≡ Some error))
+    × ((reverse : Automaton) × IsReversed forward reverse × (pair_error o forward reverse ≡ Some error)
+    × NamesEnough o forward reverse error)

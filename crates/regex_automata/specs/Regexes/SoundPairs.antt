@@ -7,10 +7,11 @@ use Rattle.automata_base.specs.Answers.TruePairs.{IsTruePair, KeepsUtf8}
 use Rattle.regex_automata.specs.declared.hybrid.regex.Regex.{Regex}
 use Rattle.automata_config.specs.Options.{match_kind_of}
 
--- what each of the two searches by: its NFA and its match kind
+-- what the forward DFA searches by: its NFA and its match kind
 abbrev pub forward_engine : Regex → Engine
 forward_engine p = engine_of p.forward.nfa (match_kind_of p.forward.config)
 
+-- what the reverse DFA searches by: its NFA and its match kind
 abbrev pub reverse_engine : Regex → Engine
 reverse_engine p = engine_of p.reverse.nfa (match_kind_of p.reverse.config)
 
@@ -20,6 +21,9 @@ BothKeepCycles p = KeepsCycles (nfa_of p.forward.nfa) × KeepsCycles (nfa_of p.r
 
 -- they are of one regular expression, which keeps the UTF-8 promise, and the forward NFA keeps its cycles
 pub record IsSoundPair (p : Regex) : Type 0 where
+  -- the forward NFA keeps its cycles
   pub cycles : KeepsCycles (nfa_of p.forward.nfa)
+  -- the two are a true pair
   pub pair : IsTruePair (forward_engine p) (reverse_engine p)
+  -- the forward NFA keeps the UTF-8 promise
   pub utf8 : KeepsUtf8 Forward (forward_engine p)

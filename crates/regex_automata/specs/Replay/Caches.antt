@@ -43,11 +43,12 @@ abbrev pub IsSearched :
 IsSearched way m input old new result =
     IfOk result (WithoutBase (IsFound way m input)) × IsSearchRun way m input old new (result_err result)
 
--- a search for a span, and one for whether there is a match: what its passes report, and what it makes of the caches
+-- a search for a span: what its passes report, and what it makes of the caches
 abbrev pub IsSpanSearched : Regex → Input → (old new : Cache) → Result (Option Match) SearchError → Type 0
 IsSpanSearched p input old new result =
     IfOk result (FindsMatch p input) × IsSpanRun p input old new (result_err result)
 
+-- a search for whether there is a match: what its passes report, and what it makes of the caches
 abbrev pub IsTruthSearched : Regex → Input → (old new : Cache) → Result Bool SearchError → Type 0
 IsTruthSearched p input old new result =
     IfOk result (IsTruthReported p.forward input) × IsTruthRun p input old new (result_err result)
@@ -81,6 +82,7 @@ IsTokenSearchedLast m h end place old new (Some e) =
     IsTokenMade m h end place old new (Some (Err e))
     ⊎ ((e ≡ Search search.OutOfMemory) × ((t : Token) × IsTokenMade m h end place old new (Some (Ok t))))
 
+-- the searches for a list of tokens, one after another, each over the caches that the one before left
 abbrev pub AreTokensSearched :
     Machine → List ℕ → (end place : ℕ) → (old new : Cache) → List Match → Option TokenError → Type 0
 AreTokensSearched m h end place old new [] error = IsTokenSearchedLast m h end place old new error
@@ -90,7 +92,9 @@ AreTokensSearched m h end place old new (t ∷ ts) error =
 
 -- a walk has answered so many calls: it has ended exactly if they are more than its pairs
 pub record HasAnswered (way : Direction) (m : Machine) (input : Input) (w : Walk) (k : ℕ) : Type 0 where
+  -- its calls have reported the first `k` pairs, or all of them if there are fewer
   pub reported : HasReported way m input w k
+  -- it has ended exactly if there are fewer pairs than calls
   pub ended : (pairs : List Pair) → AreWalked way m input pairs → (w.stage ≡ Ended ↔ length pairs < k)
 
 -- a call of a walk that has answered so many: if it returns Ok, the walk goes on to the next pair
@@ -102,11 +106,12 @@ IsCalled way m input answered old new result =
     × OnOk result (ReportsNext way m input walk next)
     × IsWalkRun States way m input walk next old new (result_err result)
 
--- the cache of the DFA of a direction, and the other one
+-- the cache of the DFA of a direction
 abbrev pub own_of : Direction → Cache → CacheView
 own_of Forward c = c.forward
 own_of Backward c = c.reverse
 
+-- the cache of the DFA of the other direction
 abbrev pub other_of : Direction → Cache → CacheView
 other_of Forward c = c.reverse
 other_of Backward c = c.forward
@@ -152,6 +157,7 @@ IsMadeBy r walks (request.Which capacity input) old new answer =
     × (new.reverse ≡ old.reverse)
 IsMadeBy r walks (request.Reset k) old new answer = new ≡ old
 
+-- what a request does to the caches of the current regex, if there is one
 abbrev pub IsMadeByOf : Option Regex → List Begun → Request → (old new : Cache) → Reply → Type 0
 IsMadeByOf None walks q old new answer = ⊥
 IsMadeByOf (Some r) walks q old new answer = IsMadeBy r walks q old new answer

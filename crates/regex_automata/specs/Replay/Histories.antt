@@ -9,14 +9,20 @@ use Rattle.regex_automata.specs.declared.replay.requests.Reply.TheVariants as re
 
 -- a walk that was begun: the number of its regex, its direction, its input, and how many of its steps answered Ok
 pub record Begun : Type 0 where
+  -- the number of its regex
   pub regex : ℕ
+  -- its direction
   pub way : Direction
+  -- its input
   pub input : Input
+  -- how many of its steps answered Ok
   pub reported : ℕ
 
 -- the number of the current regex, and the walks by their numbers
 pub record History : Type 0 where
+  -- the number of the current regex, counted from 0
   pub current : ℕ
+  -- the walks that were begun, each at its number
   pub walks : List Begun
 
 -- before the first request
@@ -33,7 +39,7 @@ step_at k [] = []
 step_at zero (w ∷ ws) = stepped w ∷ ws
 step_at (suc k) (w ∷ ws) = w ∷ step_at k ws
 
--- a walk is begun by an Ok reply, and goes on by an Ok reply; an Ok reply makes another regex current
+-- an Ok reply begins a walk of the current regex, which has the next number
 abbrev pub after_begin : History → Direction → Input → Reply → History
 after_begin h way input (reply.Begun (Ok k)) =
     record {
@@ -42,10 +48,12 @@ after_begin h way input (reply.Begun (Ok k)) =
     }
 after_begin h way input r = h
 
+-- an Ok reply counts one more step of the walk
 abbrev pub after_step : History → ℕ → Reply → History
 after_step h k (reply.Half (Ok found)) = record { current = h.current; walks = step_at k h.walks }
 after_step h k r = h
 
+-- an Ok reply makes the regex of this number current
 abbrev pub after_reset : History → ℕ → Reply → History
 after_reset h k (reply.Done (Ok done)) = record { current = k; walks = h.walks }
 after_reset h k r = h

@@ -23,8 +23,11 @@ use Rattle.regex_automata.specs.declared.replay.walks.KeptWalk.{KeptWalk}
 -- one more call of a walk: what it returns, and what it leaves
 pub record IsCall (way : Direction) (m : Machine) (input : Input) (old new : Walk)
     (result : Result (Option HalfMatch) SearchError) : Type 0 where
+  -- after `k` calls that returned Ok it returns what the next one must
   pub step : (k : ℕ) → HasAnswered way m input old k → IsStep way m input k result
+  -- if it returns Ok, the walk has answered one call more
   pub reported : (k : ℕ) → HasAnswered way m input old k → OnOk result (HasAnswered way m input new (k + 1))
+  -- if it fails, the walk has answered as many calls as before
   pub kept : (k : ℕ) → HasAnswered way m input old k → OnErr result (HasAnswered way m input new k)
 
 -- and what it does to its cache
@@ -43,17 +46,24 @@ IsStepFrom r kept k result = IsStep kept.way (dfa_of kept.way r) kept.input k re
 
 -- one more call of it
 pub record Goes (r : Regex) (old new : KeptWalk) (result : Result (Option HalfMatch) SearchError) : Type 0 where
+  -- the walk belongs to the same regex as before
   pub regex : new.regex ≡ old.regex
+  -- it has the same direction
   pub way : new.way ≡ old.way
+  -- it has the same input
   pub input : new.input ≡ old.input
+  -- after `k` calls that returned Ok it returns what the next one must
   pub step : (k : ℕ) → HasAnsweredBy r old k → IsStepFrom r old k result
+  -- if it returns Ok, the walk has answered one call more
   pub reported : (k : ℕ) → HasAnsweredBy r old k → OnOk result (HasAnsweredBy r new (k + 1))
+  -- if it fails, the walk has answered as many calls as before
   pub kept : (k : ℕ) → HasAnsweredBy r old k → OnErr result (HasAnsweredBy r new k)
 
--- the walk of this number; and one more call of it, which leaves the others
+-- the walk of this number
 abbrev pub IsWalkAt : List KeptWalk → ℕ → KeptWalk → Type 0
 IsWalkAt ks number kept = slice_get ks number ≡ Some kept
 
+-- one more call of the walk of this number, which leaves the other walks unchanged
 abbrev pub GoesAt : Regex → ℕ → (olds news : List KeptWalk) → Result (Option HalfMatch) SearchError → Type 0
 GoesAt r number olds news result =
     (old : KeptWalk) → IsWalkAt olds number old
@@ -66,6 +76,7 @@ MakesStep r kept old new result =
     (own_of kept.way new) result
     × (other_of kept.way new ≡ other_of kept.way old)
 
+-- what one more call of the walk of this number does to the caches
 abbrev pub MakesStepAt :
     Regex → ℕ → List KeptWalk → (old new : Cache) → Result (Option HalfMatch) SearchError → Type 0
 MakesStepAt r number walks old new result =
@@ -73,9 +84,13 @@ MakesStepAt r number walks old new result =
 
 -- what is kept of a walk belongs to the walk that was begun, and has answered as many calls
 pub record IsWalk (regexes : List Regex) (w : Begun) (kept : KeptWalk) : Type 0 where
+  -- it belongs to the same regex
   pub regex : kept.regex ≡ w.regex
+  -- it has the same direction
   pub way : kept.way ≡ w.way
+  -- it has the same input
   pub input : kept.input ≡ w.input
+  -- it has answered as many calls
   pub reported : (r : Regex) → slice_get regexes w.regex ≡ Some r → HasAnsweredBy r kept w.reported
 
 -- one for each
@@ -87,15 +102,20 @@ AreWalks regexes (w ∷ ws) (k ∷ ks) = IsWalk regexes w k × AreWalks regexes 
 
 -- the current regex is the history's, the caches belong to it, and the walks are the history's
 pub record HasPlayed (h : History) (s : Player) : Type 0 where
+  -- the number of the current regex is the history's
   pub current : s.current ≡ h.current
+  -- the current regex is the one of this number
   pub regex : slice_get s.regexes.now h.current ≡ Some s.regex.now
+  -- the caches belong to it
   pub of : AreCachesOf s.cache s.regex.now
+  -- the walks are the history's
   pub walks : AreWalks s.regexes.now h.walks s.walks.items
 
--- the reply to a request is its own value, after any history; and the history goes on by it
+-- the reply to a request is its own value, after any history
 abbrev pub IsReplyTo : Player → Request → Reply → Type 0
 IsReplyTo s q answer = (h : History) → HasPlayed h s → IsReply s.regexes.now h q answer
 
+-- what is kept after a request fits the history that its reply makes, whatever the history before
 abbrev pub StandsAfter : (old : Player) → Request → Reply → (new : Player) → Type 0
 StandsAfter old q answer new = (h : History) → HasPlayed h old → HasPlayed (after h q answer) new
 

@@ -27,50 +27,58 @@ use Rattle.regex_automata.specs.declared.replay.requests.Fault.TheVariants as fa
 use Rattle.regex_automata.specs.declared.tokens.error.TokenError.{TokenError}
 use Rattle.automata_config.specs.Options.{match_kind_of}
 
--- why a request is bad, in this order: there is no regex, or a reset names none; there is no such walk; the walk
--- belongs to a regex that is not the current one
+-- why a step is bad: there is no such walk, or it belongs to a regex that is not the current one
 abbrev pub walk_fault : (current : ℕ) → Option Begun → Option Fault
 walk_fault current None = Some fault.NoWalk
 walk_fault current (Some w) = if w.regex == current then None else Some fault.OtherRegex
 
+-- why a request is bad where there is a regex: it is a bad step, or a reset that names no regex
 abbrev pub own_fault : List Regex → History → Request → Option Fault
 own_fault regexes h (request.StepWalk k) = walk_fault h.current (slice_get h.walks k)
 own_fault regexes h (request.Reset k) = if nat_lt k (length regexes) then None else Some fault.NoRegex
 own_fault regexes h other = None
 
+-- why a request is bad, if it is: there is no regex at all, or it is bad itself
 abbrev pub fault_of : List Regex → History → Request → Option Fault
 fault_of [] h q = Some fault.NoRegex
 fault_of (r ∷ rs) h q = own_fault (r ∷ rs) h q
 
--- the reply is of this form, and its value has this property
+-- the reply is that of a search of one DFA or of a step, and its result has this property
 abbrev pub OnHalf : (Result (Option HalfMatch) SearchError → Type 0) → Reply → Type 0
 OnHalf P (reply.Half result) = P result
 OnHalf P other = ⊥
 
+-- the reply is that of a search for a span, and its result has this property
 abbrev pub OnSpan : (Result (Option Match) SearchError → Type 0) → Reply → Type 0
 OnSpan P (reply.Span result) = P result
 OnSpan P other = ⊥
 
+-- the reply is that of a search for whether there is a match, and its result has this property
 abbrev pub OnTruth : (Result Bool SearchError → Type 0) → Reply → Type 0
 OnTruth P (reply.Truth result) = P result
 OnTruth P other = ⊥
 
+-- the reply is a list of matches and the error that ended it, if one did, and they have this property
 abbrev pub OnSpans : (List Match → Option SearchError → Type 0) → Reply → Type 0
 OnSpans P (reply.Spans found error) = P found.items error
 OnSpans P other = ⊥
 
+-- the reply is a list of tokens and the error that ended it, if one did, and they have this property
 abbrev pub OnTokens : (List Match → Option TokenError → Type 0) → Reply → Type 0
 OnTokens P (reply.Tokens found error) = P found.items error
 OnTokens P other = ⊥
 
+-- the reply is that of beginning a walk, and its result has this property
 abbrev pub OnBegun : (Result ℕ SearchError → Type 0) → Reply → Type 0
 OnBegun P (reply.Begun result) = P result
 OnBegun P other = ⊥
 
+-- the reply is a list of patterns and the error of their search, if it failed, and they have this property
 abbrev pub OnPatterns : (List ℕ → Option SearchError → Type 0) → Reply → Type 0
 OnPatterns P (reply.Patterns found error) = P found.items error
 OnPatterns P other = ⊥
 
+-- the reply is that of a reset, and its result has this property
 abbrev pub OnDone : (Result (Unit {0}) SearchError → Type 0) → Reply → Type 0
 OnDone P (reply.Done result) = P result
 OnDone P other = ⊥
@@ -104,6 +112,7 @@ IsOwnValue r walks (request.StepWalk k) = OnHalf (IsStepOf r (slice_get walks k)
 IsOwnValue r walks (request.Which capacity input) = OnPatterns (ArePatternsUpto r.forward input capacity)
 IsOwnValue r walks (request.Reset k) = OnDone (λ result. IfErr result IsMemory)
 
+-- the reply is the own value of its request, by the current regex, which there is
 abbrev pub IsOwnValueBy : Option Regex → (walks : List Begun) → Request → Reply → Type 0
 IsOwnValueBy None walks q answer = ⊥
 IsOwnValueBy (Some r) walks q answer = IsOwnValue r walks q answer
@@ -147,7 +156,9 @@ AreReportedFrom reported pairs (found ∷ later) =
 -- they are the pairs of the walk over an input, and then none: for every NFA those that its passes report (there is one
 -- such list), and if the NFA keeps its cycles those of the ordered paths
 pub record ReportWalk (way : Direction) (m : Machine) (input : Input) (steps : List (Option HalfMatch)) : Type 0 where
+  -- for every NFA, they are the pairs that its passes report
   pub reported : (pairs : List Pair) → AreWalked way m input pairs → AreReportedFrom 0 pairs steps
+  -- if the NFA keeps its cycles, they are those of the ordered paths
   pub paths :
       KeepsCycles (nfa_of m.nfa)
       → (pairs : List Pair) → IsOverlapping way (engine_of m.nfa (match_kind_of m.config)) input pairs

@@ -12,9 +12,13 @@ use Rattle.automata_config.specs.Options.{match_kind_of}
 -- two regexes have the same NFAs and match kinds; their DFAs may differ in capacity, limits, byte classes, tags of
 -- starts and quit bytes
 pub record AreAlike (p other : Regex) : Type 0 where
+  -- the forward NFAs are the same
   pub forward : p.forward.nfa ≡ other.forward.nfa
+  -- the match kinds of the forward DFAs are the same
   pub forward_kind : match_kind_of p.forward.config ≡ match_kind_of other.forward.config
+  -- the reverse NFAs are the same
   pub reverse : p.reverse.nfa ≡ other.reverse.nfa
+  -- the match kinds of the reverse DFAs are the same
   pub reverse_kind : match_kind_of p.reverse.config ≡ match_kind_of other.reverse.config
 
 -- searches over any caches of one regex find the same match, and so do two regexes that are alike

@@ -110,12 +110,14 @@ ReportsUnsupported p input ended item =
 pub record AreMatchesUpto (p : Regex) (input : Input) (ms : List Match) (error : Option SearchError) : Type 0 where
   -- if both NFAs keep their cycles, what the ordered paths through both define
   pub answers : BothKeepCycles p → AreCollected (TryFinds (forward_engine p) (reverse_engine p)) input ms error
-  -- over a sound pair, the spans of the paths; and if there is an error, a beginning of them
+  -- over a sound pair, the spans of the paths: all of them, or the first ones if there is an error
   pub spans : IsSoundPair p → AreCollected (IsSpan (forward_engine p)) input ms error
+  -- over a sound pair, the list of all spans begins with these
   pub beginning :
       IsSoundPair p → (whole : List Match) → AreSpans (forward_engine p) input whole → IsBeginning ms whole
-  -- their ends rise, so there is at most one more than the span has bytes
+  -- each starts at or after the end of the one before and ends after it, in the span
   pub rise : Rise input.end None ms
+  -- there is at most one more than the span has bytes
   pub few : length ms ≤ input.end - input.start + 1
   -- an anchored mode that is not supported is reported, and no match
   pub unsupported :

@@ -32,10 +32,15 @@ HasReason p c input e =
 
 -- nothing prevents an answer: no quit byte is in reach, the anchored mode is supported, no clear limit is set
 pub record IsFree (p : Regex) (input : Input) : Type 0 where
+  -- no quit byte of the forward DFA is in reach
   pub forward : NoQuitInReach p.forward input
+  -- no quit byte of the reverse DFA is in reach
   pub reverse : NoQuitInReach p.reverse input
+  -- the forward DFA supports the anchored mode
   pub supported : supports p.forward input.anchored ≡ true
+  -- no limit on clears is set for the forward DFA
   pub forward_clears : minimum_cache_clear_count_of p.forward.config ≡ None
+  -- no limit on clears is set for the reverse DFA
   pub reverse_clears : minimum_cache_clear_count_of p.reverse.config ≡ None
 
 -- the error is out of memory, or that the two are no pair
@@ -44,6 +49,7 @@ IsOfMemory e = (e ≡ search.OutOfMemory) ⊎ (e ≡ search.NotAPair)
 
 -- why a search fails, and what that excludes
 pub record IsRegexError (p : Regex) (c : Cache) (input : Input) (e : SearchError) : Type 0 where
+  -- the forward search fails, or the one back does, or that one finds no start
   pub reason : HasReason p c input e
   -- if nothing prevents an answer, the error is out of memory, or that the two are no pair
   pub free : IsFree p input → IsOfMemory e

@@ -59,9 +59,13 @@ pub record SpanFollows (p : Regex) (input : Input) (old new : Cache) (error : Op
 -- what follows of a search for the match after another
 pub record NextFollows (p : Regex) (input : Input) (last : Option ℕ) (old new : Cache) (error : Option SearchError) :
     Type 0 where
+  -- it costs what one search does, or what two do if the first finds an empty match at the last end
   pub cost : AreCostsTwice p input last old new
+  -- until the next clear nothing is lost
   pub grown : AreGrown old new
+  -- if it answers, and nothing was cleared, what it used is cached
   pub learned : NothingCleared old new → error ≡ None → KnowsNext p new input last
+  -- with all that cached it does not run out of memory, and changes nothing but the progress
   pub known : KnowsNext p old input last → AreStill old new × IfSome error IsOfGiven
   -- why it fails
   pub refused : IfSome error (IsNextError p new input last)

@@ -1,5 +1,5 @@
 -- The matches of an input, one after another.
-use Rattle.std.specs.Prelude.{ℕ, ◌≡◌, ◌+◌, ◌-◌, ◌<◌, ◌≤◌, ◌==◌, Bool, true, false, cond, List}
+use Rattle.std.specs.Prelude.{ℕ, ◌≡◌, ◌+◌, ◌-◌, ◌<◌, ◌≤◌, ◌==◌, Bool, true, false, cond, List, [], ◌∷◌}
 use Rattle.std.specs.Prelude.{◌++◌, length}
 use Rattle.std.specs.Prelude.{Option, None, Some, Result, Ok, Err, IfOk, IfSome, MatchOption}
 use Rattle.automata_base.specs.Haystacks.Input.{Input}
@@ -53,6 +53,12 @@ most_items true input last = 0
 most_items false input None = input.end + 2 - input.start
 most_items false input (Some end) =
     cond (end == input.start) (input.end + 1 - input.start) (input.end + 2 - input.start)
+
+-- the first matches of an iteration, and where it is after them
+abbrev pub ComesTo : (Finds : Input → Option Match → Type 0) → Input → ℕ → Option ℕ → List Match → ℕ → Option ℕ → Type 0
+ComesTo Finds input start last [] start' last' = (start ≡ start') × (last ≡ last')
+ComesTo Finds input start last (m ∷ ms) start' last' =
+    IsNextItem Finds input start last (Some m) × ComesTo Finds input m.end (Some m.end) ms start' last'
 
 -- all matches of an input, or the first ones and the error that ended them
 abbrev pub AreCollected : (Finds : Input → Option Match → Type 0) → Input → List Match → Option SearchError → Type 0

@@ -9,10 +9,11 @@ use Rattle.automata_hybrid.specs.Searches.Passes.{IsFound}
 use Rattle.regex_automata.specs.declared.hybrid.regex.Regex.{Regex}
 use Rattle.regex_automata.specs.Regexes.SoundPairs.{forward_engine}
 
--- the start of a match by the passes of two lazy DFAs, and what a search returns
+-- the start of a match, by the passes of two lazy DFAs
 abbrev pub IsStartFound : Regex → Input → Half → Option ℕ → Type 0
 IsStartFound p input half start = FindsStartBy (IsFound Backward p.reverse) (forward_engine p) input half start
 
+-- what a search returns, by the passes of two lazy DFAs
 abbrev pub IsOutcome : Regex → Input → Outcome → Type 0
 IsOutcome p input outcome =
     ReportsBy (IsFound Forward p.forward) (IsFound Backward p.reverse) (forward_engine p) input outcome

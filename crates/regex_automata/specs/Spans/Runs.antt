@@ -46,12 +46,14 @@ IsBothRun p input old new error =
 
 -- a search for a span, by the error that it returns, if it fails
 pub record IsSpanRun (p : Regex) (input : Input) (old new : Cache) (error : Option SearchError) : Type 0 where
+  -- it is the forward search alone, if that fails or finds no match, and else that and the search back
   pub run : IsFrontRun p input old new error ⊎ IsBothRun p input old new error
 
 -- a search for the match after another: one search, or, if that finds an empty match at the last end, another from one
 -- offset later
 pub record IsNextRun (p : Regex) (input : Input) (last : Option ℕ) (old new : Cache) (error : Option SearchError) :
     Type 0 where
+  -- it is one search, or two if the first finds an empty match at the last end
   pub run :
       (IsSpanRun p input old new error × (error ≡ None → FindsEmptyAt p input last → ⊥))
       ⊎ (FindsEmptyAt p input last
@@ -71,7 +73,11 @@ IsItemRun p input last false old new item = IsNextRun p input last old new (item
 
 -- a search for whether there is a match is one of the forward DFA
 pub record IsTruthRun (p : Regex) (input : Input) (old new : Cache) (error : Option SearchError) : Type 0 where
+  -- the input that is searched
   pub asked : Input
+  -- it is not earliest if split places are skipped, and else earliest
   pub is : IsAsked p.forward input asked
+  -- the forward DFA searches it
   pub run : IsSearchRun Forward p.forward asked old.forward new.forward error
+  -- the cache of the reverse DFA is unchanged
   pub reverse : new.reverse ≡ old.reverse

@@ -6,7 +6,8 @@ ghost use Rattle.automata_base.specs.declared.util.search.Direction.TheVariants.
 ghost use Rattle.automata_base.specs.Answers.TruePairs.{IsTruePair, KeepsUtf8};
 ghost use Rattle.automata_config.specs.Options.{Options, unset, overwritten};
 ghost use Rattle.regex_automata.specs.Regexes.Builds.{BuildsOne, BuildsPair, IsUtf8, PassesAll, IsBuildError};
-ghost use Rattle.regex_automata.specs.Regexes.Builds.{pair_error, reverse_build_error};
+ghost use Rattle.regex_automata.specs.Regexes.Builds.{NamesEnough, error_of_both, joined_error, pair_error};
+ghost use Rattle.regex_automata.specs.Regexes.Builds.{reverse_build_error};
 ghost use Rattle.regex_automata.specs.Regexes.SoundPairs.{IsSoundPair};
 ghost use Rattle.regex_automata.specs.declared.hybrid.regex.build.RegexBuildError.TheVariants.{Build as RegexBuild};
 ghost use Rattle.regex_automata.specs.declared.hybrid.regex.build.RegexBuildError.TheVariants as regex_error;
@@ -118,6 +119,26 @@ fn reverse_if(forward: &NFA, keeps: bool) -> Result<NFA, RegexBuildError>
     }
 }
 
+/// The error of two DFAs that both cannot be built: that of the first one. If the capacity is too small for both, it
+/// names the greater minimum.
+fn joined(first: BuildError, second: BuildError) -> BuildError
+    ensures { result ≡ joined_error first second }
+{
+    match (first, second) {
+        (
+            BuildError::InsufficientCacheCapacity { minimum, given },
+            BuildError::InsufficientCacheCapacity {
+                minimum: other,
+                given: _,
+            },
+        ) => BuildError::InsufficientCacheCapacity {
+            minimum: minimum.max(other),
+            given,
+        },
+        _ => first,
+    }
+}
+
 /// A builder of regexes. It holds the settings of their DFAs.
 #[derive(Clone, Copy, Debug)]
 pub struct Builder {
@@ -178,14 +199,16 @@ impl Builder {
     /// The regex of an NFA and of one that reads the same backward. It allocates nothing.
     ///
     /// It fails if the NFAs do not have equally many patterns, if the forward DFA cannot be built, or if the reverse
-    /// one cannot; the error is that of the first test that fails, and does not give the NFAs back. The reverse DFA has
-    /// `MatchKind::All`, and its start states are not tagged.
+    /// one cannot; the error is that of the first test that fails, and does not give the NFAs back. If the capacity is
+    /// too small for both DFAs, the error names the greater minimum, so that a second try with it does not fail for its
+    /// capacity. The reverse DFA has `MatchKind::All`, and its start states are not tagged.
     ///
     /// Nothing tests that the second NFA reads what the first one does: if it does not, `find` can return a wrong
     /// start, or the error that the two are no pair. `build_from_nfa` makes the second NFA itself.
     pub fn build_from_nfas(&self, forward: NFA, reverse: NFA) -> Result<Regex, BuildError>
         ensures ok { IfOk result (BuildsPair self.now forward reverse) }
         ensures refused { result_err result ≡ pair_error self.now forward reverse }
+        ensures enough { IfErr result (NamesEnough self.now forward reverse) }
     {
         if forward.pattern_len() != reverse.pattern_len() {
             return Err(BuildError::PatternCounts {
@@ -193,9 +216,7 @@ impl Builder {
                 reverse: reverse.pattern_len(),
             });
         }
-        let forward = self.dfa.build_from_nfa(forward)?;
-        let reverse = self.backward().build_from_nfa(reverse)?;
-        Ok(Regex { forward, reverse })
+        self.build_both(forward, reverse)
     }
 
     /// The regex of one NFA. It searches backward with the reversed NFA (`NFA::reversed`).
@@ -218,6 +239,23 @@ impl Builder {
             Ok(reverse) => match self.build_from_nfas(forward.keeping_unions(), reverse) {
                 Ok(regex) => Ok(regex),
                 Err(error) => Err(RegexBuildError::Build(error)),
+            },
+        }
+    }
+
+    /// The regex of two NFAs. If neither DFA can be built, the error is that of both (`joined`).
+    fn build_both(&self, forward: NFA, reverse: NFA) -> Result<Regex, BuildError>
+        ensures ok { IfOk result (BuildsPair self.now forward reverse) }
+        ensures refused { result_err result ≡ error_of_both self.now forward reverse }
+    {
+        match self.dfa.build_from_nfa(forward) {
+            Ok(forward) => match self.backward().build_from_nfa(reverse) {
+                Ok(reverse) => Ok(Regex { forward, reverse }),
+                Err(error) => Err(error),
+            },
+            Err(error) => match self.backward().build_from_nfa(reverse) {
+                Ok(_) => Err(error),
+                Err(other) => Err(joined(error, other)),
             },
         }
     }

@@ -4,7 +4,7 @@ use Rattle.automata_hybrid.specs.Searches.Contracts.{IsUnsupported}
 use Rattle.regex_automata.specs.Spans.Iteration.{input_over}
 use Rattle.automata_base.specs.declared.util.search.Direction.TheVariants.{Forward}
 use Rattle.regex_automata.specs.Spans.Outcomes.{FindsMatch}
-use Rattle.regex_automata.proofs.Spans.Lists.{ComesTo}
+use Rattle.regex_automata.specs.Spans.Iteration.{ComesTo}
 use Rattle.regex_automata.proofs.Spans.Effects.{Searches}
 use Rattle.regex_automata.proofs.replay.iteration.take_matches.Given as goal
 

@@ -18,15 +18,14 @@ returns-clause-returned c =
     let input = c.args.input in
     let ts = c.take_tokens.result.0.items in
     let error = c.take_tokens.result.1 in
-    let few = c.haystack-haystack.ensures.within.1 in
     let given = c.take_tokens.ensures.given in
     record {
-      paths = λ cycles. found_by m input.haystack input.end few (λ i. WithoutBase (IsAnswer Forward (engine_of m.nfa (match_kind_of m.config)) i))
+      paths = λ cycles. found_by m input.haystack input.end (λ i. WithoutBase (IsAnswer Forward (engine_of m.nfa (match_kind_of m.config)) i))
           (λ offset o returned. returned.0.answer cycles) input.start ts error given;
-      beginning = begins m input.haystack input.end few input.start ts error given;
-      whole = λ none. tiles m input.haystack input.end few input.start ts
+      beginning = begins m input.haystack input.end input.start ts error given;
+      whole = λ none. tiles m input.haystack input.end input.start ts
           (subst (λ (e : Option TokenError). AreGiven m input.haystack input.end input.start ts e) none given);
-      free = λ free. free_of m input.haystack input.end few input.start input.start ts error (omega arith) free given;
+      free = λ free. free_of m input.haystack input.end input.start input.start ts error (omega arith) free given;
     }
 
 pub returns-clause-found : goal.returns-clause-found
@@ -35,6 +34,6 @@ returns-clause-found c =
     let input = c.args.input in
     record {
       given = c.take_tokens.ensures.given;
-      found = found_by m input.haystack input.end c.haystack-haystack.ensures.within.1 (λ i. WithoutBase (IsFound Forward m i)) (λ offset o returned. returned.1)
+      found = found_by m input.haystack input.end (λ i. WithoutBase (IsFound Forward m i)) (λ offset o returned. returned.1)
           input.start c.take_tokens.result.0.items c.take_tokens.result.1 c.take_tokens.ensures.given;
     }

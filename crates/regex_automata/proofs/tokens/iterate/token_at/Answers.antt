@@ -27,7 +27,7 @@ returns-in_err-token-clause-item c =
     (subst (λ n. IsHalf Forward n c.asked-input.result found × IfOk found (WithoutBase (IsFound Forward n c.asked-input.result))) c.forward-dfa.ensures
     (c.try_search_fwd-found.ensures.half, c.try_search_fwd-found.ensures.found)) in
     let given =
-    error_is_given m h c.args.end c.requires.within.1 offset found c.in_err-token.field-0.0 c.requires.ahead returned
+    error_is_given m h c.args.end offset found c.in_err-token.field-0.0 c.requires.ahead returned
     (sym c.in_err-token.was ∙ c.item.ensures) in
     subst (IsGivenAt m h c.args.end offset) (sym (is_err c.from_residual.result _ c.from_residual.ensures.1)) given
 
@@ -43,7 +43,7 @@ returns-clause-item c =
     let same : match_of c.new.result ≡ token =
     c.new.ensures.found
     ∙ match_is _ token c.pattern.ensures c.span.ensures.start c.span.ensures.end in
-    token_is_given m c.args.haystack.now c.args.end c.requires.within.1 c.args.offset c.new.result found c.requires.ahead returned
+    token_is_given m c.args.haystack.now c.args.end c.args.offset c.new.result found c.requires.ahead returned
     (ap (λ (t : Match). Ok t) same ∙ sym c.in_ok-token.was ∙ c.item.ensures) c.new.ensures.bytes
 
 pub returns-in_err-token-clause-effect : goal.returns-in_err-token-clause-effect

@@ -1,4 +1,5 @@
 use Rattle.std.proofs.Common.{sym}
+use Rattle.regex_automata.proofs.Regexes.Capacities.{enough_of}
 use Rattle.regex_automata.proofs.Regexes.Reversals.{refused_of, sound_of}
 use Rattle.regex_automata.proofs.hybrid.regex.build.Builder.build_from_nfa.Goals as goal
 
@@ -12,12 +13,16 @@ pub returns-in-Err-clause-refused : goal.returns-in-Err-clause-refused
 returns-in-Err-clause-refused c = c.in-Err.ensures.refused c.args.self.now
 
 pub returns-in-Err-build_from_nfas-clause-refused : goal.returns-in-Err-build_from_nfas-clause-refused
-returns-in-Err-build_from_nfas-clause-refused c = (
-  c.in-Ok.ensures.passes,
-  (
-    c.in-Ok.reverse,
-    c.in-Ok.ensures.reversed,
+returns-in-Err-build_from_nfas-clause-refused c =
+    let refused =
     refused_of c.args.self.now c.args.forward c.keeping_unions.result c.in-Ok.reverse c.keeping_unions.ensures.same
-        c.in-Err-build_from_nfas.error (sym c.in-Err-build_from_nfas.ensures.refused),
-  ),
-)
+    c.in-Err-build_from_nfas.error (sym c.in-Err-build_from_nfas.ensures.refused)
+    in (
+      c.in-Ok.ensures.passes,
+      (
+        c.in-Ok.reverse,
+        c.in-Ok.ensures.reversed,
+        refused,
+        enough_of c.args.self.now c.args.forward c.in-Ok.reverse c.in-Err-build_from_nfas.error refused,
+      ),
+    )
