@@ -86,6 +86,8 @@ pub enum Call {
     Counts,
     /// Whether one byte can be allocated.
     Room,
+    /// Whether the cache has leaps.
+    Leaps,
     /// Replaces the cache by a new one.
     Replace,
     /// Replaces it by `Cache::new`.
@@ -293,6 +295,7 @@ impl Bench {
             }
             Call::ResetByCache => Reported::of_growth(self.cache.reset(&self.dfa)),
             Call::Brief => Reported::Number("", self.cache.memory_usage(), letter(self.at)),
+            Call::Leaps => Reported::of_flag(self.cache.leap_usage() > 0),
             Call::Copies => {
                 let nfa: Result<NFA, AllocError> = self.dfa.get_nfa().clone();
                 let dfa: Result<DFA, AllocError> = self.dfa.clone();
@@ -532,7 +535,7 @@ pub fn search(
 }
 
 /// A text that is repeated so often.
-fn repeated(alloc: Global, piece: &str, count: usize) -> Result<Vec<u8>, AllocError> {
+pub fn repeated(alloc: Global, piece: &str, count: usize) -> Result<Vec<u8>, AllocError> {
     let mut text = Vec::new(alloc);
     for _ in 0..count {
         text.extend_from_slice(piece.as_bytes())?;

@@ -62,6 +62,8 @@ const FRESH: &[Lazy] = &[
     ("create_cache", AB, "", &[], &[(Replace, "-"), (Counts, "0 335 0")], &[]),
     ("Cache::new", AB, "", &[], &[(ReplaceByNew, "-"), (Counts, "0 335 0")], &[]),
     ("a reset", AB, "", &[Find("ab")], &[(Reset, "-"), (Counts, "0 335 0")], &[]),
+    ("with what determinizes its states", AB, "", &[], &[(Replace, "-"), (Find("ab"), "half 0 2"), (Counts, "0 678 2")],
+        &[]),
 ];
 
 /// How much memory is lent for it, in bytes.

@@ -10,6 +10,7 @@ use std::{io, mem};
 
 mod bench;
 mod growths;
+mod leaps;
 mod made;
 mod memory;
 mod plans;

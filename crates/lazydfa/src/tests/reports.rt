@@ -196,6 +196,11 @@ impl Turns {
         self.seen = [false; 8];
     }
 
+    /// How much a turn lends.
+    pub fn lent(&self) -> usize {
+        self.lent
+    }
+
     /// The next turn lends more.
     pub fn lend_more(&mut self) {
         self.lent = self.lent.saturating_add(16);

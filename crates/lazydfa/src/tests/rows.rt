@@ -7,7 +7,7 @@ use crate::catalogue::Entry;
 use Automaton::{Always, Chain, Forward, Never, Planned, Reverse};
 use Call::{
     Brief, Counts, End, Find, FindBased, FindEach, FindEarliest, FindIn, FindLetters, FindRepeated,
-    Reset, ResetByCache, Start, Step, Steps,
+    Leaps, Reset, ResetByCache, Start, Step, Steps,
 };
 use Over::Nothing;
 
@@ -31,6 +31,9 @@ const A16_BACK: On = On(Reverse(Entry::A16), Nothing);
 /// Sixteen bytes.
 const AS: &str = "aaaaaaaaaaaaaaaa";
 
+/// `(?:\b|%)+`, as the entry of the catalogue, but its unions are not kept.
+const PERCENTS: Text = "0/5,0 E1,2 LWordAscii:3 B25:3 E0,4 M0 E0,6 B00-ff:5";
+
 #[rattlefmt::skip]
 const SEARCHED: &[Row] = &[
     ("Cache::reset", AB, "", &[Find("ab"), Counts, ResetByCache, Counts], "half 0 2, 0 678 2, -, 0 335 0"),
@@ -38,6 +41,10 @@ const SEARCHED: &[Row] = &[
         On(Forward(Entry::Empty), Nothing), "", &[FindBased("\u{2603}", 1, 3)], "0 3 at 3"),
     ("DFA::always_match", On(Always, Nothing), "", DULL, "half 0 1, half 0 1, 0 344 2, half 0 0"),
     ("DFA::never_match", On(Never, Nothing), "", DULL, "none, none, 0 217 0, none"),
+    ("paths in their order, over a look cycle whose unions are kept", On(Forward(Entry::Percents), Nothing), "",
+        &[FindIn("z%", 1, 2)], "half 0 1"),
+    ("and in another one where they are not, so that answers by paths need them", On(Planned(PERCENTS), Nothing), "",
+        &[FindIn("z%", 1, 2)], "half 0 2"),
     // The bytes searched, by each way out of a search, and that no search is in progress after it.
     ("at a quit byte", AB, "quit=63", &[Find("abc"), Counts], "quit 63 2, 0 593 2"),
     ("at a quit byte behind the span", AB, "quit=63", &[FindIn("abc", 0, 2), Counts], "quit 63 2, 0 593 2"),
@@ -80,6 +87,10 @@ const BACK: &[Row] = &[
 const TWELFTH: Text =
     "0/0,0 E1,2 B00-ff:0 B61:3 B00-ff:4 B00-ff:5 B00-ff:6 B00-ff:7 B00-ff:8 B00-ff:9 B00-ff:10 B00-ff:11 B00-ff:12 B00-ff:13 B00-ff:14 M0";
 
+/// That, and a `c` after it, so that no state matches over letters `a` and `b`.
+const TWELFTH_THEN_C: Text =
+    "0/0,0 E1,2 B00-ff:0 B61:3 B00-ff:4 B00-ff:5 B00-ff:6 B00-ff:7 B00-ff:8 B00-ff:9 B00-ff:10 B00-ff:11 B00-ff:12 B00-ff:13 B00-ff:14 B63:15 M0";
+
 /// Long haystacks and many states.
 #[rattlefmt::skip]
 const LONG: &[Row] = &[
@@ -87,6 +98,9 @@ const LONG: &[Row] = &[
         &[FindRepeated("a", 3000), Counts], "half 0 3000, 0 273384 3000"),
     ("a mebibyte of which nearly each byte makes a new state, over a cache of the least capacity",
         On(Planned(TWELFTH), Nothing), "all capacity=0 skip", &[FindLetters, Counts], "half 0 1048574, 62993 1468 7"),
+    ("leaps come with a long search, and go with a clear", On(Planned(TWELFTH_THEN_C), Nothing), "all capacity=131072",
+        &[FindRepeated("ab", 65536), Leaps, FindLetters, Leaps], "none, true, none, false"),
+    ("and with a reset", DATE, "", &[FindRepeated("0 0 ", 65536), Leaps, Reset, Leaps], "none, true, -, false"),
     ("ten thousand dates, each found from the end of the one before", DATE, "",
         &[FindEach("2018-12-24 ", 10_000), Counts], "half 0 109999, 0 1745 119999"),
 ];

@@ -28,6 +28,11 @@ const ANSWERED: &[(&str, &str)] = &[
     ("nfa 0/0 D61-63:1,62:2\n", "refused a state leads to a state that is out of range\n"),
     ("nfa 0/0 B62-61:0\nnfa 0/0 S62:0,61:0\n",
         "refused ranges of bytes are not in order\nrefused ranges of bytes are not in order\n"),
+    ("nfa 0/3,0 B61-7a:1 E0,2 M0 E0,4 B00-ff:3\nnfa 0/4,0 rev U1 B61-7a:2 E0,3 M0 E0,5 B00-ff:4\n\
+        regex 0 1 capacity=1\nregex 1 0 capacity=1653\nregex 0 1 capacity=1743\nregex 0 1 capacity=1744\nfind 6162\n",
+        "nfa 0\nnfa 1\nrefused given cache capacity (1) is smaller than minimum required (1744)\n\
+        refused given cache capacity (1653) is smaller than minimum required (1744)\n\
+        refused given cache capacity (1743) is smaller than minimum required (1744)\nregex 0\nmatch 0 0..2\n"),
     ("nfa 0/0,0 M0\nnfa 0/0,0,0 M0 M1\nregex 0 1\n",
         "nfa 0\nnfa 1\nrefused forward DFA has 1 patterns and reverse DFA has 2\n"),
 ];

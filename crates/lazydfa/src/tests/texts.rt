@@ -1,6 +1,6 @@
 //! The texts of errors, and those of values that are printed for debugging.
 
-use super::plans::pattern_id;
+use super::plans::{pattern_id, plan};
 use super::reported::prints;
 use super::{Host, Text, check, same_of};
 use crate::error::RunError;
@@ -162,6 +162,16 @@ fn prints_sets_of_bytes(rt: HostRuntime) {
         &true,
         &"three bytes",
     );
+}
+
+const BYTE: Text =
+    "NFA { states: [ByteRange { lo: 97, hi: 97, next: StateID { id: 1 } }, Match { pattern: PatternID { id: 0 } }], start_anchored: StateID { id: 0 }, start_unanchored: StateID { id: 0 }, start_pattern: [StateID { id: 0 }], .. }";
+
+/// An NFA is printed as its states and starts.
+#[test]
+fn prints_an_nfa(rt: HostRuntime) {
+    let nfa = plan(&rt, "0/0,0 B61:1 M0");
+    check(&rt, prints(rt.alloc(), &nfa, BYTE));
 }
 
 /// Compares the texts of errors that name a byte, an offset or a mode.
