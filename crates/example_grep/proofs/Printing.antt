@@ -2,16 +2,16 @@
 use Rattle.std.proofs.Common.{◌≡◌, ◌∙◌, ◌+◌, ◌<◌, ℕ, Bool, true, false, List, [], ◌∷◌, ◌++◌, Option, Some, None, sym, ap, subst, map, take, get_or, length, add-one, arith}
 use Rattle.std.specs.Prelude.{OnOk, Result, Ok, Err, slice_range}
 use Rattle.std.proofs.lemmas.List.{append_assoc, append-nil, map-append}
+use Rattle.std.proofs.lemmas.Option.{none-some, same_Some}
 use Rattle.std.proofs.Math.Seq.{take-suc}
 use Rattle.regex_hir.specs.Re.{Re}
-use Rattle.automata_base.proofs.Paths.Orders.{none_some, some_inj}
 use Rattle.automata_base.specs.Nfas.Nodes.{Automaton}
 use Rattle.regex_automata.specs.Promises.{LeftmostFirst, Machine, Match, match_kind_of}
 use Rattle.regex_automata.specs.declared.hybrid.regex.Regex.{Regex}
-use Rattle.example_meaning.specs.Patterns.{left_any}
-use Rattle.example_patterns.specs.Iteration.{IsNextMeant}
-use Rattle.example_patterns.specs.Patterns.{IsFor, IsJoinedNfa, IsRegexOf}
-use Rattle.example_patterns.specs.declared.pattern.Pattern.{Pattern}
+use Rattle.meaning.specs.Patterns.{left_any}
+use Rattle.patterns.specs.Iteration.{IsNextMeant}
+use Rattle.patterns.specs.Patterns.{IsFor, IsJoinedNfa, IsRegexOf}
+use Rattle.patterns.specs.declared.pattern.Pattern.{Pattern}
 use Rattle.example_grep.specs.Lines.{IsSearcherFor, bytewise, counted, found_line, one_more}
 use Rattle.example_grep.specs.Greps.{AreSpansFor, IsGrepFor, KeepsSpans}
 use Rattle.example_grep.specs.Shown.{found_shown, line_shown, lines_shown, part_shown, parts_shown}
@@ -92,10 +92,10 @@ count_next (line ∷ lines) i inside n was is so more = count_more (line ∷ lin
 pub spans_kept : (case_insensitive only_matches : Bool) (res : List Re) (old new : Option SpanSearcher) → KeepsSpans old new →
     AreSpansFor case_insensitive only_matches res old → AreSpansFor case_insensitive only_matches res new
 spans_kept case_insensitive only_matches res None None same is = is
-spans_kept case_insensitive only_matches res None (Some s) same is = absurd (none_some (sym same))
-spans_kept case_insensitive only_matches res (Some s) None same is = absurd (none_some same)
+spans_kept case_insensitive only_matches res None (Some s) same is = absurd (none-some _ (sym same))
+spans_kept case_insensitive only_matches res (Some s) None same is = absurd (none-some _ same)
 spans_kept case_insensitive only_matches res (Some s) (Some t) same is =
-    (is.0, subst (λ (p : Pattern). IsRegexOf (bytewise case_insensitive) res p.regex) (sym (some_inj same)) is.1)
+    (is.0, subst (λ (p : Pattern). IsRegexOf (bytewise case_insensitive) res p.regex) (sym (same_Some _ _ same)) is.1)
 
 -- a grep whose parts are the same
 pub grep_kept : (case_insensitive : Bool) (res : List Re) (old new : Grep) → new.lines.dfa ≡ old.lines.dfa → new.show ≡ old.show →
@@ -127,7 +127,7 @@ pub matches_shown : (case_insensitive only_matches : Bool) (res : List Re) (span
     (prefix line was is : List ℕ) → spans ≡ Some own →
     (IsRegexOf (bytewise case_insensitive) res own.pattern.regex → is ≡ was ++ parts_shown prefix line (left_any false res line None)) →
     AreSpansFor case_insensitive only_matches res spans → is ≡ was ++ line_shown only_matches res prefix line
-matches_shown case_insensitive only_matches res None own prefix line was is same shown for = absurd (none_some same)
+matches_shown case_insensitive only_matches res None own prefix line was is same shown for = absurd (none-some _ same)
 matches_shown case_insensitive false res (Some other) own prefix line was is same shown for = let e = for.0 in absurd (cc)
 matches_shown case_insensitive true res (Some other) own prefix line was is same shown for =
-    shown (subst (λ (s : SpanSearcher). IsRegexOf (bytewise case_insensitive) res s.pattern.regex) (some_inj same) for.1)
+    shown (subst (λ (s : SpanSearcher). IsRegexOf (bytewise case_insensitive) res s.pattern.regex) (same_Some _ _ same) for.1)

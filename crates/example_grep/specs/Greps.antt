@@ -1,8 +1,8 @@
 -- What a grep searches for, and what a search of a text adds to what is printed.
 use Rattle.std.specs.Prelude.{ℕ, ◌≡◌, Bool, true, false, List, ◌++◌, Option, MatchOption, option_map}
 use Rattle.regex_hir.specs.Re.{Re}
-use Rattle.example_meaning.specs.Patterns.{HasPart}
-use Rattle.example_patterns.specs.Patterns.{IsRegexOf}
+use Rattle.meaning.specs.Patterns.{HasPart}
+use Rattle.patterns.specs.Patterns.{IsRegexOf}
 use Rattle.example_grep.specs.Lines.{AreMatching, IsSearcherFor, bytewise, counted, lines, numbered}
 use Rattle.example_grep.specs.Shown.{lines_shown}
 use Rattle.example_grep.specs.declared.grep.Grep.{Grep}
@@ -28,7 +28,9 @@ IsGrepFor case_insensitive res grep =
 pub record ShowsLines (res : List Re) (text : List ℕ) (old new : Grep) : Type 0 where
   -- the lines of which some part is a match of some pattern, with their numbers
   pub found : List (ℕ × List ℕ)
+  -- they are all such lines, in their order
   pub matching : AreMatching (λ line. HasPart res line.1) (numbered old.lines.searched (lines text)) found
-  -- they are shown, and counted
+  -- they are shown
   pub shown : new.shown.items ≡ old.shown.items ++ lines_shown old.show res found
+  -- they are counted
   pub count : new.count ≡ counted old.count found

@@ -4,8 +4,8 @@ use Rattle.std.specs.List.{slice_split}
 use Rattle.regex_hir.specs.Re.{Re}
 use Rattle.regex_automata.specs.Promises.{Forward, Half, Input, IsAnswer, LeftmostFirst, Machine, No, engine_of}
 use Rattle.regex_automata.specs.Promises.{match_kind_of}
-use Rattle.example_patterns.specs.Patterns.{IsJoinedNfa}
-use Rattle.example_patterns.specs.declared.compile.Options.{Options}
+use Rattle.patterns.specs.Patterns.{IsJoinedNfa, default_options}
+use Rattle.patterns.specs.declared.compile.Options.{Options}
 use Rattle.example_grep.specs.declared.lines.Line.{Line}
 
 -- the lines of a text: what stands between its line feeds
@@ -36,7 +36,9 @@ whole line = record { haystack = line; start = 0; end = length line; anchored = 
 
 -- the ordered paths through a line have a match
 pub record HasMatch (m : Machine) (line : List ℕ) : Type 0 where
+  -- what the search of the line answers
   pub half : Half
+  -- it is the answer of the ordered paths
   pub answer : IsAnswer Forward (engine_of m.nfa (match_kind_of m.config)) (whole line) (Some half)
 
 -- these are the lines that have it, and no others, in their order
@@ -49,8 +51,7 @@ pub data AreMatching {A : Type 0} (Has : A → Type 0) : List A → List A → T
 
 -- how patterns are read: they are searched in bytes
 abbrev pub bytewise : (case_insensitive : Bool) → Options
-bytewise case_insensitive =
-    record { case_insensitive = case_insensitive; utf8 = false; ascii = false; size_limit = 10485760 }
+bytewise case_insensitive = record default_options { case_insensitive = case_insensitive; utf8 = false }
 
 -- the DFA is that of patterns with these meanings
 abbrev pub IsSearcherFor : (case_insensitive : Bool) → List Re → Machine → Type 0

@@ -3,7 +3,7 @@ use Rattle.std.specs.Prelude.{ℕ, Bool, true, false, cond, List, [], ◌∷◌,
 use Rattle.std.specs.Fmt.{decimal}
 use Rattle.regex_hir.specs.Re.{Re}
 use Rattle.regex_automata.specs.Promises.{Match}
-use Rattle.example_meaning.specs.Patterns.{left_any}
+use Rattle.meaning.specs.Patterns.{left_any}
 use Rattle.example_grep.specs.declared.options.Show.{Show}
 
 -- what stands before the bytes: the line's number and a colon, if numbers are asked for
@@ -35,6 +35,7 @@ abbrev pub found_shown : Show → List Re → ℕ × List ℕ → List ℕ
 found_shown show res line =
     cond show.count [] (line_shown show.only_matches res (prefix_of show.numbers line.0) line.1)
 
+-- lines that have a match, one after another, as the flags say
 abbrev pub lines_shown : Show → List Re → (found : List (ℕ × List ℕ)) → List ℕ
 lines_shown show res [] = []
 lines_shown show res (line ∷ found) = found_shown show res line ++ lines_shown show res found

@@ -2,7 +2,7 @@
 ghost use Rattle.std.specs.Prelude.{◌≡◌, ◌↔◌, Bool, List, IfOk, IsTrue, OnOk, map};
 ghost use Rattle.regex_hir.specs.Re.{Re};
 ghost use Rattle.regex_automata.specs.Promises.{IsCacheOf, IsLookAcyclic, nfa_of};
-ghost use Rattle.example_meaning.specs.Patterns.{HasPart};
+ghost use Rattle.meaning.specs.Patterns.{HasPart};
 ghost use Rattle.example_grep.specs.Lines.{AreMatching, HasMatch, IsSearcherFor, counted, found_line, lines, numbered};
 
 use anyhow::Result;

@@ -15,7 +15,7 @@
 ghost use Rattle.std.specs.Prelude.{◌≡◌, List, IfOk, map};
 ghost use Rattle.regex_hir.specs.Re.{Re};
 ghost use Rattle.regex_automata.specs.Promises.{LeftmostFirst, match_kind_of};
-ghost use Rattle.example_patterns.specs.Patterns.{HasNoLookCycle, IsJoinedNfa, IsNfaOf, IsRegexOf};
+ghost use Rattle.patterns.specs.Patterns.{HasNoLookCycle, IsJoinedNfa, IsNfaOf, IsRegexOf};
 ghost use Rattle.example_grep.specs.Lines.{bytewise};
 ghost use Rattle.example_grep.specs.Greps.{AreSpansFor, IsGrepFor};
 
@@ -29,7 +29,7 @@ use crate::lines::LineSearcher;
 use crate::options::{Options, Show};
 use crate::spans::SpanSearcher;
 use anyhow::Result;
-use example_patterns::{Options as PatternOptions, Pattern, PatternError, nfa_of};
+use patterns::{Options as PatternOptions, Pattern, PatternError, nfa_of};
 use regex_automata::hybrid::dfa::DFA;
 use regex_automata::nfa::thompson::NFA;
 use std::alloc::Global;
@@ -41,10 +41,18 @@ fn bytewise(case_insensitive: bool) -> PatternOptions
     ensures { result ≡ bytewise case_insensitive }
 {
     PatternOptions {
+        unicode: true,
         case_insensitive,
+        multi_line: false,
+        dot_matches_new_line: false,
+        crlf: false,
+        swap_greed: false,
+        ignore_whitespace: false,
+        octal: false,
         utf8: false,
         ascii: false,
         size_limit: 10 << 20,
+        nest_limit: 250,
     }
 }
 

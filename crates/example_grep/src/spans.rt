@@ -2,13 +2,13 @@
 ghost use Rattle.std.specs.Prelude.{◌≡◌, ◌++◌, Bool, false, List, None, IfOk, OnOk};
 ghost use Rattle.regex_hir.specs.Re.{Re};
 ghost use Rattle.regex_automata.specs.Promises.{AreCachesOf};
-ghost use Rattle.example_meaning.specs.Patterns.{left_any};
-ghost use Rattle.example_patterns.specs.Patterns.{IsRegexOf};
+ghost use Rattle.meaning.specs.Patterns.{left_any};
+ghost use Rattle.patterns.specs.Patterns.{IsRegexOf};
 ghost use Rattle.example_grep.specs.Lines.{bytewise};
 ghost use Rattle.example_grep.specs.Shown.{part_shown, parts_shown, shown_after};
 
 use anyhow::Result;
-use example_patterns::Pattern;
+use patterns::Pattern;
 use regex_automata::hybrid::regex::Cache;
 
 /// A pattern and its caches.

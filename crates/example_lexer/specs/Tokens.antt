@@ -10,5 +10,7 @@ AreTokens m text from to (t ∷ ts) = IsTokenAt m text (length text) from t × A
 
 -- the tokens from the start of the text on, up to its end or to where there is no token
 pub record AreTokensOf (m : Machine) (text : List ℕ) (tokens : List Token) (end : ℕ) : Type 0 where
+  -- they tile the text from its start to this end
   pub tiling : AreTokens m text 0 end tokens
+  -- it is the text's end, or there is no token at it
   pub stops : (end ≡ length text) ⊎ IsNoTokenAt m text (length text) end

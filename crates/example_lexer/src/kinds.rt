@@ -1,6 +1,6 @@
 //! The kinds of tokens of a small language.
 use anyhow::Result;
-use example_patterns::{Options, nfa_of};
+use patterns::{Options, nfa_of};
 use regex_automata::nfa::thompson::NFA;
 use std::alloc::Global;
 

@@ -55,7 +55,8 @@ impl Lexer {
 
     /// The tokens of a text, up to its end or to the offset where there is none.
     pub fn lex<'t>(&mut self, alloc: Global, text: &'t [u8]) -> Result<Lexed<'t>, SearchError>
-        ensures { IfOk result (λ lexed.
+        ensures same { self.new.regex ≡ self.old.regex }
+        ensures tokens { IfOk result (λ lexed.
             AreTokensOf self.old.regex.forward text.now lexed.tokens.items lexed.end) }
     {
         let mut tokens = Vec::new(alloc);

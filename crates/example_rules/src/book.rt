@@ -1,7 +1,7 @@
 //! The rules of a file, and how often each one matched.
 use crate::rules::RuleMatcher;
 use anyhow::Result;
-use example_patterns::{Options, nfa_of};
+use patterns::{Options, nfa_of};
 use regex_automata::util::search::PatternSet;
 use std::alloc::Global;
 use std::fmt::Write;

@@ -1,7 +1,8 @@
 //! Which rules match a record.
-ghost use Rattle.std.specs.Prelude.{◌≡◌, IfOk};
+ghost use Rattle.std.specs.Prelude.{◌≡◌, ◌≤◌, IfOk};
+ghost use Rattle.automata_hybrid.specs.Cache.Usage.{usage};
 ghost use Rattle.regex_automata.specs.Promises.{IsCacheOf, KindAll, match_kind_of};
-ghost use Rattle.example_rules.specs.Rules.{IsNamed};
+ghost use Rattle.example_rules.specs.Rules.{IsFirst, IsNamed};
 
 use anyhow::Result;
 use regex_automata::hybrid::SearchError;
@@ -55,8 +56,11 @@ impl RuleMatcher {
         Ok(found)
     }
 
-    /// The first of all matches in a record, which may overlap.
-    pub fn first_match(&mut self, bytes: &[u8]) -> Result<Option<HalfMatch>, SearchError> {
+    /// The first of all matches in a record, which may overlap: the end of it, and its rule.
+    pub fn first_match(&mut self, bytes: &[u8]) -> Result<Option<HalfMatch>, SearchError>
+        ensures same { self.new.dfa ≡ self.old.dfa }
+        ensures first { IfOk result (IsFirst self.old.dfa bytes.now) }
+    {
         let input = Input::new(bytes);
         let mut state = OverlappingState::start();
         self.dfa
@@ -65,7 +69,10 @@ impl RuleMatcher {
     }
 
     /// How many bytes the cache accounts for.
-    pub fn memory_usage(&self) -> usize {
+    pub fn memory_usage(&self) -> usize
+        ensures usage { result ≡ usage self.now.cache.store }
+        ensures within { result ≤ self.now.cache.store.table.of.capacity }
+    {
         self.cache.memory_usage()
     }
 }

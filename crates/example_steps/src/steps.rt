@@ -90,6 +90,7 @@ impl Finder {
     /// A finder over fresh caches of two DFAs of the NFA.
     pub fn new(nfa: NFA) -> Result<Finder>
         requires { nfa.flags.utf8 ≡ false }
+        ensures { IfOk result (λ finder. finder.sure.nfa ≡ nfa) }
     {
         let sure = DFA::builder().build_from_nfa(nfa.clone()?)?;
         let mut builder = DFA::builder();
@@ -108,7 +109,8 @@ impl Finder {
 
     /// The end of the first match of a text: by steps, or if these stop, by a search.
     pub fn find(&mut self, text: &[u8]) -> Result<Option<HalfMatch>, SearchError>
-        ensures { IfOk result (IsEarliest self.old.sure text.now) }
+        ensures same { self.new.sure ≡ self.old.sure }
+        ensures found { IfOk result (IsEarliest self.old.sure text.now) }
     {
         answers_agree();
         first_match_is_found(&self.fast);

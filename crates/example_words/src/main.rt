@@ -2,7 +2,7 @@
 #![tactic(auto)]
 
 use anyhow::Result;
-use example_patterns::{Options, nfa_of};
+use patterns::{Options, nfa_of};
 use regex_automata::hybrid::regex::Regex;
 use regex_automata::nfa::thompson::NFA;
 use regex_automata::util::search::Input;

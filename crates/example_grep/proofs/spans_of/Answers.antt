@@ -1,6 +1,6 @@
 use Rattle.std.proofs.Common.{subst, sym}
 use Rattle.automata_base.specs.Nfas.Nodes.{Automaton}
-use Rattle.example_patterns.specs.Patterns.{IsJoinedNfa}
+use Rattle.patterns.specs.Patterns.{IsJoinedNfa}
 use Rattle.example_grep.specs.Lines.{bytewise}
 use Rattle.example_grep.proofs.spans_of.Goals as goal
 

@@ -1,5 +1,5 @@
 use Rattle.std.proofs.Common.{◌∙◌, List, ap, map, refl, subst, sym}
-use Rattle.example_meaning.specs.Patterns.{HasPart}
+use Rattle.meaning.specs.Patterns.{HasPart}
 use Rattle.example_grep.specs.Lines.{AreMatching, found_line, lines, numbered}
 use Rattle.example_grep.specs.declared.lines.Line.{Line}
 use Rattle.example_grep.specs.declared.lines.LineSearcher.{LineSearcher}

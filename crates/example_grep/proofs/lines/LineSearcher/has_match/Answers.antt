@@ -2,10 +2,10 @@ use Rattle.std.proofs.Common.{◌≡◌, ◌∙◌, ℕ, Bool, true, false, List
 use Rattle.std.specs.Prelude.{◌↔◌, IsTrue, is_some}
 use Rattle.regex_hir.specs.Re.{Re}
 use Rattle.regex_automata.specs.Promises.{Forward, Half, HalfMatch, Input, IsAnswer, IsHaystack, Machine, WithoutBase, engine_of, match_kind_of, nfa_of, without_base}
-use Rattle.example_meaning.specs.Patterns.{HasPart}
-use Rattle.example_meaning.proofs.Matching.{part_of_answer}
-use Rattle.example_meaning.proofs.Options.{some_map}
-use Rattle.example_patterns.proofs.Searching.{looks_same}
+use Rattle.meaning.specs.Patterns.{HasPart}
+use Rattle.meaning.proofs.Matching.{part_of_answer}
+use Rattle.meaning.proofs.Options.{some_map}
+use Rattle.patterns.proofs.Searching.{looks_same}
 use Rattle.example_grep.specs.Lines.{HasMatch, IsSearcherFor, whole}
 use Rattle.example_grep.proofs.lines.LineSearcher.has_match.Goals as goal
 

@@ -6,7 +6,7 @@ use Rattle.std.proofs.lemmas.Iterator.Consumers.{YieldsList-end}
 use Rattle.std.proofs.lemmas.Iterator.Splits.{YieldsList-from_slice_split}
 use Rattle.regex_hir.specs.Re.{Re}
 use Rattle.regex_automata.specs.Promises.{Machine}
-use Rattle.example_meaning.specs.Patterns.{HasPart}
+use Rattle.meaning.specs.Patterns.{HasPart}
 use Rattle.example_grep.specs.Lines.{AreMatching, HasMatch, IsSearcherFor, begins, counted, found_line, numbered, one_more}
 use Rattle.example_grep.proofs.Numbers.{count_turn, left, taken}
 use Rattle.example_grep.proofs.lines.LineSearcher.matching.Goals as goal

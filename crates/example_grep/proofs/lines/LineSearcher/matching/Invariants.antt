@@ -1,6 +1,6 @@
 use Rattle.std.proofs.Common.{◌≡◌, Bool, List, map}
 use Rattle.regex_hir.specs.Re.{Re}
-use Rattle.example_meaning.specs.Patterns.{HasPart}
+use Rattle.meaning.specs.Patterns.{HasPart}
 use Rattle.example_grep.specs.Lines.{AreMatching, HasMatch, IsSearcherFor, counted, found_line, numbered}
 use Rattle.example_grep.proofs.lines.LineSearcher.matching.Given as goal
 

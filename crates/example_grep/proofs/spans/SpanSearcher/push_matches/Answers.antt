@@ -1,7 +1,7 @@
 use Rattle.std.proofs.Common.{◌∙◌, ◌++◌, ap, ap₂}
 use Rattle.std.specs.Prelude.{slice_range}
-use Rattle.example_patterns.specs.declared.pattern.Pattern.{Pattern}
-use Rattle.example_patterns.proofs.Items.{item_match, item_none}
+use Rattle.patterns.specs.declared.pattern.Pattern.{Pattern}
+use Rattle.patterns.proofs.Items.{item_match, item_none}
 use Rattle.example_grep.specs.Shown.{part_shown}
 use Rattle.example_grep.proofs.Printing.{match_end, match_turn}
 use Rattle.example_grep.proofs.spans.SpanSearcher.push_matches.Goals as goal

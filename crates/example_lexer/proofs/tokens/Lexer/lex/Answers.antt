@@ -34,8 +34,8 @@ loop-item-preserved c =
       same_cache = steps.2 ∙ i.same_cache;
     }
 
-pub returns-in-Err : goal.returns-in-Err
-returns-in-Err c =
+pub returns-in-Err-clause-tokens : goal.returns-in-Err-clause-tokens
+returns-in-Err-clause-tokens c =
     let i = c.loop-item.invariant in
     let steps = rw c.in-Err.is at c.in-Some.ensures.steps in
     let none = rw c.in_ok-end-in-Err.ensures at steps.0.0.1 in
@@ -44,8 +44,8 @@ returns-in-Err c =
       stops = inr (rw none.0 (rw i.regex at (rw i.haystack at (rw i.end at none.1))));
     }
 
-pub returns : goal.returns
-returns c =
+pub returns-clause-tokens : goal.returns-clause-tokens
+returns-clause-tokens c =
     let i = c.loop-item.invariant in
     let s = c.loop-item.item-iterator in
     let all = at_end s.failed s.end s.offset (length c.args.text.now) c.in-None.ensures.steps.0.0 i.going i.end i.within in

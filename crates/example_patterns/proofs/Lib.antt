@@ -1,4 +1,0 @@
-mod Building
-mod Drafting
-pub mod Items
-pub mod Searching

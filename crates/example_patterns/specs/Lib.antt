@@ -1,3 +1,0 @@
-pub mod Patterns
-pub mod Drafts
-pub mod Iteration

@@ -1,0 +1,108 @@
+-- Matches in text: those that are not empty begin and end where characters do.
+use Rattle.std.proofs.Common.{ℕ, suc, ◌≡◌, ◌+◌, ◌-◌, ◌<◌, ◌≤◌, ◌⊎◌, ◌&&◌, List, [], ◌∷◌, Option, Some, None, true, false, not, length, drop, get_or, IsUtf8, refl, sym, ap, ap₂, ◌∙◌, subst, ⊎_elim, inl, inr, arith, le-leb, true≢false}
+use Rattle.std.specs.Prelude.{slice_get, IsCharBoundary}
+use Rattle.std.proofs.lemmas.Bool.{cases_lt}
+use Rattle.std.proofs.lemmas.Option.{slice_get-get_or}
+use Rattle.std.proofs.lemmas.Str.{IsUtf8-drop, IsCharBoundary-from_take}
+use Rattle.std.specs.Int.{is_in_range}
+use Rattle.regex_hir.specs.Text.{is_boundary, is_none_or}
+use Rattle.automata_base.specs.Answers.TruePairs.{KeepsUtf8}
+use Rattle.automata_base.specs.Haystacks.Matches.{HalfMatch}
+use Rattle.automata_base.specs.Haystacks.Tapes.{IsHaystack, between, forward_tape, is_continuation, is_split}
+use Rattle.automata_base.specs.declared.util.search.Direction.TheVariants.{Forward}
+use Rattle.automata_base.specs.Nfas.Engines.{Engine, MatchesEmpty}
+use Rattle.automata_base.specs.Nfas.Nfa.{Nfa, Split, accepts, hop_at, accepts_at, node}
+use Rattle.automata_base.specs.Paths.Paths.{HasEpsilonPath, IsPathFrom, Tape, all_true, truth}
+use Rattle.automata_base.specs.declared.util.search.Anchored.TheVariants.{Yes}
+use Rattle.automata_base.proofs.Answers.Backs.{narrow}
+use Rattle.automata_base.proofs.Answers.Bytes.{drop_length, nth_drop}
+use Rattle.automata_base.proofs.Answers.Text.{first_unsplit, unsplit}
+use Rattle.automata_base.proofs.Paths.Places.{path_grows}
+use Rattle.automata_base.proofs.Paths.Sets.{nth_in}
+use Rattle.automata_base.proofs.Paths.Walks.{hop_more}
+use Rattle.automata_base.proofs.Paths.Orders.{none_some}
+use Rattle.meaning.specs.Agreeing.{IsLeastEnd}
+
+boundary_of : (o : Option ℕ) → is_none_or o (λ b. not (is_in_range 0x80 0xBF b)) ≡ not (is_continuation o)
+boundary_of None = refl
+boundary_of (Some u) = refl
+
+-- the kit's word and this library's
+pub boundary_is : (hay : List ℕ) (i : ℕ) → is_boundary hay i ≡ not (is_split hay i)
+unfolding is_boundary
+boundary_is hay i = boundary_of (slice_get hay i)
+
+boundary : (hay : List ℕ) (i : ℕ) → i ≤ length hay → is_split hay i ≡ false → IsCharBoundary hay i
+boundary hay i l e = (
+  l,
+  λ inside low. ⊎_elim
+      (λ (c : get_or hay i 0 < 192). absurd (true≢false (sym (held inside low c) ∙ e)))
+      (λ (c : 192 ≤ get_or hay i 0). c)
+      (cases_lt (get_or hay i 0) 192),
+)
+  where
+    held : i < length hay → 128 ≤ get_or hay i 0 → get_or hay i 0 < 192 → is_split hay i ≡ true
+    held inside low high =
+        ap is_continuation (slice_get-get_or hay i 0 inside)
+        ∙ ap₂ (λ v w. v && w) (le-leb 128 (get_or hay i 0) low) (le-leb (get_or hay i 0) 191 (omega (arith, high)))
+
+-- text that begins and goes on with whole characters ends with one
+ends_whole : (hay : List ℕ) (i e : ℕ) → IsUtf8 hay → i ≤ e → e ≤ length hay → is_split hay i ≡ false → IsUtf8 (between hay i e) →
+    is_split hay e ≡ false
+ends_whole hay i e text le fits begin inner =
+    ap is_continuation (sym at_end) ∙ first_unsplit (drop (e - i) (drop i hay)) (IsUtf8-drop (drop i hay) (e - i) rest cut)
+  where
+    rest : IsUtf8 (drop i hay)
+    rest = IsUtf8-drop hay i text (boundary hay i (omega (arith, le, fits)) begin)
+
+    cut : IsCharBoundary (drop i hay) (e - i)
+    cut = IsCharBoundary-from_take (drop i hay) (e - i) rest (drop_length i (e - i) hay (omega (arith, le, fits))) inner
+
+    at_end : slice_get (drop (e - i) (drop i hay)) 0 ≡ slice_get hay e
+    at_end = nth_drop (e - i) (drop i hay) 0 ∙ nth_drop i hay (e - i + 0) ∙ ap (λ v. slice_get hay v) (omega (arith, le))
+
+-- Under the UTF-8 promise a match is empty, or begins and ends where characters do.
+module _ (d : Engine) (keeps : KeepsUtf8 Forward d) (utf8 : d.utf8 ≡ true) (hay : List ℕ) (bytes : IsHaystack hay) (text : IsUtf8 hay) where
+  pub whole_match : (i : ℕ) (half : HalfMatch) → i ≤ length hay →
+      IsLeastEnd d.nfa (forward_tape hay i (length hay)) i 0 [] d.anchored (Some half) → half.offset ≤ length hay →
+      (i ≡ half.offset) ⊎ ((is_split hay i ≡ false) × (is_split hay half.offset ≡ false))
+  whole_match i half inside own fits =
+      ⊎_elim (λ (l : 0 < own.1). inr (longer l)) (λ (l : own.1 ≤ 0). inl (omega (arith, l, own.5))) (cases_lt 0 own.1)
+    where
+      longer : 0 < own.1 → (is_split hay i ≡ false) × (is_split hay half.offset ≡ false)
+      longer l =
+          let joined = narrow d hay i (length hay) own.1 0 half.pattern own.2 own.0 (omega arith) (omega (arith, own.5, fits)) (omega arith) own.3 own.4 in
+          let inner = keeps hay (i + 0) (i + own.1) half.pattern Yes d.anchored joined.0 utf8 bytes (omega (arith, l)) (omega (arith, own.5, fits))
+          (λ e. cc) refl joined.1 in
+          let begin : is_split hay i ≡ false = ap (is_split hay) (omega arith) ∙ unsplit hay (i + 0) (i + own.1) (omega (arith, l)) inner in
+          let from : i + 0 ≡ i = omega arith in
+          let there : i + own.1 ≡ half.offset = own.5 in (
+            begin,
+            ends_whole hay i half.offset text (omega (arith, own.5)) fits begin
+                (subst (λ v. IsUtf8 (between hay v half.offset)) from (subst (λ v. IsUtf8 (between hay (i + 0) v)) there inner)),
+          )
+
+-- A path that stays at its place reads nothing.
+still : (n : Nfa) (t : Tape) (i : ℕ) (seen : List ℕ) (q : ℕ) (path : List ℕ) (z : ℕ) → IsPathFrom n t i seen q path i z → HasEpsilonPath n q z
+still n t i seen q [] z h = ([], h.1)
+still n t i seen q (e ∷ path) z (inl h) =
+    let w = still n t i (q ∷ seen) h.0 path z h.3 in
+    (e ∷ w.0, (h.0, hop_more n (truth n t i) all_true q e h.0 (λ look a. refl) h.1, w.1))
+still n t i seen q (e ∷ path) z (inr h) =
+    absurd (let g = path_grows n t (suc i) [] h.0 path i z h.3 in omega (arith, g))
+
+-- So if a match from a union of starts is empty, the empty match is one of a start.
+pub empty_start : (n : Nfa) (t : Tape) (u : ℕ) (starts : List ℕ) → node n u ≡ Split starts → (path : List ℕ) (z pattern : ℕ) →
+    IsPathFrom n t 0 [] u path 0 z → accepts n z ≡ Some pattern → MatchesEmpty n starts
+empty_start n t u starts is [] z pattern h acc =
+    absurd (none_some (sym (ap accepts_at is) ∙ ap (λ v. accepts n v) h.1 ∙ acc))
+empty_start n t u starts is (e ∷ path) z pattern (inl h) acc = (
+  h.0,
+  z,
+  pattern,
+  nth_in starts e h.0 (sym (ap (λ v. hop_at v (truth n t 0) e) is) ∙ h.1),
+  still n t 0 (u ∷ []) h.0 path z h.3,
+  acc,
+)
+empty_start n t u starts is (e ∷ path) z pattern (inr h) acc =
+    absurd (let g = path_grows n t 1 [] h.0 path 0 z h.3 in omega (arith, g))

@@ -1,0 +1,60 @@
+-- What several patterns mean: their alternation, the first preferred, and which of them a match is of.
+use Rattle.std.specs.Prelude.{ℕ, suc, ◌≡◌, ◌+◌, ◌≤◌, Bool, false, cond, List, [], ◌∷◌, length, map}
+use Rattle.std.specs.Prelude.{Option, None, Some, is_some}
+use Rattle.regex_hir.specs.Re.{Re, accept, alt, attempt, byte_in}
+use Rattle.regex_hir.specs.Matches.{Matches}
+use Rattle.regex_hir.specs.Find as kit
+use Rattle.automata_base.specs.Haystacks.Input.{Input}
+use Rattle.automata_base.specs.Haystacks.Matches.{HalfMatch, Match}
+use Rattle.automata_base.specs.declared.util.search.Anchored.TheVariants.{No}
+
+-- No pattern matches nothing.
+abbrev pub any_of : List Re → Re
+any_of [] = byte_in []
+any_of (re ∷ []) = re
+any_of (re ∷ next ∷ res) = alt re (any_of (next ∷ res))
+
+-- The number of the first pattern that matches at offset `i`.
+abbrev pub first_at : List Re → List ℕ → ℕ → ℕ
+first_at [] hay i = 0
+first_at (re ∷ res) hay i = cond (is_some (attempt hay re accept i)) 0 (suc (first_at res hay i))
+
+-- A match of the alternation, with the number of its pattern.
+abbrev pub match_of : List Re → List ℕ → kit.Match → Match
+match_of res hay m = record { pattern = first_at res hay m.start; start = m.start; end = m.trace.end }
+
+-- Its end alone, with the number.
+abbrev pub end_of : List Re → List ℕ → kit.Match → HalfMatch
+end_of res hay m = record { pattern = first_at res hay m.start; offset = m.trace.end }
+
+-- What the patterns find at or after an offset: in text if `utf8` is true, and else in bytes.
+abbrev pub find_any : (utf8 : Bool) → List Re → List ℕ → ℕ → Option kit.Match
+find_any utf8 res hay start = cond utf8 (kit.find_str (any_of res) hay start) (kit.find (any_of res) hay start)
+
+-- What a search finds after a match that ended at `last`, where an empty match at `last` is skipped; and before any
+-- match.
+abbrev pub next_by : (search : ℕ → Option kit.Match) → (last : Option ℕ) → Option kit.Match
+next_by search None = search 0
+next_by search (Some end) = kit.find_after search end
+
+-- The matches that are left, one after another, after one that ended at `last`; all of them, if there was none.
+abbrev pub left_by : (search : ℕ → Option kit.Match) → List Re → List ℕ → (last : Option ℕ) → List Match
+left_by search res hay last =
+    map (match_of res hay) (kit.matches_from search (length hay + 1) (next_by search last))
+
+-- The matches of these patterns that are left, in text if `utf8` is true, and else in bytes.
+abbrev pub left_any : (utf8 : Bool) → List Re → List ℕ → (last : Option ℕ) → List Match
+left_any utf8 res hay last = left_by (find_any utf8 res hay) res hay last
+
+-- It is the first of those that are left, or none is left. `left` says which are, by where the last match ended.
+abbrev pub IsFirstLeft : (left : Option ℕ → List Match) → (last : Option ℕ) → Option Match → Type 0
+IsFirstLeft left last None = left last ≡ []
+IsFirstLeft left last (Some m) = left last ≡ m ∷ left (Some m.end)
+
+-- Some part of the haystack is a match of some pattern, in whatever way.
+abbrev pub HasPart : List Re → List ℕ → Type 0
+HasPart res hay = (i j : ℕ) × (i ≤ length hay) × Matches hay (any_of res) i j
+
+-- The input of a search over the span from `s` to `e`, unanchored and not earliest.
+abbrev pub span_input : List ℕ → (s e : ℕ) → Input
+span_input hay s e = record { haystack = hay; start = s; end = e; anchored = No; earliest = false }

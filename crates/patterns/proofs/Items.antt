@@ -1,0 +1,77 @@
+-- One item of an iteration after another.
+use Rattle.std.proofs.Common.{ℕ, ◌≡◌, ◌<◌, ◌≤◌, Bool, true, false, List, Option, Some, None, length, refl, ap, subst, arith}
+use Rattle.std.specs.Prelude.{Result, Ok, Err, IfErr, IfSome}
+use Rattle.std.specs.Result.{result_err}
+use Rattle.std.specs.Option.{unwrap_or}
+use Rattle.std.proofs.lemmas.Option.{none-some, same_Some}
+use Rattle.automata_base.specs.Haystacks.Input.{Input}
+use Rattle.automata_base.specs.Haystacks.Matches.{Match}
+use Rattle.automata_config.specs.declared.error.SearchError.{SearchError}
+use Rattle.regex_automata.specs.Spans.Errors.{IsNextError}
+use Rattle.regex_automata.specs.Spans.Iteration.{GoesPast}
+use Rattle.regex_automata.specs.Spans.Outcomes.{MatchLiesIn}
+use Rattle.regex_automata.specs.Spans.Runs.{IsItemRun, IsNextRun, item_error}
+use Rattle.regex_automata.specs.declared.hybrid.regex.Regex.{Regex}
+use Rattle.regex_automata.specs.declared.hybrid.regex.caches.Cache.{Cache}
+use Rattle.patterns.specs.Iteration.{GivesMatch, IsNextMeant, most_left, rest_of}
+
+-- what is said of an option, where there is one
+pub given : {A : Type 0} {a : A} {o : Option A} (P : A → Type 0) → o ≡ Some a → IfSome o P → P a
+given {a = a} {o = None} P is h = absurd (none-some a is)
+given {a = a} {o = Some b} P is h = subst P (same_Some b a is) h
+
+-- what is said of the error that a call returns, if it returns one
+pub refused : {A : Type 0} (r : Result A SearchError) (P : SearchError → Type 0) → IfSome (result_err r) P → IfErr r P
+refused (Ok a) P h = tt
+refused (Err e) P h = h
+
+open_is : {P : Type 0} → true ≡ false → P
+open_is e = absurd (cc)
+
+module _ (p : Regex) (c : Cache) (hay : List ℕ) (last : Option ℕ) where
+  pub gives_match : (ended : Bool) (m : Match) (end : ℕ) → ended ≡ false → {o : Option Match} → o ≡ Some m →
+      IsNextMeant p hay last o → MatchLiesIn p (rest_of hay last) m → end ≡ m.end →
+      GivesMatch p c hay (Some (Ok m)) last (Some end) ended ended
+  gives_match true m end on is next lies ends = open_is on
+  gives_match false m end on is next lies ends =
+      (subst (λ v. IsNextMeant p hay last v) is next, lies, ap (λ (n : ℕ). Some n) ends, refl)
+
+  pub gives_none : (ended : Bool) → ended ≡ false → {o : Option Match} → o ≡ None → IsNextMeant p hay last o →
+      GivesMatch p c hay None last last ended true
+  gives_none true on is next = open_is on
+  gives_none false on is next = (subst (λ v. IsNextMeant p hay last v) is next, refl, refl)
+
+  pub gives_error : (ended : Bool) (e : SearchError) → ended ≡ false → IsNextError p c (rest_of hay last) last e →
+      GivesMatch p c hay (Some (Err e)) last last ended true
+  gives_error true e on refused = open_is on
+  gives_error false e on refused = (refused, refl, refl)
+
+-- what an item of an iteration that goes on makes of the caches
+pub item_run : (p : Regex) (input : Input) (last : Option ℕ) (ended : Bool) (old new : Cache) (item : Option (Result Match SearchError)) →
+    ended ≡ false → IsNextRun p input last old new (item_error item) → IsItemRun p input last ended old new item
+item_run p input last true old new item on run = open_is on
+item_run p input last false old new item on run = run
+
+-- after a match fewer items may come, and after an error none
+pub fewer_left : (p : Regex) (hay : List ℕ) (last : Option ℕ) (ended : Bool) (m : Match) (end : ℕ) → ended ≡ false → end ≡ m.end →
+    GoesPast p (rest_of hay last) last m → most_left ended hay (Some end) < most_left ended hay last
+fewer_left p hay last true m end on ends goes = open_is on
+fewer_left p hay None false m end on ends goes = let l = goes.0.2 in omega (arith, ends, l)
+fewer_left p hay (Some at) false m end on ends goes = let l = goes.0.2 in let past = goes.1 refl in omega (arith, ends, l, past)
+
+pub some_left : (hay : List ℕ) (last : Option ℕ) (ended : Bool) → ended ≡ false → unwrap_or last 0 ≤ length hay →
+    0 < most_left ended hay last
+some_left hay last true on within = open_is on
+some_left hay None false on within = omega arith
+some_left hay (Some at) false on within = omega (arith, within)
+
+-- what an item says
+pub item_match : (p : Regex) (c : Cache) (hay : List ℕ) (m : Match) (last last' : Option ℕ) (ended ended' : Bool) →
+    GivesMatch p c hay (Some (Ok m)) last last' ended ended' → IsNextMeant p hay last (Some m) × (last' ≡ Some m.end) × (ended' ≡ false)
+item_match p c hay m last last' true ended' h = let e = h.0 in absurd (cc)
+item_match p c hay m last last' false ended' h = (h.0, h.2, h.3)
+
+pub item_none : (p : Regex) (c : Cache) (hay : List ℕ) (last last' : Option ℕ) (ended ended' : Bool) →
+    GivesMatch p c hay None last last' ended ended' → ended ≡ false → IsNextMeant p hay last None
+item_none p c hay last last' true ended' h on = open_is on
+item_none p c hay last last' false ended' h on = h.0

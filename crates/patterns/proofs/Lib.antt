@@ -1,0 +1,5 @@
+mod Building
+mod Drafting
+mod Faults
+pub mod Items
+pub mod Searching

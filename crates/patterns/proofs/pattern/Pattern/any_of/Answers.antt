@@ -1,0 +1,24 @@
+use Rattle.std.proofs.Common.{inr, refl}
+use Rattle.patterns.proofs.pattern.Pattern.any_of.Goals as goal
+
+pub returns-in-Ok-clause-meant : goal.returns-in-Ok-clause-meant
+returns-in-Ok-clause-meant c =
+    let n = c.in_ok-nfa.ensures.meant in (n.0, n.1, c.in-Ok.ensures.meant n.0 n.2)
+
+pub returns-in-Ok-clause-built : goal.returns-in-Ok-clause-built
+returns-in-Ok-clause-built c = record {
+  nfa = c.in_ok-nfa.nfa;
+  of = c.in_ok-nfa.ensures.meant;
+  small = c.in_ok-nfa.ensures.small;
+  built = c.in-Ok.ensures.built;
+}
+
+pub returns-in-Err-clause-refused : goal.returns-in-Err-clause-refused
+returns-in-Err-clause-refused c = inr (record {
+  nfa = c.in_ok-nfa.nfa;
+  of = c.in_ok-nfa.ensures.meant;
+  cause = c.in-Err.error;
+  is = c.in-Err.ensures.refused;
+  fault = refl;
+  number = refl;
+})

@@ -1,0 +1,42 @@
+-- One match of patterns after another, by what the patterns mean.
+use Rattle.std.specs.Prelude.{ℕ, ◌≡◌, ◌+◌, ◌-◌, Bool, true, false, List, length, Option, Some, None, Result, Ok, Err}
+use Rattle.std.specs.Option.{unwrap_or}
+use Rattle.regex_hir.specs.Re.{Re}
+use Rattle.automata_base.specs.Haystacks.Input.{Input}
+use Rattle.automata_base.specs.Haystacks.Matches.{Match}
+use Rattle.automata_config.specs.declared.error.SearchError.{SearchError}
+use Rattle.regex_automata.specs.Spans.Errors.{IsNextError}
+use Rattle.regex_automata.specs.Spans.Outcomes.{MatchLiesIn}
+use Rattle.regex_automata.specs.declared.hybrid.regex.Regex.{Regex}
+use Rattle.regex_automata.specs.declared.hybrid.regex.caches.Cache.{Cache}
+use Rattle.meaning.specs.Patterns.{IsFirstLeft, left_any, span_input}
+use Rattle.patterns.specs.Patterns.{IsFor, IsRegexOf}
+use Rattle.patterns.specs.declared.compile.Options.{Options}
+
+-- what is left to be searched after a match that ended at `last`
+abbrev pub rest_of : List ℕ → (last : Option ℕ) → Input
+rest_of hay last = span_input hay (unwrap_or last 0) (length hay)
+
+-- the next of the matches that are left, by each meaning that the regex is of
+abbrev pub IsNextMeant : Regex → List ℕ → (last : Option ℕ) → Option Match → Type 0
+IsNextMeant regex hay last found =
+    (o : Options) (res : List Re) → IsRegexOf o res regex → IsFor o hay
+    → IsFirstLeft (left_any o.utf8 res hay) last found
+
+-- one item of an iteration; where the last match ended, and whether the iteration has ended, before it and after it
+abbrev pub GivesMatch :
+    Regex → Cache → List ℕ → Option (Result Match SearchError) → (last last' : Option ℕ) → (ended ended' : Bool) → Type 0
+GivesMatch regex c hay item last last' true ended' = (item ≡ None) × (last' ≡ last) × (ended' ≡ true)
+GivesMatch regex c hay None last last' false ended' =
+    IsNextMeant regex hay last None × (last' ≡ last) × (ended' ≡ true)
+GivesMatch regex c hay (Some (Ok m)) last last' false ended' =
+    IsNextMeant regex hay last (Some m) × MatchLiesIn regex (rest_of hay last) m
+    × (last' ≡ Some m.end) × (ended' ≡ false)
+GivesMatch regex c hay (Some (Err e)) last last' false ended' =
+    IsNextError regex c (rest_of hay last) last e × (last' ≡ last) × (ended' ≡ true)
+
+-- how many items may come: ends rise, and an error may be the last item
+abbrev pub most_left : (ended : Bool) → List ℕ → (last : Option ℕ) → ℕ
+most_left true hay last = 0
+most_left false hay None = length hay + 2
+most_left false hay (Some end) = length hay + 1 - end

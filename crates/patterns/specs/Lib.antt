@@ -1,0 +1,4 @@
+pub mod Patterns
+pub mod Drafts
+pub mod Faults
+pub mod Iteration

@@ -1,0 +1,116 @@
+-- What NFAs and regexes of patterns are: each text is read as a tree, and what its NFA finds is what the tree means.
+use Rattle.std.specs.Prelude.{ℕ, ◌≡◌, ◌+◌, ◌*◌, ◌≤◌, true, false, List, [], ◌∷◌, length, Option, Some, IsAscii, IsUtf8}
+use Rattle.regex_hir.specs.Re.{Re}
+use Rattle.regex_hir.specs.Meaning.{meaning}
+use Rattle.regex_hir.specs.declared.hir.Hir as kit_hir
+use Rattle.regex_nfa.specs.declared.nfa.Nfa as kit_nfa
+use Rattle.regex_syntax.specs.declared.Config.{Config}
+use Rattle.regex_syntax.specs.Verdict.{Reads}
+use Rattle.automata_base.specs.Nfas.Nodes.{Automaton}
+use Rattle.automata_config.specs.Options as settings
+use Rattle.regex_automata.specs.Promises.{IsLookAcyclic, IsSoundPair, LeftmostFirst, engine_of, forward_engine, nfa_of}
+use Rattle.regex_automata.specs.Regexes.Builds.{BuildsOne}
+use Rattle.regex_automata.specs.declared.hybrid.regex.Regex.{Regex}
+use Rattle.meaning.specs.Agreeing.{Each, HasNoUnicodeLook, ImplementAll}
+use Rattle.meaning.specs.Translated.{engine}
+use Rattle.patterns.specs.declared.compile.Options.{Options}
+
+-- the options of `Options::default`
+abbrev pub default_options : Options
+default_options = record {
+  unicode = true;
+  case_insensitive = false;
+  multi_line = false;
+  dot_matches_new_line = false;
+  crlf = false;
+  swap_greed = false;
+  ignore_whitespace = false;
+  octal = false;
+  utf8 = true;
+  ascii = false;
+  size_limit = 10485760;
+  nest_limit = 250;
+}
+
+-- how these options read a text: each flag, and the limit on nesting, is the option of its name
+abbrev pub config_of : Options → Config
+config_of options = record {
+  flags = record {
+    case_insensitive = options.case_insensitive;
+    multi_line = options.multi_line;
+    dot_matches_new_line = options.dot_matches_new_line;
+    swap_greed = options.swap_greed;
+    unicode = options.unicode;
+    crlf = options.crlf;
+    ignore_whitespace = options.ignore_whitespace;
+  };
+  octal = options.octal;
+  utf8 = options.utf8;
+  nest_limit = options.nest_limit;
+}
+
+-- the text is read as a tree, whose meaning this is
+abbrev pub IsMeaning : Config → (text : List ℕ) → Re → Type 0
+IsMeaning config text re =
+    (hir : kit_hir.Hir) × (names : List (Option (List ℕ))) × Reads config text hir names × (re ≡ meaning hir)
+
+-- the meanings of these texts, in their order
+abbrev pub AreMeanings : Config → (texts : List (List ℕ)) → List Re → Type 0
+AreMeanings config [] [] = Unit {0}
+AreMeanings config [] (re ∷ res) = ⊥
+AreMeanings config (text ∷ texts) [] = ⊥
+AreMeanings config (text ∷ texts) (re ∷ res) = IsMeaning config text re × AreMeanings config texts res
+
+-- some NFAs of the kit find what the patterns mean; no look of them is one of characters, unless the text is ASCII
+abbrev pub AreNfasOf : Options → List kit_nfa.Nfa → List Re → Type 0
+AreNfasOf options ks res = ImplementAll ks res × Each (λ k. options.ascii ≡ false → HasNoUnicodeLook k) ks
+
+-- no cycle of what reads nothing passes a look: such an NFA keeps its cycles without being asked to keep unions
+abbrev pub HasNoLookCycle : Automaton → Type 0
+HasNoLookCycle nfa = IsLookAcyclic (nfa_of nfa)
+
+-- the NFA joins NFAs that find what these patterns mean
+abbrev pub IsJoinedNfa : Options → List Re → Automaton → Type 0
+IsJoinedNfa options res nfa =
+    (ks : List kit_nfa.Nfa) × AreNfasOf options ks res × (engine_of nfa LeftmostFirst ≡ engine options.utf8 ks)
+
+-- the NFA is that of the patterns of these texts
+abbrev pub IsNfaOf : Options → (texts : List (List ℕ)) → Automaton → Type 0
+IsNfaOf options texts nfa =
+    (res : List Re) × AreMeanings (config_of options) texts res × IsJoinedNfa options res nfa
+
+-- the states that the size limit leaves room for, of 12 bytes each: each pattern may pass it by the 24 bytes of two
+-- states, and three states join the patterns
+abbrev pub IsWithinLimit : Options → (texts : List (List ℕ)) → Automaton → Type 0
+IsWithinLimit options texts nfa = 12 * length nfa.states ≤ options.size_limit + 24 * length texts + 36
+
+-- the settings of the DFAs: those of the library, with Unicode's word boundaries where the text is ASCII
+abbrev pub settings_of : Options → settings.Options
+settings_of options = settings.overwritten settings.unset
+    (record settings.unset { unicode_word_boundary = Some options.ascii })
+
+-- the regex is a sound pair that searches for what the patterns mean
+abbrev pub IsRegexOf : Options → List Re → Regex → Type 0
+IsRegexOf options res regex =
+    IsSoundPair regex
+    × ((ks : List kit_nfa.Nfa) × AreNfasOf options ks res × (forward_engine regex ≡ engine options.utf8 ks))
+
+-- the regex is that of the patterns of these texts
+abbrev pub IsPatternOf : Options → (texts : List (List ℕ)) → Regex → Type 0
+IsPatternOf options texts regex =
+    (res : List Re) × AreMeanings (config_of options) texts res × IsRegexOf options res regex
+
+-- the regex is built of the NFA of these texts, which is within the size limit, by the settings of these options
+pub record IsBuiltOf (options : Options) (texts : List (List ℕ)) (regex : Regex) : Type 0 where
+  -- the NFA that the regex is built of
+  pub nfa : Automaton
+  -- it is that of the patterns of these texts
+  pub of : IsNfaOf options texts nfa
+  -- it is within the size limit
+  pub small : IsWithinLimit options texts nfa
+  -- the regex is what the library builds of it with the settings of these options
+  pub built : BuildsOne (settings_of options) nfa regex
+
+-- the bytes are what the options say is searched
+abbrev pub IsFor : Options → List ℕ → Type 0
+IsFor options hay = (options.utf8 ≡ true → IsUtf8 hay) × (options.ascii ≡ true → IsAscii hay)

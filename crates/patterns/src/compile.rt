@@ -1,0 +1,282 @@
+//! The NFA of several patterns.
+ghost use Rattle.std.specs.Prelude.{◌≡◌, ◌+◌, ◌-◌, ◌^◌, ◌≤◌, List, [], ◌∷◌, ◌++◌, IfErr, IfOk, OnOk, length, map, min};
+ghost use Rattle.std.specs.Prelude.{option_map, string_bytes};
+ghost use Rattle.automata_base.specs.Nfas.Engines.{any_byte};
+ghost use Rattle.automata_base.specs.Nfas.Nfa.{Split};
+ghost use Rattle.automata_base.specs.Nfas.Nodes as nodes;
+ghost use Rattle.regex_automata.specs.Promises.{LeftmostFirst, engine_of};
+ghost use Rattle.regex_nfa.specs.Sizes as sizes;
+ghost use Rattle.regex_nfa.specs.declared.nfa.Nfa as kit_nfa;
+ghost use Rattle.regex_syntax.specs.Verdict.{Reads};
+ghost use Rattle.meaning.specs.Translated.{engine};
+ghost use Rattle.patterns.specs.Drafts.{Grows, Has, IsCompiled, IsDraftOf};
+ghost use Rattle.patterns.specs.Faults.{IsAddFault, IsFaultOf, IsFirstFault, IsJoinFault, IsNfaFault, IsOfSize};
+ghost use Rattle.patterns.specs.Patterns.{HasNoLookCycle, IsNfaOf, IsWithinLimit, config_of};
+
+use crate::error::{Fault, PatternError};
+use crate::translate::{Origin, has_unicode_look, id_of, push_states, shifted};
+use regex_automata::nfa::thompson::{Flags, NFA, NfaError, State};
+use regex_automata::util::primitives::{PatternID, StateID};
+use regex_nfa::Nfa;
+use regex_syntax::{Config, Flags as SyntaxFlags, Parsed};
+use std::alloc::Global;
+use std::mem;
+
+/// How patterns are read, and how large they may become. The flags are those of the same names of Rust's `RegexBuilder`;
+/// a pattern sets one for a part of itself by `(?flags)`.
+#[derive(Clone, Copy, Debug)]
+pub struct Options {
+    /// The flag `u`: whether classes such as `\w` and `.` are of characters, and letters have the cases of Unicode.
+    /// Otherwise they are of bytes and of ASCII.
+    pub unicode: bool,
+    /// The flag `i`: whether a letter stands for the same letter in both cases.
+    pub case_insensitive: bool,
+    /// The flag `m`: whether `^` and `$` match at the ends of each line, and not of the whole haystack.
+    pub multi_line: bool,
+    /// The flag `s`: whether `.` matches a line feed.
+    pub dot_matches_new_line: bool,
+    /// The flag `R`: whether lines end in a carriage return, a line feed or both, for `^`, `$` and `.`.
+    pub crlf: bool,
+    /// The flag `U`: whether `a*` prefers fewer repetitions, and `a*?` more.
+    pub swap_greed: bool,
+    /// The flag `x`: whether blanks in the pattern, and comments after `#`, are skipped.
+    pub ignore_whitespace: bool,
+    /// Whether a backslash and digits, as `\141`, are a character by its number in octal.
+    pub octal: bool,
+    /// Whether text is searched: no match splits a character. Otherwise bytes are searched.
+    pub utf8: bool,
+    /// Whether the text is ASCII. Then a pattern may have a word boundary of Unicode; over other text a search for it
+    /// may fail, and nothing is promised of what it finds. Otherwise such a pattern is refused.
+    pub ascii: bool,
+    /// How many bytes the tables of all patterns may take.
+    pub size_limit: usize,
+    /// How deep groups, repetitions and classes may nest. The parser's calls nest as deep, so a higher limit needs a
+    /// larger stack.
+    pub nest_limit: u32,
+}
+
+impl Default for Options {
+    ghost use Rattle.patterns.specs.Patterns.{default_options};
+
+    ghost is_default = { λ o. o ≡ default_options };
+
+    fn default() -> Options {
+        Options {
+            unicode: true,
+            case_insensitive: false,
+            multi_line: false,
+            dot_matches_new_line: false,
+            crlf: false,
+            swap_greed: false,
+            ignore_whitespace: false,
+            octal: false,
+            utf8: true,
+            ascii: false,
+            size_limit: 10 << 20,
+            nest_limit: 250,
+        }
+    }
+}
+
+/// The states of the patterns so far, one pattern behind the other, and where each begins.
+struct Draft {
+    states: Vec<State>,
+    starts: Vec<StateID>,
+    room: usize,
+}
+
+// One call for an owner, whose proof then has no step for each part.
+impl Drop for Draft {
+    fn drop(self) {
+        let Self {
+            states: _states,
+            starts: _starts,
+            room: _room,
+        } = self;
+    }
+}
+
+/// The options, as the parser takes them.
+fn config_of(options: &Options) -> Config
+    ensures { result ≡ config_of options.now }
+{
+    Config {
+        flags: SyntaxFlags {
+            case_insensitive: options.case_insensitive,
+            multi_line: options.multi_line,
+            dot_matches_new_line: options.dot_matches_new_line,
+            swap_greed: options.swap_greed,
+            unicode: options.unicode,
+            crlf: options.crlf,
+            ignore_whitespace: options.ignore_whitespace,
+        },
+        octal: options.octal,
+        utf8: options.utf8,
+        nest_limit: options.nest_limit,
+    }
+}
+
+/// Reads a text as the options say.
+fn parse(alloc: Global, text: &str, options: &Options) -> Result<Parsed, Fault>
+    ensures read { IfOk result (λ p.
+        Reads (config_of options.now) text.now p.hir (map (option_map string_bytes) p.names.items)) }
+    ensures refused { IfErr result (IsFaultOf options.now text.now) }
+{
+    let config = config_of(options);
+    match regex_syntax::parse(alloc, text, &config) {
+        Ok(parsed) => Ok(parsed),
+        Err(error) if error.kind == regex_syntax::ErrorKind::OutOfMemory => Err(Fault::OutOfMemory),
+        Err(error) => Err(Fault::Syntax(error)),
+    }
+}
+
+/// The kit's NFA of a pattern, whose tables take at most so many bytes.
+fn compile(alloc: Global, text: &str, options: &Options, room: usize) -> Result<Nfa, Fault>
+    ensures compiled { IfOk result (IsCompiled (config_of options.now) text.now) }
+    ensures small { IfOk result (λ nfa. sizes.table_bytes nfa ≤ room + 24) }
+    ensures refused { IfErr result (IsFaultOf options.now text.now) }
+{
+    let parsed = parse(alloc, text, options)?;
+    let Ok(groups) = u32::try_from(parsed.names.len()) else {
+        return Err(Fault::TooLarge);
+    };
+    match regex_compile::compile(alloc, &parsed.hir, groups, room) {
+        Ok(nfa) => Ok(nfa),
+        Err(error) => Err(Fault::from(error)),
+    }
+}
+
+/// At least as many bytes as the tables of an NFA take.
+fn table_bytes(nfa: &Nfa) -> usize
+    ensures { min (sizes.table_bytes nfa.now) (2 ^ 64 - 1) ≤ result }
+{
+    let states = nfa.states.len().saturating_mul(16);
+    let transitions = nfa.transitions.len().saturating_mul(8);
+    states.saturating_add(transitions)
+}
+
+impl Draft {
+    /// A draft of no pattern.
+    fn new(alloc: Global, room: usize) -> Draft
+        ensures states { result.states.items ≡ [] }
+        ensures starts { result.starts.items ≡ [] }
+        ensures room { result.room ≡ room }
+    {
+        Draft {
+            states: Vec::new(alloc),
+            starts: Vec::new(alloc),
+            room,
+        }
+    }
+
+    /// Adds the patterns of texts. It fails at the first text that is no pattern, or that makes the patterns too large.
+    fn read(&mut self, alloc: Global, texts: &[&str], options: &Options) -> Result<(), PatternError>
+        requires states { self.old.states.items ≡ [] }
+        requires starts { self.old.starts.items ≡ [] }
+        requires room { self.old.room ≡ options.now.size_limit }
+        ensures read { OnOk result (IsDraftOf options.now (map (λ text. text.now) texts.now) self.new) }
+        ensures refused { IfErr result (IsFirstFault options.now (map (λ text. text.now) texts.now)) }
+    {
+        for text in texts {
+            let number = self.starts.len();
+            match self.read_one(alloc, text, options) {
+                Ok(()) => {}
+                Err(fault) => return Err(PatternError { number, fault }),
+            }
+        }
+        Ok(())
+    }
+
+    /// Adds the pattern of a text.
+    fn read_one(&mut self, alloc: Global, text: &str, options: &Options) -> Result<(), Fault>
+        ensures read { OnOk result ((k : kit_nfa.Nfa) × IsCompiled (config_of options.now) text.now k
+            × (sizes.table_bytes k ≤ self.old.room + 24) × Grows options.now.ascii self.old k self.new) }
+        ensures refused { IfErr result (IsFaultOf options.now text.now) }
+    {
+        let nfa = compile(alloc, text, options, self.room)?;
+        self.add(alloc, &nfa, options.ascii)
+    }
+
+    /// Adds the states of a pattern behind those of the patterns before it.
+    fn add(&mut self, alloc: Global, nfa: &Nfa, ascii: bool) -> Result<(), Fault>
+        ensures grows { OnOk result (Grows ascii self.old nfa.now self.new) }
+        ensures refused { IfErr result (IsAddFault ascii nfa.now) }
+    {
+        if !ascii && has_unicode_look(nfa) {
+            return Err(Fault::UnicodeWord);
+        }
+        let Some(pattern) = PatternID::new(self.starts.len()) else {
+            return Err(Fault::TooLarge);
+        };
+        let base = self.states.len();
+        let origin = Origin { base, pattern };
+        let start = shifted(&origin, nfa.start)?;
+        push_states(alloc, nfa, &origin, &mut self.states)?;
+        self.starts.push(start)?;
+        self.room = self.room.saturating_sub(table_bytes(nfa));
+        Ok(())
+    }
+
+    /// Adds a union of all starts, and before it a lazy loop that skips bytes. Returns where the loop begins.
+    fn join(&mut self, alloc: Global) -> Result<StateID, Fault>
+        ensures nodes { OnOk result (nodes.nodes_of self.new.states.items ≡ nodes.nodes_of self.old.states.items
+            ++ Split self.old.starts.items
+            ∷ Split (length self.old.states.items ∷ (length self.old.states.items + 2) ∷ [])
+            ∷ any_byte (length self.old.states.items + 1) ∷ []) }
+        ensures starts { OnOk result (self.new.starts ≡ self.old.starts) }
+        ensures start { IfOk result (λ id. id ≡ length self.old.states.items + 1) }
+        ensures refused { IfErr result IsOfSize }
+    {
+        let union = id_of(self.states.len())?;
+        let next = id_of(self.states.len() + 1)?;
+        let skip = id_of(self.states.len() + 2)?;
+        let alternates = Vec::from_slice(alloc, self.starts.as_slice())?;
+        self.states.push(State::Union { alternates })?;
+        let (alt1, alt2) = (union, skip);
+        self.states.push(State::BinaryUnion { alt1, alt2 })?;
+        let (lo, hi) = (0, 255);
+        self.states.push(State::ByteRange { lo, hi, next })?;
+        Ok(next)
+    }
+
+    /// The NFA of all patterns.
+    fn finish(&mut self, alloc: Global, utf8: bool) -> Result<NFA, Fault>
+        ensures joined { IfOk result (λ nfa. (ks : List kit_nfa.Nfa) → Has self.old ks
+            → engine_of nfa LeftmostFirst ≡ engine utf8 ks) }
+        ensures refused { IfErr result IsJoinFault }
+    {
+        let start = id_of(self.states.len())?;
+        let unanchored = self.join(alloc)?;
+        let flags = Flags {
+            utf8,
+            reverse: false,
+            line_terminator: b'\n',
+        };
+        let states = mem::replace(&mut self.states, Vec::new(alloc));
+        let starts = mem::replace(&mut self.starts, Vec::new(alloc));
+        match NFA::from_states(alloc, states, start, unanchored, starts, flags) {
+            Ok(nfa) => Ok(nfa),
+            Err(NfaError::OutOfMemory) => Err(Fault::OutOfMemory),
+            Err(error) => Err(Fault::Refused(error)),
+        }
+    }
+}
+
+/// The NFA of these patterns, in which each has its place in the list as its number. It fails at the first text that is
+/// no pattern, or that makes the patterns too large.
+///
+/// Behind the states of the patterns stand a union of their starts and a loop that skips bytes, also for one pattern.
+/// No cycle of what reads nothing passes a look-around assertion, whatever the patterns.
+pub fn nfa_of(alloc: Global, texts: &[&str], options: &Options) -> Result<NFA, PatternError>
+    ensures meant { IfOk result (IsNfaOf options.now (map (λ text. text.now) texts.now)) }
+    ensures acyclic { IfOk result HasNoLookCycle }
+    ensures small { IfOk result (IsWithinLimit options.now (map (λ text. text.now) texts.now)) }
+    ensures refused { IfErr result (IsNfaFault options.now (map (λ text. text.now) texts.now)) }
+{
+    let mut draft = Draft::new(alloc, options.size_limit);
+    draft.read(alloc, texts, options)?;
+    match draft.finish(alloc, options.utf8) {
+        Ok(nfa) => Ok(nfa),
+        Err(fault) => Err(PatternError { number: 0, fault }),
+    }
+}

@@ -1,0 +1,113 @@
+ghost use Rattle.std.specs.Prelude.{◌≡◌};
+ghost use Rattle.patterns.specs.Faults.{compile_fault};
+ghost use Rattle.patterns.specs.declared.error.Fault.TheVariants as fault;
+
+use regex_automata::hybrid::regex::RegexBuildError;
+use regex_automata::nfa::thompson::NfaError;
+use regex_syntax::Span;
+use std::alloc::{AllocError, AllocFailed, Global};
+use std::fmt::Write;
+use thiserror::Error;
+
+/// What is wrong with a pattern.
+#[derive(Clone, Copy, Debug, PartialEq, Eq, Error)]
+pub enum Fault {
+    /// The text is no pattern.
+    #[error("{}", .0.kind.message())]
+    Syntax(regex_syntax::Error),
+    /// The pattern has a word boundary of Unicode, which the library supports in ASCII text alone.
+    #[error("a Unicode word boundary is not supported: write (?-u:\\b) for one of ASCII")]
+    UnicodeWord,
+    /// The tables of all patterns together would pass the size limit.
+    #[error("the patterns are too large")]
+    TooLarge,
+    /// The compiler made tables that it does not accept itself.
+    #[error("the pattern was not compiled")]
+    Malformed,
+    /// The library refused the states.
+    #[error("{0}")]
+    Refused(NfaError),
+    /// No regex could be built of the NFA.
+    #[error("{0}")]
+    Unbuilt(RegexBuildError),
+    /// An allocation failed.
+    #[error("out of memory")]
+    OutOfMemory,
+}
+
+impl From<AllocError> for Fault {
+    ghost from_gives = { λ _ e. e ≡ fault.OutOfMemory };
+
+    fn from(_error: AllocError) -> Fault {
+        Fault::OutOfMemory
+    }
+}
+
+impl<T: Drop> From<AllocFailed<T>> for Fault {
+    ghost from_gives = { λ _ e. e ≡ fault.OutOfMemory };
+
+    fn from(_error: AllocFailed<T>) -> Fault {
+        Fault::OutOfMemory
+    }
+}
+
+impl From<regex_compile::Error> for Fault {
+    ghost from_gives = { λ error e. e ≡ compile_fault error };
+
+    fn from(error: regex_compile::Error) -> Fault {
+        match error {
+            regex_compile::Error::TooBig => Fault::TooLarge,
+            regex_compile::Error::Malformed => Fault::Malformed,
+            regex_compile::Error::OutOfMemory => Fault::OutOfMemory,
+        }
+    }
+}
+
+/// The first pattern that has no NFA, and why it has none.
+#[derive(Clone, Copy, Debug, PartialEq, Eq, Error)]
+#[error("pattern {number}: {fault}")]
+pub struct PatternError {
+    /// The place of the pattern in the list, counted from 0.
+    pub number: usize,
+    /// What is wrong with it.
+    pub fault: Fault,
+}
+
+impl PatternError {
+    /// The part of the pattern that the parser's error is about, by the offsets of its bytes.
+    pub fn span(&self) -> Option<Span> {
+        match self.fault {
+            Fault::Syntax(error) => Some(error.span),
+            _ => None,
+        }
+    }
+
+    /// What is wrong, the pattern's text, and below it a caret for each character that the error is about.
+    pub fn show(&self, alloc: Global, text: &str) -> Result<String, AllocError> {
+        let mut shown = String::new(alloc);
+        let fault = self.fault;
+        write!(shown, "{fault}\n  {text}")?;
+        if let Some(span) = self.span() {
+            shown.push_str("\n  ")?;
+            push_carets(&mut shown, text, span)?;
+        }
+        Ok(shown)
+    }
+}
+
+/// Appends a blank for each character before the span, and a caret for each one in it, but at least one.
+fn push_carets(shown: &mut String, text: &str, span: Span) -> Result<(), AllocError> {
+    let mut carets = 0;
+    for (offset, _) in text.char_indices() {
+        if offset < span.start {
+            shown.push(' ')?;
+        } else if offset < span.end {
+            shown.push('^')?;
+            carets = 1;
+        }
+    }
+    if carets == 0 {
+        shown.push('^')?;
+    }
+    Ok(())
+}

@@ -1,0 +1,217 @@
+//! Patterns, to be searched for.
+ghost use Rattle.std.specs.Prelude.{◌≡◌, ◌≤◌, List, [], ◌∷◌, IfErr, IfOk, IfSome, None, Some, false, is_some};
+ghost use Rattle.std.specs.Prelude.{length, map, option_map};
+ghost use Rattle.std.specs.Option.{unwrap_or};
+ghost use Rattle.std.specs.Result.{result_err};
+ghost use Rattle.regex_hir.specs.Re.{Re};
+ghost use Rattle.regex_automata.specs.Spans.Errors.{IsNextError};
+ghost use Rattle.regex_automata.specs.Spans.Iteration.{GoesPast};
+ghost use Rattle.automata_config.specs.Options.{overwritten, unset};
+ghost use Rattle.regex_automata.specs.Promises.{AreCachesOf, Forward, IsHalf, IsSoundPair, IsSpanOf, IsTruthOf};
+ghost use Rattle.regex_automata.specs.Promises.{IsSearchRun, IsSpanRun, IsTruthRun};
+ghost use Rattle.regex_automata.specs.Spans.Runs.{IsNextRun};
+ghost use Rattle.regex_automata.specs.Regexes.Builds.{BuildsOne, IsBuildError};
+ghost use Rattle.regex_automata.specs.Regexes.Caches.{AreFresh};
+ghost use Rattle.meaning.specs.Patterns.{end_of, find_any, match_of, span_input};
+ghost use Rattle.patterns.specs.Iteration.{IsNextMeant, rest_of};
+ghost use Rattle.patterns.specs.Faults.{IsPatternFault};
+ghost use Rattle.patterns.specs.Patterns.{IsBuiltOf, IsFor, IsJoinedNfa, IsPatternOf, IsRegexOf, settings_of};
+ghost use Rattle.patterns.specs.declared.compile.Options as options;
+
+use crate::compile::{Options, nfa_of};
+use crate::error::{Fault, PatternError};
+use crate::matches::Matches;
+use regex_automata::hybrid::SearchError;
+use regex_automata::hybrid::dfa::{Config, DFA};
+use regex_automata::hybrid::regex::{Cache, Regex, RegexBuildError};
+use regex_automata::laws::{matches_are_spans, spans_follow};
+use regex_automata::nfa::thompson::NFA;
+use regex_automata::util::search::{HalfMatch, Input, Match};
+use std::alloc::{AllocError, Global};
+
+/// One pattern, or several. Of several a match is of the first that matches where it begins, and has that one's number.
+pub struct Pattern {
+    /// The regex that searches for it.
+    pub regex: Regex,
+}
+
+// One call for an owner, whose proof then has no step for each part.
+impl Drop for Pattern {
+    fn drop(self) {
+        let Self { regex: _regex } = self;
+    }
+}
+
+/// The regex of an NFA, by the settings of its DFAs.
+fn regex_of(nfa: NFA, config: Config) -> Result<Regex, RegexBuildError>
+    ensures sound { IfOk result IsSoundPair }
+    ensures built { IfOk result (BuildsOne (overwritten unset config) nfa) }
+    ensures refused { IfErr result (IsBuildError (overwritten unset config) nfa) }
+{
+    let mut builder = Regex::builder();
+    builder.dfa(config);
+    builder.build_from_nfa(nfa)
+}
+
+/// The haystack from an offset on.
+fn rest<'h>(hay: &'h [u8], start: usize) -> Input<'h>
+    requires { start ≤ length hay.now }
+    ensures { result ≡ span_input hay.now start (length hay.now) }
+{
+    Input::new(hay).range(start..hay.len())
+}
+
+impl Pattern {
+    /// The pattern of a text.
+    pub fn new(alloc: Global, text: &str, options: &Options) -> Result<Pattern, PatternError>
+        ensures meant { IfOk result (λ pattern. IsPatternOf options.now (text.now ∷ []) pattern.regex) }
+        ensures built { IfOk result (λ pattern. IsBuiltOf options.now (text.now ∷ []) pattern.regex) }
+        ensures refused { IfErr result (IsPatternFault options.now (text.now ∷ [])) }
+    {
+        Pattern::any_of(alloc, &[text], options)
+    }
+
+    /// The patterns of texts, in which each has its place in the list as its number.
+    pub fn any_of(alloc: Global, texts: &[&str], options: &Options) -> Result<Pattern, PatternError>
+        ensures meant { IfOk result (λ pattern.
+            IsPatternOf options.now (map (λ text. text.now) texts.now) pattern.regex) }
+        ensures built { IfOk result (λ pattern.
+            IsBuiltOf options.now (map (λ text. text.now) texts.now) pattern.regex) }
+        ensures refused { IfErr result (IsPatternFault options.now (map (λ text. text.now) texts.now)) }
+    {
+        let nfa = nfa_of(alloc, texts, options)?;
+        match Pattern::from_nfa(nfa, options) {
+            Ok(pattern) => Ok(pattern),
+            Err(error) => {
+                let fault = Fault::Unbuilt(error);
+                Err(PatternError { number: 0, fault })
+            }
+        }
+    }
+
+    /// The patterns of an NFA that `nfa_of` made under these options. It fails if no regex can be built of it.
+    pub fn from_nfa(nfa: NFA, options: &Options) -> Result<Pattern, RegexBuildError>
+        ensures meant { IfOk result (λ pattern. (res : List Re) → IsJoinedNfa options.now res nfa
+            → IsRegexOf options.now res pattern.regex) }
+        ensures built { IfOk result (λ pattern. BuildsOne (settings_of options.now) nfa pattern.regex) }
+        ensures refused { IfErr result (IsBuildError (settings_of options.now) nfa) }
+    {
+        let config = DFA::config().unicode_word_boundary(options.ascii);
+        let regex = regex_of(nfa, config)?;
+        Ok(Pattern { regex })
+    }
+
+    /// A cache for its searches, which serves one search after another.
+    pub fn create_cache(&self) -> Result<Cache, AllocError>
+        ensures of { IfOk result (λ cache. AreCachesOf cache self.now.regex) }
+        ensures fresh { IfOk result (AreFresh self.now.regex) }
+    {
+        self.regex.create_cache()
+    }
+
+    /// Whether some part of the haystack is a match.
+    pub fn is_match(&self, cache: &mut Cache, hay: &[u8]) -> Result<bool, SearchError>
+        requires { AreCachesOf cache.old self.now.regex }
+        ensures of { AreCachesOf cache.new self.now.regex }
+        ensures returned { IsTruthOf self.now.regex (span_input hay.now 0 (length hay.now)) result }
+        ensures found { IfOk result (λ truth. (o : options.Options) (res : List Re)
+            → IsRegexOf o res self.now.regex → IsFor o hay.now
+            → truth ≡ is_some (find_any o.utf8 res hay.now 0)) }
+        ensures effect { IsTruthRun self.now.regex (span_input hay.now 0 (length hay.now)) cache.old cache.new
+            (result_err result) }
+    {
+        let input = Input::new(hay);
+        let _haystack = input.haystack();
+        self.regex.is_match(cache, &input)
+    }
+
+    /// The leftmost match that begins at `start` or later, of those there the one that the pattern prefers.
+    pub fn find(
+        &self,
+        cache: &mut Cache,
+        hay: &[u8],
+        start: usize,
+    ) -> Result<Option<Match>, SearchError>
+        requires of { AreCachesOf cache.old self.now.regex }
+        requires within { start ≤ length hay.now }
+        ensures of { AreCachesOf cache.new self.now.regex }
+        ensures returned { IsSpanOf self.now.regex (span_input hay.now start (length hay.now)) result }
+        ensures found { IfOk result (λ found. (o : options.Options) (res : List Re)
+            → IsRegexOf o res self.now.regex → IsFor o hay.now
+            → found ≡ option_map (match_of res hay.now) (find_any o.utf8 res hay.now start)) }
+        ensures effect { IsSpanRun self.now.regex (span_input hay.now start (length hay.now)) cache.old cache.new
+            (result_err result) }
+    {
+        let input = rest(hay, start);
+        let _haystack = input.haystack();
+        self.regex.find(cache, &input)
+    }
+
+    /// The end of the match that `find` returns, and its pattern. The forward DFA alone searches for it, so that it
+    /// costs less than `find`, and fails as a search of that DFA does. Rust's regex crate may return an earlier end.
+    pub fn shortest_match(
+        &self,
+        cache: &mut Cache,
+        hay: &[u8],
+        start: usize,
+    ) -> Result<Option<HalfMatch>, SearchError>
+        requires of { AreCachesOf cache.old self.now.regex }
+        requires within { start ≤ length hay.now }
+        ensures of { AreCachesOf cache.new self.now.regex }
+        ensures returned { IsHalf Forward self.now.regex.forward (span_input hay.now start (length hay.now)) result }
+        ensures found { IfOk result (λ found. (o : options.Options) (res : List Re)
+            → IsRegexOf o res self.now.regex → IsFor o hay.now
+            → found ≡ option_map (end_of res hay.now) (find_any o.utf8 res hay.now start)) }
+        ensures effect { IsSearchRun Forward self.now.regex.forward (span_input hay.now start (length hay.now))
+            cache.old.forward cache.new.forward (result_err result) }
+        ensures reverse { cache.new.reverse ≡ cache.old.reverse }
+    {
+        let left = rest(hay, start);
+        let _haystack = left.haystack();
+        self.regex
+            .forward()
+            .try_search_fwd(cache.forward_mut(), &left)
+    }
+
+    /// The match after one that ended at `last`, which is not an empty match there; the first match if `last` is none.
+    pub(crate) fn next_match(
+        &self,
+        cache: &mut Cache,
+        hay: &[u8],
+        last: Option<usize>,
+    ) -> Result<Option<Match>, SearchError>
+        requires of { AreCachesOf cache.old self.now.regex }
+        requires within { unwrap_or last 0 ≤ length hay.now }
+        ensures of { AreCachesOf cache.new self.now.regex }
+        ensures found { IfOk result (IsNextMeant self.now.regex hay.now last) }
+        ensures past { IfOk result (λ o. IfSome o (GoesPast self.now.regex (rest_of hay.now last) last)) }
+        ensures refusal { IfErr result (IsNextError self.now.regex cache.new (rest_of hay.now last) last) }
+        ensures effect { IsNextRun self.now.regex (rest_of hay.now last) last cache.old cache.new (result_err result) }
+    {
+        matches_are_spans(&self.regex);
+        spans_follow(&self.regex);
+        let input = rest(hay, last.unwrap_or(0));
+        let _haystack = input.haystack();
+        self.regex.next_match(cache, &input, last)
+    }
+
+    /// The matches of the haystack, one after another. An empty match at the end of the one before it is none of them.
+    ///
+    /// If a search fails, its error is the last item: the items before it are the first of the matches. Afterwards the
+    /// cache serves other searches as before.
+    pub fn find_iter<'p, 'c, 'h>(
+        &'p self,
+        cache: &'c mut Cache,
+        hay: &'h [u8],
+    ) -> Matches<'p, 'c, 'h>
+        requires { AreCachesOf cache.old self.now.regex }
+        ensures same_cache { result.cache.ghost_name ≡ cache.entry.ghost_name }
+        ensures cache { result.cache.now ≡ cache.old }
+        ensures pattern { result.pattern.now ≡ self.now }
+        ensures haystack { result.haystack.now ≡ hay.now }
+        ensures last { result.last ≡ None }
+        ensures ended { result.ended ≡ false }
+    {
+        Matches::new(self, cache, hay)
+    }
+}
