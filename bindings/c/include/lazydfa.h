@@ -1,22 +1,26 @@
-/* A lazy DFA for C: regular expressions as NFAs, searched over a cache of bounded size.
+/* A lazy DFA for C: regular expressions, searched over a cache of bounded size.
  *
- * A program builds an NFA state by state, makes a regex of it, makes a cache of the regex, and searches with the cache:
+ * A program makes a regex of a pattern's text, makes a cache of the regex, and searches with the cache:
  *
- *     lazydfa_builder builder = LAZYDFA_INIT;
  *     lazydfa_regex regex = LAZYDFA_INIT;
  *     lazydfa_cache cache = LAZYDFA_INIT;
- *     lazydfa_status status = lazydfa_builder_new(&builder);
- *     ...
- *     status = lazydfa_regex_build(&regex, &builder, starts, NULL, NULL, 0);
+ *     char message[512];
+ *     lazydfa_status status = lazydfa_regex_new(&regex, "[a-z]+", 6, NULL, NULL, NULL, 0, NULL, message,
+ *                                              sizeof message);
+ *     if (status.code != LAZYDFA_OK) fprintf(stderr, "%s\n", *message ? message : lazydfa_code_text(status.code));
  *     status = lazydfa_cache_new(&cache, &regex);
  *     lazydfa_iteration at = lazydfa_iterate(lazydfa_whole(length));
  *     lazydfa_match match;
  *     while ((status = lazydfa_next(&cache, text, length, &at, &match)).code == LAZYDFA_OK)
  *         printf("%zu..%zu\n", match.start, match.end);
  *     lazydfa_cache_close(&cache);
+ *     lazydfa_regex_close(&regex);
+ *
+ * lazydfa_regex_any_of makes one of many patterns. Or a program builds an NFA state by state, with a lazydfa_builder, and
+ * makes a regex of that by lazydfa_regex_build.
  *
  * Each call returns a status: a code, and for some codes an offset and a byte. No call aborts, and no call ends the
- * process. If memory is out, the code is LAZYDFA_MEMORY; the call may be made again.
+ * process. If an allocation that a call needs fails, the code is LAZYDFA_MEMORY; the call may be made again.
  *
  * What every call reports, so that its own comment does not repeat it:
  *
@@ -47,7 +51,8 @@
  *   6. malloc, realloc and free, which the library calls, are those of one allocator, as the C standard has them; a
  *      handle is used and closed in the process, and over the allocator, that opened it.
  *   7. This header is that of the archive which is linked, and the compiler passes arguments as the System V ABI of
- *      x86-64 has it. The stack has room for a call: no call recurses, and 16 KiB are enough, whatever the NFA.
+ *      x86-64 has it. The stack has room for a call: 16 KiB are enough, whatever the NFA, and for a pattern's text 1 KiB
+ *      more for each level that it may nest, since groups are read by calls within calls: 48 KiB by default.
  *
  * Nothing else is asked of the program: every number is allowed in every argument.
  */
@@ -56,6 +61,8 @@
 
 #include <stddef.h>
 #include <stdint.h>
+#include <stdlib.h>
+#include <string.h>
 
 #ifdef __cplusplus
 extern "C" {
@@ -87,7 +94,7 @@ enum lazydfa_code {
     LAZYDFA_NOT_UTF8 = 22,       /* in UTF-8 mode a match may be invalid UTF-8 */
     LAZYDFA_STARTS = 23,         /* the starts differ in the empty match, so that the NFA cannot be reversed */
     LAZYDFA_UNSUPPORTED = 24,    /* a Unicode word boundary, without the setting for it */
-    LAZYDFA_CAPACITY = 25,       /* the cache capacity is too small; the offset is the least that will do */
+    LAZYDFA_CAPACITY = 25,       /* the cache capacity is too small; the offset is one that is enough */
     LAZYDFA_STATE_IDS = 26,      /* the smallest table is too large; the offset is the ID that does not fit */
     LAZYDFA_PATTERN_COUNTS = 27, /* the two NFAs of a pair do not have equally many patterns */
 
@@ -96,7 +103,12 @@ enum lazydfa_code {
     LAZYDFA_GAVE_UP = 31,        /* the search gave up at the offset, since the cache was cleared too often */
     LAZYDFA_ANCHORED = 32,       /* the regex was not built for this anchored mode */
     LAZYDFA_NOT_A_PAIR = 33,     /* the second NFA of a pair finds no start for a match of the first */
-    LAZYDFA_NO_TOKEN = 34        /* at the offset no pattern matches, or only the empty string does */
+    LAZYDFA_NO_TOKEN = 34,       /* at the offset no pattern matches, or only the empty string does */
+
+    /* of a pattern's text */
+    LAZYDFA_SYNTAX = 40,         /* it is no pattern: the offset is that in the text of what is wrong */
+    LAZYDFA_NOT_TEXT = 41,       /* it is not UTF-8, from the offset on */
+    LAZYDFA_NOT_COMPILED = 42    /* it was read, and could not be compiled */
 };
 
 typedef struct {
@@ -187,7 +199,7 @@ typedef struct {
     uint32_t next;
 } lazydfa_edge;
 
-/* The states in which searches start: anchored ones, and the others. */
+/* The states in which searches start: anchored ones, and the others. If both are one state, every search is anchored. */
 typedef struct {
     uint32_t anchored;
     uint32_t unanchored;
@@ -216,6 +228,40 @@ typedef struct {
     size_t reverse_clears;  /* and the part for starts */
     size_t patterns;        /* how many patterns the regex has */
 } lazydfa_usage;
+
+/* The text of a pattern, in UTF-8. It need not end in a zero, and may have some. */
+typedef struct {
+    const char *text;
+    size_t length;
+} lazydfa_text;
+
+/* How deep a pattern may nest by default: on a thread with a stack of 64 KiB any text can be read. */
+#define LAZYDFA_NEST_LIMIT 32
+
+/* How patterns are read. Zeros are the default options; of the flags 0 is no, else yes. A pattern sets flags for a part
+   of itself by (?imsRUx-u:...). */
+typedef struct {
+    size_t size_limit;             /* bytes that the tables of all patterns may take, if has_size_limit is not 0 */
+    uint32_t has_size_limit;       /* if it is 0, the limit is 10 MB */
+    uint32_t nest_limit;           /* how deep groups, repetitions and classes may nest; 0 is LAZYDFA_NEST_LIMIT */
+    uint32_t no_unicode;           /* turns u off: classes and . are of bytes, letters have the cases of ASCII */
+    uint32_t case_insensitive;     /* i: a letter stands for the same letter in both cases */
+    uint32_t multi_line;           /* m: ^ and $ match at the ends of each line */
+    uint32_t dot_matches_new_line; /* s: . matches a line feed */
+    uint32_t crlf;                 /* R: lines end in a carriage return, a line feed or both */
+    uint32_t swap_greed;           /* U: a* prefers fewer repetitions, and a*? more */
+    uint32_t ignore_whitespace;    /* x: blanks, and comments after #, are skipped */
+    uint32_t octal;                /* \141 is the character of that number in octal */
+    uint32_t bytes;                /* bytes are searched, not text: a match may split a character */
+    uint32_t reserved;
+} lazydfa_text_options;
+
+/* Why there is no regex of a pattern's text. */
+typedef struct {
+    size_t pattern;    /* which of the texts was refused, from 0 */
+    size_t start, end; /* the bytes of it that the error is about, if they are not equal */
+    size_t length;     /* the bytes of the whole message, without the zero at its end */
+} lazydfa_refusal;
 
 /* The library is one for processors of 64 bits: elsewhere this does not compile. */
 typedef char lazydfa_has_64_bits[sizeof(size_t) == 8 && sizeof(void *) == 8 ? 1 : -1];
@@ -247,6 +293,9 @@ lazydfa_status lazydfa_raw_regex_build(lazydfa_handle *, lazydfa_handle *, const
 lazydfa_status lazydfa_raw_regex_build_pair(lazydfa_handle *, lazydfa_handle *, const lazydfa_starts *,
                                             lazydfa_handle *, const lazydfa_starts *, const lazydfa_settings *,
                                             const uint8_t *, size_t);
+lazydfa_status lazydfa_raw_regex_any_of(lazydfa_handle *, const uint8_t *, size_t, const size_t *, size_t,
+                                        const lazydfa_text_options *, const lazydfa_settings *, const uint8_t *, size_t,
+                                        lazydfa_refusal *, uint8_t *, size_t);
 lazydfa_status lazydfa_raw_cache_new(lazydfa_handle *, lazydfa_handle *);
 lazydfa_status lazydfa_raw_cache_reset(lazydfa_handle *);
 lazydfa_status lazydfa_raw_cache_usage(lazydfa_handle *, lazydfa_usage *);
@@ -279,6 +328,8 @@ static inline const uint8_t *lazydfa_bytes(const uint8_t *at, size_t length) {
 }
 
 #define LAZYDFA_NEED(pointer) do { if (!(pointer)) return lazydfa_bad_argument(); } while (0)
+/* What a call counts is 0 until it has counted. */
+#define LAZYDFA_COUNT(count) do { LAZYDFA_NEED(count); *(count) = 0; } while (0)
 #define LAZYDFA_NEED_ALL(pointer, length) do { if (!(pointer) && (length)) return lazydfa_bad_argument(); } while (0)
 
 /* What a code means, in words. */
@@ -312,6 +363,9 @@ static inline const char *lazydfa_code_text(uint32_t code) {
     case LAZYDFA_ANCHORED: return "the anchored mode is not supported";
     case LAZYDFA_NOT_A_PAIR: return "the reverse NFA finds no start";
     case LAZYDFA_NO_TOKEN: return "no token";
+    case LAZYDFA_SYNTAX: return "the text is no pattern";
+    case LAZYDFA_NOT_TEXT: return "the text of a pattern is not UTF-8";
+    case LAZYDFA_NOT_COMPILED: return "the pattern was not compiled";
     default: return "no code of this library";
     }
 }
@@ -518,6 +572,81 @@ static inline lazydfa_status lazydfa_regex_build_pair(lazydfa_regex *regex, lazy
                                         lazydfa_bytes(quits, length), length);
 }
 
+/* ---- Texts of patterns ----
+ *
+ * The syntax is that of Rust's regex crate, without lookahead, lookbehind and back references; groups are read, and what
+ * they capture is not reported. A word boundary is that of ASCII, (?-u:\b), or the settings allow unicode_word_boundary. A
+ * pattern that could match a part of a character, as (?-u:.), is LAZYDFA_SYNTAX unless the option `bytes` is on.
+ *
+ * Both calls open a handle on a regex. options, settings and refusal may be NULL, and message if room is 0; quits lists
+ * the quit bytes. message gets what is wrong, the pattern, and carets below the part that this is about: as much as there
+ * is room for, with a zero at its end, or nothing but the zero. A new line stands between the lines. refusal, and message
+ * if it has room, are written with every code but LAZYDFA_ARGUMENT for a null pointer.
+ *
+ * LAZYDFA_SYNTAX, LAZYDFA_NOT_TEXT, LAZYDFA_NOT_COMPILED, LAZYDFA_TOO_LARGE if the size limit is passed, and
+ * LAZYDFA_UNSUPPORTED; LAZYDFA_CAPACITY and LAZYDFA_STATE_IDS by the settings. */
+
+/* A regex of one pattern, of `length` bytes. */
+static inline lazydfa_status lazydfa_regex_new(lazydfa_regex *regex, const char *pattern, size_t length,
+                                               const lazydfa_text_options *options, const lazydfa_settings *settings,
+                                               const uint8_t *quits, size_t quit_count, lazydfa_refusal *refusal,
+                                               char *message, size_t room) {
+    static const lazydfa_settings defaults = { 0, 0, 0, 0, 0, 0, 0, 0, 0, 0, 0, 0, 0 };
+    static const lazydfa_text_options plain = { 0, 0, 0, 0, 0, 0, 0, 0, 0, 0, 0, 0, 0 };
+    lazydfa_refusal unread;
+    uint8_t none;
+    LAZYDFA_NEED(regex);
+    LAZYDFA_NEED_ALL(pattern, length);
+    LAZYDFA_NEED_ALL(quits, quit_count);
+    LAZYDFA_NEED_ALL(message, room);
+    return lazydfa_raw_regex_any_of(&regex->handle, lazydfa_bytes((const uint8_t *)pattern, length), length, &length, 1,
+                                    options ? options : &plain, settings ? settings : &defaults,
+                                    lazydfa_bytes(quits, quit_count), quit_count, refusal ? refusal : &unread,
+                                    room ? (uint8_t *)message : &none, room);
+}
+
+/* A regex of several patterns, of which each has its place in the list as its number: where two match at one offset, the
+   first is preferred. For lazydfa_which the settings ask for LAZYDFA_ALL. It copies the texts by malloc while it runs. */
+static inline lazydfa_status lazydfa_regex_any_of(lazydfa_regex *regex, const lazydfa_text *texts, size_t count,
+                                                  const lazydfa_text_options *options,
+                                                  const lazydfa_settings *settings, const uint8_t *quits,
+                                                  size_t quit_count, lazydfa_refusal *refusal, char *message,
+                                                  size_t room) {
+    static const lazydfa_settings defaults = { 0, 0, 0, 0, 0, 0, 0, 0, 0, 0, 0, 0, 0 };
+    static const lazydfa_text_options plain = { 0, 0, 0, 0, 0, 0, 0, 0, 0, 0, 0, 0, 0 };
+    lazydfa_status status = { LAZYDFA_MEMORY, 0, 0 };
+    lazydfa_refusal unread;
+    uint8_t none;
+    size_t i, length = 0, *block;
+    uint8_t *bytes;
+    LAZYDFA_NEED(regex);
+    LAZYDFA_NEED_ALL(texts, count);
+    LAZYDFA_NEED_ALL(quits, quit_count);
+    LAZYDFA_NEED_ALL(message, room);
+    if (!refusal) refusal = &unread;
+    refusal->pattern = refusal->start = refusal->end = refusal->length = 0;
+    if (room) *message = 0;
+    for (i = 0; i < count; i++) {
+        LAZYDFA_NEED_ALL(texts[i].text, texts[i].length);
+        if (texts[i].length > PTRDIFF_MAX - length) return status;
+        length += texts[i].length;
+    }
+    if (count >= (PTRDIFF_MAX - length) / sizeof *block) return status;
+    block = (size_t *)malloc((count + 1) * sizeof *block + length);
+    if (!block) return status;
+    bytes = (uint8_t *)(block + count + 1);
+    for (i = 0, length = 0; i < count; i++) {
+        block[i] = texts[i].length;
+        if (texts[i].length) memcpy(bytes + length, texts[i].text, texts[i].length);
+        length += texts[i].length;
+    }
+    status = lazydfa_raw_regex_any_of(&regex->handle, bytes, length, block, count, options ? options : &plain,
+                                      settings ? settings : &defaults, lazydfa_bytes(quits, quit_count), quit_count,
+                                      refusal, room ? (uint8_t *)message : &none, room);
+    free(block);
+    return status;
+}
+
 /* ---- Caches ---- */
 
 /* Opens a handle on a cache of a regex. */
@@ -612,15 +741,16 @@ static inline lazydfa_status lazydfa_next(lazydfa_cache *cache, const uint8_t *h
     return lazydfa_raw_next(&cache->handle, lazydfa_bytes(haystack, length), length, at, found);
 }
 
-/* The next matches of an iteration, up to room. It writes how many they are with every code of an open cache, and the
-   matches before an error are found: LAZYDFA_OK if there was no room for more, else what ended the iteration. */
+/* The next matches of an iteration, up to room. It writes how many they are with every code, unless that pointer is
+   null: 0 if another argument is null or the cache is not open. The matches before an error are found. LAZYDFA_OK if
+   there was no room for more, else what ended the iteration. */
 static inline lazydfa_status lazydfa_next_all(lazydfa_cache *cache, const uint8_t *haystack, size_t length,
                                               lazydfa_iteration *at, lazydfa_match *found, size_t room,
                                               size_t *count) {
     lazydfa_match none;
+    LAZYDFA_COUNT(count);
     LAZYDFA_NEED(cache);
     LAZYDFA_NEED(at);
-    LAZYDFA_NEED(count);
     LAZYDFA_NEED_ALL(found, room);
     LAZYDFA_NEED_ALL(haystack, length);
     return lazydfa_raw_next_all(&cache->handle, lazydfa_bytes(haystack, length), length, at, room ? found : &none, room,
@@ -642,9 +772,9 @@ static inline lazydfa_status lazydfa_token(lazydfa_cache *cache, const uint8_t *
 static inline lazydfa_status lazydfa_tokens(lazydfa_cache *cache, const uint8_t *haystack, size_t length,
                                             lazydfa_input *left, lazydfa_match *found, size_t room, size_t *count) {
     lazydfa_match none;
+    LAZYDFA_COUNT(count);
     LAZYDFA_NEED(cache);
     LAZYDFA_NEED(left);
-    LAZYDFA_NEED(count);
     LAZYDFA_NEED_ALL(found, room);
     LAZYDFA_NEED_ALL(haystack, length);
     return lazydfa_raw_tokens(&cache->handle, lazydfa_bytes(haystack, length), length, left, room ? found : &none, room,
@@ -652,15 +782,15 @@ static inline lazydfa_status lazydfa_tokens(lazydfa_cache *cache, const uint8_t 
 }
 
 /* The ends of all overlapping matches, forward; the starts of those that end where the span does, backward. They write
-   the first ones, up to room, and how many there are in all, with every code of an open cache: before an error, those
-   that were found. LAZYDFA_OK also if there is none. Build the regex with LAZYDFA_ALL for the ends. */
+   the first ones, up to room, and with every code, as lazydfa_next_all, how many there are in all: before an error,
+   those that were found. LAZYDFA_OK also if there is none. Build the regex with LAZYDFA_ALL for the ends. */
 static inline lazydfa_status lazydfa_all_ends(lazydfa_cache *cache, const uint8_t *haystack, size_t length,
                                               const lazydfa_input *input, lazydfa_half *found, size_t room,
                                               size_t *count) {
     lazydfa_half none;
+    LAZYDFA_COUNT(count);
     LAZYDFA_NEED(cache);
     LAZYDFA_NEED(input);
-    LAZYDFA_NEED(count);
     LAZYDFA_NEED_ALL(found, room);
     LAZYDFA_NEED_ALL(haystack, length);
     return lazydfa_raw_all_ends(&cache->handle, lazydfa_bytes(haystack, length), length, input, room ? found : &none,
@@ -672,9 +802,9 @@ static inline lazydfa_status lazydfa_all_starts(lazydfa_cache *cache, const uint
                                                 const lazydfa_input *input, lazydfa_half *found, size_t room,
                                                 size_t *count) {
     lazydfa_half none;
+    LAZYDFA_COUNT(count);
     LAZYDFA_NEED(cache);
     LAZYDFA_NEED(input);
-    LAZYDFA_NEED(count);
     LAZYDFA_NEED_ALL(found, room);
     LAZYDFA_NEED_ALL(haystack, length);
     return lazydfa_raw_all_starts(&cache->handle, lazydfa_bytes(haystack, length), length, input, room ? found : &none,
@@ -682,16 +812,16 @@ static inline lazydfa_status lazydfa_all_starts(lazydfa_cache *cache, const uint
 }
 
 /* The patterns below a number that match, in increasing order, overlapping matches included; of an earliest input that
-   of the first match alone. It writes the first ones, up to room, and how many there are in all, with every code of an
-   open cache: before an error, those that were found. LAZYDFA_OK also if there is none. Build the regex with
-   LAZYDFA_ALL. It allocates `below` bytes, and keeps them for the next call. */
+   of the first match alone. It writes the first ones, up to room, and with every code, as lazydfa_next_all,
+   how many there are in all: before an error, those that were found. LAZYDFA_OK also if there is none. Build the regex
+   with LAZYDFA_ALL. It allocates `below` bytes, and keeps them for the next call. */
 static inline lazydfa_status lazydfa_which(lazydfa_cache *cache, const uint8_t *haystack, size_t length,
                                            const lazydfa_input *input, size_t below, uint32_t *patterns, size_t room,
                                            size_t *count) {
     uint32_t none = 0;
+    LAZYDFA_COUNT(count);
     LAZYDFA_NEED(cache);
     LAZYDFA_NEED(input);
-    LAZYDFA_NEED(count);
     LAZYDFA_NEED_ALL(patterns, room);
     LAZYDFA_NEED_ALL(haystack, length);
     return lazydfa_raw_which(&cache->handle, lazydfa_bytes(haystack, length), length, input, below,

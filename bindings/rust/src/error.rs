@@ -35,7 +35,7 @@ pub enum Error {
     Starts,
     /// There is a Unicode word boundary, and it is not enabled.
     Unsupported,
-    /// The cache capacity is below the minimum, in bytes.
+    /// The cache capacity is below the minimum, in bytes, of one of the two DFAs. The minimum is enough for both.
     InsufficientCacheCapacity { minimum: usize },
     /// The smallest table has more offsets than an ID can hold.
     InsufficientStateIDCapacity { attempted: usize },
@@ -51,7 +51,48 @@ pub enum Error {
     NotAPair,
     /// At this offset of the haystack, in bytes, no pattern matches, or only the empty string does.
     NoToken { offset: usize },
+    /// The text of a pattern is no pattern: at this offset of it, in bytes, something is wrong.
+    Syntax { offset: usize },
+    /// A pattern was read, and could not be compiled.
+    NotCompiled,
 }
+
+/// Why there is no regex of the texts of patterns.
+#[derive(Clone, Debug, PartialEq, Eq)]
+pub struct PatternError {
+    pub(crate) error: Error,
+    pub(crate) pattern: usize,
+    pub(crate) span: std::ops::Range<usize>,
+    pub(crate) message: String,
+}
+
+impl PatternError {
+    /// What is wrong.
+    pub fn error(&self) -> Error {
+        self.error
+    }
+
+    /// The place of the pattern in the list, from 0.
+    pub fn pattern(&self) -> usize {
+        self.pattern
+    }
+
+    /// The bytes of the pattern's text that this is about. They are none if it is about all of it.
+    pub fn span(&self) -> std::ops::Range<usize> {
+        self.span.clone()
+    }
+}
+
+impl fmt::Display for PatternError {
+    fn fmt(&self, f: &mut fmt::Formatter<'_>) -> fmt::Result {
+        if self.message.is_empty() {
+            return self.error.fmt(f);
+        }
+        f.write_str(&self.message)
+    }
+}
+
+impl std::error::Error for PatternError {}
 
 impl fmt::Display for Error {
     fn fmt(&self, f: &mut fmt::Formatter<'_>) -> fmt::Result {
@@ -74,6 +115,8 @@ impl fmt::Display for Error {
             Error::PatternCounts => "the two NFAs do not have equally many patterns",
             Error::UnsupportedAnchored => "the anchored mode is not supported",
             Error::NotAPair => "the reverse NFA finds no start",
+            Error::NotCompiled => "the pattern was not compiled",
+            Error::Syntax { offset } => return write!(f, "the text is no pattern, at offset {offset}"),
             Error::InsufficientCacheCapacity { minimum } => {
                 return write!(f, "the cache capacity is smaller than the minimum, {minimum}");
             }
@@ -122,6 +165,8 @@ impl Status {
             32 => Error::UnsupportedAnchored,
             33 => Error::NotAPair,
             34 => Error::NoToken { offset },
+            40 => Error::Syntax { offset },
+            42 => Error::NotCompiled,
             code => unreachable!("code {code}: the types here allow no call that returns it"),
         };
         Err(error)

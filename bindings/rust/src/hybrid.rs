@@ -186,7 +186,7 @@ pub mod regex {
     use super::dfa::{Config, DFA};
     use crate::nfa::thompson::NFA;
     use crate::raw::{self, Handle};
-    use crate::{Error, Input, Match};
+    use crate::{Error, Input, Match, PatternError};
     use std::cell::RefCell;
     use std::ptr;
 
@@ -194,6 +194,7 @@ pub mod regex {
     #[derive(Clone, Debug, Default)]
     pub struct Builder {
         config: Config,
+        options: raw::TextOptions,
     }
 
     impl Builder {
@@ -206,6 +207,114 @@ pub mod regex {
         pub fn dfa(&mut self, config: Config) -> &mut Builder {
             self.config = config;
             self
+        }
+
+        /// Sets whether classes and `.` are of characters, and letters have the cases of Unicode. By default they are.
+        pub fn unicode(&mut self, yes: bool) -> &mut Builder {
+            self.options.no_unicode = u32::from(!yes);
+            self
+        }
+
+        /// Sets whether a letter of a pattern stands for the same letter in both cases.
+        pub fn case_insensitive(&mut self, yes: bool) -> &mut Builder {
+            self.options.case_insensitive = u32::from(yes);
+            self
+        }
+
+        /// Sets whether `^` and `$` match at the ends of each line.
+        pub fn multi_line(&mut self, yes: bool) -> &mut Builder {
+            self.options.multi_line = u32::from(yes);
+            self
+        }
+
+        /// Sets whether `.` matches a line feed.
+        pub fn dot_matches_new_line(&mut self, yes: bool) -> &mut Builder {
+            self.options.dot_matches_new_line = u32::from(yes);
+            self
+        }
+
+        /// Sets whether lines end in a carriage return, a line feed or both.
+        pub fn crlf(&mut self, yes: bool) -> &mut Builder {
+            self.options.crlf = u32::from(yes);
+            self
+        }
+
+        /// Sets whether `a*` prefers fewer repetitions, and `a*?` more.
+        pub fn swap_greed(&mut self, yes: bool) -> &mut Builder {
+            self.options.swap_greed = u32::from(yes);
+            self
+        }
+
+        /// Sets whether blanks in patterns, and comments after `#`, are skipped.
+        pub fn ignore_whitespace(&mut self, yes: bool) -> &mut Builder {
+            self.options.ignore_whitespace = u32::from(yes);
+            self
+        }
+
+        /// Sets whether a backslash and digits are a character by its number in octal.
+        pub fn octal(&mut self, yes: bool) -> &mut Builder {
+            self.options.octal = u32::from(yes);
+            self
+        }
+
+        /// Sets whether text is searched, so that no match splits a character, or bytes.
+        pub fn utf8(&mut self, yes: bool) -> &mut Builder {
+            self.options.bytes = u32::from(!yes);
+            self
+        }
+
+        /// Sets how many bytes the tables of all patterns may take.
+        pub fn size_limit(&mut self, bytes: usize) -> &mut Builder {
+            self.options.has_size_limit = 1;
+            self.options.size_limit = bytes;
+            self
+        }
+
+        /// Sets how deep groups, repetitions and classes may nest. By default, and for 0, it is 32. A higher limit
+        /// needs a larger stack.
+        pub fn nest_limit(&mut self, limit: u32) -> &mut Builder {
+            self.options.nest_limit = limit;
+            self
+        }
+
+        /// The regex of the text of a pattern.
+        pub fn build(&self, pattern: &str) -> Result<Regex, PatternError> {
+            self.build_many(&[pattern])
+        }
+
+        /// The regex of the texts of patterns, in which each has its place in the list as its number.
+        pub fn build_many<P: AsRef<str>>(&self, patterns: &[P]) -> Result<Regex, PatternError> {
+            let lengths: Vec<usize> = patterns.iter().map(|it| it.as_ref().len()).collect();
+            let texts = patterns.iter().map(|it| it.as_ref()).collect::<String>();
+            let mut handle = Handle::closed();
+            let mut refusal = raw::Refusal::default();
+            let mut message = vec![0u8; 128 + 9 * lengths.iter().max().unwrap_or(&0)];
+            let status = unsafe {
+                raw::lazydfa_raw_regex_any_of(
+                    &mut handle,
+                    texts.as_ptr(),
+                    texts.len(),
+                    lengths.as_ptr(),
+                    lengths.len(),
+                    &self.options,
+                    &self.config.settings,
+                    self.config.quits.as_ptr(),
+                    self.config.quits.len(),
+                    &mut refusal,
+                    message.as_mut_ptr(),
+                    message.len(),
+                )
+            };
+            match status.done() {
+                Ok(()) => Ok(Regex { handle: RefCell::new(handle) }),
+                Err(error) => {
+                    let end = message.iter().position(|byte| *byte == 0).unwrap_or(0);
+                    message.truncate(end);
+                    let message = String::from_utf8(message).unwrap_or_default();
+                    let span = refusal.start..refusal.end;
+                    Err(PatternError { error, pattern: refusal.pattern, span, message })
+                }
+            }
         }
 
         /// The regex of one NFA, whose matches are those of the NFA's ordered paths. The NFA stays as it is.
@@ -259,6 +368,16 @@ pub mod regex {
     }
 
     impl Regex {
+        /// The regex of the text of a pattern, with the default settings.
+        pub fn new(pattern: &str) -> Result<Regex, PatternError> {
+            Builder::new().build(pattern)
+        }
+
+        /// The regex of the texts of patterns, in which each has its place in the list as its number.
+        pub fn new_many<P: AsRef<str>>(patterns: &[P]) -> Result<Regex, PatternError> {
+            Builder::new().build_many(patterns)
+        }
+
         /// A builder of regexes, with the default settings.
         pub fn builder() -> Builder {
             Builder::new()

@@ -33,6 +33,6 @@ mod raw;
 mod search;
 pub mod util;
 
-pub use error::Error;
+pub use error::{Error, PatternError};
 pub use search::{Anchored, HalfMatch, Input, Match, MatchKind, PatternSet};
 pub use util::primitives::PatternID;

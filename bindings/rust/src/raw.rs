@@ -111,6 +111,36 @@ pub struct Settings {
     pub reserved: u32,
 }
 
+/// How patterns are read. The size limit is in bytes, and counts only if its `has` is not 0. A limit on nesting of 0 is
+/// the default one.
+#[repr(C)]
+#[derive(Clone, Copy, Debug, Default)]
+pub struct TextOptions {
+    pub size_limit: usize,
+    pub has_size_limit: u32,
+    pub nest_limit: u32,
+    pub no_unicode: u32,
+    pub case_insensitive: u32,
+    pub multi_line: u32,
+    pub dot_matches_new_line: u32,
+    pub crlf: u32,
+    pub swap_greed: u32,
+    pub ignore_whitespace: u32,
+    pub octal: u32,
+    pub bytes: u32,
+    pub reserved: u32,
+}
+
+/// Which pattern was refused, the bytes of its text that this is about, and how long the whole message is.
+#[repr(C)]
+#[derive(Clone, Copy, Debug, Default)]
+pub struct Refusal {
+    pub pattern: usize,
+    pub start: usize,
+    pub end: usize,
+    pub length: usize,
+}
+
 /// The bytes that a cache accounts for, how often its two parts were cleared, and how many patterns its regex has.
 #[repr(C)]
 #[derive(Clone, Copy, Default)]
@@ -182,6 +212,22 @@ extern "C" {
         settings: *const Settings,
         quits: *const u8,
         length: usize,
+    ) -> Status;
+    /// Opens a handle on the regex of the texts of patterns, which lie one after another, by their lengths. Writes what is
+    /// wrong with one, and a message.
+    pub fn lazydfa_raw_regex_any_of(
+        regex: *mut Handle,
+        texts: *const u8,
+        texts_length: usize,
+        lengths: *const usize,
+        count: usize,
+        options: *const TextOptions,
+        settings: *const Settings,
+        quits: *const u8,
+        quits_length: usize,
+        refusal: *mut Refusal,
+        message: *mut u8,
+        room: usize,
     ) -> Status;
     /// Opens a handle on a fresh cache of a regex.
     pub fn lazydfa_raw_cache_new(cache: *mut Handle, regex: *mut Handle) -> Status;

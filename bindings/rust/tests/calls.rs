@@ -111,8 +111,12 @@ fn errors() -> Result<(), Error> {
     assert_eq!(items, [Ok(0), Err(Error::Quit { byte: b';', offset: 3 })]);
     let input = Input::new("a").anchored(Anchored::Pattern(PatternID::ZERO));
     assert_eq!(regex.find(&mut cache, input), Err(Error::UnsupportedAnchored));
-    let error = with(Config::new().cache_capacity(1), &word()?).err();
-    assert!(matches!(error, Some(Error::InsufficientCacheCapacity { minimum }) if minimum > 100));
+    let capacity = |bytes| with(Config::new().cache_capacity(bytes), &word()?).map(|_| ());
+    let Err(Error::InsufficientCacheCapacity { minimum }) = capacity(1) else {
+        panic!("a capacity of one byte is enough");
+    };
+    assert_eq!(capacity(minimum - 1), Err(Error::InsufficientCacheCapacity { minimum }));
+    assert_eq!(capacity(minimum), Ok(()));
     let mut builder = Builder::new()?;
     assert_eq!(builder.add_match(), Err(Error::NoPattern));
     let look = builder.add_look(StateID::ZERO, Look::Start)?;
@@ -169,4 +173,59 @@ fn another_cache() {
 #[should_panic(expected = "invalid span")]
 fn a_bad_span() {
     let _ = Input::new("a").range(0..2);
+}
+
+#[test]
+fn texts_of_patterns() {
+    use lazydfa::hybrid::dfa::Config;
+    use lazydfa::{MatchKind, PatternSet};
+    let regex = Regex::new(r"\pL+").unwrap();
+    let mut cache = regex.create_cache().unwrap();
+    let spans: Vec<_> = regex.find_iter(&mut cache, "foo 12 bär").map(|it| it.unwrap().range()).collect();
+    assert_eq!(spans, [0..3, 7..11]);
+    let error = Regex::new_many(&["a", "é(b"]).err().unwrap();
+    assert_eq!((error.pattern(), error.span(), error.error()), (1, 2..3, Error::Syntax { offset: 2 }));
+    assert_eq!(error.to_string(), "unclosed group\n  é(b\n   ^");
+    assert!(Regex::builder().case_insensitive(true).build("É").unwrap().create_cache().is_ok());
+    let all = Regex::builder().dfa(Config::new().match_kind(MatchKind::All)).build_many(&["a", "b", "ab"]).unwrap();
+    let mut cache = all.create_cache().unwrap();
+    let mut set = PatternSet::new(3);
+    all.forward().try_which_overlapping_matches(&mut cache, &Input::new("xab"), &mut set).unwrap();
+    assert_eq!(set.len(), 3);
+    assert_eq!(Regex::builder().size_limit(10).build("abc").err().unwrap().error(), Error::TooLarge);
+    let none: [&str; 0] = [];
+    assert!(Regex::new_many(&none).is_ok());
+}
+
+/// Where the matches of a pattern's text are.
+fn spans(builder: &lazydfa::hybrid::regex::Builder, pattern: &str, hay: &str) -> Vec<std::ops::Range<usize>> {
+    let regex = builder.build(pattern).unwrap();
+    let mut cache = regex.create_cache().unwrap();
+    regex.find_iter(&mut cache, hay).map(|it| it.unwrap().range()).collect()
+}
+
+/// Each option of patterns says what it says of Rust's regex crate.
+#[test]
+fn options_of_patterns() {
+    let with = Regex::builder;
+    assert_eq!(spans(with().unicode(false), r"\w", "éa"), [2..3]);
+    assert_eq!(spans(with().case_insensitive(true), "ab", "aB"), [0..2]);
+    assert_eq!(spans(with().multi_line(true), "^b$", "a\nb\nc"), [2..3]);
+    assert_eq!(spans(with().dot_matches_new_line(true), ".", "\r\n"), [0..1, 1..2]);
+    assert_eq!(spans(with().crlf(true), "(?m)^b$", "a\r\nb\r\nc"), [3..4]);
+    assert_eq!(spans(with().swap_greed(true), "a+|b+?", "aabb"), [0..1, 1..2, 2..4]);
+    assert_eq!(spans(with().ignore_whitespace(true), "a b # c", "ab"), [0..2]);
+    assert_eq!(spans(with().octal(true), r"\141", "a"), [0..1]);
+    assert_eq!(spans(with().utf8(false), "", "é"), [0..0, 1..1, 2..2]);
+    let nested = with().nest_limit(2).build("((a))").is_ok();
+    let deeper = with().nest_limit(2).build("(((a)))").err().unwrap().error();
+    assert_eq!((nested, deeper), (true, Error::Syntax { offset: 2 }));
+}
+
+/// The quit bytes of a configuration are those of a pattern's text too.
+#[test]
+fn quit_bytes_of_patterns() {
+    let regex = Regex::builder().dfa(Config::new().quit(b'x', true)).build("b").unwrap();
+    let mut cache = regex.create_cache().unwrap();
+    assert_eq!(regex.find(&mut cache, "axb").err(), Some(Error::Quit { byte: b'x', offset: 1 }));
 }

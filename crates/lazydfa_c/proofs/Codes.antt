@@ -8,7 +8,7 @@ use Rattle.lazydfa_c.specs.declared.code.Code.TheVariants.{NoPattern, Unfinished
 use Rattle.lazydfa_c.specs.declared.code.Code.TheVariants.{TooLarge, StateRange, StartRange, PatternRange, Ranges}
 use Rattle.lazydfa_c.specs.declared.code.Code.TheVariants.{NotLazy, NotUtf8, Starts, Unsupported, Capacity}
 use Rattle.lazydfa_c.specs.declared.code.Code.TheVariants.{StateIDs, PatternCounts, Quit, GaveUp, Anchored, NotAPair}
-use Rattle.lazydfa_c.specs.declared.code.Code.TheVariants.{NoToken}
+use Rattle.lazydfa_c.specs.declared.code.Code.TheVariants.{NoToken, Syntax, NotText, NotCompiled}
 
 -- the code of a number
 abbrev code_of : ℕ → Option Code
@@ -41,6 +41,9 @@ code_of n =
     if n == 32 then Some Anchored else
     if n == 33 then Some NotAPair else
     if n == 34 then Some NoToken else
+    if n == 40 then Some Syntax else
+    if n == 41 then Some NotText else
+    if n == 42 then Some NotCompiled else
     None
 
 -- the code of a code's number
@@ -73,6 +76,9 @@ gives_back GaveUp = refl
 gives_back Anchored = refl
 gives_back NotAPair = refl
 gives_back NoToken = refl
+gives_back Syntax = refl
+gives_back NotText = refl
+gives_back NotCompiled = refl
 
 -- the number determines the code
 pub codes_differ : (a b : Code) → number_of a ≡ number_of b → a ≡ b

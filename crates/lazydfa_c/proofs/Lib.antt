@@ -6,3 +6,4 @@ mod States
 mod Values
 mod Written
 mod Opening
+mod Texts

@@ -1,5 +1,5 @@
 -- A handle that is opened on a regex which was made, by what opening it returned.
-use Rattle.std.proofs.Common.{◌≡◌, Ok, Err, OnErr, OnOk, Bool, inr}
+use Rattle.std.proofs.Common.{◌≡◌, Ok, Err, OnErr, OnOk, inr}
 use Rattle.std.specs.Prelude.{IfErr, Result}
 use Rattle.lazydfa_c.specs.Builds.{IsRegexIn, OpensRegex}
 use Rattle.lazydfa_c.specs.Statuses.{plain}
@@ -9,8 +9,8 @@ use Rattle.lazydfa_c.specs.declared.status.Status.{Status}
 use Rattle.regex_automata.specs.declared.hybrid.regex.Regex.{Regex}
 
 pub opens :
-    (Makes : Regex → Type 0) (Refuses : Status → Type 0) (is_sound : Bool) (regex : Regex) (old new : Handle) (r : Result (Unit {0}) Status)
-    → Makes regex → OnOk r (IsRegexIn regex is_sound new) → OnErr r (new ≡ old)
-    → IfErr r (λ s. s ≡ plain code.Memory) → OpensRegex Makes Refuses is_sound old new r
-opens Makes Refuses is_sound regex old new (Ok u) makes opened same memory = (regex, makes, opened)
-opens Makes Refuses is_sound regex old new (Err e) makes opened same memory = (same, inr memory)
+    (Makes : Regex → Type 0) (Refuses : Status → Type 0) (regex : Regex) (old new : Handle) (r : Result (Unit {0}) Status)
+    → Makes regex → OnOk r (IsRegexIn regex new) → OnErr r (new ≡ old)
+    → IfErr r (λ s. s ≡ plain code.Memory) → OpensRegex Makes Refuses old new r
+opens Makes Refuses regex old new (Ok u) makes opened same memory = (regex, makes, opened)
+opens Makes Refuses regex old new (Err e) makes opened same memory = (same, inr memory)

@@ -33,7 +33,9 @@ AreCalls {A = A} Call (f ∷ fs) old new s t =
 -- next match, until one writes none
 pub record InTurn {A : Type 0} (Call : Found → A → A → Searcher → Searcher → Status → Type 0)
     (was written : List Found) (count : ℕ) (old new : A) (s t : Searcher) (status : Status) : Type 0 where
+  -- the iteration, or what is left for tokens, after the calls that wrote a match
   pub at : A
+  -- the cache after those calls
   pub between : Searcher
   -- the matches that are counted are those of the calls
   pub calls : AreCalls Call (take count written) old at s between
@@ -59,8 +61,11 @@ done_of (Err e) = Err e
 -- a call of an overlapping search: the result of the library's call, with its promises
 pub record IsStep (way : Direction) (m : Machine) (input : Input) (walk next : Walk) (old new : CacheView)
     (result : Result (Option HalfMatch) SearchError) : Type 0 where
+  -- if the call does not fail, it returns the match that the walk then has, or none
   pub found : OnOk result (result ≡ Ok next.found)
+  -- what a call of a walk promises of its result, and of the walk after it
   pub call : IsWalkCall way m input walk next (done_of result)
+  -- what the call made of the cache, also if it failed
   pub effect : IsWalkRun States way m input walk next old new (result_err result)
 
 -- steps one after another, each of which found one of these matches
@@ -79,9 +84,13 @@ end_status (Err e) = Some (search_status e)
 -- a search for all overlapping matches of an input: the steps of a new walk, one after another, until one finds none
 pub record AreAll (way : Direction) (m : Machine) (input : Input) (was written : List FoundHalf) (count : ℕ)
     (old new : CacheView) (status : Status) : Type 0 where
+  -- the matches that the steps found, in their order
   pub halves : List HalfMatch
+  -- the walk after the step that found the last of them
   pub walk : Walk
+  -- the cache after that step
   pub between : CacheView
+  -- the first step is that of a new walk, and each found one of these matches
   pub steps : AreSteps way m input halves fresh_walk walk old between
   -- the last step found none, or failed; or there were as many as can be counted
   pub last :
@@ -90,22 +99,29 @@ pub record AreAll (way : Direction) (m : Machine) (input : Input) (was written :
       ⊎ ((count ≡ 2 ^ 64 - 1) × (status ≡ plain code.Done) × (new ≡ between))
   -- the first ones are written, as many as there is room for, and all are counted
   pub first : written ≡ written_over (map half_from halves) was
+  -- the count is of all of them, also of those that there was no room for
   pub counted : count ≡ length halves
 
 -- `lazydfa_all_ends`: all overlapping matches by the forward DFA; the reverse cache stays
 pub record AllEnds (was written : List FoundHalf) (count : ℕ) (input : Input) (s t : Searcher) (status : Status)
     : Type 0 where
+  -- the ends of all matches, by steps of the forward DFA over its cache
   pub all :
       AreAll Forward (regex_of s).forward input was written count s.cache.forward t.cache.forward status
+  -- the reverse cache is unchanged
   pub reverse : t.cache.reverse ≡ s.cache.reverse
+  -- the cache keeps its regex
   pub same : t.shared ≡ s.shared
 
 -- `lazydfa_all_starts`: all of the reverse DFA; the forward cache stays
 pub record AllStarts (was written : List FoundHalf) (count : ℕ) (input : Input) (s t : Searcher) (status : Status)
     : Type 0 where
+  -- the starts of all matches, by steps of the reverse DFA over its cache
   pub all :
       AreAll Backward (regex_of s).reverse input was written count s.cache.reverse t.cache.reverse status
+  -- the forward cache is unchanged
   pub forward : t.cache.forward ≡ s.cache.forward
+  -- the cache keeps its regex
   pub same : t.shared ≡ s.shared
 
 -- without an input nothing is written, and none is counted

@@ -9,8 +9,9 @@ use Rattle.automata_base.specs.declared.util.search.MatchKind.{MatchKind}
 use Rattle.automata_base.specs.declared.util.search.MatchKind.TheVariants.{All, LeftmostFirst}
 use Rattle.automata_config.specs.Options.{Options, overwritten, quits_of, unset}
 use Rattle.automata_config.specs.declared.error.BuildError.{BuildError}
-use Rattle.regex_automata.specs.Regexes.Builds.{BuildsOne, BuildsPair, IsBuildError, pair_error}
+use Rattle.regex_automata.specs.Regexes.Builds.{BuildsOne, BuildsPair, IsBuildError, NamesEnough, pair_error}
 use Rattle.regex_automata.specs.Regexes.Caches.{AreFresh}
+use Rattle.regex_automata.specs.Regexes.SoundPairs.{IsSoundPair}
 use Rattle.regex_automata.specs.declared.hybrid.regex.Regex.{Regex}
 use Rattle.regex_automata.specs.declared.hybrid.regex.build.RegexBuildError.{RegexBuildError}
 use Rattle.lazydfa_c.specs.Calls.{Reads, regex_of}
@@ -28,9 +29,9 @@ use Rattle.lazydfa_c.specs.declared.settings.Settings.{Settings}
 use Rattle.lazydfa_c.specs.declared.status.Status.{Status}
 
 -- what `build_from_nfa` returns of an NFA: the regex of it, which then keeps unions if it has a look cycle, and of its
--- reverse
+-- reverse; its two DFAs are a sound pair
 abbrev pub IsRegexOf : Options → Automaton → Regex → Type 0
-IsRegexOf o nfa regex = BuildsOne o nfa regex
+IsRegexOf o nfa regex = BuildsOne o nfa regex × IsSoundPair regex
 
 -- the status is that of an error of `build_from_nfa`
 abbrev pub IsRegexError : Options → Automaton → Status → Type 0
@@ -43,11 +44,14 @@ IsPairOf o forward reverse regex = BuildsPair o forward reverse regex
 -- the status is that of an error of `build_from_nfas`
 abbrev pub IsPairError : Options → (forward reverse : Automaton) → Status → Type 0
 IsPairError o forward reverse status =
-    (e : BuildError) × (pair_error o forward reverse ≡ Some e) × (status ≡ build_status e)
+    (e : BuildError)
+    × (pair_error o forward reverse ≡ Some e) × NamesEnough o forward reverse e × (status ≡ build_status e)
 
 -- each NFA keeps unions if it has a look cycle
 pub record AreKeeping (forward reverse front back : Automaton) : Type 0 where
+  -- `front` is the forward NFA, and keeps unions exactly if that one has a look cycle
   pub ahead : IsKeepingUnions forward front
+  -- `back` is the reverse NFA, and keeps unions by the same rule
   pub behind : IsKeepingUnions reverse back
 
 -- the same of the two, which then keep unions if they have look cycles
@@ -55,30 +59,35 @@ abbrev pub IsKeepingPairOf : Options → (forward reverse : Automaton) → Regex
 IsKeepingPairOf o forward reverse regex =
     (front back : Automaton) × AreKeeping forward reverse front back × IsPairOf o front back regex
 
+-- the status is that of an error of `build_from_nfas` for two NFAs, each made to keep unions if it has a look cycle
 abbrev pub IsKeepingPairError : Options → (forward reverse : Automaton) → Status → Type 0
 IsKeepingPairError o forward reverse status =
     (front back : Automaton) × AreKeeping forward reverse front back × IsPairError o front back status
 
 -- the object is this regex
-abbrev pub IsRegexObject : Regex → (is_sound : Bool) → Object → Type 0
-IsRegexObject regex is_sound (RegexObject r) = (r.regex.value ≡ regex) × (r.is_sound ≡ is_sound)
-IsRegexObject regex is_sound (Builder b) = ⊥
-IsRegexObject regex is_sound (CacheObject s) = ⊥
+abbrev pub IsRegexObject : Regex → Object → Type 0
+IsRegexObject regex (RegexObject r) = r.regex.value ≡ regex
+IsRegexObject regex (Builder b) = ⊥
+IsRegexObject regex (CacheObject s) = ⊥
 
 -- the handle is open on this regex
-pub record IsRegexIn (regex : Regex) (is_sound : Bool) (handle : Handle) : Type 0 where
+pub record IsRegexIn (regex : Regex) (handle : Handle) : Type 0 where
+  -- the handle is open
   pub opened : handle.live ≡ 1
-  pub object : IsSomeAnd handle.slot.value (IsRegexObject regex is_sound)
+  -- its object is this regex
+  pub object : IsSomeAnd handle.slot.value (IsRegexObject regex)
 
 -- the NFA of a builder with these starts, or why there is none
 abbrev pub are_starts : StartStates → Bool
 are_starts starts = is_state starts.anchored && is_state starts.unanchored
 
+-- the NFA that a builder makes with these starts, or why there is none; a start too large for an ID is reported first
 abbrev pub IsNfaOf : StartStates → Draft → Result Automaton Status → Type 0
 IsNfaOf starts draft result =
     (IsTrue (are_starts starts) × MakesNfa draft starts.anchored starts.unanchored result)
     ⊎ (IsFalse (are_starts starts) × (result ≡ Err (plain code.Argument)))
 
+-- the NFA of the builder that an object is; if it is no builder, its kind is reported
 abbrev pub IsNfaIn : StartStates → Object → Result Automaton Status → Type 0
 IsNfaIn starts (Builder draft) result = IsNfaOf starts draft result
 IsNfaIn starts (RegexObject r) result = result ≡ Err (plain code.Kind)
@@ -94,6 +103,7 @@ kind_of (suc (suc n)) = Err (plain code.Argument)
 abbrev pub number_if : (has number : ℕ) → Option ℕ
 number_if has number = if has == 0 then None else Some number
 
+-- the same of a limit: it is set to the number, or it is not set
 abbrev pub limit_if : (has number : ℕ) → Option (Option ℕ)
 limit_if has number = if has == 0 then None else Some (Some number)
 
@@ -102,6 +112,7 @@ abbrev pub with_quits : Options → List ℕ → Options
 with_quits o [] = o
 with_quits o (byte ∷ bytes) = with_quits (record o { quits = Some (slice_set (quits_of o) byte true) }) bytes
 
+-- the settings that C gave, as options, with this match kind; no quit bytes are set yet
 abbrev pub options_in : Settings → MatchKind → Options
 options_in s kind = record {
   match_kind = Some kind;
@@ -116,27 +127,28 @@ options_in s kind = record {
   minimum_bytes_per_state = limit_if s.has_minimum_bytes_per_state s.minimum_bytes_per_state;
 }
 
+-- the settings that C gave, as options, with these quit bytes; or the error of the match kind
 abbrev pub options_of : Settings → (quits : List ℕ) → Result MatchKind Status → Result Options Status
 options_of s quits (Ok kind) = Ok (with_quits (options_in s kind) quits)
 options_of s quits (Err e) = Err e
 
 -- a handle is opened on the regex that the library's call returned, or the error of that call is told, or that there is
 -- no memory for the handle's object
-abbrev pub OpensRegex : (Makes : Regex → Type 0) → (Refuses : Status → Type 0) → (is_sound : Bool)
+abbrev pub OpensRegex : (Makes : Regex → Type 0) → (Refuses : Status → Type 0)
     → (old new : Handle) → Result (Unit {0}) Status → Type 0
-OpensRegex Makes Refuses is_sound old new (Ok u) = (regex : Regex) × Makes regex × IsRegexIn regex is_sound new
-OpensRegex Makes Refuses is_sound old new (Err e) = (new ≡ old) × (Refuses e ⊎ (e ≡ plain code.Memory))
+OpensRegex Makes Refuses old new (Ok u) = (regex : Regex) × Makes regex × IsRegexIn regex new
+OpensRegex Makes Refuses old new (Err e) = (new ≡ old) × (Refuses e ⊎ (e ≡ plain code.Memory))
 
 -- the same of an NFA, if there is one
 abbrev pub OpensOf : Options → (old new : Handle) → Result Automaton Status → Result (Unit {0}) Status → Type 0
-OpensOf o old new (Ok nfa) done = OpensRegex (IsRegexOf o nfa) (IsRegexError o nfa) true old new done
+OpensOf o old new (Ok nfa) done = OpensRegex (IsRegexOf o nfa) (IsRegexError o nfa) old new done
 OpensOf o old new (Err e) done = (new ≡ old) × (done ≡ Err e)
 
 -- and of two
 abbrev pub OpensPair : Options → (old new : Handle) → Automaton → Result Automaton Status
     → Result (Unit {0}) Status → Type 0
 OpensPair o old new forward (Ok reverse) done =
-    OpensRegex (IsKeepingPairOf o forward reverse) (IsKeepingPairError o forward reverse) false old new done
+    OpensRegex (IsKeepingPairOf o forward reverse) (IsKeepingPairError o forward reverse) old new done
 OpensPair o old new forward (Err e) done = (new ≡ old) × (done ≡ Err e)
 
 -- a regex of the NFA of a builder, which is put back
@@ -152,6 +164,8 @@ OpensAfter o starts old new from left (Ok forward) done =
     × OpensPair o old new forward reverse done
 OpensAfter o starts old new from left (Err e) done = (new ≡ old) × (left ≡ from) × (done ≡ Err e)
 
+-- a regex of the NFAs of two builders, which are put back: the first NFA is made, and then, if that does not fail,
+-- the second
 abbrev pub OpensPairIn : Options → (forward reverse : StartStates) → (old new : Handle)
     → (from left : Handle) → (from_reverse left_reverse : Handle) → Result (Unit {0}) Status → Type 0
 OpensPairIn o forward reverse old new from left from_reverse left_reverse done =
@@ -196,8 +210,11 @@ SharesRegex old new result = Reads IsShareOf old new result
 
 -- a fresh cache of a regex, with an empty set for all its patterns
 pub record IsFreshOf (regex : Regex) (s : Searcher) : Type 0 where
+  -- it belongs to this regex
   pub regex_is : regex_of s ≡ regex
+  -- the caches of both DFAs are fresh
   pub cache : AreFresh regex s.cache
+  -- its set has room for each pattern of the regex, and no pattern in it
   pub patterns : s.patterns ≡ replicate (length regex.forward.nfa.start_pattern) false
 
 -- the object is a fresh cache of this regex
@@ -208,7 +225,9 @@ IsCacheObject regex (RegexObject r) = ⊥
 
 -- the handle is open on a fresh cache of this regex
 pub record IsCacheIn (regex : Regex) (handle : Handle) : Type 0 where
+  -- the handle is open
   pub opened : handle.live ≡ 1
+  -- its object is a fresh cache of this regex
   pub object : IsSomeAnd handle.slot.value (IsCacheObject regex)
 
 -- a handle is opened on a cache of the regex that was shared; without one, or without memory, it stays
@@ -219,7 +238,9 @@ OpensCache old new (Err e) done = (new ≡ old) × (done ≡ Err e)
 
 -- a cache is asked for: over a handle that is open nothing is done
 pub record CreatesCache (old new : Handle) (from left : Handle) (done : Result (Unit {0}) Status) : Type 0 where
+  -- if the handle is open already, both handles stay as they are, and that is reported
   pub taken : is_open old.live ≡ true → (new ≡ old) × (left ≡ from) × (done ≡ Err (plain code.Open))
+  -- if not, the regex of the other handle is shared, and this handle is opened on a fresh cache of it, or stays
   pub made :
       is_open old.live ≡ false
       → (shared : Result Shared Status) × SharesRegex from left shared × OpensCache old new shared done

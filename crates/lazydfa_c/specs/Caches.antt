@@ -13,8 +13,11 @@ use Rattle.lazydfa_c.specs.declared.usage.Usage.{Usage}
 
 -- a cache stays as it is
 pub record IsKept (s t : Searcher) : Type 0 where
+  -- the caches of both DFAs are unchanged
   pub cache : t.cache ≡ s.cache
+  -- its set of patterns is unchanged
   pub patterns : t.patterns ≡ s.patterns
+  -- it keeps its regex
   pub same : t.shared ≡ s.shared
 
 -- the elements of a list, as many as there is room for, in place of those of another
@@ -33,10 +36,13 @@ Lists below old new count input s t status =
 
 -- `lazydfa_cache_reset`: the cache is a fresh one of its regex, or memory is out and it stays
 pub record Resets (s t : Searcher) (status : Status) : Type 0 where
+  -- it is fresh and the status is `LAZYDFA_OK`, or it is unchanged and the status is `LAZYDFA_MEMORY`
   pub told :
       ((status ≡ plain code.Done) × AreFresh (regex_of s) t.cache)
       ⊎ ((status ≡ plain code.Memory) × (t.cache ≡ s.cache))
+  -- its set of patterns is unchanged
   pub patterns : t.patterns ≡ s.patterns
+  -- it keeps its regex
   pub same : t.shared ≡ s.shared
 
 -- what the getters of a cache and of its regex return

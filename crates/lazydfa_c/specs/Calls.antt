@@ -14,7 +14,7 @@ use Rattle.regex_automata.specs.declared.hybrid.regex.Regex.{Regex}
 use Rattle.regex_automata.specs.declared.tokens.error.TokenError.{TokenError}
 use Rattle.regex_automata.specs.declared.tokens.token.Token.{Token}
 use Rattle.lazydfa_c.specs.Codes.{number_of}
-use Rattle.lazydfa_c.specs.Requests.{half_of, input_of, match_of}
+use Rattle.lazydfa_c.specs.Requests.{found_from, half_from, input_of}
 use Rattle.lazydfa_c.specs.Statuses.{plain, search_status, token_status}
 use Rattle.lazydfa_c.specs.declared.code.Code.TheVariants as code
 use Rattle.lazydfa_c.specs.declared.handle.Handle.{Handle}
@@ -31,11 +31,11 @@ use Rattle.lazydfa_c.specs.declared.status.Status.{Status}
 abbrev pub regex_of : Searcher → Regex
 regex_of s = s.shared.regex.value
 
--- what a search found, or why it failed, is told: a match is written, and the status says the rest
-abbrev pub IsTold : {A : Type 0} → (written : A) → Result (Option A) SearchError → Status → Type 0
-IsTold written (Ok (Some found)) status = (written ≡ found) × (status ≡ plain code.Done)
-IsTold written (Ok None) status = status ≡ plain code.Nothing
-IsTold written (Err e) status = status ≡ search_status e
+-- what a search found, or why it failed, is told: a match is written as C reads it, and the status says the rest
+abbrev pub IsTold : {A C : Type 0} → (as_read : A → C) → (written : C) → Result (Option A) SearchError → Status → Type 0
+IsTold as_read written (Ok (Some found)) status = (written ≡ as_read found) × (status ≡ plain code.Done)
+IsTold as_read written (Ok None) status = status ≡ plain code.Nothing
+IsTold as_read written (Err e) status = status ≡ search_status e
 
 -- the same of a search that writes nothing
 abbrev pub IsTruthTold : Result Bool SearchError → Status → Type 0
@@ -71,9 +71,11 @@ OfObject Does (RegexObject r) new status = (new ≡ RegexObject r) × (status �
 pub record OnHandle {R : Type 0}
     (Does : Object → Object → R → Type 0) (is_closed : R) (old new : Handle) (result : R)
     : Type 0 where
+  -- a handle that was open is open again, and this was done to its object
   pub opened :
       (o : Object) → old.live ≡ 1 → old.slot.value ≡ Some o
       → (new.live ≡ 1) × IsSomeAnd new.slot.value (λ p. Does o p result)
+  -- one that was not is closed, and the result says so
   pub closed : (old.live ≡ 1 → ⊥) → (new.live ≡ 0) × (result ≡ is_closed)
 
 -- a call for a cache
@@ -88,8 +90,10 @@ KeepsUnlessCache Stays (RegexObject r) = Stays
 
 -- and if its handle is not open on one
 pub record KeepsUnlessOpen (Stays : Type 0) (handle : Handle) : Type 0 where
+  -- it stays if the handle is open, but not on a cache
   pub opened :
       (o : Object) → handle.live ≡ 1 → handle.slot.value ≡ Some o → KeepsUnlessCache Stays o
+  -- it stays if the handle is not open
   pub closed : (handle.live ≡ 1 → ⊥) → Stays
 
 -- a call that makes this of the object of a handle, which it puts back as it was
@@ -99,36 +103,58 @@ Reads Makes old new result = OnHandle (λ o p r. (p ≡ o) × Makes o r) (Err (p
 
 -- `lazydfa_find`: the result of `Regex::find`, with its promises, is told
 pub record Finds (found : Found) (input : Input) (s t : Searcher) (status : Status) : Type 0 where
+  -- what `Regex::find` returns
   pub result : Result (Option Match) SearchError
-  pub told : IsTold (match_of found) result status
+  -- the status reports the result, and a match is written
+  pub told : IsTold found_from found result status
+  -- what the search promises of its result, whatever the cache
   pub returned : IsSpanOf (regex_of s) input result
+  -- what the search made of the caches of both DFAs, also if it failed
   pub effect : IsSpanRun (regex_of s) input s.cache t.cache (result_err result)
+  -- the cache keeps its regex
   pub same : t.shared ≡ s.shared
 
 -- `lazydfa_is_match`: the result of `Regex::is_match`
 pub record Tests (input : Input) (s t : Searcher) (status : Status) : Type 0 where
+  -- what `Regex::is_match` returns
   pub result : Result Bool SearchError
+  -- the status reports it: a match by `LAZYDFA_OK`, none by `LAZYDFA_NONE`
   pub told : IsTruthTold result status
+  -- what the search promises of its result, whatever the cache
   pub returned : IsTruthOf (regex_of s) input result
+  -- what the search made of the forward cache, also if it failed; the reverse cache is unchanged
   pub effect : IsTruthRun (regex_of s) input s.cache t.cache (result_err result)
+  -- the cache keeps its regex
   pub same : t.shared ≡ s.shared
 
 -- `lazydfa_find_end`: the result of a search of the forward DFA; the reverse cache stays
 pub record FindsEnd (found : FoundHalf) (input : Input) (s t : Searcher) (status : Status) : Type 0 where
+  -- what `DFA::try_search_fwd` returns: the pattern and the end of a match, or none
   pub result : Result (Option HalfMatch) SearchError
-  pub told : IsTold (half_of found) result status
+  -- the status reports the result, and a match is written
+  pub told : IsTold half_from found result status
+  -- what the search promises of its result, whatever the cache
   pub returned : IsHalf Forward (regex_of s).forward input result
+  -- what the search made of the forward cache, also if it failed
   pub effect : IsSearchRun Forward (regex_of s).forward input s.cache.forward t.cache.forward (result_err result)
+  -- the reverse cache is unchanged
   pub reverse : t.cache.reverse ≡ s.cache.reverse
+  -- the cache keeps its regex
   pub same : t.shared ≡ s.shared
 
 -- `lazydfa_find_start`: the result of a search of the reverse DFA; the forward cache stays
 pub record FindsStart (found : FoundHalf) (input : Input) (s t : Searcher) (status : Status) : Type 0 where
+  -- what `DFA::try_search_rev` returns: the pattern and the start of a match, or none
   pub result : Result (Option HalfMatch) SearchError
-  pub told : IsTold (half_of found) result status
+  -- the status reports the result, and a match is written
+  pub told : IsTold half_from found result status
+  -- what the search promises of its result, whatever the cache
   pub returned : IsHalf Backward (regex_of s).reverse input result
+  -- what the search made of the reverse cache, also if it failed
   pub effect : IsSearchRun Backward (regex_of s).reverse input s.cache.reverse t.cache.reverse (result_err result)
+  -- the forward cache is unchanged
   pub forward : t.cache.forward ≡ s.cache.forward
+  -- the cache keeps its regex
   pub same : t.shared ≡ s.shared
 
 -- an iteration after a search from where it stands: a match is passed, and anything else ends it
@@ -145,11 +171,17 @@ last_of at = if at.has_last == 0 then None else Some at.last
 -- a search of an iteration that has not ended: the result of `Regex::next_match`
 pub record GoesOn (found : Found) (old new : Iteration) (input : Input) (s t : Searcher) (status : Status)
     : Type 0 where
+  -- what `Regex::next_match` returns
   pub result : Result (Option Match) SearchError
-  pub told : IsTold (match_of found) result status
+  -- the status reports the result, and a match is written
+  pub told : IsTold found_from found result status
+  -- if it did not fail, it is the next match, or none; an empty one where the last match ended does not count
   pub next : IfOk result (IsNextMatch (regex_of s) input (last_of old))
+  -- what its search, or its two, made of the caches of both DFAs, also if one failed
   pub effect : IsNextRun (regex_of s) input (last_of old) s.cache t.cache (result_err result)
+  -- the cache keeps its regex
   pub same : t.shared ≡ s.shared
+  -- the iteration is moved past the match, or has ended
   pub iterated : new ≡ iterated old result
 
 -- `lazydfa_next`: an iteration that has ended stays, and so does one without an input
@@ -160,8 +192,8 @@ Iterates haystack found old new s t status =
     × ((old.ended ≡ 0) → input_of haystack old.left ≡ None → new ≡ old)
 
 -- the next token, or why there is none, is told
-abbrev pub IsTokenTold : (written : Match) → Option (Result Token TokenError) → Status → Type 0
-IsTokenTold written (Some (Ok t)) status = (written ≡ token_match t) × (status ≡ plain code.Done)
+abbrev pub IsTokenTold : (written : Found) → Option (Result Token TokenError) → Status → Type 0
+IsTokenTold written (Some (Ok t)) status = (written ≡ found_from (token_match t)) × (status ≡ plain code.Done)
 IsTokenTold written None status = status ≡ plain code.Nothing
 IsTokenTold written (Some (Err e)) status = status ≡ token_status e
 
@@ -171,6 +203,7 @@ offset_after offset (Some (Ok t)) = t.span.end
 offset_after offset None = offset
 offset_after offset (Some (Err e)) = offset
 
+-- whether an item is an error, which is then the last one
 abbrev pub has_failed : Option (Result Token TokenError) → Bool
 has_failed (Some (Ok t)) = false
 has_failed None = false
@@ -179,22 +212,35 @@ has_failed (Some (Err e)) = true
 -- `lazydfa_token`: the next item of `Regex::tokens`
 pub record TakesToken (found : Found) (old new : Request) (input : Input) (s t : Searcher) (status : Status)
     : Type 0 where
+  -- the item: a token, an error, or none at the end of the span
   pub item : Option (Result Token TokenError)
-  pub told : IsTokenTold (match_of found) item status
+  -- the status reports the item, and a token is written
+  pub told : IsTokenTold found item status
+  -- it is the item that `Regex::tokens` has at the start of the input
   pub given :
       GivesToken (regex_of s).forward input.haystack input.end item
       input.start (offset_after input.start item) false (has_failed item)
+  -- what the search for it made of the forward cache, also if it failed
   pub effect :
       IsTokenRun (regex_of s).forward input.haystack input.end input.start s.cache.forward t.cache.forward item
+  -- the reverse cache is unchanged
   pub reverse : t.cache.reverse ≡ s.cache.reverse
+  -- the cache keeps its regex
   pub same : t.shared ≡ s.shared
+  -- what is left begins where the token ends; without a token it stays
   pub left : new ≡ record old { start = offset_after old.start item }
 
 -- this set is joined with the patterns that match
 pub record Joins (set : List Bool) (input : Input) (s t : Searcher) (status : Status) : Type 0 where
+  -- what `DFA::try_which_overlapping_matches` returns, beside the set
   pub result : Result (Unit {0}) SearchError
+  -- the status reports whether it failed, and why
   pub told : IsDoneTold result status
+  -- what the call promises of its result and of the set
   pub returned : IsWhich (regex_of s).forward input set t.patterns result
+  -- what it made of the forward cache, and of the set if it failed
   pub effect : IsSetRun (regex_of s).forward input set t.patterns s.cache.forward t.cache.forward (result_err result)
+  -- the reverse cache is unchanged
   pub reverse : t.cache.reverse ≡ s.cache.reverse
+  -- the cache keeps its regex
   pub same : t.shared ≡ s.shared

@@ -6,7 +6,7 @@ use Rattle.lazydfa_c.specs.declared.code.Code.TheVariants.{NoPattern, Unfinished
 use Rattle.lazydfa_c.specs.declared.code.Code.TheVariants.{TooLarge, StateRange, StartRange, PatternRange, Ranges}
 use Rattle.lazydfa_c.specs.declared.code.Code.TheVariants.{NotLazy, NotUtf8, Starts, Unsupported, Capacity}
 use Rattle.lazydfa_c.specs.declared.code.Code.TheVariants.{StateIDs, PatternCounts, Quit, GaveUp, Anchored, NotAPair}
-use Rattle.lazydfa_c.specs.declared.code.Code.TheVariants.{NoToken}
+use Rattle.lazydfa_c.specs.declared.code.Code.TheVariants.{NoToken, Syntax, NotText, NotCompiled}
 
 -- the number of a code
 abbrev pub number_of : Code → ℕ
@@ -38,6 +38,9 @@ number_of GaveUp = 31
 number_of Anchored = 32
 number_of NotAPair = 33
 number_of NoToken = 34
+number_of Syntax = 40
+number_of NotText = 41
+number_of NotCompiled = 42
 
 -- No two codes have one number.
 abbrev pub CodesDiffer : Type 0

@@ -33,6 +33,7 @@ use Rattle.lazydfa_c.specs.declared.status.Status.{Status}
 abbrev pub is_state : ℕ → Bool
 is_state n = nat_le n 2147483646
 
+-- whether each of these numbers may be that of a state
 abbrev pub are_states : List ℕ → Bool
 are_states ns = list_all is_state ns
 
@@ -40,6 +41,7 @@ are_states ns = list_all is_state ns
 abbrev pub state_of : ℕ → Result ℕ Status
 state_of n = if is_state n then Ok n else Err (plain code.Argument)
 
+-- the range of an edge, and the state that it leads to, as the library has them
 abbrev pub transition_of : Edge → Transition
 transition_of e = record { lo = e.lo; hi = e.hi; next = e.next }
 
@@ -57,6 +59,7 @@ abbrev pub AddsGroup : (group : ℕ) → (shape : ℕ → Shape) → Draft → D
 AddsGroup group shape b c r =
     (group ≤ 2147483646 → IsAddingOf b c r shape) × (2147483646 < group → (r ≡ Err TooLarge) × (c ≡ b))
 
+-- what the library's call does that adds this state, and what it returns
 abbrev pub AddsState : Added → Draft → Draft → Result ℕ BuildError → Type 0
 AddsState add.Empty b c r = IsAdding b c r (EmptyShape 0 ∷ [])
 AddsState (add.Range e) b c r = IsAdding b c r (RangeShape e.lo e.hi e.next ∷ [])
@@ -111,28 +114,46 @@ AddsTo added b c result =
 
 -- `Builder::start_pattern`, `Builder::finish_pattern` and `Builder::patch`
 pub record StartsPattern (old new : Draft) (result : Result ℕ BuildError) : Type 0 where
+  -- it returns the number of the pattern: how many were finished before it
   pub id : IfOk result (λ p. p ≡ length old.starts)
+  -- if it does not fail, that pattern is started, and nothing else changes
   pub started : OnOk result (new ≡ started old)
+  -- if it fails, the builder stays
   pub same : OnErr result (new ≡ old)
+  -- it fails if the pattern that was started before is not finished
   pub unfinished : (p : ℕ) → old.pattern ≡ Some p → result ≡ Err UnfinishedPattern
+  -- it fails if there is no number left for a pattern
   pub large : old.pattern ≡ None → 2147483646 < length old.starts → result ≡ Err TooLarge
+  -- otherwise it does not fail
   pub few : old.pattern ≡ None → length old.starts ≤ 2147483646 → IsOk result
 
+-- what `Builder::finish_pattern` does, with the state that the pattern starts at
 pub record FinishesPattern (start : ℕ) (old new : Draft) (result : Result ℕ BuildError) : Type 0 where
+  -- it returns the number of the pattern that was started
   pub id : IfOk result (λ p. old.pattern ≡ Some p)
+  -- if it does not fail, that pattern is finished and starts at this state, and nothing else changes
   pub finished : OnOk result (new ≡ finished old start)
+  -- if it fails, the builder stays
   pub same : OnErr result (new ≡ old)
+  -- it fails if no pattern was started, or the last one was finished
   pub none : old.pattern ≡ None → result ≡ Err NoPattern
+  -- otherwise it fails only if the allocation fails
   pub memory : (p : ℕ) → old.pattern ≡ Some p → IsOkUnless result OutOfMemory
 
+-- what `Builder::patch` does
 pub record Patches (from to : ℕ) (old new : Draft) (result : Result (Unit {0}) BuildError) : Type 0 where
+  -- if it does not fail, the state `from` is patched with the target `to`, and nothing else changes
   pub placed :
       OnOk result ((was shape : Shape) → slice_get old.states from ≡ Some was
       → patched was to ≡ Some shape → new ≡ with_states old (set old.states from shape))
+  -- if it fails, the builder stays
   pub same : OnErr result (new ≡ old)
+  -- it fails if the state `from` does not exist
   pub range : length old.states ≤ from → result ≡ Err StateRange
+  -- it fails if that state is of a kind that cannot be patched
   pub sparse :
       (was : Shape) → slice_get old.states from ≡ Some was → patched was to ≡ None → result ≡ Err SparsePatch
+  -- otherwise it fails only if the allocation fails
   pub memory :
       (was shape : Shape) → slice_get old.states from ≡ Some was → patched was to ≡ Some shape
       → IsOkUnless result OutOfMemory
@@ -188,10 +209,12 @@ abbrev pub Adds : Added → (was written : ℕ) → (old new : Handle) → Statu
 Adds added was written old new status =
     (result : Result ℕ Status) × OfDraft (AddsTo added) old new result × IsNumberTold was written result status
 
+-- the exports that start or finish a pattern: the pattern's number is written if they succeed
 abbrev pub ChangesPattern : Change → (was written : ℕ) → (old new : Handle) → Status → Type 0
 ChangesPattern wanted was written old new status =
     (result : Result ℕ Status) × OfDraft (Changes wanted) old new result × IsNumberTold was written result status
 
+-- the exports that change a builder and write nothing
 abbrev pub ChangesDraft : Change → (old new : Handle) → Status → Type 0
 ChangesDraft wanted old new status =
     (result : Result ℕ Status) × OfDraft (Changes wanted) old new result × (status ≡ number_status result)
@@ -203,7 +226,9 @@ OpensDraft draft old new (Err e) = (new ≡ old) × (e ≡ plain code.Memory)
 
 -- a builder is asked for: over a handle that is open nothing is done
 pub record CreatesDraft (old new : Handle) (done : Result (Unit {0}) Status) : Type 0 where
+  -- a handle that is open already stays, and that is reported
   pub taken : is_open old.live ≡ true → (new ≡ old) × (done ≡ Err (plain code.Open))
+  -- a handle that is not is opened on a builder without states, or stays if the allocation fails
   pub made : is_open old.live ≡ false → OpensDraft (blank default_flags) old new done
 
 -- `lazydfa_builder_new`
@@ -213,10 +238,14 @@ NewsDraft old new status =
 
 -- what `Builder::build` returns of these starts, its error as a status
 pub record MakesNfa (draft : Draft) (anchored unanchored : ℕ) (result : Result Automaton Status) : Type 0 where
+  -- the NFA has the builder's states, the starts of its patterns and its flags, and these two starts
   pub same : IfOk result (λ nfa. outline nfa ≡ built draft anchored unanchored)
+  -- it fails if the pattern that was started is not finished
   pub unfinished : (p : ℕ) → draft.pattern ≡ Some p → result ≡ Err (plain code.UnfinishedPattern)
+  -- if the states and starts are no NFA, it fails, with that error or out of memory
   pub refused :
       (error : NfaError) → draft.pattern ≡ None → draft_error draft anchored unanchored ≡ Some error
       → (result ≡ Err (plain (nfa_code error))) ⊎ (result ≡ Err (plain code.Memory))
+  -- otherwise it fails only if the allocation fails
   pub memory :
       draft.pattern ≡ None → draft_error draft anchored unanchored ≡ None → IsOkUnless result (plain code.Memory)

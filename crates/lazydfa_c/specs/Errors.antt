@@ -75,5 +75,7 @@ told_token (Search NotAPair) = Search NotAPair
 -- the statuses of the errors of one call: none is that of a success, of a result without a match or of a handle or an
 -- argument that was refused; and two errors with one status are told alike
 pub record TellErrors {E : Type 0} (status : E → Status) (told : E → E) : Type 0 where
+  -- the code of an error is none of those of a success, of no match, of handles and of arguments
   pub fails : (e : E) → number_of code.Argument < (status e).code
+  -- two errors with one status are the same, but for what a status does not report
   pub differ : (e f : E) → status e ≡ status f → told e ≡ told f

@@ -10,3 +10,4 @@ pub mod Handles
 pub mod Held
 pub mod Requests
 pub mod Statuses
+pub mod Texts

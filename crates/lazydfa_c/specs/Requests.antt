@@ -18,6 +18,7 @@ mode_of (suc (suc (suc n))) pattern = None
 abbrev pub is_span : List ℕ → Request → Bool
 is_span haystack r = nat_le r.end (length haystack) && nat_le r.start (r.end + 1)
 
+-- the input of a request in an anchored mode, if there is one and the span lies in the haystack
 abbrev pub input_in : List ℕ → Request → Option Anchored → Option Input
 input_in haystack r None = None
 input_in haystack r (Some mode) =
@@ -35,12 +36,13 @@ input_in haystack r (Some mode) =
 abbrev pub input_of : List ℕ → Request → Option Input
 input_of haystack r = input_in haystack r (mode_of r.anchored r.pattern)
 
--- a match, and one end of a match, that C reads
+-- the match that C reads
 abbrev pub match_of : Found → Match
 match_of f = record { pattern = f.pattern; start = f.start; end = f.end }
 
-abbrev pub half_of : FoundHalf → HalfMatch
-half_of f = record { pattern = f.pattern; offset = f.offset }
+-- a match, and one end of a match, as C reads it; what is reserved is 0
+abbrev pub found_from : Match → Found
+found_from m = record { start = m.start; end = m.end; pattern = m.pattern; reserved = 0 }
 
 -- one end of a match as C reads it
 abbrev pub half_from : HalfMatch → FoundHalf

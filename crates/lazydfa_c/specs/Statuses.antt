@@ -50,10 +50,11 @@ builder_code builder.TooLarge = code.TooLarge
 builder_code builder.OutOfMemory = code.Memory
 builder_code (builder.NFA e) = nfa_code e
 
+-- the status of an error of a builder of NFAs: its code, without an offset
 abbrev pub builder_status : BuilderError → Status
 builder_status e = plain (builder_code e)
 
--- why a DFA was not built; of a capacity that is too small, the least one that would do
+-- why a DFA was not built; of a capacity that is too small, the minimum that the error names
 abbrev pub build_status : BuildError → Status
 build_status dfa.Unsupported = plain code.Unsupported
 build_status (dfa.InsufficientCacheCapacity minimum given) = status_at code.Capacity minimum

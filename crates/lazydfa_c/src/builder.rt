@@ -1,5 +1,5 @@
 //! NFAs, state by state.
-ghost use Rattle.std.specs.Prelude.{◌≡◌, ◌⊎◌, ◌==◌, not, IfErr, IfOk, IsFalse, IsTrue, map, nat_lt};
+ghost use Rattle.std.specs.Prelude.{◌≡◌, ◌⊎◌, ◌==◌, not, IfErr, IfOk, IsFalse, IsTrue, None, map, nat_lt};
 ghost use Rattle.automata_base.specs.Haystacks.LookSets.{nth_look};
 ghost use Rattle.lazydfa_c.specs.Drafts.{Adds, AddsTo, Changes, ChangesDraft, ChangesPattern, CreatesDraft};
 ghost use Rattle.lazydfa_c.specs.Drafts.{IsNumberTold, NewsDraft, OfBuilder, OfDraft, OpensDraft, are_states};
@@ -293,6 +293,7 @@ fn changed_pattern(alloc: Global, handle: &mut Handle, wanted: Change, pattern: 
 
 /// Opens a handle on a builder.
 fn open_builder(alloc: Global, handle: &mut Handle, builder: Builder) -> Result<(), Status>
+    requires { handle.now.slot.value ≡ None }
     ensures { OpensDraft builder handle.old handle.new result }
 {
     let object = Box::new(alloc, Object::Builder(builder))?;

@@ -33,6 +33,9 @@ pub enum Code {
     Anchored,
     NotAPair,
     NoToken,
+    Syntax,
+    NotText,
+    NotCompiled,
 }
 
 impl Code {
@@ -69,6 +72,9 @@ impl Code {
             Code::Anchored => 32,
             Code::NotAPair => 33,
             Code::NoToken => 34,
+            Code::Syntax => 40,
+            Code::NotText => 41,
+            Code::NotCompiled => 42,
         }
     }
 }

@@ -1,5 +1,5 @@
 //! Handles: what C holds of an object on the heap.
-ghost use Rattle.std.specs.Prelude.{◌≡◌, ◌↔◌, IfSome, IsSome, None, Option, Some};
+ghost use Rattle.std.specs.Prelude.{◌≡◌, ◌↔◌, IfSome, IsFalse, IsSome, None, Option, Some};
 ghost use Rattle.lazydfa_c.specs.Held.{held};
 ghost use Rattle.lazydfa_c.specs.Handles.{is_open};
 ghost use Rattle.lazydfa_c.specs.contracts.object.Object.{the_row as object_row};
@@ -12,9 +12,9 @@ use std::marker::Model;
 use std::mem;
 use std::ptr::null_mut;
 
-/// A pointer that owns an object, or is of no use.
+/// A pointer that owns an object, or is of no use. It has no `Drop`, and so neither has a handle: code that lets an
+/// object go with one does not compile.
 #[repr(C)]
-#[derive(Drop)]
 pub struct Slot {
     at: *mut u8,
     ghost value: { Option Object },
@@ -52,6 +52,13 @@ impl Slot {
         }
     }
 
+    /// Ends a slot that owns nothing.
+    fn end(self)
+        requires { self.value ≡ None }
+    {
+        let Slot { at: _ } = self;
+    }
+
     /// A slot that owns nothing, with a null pointer in it.
     fn empty() -> Slot
         ensures { result.value ≡ None }
@@ -63,12 +70,11 @@ impl Slot {
 
 /// What C holds: a pointer, and whether it is open. C begins with zeros, and changes neither.
 #[repr(C)]
-#[derive(Drop)]
 pub struct Handle {
     slot: Slot,
     live: u64,
     ghost full: { live ≡ 1 → IsSome slot.value },
-    ghost empty: { live ≡ 0 → slot.value ≡ None },
+    ghost empty: { (live ≡ 1 → ⊥) → slot.value ≡ None },
 }
 
 impl Handle {
@@ -85,7 +91,8 @@ impl Handle {
 
     /// Whether the handle owns an object.
     pub fn is_open(&self) -> bool
-        ensures { result ≡ is_open self.now.live }
+        ensures live { result ≡ is_open self.now.live }
+        ensures empty { IsFalse result → self.now.slot.value ≡ None }
     {
         self.live != 0
     }
@@ -100,16 +107,19 @@ impl Handle {
         let live = mem::replace(&mut self.live, 0);
         let slot = mem::replace(&mut self.slot, Slot::empty());
         if live != 1 {
+            slot.end();
             return None;
         }
         Some(slot.open(alloc).into_box())
     }
 
-    /// Puts an object into a handle, which is then open. What the handle had before is forgotten.
+    /// Puts an object into a handle that owns nothing, which is then open.
     pub fn put(&mut self, object: Box<Object>)
+        requires { self.now.slot.value ≡ None }
         ensures live { self.new.live ≡ 1 }
         ensures value { self.new.slot.value ≡ Some object.value }
     {
-        *self = Handle::of(object);
+        let Handle { slot, live: _ } = mem::replace(self, Handle::of(object));
+        slot.end();
     }
 }

@@ -1,6 +1,6 @@
 //! What is searched and what is found, as C lays it out.
 ghost use Rattle.std.specs.Prelude.{◌≡◌};
-ghost use Rattle.lazydfa_c.specs.Requests.{half_from, input_of, match_of, mode_of};
+ghost use Rattle.lazydfa_c.specs.Requests.{found_from, half_from, input_of, mode_of};
 
 use regex_automata::{Anchored, HalfMatch, Input, Match, PatternID};
 
@@ -75,7 +75,7 @@ impl Request {
 impl Found {
     /// A match as C lays it out.
     pub fn of(found: Match) -> Found
-        ensures { match_of result ≡ found }
+        ensures { result ≡ found_from found }
     {
         Found {
             start: found.start(),

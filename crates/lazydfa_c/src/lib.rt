@@ -18,6 +18,7 @@ mod search;
 mod sets;
 mod settings;
 mod status;
+mod text;
 mod tokens;
 mod usage;
 

@@ -1,18 +1,15 @@
 //! What handles own.
-ghost use Rattle.std.specs.Prelude.{◌≡◌, true};
-ghost use Rattle.regex_automata.specs.Promises.{AreCachesOf, IsSoundPair};
+ghost use Rattle.regex_automata.specs.Promises.{AreCachesOf};
 
 use regex_automata::PatternSet;
 use regex_automata::hybrid::regex::{Cache, Regex};
 use regex_automata::nfa::thompson::Builder;
 use std::rc::Rc;
 
-/// A regex that caches share, and whether it was built from one NFA, so that its spans are those of the ordered paths.
+/// A regex that its caches share.
 #[derive(Drop)]
 pub struct Shared {
     pub regex: Rc<Regex>,
-    pub is_sound: bool,
-    pub ghost sound: { is_sound ≡ true → ∥ IsSoundPair regex.value ∥₁ },
 }
 
 /// A cache, with the regex that it belongs to. So no call can be given a cache of another regex, and the regex stays

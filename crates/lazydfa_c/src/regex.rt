@@ -1,7 +1,6 @@
 //! Regexes and caches.
-ghost use Rattle.std.specs.Prelude.{◌≡◌, IfErr, IfOk, Ok, OnErr, OnOk, Some, false, true};
+ghost use Rattle.std.specs.Prelude.{◌≡◌, IfErr, IfOk, None, Ok, OnErr, OnOk, Some};
 ghost use Rattle.automata_config.specs.Options.{overwritten, unset};
-ghost use Rattle.regex_automata.specs.Promises.{IsSoundPair};
 ghost use Rattle.lazydfa_c.specs.Builds.{IsFreshOf, IsKeepingPairOf, IsKeepingPairError, IsPairOf, IsPairError};
 ghost use Rattle.lazydfa_c.specs.Builds.{IsRegexIn, IsRegexOf, IsRegexError, BuildsRegex, BuildsRegexPair};
 ghost use Rattle.lazydfa_c.specs.Builds.{CreatesCache, IsNfaIn, IsNfaOf, NewsCache, OpensIn, OpensAfter, OpensPairIn};
@@ -20,7 +19,7 @@ use crate::settings::Settings;
 use crate::status::Status;
 use regex_automata::PatternSet;
 use regex_automata::hybrid::dfa::Config;
-use regex_automata::hybrid::regex::Regex;
+use regex_automata::hybrid::regex::{self, Regex};
 use regex_automata::nfa::thompson::{Builder, NFA};
 use std::alloc::Global;
 use std::rc::Rc;
@@ -67,16 +66,22 @@ fn nfa_in(alloc: Global, builder: &mut Handle, starts: StartStates) -> Result<NF
     nfa
 }
 
-/// Builds the regex of one NFA, whose reverse DFA is that of the reversed NFA. It fails with the status of the error
-/// that building returns.
-fn regex_of(nfa: NFA, config: Config) -> Result<Regex, Status>
-    ensures sound { IfOk result (λ regex. ∥ IsSoundPair regex ∥₁) }
-    ensures built { IfOk result (IsRegexOf (overwritten unset config) nfa) }
-    ensures refused { IfErr result (IsRegexError (overwritten unset config) nfa) }
+/// A builder of regexes with this configuration.
+fn builder_of(config: Config) -> regex::Builder
+    ensures { result ≡ overwritten unset config }
 {
     let mut builder = Regex::builder();
     builder.dfa(config);
-    Ok(builder.build_from_nfa(nfa)?)
+    builder
+}
+
+/// Builds the regex of one NFA, whose reverse DFA is that of the reversed NFA. It fails with the status of the error
+/// that building returns.
+fn regex_of(nfa: NFA, config: Config) -> Result<Regex, Status>
+    ensures built { IfOk result (IsRegexOf (overwritten unset config) nfa) }
+    ensures refused { IfErr result (IsRegexError (overwritten unset config) nfa) }
+{
+    Ok(builder_of(config).build_from_nfa(nfa)?)
 }
 
 /// Builds the regex of two NFAs. It fails with the status of the error that building returns; whether the NFAs are a
@@ -85,21 +90,21 @@ fn pair_of(forward: NFA, reverse: NFA, config: Config) -> Result<Regex, Status>
     ensures built { IfOk result (IsPairOf (overwritten unset config) forward reverse) }
     ensures refused { IfErr result (IsPairError (overwritten unset config) forward reverse) }
 {
-    let mut builder = Regex::builder();
-    builder.dfa(config);
-    Ok(builder.build_from_nfas(forward, reverse)?)
+    match builder_of(config).build_from_nfas(forward, reverse) {
+        Ok(regex) => Ok(regex),
+        Err(error) => Err(Status::from(error)),
+    }
 }
 
 /// Shares a regex and opens a handle on it.
-fn open(alloc: Global, handle: &mut Handle, regex: Regex, is_sound: bool) -> Result<(), Status>
-    requires { is_sound ≡ true → ∥ IsSoundPair regex ∥₁ }
-    ensures opened { OnOk result (IsRegexIn regex is_sound handle.new) }
+fn open(alloc: Global, handle: &mut Handle, regex: Regex) -> Result<(), Status>
+    requires { handle.now.slot.value ≡ None }
+    ensures opened { OnOk result (IsRegexIn regex handle.new) }
     ensures same { OnErr result (handle.new ≡ handle.old) }
     ensures err { IfErr result (λ s. s ≡ plain code.Memory) }
 {
     let shared = Shared {
         regex: Rc::new(alloc, regex)?,
-        is_sound,
     };
     let object = Box::new(alloc, Object::Regex(shared))?;
     handle.put(object);
@@ -107,12 +112,18 @@ fn open(alloc: Global, handle: &mut Handle, regex: Regex, is_sound: bool) -> Res
 }
 
 /// Opens a handle on the regex of one NFA.
-fn open_sound(alloc: Global, handle: &mut Handle, nfa: NFA, config: Config) -> Result<(), Status>
-    ensures { OpensRegex (IsRegexOf (overwritten unset config) nfa) (IsRegexError (overwritten unset config) nfa) true
+pub fn open_sound(
+    alloc: Global,
+    handle: &mut Handle,
+    nfa: NFA,
+    config: Config,
+) -> Result<(), Status>
+    requires { handle.now.slot.value ≡ None }
+    ensures { OpensRegex (IsRegexOf (overwritten unset config) nfa) (IsRegexError (overwritten unset config) nfa)
         handle.old handle.new result }
 {
     let regex = regex_of(nfa, config)?;
-    open(alloc, handle, regex, true)
+    open(alloc, handle, regex)
 }
 
 /// Opens a handle on the regex of two NFAs, which keep unions if they have cycles through look-around assertions.
@@ -122,14 +133,15 @@ fn open_pair(
     nfas: (NFA, NFA),
     config: Config,
 ) -> Result<(), Status>
+    requires { handle.now.slot.value ≡ None }
     ensures { OpensRegex (IsKeepingPairOf (overwritten unset config) nfas.0 nfas.1)
-        (IsKeepingPairError (overwritten unset config) nfas.0 nfas.1) false handle.old handle.new result }
+        (IsKeepingPairError (overwritten unset config) nfas.0 nfas.1) handle.old handle.new result }
 {
     let (forward, reverse) = nfas;
     let front = forward.keeping_unions();
     let back = reverse.keeping_unions();
     match pair_of(front, back, config) {
-        Ok(regex) => open(alloc, handle, regex, false),
+        Ok(regex) => open(alloc, handle, regex),
         Err(status) => Err(status),
     }
 }
@@ -143,6 +155,7 @@ fn build_of(
     starts: StartStates,
     config: Config,
 ) -> Result<(), Status>
+    requires { regex.now.slot.value ≡ None }
     ensures { OpensIn (overwritten unset config) starts regex.old regex.new builder.old builder.new result }
 {
     let nfa = nfa_in(alloc, builder, starts)?;
@@ -179,6 +192,7 @@ fn open_after(
     forward: NFA,
     config: Config,
 ) -> Result<(), Status>
+    requires { regex.now.slot.value ≡ None }
     ensures { OpensAfter (overwritten unset config) starts regex.old regex.new reverse.old reverse.new (Ok forward)
         result }
 {
@@ -198,6 +212,7 @@ fn build_pair_of(
     starts: (StartStates, StartStates),
     config: Config,
 ) -> Result<(), Status>
+    requires { regex.now.slot.value ≡ None }
     ensures { OpensPairIn (overwritten unset config) starts.0 starts.1 regex.old regex.new forward.old forward.new
         reverse.old reverse.new result }
 {
@@ -268,10 +283,7 @@ fn share(shared: &Shared) -> Result<Shared, Status>
     ensures err { IfErr result (λ s. s ≡ plain code.Memory) }
 {
     let regex = shared.regex.clone()?;
-    Ok(Shared {
-        regex,
-        is_sound: shared.is_sound,
-    })
+    Ok(Shared { regex })
 }
 
 /// Another owner of the regex behind a handle. It fails if the handle is closed or owns no regex.
@@ -305,6 +317,7 @@ fn searcher_of(alloc: Global, shared: Shared) -> Result<Searcher, Status>
 
 /// Opens a handle on a cache. If an allocation fails, the handle is as it was.
 fn open_cache(alloc: Global, handle: &mut Handle, searcher: Searcher) -> Result<(), Status>
+    requires { handle.now.slot.value ≡ None }
     ensures live { OnOk result (handle.new.live ≡ 1) }
     ensures opened { OnOk result (handle.new.slot.value ≡ Some (CacheObject searcher)) }
     ensures same { OnErr result (handle.new ≡ handle.old) }

@@ -14,8 +14,8 @@ use regex_automata::tokens::TokenError;
 use regex_automata::{Anchored, MatchErrorKind};
 use std::alloc::{AllocError, AllocFailed};
 
-/// The number of a code, the quit byte if there is one, and an offset in bytes; of `Code::Capacity` the least capacity,
-/// in bytes, that would do.
+/// The number of a code, the quit byte if there is one, and an offset in bytes; of `Code::Capacity` a capacity, in
+/// bytes, that is enough for both DFAs.
 #[repr(C)]
 #[derive(Clone, Copy)]
 pub struct Status {

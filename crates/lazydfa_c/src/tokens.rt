@@ -4,7 +4,7 @@ ghost use Rattle.regex_automata.specs.Tokens.{match_of as token_match};
 ghost use Rattle.lazydfa_c.specs.Batches.{InTurn, Takes};
 ghost use Rattle.lazydfa_c.specs.Calls.{KeepsUnlessCache, KeepsUnlessOpen, OfHandle, OfObject, TakesToken};
 ghost use Rattle.lazydfa_c.specs.Calls.{WritesIfDone};
-ghost use Rattle.lazydfa_c.specs.Requests.{match_of};
+ghost use Rattle.lazydfa_c.specs.Requests.{found_from};
 
 use crate::code::Code;
 use crate::handle::Handle;
@@ -18,7 +18,7 @@ use std::alloc::Global;
 impl Found {
     /// A token's pattern and span as C lays out a match.
     fn of_token(token: &Token<'_>) -> Found
-        ensures { match_of result ≡ token_match token.now }
+        ensures { result ≡ found_from (token_match token.now) }
     {
         Found {
             start: token.start(),

@@ -1,4 +1,4 @@
-use Rattle.std.proofs.Common.{false, inl, refl}
+use Rattle.std.proofs.Common.{inl, refl}
 use Rattle.lazydfa_c.specs.Builds.{AreKeeping}
 use Rattle.lazydfa_c.proofs.Opening.{opens}
 use Rattle.lazydfa_c.proofs.regex.open_pair.Goals as goal
@@ -7,7 +7,7 @@ pub returns-in-Ok : goal.returns-in-Ok
 returns-in-Ok c =
     let keeping : AreKeeping c.args.nfas.0 c.args.nfas.1 c.keeping_unions-front.result c.keeping_unions-back.result =
     record { ahead = c.keeping_unions-front.ensures.same; behind = c.keeping_unions-back.ensures.same } in
-    opens _ _ false c.in-Ok.regex c.args.handle.now c.open.new.handle c.open.result
+    opens _ _ c.in-Ok.regex c.args.handle.now c.open.new.handle c.open.result
     (c.keeping_unions-front.result, c.keeping_unions-back.result, keeping, c.in-Ok.ensures.built)
     c.open.ensures.opened c.open.ensures.same c.open.ensures.err
 

@@ -1,8 +1,7 @@
-use Rattle.std.proofs.Common.{true}
 use Rattle.lazydfa_c.proofs.Opening.{opens}
 use Rattle.lazydfa_c.proofs.regex.open_sound.Goals as goal
 
 pub returns : goal.returns
 returns c =
-    opens _ _ true c.in_ok-regex.regex c.args.handle.now c.open.new.handle c.open.result c.in_ok-regex.ensures.built
+    opens _ _ c.in_ok-regex.regex c.args.handle.now c.open.new.handle c.open.result c.in_ok-regex.ensures.built
     c.open.ensures.opened c.open.ensures.same c.open.ensures.err

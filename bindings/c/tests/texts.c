@@ -1,0 +1,311 @@
+/* Makes the calls that take texts of patterns, right and with every wrong argument, with each option, and with patterns
+   that are refused. Prints each check that fails, and how many there were. */
+#define _POSIX_C_SOURCE 200809L
+#include <pthread.h>
+#include <stdio.h>
+#include <string.h>
+#include "lazydfa.h"
+
+static int failed, made;
+
+#define CHECK(fact)                                                  \
+    do {                                                             \
+        made++;                                                      \
+        if (!(fact)) {                                               \
+            failed++;                                                \
+            printf("%s:%d: %s\n", __FILE__, __LINE__, #fact);        \
+        }                                                            \
+    } while (0)
+
+static const uint8_t *bytes(const char *text) { return (const uint8_t *)text; }
+
+/* What a pattern finds: the spans of all matches in brackets, or the code, offset and first line of the message. */
+static const char *found(const char *pattern, size_t length, const char *hay, const lazydfa_text_options *options,
+                         const lazydfa_settings *settings) {
+    static char out[512];
+    char message[200], *at = out;
+    lazydfa_regex regex = LAZYDFA_INIT;
+    lazydfa_cache cache = LAZYDFA_INIT;
+    lazydfa_refusal refusal;
+    lazydfa_iteration left = lazydfa_iterate(lazydfa_whole(strlen(hay)));
+    lazydfa_match match;
+    lazydfa_status status =
+        lazydfa_regex_new(&regex, pattern, length, options, settings, NULL, 0, &refusal, message, sizeof message);
+    if (status.code != LAZYDFA_OK) {
+        message[strcspn(message, "\n")] = 0;
+        sprintf(out, "%u at %lu, %lu..%lu: %s", (unsigned)status.code, (unsigned long)status.offset,
+                (unsigned long)refusal.start, (unsigned long)refusal.end, message);
+        CHECK(lazydfa_regex_close(&regex).code == LAZYDFA_CLOSED);
+        return out;
+    }
+    CHECK(refusal.pattern == 0 && refusal.start == 0 && refusal.end == 0 && refusal.length == 0 && !*message);
+    CHECK(lazydfa_cache_new(&cache, &regex).code == LAZYDFA_OK);
+    CHECK(lazydfa_regex_close(&regex).code == LAZYDFA_OK);
+    *at = 0;
+    while ((status = lazydfa_next(&cache, bytes(hay), strlen(hay), &left, &match)).code == LAZYDFA_OK)
+        at += sprintf(at, "[%lu,%lu]", (unsigned long)match.start, (unsigned long)match.end);
+    CHECK(status.code == LAZYDFA_NONE);
+    CHECK(lazydfa_cache_close(&cache).code == LAZYDFA_OK);
+    return out;
+}
+
+#define FINDS(pattern, hay, wanted)                                                          \
+    do {                                                                                     \
+        const char *is_ = found(pattern, sizeof(pattern) - 1, hay, NULL, NULL);              \
+        CHECK(!strcmp(is_, wanted) || (printf("%s: %s\n", pattern, is_), 0));                \
+    } while (0)
+
+static void patterns(void) {
+    FINDS("[a-z]+", "foo 12 bar", "[0,3][7,10]");
+    FINDS("", "ab", "[0,0][1,1][2,2]");
+    FINDS("", "\xC3\xA9", "[0,0][2,2]");
+    FINDS("a|ab", "ab", "[0,1]");
+    FINDS("(?i)\xC3\x89", "\xC3\xA9", "[0,2]");
+    FINDS("(?m)^b$", "a\nb\nc", "[2,3]");
+    FINDS("(?s).", "\n", "[0,1]");
+    FINDS(".", "\n", "");
+    FINDS("\\pL\\d", "\xC3\xA9" "1", "[0,3]");
+    FINDS("(?-u:\\b)x", "ax x", "[3,4]");
+    FINDS("(?x) a # b", "a", "[0,1]");
+    FINDS("a\0b", "a", "");
+}
+
+static void refused(void) {
+    FINDS("foo(b", "", "40 at 3, 3..4: unclosed group");
+    FINDS("a{2,1}", "", "40 at 1, 1..6: invalid repetition count range, the start must be <= the end");
+    FINDS("\\bx", "", "24 at 0, 0..0: a Unicode word boundary is not supported: write (?-u:\\b) for one of ASCII");
+    FINDS("(a{1000}){1000}", "", "14 at 0, 0..0: the patterns are too large");
+    FINDS("ab\xFF", "", "41 at 2, 2..0: ");
+}
+
+/* Writes a pattern of groups within each other, as many as this, and returns its length. */
+static size_t nest(char *pattern, size_t groups, const char *open, const char *close) {
+    size_t length = 0, i;
+    for (i = 0; i < groups; i++) length += (size_t)sprintf(pattern + length, "%s", open);
+    pattern[length++] = 'a';
+    for (i = 0; i < groups; i++) length += (size_t)sprintf(pattern + length, "%s", close);
+    return length;
+}
+
+/* Whether so many groups within each other are a pattern. */
+static int nests(size_t groups, const lazydfa_text_options *options) {
+    char pattern[1000];
+    const char *is = found(pattern, nest(pattern, groups, "(", ")"), "a", options, NULL);
+    CHECK(!strcmp(is, "[0,1]") || !strncmp(is, "40 at ", 6));
+    return *is == '[';
+}
+
+static void nesting(void) {
+    lazydfa_text_options o;
+    memset(&o, 0, sizeof o);
+    CHECK(nests(LAZYDFA_NEST_LIMIT, NULL) && !nests(LAZYDFA_NEST_LIMIT + 1, NULL));
+    o.nest_limit = 1;
+    CHECK(nests(1, &o) && !nests(2, &o));
+    o.nest_limit = 250;
+    CHECK(nests(250, &o) && !nests(251, &o));
+}
+
+/* Reads patterns that nest as deep as they may by default, and one level deeper. */
+static void *nest_in_thread(void *codes) {
+    static const char *const parts[3][2] = { { "(", ")" }, { "[", "]" }, { "(?i:", ")" } };
+    static char pattern[1000];
+    lazydfa_regex regex = LAZYDFA_INIT;
+    size_t i, length;
+    for (i = 0; i < 6; i++) {
+        length = nest(pattern, LAZYDFA_NEST_LIMIT + i % 2, parts[i / 2][0], parts[i / 2][1]);
+        ((uint32_t *)codes)[i] = lazydfa_regex_new(&regex, pattern, length, NULL, NULL, NULL, 0, NULL, NULL, 0).code;
+        lazydfa_regex_close(&regex);
+    }
+    return NULL;
+}
+
+/* The same on a thread whose stack has 64 KiB. */
+static void small_stack(void) {
+    uint32_t codes[6] = { 0 };
+    pthread_attr_t attributes;
+    pthread_t thread;
+    size_t i;
+    CHECK(!pthread_attr_init(&attributes) && !pthread_attr_setstacksize(&attributes, 65536));
+    CHECK(!pthread_create(&thread, &attributes, nest_in_thread, codes) && !pthread_join(thread, NULL));
+    for (i = 0; i < 6; i++) CHECK(codes[i] == (i % 2 ? LAZYDFA_SYNTAX : LAZYDFA_OK));
+}
+
+/* What a pattern finds with one option on. */
+#define FINDS_WITH(option, pattern, hay, wanted)                                             \
+    do {                                                                                     \
+        lazydfa_text_options o_;                                                             \
+        memset(&o_, 0, sizeof o_);                                                           \
+        o_.option = 1;                                                                       \
+        CHECK(!strcmp(found(pattern, sizeof(pattern) - 1, hay, &o_, NULL), wanted));         \
+    } while (0)
+
+static void flags(void) {
+    FINDS("\\w", "\xC3\xA9" "a", "[0,2][2,3]");
+    FINDS_WITH(no_unicode, "\\w", "\xC3\xA9" "a", "[2,3]");
+    FINDS_WITH(no_unicode, "(?u)\\w", "\xC3\xA9" "a", "[0,2][2,3]");
+    FINDS_WITH(no_unicode, "\\bx", "ax x", "[3,4]");
+    FINDS("ab", "aB", "");
+    FINDS_WITH(case_insensitive, "ab", "aB", "[0,2]");
+    FINDS_WITH(case_insensitive, "(?-i)ab", "aB", "");
+    FINDS("^b$", "a\nb\nc", "");
+    FINDS_WITH(multi_line, "^b$", "a\nb\nc", "[2,3]");
+    FINDS(".", "\r\n", "[0,1]");
+    FINDS_WITH(dot_matches_new_line, ".", "\r\n", "[0,1][1,2]");
+    FINDS_WITH(crlf, ".", "\r\n", "");
+    FINDS_WITH(crlf, "(?m)^b$", "a\r\nb\r\nc", "[3,4]");
+    FINDS("(?m)^b$", "a\r\nb\r\nc", "");
+    FINDS("a+|b+?", "aabb", "[0,2][2,3][3,4]");
+    FINDS_WITH(swap_greed, "a+|b+?", "aabb", "[0,1][1,2][2,4]");
+    FINDS("a b", "ab", "");
+    FINDS_WITH(ignore_whitespace, "a b # c", "ab", "[0,2]");
+    FINDS_WITH(octal, "\\141", "a", "[0,1]");
+    FINDS_WITH(bytes, "(?-u)\\xFF", "\xFF", "[0,1]");
+    FINDS_WITH(bytes, "", "\xC3\xA9", "[0,0][1,1][2,2]");
+}
+
+static void options(void) {
+    lazydfa_text_options o;
+    lazydfa_settings s;
+    memset(&o, 0, sizeof o);
+    memset(&s, 0, sizeof s);
+    CHECK(!strncmp(found("(?-u)\\xFF", 9, "\xFF", &o, NULL), "40 at ", 6));
+    CHECK(!strncmp(found("\\141", 4, "a", &o, NULL), "40 at ", 6));
+    o.no_unicode = 1;
+    CHECK(!strncmp(found(".", 1, "a", &o, NULL), "40 at ", 6));
+    o.bytes = 1;
+    CHECK(!strcmp(found(".", 1, "\xC3\xA9", &o, NULL), "[0,1][1,2]"));
+    o.no_unicode = o.bytes = 0;
+    o.has_size_limit = 1;
+    CHECK(!strncmp(found("a", 1, "a", &o, NULL), "14 at 0", 7));
+    o.size_limit = SIZE_MAX;
+    CHECK(!strcmp(found("a", 1, "a", &o, NULL), "[0,1]"));
+    s.unicode_word_boundary = 1;
+    CHECK(!strcmp(found("\\bx", 3, "ax x", NULL, &s), "[3,4]"));
+    s.match_kind = 9;
+    CHECK(!strncmp(found("a", 1, "a", NULL, &s), "5 at 0", 6));
+    s.match_kind = 0;
+    s.has_cache_capacity = 1;
+    CHECK(!strncmp(found("a", 1, "a", NULL, &s), "25 at ", 6));
+}
+
+static void sets(void) {
+    static const lazydfa_text texts[3] = { { "\\d+", 3 }, { "", 0 }, { "o{2}", 4 } };
+    lazydfa_text wrong[3] = { { "a", 1 }, { "b(", 2 }, { "c", 1 } };
+    lazydfa_regex regex = LAZYDFA_INIT;
+    lazydfa_cache cache = LAZYDFA_INIT;
+    lazydfa_settings all;
+    lazydfa_input in = lazydfa_whole(6);
+    lazydfa_match match;
+    lazydfa_refusal refusal;
+    lazydfa_status status;
+    uint32_t which[3];
+    size_t count;
+    char message[30];
+    memset(&all, 0, sizeof all);
+    all.match_kind = LAZYDFA_ALL;
+    CHECK(lazydfa_regex_any_of(&regex, texts, 3, NULL, &all, NULL, 0, NULL, NULL, 0).code == LAZYDFA_OK);
+    CHECK(lazydfa_regex_any_of(&regex, texts, 3, NULL, &all, NULL, 0, NULL, NULL, 0).code == LAZYDFA_OPEN);
+    CHECK(lazydfa_cache_new(&cache, &regex).code == LAZYDFA_OK);
+    CHECK(lazydfa_which(&cache, bytes("foo 12"), 6, &in, 3, which, 3, &count).code == LAZYDFA_OK);
+    CHECK(count == 3 && which[2] == 2);
+    CHECK(lazydfa_which(&cache, bytes("fo  12"), 6, &in, 3, which, 3, &count).code == LAZYDFA_OK);
+    CHECK(count == 2 && which[0] == 0 && which[1] == 1);
+    CHECK(lazydfa_cache_close(&cache).code == LAZYDFA_OK);
+    CHECK(lazydfa_regex_close(&regex).code == LAZYDFA_OK);
+    CHECK(lazydfa_regex_any_of(&regex, texts, 3, NULL, NULL, NULL, 0, NULL, NULL, 0).code == LAZYDFA_OK);
+    CHECK(lazydfa_cache_new(&cache, &regex).code == LAZYDFA_OK);
+    CHECK(lazydfa_find(&cache, bytes("12 foo"), 6, &in, &match).code == LAZYDFA_OK);
+    CHECK(match.start == 0 && match.end == 2 && match.pattern == 0);
+    CHECK(lazydfa_cache_close(&cache).code == LAZYDFA_OK);
+    CHECK(lazydfa_regex_close(&regex).code == LAZYDFA_OK);
+    CHECK(lazydfa_regex_any_of(&regex, NULL, 0, NULL, NULL, NULL, 0, NULL, NULL, 0).code == LAZYDFA_OK);
+    CHECK(lazydfa_cache_new(&cache, &regex).code == LAZYDFA_OK);
+    CHECK(lazydfa_is_match(&cache, bytes("12 foo"), 6, &in).code == LAZYDFA_NONE);
+    CHECK(lazydfa_cache_close(&cache).code == LAZYDFA_OK);
+    CHECK(lazydfa_regex_close(&regex).code == LAZYDFA_OK);
+    status = lazydfa_regex_any_of(&regex, wrong, 3, NULL, NULL, NULL, 0, &refusal, message, sizeof message);
+    CHECK(status.code == LAZYDFA_SYNTAX && status.offset == 1);
+    CHECK(refusal.pattern == 1 && refusal.start == 1 && refusal.end == 2);
+    CHECK(!strcmp(message, "unclosed group\n  b(\n   ^") && refusal.length == strlen(message));
+    wrong[1].text = "b\xFF";
+    CHECK(lazydfa_regex_any_of(&regex, wrong, 3, NULL, NULL, NULL, 0, &refusal, message, 10).code == LAZYDFA_NOT_TEXT);
+    CHECK(refusal.pattern == 1 && refusal.start == 1 && !*message);
+    wrong[0].length = SIZE_MAX;
+    CHECK(lazydfa_regex_any_of(&regex, wrong, 1, NULL, NULL, NULL, 0, &refusal, NULL, 0).code == LAZYDFA_MEMORY);
+}
+
+/* A quit byte ends a search of a pattern's text, as of any regex. */
+static void quit_bytes(void) {
+    static const lazydfa_text text = { "b+", 2 };
+    static const uint8_t quits[2] = { '-', 'x' };
+    lazydfa_regex regex[2] = { LAZYDFA_INIT, LAZYDFA_INIT };
+    lazydfa_input in = lazydfa_whole(4);
+    lazydfa_match match;
+    int i;
+    CHECK(lazydfa_regex_new(&regex[0], text.text, 2, NULL, NULL, quits, 2, NULL, NULL, 0).code == LAZYDFA_OK);
+    CHECK(lazydfa_regex_any_of(&regex[1], &text, 1, NULL, NULL, quits, 2, NULL, NULL, 0).code == LAZYDFA_OK);
+    for (i = 0; i < 2; i++) {
+        lazydfa_cache cache = LAZYDFA_INIT;
+        lazydfa_status status;
+        CHECK(lazydfa_cache_new(&cache, &regex[i]).code == LAZYDFA_OK);
+        status = lazydfa_find(&cache, bytes("aaxb"), 4, &in, &match);
+        CHECK(status.code == LAZYDFA_QUIT && status.offset == 2 && status.byte == 'x');
+        CHECK(lazydfa_find(&cache, bytes("aabb"), 4, &in, &match).code == LAZYDFA_OK && match.start == 2);
+        CHECK(lazydfa_cache_close(&cache).code == LAZYDFA_OK);
+        CHECK(lazydfa_regex_close(&regex[i]).code == LAZYDFA_OK);
+    }
+}
+
+/* A message of any room: it is cut at a character, and nothing after the room is written. */
+static void messages(void) {
+    static const char pattern[] = "\xC3\xA9(\xC3\xA9";
+    static const char whole[] = "unclosed group\n  \xC3\xA9(\xC3\xA9\n   ^";
+    lazydfa_regex regex = LAZYDFA_INIT;
+    lazydfa_refusal refusal;
+    lazydfa_status status;
+    char message[40];
+    size_t room, shown;
+    for (room = 0; room < sizeof message; room++) {
+        memset(message, '#', sizeof message);
+        status = lazydfa_regex_new(&regex, pattern, sizeof pattern - 1, NULL, NULL, NULL, 0, &refusal, message, room);
+        CHECK(status.code == LAZYDFA_SYNTAX && status.offset == 2);
+        CHECK(refusal.length == sizeof whole - 1 && refusal.start == 2 && refusal.end == 3);
+        shown = room ? strlen(message) : 0;
+        CHECK(room == 0 || (shown < room && !memcmp(message, whole, shown)));
+        CHECK(room == 0 || shown + 2 >= room || shown == sizeof whole - 1);
+        CHECK(room == sizeof message || message[room] == '#');
+    }
+}
+
+static void nulls(void) {
+    lazydfa_text text = { NULL, 1 };
+    lazydfa_regex regex = LAZYDFA_INIT;
+    char message[8];
+    CHECK(lazydfa_regex_new(NULL, "a", 1, NULL, NULL, NULL, 0, NULL, NULL, 0).code == LAZYDFA_ARGUMENT);
+    CHECK(lazydfa_regex_new(&regex, NULL, 1, NULL, NULL, NULL, 0, NULL, NULL, 0).code == LAZYDFA_ARGUMENT);
+    CHECK(lazydfa_regex_new(&regex, "a", 1, NULL, NULL, NULL, 0, NULL, NULL, 1).code == LAZYDFA_ARGUMENT);
+    CHECK(lazydfa_regex_new(&regex, "a", 1, NULL, NULL, NULL, 1, NULL, NULL, 0).code == LAZYDFA_ARGUMENT);
+    CHECK(lazydfa_regex_any_of(&regex, NULL, 0, NULL, NULL, NULL, 1, NULL, NULL, 0).code == LAZYDFA_ARGUMENT);
+    CHECK(lazydfa_regex_any_of(NULL, NULL, 0, NULL, NULL, NULL, 0, NULL, NULL, 0).code == LAZYDFA_ARGUMENT);
+    CHECK(lazydfa_regex_any_of(&regex, NULL, 1, NULL, NULL, NULL, 0, NULL, NULL, 0).code == LAZYDFA_ARGUMENT);
+    CHECK(lazydfa_regex_any_of(&regex, &text, 1, NULL, NULL, NULL, 0, NULL, NULL, 0).code == LAZYDFA_ARGUMENT);
+    CHECK(lazydfa_regex_any_of(&regex, NULL, 0, NULL, NULL, NULL, 0, NULL, NULL, 1).code == LAZYDFA_ARGUMENT);
+    CHECK(lazydfa_regex_new(&regex, NULL, 0, NULL, NULL, NULL, 0, NULL, message, 8).code == LAZYDFA_OK);
+    CHECK(lazydfa_regex_new(&regex, "a", 1, NULL, NULL, NULL, 0, NULL, message, 8).code == LAZYDFA_OPEN);
+    CHECK(lazydfa_regex_close(&regex).code == LAZYDFA_OK);
+}
+
+int main(void) {
+    patterns();
+    refused();
+    nesting();
+    small_stack();
+    flags();
+    options();
+    sets();
+    quit_bytes();
+    messages();
+    nulls();
+    printf("%d checks, %d failed\n", made, failed);
+    return failed != 0;
+}

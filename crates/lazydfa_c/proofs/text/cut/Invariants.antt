@@ -1,0 +1,7 @@
+use Rattle.std.proofs.Common.{◌≡◌, ◌++◌, drop, map}
+use Rattle.lazydfa_c.specs.Texts.{texts_in}
+use Rattle.lazydfa_c.proofs.text.cut.Given as goal
+
+abbrev pub invariant-loop-length : goal.invariant-loop-length
+invariant-loop-length l =
+    map (λ text. text.now) l.parts.items ++ texts_in l.rest (drop l.length-index l.lengths) ≡ texts_in l.texts l.lengths

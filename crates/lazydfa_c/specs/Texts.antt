@@ -1,0 +1,73 @@
+-- Regexes of the texts of patterns.
+use Rattle.std.specs.Prelude.{ℕ, ◌≡◌, ◌==◌, ◌<◌, true, not, List, [], ◌∷◌, take, drop, Result, Ok, Err, if◌then◌else◌}
+use Rattle.automata_base.specs.Nfas.Nodes.{Automaton}
+use Rattle.automata_config.specs.Options.{Options}
+use Rattle.regex_automata.specs.declared.hybrid.regex.Regex.{Regex}
+use Rattle.patterns.specs.Patterns.{IsNfaOf}
+use Rattle.patterns.specs.declared.compile.Options.{Options as Reading}
+use Rattle.lazydfa_c.specs.Builds.{IsRegexIn, IsRegexOf, WithOptions, kind_of, options_of}
+use Rattle.lazydfa_c.specs.Codes.{number_of}
+use Rattle.lazydfa_c.specs.Handles.{is_open}
+use Rattle.lazydfa_c.specs.Statuses.{done_status}
+use Rattle.lazydfa_c.specs.declared.code.Code.TheVariants as code
+use Rattle.lazydfa_c.specs.declared.handle.Handle.{Handle}
+use Rattle.lazydfa_c.specs.declared.settings.Settings.{Settings}
+use Rattle.lazydfa_c.specs.declared.status.Status.{Status}
+use Rattle.lazydfa_c.specs.declared.text.TextOptions.{TextOptions}
+
+-- the texts that lie one after another, by their lengths
+abbrev pub texts_in : (bytes : List ℕ) → (lengths : List ℕ) → List (List ℕ)
+texts_in bytes [] = []
+texts_in bytes (n ∷ ns) = take n bytes ∷ texts_in (drop n bytes) ns
+
+-- how many bytes the tables of the patterns may take, 10 MB by default
+abbrev pub size_limit_of : TextOptions → ℕ
+size_limit_of options = if options.has_size_limit == 0 then 10485760 else options.size_limit
+
+-- how deep a pattern may nest, 32 by default
+abbrev pub nest_limit_of : TextOptions → ℕ
+nest_limit_of options = if options.nest_limit == 0 then 32 else options.nest_limit
+
+-- how texts are read: a number of C that is not 0 is yes, and `no_unicode` and `bytes` say what is off then; a word
+-- boundary of Unicode is allowed where the settings allow it
+abbrev pub reading_of : TextOptions → Settings → Reading
+reading_of options settings = record {
+  unicode = options.no_unicode == 0;
+  case_insensitive = not (options.case_insensitive == 0);
+  multi_line = not (options.multi_line == 0);
+  dot_matches_new_line = not (options.dot_matches_new_line == 0);
+  crlf = not (options.crlf == 0);
+  swap_greed = not (options.swap_greed == 0);
+  ignore_whitespace = not (options.ignore_whitespace == 0);
+  octal = not (options.octal == 0);
+  utf8 = options.bytes == 0;
+  ascii = not (settings.unicode_word_boundary == 0);
+  size_limit = size_limit_of options;
+  nest_limit = nest_limit_of options;
+}
+
+-- the status says that a call failed
+abbrev pub IsFailure : Status → Type 0
+IsFailure status = number_of code.Nothing < status.code
+
+-- the handle is open on the regex of an NFA that finds what the texts mean; or it stays, and the status says that there is
+-- no such regex
+abbrev pub OpensTexts : Options → Reading → (texts : List (List ℕ)) → (old new : Handle)
+    → Result (Unit {0}) Status → Type 0
+OpensTexts o reading texts old new (Ok u) =
+    (nfa : Automaton) × IsNfaOf reading texts nfa × ((regex : Regex) × IsRegexOf o nfa regex × IsRegexIn regex new)
+OpensTexts o reading texts old new (Err e) = (new ≡ old) × IsFailure e
+
+-- the same with settings and quit bytes, over a handle that is closed
+abbrev pub BuildsTexts : Settings → (quits : List ℕ) → TextOptions → (texts : List (List ℕ)) → (old new : Handle)
+    → Result (Unit {0}) Status → Type 0
+BuildsTexts settings quits options texts old new done =
+    WithOptions (λ o d. OpensTexts o (reading_of options settings) texts old new d) (new ≡ old) (is_open old.live)
+    (options_of settings quits (kind_of settings.match_kind)) done
+
+-- `lazydfa_regex_new` and `lazydfa_regex_any_of`
+abbrev pub BuildsAnyOf : Settings → (quits : List ℕ) → TextOptions → (bytes lengths : List ℕ) → (old new : Handle)
+    → Status → Type 0
+BuildsAnyOf settings quits options bytes lengths old new status =
+    (done : Result (Unit {0}) Status) × BuildsTexts settings quits options (texts_in bytes lengths) old new done
+    × (status ≡ done_status done)
