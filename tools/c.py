@@ -3,14 +3,16 @@
 
     tools/c.py ['N passed, M failed']
 
-Every call, right and with every wrong argument (calls.c); each allocation refused in turn (faults.c); the script of the
-program `lazydfa` by a C program (script.c), which has to print what `lazydfa` does; the header in C++, if there is a C++
-compiler; and the program of docs/C.md, which has to print what is said there. Each C program is compiled twice, the
-second time under the address and undefined behaviour sanitizers, if the compiler has them.
+Every call, right and with every wrong argument (calls.c, texts.c); each allocation refused in turn (faults.c); the
+script of the program `lazydfa` by a C program (script.c), which has to print what `lazydfa` does; the example grep.c,
+which has to print what `grep -E` does, if there is one; the header in C++, if there is a C++ compiler; and the programs
+of docs/C.md, which have to print what is said there. Each C program is compiled twice, the second time under the
+address and undefined behaviour sanitizers, if the compiler has them.
 
 The last line counts these too, beside what the given line counts. It needs Python 3, the kit's rt, make, ar and cc. The
 library stands on the crates as `rt ci` proved and left them, if it did so since they were last changed, and else as
-`rt lib` makes them, which first proves what was not proved yet.
+`rt lib` makes them, which first proves what was not proved yet. What it proves of the library's own crate is kept in
+its out/, as `rt check` keeps it, and `tools/wrong.py` begins with that.
 """
 import os
 import re
@@ -25,6 +27,14 @@ C = f"{TOP}/bindings/c"
 STRICT = ["-std=c99", "-Wall", "-Wextra", "-pedantic", "-Werror", "-O1", "-g"]
 SANITIZED = ["-fsanitize=address,undefined", "-fno-sanitize-recover=all"]
 REFUSING = ["-Wl,--wrap=malloc,--wrap=realloc,--wrap=free"]
+# Arguments of grep.c, to which `grep -E` has to answer the same.
+GREPS = [
+    ["-c", "-e", "lazy", "-e", "[0-9]{2,}", "README.md", "docs/C.md"],
+    ["-n", "-i", "-e", "^the|DFA[.,]$", "README.md"],
+    ["-o", "-n", "-e", "`[a-z_]+`", "-e", "[A-Z]{3}", "docs/C.md"],
+    ["-io", "-e", "x*regex", "README.md", "CHANGELOG.md"],
+    ["-e", "no such line in it", "LICENSE-MIT"],
+]
 
 
 def run(words, stdin="", seconds=600):
@@ -42,11 +52,14 @@ def text(path):
 
 
 def uses():
-    """Returns what the crate of the library uses, as crates.txt says: crates of the repository, and others."""
-    line = next(it for it in text("crates.txt").splitlines() if it.startswith("lazydfa_c "))
-    names = line.partition(":")[2].split()
-    own = [it for it in names if os.path.isdir(f"{TOP}/crates/{it}")]
-    return own, [it for it in names if it not in own]
+    """Returns what the crate of the library uses, as crates.txt says, and all crates of the repository below it."""
+    lines = [it.partition("#")[0].partition(":") for it in text("crates.txt").splitlines()]
+    named = {head.split()[0]: rest.split() for head, colon, rest in lines if colon}
+    below, more = [], ["lazydfa_c"]
+    while more:
+        new = [it for it in named[more.pop()] if it in named and it not in below]
+        below, more = below + new, more + new
+    return named["lazydfa_c"], below
 
 
 def rlib(name):
@@ -64,17 +77,18 @@ def is_left_by_ci(name):
 
 def archive(room):
     """Proves and builds the crate over what rt ci left, and returns the words that have make take it, if it could."""
-    own, others = uses()
-    if not all(is_left_by_ci(it) for it in own):
+    names, below = uses()
+    if not all(is_left_by_ci(it) for it in below):
         return []
     made = f"{room}/liblazydfa_c.a"
     words = ["--crate-name", "lazydfa_c", "src/lib.rt", "--crate-type", "staticlib", "-L", f"dependency={KIT}/rlibs"]
-    for name in ["std", *others]:
-        words += ["--extern", f"{name}={KIT}/rlibs/{name}.rlib"]
-    for name in own:
-        words += ["--extern", f"{name}={rlib(name)}", "-L", f"dependency={os.path.dirname(rlib(name))}"]
+    for name in ["std", *names]:
+        words += ["--extern", f"{name}={rlib(name) if name in below else f'{KIT}/rlibs/{name}.rlib'}"]
+    for name in below:
+        words += ["-L", f"dependency={os.path.dirname(rlib(name))}"]
     words += ["--antt-project", f"{KIT}/rattle/logic/antt-project.json", "--logic-built", f"{KIT}/logic_built"]
     words += ["--jobs", "1", "--links", "lazydfa_c=", "--toolchain", f"{KIT}/toolchain", "--backend", "llvm", "-o", made]
+    words += ["--incremental", "out/incremental"]
     # A build writes its verdict to standard error.
     how = {"cwd": f"{TOP}/crates/lazydfa_c", "stdin": subprocess.DEVNULL, "stdout": subprocess.PIPE}
     ran = subprocess.run([f"{KIT}/bin/rattle", "build", *words], stderr=subprocess.STDOUT, errors="replace", **how)
@@ -83,12 +97,10 @@ def archive(room):
     return [f"ARCHIVE={made}"] if proved else []
 
 
-def program():
-    """Returns the program of docs/C.md, and what it prints."""
-    document = text("docs/C.md")
-    source = re.search(r"`words.c`:\n\n```c\n(.*?)```", document, re.S)
-    prints = re.search(r"prints:\n\n```text\n(.*?)```", document, re.S)
-    return (source[1] if source else ""), (prints[1] if prints else "")
+def programs():
+    """Returns the programs of docs/C.md: the name of each, its text, and what it prints."""
+    program = r"`(\w+)\.c`:\n\n```c\n(.*?)```\n\n[^\n]*prints:\n\n```text\n(.*?)```"
+    return re.findall(program, text("docs/C.md"), re.S) or [("none", "", "")]
 
 
 class Tests:
@@ -127,14 +139,28 @@ class Tests:
         self.count(name, fault)
 
     def try_all(self, kind, flags):
-        source, prints = program()
-        with open(f"{self.room}/words.c", "w", encoding="utf-8") as it:
-            it.write(source)
         self.try_program(f"calls{kind}", f"{C}/tests/calls.c", flags)
+        self.try_program(f"texts{kind}", f"{C}/tests/texts.c", ["-pthread", *flags])
         self.try_program(f"faults{kind}", f"{C}/tests/faults.c", [*REFUSING, *flags])
         script, replies = text("crates/lazydfa/stdin"), text("crates/lazydfa/stdout")
         self.try_program(f"script{kind}", f"{C}/tests/script.c", flags, script, replies)
-        self.try_program(f"docs/C.md{kind}", f"{self.room}/words.c", flags, "", prints)
+        if shutil.which("grep"):
+            self.try_grep(f"grep{kind}", flags)
+        for name, source, prints in programs():
+            with open(f"{self.room}/{name}.c", "w", encoding="utf-8") as it:
+                it.write(source)
+            self.try_program(f"{name}.c of docs/C.md{kind}", f"{self.room}/{name}.c", flags, "", prints)
+
+    def try_grep(self, name, flags):
+        """Compares what grep.c prints, and its status, with what `grep -E` does."""
+        target, fault = self.compile(f"{C}/examples/grep.c", flags)
+        for words in GREPS if target else []:
+            paths = [f"{TOP}/{it}" if os.path.exists(f"{TOP}/{it}") else it for it in words]
+            status, out, err = run([target, *paths])
+            wanted, prints, _ = run(["env", "LC_ALL=C", "grep", "-E", *paths])
+            if status != wanted or err or out != prints:
+                fault += f"{' '.join(words)}: status {status}\n{differing(out, prints)}{err}"
+        self.count(name, fault)
 
     def try_header(self):
         words = ["c++", "-std=c++11", "-Wall", "-Wextra", "-pedantic", "-Werror", "-fsyntax-only"]

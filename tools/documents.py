@@ -1,23 +1,29 @@
 #!/usr/bin/env python3
-"""Compares the excerpts of README.md, of pages of docs/ and of the docstrings with the files that they are from:
+"""Compares the excerpts of README.md, of pages of docs/ and of the docstrings with the files that they are from, and looks
+for definitions without a sentence:
 
     tools/documents.py ['N passed, M failed']
 
 Each block of Rattle or of antt in a document has to stand in the file that the line before it names, as
 `crates/example_words/src/main.rt`, line for line but for how far it is indented. A block after a line that ends in
 "prints:" has to be what the program writes, the file stdout of the crate that was named last. A block of Rattle in a
-docstring of the settings, the lazy DFA or the regex has to stand in some file of the example crates.
+docstring of the settings, the lazy DFA or the regex has to stand in some file of the example crates. Above each definition
+in specs/, and above each field of a record, stands a comment.
 
-The last line counts the documents and the docstrings too, beside what the given line counts, the last one of `rt ci`,
-which proves and runs the programs themselves. It needs Python 3 alone.
+The last line counts the documents, the docstrings and the definitions too, beside what the given line counts, the last one
+of `rt ci`, which proves and runs the programs themselves. It needs Python 3 alone.
 """
 import os
 import re
 import sys
 
 TOP = os.path.dirname(os.path.dirname(os.path.abspath(__file__)))
-DOCUMENTS = ["README.md", "docs/CALLING.md", "docs/READING.md"]
+DOCUMENTS = ["README.md", "docs/CALLING.md", "docs/PATTERNS.md", "docs/READING.md"]
 DOCSTRINGS = ["automata_config", "automata_hybrid", "regex_automata"]
+# A definition, or a field of a record.
+DEFINITION = re.compile(
+    r"(?:(?:abbrev |unfoldable )?pub (?:record |data )?|abbrev |record |data |  pub )(?!mod |use )([^\s:(]+)"
+)
 FILE = re.compile(r"`(crates/\w+)/((?:src|specs|proofs)/[\w+/.-]+\.(?:rt|antt))`[:.]?$")
 
 
@@ -82,12 +88,25 @@ def docstring_faults():
     return faults
 
 
+def sentence_faults():
+    """Returns which definitions and fields have no comment above them."""
+    faults = []
+    for path in [it for crate in sorted(os.listdir(f"{TOP}/crates")) for it in below(f"crates/{crate}/specs", ".antt")]:
+        lines = read(path).split("\n")
+        for number, (above, line) in enumerate(zip(["", *lines], lines), 1):
+            found = DEFINITION.match(line)
+            if found and not above.lstrip().startswith("--"):
+                faults.append(f"{path}:{number} has no sentence for {found[1]}")
+    return faults
+
+
 def main(words):
     counted = re.fullmatch(r"(\d+) passed, (\d+) failed", words[0] if words else "0 passed, 0 failed")
     passed, failed = (int(counted[1]), int(counted[2])) if counted else (0, 1)
-    found = {it: document_faults(it) for it in DOCUMENTS} | {"docstrings": docstring_faults()}
+    found = {it: document_faults(it) for it in DOCUMENTS} | {"docstrings": docstring_faults(), "specs": sentence_faults()}
     for name, faults in found.items():
-        print(f"{name}: {'; '.join(faults) or 'each excerpt stands in its file'}")
+        right = "each definition has a sentence" if name == "specs" else "each excerpt stands in its file"
+        print(f"{name}: {'; '.join(faults) or right}")
         passed, failed = passed + (not faults), failed + bool(faults)
     print(f"{passed} passed, {failed} failed")
     return 1 if failed else 0

@@ -1,5 +1,5 @@
 #!/bin/sh
-# Compares what `Pattern` of `example_patterns` finds with what the kit's regex crate finds, in a copy of the repository
+# Compares what `Pattern` of `patterns` finds with what the kit's regex crate finds, in a copy of the repository
 # with one crate more, outside the gate:
 #     tools/patterns.sh
 # It begins with the rows of the kit's own tests. Then ten thousand patterns, alone and two at once, are searched in random
@@ -10,8 +10,8 @@ tools=$(cd "$(dirname "$0")" && pwd)
 copy=$(mktemp -d)
 trap 'rm -rf "$copy"' EXIT
 (cd "$tools/.." && git ls-files -z | tar -c --null -T -) | tar -x -C "$copy"
-mkdir -p "$copy/crates/patterns/src"
-cp "$tools/compare/patterns.in" "$copy/crates/patterns/src/main.rt"
-echo 'patterns: example_patterns regex regex_automata anyhow' >> "$copy/crates.txt"
-cd "$copy/crates/patterns"
+mkdir -p "$copy/crates/compared/src"
+cp "$tools/compare/patterns.in" "$copy/crates/compared/src/main.rt"
+echo 'compared: patterns regex regex_automata anyhow' >> "$copy/crates.txt"
+cd "$copy/crates/compared"
 rt try --seconds 86400
