@@ -23,5 +23,6 @@ pub mod ReportsAreRight
 pub mod ReportedPairs
 pub mod WalkReports
 pub mod ListTests
+pub mod Marks
 pub mod Walking
 pub mod KeepingUnions

@@ -286,6 +286,7 @@ fn read_kind(
     patterns: &mut Vec<PatternID>,
 ) -> bool
     requires below { (q : ℕ) → In q list.now → q < length nfa.now.states }
+    requires empty { set.old.items ≡ [] }
     requires room { IsClosureRoom nfa.now stack.old set.old }
     requires patterns { length nfa.now.start_pattern ≤ vec_capacity patterns.old }
     ensures cut { result ≡ is_cut kind (nfa_of nfa.now) list.now }
@@ -298,7 +299,7 @@ fn read_kind(
 {
     match kind {
         MatchKind::All => {
-            read_patterns(nfa, list, patterns);
+            read_patterns(nfa, list, set, patterns);
             close_targets(nfa, list, u, known, stack, set);
             false
         }
@@ -322,6 +323,7 @@ fn read_with(
 )
     requires below { (q : ℕ) → In q list.now → q < length nfa.now.states }
     requires closure { IsStartClosure nfa.now closure.now }
+    requires empty { set.old.items ≡ [] }
     requires room { IsClosureRoom nfa.now stack.old set.old }
     requires patterns { length nfa.now.start_pattern ≤ vec_capacity patterns.old }
     ensures matched { AreMatched nfa.now (cut_for kind (nfa_of nfa.now) list.now) patterns.new.items }
@@ -359,6 +361,7 @@ fn read_byte(
 )
     requires below { (q : ℕ) → In q list.now → q < length nfa.now.states }
     requires closure { IfSome closure (λ c. IsStartClosure nfa.now c.now) }
+    requires empty { set.old.items ≡ [] }
     requires room { IsClosureRoom nfa.now stack.old set.old }
     requires patterns { length nfa.now.start_pattern ≤ vec_capacity patterns.old }
     ensures matched { AreMatched nfa.now (cut_for kind (nfa_of nfa.now) list.now) patterns.new.items }
@@ -376,15 +379,24 @@ fn read_byte(
     }
 }
 
-/// Makes the patterns of what of a list counts under the match kind the only ones.
-fn read_end(kind: MatchKind, nfa: &NFA, list: &[StateID], patterns: &mut Vec<PatternID>)
+/// Makes the patterns of what of a list counts under the match kind the only ones. The set is empty, and stays so.
+fn read_end(
+    kind: MatchKind,
+    nfa: &NFA,
+    list: &[StateID],
+    set: &mut SparseSet,
+    patterns: &mut Vec<PatternID>,
+)
     requires below { (q : ℕ) → In q list.now → q < length nfa.now.states }
+    requires empty { set.old.items ≡ [] }
     requires room { length nfa.now.start_pattern ≤ vec_capacity patterns.old }
     ensures matched { AreMatched nfa.now (cut_for kind (nfa_of nfa.now) list.now) patterns.new.items }
     ensures room { vec_capacity patterns.old ≤ vec_capacity patterns.new }
+    ensures empty { set.new.items ≡ [] }
+    ensures whole { set.new.capacity ≡ set.old.capacity }
 {
     match kind {
-        MatchKind::All => read_patterns(nfa, list, patterns),
+        MatchKind::All => read_patterns(nfa, list, set, patterns),
         MatchKind::LeftmostFirst => {
             let _end = cut_first(nfa, list, patterns);
         }
@@ -418,7 +430,7 @@ fn read_list(
     set.clear();
     match unit {
         Some(u) => read_byte(kind, nfa, closure, list, u, known, stack, set, patterns),
-        None => read_end(kind, nfa, list, patterns),
+        None => read_end(kind, nfa, list, set, patterns),
     }
 }
 

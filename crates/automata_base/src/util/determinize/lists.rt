@@ -1,12 +1,13 @@
 //! Lists of NFA states: what a powerset state keeps of them, and the patterns that they match.
 ghost use Rattle.std.specs.Prelude.{◌≡◌, ◌+◌, ◌<◌, ◌≤◌, [], ◌∷◌, ◌++◌, ℕ, length, take, eqb, Some};
-ghost use Rattle.std.specs.Prelude.{None, false};
+ghost use Rattle.std.specs.Prelude.{None, false, not};
 ghost use Rattle.automata_base.specs.Lists.{In, pick};
 ghost use Rattle.automata_base.specs.Nfas.Nfa.{keep};
 ghost use Rattle.automata_base.specs.Retraced.Computed.{any_state};
 ghost use Rattle.automata_base.specs.Haystacks.Looks.{look_index};
 ghost use Rattle.automata_base.specs.Powersets.Cuts.{cut};
 ghost use Rattle.automata_base.specs.Powersets.Results.{AreMatched};
+ghost use Rattle.automata_base.specs.Powersets.Members.{AreMarks};
 ghost use Rattle.automata_base.specs.Nfas.Nodes.{nfa_of};
 ghost use Rattle.automata_base.specs.Haystacks.LookSets.{truth_of};
 ghost use Rattle.automata_base.specs.Haystacks.Looks.{Look};
@@ -15,6 +16,7 @@ ghost use Rattle.std.specs.Prelude.{vec_capacity, vec_len, cond};
 
 use crate::nfa::thompson::NFA;
 use crate::nfa::thompson::reading::{add_look, is_kept, pattern_of, state_at};
+use crate::util::determinize::sparse_set::SparseSet;
 use crate::util::look::LookSet;
 use crate::util::primitives::{PatternID, StateID};
 
@@ -53,30 +55,43 @@ pub fn keep_states(nfa: &NFA, states: &[StateID], kept: &mut Vec<StateID>) -> Lo
     looks
 }
 
-/// The patterns of the match states of a list, each once.
-pub fn read_patterns(nfa: &NFA, list: &[StateID], patterns: &mut Vec<PatternID>)
+/// The patterns of the match states of a list, each once. The set marks those that were found: it is empty before, and
+/// afterwards.
+pub fn read_patterns(
+    nfa: &NFA,
+    list: &[StateID],
+    marks: &mut SparseSet,
+    patterns: &mut Vec<PatternID>,
+)
     requires below { (q : ℕ) → In q list.now → q < length nfa.now.states }
     requires room { length nfa.now.start_pattern ≤ vec_capacity patterns.old }
     ensures matched { AreMatched nfa.now list.now patterns.new.items }
     ensures room { vec_capacity patterns.old ≤ vec_capacity patterns.new }
+    ensures empty { marks.new.items ≡ [] }
+    ensures whole { marks.new.capacity ≡ marks.old.capacity }
 {
     patterns.clear();
+    marks.clear();
     for i in 0..list.len() {
-        add_maybe(patterns, pattern_of(nfa.state(list[i])));
+        add_maybe(marks, patterns, pattern_of(nfa.state(list[i])));
     }
+    marks.clear();
 }
 
 /// Adds the pattern after the others, if there is one and the list does not have it. The list has room for it.
-fn add_maybe(patterns: &mut Vec<PatternID>, pattern: Option<PatternID>)
-    requires { (p : ℕ) → pattern ≡ Some p → is_in p patterns.old.items ≡ false
+fn add_maybe(marks: &mut SparseSet, patterns: &mut Vec<PatternID>, pattern: Option<PatternID>)
+    requires room { (p : ℕ) → pattern ≡ Some p → is_in p patterns.old.items ≡ false
         → vec_len patterns.old < vec_capacity patterns.old }
+    requires marks { AreMarks patterns.old.items marks.old }
     ensures some { (p : ℕ) → pattern ≡ Some p → patterns.new.items
         ≡ patterns.old.items ++ cond (is_in p patterns.old.items) [] (p ∷ []) }
     ensures none { pattern ≡ None → patterns.new.items ≡ patterns.old.items }
     ensures room { vec_capacity patterns.old ≤ vec_capacity patterns.new }
+    ensures marks { AreMarks patterns.new.items marks.new }
+    ensures whole { marks.new.capacity ≡ marks.old.capacity }
 {
     match pattern {
-        Some(p) => add_pattern(patterns, p),
+        Some(p) => add_pattern(marks, patterns, p),
         None => {}
     }
 }
@@ -122,13 +137,31 @@ fn has_pattern(patterns: &[PatternID], p: PatternID) -> bool
     false
 }
 
+/// Marks the pattern, and returns whether the list does not have it. One past the numbers of the set, as only an NFA
+/// with fewer states than patterns has it, is looked for in the list.
+fn is_new(marks: &mut SparseSet, patterns: &[PatternID], p: PatternID) -> bool
+    requires { AreMarks patterns.now marks.old }
+    ensures new { result ≡ not (is_in p patterns.now) }
+    ensures marks { AreMarks (patterns.now ++ cond (is_in p patterns.now) [] (p ∷ [])) marks.new }
+    ensures whole { marks.new.capacity ≡ marks.old.capacity }
+{
+    if p.as_usize() < marks.capacity() {
+        marks.insert(StateID::new_unchecked(p.as_u32()))
+    } else {
+        !has_pattern(patterns, p)
+    }
+}
+
 /// Adds the pattern after the others, if the list does not have it. The list has room for it.
-fn add_pattern(patterns: &mut Vec<PatternID>, p: PatternID)
-    requires { (is_in p patterns.old.items ≡ false) → vec_len patterns.old < vec_capacity patterns.old }
+fn add_pattern(marks: &mut SparseSet, patterns: &mut Vec<PatternID>, p: PatternID)
+    requires room { (is_in p patterns.old.items ≡ false) → vec_len patterns.old < vec_capacity patterns.old }
+    requires marks { AreMarks patterns.old.items marks.old }
     ensures added { patterns.new.items ≡ patterns.old.items ++ cond (is_in p patterns.old.items) [] (p ∷ []) }
     ensures room { vec_capacity patterns.old ≤ vec_capacity patterns.new }
+    ensures marks { AreMarks patterns.new.items marks.new }
+    ensures whole { marks.new.capacity ≡ marks.old.capacity }
 {
-    if !has_pattern(patterns.as_slice(), p) {
-        patterns.push(p).unwrap();
+    if is_new(marks, patterns.as_slice(), p) {
+        patterns.push_reserved(p);
     }
 }

@@ -3,7 +3,7 @@ ghost use Rattle.std.specs.Prelude.{◌≡◌, ◌≤◌, length, take, IfOk};
 
 use std::alloc::{AllocError, Global};
 use std::marker::Model;
-use std::rc::Rc;
+use std::sync::Arc;
 
 /// How many bytes are few: so many hold a state of up to 39 NFA states whose numbers are near one another.
 const FEW: usize = 48;
@@ -51,7 +51,7 @@ fn few_of(bytes: &[u8]) -> [u8; 48]
 /// Shared bytes.
 #[derive(Drop)]
 pub struct SharedBytes {
-    stored: Rc<Stored>,
+    stored: Arc<Stored>,
 }
 
 impl Model for SharedBytes {
@@ -80,12 +80,12 @@ impl SharedBytes {
         if len <= FEW {
             let few = few_of(bytes);
             let many = Vec::new(alloc);
-            let stored = Rc::new(alloc, Stored { len, few, many })?;
+            let stored = Arc::new(alloc, Stored { len, few, many })?;
             return Ok(SharedBytes { stored });
         }
         let many = Vec::from_slice(alloc, bytes)?;
         let few = [0; 48];
-        let stored = Rc::new(alloc, Stored { len, few, many })?;
+        let stored = Arc::new(alloc, Stored { len, few, many })?;
         Ok(SharedBytes { stored })
     }
 

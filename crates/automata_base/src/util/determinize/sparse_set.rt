@@ -76,6 +76,14 @@ impl SparseSet {
         self.len = 0;
     }
 
+    /// The numbers that the set has room for are those below this.
+    #[inline(always)]
+    pub fn capacity(&self) -> usize
+        ensures { result ≡ self.now.capacity }
+    {
+        self.dense.len()
+    }
+
     /// The numbers of the set, in the order in which they were added.
     pub fn as_slice(&self) -> &[StateID]
         ensures items { result.now ≡ self.now.items }
