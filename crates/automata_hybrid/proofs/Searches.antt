@@ -1,3 +1,4 @@
+pub mod Traces
 pub mod PassState
 pub mod Progress
 pub mod Goes
@@ -19,3 +20,4 @@ pub mod SelfLoops
 pub mod Leaps
 pub mod Lanes
 pub mod KnownPasses
+pub mod PieceRuns

@@ -7,5 +7,4 @@ pub mod Clears
 pub mod Changes
 pub mod Growth
 pub mod Progress
-pub mod LookUps
-pub mod Leaps
+pub mod States

@@ -1,5 +1,4 @@
 pub mod Machine
-pub mod Fields
 pub mod Builds
 pub mod OwnStates
 pub mod StartSlots

@@ -2,11 +2,10 @@ pub mod Passes
 pub mod Contracts
 pub mod Bounds
 pub mod Agreement
+pub mod Traces
 pub mod Cached
 pub mod Progress
 pub mod Follows
 pub mod PassState
 pub mod PassContracts
-pub mod Units
-pub mod SelfLoops
-pub mod Leaps
+pub mod PieceRuns

@@ -4,5 +4,4 @@ pub mod Contracts
 pub mod SetsByPaths
 pub mod Cached
 pub mod Progress
-pub mod Parts
 pub mod Follows

@@ -1,7 +1,8 @@
 //! The ID of a state of a lazy DFA.
 ghost use Rattle.std.specs.Prelude.{◌≡◌, ◌+◌, ◌*◌, ◌%◌, ◌-◌, ◌<◌, ◌≤◌, ◌↔◌, IsTrue, IsBitSet};
 ghost use Rattle.automata_hybrid.specs.Cache.Ids.{tags, unknown_id, dead_id, quit_id, fixed_from, offset_limit};
-ghost use Rattle.automata_hybrid.specs.Cache.Ids.{HasDeadTag, HasMatchTag, HasOnly, HasQuitTag, HasStartTag};
+ghost use Rattle.automata_hybrid.specs.Cache.Ids.{HasDeadTag, HasMatchTag, HasQuitTag, HasStartTag};
+ghost use Rattle.automata_hybrid.specs.Private.Cache.Ids.{HasOnly};
 
 use std::marker::Model;
 

@@ -2,6 +2,9 @@
 ghost use Rattle.automata_hybrid.specs.Cache.Caches.{IsCacheOf, IsStoreOf};
 ghost use Rattle.automata_hybrid.specs.Calls.Steps.{StartsFollow, StepsFollow};
 ghost use Rattle.automata_hybrid.specs.Machines.Machine.{IsSized};
+ghost use Rattle.automata_hybrid.specs.Pieces.Follows.{PieceAnswersFollow, PiecesFollow};
+ghost use Rattle.automata_hybrid.specs.Pieces.Matching.{StatesHaveMatching};
+ghost use Rattle.automata_hybrid.specs.Pieces.Whole.{PiecesAreWhole};
 ghost use Rattle.automata_hybrid.specs.Walks.Follows.{CallsFollow, SetsFollow};
 ghost use Rattle.automata_hybrid.specs.Walks.SetsByPaths.{SetsHaveMatching};
 ghost use Rattle.automata_hybrid.specs.Searches.Agreement.{AnswersAgree, WalksAgree};
@@ -82,6 +85,27 @@ pub fn sets_have_matching(dfa: &DFA)
 {
     walk_is_right(dfa.get_nfa());
 }
+
+/// If the pieces that a search has read are the whole haystack, what `end_pieces` answers is what `try_search_fwd`
+/// returns for it.
+pub fn pieces_are_whole()
+    ensures { PiecesAreWhole }
+{}
+
+/// Under `MatchKind::All`, at each offset of a span, its end included, the state of a pass reports just the patterns that
+/// match there. So the calls of a walk over a haystack in pieces, and its end, report all that match, each offset once.
+pub fn states_have_matching(dfa: &DFA)
+    ensures { StatesHaveMatching dfa.now }
+{
+    let _states = dfa.get_nfa().states();
+}
+
+/// What follows of what reading a piece, or asking for the answer of a search in pieces, makes of the cache: how often
+/// it determinizes, how the cache grows, when nothing is cleared, and when it fails with out of memory alone.
+pub fn pieces_follow()
+    ensures pieces { PiecesFollow }
+    ensures answers { PieceAnswersFollow }
+{}
 
 /// What follows of the run of a call of an overlapping search: how often it determinizes, how the cache grows, what is
 /// cached after it, that nothing changes but the progress if all that it uses is cached, and why it fails.

@@ -6,12 +6,15 @@ use Rattle.automata_hybrid.specs.declared.dfa.cache.Found.{Found}
 use Rattle.automata_hybrid.specs.declared.dfa.row.Row.{Row}
 use Rattle.automata_hybrid.specs.Cache.Caches.{CacheView}
 use Rattle.automata_hybrid.specs.Cache.Clears.{row_of}
-use Rattle.automata_hybrid.specs.Cache.Changes.{AddsNext, AddsRow, cleared_saving, grown, put_found}
-use Rattle.automata_hybrid.specs.Cache.LookUps.{IsLookedUp}
+use Rattle.automata_hybrid.specs.Cache.Changes.{cleared_saving, grown, put_found}
+use Rattle.automata_hybrid.specs.Private.Cache.Changes.{AddsNext, AddsRow}
+use Rattle.automata_hybrid.specs.Private.Cache.LookUps.{IsLookedUp}
 use Rattle.automata_hybrid.specs.Machines.Machine.{Machine}
 use Rattle.automata_hybrid.specs.Cache.Stores.{KeepsStarts, Stored, with_table}
-use Rattle.automata_hybrid.specs.Cache.Table.{IsKnownState, IsNewState, Lacks, Names, Rows, id_of}
-use Rattle.automata_hybrid.specs.Cache.Usage.{Fits, IsCleared, cleared, refuses_to_clear}
+use Rattle.automata_hybrid.specs.Cache.Table.{IsKnownState, Lacks, Names, Rows, id_of}
+use Rattle.automata_hybrid.specs.Private.Cache.Table.{IsNewState}
+use Rattle.automata_hybrid.specs.Cache.Usage.{Fits, cleared, refuses_to_clear}
+use Rattle.automata_hybrid.specs.Private.Cache.Usage.{IsCleared}
 use Rattle.automata_hybrid.proofs.Steps.Effects.{only-grown}
 
 -- a state to be added, by the machine that a table is of

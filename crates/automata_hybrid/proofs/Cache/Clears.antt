@@ -15,8 +15,10 @@ use Rattle.automata_hybrid.specs.declared.dfa.row.Row.{Row}
 use Rattle.automata_hybrid.specs.Cache.Ids.{dead_id}
 use Rattle.automata_hybrid.specs.Machines.Machine.{Machine}
 use Rattle.automata_hybrid.specs.Cache.Table.{Leads, Names, Rows, id_of, with_row}
-use Rattle.automata_hybrid.specs.Cache.Clears.{AllStarts, row_of, put, Kept, KeepsSlot, keep_found, IsSlot, LeadsToStart}
-use Rattle.automata_hybrid.specs.Cache.Clears.{keep_slot, keep_slots, IsPut}
+use Rattle.automata_hybrid.specs.Cache.Clears.{AllStarts, row_of, with_row_once, Kept, keep_found, IsSlot, LeadsToStart}
+use Rattle.automata_hybrid.specs.Private.Cache.Clears.{KeepsSlot}
+use Rattle.automata_hybrid.specs.Cache.Clears.{keep_slot, keep_slots}
+use Rattle.automata_hybrid.specs.Private.Cache.Clears.{IsPut}
 use Rattle.automata_hybrid.proofs.Cache.Rows.{Leads-more, at_push, find_id-push_other}
 use Rattle.std.specs.Option.{is_some, unwrap_or}
 
@@ -25,14 +27,14 @@ unfolding keep_slots
 keep_slots-push old k [] id = refl
 keep_slots-push old k (x ∷ ids) id = keep_slots-push old (keep_slot old k x) ids id
 
-pub put-of : (t : Rows) (r : Row) → (put t r).of ≡ t.of
-put-of t r = go (id_of t r.state) where
+pub with_row_once-of : (t : Rows) (r : Row) → (with_row_once t r).of ≡ t.of
+with_row_once-of t r = go (id_of t r.state) where
   go : (o : Option ℕ) → (cond (is_some o) t (with_row t r)).of ≡ t.of
   go None = refl
   go (Some n) = refl
 
-pub put-length : (t : Rows) (r : Row) → length (put t r).rows ≤ length t.rows + 1
-put-length t r = go (id_of t r.state) where
+pub with_row_once-length : (t : Rows) (r : Row) → length (with_row_once t r).rows ≤ length t.rows + 1
+with_row_once-length t r = go (id_of t r.state) where
   go : (o : Option ℕ) → length (cond (is_some o) t (with_row t r)).rows ≤ length t.rows + 1
   go None = omega (arith, length-append t.rows (r ∷ []))
   go (Some n) = omega arith
@@ -59,15 +61,15 @@ AllStarts-more t r xs all slot id e = go (all slot id e) where
   go (inl f) = inl f
   go (inr (q, leads, starts)) = inr (q, Leads-more t r id q leads, starts)
 
-pub AllStarts-put : (t : Rows) (r : Row) (xs : List ℕ) → AllStarts t xs → AllStarts (put t r) xs
+pub AllStarts-put : (t : Rows) (r : Row) (xs : List ℕ) → AllStarts t xs → AllStarts (with_row_once t r) xs
 AllStarts-put t r xs all = go (id_of t r.state) where
   go : (o : Option ℕ) → AllStarts (cond (is_some o) t (with_row t r)) xs
   go None = AllStarts-more t r xs all
   go (Some n) = all
 
-put_id : (before after : Rows) (starts : List ℕ) (r : Row) (n : ℕ) → after ≡ put before r → Names after n r.state → keep_found (Some r) (record { table = before; starts = starts }) ≡ record { table = after; starts = starts ++ n ∷ [] }
+put_id : (before after : Rows) (starts : List ℕ) (r : Row) (n : ℕ) → after ≡ with_row_once before r → Names after n r.state → keep_found (Some r) (record { table = before; starts = starts }) ≡ record { table = after; starts = starts ++ n ∷ [] }
 put_id before after starts r n e named =
-    let f : id_of (put before r) r.state ≡ Some n = subst (λ (u : Rows). id_of u r.state ≡ Some n) e named in
+    let f : id_of (with_row_once before r) r.state ≡ Some n = subst (λ (u : Rows). id_of u r.state ≡ Some n) e named in
     λ i. record { table = sym e i; starts = starts ++ unwrap_or (f i) (2 ^ 31) ∷ [] }
 
 -- a slot that names a row
@@ -78,10 +80,10 @@ kept_row old before after starts id n p l =
     ∙ ap (λ o. keep_found o (record { table = before; starts = starts })) p.at ∙ put_id before after starts p.row n p.put_there p.named
 
 pub IsPut-of : (old before after : Rows) (id n : ℕ) → IsPut old before after id n → after.of ≡ before.of
-IsPut-of old before after id n p = ap (λ (u : Rows). u.of) p.put_there ∙ put-of before p.row
+IsPut-of old before after id n p = ap (λ (u : Rows). u.of) p.put_there ∙ with_row_once-of before p.row
 
 pub IsPut-length : (old before after : Rows) (id n : ℕ) → IsPut old before after id n → length after.rows ≤ length before.rows + 1
-IsPut-length old before after id n p = subst (λ (u : Rows). length u.rows ≤ length before.rows + 1) (sym p.put_there) (put-length before p.row)
+IsPut-length old before after id n p = subst (λ (u : Rows). length u.rows ≤ length before.rows + 1) (sym p.put_there) (with_row_once-length before p.row)
 
 pub IsPut-AllStarts : (old before after : Rows) (starts : List ℕ) (id n : ℕ) → IsPut old before after id n → AllStarts before starts → LeadsToStart after n (length starts) → AllStarts after (starts ++ n ∷ [])
 IsPut-AllStarts old before after starts id n p all named =
@@ -155,21 +157,21 @@ pub keeps_row :
     → IsPut old before after id n → ((q : Powerset) → Names old id q → Names after n q)
     → ((q : Powerset) → id_of old q ≡ None → id_of before q ≡ None → id_of after q ≡ None)
     → KeepsSlot old id (record { table = before; starts = starts }) (record { table = after; starts = slots })
-keeps_row old before after starts slots id n below low push of all leads put names absent =
+keeps_row old before after starts slots id n below low push of all leads with_row_once names absent =
     subst (λ (xs : List ℕ). KeepsSlot old id (record { table = before; starts = starts }) (record { table = after; starts = xs })) (sym push)
     (record {
-      value = sym (kept_row old before after starts id n put below);
-      named = IsPut-AllStarts old before after starts id n put all there;
-      few = IsPut-length old before after id n put;
+      value = sym (kept_row old before after starts id n with_row_once below);
+      named = IsPut-AllStarts old before after starts id n with_row_once all there;
+      few = IsPut-length old before after id n with_row_once;
       slots = length-append starts (n ∷ []);
       front = λ slot l. get_or_append_left starts (n ∷ []) 0 slot l;
       known = λ _. subst (λ k. k < 2 ^ 31) (sym (last_pushed starts n)) (omega (arith, small));
       absent = absent;
-      of = IsPut-of old before after id n put;
+      of = IsPut-of old before after id n with_row_once;
     })
   where
     same : after.of ≡ old.of
-    same = IsPut-of old before after id n put ∙ of
+    same = IsPut-of old before after id n with_row_once ∙ of
 
     start : IsSlot old (length starts) id → LeadsToStart after n (length starts)
     start (inl e) = absurd (omega (arith, e, below))
@@ -185,4 +187,4 @@ keeps_row old before after starts slots id n below low push of all leads put nam
     there = start leads
 
     small : n < 2 ^ 29
-    small = low n _ put.named
+    small = low n _ with_row_once.named

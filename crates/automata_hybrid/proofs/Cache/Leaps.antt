@@ -11,13 +11,14 @@ use Rattle.std.specs.Global.{Box}
 use Rattle.automata_base.specs.Nfas.Nodes.{Automaton}
 use Rattle.automata_base.specs.Powersets.Accounting.{cell_size, entry_size, fixed_rows_cost, minimum_capacity, row_size}
 use Rattle.automata_hybrid.specs.Cache.Ids.{offset_limit, unknown_id}
-use Rattle.automata_hybrid.specs.Cache.Leaps.{AreCacheParts, AreLeaps, AreSteps, IsLevel, IsLevelCell, IsStepOf, LeadsTo, LeapsTo}
-use Rattle.automata_hybrid.specs.Cache.Leaps.{Reaches, first_cell, leaps_bytes, mark}
+use Rattle.automata_hybrid.specs.Private.Cache.Leaps.{AreCacheParts, AreLeaps, AreLeapSteps, IsLevel, IsLevelCell, IsLeapStep, LeadsToRow, LeapsTo}
+use Rattle.automata_hybrid.specs.Private.Cache.Leaps.{ReachesRow, first_cell, leaps_bytes, mark}
 use Rattle.automata_hybrid.specs.Cache.Stores.{Stored, with_next, with_start}
 use Rattle.automata_hybrid.specs.Cache.Clears.{AllStarts, IsSlot, LeadsToStart}
 use Rattle.automata_base.proofs.Paths.Orders.{some_inj}
-use Rattle.automata_hybrid.specs.Cache.Table.{AreRows, Rows, cell_at, row_cost, with_cell}
-use Rattle.automata_hybrid.specs.Cache.Usage.{IsCache, usage}
+use Rattle.automata_hybrid.specs.Cache.Table.{RowsFitCells, Rows, cell_at, row_cost, with_cell}
+use Rattle.automata_hybrid.specs.Cache.Usage.{usage}
+use Rattle.automata_hybrid.specs.Private.Cache.Usage.{IsCache}
 use Rattle.automata_hybrid.specs.declared.dfa.settings.Settings.{Settings}
 use Rattle.automata_hybrid.specs.Machines.Machine.{Machine}
 use Rattle.automata_hybrid.specs.declared.dfa.leaps.Leaps.{Leaps}
@@ -60,7 +61,7 @@ level_fits rows n count many few short =
     omega (arith, c, d, many)
 
 -- rows have offsets below the limit
-pub row_low : (t : Rows) (k : ℕ) → AreRows t → k < length t.rows → (k + 3) * t.of.stride < 2 ^ 27
+pub row_low : (t : Rows) (k : ℕ) → RowsFitCells t → k < length t.rows → (k + 3) * t.of.stride < 2 ^ 27
 row_low t k rows known =
     let l : (k + 4) * t.of.stride ≤ (length t.rows + 3) * t.of.stride = mul-le-mul_right t.of.stride (omega (arith, known)) in
     let e : (k + 4) * t.of.stride ≡ (k + 3) * t.of.stride + t.of.stride = omega arith in
@@ -69,45 +70,45 @@ row_low t k rows known =
 module _ (t : Rows) (n : ℕ) where
   -- a step on a class of a row
   step_at :
-      (row class to : ℕ) → class < n → row < length t.rows → to ≤ length t.rows → (to < length t.rows → LeadsTo t row class to)
-      → IsStepOf t n (row * n + class) to
+      (row class to : ℕ) → class < n → row < length t.rows → to ≤ length t.rows → (to < length t.rows → LeadsToRow t row class to)
+      → IsLeapStep t n (row * n + class) to
   step_at row class to below known upto leads = record {
     upto = upto;
     from = λ _. subst (λ r. r < length t.rows) (sym (div-mul-add row n class below)) known;
-    leads = λ l. subst (λ r. LeadsTo t r ((row * n + class) % n) to) (sym (div-mul-add row n class below))
-        (subst (λ c. LeadsTo t row c to) (sym (mod-mul-add row n class below)) (leads l));
+    leads = λ l. subst (λ r. LeadsToRow t r ((row * n + class) % n) to) (sym (div-mul-add row n class below))
+        (subst (λ c. LeadsToRow t row c to) (sym (mod-mul-add row n class below)) (leads l));
   }
 
   -- one step more
   pub steps_more :
       (steps : List ℕ) (row class to : ℕ) → length steps ≡ row * n + class → class < n → row < length t.rows → to ≤ length t.rows
-      → (to < length t.rows → LeadsTo t row class to) → AreSteps t n steps → AreSteps t n (steps ++ to ∷ [])
+      → (to < length t.rows → LeadsToRow t row class to) → AreLeapSteps t n steps → AreLeapSteps t n (steps ++ to ∷ [])
   steps_more steps row class to long below known upto leads are place l = go (cases_lt place (length steps)) where
-    go : (place < length steps) ⊎ (length steps ≤ place) → IsStepOf t n place (slice_index (steps ++ to ∷ []) place)
-    go (inl old) = subst (IsStepOf t n place) (sym (get_or_append_left steps (to ∷ []) 0 place old)) (are place old)
+    go : (place < length steps) ⊎ (length steps ≤ place) → IsLeapStep t n place (slice_index (steps ++ to ∷ []) place)
+    go (inl old) = subst (IsLeapStep t n place) (sym (get_or_append_left steps (to ∷ []) 0 place old)) (are place old)
     go (inr new) =
         let here : length steps ≡ place = omega (arith, new, l, length-append steps (to ∷ [])) in
-        subst (λ v. IsStepOf t n place v) (sym (get_or_push steps to 0 place here))
-        (subst (λ p. IsStepOf t n p to) (sym long ∙ here) (step_at row class to below known upto leads))
+        subst (λ v. IsLeapStep t n place v) (sym (get_or_push steps to 0 place here))
+        (subst (λ p. IsLeapStep t n p to) (sym long ∙ here) (step_at row class to below known upto leads))
 
   -- steps from none lead to none
   pub steps_none :
       (steps all : List ℕ) → ((k : ℕ) → k < length steps → slice_index all k ≡ slice_index steps k)
       → ((k : ℕ) → length steps ≤ k → k < length all → slice_index all k ≡ length t.rows)
-      → AreSteps t n steps → AreSteps t n all
+      → AreLeapSteps t n steps → AreLeapSteps t n all
   steps_none steps all below above are place l = go (cases_lt place (length steps)) where
-    go : (place < length steps) ⊎ (length steps ≤ place) → IsStepOf t n place (slice_index all place)
-    go (inl old) = subst (IsStepOf t n place) (sym (below place old)) (are place old)
-    go (inr new) = subst (IsStepOf t n place) (sym (above place new l)) (record {
+    go : (place < length steps) ⊎ (length steps ≤ place) → IsLeapStep t n place (slice_index all place)
+    go (inl old) = subst (IsLeapStep t n place) (sym (below place old)) (are place old)
+    go (inr new) = subst (IsLeapStep t n place) (sym (above place new l)) (record {
       upto = omega arith;
       from = λ none. absurd (omega (arith, none));
       leads = λ none. absurd (omega (arith, none));
     })
 
   -- the steps from each row are the level of one class
-  pub level_one : (steps level : List ℕ) → length level ≤ length steps → ((k : ℕ) → k < length level → slice_index level k ≡ slice_index steps k) → AreSteps t n steps → IsLevel t n (suc zero) level
+  pub level_one : (steps level : List ℕ) → length level ≤ length steps → ((k : ℕ) → k < length level → slice_index level k ≡ slice_index steps k) → AreLeapSteps t n steps → IsLevel t n (suc zero) level
   level_one steps level within same are place l =
-      let step : IsStepOf t n place (slice_index level place) = subst (IsStepOf t n place) (sym (same place l)) (are place (omega (arith, l, within))) in
+      let step : IsLeapStep t n place (slice_index level place) = subst (IsLeapStep t n place) (sym (same place l)) (are place (omega (arith, l, within))) in
       record { upto = step.upto; reaches = λ known. (place / n, refl, step.leads known) }
 
   -- a level of one class more, after so many places of the one before
@@ -116,7 +117,7 @@ module _ (t : Rows) (n : ℕ) where
       → length next ≡ i * n → length more ≡ length next + n
       → ((k : ℕ) → k < length next → slice_index more k ≡ slice_index next k)
       → ((class : ℕ) → class < n → slice_index more (length next + class) ≡ slice_index steps (slice_index level i * n + class))
-      → AreSteps t n steps → IsLevel t n count level → IsLevel t n (suc count) next → IsLevel t n (suc count) more
+      → AreLeapSteps t n steps → IsLevel t n count level → IsLevel t n (suc count) next → IsLevel t n (suc count) more
   level_more count level steps next more i long within at longer below above are before now place l = go (cases_lt place (length next)) where
     go : (place < length next) ⊎ (length next ≤ place) → IsLevelCell t n (suc count) place (slice_index more place)
     go (inl old) = subst (IsLevelCell t n (suc count) place) (sym (below place old)) (now place old)
@@ -139,7 +140,7 @@ module _ (t : Rows) (n : ℕ) where
       value : slice_index more place ≡ slice_index steps (row * n + class)
       value = ap (slice_index more) (sym here) ∙ above class low
 
-      step : IsStepOf t n (row * n + class) (slice_index steps (row * n + class))
+      step : IsLeapStep t n (row * n + class) (slice_index steps (row * n + class))
       step = are (row * n + class) (
           let l : row * n + class < suc (length t.rows) * n = place_below (suc (length t.rows)) n row class low (omega (arith, from.upto)) in
           let e : suc (length t.rows) ≡ length t.rows + 1 = omega arith in
@@ -159,11 +160,11 @@ module _ (t : Rows) (n : ℕ) where
         upto = step.upto;
         reaches = λ known. (
           row,
-          subst (λ k. Reaches t n count k row) (sym before_here)
+          subst (λ k. ReachesRow t n count k row) (sym before_here)
               (from.reaches (subst (λ k. k < length t.rows) (div-mul-add row n class low) (step.from known))),
-          subst (λ k. LeadsTo t row k to) (sym class_here)
-              (subst (λ k. LeadsTo t row k to) (mod-mul-add row n class low)
-              (subst (λ k. LeadsTo t k ((row * n + class) % n) to) (div-mul-add row n class low) (step.leads known))),
+          subst (λ k. LeadsToRow t row k to) (sym class_here)
+              (subst (λ k. LeadsToRow t row k to) (mod-mul-add row n class low)
+              (subst (λ k. LeadsToRow t k ((row * n + class) % n) to) (div-mul-add row n class low) (step.leads known))),
         );
       }
 
@@ -172,7 +173,7 @@ module _ (t : Rows) (n : ℕ) where
       (count : ℕ) (level steps next more piece : List ℕ) (i : ℕ) → length steps ≡ (length t.rows + 1) * n → i < length level
       → length next ≡ i * n → more ≡ next ++ piece → length piece ≡ n
       → ((class : ℕ) → class < n → slice_index piece class ≡ slice_index steps (slice_index level i * n + class))
-      → AreSteps t n steps → IsLevel t n count level → IsLevel t n (suc count) next → IsLevel t n (suc count) more
+      → AreLeapSteps t n steps → IsLevel t n count level → IsLevel t n (suc count) next → IsLevel t n (suc count) more
   level_append count level steps next more piece i long within at «is» wide same are before now =
       subst (IsLevel t n (suc count)) (sym «is»)
       (level_more count level steps next (next ++ piece) i long within at (length-append next piece ∙ ap (λ k. length next + k) wide)
@@ -180,7 +181,7 @@ module _ (t : Rows) (n : ℕ) where
 
 -- leaps stay those of the table, if a cell is written that was unknown
 module _ (t : Rows) (id class next : ℕ) (unknown : unknown_id ≤ slice_index t.cells (cell_at id class)) where
-  leads_kept : (row c to : ℕ) → LeadsTo t row c to → LeadsTo (with_cell t id class next) row c to
+  leads_kept : (row c to : ℕ) → LeadsToRow t row c to → LeadsToRow (with_cell t id class next) row c to
   leads_kept row c to leads = record {
     cell = get_or-set_other t.cells (cell_at id class) ((row + 3) * t.of.stride + c) next 0 other ∙ leads.cell;
     untagged = leads.untagged;
@@ -190,7 +191,7 @@ module _ (t : Rows) (id class next : ℕ) (unknown : unknown_id ≤ slice_index 
         let here : slice_index t.cells (cell_at id class) ≡ (to + 3) * t.of.stride = ap (slice_index t.cells) (sym same) ∙ leads.cell in
         absurd (omega (arith, here, leads.untagged, unknown))
 
-  reaches_kept : (n count place to : ℕ) → Reaches t n count place to → Reaches (with_cell t id class next) n count place to
+  reaches_kept : (n count place to : ℕ) → ReachesRow t n count place to → ReachesRow (with_cell t id class next) n count place to
   reaches_kept n zero place to same = same
   reaches_kept n (suc count) place to (row, before, leads) =
       (row, reaches_kept n count (place / n) row before, leads_kept row (place % n) to leads)

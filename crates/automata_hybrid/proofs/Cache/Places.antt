@@ -11,11 +11,13 @@ use Rattle.automata_base.specs.Powersets.Powerset.{Powerset, cost, dead}
 use Rattle.automata_base.specs.Powersets.Equal.{powerset_eq, powerset_eq-Decides}
 use Rattle.automata_hybrid.specs.Machines.Reachable.{IsStateOf}
 use Rattle.automata_hybrid.specs.declared.dfa.row.Row.{Row}
-use Rattle.automata_hybrid.specs.Cache.Ids.{HasOnly, tags}
+use Rattle.automata_hybrid.specs.Cache.Ids.{tags}
+use Rattle.automata_hybrid.specs.Private.Cache.Ids.{HasOnly}
 use Rattle.std.specs.List.{sum_by}
 use Rattle.std.proofs.lemmas.List.Sums.{sum_by-cons}
 use Rattle.automata_hybrid.specs.Cache.Table.{Rows, has_patterns, find_id, Names, IsRowId, IsCell, row_id, LeadsByClass}
-use Rattle.automata_hybrid.specs.Cache.Table.{with_cell, cell_at, AreRows, IsStepped, HasState}
+use Rattle.automata_hybrid.specs.Cache.Table.{with_cell, cell_at, RowsFitCells, IsStepped}
+use Rattle.automata_hybrid.specs.Private.Cache.Table.{HasState}
 use Rattle.automata_hybrid.specs.Cache.Table.{row_cost}
 use Rattle.automata_hybrid.proofs.Cache.Rows.{inside}
 use Rattle.automata_base.proofs.Paths.Orders.{some_inj}
@@ -64,7 +66,7 @@ pub record Placed (t : Rows) (id : ℕ) (q : Powerset) : Type 0 where
   pub low : id < 2 ^ 29
   pub same : id ≡ row_id (id % 2 ^ 27) row
 
-pub Names-Placed : (t : Rows) (id : ℕ) (q : Powerset) → AreRows t → Names t id q → Placed t id q
+pub Names-Placed : (t : Rows) (id : ℕ) (q : Powerset) → RowsFitCells t → Names t id q → Placed t id q
 Names-Placed t id q i h =
     let f = find_id-Found t.of.stride (3 * t.of.stride) q t.rows id h in
     let low : (f.place + 3) * t.of.stride < 2 ^ 27 = (i.ids f.place f.row f.has).1 in
@@ -82,7 +84,7 @@ Names-Placed t id q i h =
       same = f.«is» ∙ ap (λ n. row_id n f.row) (at ∙ sym offset);
     }
 
-pub Placed-cell : (t : Rows) (id class : ℕ) (q : Powerset) → AreRows t → Placed t id q → class < t.of.stride → cell_at id class < length t.cells
+pub Placed-cell : (t : Rows) (id class : ℕ) (q : Powerset) → RowsFitCells t → Placed t id q → class < t.of.stride → cell_at id class < length t.cells
 Placed-cell t id class q i p l = rw (p.offset, i.whole) (inside p.place (length t.rows) t.of.stride class p.within l)
 
 pub Placed-place : (t : Rows) (id : ℕ) (q : Powerset) → 0 < t.of.stride → (p : Placed t id q) → (id % 2 ^ 27) / t.of.stride ≡ p.place + 3
@@ -95,7 +97,7 @@ Placed-HasState t id k q positive p e =
     let same : k ≡ p.place = omega (arith, Placed-place t id q positive p, e) in
     (p.row, subst (λ n. slice_get t.rows n ≡ Some p.row) (sym same) p.has, p.state)
 
-pub Placed-IsCell : (t : Rows) (id class : ℕ) (q : Powerset) → AreRows t → Placed t id q → class < t.of.stride → IsCell t q class (get_or t.cells (cell_at id class) 0)
+pub Placed-IsCell : (t : Rows) (id class : ℕ) (q : Powerset) → RowsFitCells t → Placed t id q → class < t.of.stride → IsCell t q class (get_or t.cells (cell_at id class) 0)
 Placed-IsCell t id class q i p l =
     subst (λ n. IsCell t q class (get_or t.cells (n + class) 0)) (sym p.offset) (subst (λ w. IsCell t w class (get_or t.cells ((p.place + 3) * t.of.stride + class) 0)) p.state (i.stepped p.place class p.row p.has l))
 
@@ -107,8 +109,8 @@ one_cell a b c d s l m e =
     (f, g)
 
 -- a cell that is written with what names the next state
-pub AreRows-with_cell : (t : Rows) (id class next : ℕ) (q : Powerset) → AreRows t → Names t id q → class < t.of.stride → get_or t.of.template class 0 ≡ 2 ^ 31 → LeadsByClass t next q class → AreRows (with_cell t id class next)
-AreRows-with_cell t id class next q i h l free leads =
+pub RowsFitCells-with_cell : (t : Rows) (id class next : ℕ) (q : Powerset) → RowsFitCells t → Names t id q → class < t.of.stride → get_or t.of.template class 0 ≡ 2 ^ 31 → LeadsByClass t next q class → RowsFitCells (with_cell t id class next)
+RowsFitCells-with_cell t id class next q i h l free leads =
     let p = Names-Placed t id q i h in
     let far : 3 * t.of.stride ≤ cell_at id class = omega (arith, p.offset, mul-le-mul_right t.of.stride (le3 p.place)) in
     record {
@@ -145,13 +147,13 @@ costs_le (r ∷ rs) m all =
     let f : sum_by row_cost (r ∷ rs) ≡ cost r.state + sum_by row_cost rs = sum_by-cons row_cost r rs in
     omega (arith, one, more, e, f)
 
-pub AreRows-costs : (t : Rows) → AreRows t → sum_by row_cost t.rows ≤ length t.rows * t.of.greatest
-AreRows-costs t i = costs_le t.rows t.of.greatest (λ k r h. (i.states k r h).cheap)
+pub RowsFitCells-costs : (t : Rows) → RowsFitCells t → sum_by row_cost t.rows ≤ length t.rows * t.of.greatest
+RowsFitCells-costs t i = costs_le t.rows t.of.greatest (λ k r h. (i.states k r h).cheap)
 
 -- an ID at a row's offset, with that row's tags, is the row's
 pub placed_valid :
     (t : Rows) (id index : ℕ) (r : Row)
-    → AreRows t → 3 ≤ index → slice_get t.rows (index - 3) ≡ Some r → index * t.of.stride ≡ id % 2 ^ 27 → id ≡ row_id (id % 2 ^ 27) r
+    → RowsFitCells t → 3 ≤ index → slice_get t.rows (index - 3) ≡ Some r → index * t.of.stride ≡ id % 2 ^ 27 → id ≡ row_id (id % 2 ^ 27) r
     → IsRowId t id
 placed_valid t id index r i three has at same =
     let place : index - 3 + 3 ≡ index = omega (arith, three) in
@@ -168,7 +170,7 @@ pub record IsAtRow (t : Rows) (id index : ℕ) : Type 0 where
   pub same : id ≡ row_id (id % 2 ^ 27) row
 
 pub valid_at :
-    (t : Rows) (id : ℕ) → AreRows t → 0 < t.of.stride → IsRowId t id → IsAtRow t id ((id % 2 ^ 27) / t.of.stride)
+    (t : Rows) (id : ℕ) → RowsFitCells t → 0 < t.of.stride → IsRowId t id → IsAtRow t id ((id % 2 ^ 27) / t.of.stride)
 valid_at t id i positive v =
     let p = Names-Placed t id v.0 i v.1 in
     let index : (id % 2 ^ 27) / t.of.stride ≡ p.place + 3 = Placed-place t id v.0 positive p in
@@ -207,7 +209,7 @@ match_tagged id only =
     let i = bit_of 27 (id - 2 ^ 27) 1 id (omega (arith, only.from, only.below)) (omega (arith, only.from)) in
     i.1 refl
 
-pub Names-tagged : (t : Rows) (id : ℕ) (q : Powerset) → AreRows t → Names t id q → IsBitSet id 27 ↔ (0 < length q.patterns)
+pub Names-tagged : (t : Rows) (id : ℕ) (q : Powerset) → RowsFitCells t → Names t id q → IsBitSet id 27 ↔ (0 < length q.patterns)
 Names-tagged t id q i h =
     let p = Names-Placed t id q i h in
     let low : id % 2 ^ 27 < 2 ^ 27 = subst (λ n. n < 2 ^ 27) (sym p.offset) (i.ids p.place p.row p.has).1 in
@@ -232,12 +234,12 @@ Names-silent t id q h l =
       heavy a false x e l = cc
 
 -- no row has the dead state
-pub Names-alive : (t : Rows) (id : ℕ) (q : Powerset) → AreRows t → Names t id q → q ≡ dead → ⊥
+pub Names-alive : (t : Rows) (id : ℕ) (q : Powerset) → RowsFitCells t → Names t id q → q ≡ dead → ⊥
 Names-alive t id q i h d =
     let p = Names-Placed t id q i h in (i.states p.place p.row p.has).alive (p.state ∙ d)
 
 -- the states of rows are the DFA's
-pub Names-own : (t : Rows) (id : ℕ) (q : Powerset) → AreRows t → Names t id q → IsStateOf t.of q
+pub Names-own : (t : Rows) (id : ℕ) (q : Powerset) → RowsFitCells t → Names t id q → IsStateOf t.of q
 Names-own t id q i h =
     let p = Names-Placed t id q i h in
     subst (IsStateOf t.of) p.state (i.states p.place p.row p.has).own

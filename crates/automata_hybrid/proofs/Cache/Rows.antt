@@ -14,9 +14,10 @@ use Rattle.automata_hybrid.specs.Machines.Reachable.{IsStateOf}
 use Rattle.automata_hybrid.specs.declared.dfa.row.Row.{Row}
 use Rattle.automata_base.specs.Powersets.Powerset.{dead}
 use Rattle.automata_hybrid.specs.Cache.Ids.{quit_id}
-use Rattle.automata_hybrid.specs.Machines.Machine.{IsTemplate}
+use Rattle.automata_hybrid.specs.Private.Machines.Machine.{IsTemplate}
 use Rattle.automata_hybrid.specs.Cache.Table.{Rows, find_id, id_of, Names, Leads, IsCell, row_id, row_cost, with_row}
-use Rattle.automata_hybrid.specs.Cache.Table.{AreRows, IsHeld, IsRowState, IsStepped, StateMap}
+use Rattle.automata_hybrid.specs.Cache.Table.{RowsFitCells, IsRowState, IsStepped}
+use Rattle.automata_hybrid.specs.Private.Cache.Table.{IsHeld, StateMap}
 
 -- a state that rows have keeps its ID when more come
 find_id-more : (s at : ℕ) (q : Powerset) (rs ys : List Row) (id : ℕ) → find_id s at q rs ≡ Some id → find_id s at q (rs ++ ys) ≡ Some id
@@ -90,10 +91,10 @@ stepped-with_row t r template whole old k class x h l = go (at_push t.rows r k x
         new (inr u) = inr (u, inl u)
 
 -- a new row, after which the rows still fit together
-pub AreRows-with_row :
-    (t : Rows) (r : Row) → AreRows t → IsTemplate t.of.stride t.of.template → id_of t r.state ≡ None → (r.state ≡ dead → ⊥) → cost r.state ≤ t.of.greatest → IsStateOf t.of r.state → length t.cells < 2 ^ 27
-    → AreRows (with_row t r)
-AreRows-with_row t r i template none live cheap of fits =
+pub RowsFitCells-with_row :
+    (t : Rows) (r : Row) → RowsFitCells t → IsTemplate t.of.stride t.of.template → id_of t r.state ≡ None → (r.state ≡ dead → ⊥) → cost r.state ≤ t.of.greatest → IsStateOf t.of r.state → length t.cells < 2 ^ 27
+    → RowsFitCells (with_row t r)
+RowsFitCells-with_row t r i template none live cheap of fits =
     let more : length (t.cells ++ t.of.template) ≡ length t.cells + t.of.stride = length-append t.cells t.of.template ∙ ap (λ k. length t.cells + k) template.whole in
     let one : length (t.rows ++ r ∷ []) ≡ length t.rows + 1 = length-append t.rows (r ∷ []) in
     let few : 3 * t.of.stride ≤ length t.cells = rw i.whole (grind arith) in
@@ -122,7 +123,7 @@ pub IsHeld-with_row :
     (t : Rows) (r : Row) (s : ℕ) (row : List ℕ) (m n : StateMap) (costs : ℕ) → IsHeld t s row m costs → id_of t r.state ≡ None → (r.state ≡ dead → ⊥) → cost r.state ≤ t.of.greatest → IsStateOf t.of r.state → length t.cells < 2 ^ 27
     → ((p : Powerset) → get powerset_eq n p ≡ cond (powerset_eq r.state p) (Some (row_id (length t.cells) r)) (get powerset_eq m p)) → IsHeld (with_row t r) s row n (costs + cost r.state)
 IsHeld-with_row t r s row m n costs i none live cheap of fits new = record {
-  rows = AreRows-with_row t r i.rows i.cells none live cheap of fits;
+  rows = RowsFitCells-with_row t r i.rows i.cells none live cheap of fits;
   cells = i.cells;
   stride = i.stride;
   template = i.template;

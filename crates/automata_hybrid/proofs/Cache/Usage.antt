@@ -14,8 +14,10 @@ use Rattle.automata_hybrid.specs.declared.dfa.settings.Settings.{Settings}
 use Rattle.automata_hybrid.specs.declared.dfa.progress.Searched.{Searched}
 use Rattle.automata_hybrid.specs.Cache.Table.{Rows, Leads, Names, row_cost, with_row, fixed_rows}
 use Rattle.automata_hybrid.specs.Cache.Clears.{AllStarts}
-use Rattle.automata_hybrid.specs.Cache.Stores.{Stored, with_table, fresh_store, settings_of}
-use Rattle.automata_hybrid.specs.Cache.Usage.{IsCache, usage, Fits}
+use Rattle.automata_hybrid.specs.Cache.Stores.{Stored, with_table, fresh_store}
+use Rattle.automata_hybrid.specs.Private.Cache.Stores.{cache_settings}
+use Rattle.automata_hybrid.specs.Cache.Usage.{usage, Fits}
+use Rattle.automata_hybrid.specs.Private.Cache.Usage.{IsCache}
 
 -- in a cache with so few rows a new state fits
 pub few_fits : (n cells most stride slots sum fixed capacity extra : ℕ) → n ≤ slots + 1 → cells ≡ (n + 3) * stride → sum ≤ n * most → minimum_capacity stride slots most fixed ≤ capacity → extra ≤ most
@@ -91,7 +93,7 @@ unknown_at n slot id h =
     let within : slot < n = subst (λ m. slot < m) (length-replicate n (2 ^ 31)) (slice_get_within (replicate n (2 ^ 31)) slot id h) in
     sym (get_or_from_slice_get (replicate n (2 ^ 31)) slot id 0 h) ∙ get_or-replicate n slot (2 ^ 31) 0 within
 
-pub IsCache-fresh : (m : Machine) (settings : Settings) → settings ≡ settings_of m → minimum_capacity m.stride m.slots m.greatest m.fixed ≤ m.capacity → (m.slots + 4) * m.stride < 2 ^ 27 → m.capacity < 2 ^ 64 → IsCache (fresh_store m) settings
+pub IsCache-fresh : (m : Machine) (settings : Settings) → settings ≡ cache_settings m → minimum_capacity m.stride m.slots m.greatest m.fixed ≤ m.capacity → (m.slots + 4) * m.stride < 2 ^ 27 → m.capacity < 2 ^ 64 → IsCache (fresh_store m) settings
 IsCache-fresh m settings same enough offsets bounded =
     let n : length (replicate m.slots (2 ^ 31)) ≡ m.slots = length-replicate m.slots (2 ^ 31) in
     let a : length (replicate m.stride (2 ^ 31)) ≡ m.stride = length-replicate m.stride (2 ^ 31) in

@@ -13,7 +13,7 @@ use Rattle.automata_hybrid.specs.Cache.Changes.{IsComputed, IsStarted, IsStateAd
 use Rattle.automata_hybrid.specs.Cache.Growth.{ClearedNothing, IsGrown, Keeps}
 use Rattle.automata_hybrid.specs.Cache.Ids.{unknown_id}
 use Rattle.automata_hybrid.specs.Cache.Stores.{IsKnownTransition, IsSoundStore, Stored, with_searched, IsKnownStart}
-use Rattle.automata_hybrid.specs.Cache.Table.{AreRows, HasRowIds, IsKnownState, Lacks, Leads, Names, Rows, TagsNewStates, id_of, row_id}
+use Rattle.automata_hybrid.specs.Cache.Table.{RowsFitCells, HasRowIds, IsKnownState, Lacks, Leads, Names, Rows, TagsNewStates, id_of, row_id}
 use Rattle.automata_hybrid.specs.Cache.Usage.{cleared}
 use Rattle.automata_hybrid.specs.Calls.Events.{Does, Event, Fails, IsCached, IsStepLeft, MakesStart, MakesStep, Start, Step}
 use Rattle.automata_hybrid.specs.declared.dfa.progress.Searched.{Searched}
@@ -44,7 +44,7 @@ pub record Follows (m : Machine) (e : Event) (old new : CacheView) : Type 0 wher
   pub sound : IsStoreOf new.store m
 
 -- the state of a row costs no more than a state may
-row_cheap : (t : Rows) (id : ℕ) (q : Powerset) → AreRows t → Names t id q → cost q ≤ t.of.greatest
+row_cheap : (t : Rows) (id : ℕ) (q : Powerset) → RowsFitCells t → Names t id q → cost q ≤ t.of.greatest
 row_cheap t id q rows named =
     let p : Placed t id q = Names-Placed t id q rows named in
     subst (λ (s : Powerset). cost s ≤ t.of.greatest) p.state (rows.states p.place p.row p.has).cheap

@@ -16,7 +16,8 @@ use Rattle.automata_config.specs.Settling.{IsSettled, settled_minimum, greatest_
 use Rattle.automata_base.specs.Powersets.Passes.{IsUnit}
 use Rattle.automata_hybrid.specs.Cache.Ids.{quit_id}
 use Rattle.automata_hybrid.specs.Machines.OwnStates.{IsOwn}
-use Rattle.automata_hybrid.specs.Machines.Machine.{IsMachine, IsSized, Machine, marked, unit_class}
+use Rattle.automata_hybrid.specs.Machines.Machine.{IsSized, Machine, marked, unit_class}
+use Rattle.automata_hybrid.specs.Private.Machines.Machine.{IsMachine}
 use Rattle.automata_base.proofs.ByteClasses.Boundaries.{count_grows}
 
 count_up_to : (f : ℕ → Bool) (n m : ℕ) → n ≤ m → boundary_count f n ≤ boundary_count f m

@@ -11,7 +11,7 @@ use Rattle.automata_hybrid.specs.Cache.Growth.{IsGrown, Keeps}
 use Rattle.automata_hybrid.specs.Searches.Cached.{Knows, KnowsItsStart, KnowsPass, KnowsUnit}
 use Rattle.automata_hybrid.specs.Machines.Machine.{unit_class}
 use Rattle.automata_hybrid.specs.Machines.Machine.{Machine}
-use Rattle.automata_hybrid.specs.Searches.PassState.{HasLearnedUnit}
+use Rattle.automata_hybrid.specs.Private.Searches.PassState.{HasLearnedUnit}
 use Rattle.automata_hybrid.specs.Searches.Passes.{Finds, Reads, Skips, state_in, tape_in}
 use Rattle.automata_hybrid.specs.Cache.Table.{Names}
 use Rattle.std.proofs.lemmas.Bool.{cases_lt}

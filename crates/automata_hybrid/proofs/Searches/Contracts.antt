@@ -11,7 +11,7 @@ use Rattle.automata_hybrid.specs.Cache.Stores.{Stored}
 use Rattle.automata_hybrid.specs.Cache.Caches.{IsStoreOf}
 use Rattle.automata_hybrid.specs.Machines.Machine.{Machine}
 use Rattle.automata_hybrid.specs.Searches.Contracts.{IsBased, IsHalf, based_half}
-use Rattle.automata_hybrid.specs.Searches.Contracts.{halves}
+use Rattle.automata_hybrid.specs.Private.Searches.Contracts.{halves}
 use Rattle.automata_hybrid.specs.Searches.Passes.{WithoutBase, with_base}
 use Rattle.automata_hybrid.proofs.Cases.{same_err}
 

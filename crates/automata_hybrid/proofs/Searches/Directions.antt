@@ -15,7 +15,7 @@ use Rattle.automata_base.specs.declared.util.search.Direction.TheVariants.{Forwa
 use Rattle.automata_base.proofs.Paths.Orders.{some_inj}
 use Rattle.automata_hybrid.specs.Machines.Machine.{Machine}
 use Rattle.automata_hybrid.specs.Searches.Passes.{given_up_offset, state_in, tape_in, unit_offset}
-use Rattle.automata_hybrid.specs.Searches.SelfLoops.{byte_in}
+use Rattle.automata_hybrid.specs.Private.Searches.SelfLoops.{byte_in}
 use Rattle.automata_hybrid.specs.Cache.Table.{Rows, Leads, Names}
 use Rattle.automata_hybrid.proofs.Searches.PassState.{state_first}
 use Rattle.automata_hybrid.proofs.Steps.Ids.{dead_tagged}

@@ -26,11 +26,12 @@ use Rattle.automata_hybrid.specs.Machines.Machine.{Machine}
 use Rattle.automata_hybrid.specs.Searches.Cached.{IsOfInput, Knows, KnowsItsStart, KnowsPass, KnowsUnit}
 use Rattle.automata_hybrid.specs.Searches.Follows.{IsCostOfPass, IsCostOfPasses, IsCostOfSearch, passes_most}
 use Rattle.automata_hybrid.specs.Searches.Follows.{SearchFollows, SearchesFollow}
-use Rattle.automata_hybrid.specs.Searches.PassState.{HasLearnedUnit}
+use Rattle.automata_hybrid.specs.Private.Searches.PassState.{HasLearnedUnit}
 use Rattle.automata_hybrid.specs.Searches.Passes.{Finds, IsPassError, IsSearchError, IsUnitError, Reads, Skips, given_up_offset, state_in, tape_in}
 use Rattle.automata_hybrid.specs.Searches.Progress.{Goes, HasItsStart, IsStoppedAt, IsUnitRead, PassEnds, HasNoStart, PassesEnd, HaveTried, PassFails}
 use Rattle.automata_hybrid.specs.Searches.Progress.{IsSearchRun, SearchEnds, SearchFails, TriesSpan, TriesSpans}
 use Rattle.automata_hybrid.specs.Searches.Progress.{start_event, unit_event, with_search_begun}
+use Rattle.automata_hybrid.specs.Searches.Traces.{pass_trace}
 use Rattle.automata_hybrid.specs.Cache.Progress.{progress_finished, progress_updated}
 use Rattle.automata_hybrid.specs.Steps.Starts.{IsStartError, IsStartErrorAt, MayStart, start_search_error}
 use Rattle.automata_hybrid.specs.Machines.Machine.{quits_on, unit_class}
@@ -76,10 +77,10 @@ unit_idle way m input old new grown same j knows = subst (λ (c : Stored). Knows
 -- one more
 module _ (way : Direction) (m : Machine) (input : Input) (from n : ℕ) (old mid new : CacheView) (f : GoesFollow way m input from n old mid)
     (here : IsUnitRead way m input (from + n) mid new) where
-  g : Follows m (unit_event way m input (from + n)) mid new
+  g : Follows m (unit_event (pass_trace way m input) way input (from + n)) mid new
   g =
       follows_one m mid (progress_updated mid.store.searched (given_up_offset way input (from + n))) new f.sound
-      (unit_event way m input (from + n)) here
+      (unit_event (pass_trace way m input) way input (from + n)) here
 
   -- the last one or one before it
   at : (j : ℕ) → from ≤ j → j < from + suc n → (P : ℕ → Type 0) → (j < from + n → P j) → P (from + n) → P j

@@ -1,65 +1,72 @@
 -- Units that are read one after another, and the end of a pass after them.
-use Rattle.std.proofs.Common.{ℕ, zero, suc, ◌≡◌, ◌∙◌, ◌+◌, ◌-◌, ◌<◌, ◌≤◌, ◌⊎◌, false, Option, inl, inr, refl, sym, ap, subst, arith}
+use Rattle.std.proofs.Common.{ℕ, zero, suc, ◌≡◌, ◌∙◌, ◌+◌, ◌-◌, ◌<◌, ◌≤◌, ◌⊎◌, Option, inl, inr, refl, sym, ap, subst, arith}
 use Rattle.std.proofs.Common.{eq-or-lt_of_le}
 use Rattle.automata_base.specs.Haystacks.Input.{Input}
 use Rattle.automata_base.specs.Paths.Paths.{next}
 use Rattle.automata_base.specs.Powersets.Powerset.{Powerset}
 use Rattle.automata_base.specs.declared.util.search.Direction.{Direction}
 use Rattle.automata_config.specs.declared.error.SearchError.{SearchError}
-use Rattle.automata_hybrid.specs.declared.dfa.progress.Searched.{Searched}
 use Rattle.automata_hybrid.specs.Cache.Caches.{CacheView, IsStoreOf, with_store}
 use Rattle.automata_hybrid.specs.Cache.Progress.{progress_finished}
-use Rattle.automata_hybrid.specs.Cache.Stores.{Stored, with_searched}
+use Rattle.automata_hybrid.specs.Cache.Stores.{with_searched}
 use Rattle.automata_hybrid.specs.Cache.Table.{Names}
 use Rattle.automata_hybrid.specs.Calls.Events.{Does, IsStepLeft, Step, ended, moved}
 use Rattle.automata_hybrid.specs.Calls.Steps.{StartFailsAt}
-use Rattle.automata_hybrid.specs.Machines.Machine.{Machine, quits_on, unit_class}
-use Rattle.automata_hybrid.specs.Searches.PassState.{HasLearnedUnit}
-use Rattle.automata_hybrid.specs.Searches.Progress.{EndsAtLast, Goes, HasNoStart, IsLeftAt, IsStoppedAt, IsUnitRead, with_search_ended}
+use Rattle.automata_hybrid.specs.Machines.Machine.{Machine, unit_class}
+use Rattle.automata_hybrid.specs.Private.Searches.PassState.{HasLearnedAlong}
+use Rattle.automata_hybrid.specs.Searches.Progress.{EndsAtLast, Goes, GoesAlong, HasNoStart, IsLeftAlong, IsLeftAt}
+use Rattle.automata_hybrid.specs.Searches.Progress.{IsReadAlong, IsStoppedAt, IsUnitRead, with_search_ended}
+use Rattle.automata_hybrid.specs.Searches.Traces.{Trace, pass_trace}
 use Rattle.automata_hybrid.specs.Searches.Passes.{HasReadNoQuit, IsUnitError, Reads, given_up_offset, state_in, tape_in}
 use Rattle.automata_hybrid.proofs.Searches.PassState.{reads_before}
 use Rattle.automata_hybrid.proofs.Steps.Steps.{unit_no_quit}
 
 -- the units from one place to another were read
-pub record GoesTo (way : Direction) (m : Machine) (input : Input) (from to : ℕ) (old new : CacheView) : Type 0 where
+pub record GoesToAlong (s : Trace) (way : Direction) (m : Machine) (input : Input) (from to : ℕ)
+    (old new : CacheView) : Type 0 where
   pub units : ℕ
   pub upto : from + units ≡ to
-  pub goes : Goes way m input from units old new
+  pub goes : GoesAlong s way m input from units old new
 
-module _ (way : Direction) (m : Machine) (input : Input) (from : ℕ) (old : CacheView) where
-  pub goes_none : GoesTo way m input from from old old
+abbrev pub GoesTo : Direction → Machine → Input → (from to : ℕ) → (old new : CacheView) → Type 0
+GoesTo way m input from to old new = GoesToAlong (pass_trace way m input) way m input from to old new
+
+-- the cache after some units is one of the DFA
+pub goes_sound :
+    (s : Trace) (way : Direction) (m : Machine) (input : Input) (from : ℕ) (old : CacheView) (n : ℕ) (new : CacheView)
+    → IsStoreOf old.store m → GoesAlong s way m input from n old new → IsStoreOf new.store m
+goes_sound s way m input from old zero new sound same = subst (λ (v : CacheView). IsStoreOf v.store m) (sym same) sound
+goes_sound s way m input from old (suc n) new sound (mid, before, here) = here.1
+
+module _ {s : Trace} (way : Direction) (m : Machine) (input : Input) (from : ℕ) (old : CacheView) where
+  pub goes_none : GoesToAlong s way m input from from old old
   goes_none = record { units = 0; upto = omega arith; goes = refl }
 
   -- one more
   pub goes_more :
-      (k : ℕ) (mid new : CacheView) → GoesTo way m input from k old mid → IsUnitRead way m input k mid new
-      → GoesTo way m input from (suc k) old new
+      (k : ℕ) (mid new : CacheView) → GoesToAlong s way m input from k old mid → IsReadAlong s way m input k mid new
+      → GoesToAlong s way m input from (suc k) old new
   goes_more k mid new before here =
       let last : from + before.units ≡ k = before.upto in
       record {
         units = suc before.units;
         upto = omega (arith, last);
-        goes = (mid, before.goes, subst (λ j. IsUnitRead way m input j mid new) (sym last) here);
+        goes = (mid, before.goes, subst (λ j. IsReadAlong s way m input j mid new) (sym last) here);
       }
-
-  -- the cache after them is one of the DFA
-  pub goes_sound : (n : ℕ) (new : CacheView) → IsStoreOf old.store m → Goes way m input from n old new → IsStoreOf new.store m
-  goes_sound zero new sound same = subst (λ (v : CacheView). IsStoreOf v.store m) (sym same) sound
-  goes_sound (suc n) new sound (mid, before, here) = here.1
 
   -- units whose transitions are cached change nothing
   pub goes_known :
-      (k to : ℕ) (c : CacheView) → IsStoreOf c.store m → GoesTo way m input from k old c → k ≤ to
-      → HasReadNoQuit way m input to → ((j : ℕ) → k ≤ j → j < to → HasLearnedUnit way m c.store input j)
-      → GoesTo way m input from to old c
+      (k to : ℕ) (c : CacheView) → IsStoreOf c.store m → GoesToAlong s way m input from k old c → k ≤ to
+      → HasReadNoQuit way m input to → ((j : ℕ) → k ≤ j → j < to → HasLearnedAlong s way m c.store input j)
+      → GoesToAlong s way m input from to old c
   goes_known k zero c sound before more clean known =
       let none : k ≡ 0 = omega (arith, more) in
-      subst (λ n. GoesTo way m input from n old c) none before
+      subst (λ n. GoesToAlong s way m input from n old c) none before
   goes_known k (suc to) c sound before more clean known =
       go (eq-or-lt_of_le more) (λ less. goes_known k to c sound before less
       (λ j byte below unit. clean j byte (omega (arith, below)) unit) (λ j from below. known j from (omega (arith, below))))
     where
-      here : HasLearnedUnit way m c.store input to → IsUnitRead way m input to c c
+      here : HasLearnedAlong s way m c.store input to → IsReadAlong s way m input to c c
       here learned = (
         (
           unit_no_quit m (next (tape_in way input) to) (λ byte unit. clean to byte (omega arith) unit),
@@ -69,17 +76,17 @@ module _ (way : Direction) (m : Machine) (input : Input) (from : ℕ) (old : Cac
         inl (learned.0, refl),
       )
 
-      go : (k ≡ suc to) ⊎ (k < suc to) → (k ≤ to → GoesTo way m input from to old c) → GoesTo way m input from (suc to) old c
-      go (inl same) upto = subst (λ n. GoesTo way m input from n old c) same before
+      go : (k ≡ suc to) ⊎ (k < suc to) → (k ≤ to → GoesToAlong s way m input from to old c) → GoesToAlong s way m input from (suc to) old c
+      go (inl same) upto = subst (λ n. GoesToAlong s way m input from n old c) same before
       go (inr less) upto = goes_more to c c (upto (omega (arith, less))) (here (known to (omega (arith, less)) (omega arith)))
 
 -- and then cached ones were followed
 pub goes_on :
-    (way : Direction) (m : Machine) (input : Input) (from : ℕ) (old : CacheView) → IsStoreOf old.store m → (k to : ℕ) (c : CacheView)
-    → GoesTo way m input from k old c → k ≤ to → HasReadNoQuit way m input to
-    → ((j : ℕ) → k ≤ j → j < to → HasLearnedUnit way m c.store input j) → GoesTo way m input from to old c
-goes_on way m input from old sound k to c before more clean known =
-    goes_known way m input from old k to c (goes_sound way m input from old before.units c sound before.goes) before more clean known
+    {s : Trace} (way : Direction) (m : Machine) (input : Input) (from : ℕ) (old : CacheView) → IsStoreOf old.store m
+    → (k to : ℕ) (c : CacheView) → GoesToAlong s way m input from k old c → k ≤ to → HasReadNoQuit way m input to
+    → ((j : ℕ) → k ≤ j → j < to → HasLearnedAlong s way m c.store input j) → GoesToAlong s way m input from to old c
+goes_on {s} way m input from old sound k to c before more clean known =
+    goes_known way m input from old k to c (goes_sound s way m input from old before.units c sound before.goes) before more clean known
 
 -- at least one was read
 pub goes_some :
@@ -124,22 +131,34 @@ pub pass_dies :
 pass_dies way m input begun new none last = (0, (λ j less. absurd (omega (arith, less)), none), (begun, refl, last))
 
 -- the unit at a place was come to at its offset, from an ID that names the state there
+module _ (s : Trace) (way : Direction) (m : Machine) (input : Input) (k id at : ℕ) (unit : Option ℕ) (c new : CacheView)
+    (is : next (tape_in way input) k ≡ unit) (place : given_up_offset way input k ≡ at)
+    (named : Names c.store.table id (s.state k)) where
+  -- and read
+  pub taken_along :
+      ((q : Powerset) → Names c.store.table id q → Does m (Step q unit) c (moved at c) new) → IsReadAlong s way m input k c new
+  taken_along taken =
+      subst (λ a. Does m (Step (s.state k) (next (tape_in way input) k)) c (moved a c) new) (sym place)
+      (subst (λ u. Does m (Step (s.state k) u) c (moved at c) new) (sym is) (taken (s.state k) named))
+
+  -- or not
+  pub left_along :
+      ((q : Powerset) → Names c.store.table id q → IsStepLeft m q unit (moved at c) (ended at c) new) → IsLeftAlong s way m input k c new
+  left_along left =
+      subst (λ a. IsStepLeft m (s.state k) (next (tape_in way input) k) (moved a c) (ended a c) new) (sym place)
+      (subst (λ u. IsStepLeft m (s.state k) u (moved at c) (ended at c) new) (sym is) (left (s.state k) named))
+
+-- the same in a pass
 module _ (way : Direction) (m : Machine) (input : Input) (k id at : ℕ) (unit : Option ℕ) (c new : CacheView)
     (is : next (tape_in way input) k ≡ unit) (place : given_up_offset way input k ≡ at)
     (named : Names c.store.table id (state_in way m input k)) where
-  -- and read
   pub taken_here :
       ((q : Powerset) → Names c.store.table id q → Does m (Step q unit) c (moved at c) new) → IsUnitRead way m input k c new
-  taken_here taken =
-      subst (λ a. Does m (Step (state_in way m input k) (next (tape_in way input) k)) c (moved a c) new) (sym place)
-      (subst (λ u. Does m (Step (state_in way m input k) u) c (moved at c) new) (sym is) (taken (state_in way m input k) named))
+  taken_here = taken_along (pass_trace way m input) way m input k id at unit c new is place named
 
-  -- or not
   pub left_here :
       ((q : Powerset) → Names c.store.table id q → IsStepLeft m q unit (moved at c) (ended at c) new) → IsLeftAt way m input k c new
-  left_here left =
-      subst (λ a. IsStepLeft m (state_in way m input k) (next (tape_in way input) k) (moved a c) (ended a c) new) (sym place)
-      (subst (λ u. IsStepLeft m (state_in way m input k) u (moved at c) (ended at c) new) (sym is) (left (state_in way m input k) named))
+  left_here = left_along (pass_trace way m input) way m input k id at unit c new is place named
 
 -- a search was ended at the offset of a unit
 pub ended_here :
@@ -153,3 +172,12 @@ pub unstarted :
     (way : Direction) (m : Machine) (input : Input) (behind_at start_at : ℕ) (old new : CacheView) (e : SearchError)
     → StartFailsAt m input.anchored (tape_in way input).before behind_at start_at old new e → HasNoStart way m input old new
 unstarted way m input behind_at start_at old new e h = (h.refused.fails, h.refused.barred)
+
+-- all units from the first one on, before a place
+pub goes_all :
+    {s : Trace} {way : Direction} {m : Machine} {input : Input} {k : ℕ} {old new : CacheView} → GoesToAlong s way m input 0 k old new
+    → GoesAlong s way m input 0 k old new
+goes_all {s} {way} {m} {input} {k} {old} {new} all =
+    let upto : 0 + all.units ≡ k = all.upto in
+    let same : all.units ≡ k = omega (arith, upto) in
+    subst (λ n. GoesAlong s way m input 0 n old new) same all.goes

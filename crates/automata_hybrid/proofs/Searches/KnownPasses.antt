@@ -14,11 +14,13 @@ use Rattle.automata_hybrid.specs.Cache.Stores.{IsSoundStore, with_searched}
 use Rattle.automata_hybrid.specs.Cache.Ids.{HasDeadTag, HasQuitTag, quit_id}
 use Rattle.automata_hybrid.specs.Cache.Table.{Leads, Rows}
 use Rattle.automata_hybrid.specs.Machines.Machine.{Machine}
-use Rattle.automata_hybrid.specs.Searches.PassContracts.{IsKnownEnd, IsKnownUpto, IsPassAnswer}
-use Rattle.automata_hybrid.specs.Searches.PassState.{HasLearnedUnit, half_at}
+use Rattle.automata_hybrid.specs.Searches.PassContracts.{IsPassAnswer}
+use Rattle.automata_hybrid.specs.Private.Searches.PassContracts.{IsKnownEnd, IsKnownUpto}
+use Rattle.automata_hybrid.specs.Searches.PassState.{half_at}
+use Rattle.automata_hybrid.specs.Private.Searches.PassState.{HasLearnedUnit}
 use Rattle.automata_hybrid.specs.Searches.Passes.{Reads, given_up_offset, state_in, tape_in}
 use Rattle.automata_hybrid.specs.Searches.Progress.{EndsAtLast, with_search_begun}
-use Rattle.automata_hybrid.specs.Searches.Units.{IsReadAnswer}
+use Rattle.automata_hybrid.specs.Private.Searches.Units.{IsReadAnswer}
 use Rattle.automata_hybrid.specs.Steps.Steps.{IsStepAnswer, KnowsStep}
 use Rattle.automata_hybrid.specs.Machines.Machine.{quits_on, unit_class}
 use Rattle.automata_hybrid.proofs.Searches.PassContracts.{dead_answer, dead_stops, first_answer, first_stops, last_answer}

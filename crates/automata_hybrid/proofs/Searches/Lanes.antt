@@ -13,7 +13,7 @@ use Rattle.std.proofs.lemmas.Nat.Bits.{bit_at_above, bit_at_and, bit_at-trailing
 use Rattle.std.proofs.Math.Nat.{two-pow-succ}
 use Rattle.std.proofs.lemmas.List.{length-map}
 use Rattle.automata_base.specs.declared.util.search.Direction.{Direction}
-use Rattle.automata_hybrid.specs.Searches.SelfLoops.{above, byte_in, lane_of}
+use Rattle.automata_hybrid.specs.Private.Searches.SelfLoops.{above, byte_in, lane_of}
 
 -- a byte is outside a range
 abbrev pub is_outside : ℕ → ℕ → ℕ → Bool

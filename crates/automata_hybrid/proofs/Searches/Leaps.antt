@@ -11,15 +11,19 @@ use Rattle.automata_base.specs.Retraced.Steps.{successor}
 use Rattle.automata_base.specs.declared.util.search.Direction.{Direction}
 use Rattle.automata_base.specs.declared.util.search.Direction.TheVariants.{Backward, Forward}
 use Rattle.automata_config.specs.Options.{match_kind_of}
-use Rattle.automata_hybrid.specs.Cache.Ids.{HasOnly, quit_id, tags, unknown_id}
-use Rattle.automata_hybrid.specs.Cache.Leaps.{AreLeaps, LeadsTo, LeapsTo, Reaches, mark}
+use Rattle.automata_hybrid.specs.Cache.Ids.{quit_id, tags, unknown_id}
+use Rattle.automata_hybrid.specs.Private.Cache.Ids.{HasOnly}
+use Rattle.automata_hybrid.specs.Private.Cache.Leaps.{AreLeaps, LeadsToRow, LeapsTo, ReachesRow, mark}
 use Rattle.automata_hybrid.specs.Cache.Stores.{Stored, cell_of}
-use Rattle.automata_hybrid.specs.Cache.Table.{AreRows, HasState, IsCell, Leads, Names, Rows, has_patterns, id_of, row_id}
-use Rattle.automata_hybrid.specs.Machines.Machine.{IsMachine, Machine}
-use Rattle.automata_hybrid.specs.Searches.Leaps.{IsLeapt, LeadsIds, LeadsOver, column_of}
-use Rattle.automata_hybrid.specs.Searches.PassState.{IsRun, IsTagAt}
-use Rattle.automata_hybrid.specs.Searches.Passes.{state_in, tape_in}
-use Rattle.automata_hybrid.specs.Searches.SelfLoops.{byte_in}
+use Rattle.automata_hybrid.specs.Cache.Table.{RowsFitCells, IsCell, Leads, Names, Rows, has_patterns, id_of, row_id}
+use Rattle.automata_hybrid.specs.Private.Cache.Table.{HasState}
+use Rattle.automata_hybrid.specs.Machines.Machine.{Machine}
+use Rattle.automata_hybrid.specs.Private.Machines.Machine.{IsMachine}
+use Rattle.automata_hybrid.specs.Private.Searches.Leaps.{IsLeapt, LeadsIds, LeadsOver, column_of}
+use Rattle.automata_hybrid.specs.Private.Searches.PassState.{IsRun, IsTagAt}
+use Rattle.automata_hybrid.specs.Searches.Passes.{tape_in}
+use Rattle.automata_hybrid.specs.Searches.Traces.{Trace}
+use Rattle.automata_hybrid.specs.Private.Searches.SelfLoops.{byte_in}
 use Rattle.automata_hybrid.specs.declared.dfa.leaps.Leaps.{Leaps}
 use Rattle.automata_base.proofs.Paths.Orders.{some_inj}
 use Rattle.automata_hybrid.proofs.Cache.Leaps.{place_below, power_small}
@@ -52,7 +56,7 @@ module _ (t : Rows) (way : Direction) (bytes : List ℕ) (n from row : ℕ) wher
   -- where these digits lead is where the bytes lead
   pub reaches_over :
       ((k : ℕ) → class_in t.of.classes (byte_in way bytes k) < n)
-      → (count to : ℕ) → Reaches t n count (row * n ^ count + column_of t.of.classes n way bytes from count) to
+      → (count to : ℕ) → ReachesRow t n count (row * n ^ count + column_of t.of.classes n way bytes from count) to
       → LeadsOver t way bytes from count row to
   reaches_over small zero to same =
       let e : row ≡ row * n ^ 0 + 0 = omega (arith, ap (λ p. row * p) (pow-zero n)) in
@@ -65,7 +69,7 @@ module _ (t : Rows) (way : Direction) (bytes : List ℕ) (n from row : ℕ) wher
       ap (λ k. k / n) (place_more count) ∙ div-mul-add place n class low in
       let rest : (row * n ^ suc count + column_of t.of.classes n way bytes from (suc count)) % n ≡ class =
       ap (λ k. k % n) (place_more count) ∙ mod-mul-add place n class low in
-      (at, reaches_over small count at (subst (λ k. Reaches t n count k at) quotient before), subst (λ k. LeadsTo t at k to) rest leads)
+      (at, reaches_over small count at (subst (λ k. ReachesRow t n count k at) quotient before), subst (λ k. LeadsToRow t at k to) rest leads)
 
 -- over some bytes and then over more
 pub over_on :
@@ -80,7 +84,7 @@ over_on t way bytes row at first (suc count) to before (mid, more, leads) =
     subst (λ n. LeadsOver t way bytes 0 n row to) e (
       mid,
       over_on t way bytes row at first count mid before more,
-      subst (λ k. LeadsTo t mid (class_in t.of.classes (byte_in way bytes k)) to) place leads,
+      subst (λ k. LeadsToRow t mid (class_in t.of.classes (byte_in way bytes k)) to) place leads,
     )
 
 -- the cell of a byte's class, if it has no tag, is where the byte leads, and the byte is no quit byte
@@ -107,16 +111,16 @@ cell_leads m c q to byte machine of plain few cell = (go (is_quit m.quits byte) 
       subst (λ (k : Machine). Leads c.table to (successor k.nfa (match_kind_of k.config) q (Some byte))) of
       (leads (Some byte) few (ap (λ (k : Machine). class_in k.classes byte) of))
 
-module _ {way : Direction} {m : Machine} {c : Stored} {input : Input} {place : ℕ} (machine : IsMachine m) (are : AreClasses m.classes) (of : c.table.of ≡ m) (rows : AreRows c.table) where
+module _ {s : Trace} {way : Direction} {m : Machine} {c : Stored} {input : Input} {place : ℕ} (machine : IsMachine m) (are : AreClasses m.classes) (of : c.table.of ≡ m) (rows : RowsFitCells c.table) where
   -- one byte, by the cell of a row
   run_one :
       (row byte to : ℕ) → byte < 256 → next (tape_in way input) place ≡ Some byte
-      → IsTagAt way m c.table input 0 place ((row + 3) * c.table.of.stride) → LeadsTo c.table row (class_in c.table.of.classes byte) to
-      → IsRun way m c input 0 place (suc place) ((to + 3) * c.table.of.stride)
+      → IsTagAt s way m c.table input 0 place ((row + 3) * c.table.of.stride) → LeadsToRow c.table row (class_in c.table.of.classes byte) to
+      → IsRun s way m c input 0 place (suc place) ((to + 3) * c.table.of.stride)
   run_one row byte to few unit at leads = record {
     followed =
-        followed_one way m c input 0 place id next_id byte at.kind only unit known (omega (arith, below)) (λ quits. absurd (false_true (sym (both (state_in way m input place) at.named).0 ∙ quits)))
-        (λ _ _ q n. (both q n).1) at.named;
+        followed_one way m c input 0 place id next_id byte at.kind only unit known (omega (arith, below)) (λ quits. absurd (false_true (sym (both (s.state place) at.on.named).0 ∙ quits)))
+        (λ _ _ q n. (both q n).1) at.on;
     only = only;
   } where
     id : ℕ
@@ -146,26 +150,26 @@ module _ {way : Direction} {m : Machine} {c : Stored} {input : Input} {place : �
     both q n = cell_leads m c q next_id byte machine of (omega (arith, leads.untagged)) few
         (subst (IsCell c.table q class) value (Placed-IsCell c.table id class q rows (Names-Placed c.table id q rows n) below))
 
-module _ {way : Direction} {m : Machine} {c : Stored} {input : Input} {place : ℕ} (bytes : List ℕ) (machine : IsMachine m) (are : AreClasses m.classes) (of : c.table.of ≡ m) (rows : AreRows c.table)
+module _ {s : Trace} {way : Direction} {m : Machine} {c : Stored} {input : Input} {place : ℕ} (bytes : List ℕ) (machine : IsMachine m) (are : AreClasses m.classes) (of : c.table.of ≡ m) (rows : RowsFitCells c.table)
     (small : (k : ℕ) → byte_in way bytes k < 256)
     (units : (k : ℕ) → k < length bytes → next (tape_in way input) (place + k) ≡ Some (byte_in way bytes k)) where
   run_rows :
-      (len row to : ℕ) → len ≤ length bytes → IsTagAt way m c.table input 0 place ((row + 3) * c.table.of.stride)
-      → LeadsOver c.table way bytes 0 len row to → IsRun way m c input 0 place (place + len) ((to + 3) * c.table.of.stride)
+      (len row to : ℕ) → len ≤ length bytes → IsTagAt s way m c.table input 0 place ((row + 3) * c.table.of.stride)
+      → LeadsOver c.table way bytes 0 len row to → IsRun s way m c input 0 place (place + len) ((to + 3) * c.table.of.stride)
   run_rows zero row to within at same =
       let here : place ≡ place + 0 = omega arith in
-      run_to here (subst (λ k. IsRun way m c input 0 place place ((k + 3) * c.table.of.stride)) same (run_none at))
+      run_to here (subst (λ k. IsRun s way m c input 0 place place ((k + 3) * c.table.of.stride)) same (run_none at))
   run_rows (suc len) row to within at (mid, before, leads) =
       let here : suc (place + len) ≡ place + suc len = omega arith in
       let one : 0 + len ≡ len = omega arith in
-      let run : IsRun way m c input 0 place (place + len) ((mid + 3) * c.table.of.stride) = run_rows len row mid (omega (arith, within)) at before in
-      run_to here (run_on run (run_one machine are of rows mid (byte_in way bytes len) to (small len) (units len (omega (arith, within))) (run_at at.kind run) (subst (λ k. LeadsTo c.table mid (class_in c.table.of.classes (byte_in way bytes k)) to) one leads)))
+      let run : IsRun s way m c input 0 place (place + len) ((mid + 3) * c.table.of.stride) = run_rows len row mid (omega (arith, within)) at before in
+      run_to here (run_on run (run_one machine are of rows mid (byte_in way bytes len) to (small len) (units len (omega (arith, within))) (run_at at.kind at.on.trace run) (subst (λ k. LeadsToRow c.table mid (class_in c.table.of.classes (byte_in way bytes k)) to) one leads)))
 
   -- a run along the bytes that lead from one ID to another
   pub run_over :
-      {len id to : ℕ} → IsTagAt way m c.table input 0 place id → LeadsIds c.table way bytes len id to → IsRun way m c input 0 place (place + len) to
+      {len id to : ℕ} → IsTagAt s way m c.table input 0 place id → LeadsIds c.table way bytes len id to → IsRun s way m c input 0 place (place + len) to
   run_over {len} {id} {to} at ids =
-      run_id (sym ids.ends) (run_rows len ids.row ids.to ids.within (subst (IsTagAt way m c.table input 0 place) ids.begins at) ids.over)
+      run_id (sym ids.ends) (run_rows len ids.row ids.to ids.within (subst (IsTagAt s way m c.table input 0 place) ids.begins at) ids.over)
 
 -- a column with a digit more fits
 pub column_fits : (column n count : ℕ) → n ≤ 32 → count ≤ 4 → column < n ^ count → column * n ≤ 2 ^ 25
@@ -218,7 +222,7 @@ module _ {t : Rows} {l : Leaps} (way : Direction) (bytes : List ℕ) {row at fir
       within = within;
       over =
           over_on t way bytes row leapt.to at l.shape.reach leads.to leapt.over
-          (reaches_over t way bytes l.shape.classes at leapt.to small l.shape.reach leads.to (subst (λ k. Reaches t l.shape.classes l.shape.reach k leads.to) place leads.reaches));
+          (reaches_over t way bytes l.shape.classes at leapt.to small l.shape.reach leads.to (subst (λ k. ReachesRow t l.shape.classes l.shape.reach k leads.to) place leads.reaches));
     }
 
 -- what the column of the bytes at a place gives
@@ -247,7 +251,7 @@ module _ {m : Machine} {t : Rows} {l : Leaps} (way : Direction) (bytes : List �
       (subst (λ k. first + k < length l.cells.items) is_column cell_within) unmarked)
 
 -- an ID without a tag is the offset of its row
-pub row_of_id : (t : Rows) (id k : ℕ) (q : Powerset) → AreRows t → Names t id q → id < 2 ^ 27 → HasState t k q → id ≡ (k + 3) * t.of.stride
+pub row_of_id : (t : Rows) (id k : ℕ) (q : Powerset) → RowsFitCells t → Names t id q → id < 2 ^ 27 → HasState t k q → id ≡ (k + 3) * t.of.stride
 row_of_id t id k q rows named low (r, has, state) =
     let ids = rows.ids k r has in
     let same : id ≡ row_id ((k + 3) * t.of.stride) r = some_inj (sym named ∙ (ap (id_of t) (sym state) ∙ ids.0)) in

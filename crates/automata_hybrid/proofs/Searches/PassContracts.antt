@@ -12,9 +12,10 @@ use Rattle.automata_base.specs.Powersets.Powerset.{Powerset, dead}
 use Rattle.automata_base.specs.declared.util.search.Direction.{Direction}
 use Rattle.automata_hybrid.specs.Cache.Caches.{CacheView}
 use Rattle.automata_hybrid.specs.Machines.Machine.{Machine}
-use Rattle.automata_hybrid.specs.Searches.PassContracts.{IsPassAnswer, IsUnderway, input_at}
+use Rattle.automata_hybrid.specs.Searches.PassContracts.{IsPassAnswer, IsUnderway}
+use Rattle.automata_hybrid.specs.Private.Searches.PassContracts.{input_at}
 use Rattle.automata_hybrid.specs.Searches.PassState.{half_at}
-use Rattle.automata_hybrid.specs.Searches.Units.{IsReadAnswer}
+use Rattle.automata_hybrid.specs.Private.Searches.Units.{IsReadAnswer}
 use Rattle.automata_hybrid.specs.Searches.Passes.{Reads, state_in, tape_in}
 use Rattle.automata_hybrid.specs.Cache.Table.{Leads}
 use Rattle.automata_hybrid.proofs.Searches.PassState.{clean_dead, clean_ends, clean_last, more_dead, more_ends, more_last}

@@ -1,5 +1,5 @@
 -- What a pass has found so far, unit by unit.
-use Rattle.std.proofs.Common.{ℕ, zero, suc, ◌≡◌, ◌<◌, ◌≤◌, ◌⊎◌, inl, inr, Bool, true, false, List, [], ◌∷◌, length}
+use Rattle.std.proofs.Common.{ℕ, zero, suc, ◌≡◌, ◌<◌, ◌≤◌, ◌⊎◌, inl, inr, Bool, true, false, [], length}
 use Rattle.std.proofs.Common.{Option, Some, None, refl, sym, ap, ◌∙◌, subst, arith, eq-or-lt_of_le}
 use Rattle.automata_base.specs.Answers.Answers.{offset_in}
 use Rattle.automata_base.specs.Retraced.Passes.{pair_at, earlier_or}
@@ -13,7 +13,7 @@ use Rattle.automata_base.specs.Powersets.Powerset.{Powerset, dead}
 use Rattle.automata_base.specs.Paths.Selections.{Pair}
 use Rattle.automata_base.specs.Retraced.Steps.{start_state_of, successor}
 use Rattle.automata_base.specs.declared.util.search.Direction.{Direction}
-use Rattle.automata_base.specs.Retraced.Passes.{state_after, reported_at, last_reported, first_reported, reported_upto}
+use Rattle.automata_base.specs.Retraced.Passes.{state_after, reported_at, first_reported, reported_upto}
 use Rattle.automata_base.proofs.Powersets.Alike.{dead_stays}
 use Rattle.std.specs.Prelude.{Result, Ok, Err, IfErr, is_some}
 use Rattle.std.specs.Result.{IsErrAnd}
@@ -28,40 +28,18 @@ use Rattle.automata_hybrid.specs.Cache.Table.{Rows, Leads, Names}
 use Rattle.automata_base.specs.ByteClasses.Classes.{is_quit}
 use Rattle.automata_config.specs.Options.{match_kind_of}
 use Rattle.std.proofs.lemmas.Bool.{cases_lt}
+use Rattle.automata_hybrid.proofs.Searches.Traces.{at_along, begins_along, clean_along, found_along, half_none}
+use Rattle.automata_hybrid.proofs.Searches.Traces.{leads_along, more_along, none_along, pass_is_trace, quiet_along}
 use Rattle.automata_base.proofs.Paths.Orders.{some_none}
 
 -- one unit more
 pub state_more :
     (way : Direction) (m : Machine) (input : Input) (k : ℕ)
     → state_in way m input (suc k) ≡ successor m.nfa (match_kind_of m.config) (state_in way m input k) (next (tape_in way input) k)
-unfolding state_after
-state_more way m input k = refl
+state_more way m input k = (pass_is_trace way m input).steps k
 
 pub false_true : false ≡ true → ⊥
 false_true e = cc
-
-pub half_none : (way : Direction) (input : Input) (o : Option Pair) → half_of way input o ≡ None → o ≡ None
-half_none way input None e = refl
-half_none way input (Some pair) e = cc
-
-pair_half :
-    (way : Direction) (input : Input) (ps : List ℕ) (k : ℕ) (o : Option Pair)
-    → half_of way input (pair_at ps k o) ≡ half_at ps (offset_in way input k) (half_of way input o)
-pair_half way input [] k o = refl
-pair_half way input (p ∷ ps) k o = refl
-
-found_by :
-    (way : Direction) (input : Input) (kind : MatchKind) (e : Bool) (a : Automaton) (mode : Anchored) (t : Tape) (k : ℕ)
-    → (e ≡ true → half_of way input (reported_upto kind e a mode t k) ≡ None)
-    → half_of way input (reported_upto kind e a mode t (suc k))
-    ≡ half_at (reported_at a kind mode t k) (offset_in way input k) (half_of way input (reported_upto kind e a mode t k))
-unfolding last_reported first_reported
-found_by way input kind false a mode t k first = pair_half way input (reported_at a kind mode t k) k (last_reported a kind mode t k)
-found_by way input kind true a mode t k first =
-    let none : first_reported a kind mode t k ≡ None = half_none way input (first_reported a kind mode t k) (first refl) in
-    ap (λ o. half_of way input (earlier_or o (pair_at (reported_at a kind mode t k) k None))) none
-    ∙ (pair_half way input (reported_at a kind mode t k) k None
-    ∙ ap (λ o. half_at (reported_at a kind mode t k) (offset_in way input k) (half_of way input o)) (sym none))
 
 -- after one unit more a pass has found what the state there reports, or what it had
 pub found_more :
@@ -69,7 +47,7 @@ pub found_more :
     → (input.earliest ≡ true → half_of way input (reported_in way m input k) ≡ None)
     → half_of way input (reported_in way m input (suc k))
     ≡ half_at (state_in way m input (suc k)).patterns (offset_in way input k) (half_of way input (reported_in way m input k))
-found_more way m input k first = found_by way input (match_kind_of m.config) input.earliest m.nfa input.anchored (tape_in way input) k first
+found_more way m input k first = found_along (pass_is_trace way m input) k first
 
 -- the dead state stays, and reports nothing
 pub dead_more :
@@ -85,29 +63,17 @@ dead_more way m input k (suc n) l e = go (λ more. dead_more way m input k n mor
       ∙ (ap (λ q. successor m.nfa (match_kind_of m.config) q (next (tape_in way input) n)) (before (omega (arith, less)))
       ∙ dead_stays m.nfa (match_kind_of m.config) (next (tape_in way input) n))
 
-earlier_none : (o : Option Pair) → earlier_or o None ≡ o
-earlier_none None = refl
-earlier_none (Some pair) = refl
-
-silent :
-    (kind : MatchKind) (e : Bool) (a : Automaton) (mode : Anchored) (t : Tape) (k : ℕ)
-    → reported_at a kind mode t k ≡ [] → reported_upto kind e a mode t (suc k) ≡ reported_upto kind e a mode t k
-unfolding last_reported first_reported
-silent kind false a mode t k n = ap (λ ps. pair_at ps k (last_reported a kind mode t k)) n
-silent kind true a mode t k n =
-    ap (λ ps. earlier_or (first_reported a kind mode t k) (pair_at ps k None)) n ∙ earlier_none (first_reported a kind mode t k)
-
 -- a unit after which the state has no patterns reports nothing
 pub reported_quiet :
     (way : Direction) (m : Machine) (input : Input) (k : ℕ)
     → (state_in way m input (suc k)).patterns ≡ [] → reported_in way m input (suc k) ≡ reported_in way m input k
-reported_quiet way m input k e = silent (match_kind_of m.config) input.earliest m.nfa input.anchored (tape_in way input) k e
+reported_quiet way m input k e = quiet_along (pass_is_trace way m input) k e
 
 quiet :
     (way : Direction) (m : Machine) (input : Input) (k n : ℕ)
     → k ≤ n → state_in way m input (suc k) ≡ dead → reported_in way m input (suc n) ≡ reported_in way m input n
 quiet way m input k n l e =
-    silent (match_kind_of m.config) input.earliest m.nfa input.anchored (tape_in way input) n
+    reported_quiet way m input n
     (ap (λ (q : Powerset). q.patterns) (dead_more way m input (suc k) (suc n) (omega (arith, l)) e))
 
 dead_reports :
@@ -144,7 +110,7 @@ first_stays kind a mode t k (suc n) pair l e = go (λ more. first_stays kind a m
   go before (inr less) =
       ap (λ o. earlier_or o (pair_at (reported_at a kind mode t n) n None)) (before (omega (arith, less)))
 
-reported_stays :
+pub reported_stays :
     (kind : MatchKind) (e : Bool) (a : Automaton) (mode : Anchored) (t : Tape) (k n : ℕ) (o : Option Pair)
     → k ≤ n → e ≡ true → reported_upto kind e a mode t k ≡ o → (o ≡ None → ⊥)
     → reported_upto kind e a mode t n ≡ reported_upto kind e a mode t k
@@ -164,7 +130,7 @@ found_first way m input k l e some =
     (suc (length (tape_in way input).bytes)) (reported_in way m input k) l e refl (λ f. some (ap (half_of way input) f))))
 
 -- a pass has met no quit byte if it does not have up to a place, and reads nothing from there on
-clean_all :
+pub clean_all :
     (way : Direction) (m : Machine) (input : Input) (k : ℕ)
     → quit_behind m (tape_in way input).before ≡ None
     → ((j byte : ℕ) → j < k → next (tape_in way input) j ≡ Some byte → is_quit m.quits byte ≡ false)
@@ -215,37 +181,22 @@ module _ (way : Direction) (m : Machine) (t t' : Rows) (input : Input) (k id id'
   Reports = (o : ℕ) × (o ≡ offset_in way input k) × ((q : Powerset) → Leads t' id' q → found' ≡ half_at q.patterns o found)
 
   pub more_leads : Leads t' id' (state_in way m input (suc k))
-  more_leads =
-      subst (λ q. Leads t' id' q) (sym (state_more way m input k ∙ ap (successor m.nfa (match_kind_of m.config) (state_in way m input k)) unit))
-      (reads (state_in way m input k) at.named)
+  more_leads = leads_along (pass_is_trace way m input) t t' k id id' u found found' at unit reads
 
-  more_first : input.earliest ≡ true → half_of way input (reported_in way m input k) ≡ None
-  more_first e = sym at.reported ∙ at.nothing e
-
-  more_clean : (j byte : ℕ) → j < suc k → next (tape_in way input) j ≡ Some byte → is_quit m.quits byte ≡ false
-  more_clean j byte l e = go (cases_lt j k) where
-    go : (j < k) ⊎ (k ≤ j) → is_quit m.quits byte ≡ false
-    go (inl less) = at.clean j byte less e
-    go (inr more) =
-        let same : k ≡ j = omega (arith, l, more) in
-        free byte (sym unit ∙ (ap (next (tape_in way input)) same ∙ e))
+  pub more_clean : (j byte : ℕ) → j < suc k → next (tape_in way input) j ≡ Some byte → is_quit m.quits byte ≡ false
+  more_clean = clean_along (pass_is_trace way m input) t t' k id id' u found found' at unit reads free
 
   pub more_found :
       Reports
       → found' ≡ half_of way input (reported_in way m input (suc k))
-  more_found reports =
-      reports.2 (state_in way m input (suc k)) more_leads
-      ∙ (ap (λ v. half_at (state_in way m input (suc k)).patterns v found) reports.1
-      ∙ (ap (half_at (state_in way m input (suc k)).patterns (offset_in way input k)) at.reported
-      ∙ sym (found_more way m input k more_first)))
+  more_found reports = more_along (pass_is_trace way m input) t t' k id id' u found found' at unit reads reports
 
   -- and stands after it
   pub more_at :
       Reports
       → (input.earliest ≡ true → found' ≡ None) → (Leads t' id' (state_in way m input (suc k)) → Names t' id' (state_in way m input (suc k)))
       → IsAt way m t' input (suc k) id' found'
-  more_at reports first alive =
-      record { named = alive more_leads; reported = more_found reports; nothing = first; clean = more_clean }
+  more_at reports first alive = at_along (pass_is_trace way m input) t t' k id id' u found found' at unit reads free reports first alive
 
   -- or dies
   pub more_dead :
@@ -292,27 +243,18 @@ module _ (way : Direction) (m : Machine) (t t' : Rows) (input : Input) (k id id'
   pub clean_last : k ≡ length (tape_in way input).bytes → quit_behind m (tape_in way input).before ≡ None → MeetsNoQuit way m input
   clean_last l behind = clean_all way m input (suc k) behind more_clean (stops_last way m input k l)
 
--- before its first unit a pass has found nothing
-found_zero : (way : Direction) (m : Machine) (input : Input) → None ≡ half_of way input (reported_in way m input 0)
-unfolding last_reported first_reported
-found_zero way m input = go input.earliest where
-  go : (e : Bool) → None ≡ half_of way input (reported_upto (match_kind_of m.config) e m.nfa input.anchored (tape_in way input) 0)
-  go true = refl
-  go false = refl
-
 -- a pass begins at its start
 pub starts_at :
     (way : Direction) (m : Machine) (t : Rows) (input : Input) (id : ℕ)
     → Names t id (state_in way m input 0) → IsAt way m t input 0 id None
-starts_at way m t input id n =
-    record { named = n; reported = found_zero way m input; nothing = λ e. refl; clean = λ j byte l e. absurd (omega (arith, l)) }
+starts_at way m t input id n = begins_along (pass_is_trace way m input) n
 
 -- a pass that is dead from its start on finds nothing, and meets no quit byte
 pub starts_dead :
     (way : Direction) (m : Machine) (input : Input)
     → state_in way m input 0 ≡ dead → None ≡ found_over way m input
 starts_dead way m input d =
-    found_zero way m input ∙ found_dead way m input 0 (omega arith) (dead_more way m input 0 1 (omega arith) d)
+    none_along (pass_is_trace way m input) ∙ found_dead way m input 0 (omega arith) (dead_more way m input 0 1 (omega arith) d)
 
 pub stops_start :
     (way : Direction) (m : Machine) (input : Input)

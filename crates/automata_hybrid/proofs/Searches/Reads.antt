@@ -13,7 +13,7 @@ use Rattle.automata_config.specs.Options.{match_kind_of}
 use Rattle.automata_hybrid.specs.Cache.Ids.{HasQuitTag}
 use Rattle.automata_hybrid.specs.Machines.Machine.{Machine}
 use Rattle.automata_hybrid.specs.Steps.Steps.{IsStepAnswer}
-use Rattle.automata_hybrid.specs.Searches.Units.{IsReadEffect, IsStepTaken, ReadFails, StepFailsAt}
+use Rattle.automata_hybrid.specs.Private.Searches.Units.{IsReadEffect, IsStepTaken, ReadFails, StepFailsAt}
 use Rattle.automata_hybrid.specs.Searches.Passes.{IsStepError}
 use Rattle.automata_hybrid.specs.Machines.Machine.{quits_on}
 use Rattle.automata_hybrid.proofs.Steps.Ids.{quits, refused}

@@ -10,12 +10,15 @@ use Rattle.automata_base.specs.Retraced.Steps.{successor}
 use Rattle.automata_base.specs.declared.util.search.Direction.{Direction}
 use Rattle.automata_base.specs.declared.util.search.Direction.TheVariants.{Forward, Backward}
 use Rattle.automata_config.specs.Options.{match_kind_of}
-use Rattle.automata_hybrid.specs.Searches.SelfLoops.{HasByte, HasEither, IsKnownLoop, IsLoopRange, IsLoopRun, IsSelfLoop}
-use Rattle.automata_hybrid.specs.Searches.SelfLoops.{LoopsAt, LoopsOn, LoopsOver, byte_in}
-use Rattle.automata_hybrid.specs.Cache.Ids.{HasOnly, IsRunTag, quit_id, unknown_id}
-use Rattle.automata_hybrid.specs.Machines.Machine.{IsMachine, Machine}
-use Rattle.automata_hybrid.specs.Searches.PassState.{IsFollowed, IsRun, IsTagAt}
-use Rattle.automata_hybrid.specs.Searches.Passes.{state_in, tape_in}
+use Rattle.automata_hybrid.specs.Private.Searches.SelfLoops.{HasByte, HasEither, IsKnownLoop, IsLoopRange, IsLoopRun, IsSelfLoop}
+use Rattle.automata_hybrid.specs.Private.Searches.SelfLoops.{LoopsAt, LoopsOn, LoopsOver, byte_in}
+use Rattle.automata_hybrid.specs.Cache.Ids.{quit_id, unknown_id}
+use Rattle.automata_hybrid.specs.Private.Cache.Ids.{HasOnly, IsRunTag}
+use Rattle.automata_hybrid.specs.Machines.Machine.{Machine}
+use Rattle.automata_hybrid.specs.Private.Machines.Machine.{IsMachine}
+use Rattle.automata_hybrid.specs.Private.Searches.PassState.{IsFollowedAlong, IsOnTrace, IsRun, IsTagAt}
+use Rattle.automata_hybrid.specs.Searches.Passes.{tape_in}
+use Rattle.automata_hybrid.specs.Searches.Traces.{Trace}
 use Rattle.automata_hybrid.specs.Cache.Stores.{Stored, cell_of}
 use Rattle.automata_hybrid.specs.Cache.Table.{IsCell, IsRowId, Leads, Names}
 use Rattle.automata_hybrid.specs.declared.dfa.self_loops.LoopRange.{LoopRange}
@@ -167,34 +170,35 @@ module _ {m : Machine} {c : Stored} {id : ℕ} {way : Direction} {bytes : List �
       (has k l below))
       run
 
-module _ {way : Direction} {m : Machine} {c : Stored} {input : Input} {id from : ℕ} where
+module _ {s : Trace} {way : Direction} {m : Machine} {c : Stored} {input : Input} {id from : ℕ} where
   followed_upto :
       (n tag : ℕ) → IsRunTag tag → HasOnly tag id → ((k : ℕ) → from ≤ k → k < from + n → LoopsAt way m c input id k)
-      → Names c.table id (state_in way m input from) → IsFollowed way m c input tag from (from + n) id
-  followed_upto zero tag kind only each named =
+      → IsOnTrace s way m c.table input from id → IsFollowedAlong s way m c input tag from (from + n) id
+  followed_upto zero tag kind only each on =
       let e : from ≡ from + 0 = omega arith in
-      subst (λ k. IsFollowed way m c input tag from k id) e (followed_none way m c input tag from id named)
-  followed_upto (suc n) tag kind only each named =
+      subst (λ k. IsFollowedAlong s way m c input tag from k id) e (followed_none way m c input tag from id on.named)
+  followed_upto (suc n) tag kind only each on =
       let e : suc (from + n) ≡ from + suc n = omega arith in
-      let f = followed_upto n tag kind only (λ k l below. each k l (omega (arith, below))) named in
-      subst (λ k. IsFollowed way m c input tag from k id) e (followed_on f (here f.named)) where
-        here : Names c.table id (state_in way m input (from + n)) → IsFollowed way m c input tag (from + n) (suc (from + n)) id
+      let f = followed_upto n tag kind only (λ k l below. each k l (omega (arith, below))) on in
+      subst (λ k. IsFollowedAlong s way m c input tag from k id) e
+      (followed_on f (here (record { trace = on.trace; named = f.named }))) where
+        here : IsOnTrace s way m c.table input (from + n) id → IsFollowedAlong s way m c input tag (from + n) (suc (from + n)) id
         here at =
             let there : LoopsAt way m c input id (from + n) = each (from + n) (omega arith) (omega arith) in
             let loops : LoopsOn m c id there.0 = there.2 in
             followed_one way m c input tag (from + n) id id there.0 kind only there.1 loops.known loops.below
             (λ quits. absurd (false_true (sym loops.clean ∙ quits))) (λ _ _ q n. loops.back q n) at
 
-  -- a pass stays at a row as long as that leads back to itself
+  -- a run stays at a row as long as that leads back to itself
   pub run_loop :
-      {tag to : ℕ} → IsTagAt way m c.table input tag from id → IsSelfLoop way m c input id from to
-      → IsRun way m c input tag from to id
+      {tag to : ℕ} → IsTagAt s way m c.table input tag from id → IsSelfLoop way m c input id from to
+      → IsRun s way m c input tag from to id
   run_loop {tag} {to} at loop =
       let e : from + (to - from) ≡ to = omega (arith, loop.more) in
       record {
         followed =
-            subst (λ k. IsFollowed way m c input tag from k id) e
-            (followed_upto (to - from) tag at.kind at.only (λ k l below. loop.loops k l (omega (arith, below, e))) at.named);
+            subst (λ k. IsFollowedAlong s way m c input tag from k id) e
+            (followed_upto (to - from) tag at.kind at.only (λ k l below. loop.loops k l (omega (arith, below, e))) at.on);
         only = at.only;
       }
 

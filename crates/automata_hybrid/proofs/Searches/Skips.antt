@@ -14,7 +14,8 @@ use Rattle.automata_hybrid.specs.Machines.Machine.{Machine}
 use Rattle.automata_hybrid.specs.Searches.PassState.{half_of, found_over}
 use Rattle.automata_hybrid.specs.Searches.Passes.{Finds, Skips, IsFound, MeetsNoQuit}
 use Rattle.automata_hybrid.specs.Searches.Passes.{with_base}
-use Rattle.automata_hybrid.proofs.Searches.PassState.{false_true, half_none}
+use Rattle.automata_hybrid.proofs.Searches.PassState.{false_true}
+use Rattle.automata_hybrid.proofs.Searches.Traces.{half_none}
 use Rattle.automata_config.specs.Options.{match_kind_of}
 use Rattle.automata_base.proofs.Answers.Answered.{haystack_later}
 use Rattle.automata_base.proofs.Paths.Orders.{some_inj, some_none}

@@ -9,7 +9,8 @@ use Rattle.automata_config.specs.declared.error.SearchError.{SearchError}
 use Rattle.automata_hybrid.specs.Cache.Caches.{CacheView}
 use Rattle.automata_hybrid.specs.Machines.Machine.{Machine}
 use Rattle.automata_hybrid.specs.Searches.Passes.{Finds, Skips}
-use Rattle.automata_hybrid.specs.Searches.Progress.{PassEnds, PassesEnd, HaveTried, PassFails, IsPassRun, IsSearchRun}
+use Rattle.automata_hybrid.specs.Searches.Progress.{PassEnds, PassesEnd, HaveTried, PassFails, IsSearchRun}
+use Rattle.automata_hybrid.specs.Private.Searches.Progress.{IsPassRun}
 use Rattle.automata_hybrid.proofs.Searches.Progress.{spans_before, spans_tried}
 
 -- a search has made the passes over the spans before the one that begins `k` places later

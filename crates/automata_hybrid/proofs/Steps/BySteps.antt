@@ -268,7 +268,7 @@ module _ (m : Machine) (input : Input) (old new : CacheView) (at id to : ℕ) (u
   stands_step = go stands.state
 
 -- what one run answers is what a search finds, where no place is skipped
-run_found :
+pub run_found :
     (m : Machine) (input : Input) (half : Option HalfMatch)
     → (Skips m → ⊥) → input.start ≤ input.end → IsFirstMatch m input half → WithoutBase (IsFound Forward m input) half
 run_found m input None plain undone run =

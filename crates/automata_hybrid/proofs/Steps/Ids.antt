@@ -8,7 +8,7 @@ use Rattle.automata_hybrid.specs.Cache.Ids.{quit_id}
 use Rattle.automata_hybrid.specs.Cache.Caches.{CacheView, HoldsRow}
 use Rattle.automata_hybrid.specs.Cache.Stores.{Stored, IsCacheError}
 use Rattle.automata_hybrid.specs.Cache.Usage.{GivesUp}
-use Rattle.automata_hybrid.specs.Searches.PassState.{step_error}
+use Rattle.automata_hybrid.specs.Private.Searches.PassState.{step_error}
 use Rattle.automata_hybrid.specs.Searches.Passes.{IsStepError, LacksStep}
 use Rattle.automata_hybrid.specs.Machines.Machine.{quits_on}
 use Rattle.automata_config.specs.declared.error.StepError.{StepError}

@@ -12,7 +12,7 @@ use Rattle.automata_hybrid.specs.Cache.Ids.{tags}
 use Rattle.automata_hybrid.specs.Cache.Growth.{IsStartTagged, MayHaveStartTag}
 use Rattle.automata_hybrid.specs.Cache.Table.{IsKnownState, Rows, fresh, id_of, has_patterns, Names, HasRowIds, KeepsStartTags}
 use Rattle.automata_hybrid.specs.Cache.Table.{TagsNewStates, row_id, with_row}
-use Rattle.automata_hybrid.specs.Cache.Clears.{put, row_of, Kept, keep_found, keep_slot, keep_slots}
+use Rattle.automata_hybrid.specs.Cache.Clears.{with_row_once, row_of, Kept, keep_found, keep_slot, keep_slots}
 use Rattle.automata_hybrid.specs.Cache.Stores.{Stored, IsKnownStart}
 use Rattle.automata_hybrid.specs.Cache.Usage.{cleared}
 use Rattle.automata_hybrid.specs.Cache.Changes.{cleared_saving, put_found, IsStateAdded, IsComputed, IsStarted}
@@ -92,7 +92,7 @@ from_row old t r has all k x h = go (at_push t.rows r k x h) where
   go (inl e) = all k x e
   go (inr (e, f)) = subst (IsIn old) f has
 
-from_put : (old t : Rows) (r : Row) → IsIn old r → AllFrom old t → AllFrom old (put t r)
+from_put : (old t : Rows) (r : Row) → IsIn old r → AllFrom old t → AllFrom old (with_row_once t r)
 from_put old t r has all = go (id_of t r.state) where
   go : (o : Option ℕ) → AllFrom old (cond (is_some o) t (with_row t r))
   go None = from_row old t r has all

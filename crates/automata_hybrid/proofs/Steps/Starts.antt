@@ -17,14 +17,16 @@ use Rattle.automata_hybrid.specs.Cache.Table.{HasItsMatchTag, Lacks, Leads, Name
 use Rattle.automata_hybrid.specs.Cache.Table.{Rows}
 use Rattle.automata_hybrid.specs.Cache.Stores.{Stored, IsKnownStart, KeepsStarts, with_start}
 use Rattle.automata_hybrid.specs.Cache.Usage.{GivesUp, cleared}
-use Rattle.automata_hybrid.specs.Cache.Changes.{AddsRow, IsStarted}
+use Rattle.automata_hybrid.specs.Cache.Changes.{IsStarted}
+use Rattle.automata_hybrid.specs.Private.Cache.Changes.{AddsRow}
 use Rattle.automata_hybrid.specs.Cache.Caches.{CacheView, HoldsRow, IsCacheOf, IsStoreOf, counted, with_store}
 use Rattle.automata_hybrid.specs.Cache.Progress.{saturated}
 use Rattle.automata_config.specs.declared.error.StartError.{StartError}
 use Rattle.automata_hybrid.specs.Calls.Events.{Does, Start}
 use Rattle.automata_hybrid.specs.Calls.Steps.{StartFails, StartFailsAt}
 use Rattle.automata_hybrid.specs.Steps.Starts.{IsStartAnswer, IsStartError, IsStartErrorAt, MayStart, quit_behind}
-use Rattle.automata_hybrid.specs.Steps.Starts.{IsStartSlot, KnowsStart, known_start, start_row}
+use Rattle.automata_hybrid.specs.Steps.Starts.{KnowsStart, known_start, start_row}
+use Rattle.automata_hybrid.specs.Private.Steps.Starts.{IsStartSlot}
 use Rattle.automata_hybrid.proofs.Searches.PassState.{false_true}
 use Rattle.automata_hybrid.proofs.Machines.StartSlots.{starts_alike}
 use Rattle.automata_config.specs.Options.{specialize_start_states_of}

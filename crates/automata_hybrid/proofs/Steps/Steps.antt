@@ -9,15 +9,17 @@ use Rattle.automata_base.proofs.Paths.Orders.{none_some, some_inj}
 use Rattle.automata_base.specs.Powersets.Passes.{IsUnit}
 use Rattle.automata_hybrid.specs.Cache.Stores.{IsKnownTransition, KeepsStarts, Stored, cell_of, with_next}
 use Rattle.automata_hybrid.specs.Cache.Usage.{GivesUp}
-use Rattle.automata_hybrid.specs.Cache.Changes.{AddsNext, IsStateAdded, IsComputed, cleared_saving}
+use Rattle.automata_hybrid.specs.Cache.Changes.{IsStateAdded, IsComputed, cleared_saving}
+use Rattle.automata_hybrid.specs.Private.Cache.Changes.{AddsNext}
 use Rattle.automata_hybrid.specs.Cache.Caches.{CacheView, HoldsRow, IsCacheOf, IsStoreOf, counted, with_store}
 use Rattle.automata_hybrid.specs.Cache.Ids.{fixed_from, quit_id, unknown_id}
 use Rattle.automata_hybrid.specs.Machines.Machine.{Machine}
 use Rattle.automata_hybrid.specs.Cache.Progress.{saturated}
 use Rattle.automata_hybrid.specs.Calls.Events.{Does, IsCached, Step, moved}
 use Rattle.automata_hybrid.specs.Calls.Steps.{IsStepRun}
-use Rattle.automata_hybrid.specs.Searches.Units.{IsStepTaken}
-use Rattle.automata_hybrid.specs.Steps.Steps.{IsCellRead, IsStepAnswer, KnowsStep, known_step}
+use Rattle.automata_hybrid.specs.Private.Searches.Units.{IsStepTaken}
+use Rattle.automata_hybrid.specs.Steps.Steps.{IsStepAnswer, KnowsStep, known_step}
+use Rattle.automata_hybrid.specs.Private.Steps.Steps.{IsCellRead}
 use Rattle.automata_hybrid.specs.Machines.Machine.{quits_on, unit_class}
 use Rattle.automata_hybrid.specs.Cache.Table.{HasCells, HasItsMatchTag, IsCell, IsRowId, Lacks, Leads, LeadsByClass}
 use Rattle.automata_hybrid.specs.Cache.Table.{Names, Rows}

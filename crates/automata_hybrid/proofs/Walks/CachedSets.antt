@@ -12,7 +12,7 @@ use Rattle.automata_hybrid.specs.Cache.Growth.{ClearedNothing, IsGrown}
 use Rattle.automata_hybrid.specs.Searches.Cached.{KnowsItsStart, KnowsUnit}
 use Rattle.automata_hybrid.specs.Walks.Cached.{IsOpen, IsToRead, KnowsItsState, KnowsWalk}
 use Rattle.automata_hybrid.specs.Machines.Machine.{Machine}
-use Rattle.automata_hybrid.specs.Searches.PassState.{HasLearnedUnit}
+use Rattle.automata_hybrid.specs.Private.Searches.PassState.{HasLearnedUnit}
 use Rattle.automata_hybrid.specs.Searches.Passes.{HasReadNoQuit, Skips, tape_in}
 use Rattle.automata_hybrid.specs.Steps.Starts.{MayStart}
 use Rattle.automata_hybrid.specs.Walks.Answers.{AreWalked, HasReported, WalkReads, half_nth, pairs_reported_in}

@@ -17,10 +17,12 @@ use Rattle.automata_hybrid.specs.Machines.Machine.{Machine}
 use Rattle.automata_hybrid.specs.Searches.Passes.{HasReadNoQuit, Skips, state_in, tape_in}
 use Rattle.automata_hybrid.specs.Steps.Starts.{MayStart}
 use Rattle.automata_hybrid.specs.Cache.Table.{IsRowState, Rows}
-use Rattle.automata_hybrid.specs.Walks.Answers.{AreWalked, Arrives, Finishes, HasItsState, HasReported, HasReportedAll}
+use Rattle.automata_hybrid.specs.Walks.Answers.{AreWalked, HasItsState, HasReported, HasReportedAll}
+use Rattle.automata_hybrid.specs.Private.Walks.Answers.{Arrives, Finishes}
 use Rattle.automata_hybrid.specs.Walks.Answers.{HasReportedAt, HasReportedBy, StandsAtState, ReportsNext, WalkMeetsNoQuit}
 use Rattle.automata_hybrid.specs.Walks.Answers.{half_nth, start_count}
-use Rattle.automata_hybrid.specs.Walks.State.{At, Ended, Fresh, Stage, Walk, ended_walk, with_match, without_match}
+use Rattle.automata_hybrid.specs.Walks.State.{At, Ended, Fresh, Stage, Walk, without_match}
+use Rattle.automata_hybrid.specs.Private.Walks.State.{ended_walk, with_match}
 use Rattle.automata_hybrid.proofs.Cache.Growth.{clears_none, clears_none_back}
 use Rattle.automata_hybrid.proofs.Searches.PassState.{false_true}
 use Rattle.automata_hybrid.proofs.Walks.Reports.{Begins, finish_all, half_at_place, half_after, half_past, place_length}

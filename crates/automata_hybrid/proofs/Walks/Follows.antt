@@ -11,13 +11,14 @@ use Rattle.automata_base.proofs.Paths.Orders.{none_some}
 use Rattle.automata_config.specs.declared.error.SearchError.{SearchError}
 use Rattle.automata_hybrid.specs.Cache.Caches.{CacheView, IsStoreOf, counted}
 use Rattle.automata_hybrid.specs.Cache.Growth.{ClearedNothing, IsGrown, PutsBack}
-use Rattle.automata_hybrid.specs.Cache.Table.{IsKnownState, IsNewState, IsRowState, id_of}
+use Rattle.automata_hybrid.specs.Cache.Table.{IsKnownState, IsRowState, id_of}
+use Rattle.automata_hybrid.specs.Private.Cache.Table.{IsNewState}
 use Rattle.automata_hybrid.specs.Machines.Machine.{Machine, quits_on, unit_class}
 use Rattle.automata_hybrid.specs.Searches.Cached.{IsOfInput, KnowsItsStart, KnowsUnit}
 use Rattle.automata_hybrid.specs.Searches.Passes.{HasReadNoQuit, IsUnitError, Skips, given_up_offset, state_in, tape_in}
 use Rattle.automata_hybrid.specs.Searches.Progress.{Goes, GoesToEnd, HasItsStart, IsLeftAt, IsUnitRead, start_event}
 use Rattle.automata_hybrid.specs.Searches.Progress.{with_search_begun}
-use Rattle.automata_hybrid.specs.Searches.PassState.{HasLearnedUnit}
+use Rattle.automata_hybrid.specs.Private.Searches.PassState.{HasLearnedUnit}
 use Rattle.automata_hybrid.specs.Cache.Progress.{progress_finished, progress_updated}
 use Rattle.automata_hybrid.specs.Steps.Starts.{MayStart}
 use Rattle.automata_hybrid.specs.Walks.Answers.{HasItsState, HasReported, HasReportedAt, HasReportedBy, IsWalkErrorAt, IsResumeError, IsSilent, IsWalkError}

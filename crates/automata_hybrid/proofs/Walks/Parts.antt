@@ -17,7 +17,7 @@ use Rattle.automata_config.specs.declared.error.StepError.TheVariants as step
 use Rattle.automata_config.specs.declared.error.SearchError.{SearchError}
 use Rattle.automata_config.specs.declared.error.SearchError.TheVariants as search
 use Rattle.automata_hybrid.specs.Cache.Caches.{CacheView, IsStoreOf}
-use Rattle.automata_hybrid.specs.Cache.Growth.{AddFails}
+use Rattle.automata_hybrid.specs.Private.Cache.Growth.{AddFails}
 use Rattle.automata_hybrid.specs.Cache.Stores.{Stored}
 use Rattle.automata_hybrid.specs.Cache.Table.{IsKnownState, Leads, Rows}
 use Rattle.automata_hybrid.specs.Cache.Usage.{GivesUp}
@@ -25,17 +25,19 @@ use Rattle.automata_hybrid.specs.Machines.Machine.{Machine}
 use Rattle.automata_hybrid.specs.Machines.StartSlots.{supports}
 use Rattle.automata_hybrid.specs.Searches.Contracts.{IsUnsupported, unsupported_error}
 use Rattle.automata_hybrid.specs.Searches.Passes.{behind_offset, given_up_offset, state_in, tape_in}
-use Rattle.automata_hybrid.specs.Searches.PassState.{step_error}
+use Rattle.automata_hybrid.specs.Private.Searches.PassState.{step_error}
 use Rattle.automata_hybrid.specs.Searches.Progress.{HasItsStart}
 use Rattle.automata_hybrid.specs.Calls.Steps.{StartFailsAt}
 use Rattle.automata_hybrid.specs.Steps.Starts.{IsStartAnswer, IsStartError, IsStartErrorAt, quit_behind}
 use Rattle.automata_hybrid.specs.Steps.Starts.{start_search_error}
 use Rattle.automata_hybrid.specs.Walks.Answers.{HasItsState, HasReportedAt, IsPutBackError, IsResumeError, IsWalkOf}
 use Rattle.automata_hybrid.specs.Walks.Answers.{ReportsNext}
-use Rattle.automata_hybrid.specs.Walks.Parts.{IsCallAnswer, IsResumeAnswer}
+use Rattle.automata_hybrid.specs.Private.Walks.Parts.{IsCallAnswer, IsResumeAnswer}
 use Rattle.automata_hybrid.specs.Walks.Progress.{HasItsRow, IsNotResumed, IsResumed, IsWalkRun, LeavesCall, ReadsNoUnit}
-use Rattle.automata_hybrid.specs.Walks.State.{At, Ended, Fresh, Holds, HoldsNone, Ids, IsHeldAt, IsHeldItself, Keeping, Stage}
-use Rattle.automata_hybrid.specs.Walks.State.{States, Walk, keeping_of, without_match}
+use Rattle.automata_hybrid.specs.Walks.State.{At, Ended, Fresh, Ids, Keeping, Stage}
+use Rattle.automata_hybrid.specs.Private.Walks.State.{Holds, HoldsNone, IsHeldAt, IsHeldItself}
+use Rattle.automata_hybrid.specs.Walks.State.{States, Walk, without_match}
+use Rattle.automata_hybrid.specs.Private.Walks.State.{keeping_of}
 use Rattle.automata_hybrid.specs.declared.search.walk.Held.{Held}
 use Rattle.automata_hybrid.specs.declared.search.walk.Held.TheVariants as held
 use Rattle.automata_hybrid.proofs.Searches.PassState.{false_true, state_first}

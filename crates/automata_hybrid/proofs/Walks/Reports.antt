@@ -13,7 +13,8 @@ use Rattle.automata_base.specs.declared.util.search.Direction.{Direction}
 use Rattle.automata_base.specs.Retraced.Passes.{pairs_reported}
 use Rattle.automata_hybrid.specs.Machines.Machine.{Machine}
 use Rattle.automata_hybrid.specs.Searches.Passes.{HasReadNoQuit, Skips, state_in, tape_in}
-use Rattle.automata_hybrid.specs.Walks.Answers.{AreWalked, Finishes, HasReportedBy, IsSilent, WalkMeetsNoQuit}
+use Rattle.automata_hybrid.specs.Walks.Answers.{AreWalked, HasReportedBy, IsSilent, WalkMeetsNoQuit}
+use Rattle.automata_hybrid.specs.Private.Walks.Answers.{Finishes}
 use Rattle.automata_hybrid.specs.Walks.Answers.{half_nth, pairs_reported_in}
 use Rattle.automata_hybrid.proofs.Searches.PassState.{dead_more}
 use Rattle.std.proofs.lemmas.Bool.{cases_lt}

@@ -5,7 +5,6 @@ use Rattle.std.proofs.Common.{arith, length-set}
 use Rattle.std.proofs.lemmas.Bool.{cases_eq}
 use Rattle.std.proofs.lemmas.List.{get_or-set_other, get_or-set_same}
 use Rattle.automata_base.specs.Answers.Answers.{ArePatterns, ArePatternsFound, HasPattern, IsInput, first_alone}
-use Rattle.automata_base.specs.Nfas.Engines.{engine_of}
 use Rattle.automata_base.specs.Haystacks.Input.{Input}
 use Rattle.automata_base.specs.Lists.{In}
 use Rattle.automata_base.specs.Haystacks.Matches.{HalfMatch}
@@ -22,11 +21,12 @@ use Rattle.automata_hybrid.specs.Cache.Caches.{CacheView}
 use Rattle.automata_hybrid.specs.Cache.Growth.{IsGrown}
 use Rattle.automata_hybrid.specs.Searches.Cached.{KnowsItsStart}
 use Rattle.automata_hybrid.specs.Walks.Cached.{IsOpen, KnowsItsState, KnowsWalk, KnowsWhich}
-use Rattle.automata_hybrid.specs.Machines.Machine.{Machine}
+use Rattle.automata_hybrid.specs.Machines.Machine.{Machine, engine}
 use Rattle.automata_base.specs.Powersets.Powerset.{Powerset, cost}
 use Rattle.automata_hybrid.specs.Walks.Progress.{HaveCalled, IsJoined, IsJoinedAfter, IsOpenAfter}
 use Rattle.automata_hybrid.specs.Searches.Passes.{tape_in}
-use Rattle.automata_hybrid.specs.Walks.Answers.{AreWalked, GoesOn, HasItsState, HasReported, HasReportedAt, HasReportedBy}
+use Rattle.automata_hybrid.specs.Walks.Answers.{AreWalked, HasItsState, HasReported, HasReportedAt, HasReportedBy}
+use Rattle.automata_hybrid.specs.Private.Walks.Answers.{GoesOn}
 use Rattle.automata_hybrid.specs.Walks.Answers.{ReportsNext, half_nth}
 use Rattle.automata_hybrid.specs.Walks.State.{At, Ended, Fresh, Stage, Walk, fresh_walk}
 use Rattle.automata_hybrid.proofs.Searches.PassState.{false_true}
@@ -356,7 +356,7 @@ pub patterns_of :
     (m : Machine) (input : Input) → WalkIsRight m.nfa → IsInput input → (old new : List Bool)
     → KeepsCycles (nfa_of m.nfa)
     → ArePatterns (AreWalked Forward m input) input (length old) (members old) (members new)
-    → ArePatternsFound (engine_of m.nfa (match_kind_of m.config)) input (length old) (members old) (members new)
+    → ArePatternsFound (engine m) input (length old) (members old) (members new)
 patterns_of m input law good old new kept h = (h.0, law Forward (match_kind_of m.config) input h.0 kept good h.1, h.2)
 
 none_half : (half : HalfMatch) → ◌≡◌ {A = Option HalfMatch} None (Some half) → ⊥

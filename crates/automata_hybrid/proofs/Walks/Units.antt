@@ -15,9 +15,10 @@ use Rattle.automata_hybrid.specs.Cache.Table.{Rows}
 use Rattle.automata_hybrid.specs.Machines.Machine.{Machine}
 use Rattle.automata_hybrid.specs.Searches.Passes.{HasReadNoQuit, Skips, given_up_offset, state_in, tape_in}
 use Rattle.automata_hybrid.specs.Searches.Progress.{Goes, GoesToEnd, IsUnitRead, with_search_begun, with_search_moved}
-use Rattle.automata_hybrid.specs.Walks.Answers.{Arrives, IsArrival, IsSilent, IsUnheld, WalkReads}
+use Rattle.automata_hybrid.specs.Walks.Answers.{IsSilent, IsUnheld, WalkReads}
+use Rattle.automata_hybrid.specs.Private.Walks.Answers.{Arrives, IsArrival}
 use Rattle.automata_hybrid.specs.Walks.Cached.{IsToRead}
-use Rattle.automata_hybrid.specs.Walks.Parts.{IsAdvanceEffect}
+use Rattle.automata_hybrid.specs.Private.Walks.Parts.{IsAdvanceEffect}
 use Rattle.automata_hybrid.specs.Walks.Progress.{IsCallStopped, IsResumed, IsWalkRun}
 use Rattle.automata_hybrid.specs.Walks.State.{Ended, Keeping, States, Walk}
 use Rattle.automata_hybrid.specs.declared.search.advance.Arrival.{Arrival}

@@ -2,7 +2,7 @@
 use Rattle.std.specs.Prelude.{◌≡◌, ℕ, ◌+◌, ◌^◌, ◌<◌, ◌≤◌, ◌⊎◌, length}
 use Rattle.automata_hybrid.specs.Cache.Ids.{dead_id, quit_id}
 use Rattle.automata_hybrid.specs.Machines.Machine.{Machine}
-use Rattle.automata_hybrid.specs.Cache.Table.{AreRows, IsRowId}
+use Rattle.automata_hybrid.specs.Cache.Table.{RowsFitCells, IsRowId}
 use Rattle.automata_hybrid.specs.Cache.Clears.{AllStarts}
 use Rattle.automata_hybrid.specs.Cache.Usage.{usage}
 use Rattle.automata_hybrid.specs.Cache.Stores.{Stored, fresh_store}
@@ -24,7 +24,7 @@ pub record IsStoreOf (c : Stored) (m : Machine) : Type 0 where
   -- It belongs to the DFA.
   pub of : c.table.of ≡ m
   -- Its rows and cells fit each other.
-  pub rows : AreRows c.table
+  pub rows : RowsFitCells c.table
   -- Each start slot has its own start state, or none yet.
   pub starts : AllStarts c.table c.starts
   -- There are as many start slots as the DFA has.

@@ -1,10 +1,10 @@
 -- What adding a state, a transition or a start does to a cache.
-use Rattle.std.specs.Prelude.{◌≡◌, ℕ, zero, suc, ◌<◌, ◌⊎◌, false, Option, None, Some, length}
+use Rattle.std.specs.Prelude.{◌≡◌, ℕ, zero, suc, ◌<◌, ◌⊎◌, false, Option, None, Some}
 use Rattle.automata_base.specs.Powersets.Powerset.{Powerset, cost}
 use Rattle.automata_hybrid.specs.declared.dfa.row.Row.{Row}
-use Rattle.automata_hybrid.specs.Cache.Table.{Rows, Leads, Lacks, IsKnownState, with_row, Names}
-use Rattle.automata_hybrid.specs.Cache.Clears.{put, row_of}
-use Rattle.automata_hybrid.specs.Cache.Stores.{Stored, IsKnownStart, IsKnownTransition, KeepsStarts}
+use Rattle.automata_hybrid.specs.Cache.Table.{Rows, Leads, Lacks, with_row, Names}
+use Rattle.automata_hybrid.specs.Cache.Clears.{with_row_once, row_of}
+use Rattle.automata_hybrid.specs.Cache.Stores.{Stored, IsKnownStart, IsKnownTransition}
 use Rattle.automata_hybrid.specs.Cache.Stores.{with_next, with_searched, with_start, with_table}
 use Rattle.automata_base.specs.Retraced.Steps.{start_state_of, successor}
 use Rattle.automata_base.specs.declared.util.search.Anchored.{Anchored}
@@ -17,7 +17,7 @@ use Rattle.automata_config.specs.Options.{match_kind_of, specialize_start_states
 -- with the row that was found, if one was
 abbrev pub put_found : Rows → Option Row → Rows
 put_found t None = t
-put_found t (Some r) = put t r
+put_found t (Some r) = with_row_once t r
 
 -- with one more row
 abbrev pub grown : Stored → Row → Stored
@@ -33,28 +33,6 @@ abbrev pub IsStateAdded : (old emptied : Stored) → Row → Stored → Type 0
 IsStateAdded old emptied r new =
     (Fits old (cost r.state) × (new ≡ grown old r))
     ⊎ ((Fits old (cost r.state) → ⊥) × (refuses_to_clear old ≡ false) × (new ≡ grown emptied r))
-
--- what adding a state that is absent returns: its ID
-pub record AddsRow (old emptied new : Stored) (r : Row) (id : ℕ) : Type 0 where
-  -- The cache grew, or was cleared first.
-  pub effect : IsStateAdded old emptied r new
-  -- The ID names the state.
-  pub named : Names new.table id r.state
-  -- No other state was added.
-  pub only : (p : Powerset) → IsKnownState new.table p → IsKnownState old.table p ⊎ (p ≡ r.state)
-  -- There are as many slots as before.
-  pub slots : length new.starts ≡ length old.starts
-  -- Each start state that was cached is cached.
-  pub starts : KeepsStarts old.starts new.starts
-  -- The cache belongs to the same machine.
-  pub of : new.table.of ≡ old.table.of
-
--- what adding a state that is absent returns, stepped to from a row: the ID of that row as it is now, and the new one
-pub record AddsNext (old new : Stored) (from : ℕ) (q : Powerset) (now next : ℕ) : Type 0 where
-  -- The state was added; a clear saves the row that was stepped from.
-  pub row : AddsRow old (cleared_saving old from) new (record { state = q; started = false }) next
-  -- That row is there, and has this ID now.
-  pub saved : (p : Powerset) → Names old.table from p → Names new.table now p
 
 -- the whole effect of computing a transition from a state to a target: the ID of the target is written, at the row as
 -- it is after the target was added, if no row had it

@@ -1,13 +1,12 @@
 -- What a clear keeps: the start states, each with its slots.
-use Rattle.std.specs.Prelude.{◌≡◌, ℕ, ◌+◌, ◌-◌, ◌/◌, ◌%◌, ◌<◌, ◌≤◌, ◌⊎◌, List, [], ◌∷◌, ◌++◌, length, cond, Option}
-use Rattle.std.specs.Prelude.{None, Some, is_some, slice_get, slice_index, nat_le, unwrap_or}
+use Rattle.std.specs.Prelude.{◌≡◌, ℕ, ◌-◌, ◌/◌, ◌%◌, ◌⊎◌, List, [], ◌∷◌, ◌++◌, cond, Option}
+use Rattle.std.specs.Prelude.{None, Some, is_some, slice_get, nat_le, unwrap_or}
 use Rattle.automata_base.specs.Powersets.Powerset.{Powerset}
 use Rattle.automata_hybrid.specs.declared.dfa.row.Row.{Row}
 use Rattle.automata_base.specs.Retraced.Steps.{start_state_of}
 use Rattle.automata_base.specs.declared.util.search.Anchored.{Anchored}
 use Rattle.automata_hybrid.specs.Machines.StartSlots.{slot_behind}
-use Rattle.automata_hybrid.specs.Cache.Table.{Leads, Names, Rows, fresh, id_of, with_row}
-use Rattle.automata_hybrid.specs.Cache.Stores.{KeepsStarts}
+use Rattle.automata_hybrid.specs.Cache.Table.{Leads, Rows, fresh, id_of, with_row}
 use Rattle.automata_hybrid.specs.Cache.Ids.{unknown_id, fixed_from, offset_limit}
 
 -- an ID leads to the start state of a slot: that of each mode after each look-behind byte that has it
@@ -21,7 +20,7 @@ LeadsToStart t id slot =
 abbrev pub IsSlot : Rows → (slot id : ℕ) → Type 0
 IsSlot t slot id = (id ≡ unknown_id) ⊎ LeadsToStart t id slot
 
--- each slot has that
+-- each start slot has what a slot has: unknown, dead, or the ID of its start state
 abbrev pub AllStarts : Rows → List ℕ → Type 0
 AllStarts t starts = (slot id : ℕ) → slice_get starts slot ≡ Some id → IsSlot t slot id
 
@@ -30,8 +29,8 @@ abbrev pub row_of : Rows → ℕ → Option Row
 row_of t id = slice_get t.rows ((id % offset_limit) / t.of.stride - 3)
 
 -- with this row, unless its state has one
-abbrev pub put : Rows → Row → Rows
-put t r = cond (is_some (id_of t r.state)) t (with_row t r)
+abbrev pub with_row_once : Rows → Row → Rows
+with_row_once t r = cond (is_some (id_of t r.state)) t (with_row t r)
 
 -- rows and slots while start states are kept
 pub record Kept : Type 0 where
@@ -44,8 +43,8 @@ pub record Kept : Type 0 where
 abbrev pub keep_found : Option Row → Kept → Kept
 keep_found None k = k
 keep_found (Some r) k = record {
-  table = put k.table r;
-  starts = k.starts ++ unwrap_or (id_of (put k.table r) r.state) unknown_id ∷ [];
+  table = with_row_once k.table r;
+  starts = k.starts ++ unwrap_or (id_of (with_row_once k.table r) r.state) unknown_id ∷ [];
 }
 
 -- a slot that names a row: the row stays, and the slot has its new ID; another slot stays as it is
@@ -54,7 +53,7 @@ keep_slot old k id =
     cond (nat_le fixed_from id) (record { table = k.table; starts = k.starts ++ id ∷ [] })
     (keep_found (row_of old id) k)
 
--- the same of each slot in turn
+-- each slot that names a row keeps that row, under its new ID, one slot after another
 unfoldable pub keep_slots : Rows → Kept → List ℕ → Kept
 keep_slots old k [] = k
 keep_slots old k (id ∷ ids) = keep_slots old (keep_slot old k id) ids
@@ -62,50 +61,3 @@ keep_slots old k (id ∷ ids) = keep_slots old (keep_slot old k id) ids
 -- the rows and the slots after a clear: the fixed rows, and the start states in the order of the slots, each once
 abbrev pub kept : Rows → List ℕ → Kept
 kept old starts = keep_slots old (record { table = fresh old.of; starts = [] }) starts
-
--- the row of an ID was put into a table, where it has a new ID
-pub record IsPut (old before after : Rows) (id new : ℕ) : Type 0 where
-  -- There is a row.
-  pub row : Row
-  -- The ID names it in the old table.
-  pub at : row_of old id ≡ Some row
-  -- It was put into the other one, unless its state was there.
-  pub put_there : after ≡ put before row
-  -- The new ID names its state there.
-  pub named : Names after new row.state
-
--- what keeping one more slot of an old table makes of the rows and the slots that are kept
-pub record KeepsSlot (old : Rows) (id : ℕ) (before after : Kept) : Type 0 where
-  -- It is kept as a clear keeps it.
-  pub value : after ≡ keep_slot old before id
-  -- Each slot has its start.
-  pub named : AllStarts after.table after.starts
-  -- There is at most one row more.
-  pub few : length after.table.rows ≤ length before.table.rows + 1
-  -- There is one slot more.
-  pub slots : length after.starts ≡ length before.starts + 1
-  -- The slots before it are as they were.
-  pub front : (slot : ℕ) → slot < length before.starts → slice_index after.starts slot ≡ slice_index before.starts slot
-  -- If its start state was cached, it is cached.
-  pub known : id < unknown_id → slice_index after.starts (length before.starts) < unknown_id
-  -- No state is there that neither table had.
-  pub absent : (q : Powerset) → id_of old q ≡ None → id_of before.table q ≡ None → id_of after.table q ≡ None
-  -- The rows belong to the same machine.
-  pub of : after.table.of ≡ before.table.of
-
--- the rows and the slots that are kept of an old table
-pub record KeepsAllStarts (old : Rows) (starts : List ℕ) (k : Kept) : Type 0 where
-  -- These rows and slots are kept.
-  pub value : k ≡ kept old starts
-  -- Each slot has its start.
-  pub named : AllStarts k.table k.starts
-  -- There are no more rows than slots.
-  pub few : length k.table.rows ≤ length starts
-  -- There are as many slots as before.
-  pub slots : length k.starts ≡ length starts
-  -- Each start state that was cached is cached.
-  pub known : KeepsStarts starts k.starts
-  -- No state is there that was not there before.
-  pub absent : (q : Powerset) → id_of old q ≡ None → id_of k.table q ≡ None
-  -- The rows belong to the same machine.
-  pub of : k.table.of ≡ old.of

@@ -1,11 +1,10 @@
 -- What steps and searches do to a cache. A reset does more.
-use Rattle.std.specs.Prelude.{◌≡◌, ℕ, ◌+◌, ◌-◌, ◌*◌, ◌^◌, ◌<◌, ◌≤◌, ◌⊎◌, ◌↔◌, length, slice_index, false, true}
+use Rattle.std.specs.Prelude.{◌≡◌, ℕ, ◌+◌, ◌-◌, ◌*◌, ◌^◌, ◌<◌, ◌≤◌, ◌⊎◌, length, slice_index, false, true}
 use Rattle.std.specs.Prelude.{Option}
 use Rattle.automata_base.specs.Powersets.Powerset.{Powerset}
-use Rattle.automata_config.specs.declared.error.StepError.{StepError}
 use Rattle.automata_hybrid.specs.Cache.Stores.{Stored, IsKnownStart, IsKnownTransition, KeepsStarts, cell_of}
-use Rattle.automata_hybrid.specs.Cache.Stores.{IsCacheError, with_searched}
-use Rattle.automata_hybrid.specs.Cache.Usage.{GivesUp, cleared, row_usage, usage}
+use Rattle.automata_hybrid.specs.Cache.Stores.{with_searched}
+use Rattle.automata_hybrid.specs.Cache.Usage.{cleared, row_usage, usage}
 use Rattle.automata_hybrid.specs.Cache.Caches.{CacheView}
 use Rattle.automata_hybrid.specs.Cache.Changes.{AreChanges, IsStateAdded}
 use Rattle.automata_hybrid.specs.Cache.Ids.{offset_limit, HasStartTag}
@@ -98,11 +97,3 @@ pub record PutsBack (q : Powerset) (old new : CacheView) : Type 0 where
   pub starts : KeepsStarts old.store.starts new.store.starts
   -- nothing was determinized
   pub counted : new.count ≡ old.count
-
--- a state could not be added: nothing changed. The call gave up exactly if it had to: out of memory comes only where
--- the state fits, or the cache may be cleared for it
-pub record AddFails (old new : CacheView) (q : Powerset) (e : StepError) : Type 0 where
-  -- nothing changed
-  pub kept : new ≡ old
-  -- the error is one of the cache exactly if the call had to give up
-  pub gives_up : IsCacheError e ↔ GivesUp old.store q

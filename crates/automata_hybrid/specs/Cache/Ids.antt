@@ -1,5 +1,5 @@
 -- Identifiers of states: an offset of a row and tags, or one of the three fixed ones.
-use Rattle.std.specs.Prelude.{ℕ, ◌+◌, ◌*◌, ◌%◌, ◌^◌, ◌<◌, ◌≤◌, ◌≡◌, Bool, IsBitSet, if◌then◌else◌}
+use Rattle.std.specs.Prelude.{ℕ, ◌+◌, ◌*◌, ◌^◌, Bool, IsBitSet, if◌then◌else◌}
 
 -- the tags of a row: started, and with patterns
 abbrev pub tags : Bool → Bool → ℕ
@@ -24,20 +24,6 @@ HasQuitTag id = IsBitSet id 29
 -- an ID has the dead tag
 abbrev pub HasDeadTag : ℕ → Type 0
 HasDeadTag id = IsBitSet id 30
-
--- no tag, or the match tag
-pub record IsRunTag (tag : ℕ) : Type 0 where
-  -- it is at most the match tag
-  pub upto : tag ≤ offset_limit
-  -- it has none of the bits of an offset
-  pub whole : tag % offset_limit ≡ 0
-
--- an ID has this tag and no other
-pub record HasOnly (tag id : ℕ) : Type 0 where
-  -- the ID is at least the tag
-  pub from : tag ≤ id
-  -- it exceeds the tag by less than the limit of offsets
-  pub below : id < tag + offset_limit
 
 -- IDs of rows are below this, and the three fixed ones not
 abbrev pub fixed_from : ℕ

@@ -31,7 +31,7 @@ progress_updated s at = record {
   running = option_map (λ (p : Progress). record { start = p.start; place = at }) s.running;
 }
 
--- it has come to an offset and ended
+-- the open search, if there is one, has come to an offset and ended
 abbrev pub progress_finished : Searched → ℕ → Searched
 progress_finished s at = record { bytes = total_len (progress_updated s at); running = None }
 

@@ -1,14 +1,12 @@
 -- What contracts see of a cache, its starts and its transitions, and how one of these is written.
 use Rattle.std.specs.Prelude.{ℕ, ◌≡◌, ◌^◌, ◌<◌, ◌≤◌, List, None, length, slice_index, slice_set, replicate}
 use Rattle.automata_hybrid.specs.declared.dfa.progress.Searched.{Searched}
-use Rattle.automata_hybrid.specs.declared.dfa.settings.Settings.{Settings}
 use Rattle.automata_config.specs.declared.error.StepError.{StepError}
 use Rattle.automata_config.specs.declared.error.StepError.TheVariants.{Cache, OutOfMemory}
 use Rattle.automata_hybrid.specs.Cache.Ids.{unknown_id}
 use Rattle.automata_hybrid.specs.Machines.Machine.{Machine}
 use Rattle.automata_hybrid.specs.Cache.Table.{Rows, with_cell, cell_at, fresh, HasCells, HasItsMatchTag, HasLowIds}
 use Rattle.automata_hybrid.specs.Cache.Table.{HasNoDeadRow, HasOwnStates, HasRowIds}
-use Rattle.automata_config.specs.Options.{minimum_cache_clear_count_of, minimum_bytes_per_state_of}
 
 -- what contracts see of a cache
 pub record Stored : Type 0 where
@@ -20,15 +18,6 @@ pub record Stored : Type 0 where
   pub clears : ℕ
   -- The progress of searches.
   pub searched : Searched
-
--- what the cache of a machine is bounded by
-abbrev pub settings_of : Machine → Settings
-settings_of m = record {
-  capacity = m.capacity;
-  fixed = m.fixed;
-  minimum_clear_count = minimum_cache_clear_count_of m.config;
-  minimum_bytes_per_state = minimum_bytes_per_state_of m.config;
-}
 
 -- with another table
 abbrev pub with_table : Stored → Rows → Stored

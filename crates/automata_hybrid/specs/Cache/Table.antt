@@ -1,10 +1,7 @@
 -- What contracts see of the table: the rows of the states, and what their identifiers name.
 use Rattle.std.specs.Prelude.{◌≡◌, ℕ, ◌+◌, ◌*◌, ◌%◌, ◌<◌, ◌≤◌, ◌⊎◌, ◌↔◌, List, [], ◌∷◌, ◌++◌, length, Bool}
 use Rattle.std.specs.Prelude.{true, cond, nat_lt, Option, None, Some, slice_index, slice_set, slice_get, replicate}
-use Rattle.std.specs.Prelude.{take, sum_by}
-use Rattle.std.specs.HashMap.{HashMap, get}
-use Rattle.std.specs.declared.hash.FoldHasher.{FoldHasher}
-use Rattle.std.specs.declared.hash.BuildHasherDefault.{BuildHasherDefault}
+use Rattle.std.specs.Prelude.{take}
 use Rattle.automata_base.specs.Powersets.Powerset.{Powerset, cost}
 use Rattle.automata_base.specs.Powersets.Equal.{powerset_eq}
 use Rattle.automata_base.specs.Powersets.Passes.{IsUnit}
@@ -12,7 +9,7 @@ use Rattle.automata_hybrid.specs.declared.dfa.row.Row.{Row}
 use Rattle.automata_base.specs.Powersets.Powerset.{dead}
 use Rattle.automata_hybrid.specs.Cache.Ids.{tags, dead_id, quit_id, unknown_id, fixed_from, offset_limit}
 use Rattle.automata_hybrid.specs.Cache.Ids.{HasMatchTag, HasStartTag}
-use Rattle.automata_hybrid.specs.Machines.Machine.{IsTemplate, Machine, unit_class}
+use Rattle.automata_hybrid.specs.Machines.Machine.{Machine, unit_class}
 use Rattle.automata_hybrid.specs.Machines.Reachable.{IsStateOf}
 use Rattle.automata_base.specs.Retraced.Steps.{successor}
 use Rattle.automata_config.specs.Options.{match_kind_of}
@@ -105,10 +102,6 @@ fresh m = record { of = m; cells = fixed_rows m.stride; rows = [] }
 abbrev pub with_row : Rows → Row → Rows
 with_row t r = record { of = t.of; cells = t.cells ++ t.of.template; rows = t.rows ++ r ∷ [] }
 
--- the map from states to IDs
-abbrev pub StateMap : Type 0
-StateMap = HashMap Powerset ℕ (BuildHasherDefault FoldHasher)
-
 -- each cached cell of a row names the next state of that row's state
 abbrev pub IsStepped : Rows → Type 0
 IsStepped t =
@@ -132,7 +125,7 @@ pub record IsRowState (m : Machine) (q : Powerset) : Type 0 where
 
 -- rows and cells fit each other: the fixed rows come first, no state has two rows, and each cached cell leads where its
 -- row's state goes
-pub record AreRows (t : Rows) : Type 0 where
+pub record RowsFitCells (t : Rows) : Type 0 where
   -- There are as many cells as all rows have.
   pub whole : length t.cells ≡ (length t.rows + 3) * t.of.stride
   -- The offset of the last row is below the limit.
@@ -170,54 +163,6 @@ HasNoDeadRow t = (id : ℕ) (q : Powerset) → Names t id q → q ≡ dead → �
 abbrev pub HasOwnStates : Rows → Type 0
 HasOwnStates t = (id : ℕ) (q : Powerset) → Names t id q → IsOwn t.of.nfa q
 
--- what is true of the rows of each table
-pub record IsSoundTable (t : Rows) : Type 0 where
-  -- Rows and cells fit each other.
-  pub rows : AreRows t
-  -- Each cell of a new row is quit or unknown.
-  pub template : IsTemplate t.of.stride t.of.template
-  -- The states cost no more than so many of the dearest.
-  pub costs : sum_by row_cost t.rows ≤ length t.rows * t.of.greatest
-  -- IDs of rows have no high tag.
-  pub low : HasLowIds t
-  -- An ID has the match tag exactly if its state has patterns.
-  pub tagged : (id : ℕ) → HasItsMatchTag t id
-  -- No row has the dead state.
-  pub alive : HasNoDeadRow t
-  -- Each row has a state of the automaton.
-  pub own : HasOwnStates t
-  -- Each row has a cell for each class.
-  pub cells : HasCells t
-
--- the row at an index has this state
-abbrev pub HasState : Rows → ℕ → Powerset → Type 0
-HasState t k q = (r : Row) × (slice_get t.rows k ≡ Some r) × (r.state ≡ q)
-
--- a state that may be added to a table
-pub record IsNewState (t : Rows) (q : Powerset) : Type 0 where
-  -- No row has it, and it is not dead.
-  pub lacks : Lacks t q
-  -- It costs no more than a state may.
-  pub cheap : cost q ≤ t.of.greatest
-  -- It is a state of the DFA.
-  pub own : IsStateOf t.of q
-
 -- with a cell written
 abbrev pub with_cell : Rows → ℕ → ℕ → ℕ → Rows
 with_cell t id class next = record { of = t.of; cells = slice_set t.cells (cell_at id class) next; rows = t.rows }
-
--- the parts of a table: its rows fit together, a new row and the length of each are its machine's, the map finds each
--- state's row, and the costs are those of all states
-pub record IsHeld (t : Rows) (s : ℕ) (row : List ℕ) (map : StateMap) (costs : ℕ) : Type 0 where
-  -- Rows and cells fit each other.
-  pub rows : AreRows t
-  -- Each cell of a new row is quit or unknown.
-  pub cells : IsTemplate t.of.stride t.of.template
-  -- The length of a row is that of the machine.
-  pub stride : s ≡ t.of.stride
-  -- A new row is that of the machine.
-  pub template : row ≡ t.of.template
-  -- The map has for each state the ID of its row.
-  pub mapped : (q : Powerset) → get powerset_eq map q ≡ id_of t q
-  -- The costs are those of all states.
-  pub costs_of : costs ≡ sum_by row_cost t.rows

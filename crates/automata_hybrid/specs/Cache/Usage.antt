@@ -1,17 +1,15 @@
 -- The accounted bytes of a cache, what fits, and when a clear is not allowed.
-use Rattle.std.specs.Prelude.{◌≡◌, ℕ, ◌+◌, ◌*◌, ◌^◌, ◌<◌, ◌≤◌, length, Bool, true, false, cond, Option, None, Some}
+use Rattle.std.specs.Prelude.{◌≡◌, ℕ, ◌+◌, ◌*◌, ◌<◌, ◌≤◌, length, Bool, true, false, cond, Option, None, Some}
 use Rattle.std.specs.Prelude.{sum_by, nat_lt}
 use Rattle.automata_base.specs.Powersets.Powerset.{Powerset, cost}
 use Rattle.automata_base.specs.Powersets.Accounting.{cell_size, entry_size, fixed_rows_cost}
-use Rattle.automata_base.specs.Powersets.Accounting.{minimum_capacity}
 use Rattle.automata_base.specs.Powersets.Accounting.{row_size}
-use Rattle.automata_hybrid.specs.declared.dfa.settings.Settings.{Settings}
 use Rattle.automata_hybrid.specs.Cache.Ids.{offset_limit}
 use Rattle.automata_hybrid.specs.Machines.Machine.{Machine}
 use Rattle.automata_hybrid.specs.Cache.Table.{row_cost, Lacks}
-use Rattle.automata_hybrid.specs.Cache.Clears.{AllStarts, KeepsAllStarts, kept}
+use Rattle.automata_hybrid.specs.Cache.Clears.{kept}
 use Rattle.automata_hybrid.specs.Cache.Progress.{saturated, total_len, progress_cleared}
-use Rattle.automata_hybrid.specs.Cache.Stores.{Stored, settings_of}
+use Rattle.automata_hybrid.specs.Cache.Stores.{Stored}
 use Rattle.automata_config.specs.Options.{minimum_cache_clear_count_of, minimum_bytes_per_state_of}
 
 -- the accounted bytes: those of the cells and of the slots, of the rows with the three fixed ones, and of their entries
@@ -30,10 +28,6 @@ row_usage m = cell_size * m.stride + (row_size + entry_size)
 abbrev pub Fits : Stored → ℕ → Type 0
 Fits c extra =
     (usage c + row_usage c.table.of + extra ≤ c.table.of.capacity) × (length c.table.cells < offset_limit)
-
--- any state fits
-abbrev pub FitsAny : Stored → Type 0
-FitsAny c = (extra : ℕ) → extra ≤ c.table.of.greatest → Fits c extra
 
 -- too few bytes were searched for so many states: fewer than the number that is set for each; any, if none is set
 abbrev pub short_of : Option ℕ → ℕ → ℕ → Bool
@@ -59,34 +53,6 @@ cleared c = record {
   clears = saturated (c.clears + 1);
   searched = progress_cleared c.searched;
 }
-
--- what a clear makes of a cache
-pub record IsCleared (old new : Stored) : Type 0 where
-  -- The clear rule allows it.
-  pub allowed : refuses_to_clear old ≡ false
-  -- The start states stay, and the progress of searches begins anew.
-  pub value : new ≡ cleared old
-  -- Each slot is kept, and no other row.
-  pub kept : KeepsAllStarts old.table old.starts (record { table = new.table; starts = new.starts })
-
--- the slots name their states, and the accounted bytes are within the capacity; these settings are those of the machine
-pub record IsCache (c : Stored) (settings : Settings) : Type 0 where
-  -- Each slot has its own start state, or none yet.
-  pub named : AllStarts c.table c.starts
-  -- The accounted bytes are within the capacity.
-  pub within : usage c ≤ c.table.of.capacity
-  -- The capacity is at least the minimum.
-  pub enough :
-      minimum_capacity c.table.of.stride (length c.starts) c.table.of.greatest c.table.of.fixed
-      ≤ c.table.of.capacity
-  -- The offsets of rows in a table of the minimum capacity are below the limit.
-  pub offsets : (length c.starts + 4) * c.table.of.stride < offset_limit
-  -- There are as many slots as the machine has.
-  pub slots : length c.starts ≡ c.table.of.slots
-  -- The settings are those of the machine.
-  pub same : settings ≡ settings_of c.table.of
-  -- The capacity is a number of 64 bits.
-  pub bounded : c.table.of.capacity < 2 ^ 64
 
 -- why a call gives up at a state: it is not there, it does not fit, and the clear rule does not allow a clear
 abbrev pub GivesUp : Stored → Powerset → Type 0

@@ -24,7 +24,8 @@ abbrev pub IsCached : Machine → Stored → Event → Type 0
 IsCached m c (Start mode behind) = slot_behind m mode behind < m.slots → IsKnownStart c (slot_behind m mode behind)
 IsCached m c (Step q unit) = (id : ℕ) × Names c.table id q × KnowsStep m c id unit
 
--- it may be asked for: a search may start so; and a unit that is stepped over is no quit byte, and rows have its class
+-- an event may be asked for: a search may start so; and a unit that is stepped over is no quit byte, and rows have its
+-- class
 abbrev pub MayAsk : Machine → Event → Type 0
 MayAsk m (Start mode behind) = MayStart m mode behind
 MayAsk m (Step q unit) = (quits_on m unit ≡ false) × (unit_class m unit < m.stride)

@@ -58,7 +58,7 @@ pub record StartFails (m : Machine) (mode : Anchored) (behind : Option ℕ) (old
   -- If it may not, nothing has changed.
   pub barred : (MayStart m mode behind → ⊥) → new ≡ old
 
--- the same of a search, which reports the error with the offset of the look-behind byte or of the start
+-- what holds if a search fails at its start state: the error has the offset of the look-behind byte or of the start
 pub record StartFailsAt (m : Machine) (mode : Anchored) (behind : Option ℕ) (behind_at start_at : ℕ)
     (old new : CacheView) (e : SearchError) : Type 0 where
   -- It stems from the error of a start state.

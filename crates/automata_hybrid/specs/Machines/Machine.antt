@@ -1,19 +1,16 @@
 -- What contracts see of a lazy DFA, the units that it reads, and what each lazy DFA keeps.
-use Rattle.std.specs.Prelude.{ℕ, zero, suc, ◌+◌, ◌*◌, ◌<◌, ◌≤◌, List, Bool, true, false, cond}
-use Rattle.std.specs.Prelude.{Option, None, Some, slice_set, slice_index, length, replicate, ◌≡◌, ◌⊎◌}
-use Rattle.automata_base.specs.Powersets.Powerset.{Powerset}
+use Rattle.std.specs.Prelude.{ℕ, zero, suc, List, Bool, false, cond}
+use Rattle.std.specs.Prelude.{Option, None, Some, slice_set, replicate, ◌≡◌}
 use Rattle.automata_base.specs.Nfas.Nodes.{Automaton}
-use Rattle.automata_base.specs.ByteClasses.Classes.{class_in, eoi_class, is_quit, stride_for, stride_of}
-use Rattle.automata_base.specs.Retraced.Steps.{successor}
-use Rattle.automata_base.specs.Powersets.Accounting.{max_cost, minimum_capacity, start_slots, fixed_cost}
-use Rattle.automata_base.specs.Powersets.Passes.{IsUnit}
-use Rattle.automata_hybrid.specs.Machines.OwnStates.{IsOwn}
+use Rattle.automata_base.specs.Nfas.Engines.{Engine, engine_of}
+use Rattle.automata_base.specs.ByteClasses.Classes.{class_in, eoi_class, is_quit, stride_of}
+use Rattle.automata_base.specs.Powersets.Accounting.{max_cost, start_slots, fixed_cost}
 use Rattle.automata_config.specs.Options.{Options, match_kind_of, starts_for_each_pattern_of}
-use Rattle.automata_hybrid.specs.Cache.Ids.{quit_id, unknown_id, offset_limit}
+use Rattle.automata_hybrid.specs.Cache.Ids.{quit_id, unknown_id}
 
--- its automaton and its settings, and the classes of bytes, the quit set and the capacity that these settle; and the
--- numbers that its caches need: the cells of a row, the start slots, the cells of a new row (quit at quit classes, and
--- else unknown), the most that a state costs, and the room for determinization
+-- a lazy DFA as contracts see it: its automaton and its settings; the classes of bytes, the quit set and the capacity
+-- that these settle; and the numbers that its caches need: the cells of a row, the start slots, the cells of a new row
+-- (quit at quit classes, and else unknown), the most that a state costs, and the room for determinization
 pub record Machine : Type 0 where
   -- its NFA
   pub nfa : Automaton
@@ -36,6 +33,10 @@ pub record Machine : Type 0 where
   -- the bytes that a cache accounts for as its room for determinization
   pub fixed : ℕ
 
+-- what a DFA searches by: its NFA with its starts, and its match kind
+abbrev pub engine : Machine → Engine
+engine m = engine_of m.nfa (match_kind_of m.config)
+
 -- the class of a byte or of the end
 abbrev pub unit_class : Machine → Option ℕ → ℕ
 unit_class m None = eoi_class m.classes
@@ -53,21 +54,6 @@ marked classes quits stride (suc byte) =
     cond (is_quit quits byte) (slice_set (marked classes quits stride byte) (class_in classes byte) (quit_id stride))
     (marked classes quits stride byte)
 
--- a row of a stride that is positive, a power of two and at most 512, each cell quit or unknown
-pub record IsTemplate (stride : ℕ) (template : List ℕ) : Type 0 where
-  -- a row has at least one cell
-  pub positive : 0 < stride
-  -- a row has at most 512 cells
-  pub small : stride ≤ 512
-  -- a row has as many cells as some number of classes needs, which is a power of two
-  pub power : (length : ℕ) × (stride ≡ stride_for length)
-  -- a new row is as long as each row
-  pub whole : length template ≡ stride
-  -- each of its cells is quit or unknown
-  pub cells :
-      (class : ℕ) → class < stride → (slice_index template class ≡ quit_id stride)
-      ⊎ (slice_index template class ≡ unknown_id)
-
 -- the numbers of a DFA are those of its automaton, its settings and its classes, and so is a new row
 pub record IsSized (m : Machine) : Type 0 where
   -- a row has as many cells as there are classes, that of the end too, rounded up to a power of two
@@ -80,32 +66,3 @@ pub record IsSized (m : Machine) : Type 0 where
   pub greatest : m.greatest ≡ max_cost m.nfa
   -- the room for determinization is what the NFA needs
   pub fixed : m.fixed ≡ fixed_cost m.nfa
-
--- what each lazy DFA keeps: its numbers are its own, each byte and the end have a class, whose units step alike, and a
--- fresh cache fits
-pub record IsMachine (m : Machine) : Type 0 where
-  -- its numbers are those of its automaton, its settings and its classes
-  pub sizes : IsSized m
-  -- a row has at most 512 cells, in number a power of two, and each cell of a new one is quit or unknown
-  pub template : IsTemplate m.stride m.template
-  -- a row has a cell for each class, and for that of the end
-  pub below : eoi_class m.classes < m.stride
-  -- a new row is quit at the class of each quit byte
-  pub quit :
-      (byte : ℕ) → byte < 256 → is_quit m.quits byte ≡ true
-      → slice_index m.template (class_in m.classes byte) ≡ quit_id m.stride
-  -- a new row is unknown at the class of each other byte
-  pub free :
-      (byte : ℕ) → byte < 256 → is_quit m.quits byte ≡ false
-      → slice_index m.template (class_in m.classes byte) ≡ unknown_id
-  -- a new row is unknown at the class of the end
-  pub end_free : slice_index m.template (eoi_class m.classes) ≡ unknown_id
-  -- units of one class lead each state to the same successor
-  pub alike :
-      (q : Powerset) (unit other : Option ℕ) → IsOwn m.nfa q → IsUnit unit → IsUnit other
-      → unit_class m unit ≡ unit_class m other
-      → successor m.nfa (match_kind_of m.config) q unit ≡ successor m.nfa (match_kind_of m.config) q other
-  -- the capacity is at least the minimum
-  pub enough : minimum_capacity m.stride m.slots m.greatest m.fixed ≤ m.capacity
-  -- the offsets of rows in a table of the minimum capacity are below the limit
-  pub offsets : (m.slots + 4) * m.stride < offset_limit

@@ -4,7 +4,7 @@ use Rattle.automata_base.specs.Haystacks.Input.{Input}
 use Rattle.automata_base.specs.Haystacks.Matches.{HalfMatch}
 use Rattle.automata_hybrid.specs.Machines.Machine.{Machine}
 
--- it lies in the span of the input, and its pattern is one of the automaton's
+-- a half match lies in the span of the input, and its pattern is one of the automaton's
 pub record LiesIn (m : Machine) (input : Input) (half : HalfMatch) : Type 0 where
   -- its pattern is one of the automaton's
   pub pattern : half.pattern < length m.nfa.start_pattern
@@ -13,7 +13,7 @@ pub record LiesIn (m : Machine) (input : Input) (half : HalfMatch) : Type 0 wher
   -- it is at or before the span's end
   pub upto : half.offset ≤ input.end
 
--- and not before the start of the span that gave it
+-- a half match lies in the span of the input, not before the start of the span that gave it
 pub record LiesPast (m : Machine) (input : Input) (half : HalfMatch) (base : ℕ) : Type 0 where
   -- it lies in the span of the input
   pub lies : LiesIn m input half

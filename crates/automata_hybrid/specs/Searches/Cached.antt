@@ -10,17 +10,21 @@ use Rattle.automata_config.specs.declared.error.SearchError.TheVariants as searc
 use Rattle.automata_hybrid.specs.Cache.Stores.{Stored, IsKnownStart, IsKnownTransition}
 use Rattle.automata_hybrid.specs.Cache.Growth.{Keeps}
 use Rattle.automata_hybrid.specs.Machines.Machine.{Machine}
-use Rattle.automata_hybrid.specs.Searches.Passes.{Finds, HasReadNoQuit, Reads, Skips, state_in, tape_in}
+use Rattle.automata_hybrid.specs.Searches.Passes.{Finds, HasReadNoQuit, Reads, Skips, tape_in}
+use Rattle.automata_hybrid.specs.Searches.Traces.{Trace, pass_trace}
 use Rattle.automata_hybrid.specs.Machines.StartSlots.{slot_behind}
 use Rattle.automata_hybrid.specs.Steps.Starts.{MayStart}
 use Rattle.automata_hybrid.specs.Machines.Machine.{unit_class}
 use Rattle.automata_hybrid.specs.Cache.Table.{Names}
 
+-- the transition that a run along a trace takes on its unit at place `k` is cached
+abbrev pub KnowsAlong : Trace → Direction → Machine → Stored → Input → ℕ → Type 0
+KnowsAlong s way m c input k =
+    (id : ℕ) × Names c.table id (s.state k) × IsKnownTransition c id (unit_class m (next (tape_in way input) k))
+
 -- the transition that a pass takes on its unit at place `k` is cached
 abbrev pub KnowsUnit : Direction → Machine → Stored → Input → ℕ → Type 0
-KnowsUnit way m c input k =
-    (id : ℕ) × Names c.table id (state_in way m input k)
-    × IsKnownTransition c id (unit_class m (next (tape_in way input) k))
+KnowsUnit way m c input k = KnowsAlong (pass_trace way m input) way m c input k
 
 -- the start state of a pass is cached, if it has a slot: a pattern past the last has none
 abbrev pub KnowsItsStart : Direction → Machine → Stored → Input → Type 0

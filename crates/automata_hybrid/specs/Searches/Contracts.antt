@@ -2,7 +2,6 @@
 use Rattle.std.specs.Prelude.{ℕ, ◌≡◌, ◌<◌, ◌≤◌, true, false, Option, None, option_map, Result, Ok, Err, IfOk}
 use Rattle.std.specs.Prelude.{IfErr, IfSome}
 use Rattle.automata_base.specs.Answers.Answers.{Half, IsAnswer}
-use Rattle.automata_base.specs.Nfas.Engines.{engine_of}
 use Rattle.automata_base.specs.Haystacks.Input.{Input}
 use Rattle.automata_base.specs.Haystacks.Matches.{HalfMatch}
 use Rattle.automata_base.specs.Nfas.Nodes.{nfa_of}
@@ -14,7 +13,7 @@ use Rattle.automata_base.specs.declared.util.search.MatchErrorKind.TheVariants.{
 use Rattle.automata_base.specs.declared.util.search.MatchKind.TheVariants.{All as KindAll}
 use Rattle.automata_config.specs.declared.error.SearchError.{SearchError}
 use Rattle.automata_config.specs.declared.error.SearchError.TheVariants as search
-use Rattle.automata_hybrid.specs.Machines.Machine.{Machine}
+use Rattle.automata_hybrid.specs.Machines.Machine.{Machine, engine}
 use Rattle.automata_hybrid.specs.Searches.Passes.{NoQuitInReach, WithoutBase, tape_in, with_base}
 use Rattle.automata_hybrid.specs.Machines.StartSlots.{supports}
 use Rattle.automata_hybrid.specs.Steps.Starts.{quit_behind}
@@ -53,14 +52,14 @@ pub record IsAnswered {A : Type 0} (Is : (Option Half → Type 0) → Option A �
     (way : Direction) (m : Machine) (input : Input) (result : Result (Option A) SearchError) : Type 0 where
   -- By the paths of the NFA alone, if it keeps its cycles: the answer of the ordered paths.
   pub answer :
-      KeepsCycles (nfa_of m.nfa) → IfOk result (Is (IsAnswer way (engine_of m.nfa (match_kind_of m.config)) input))
+      KeepsCycles (nfa_of m.nfa) → IfOk result (Is (IsAnswer way (engine m) input))
   -- For every NFA, in an earliest search: the nearest end.
   pub nearest :
-      input.earliest ≡ true → IfOk result (Is (IsNearestAnswer way (engine_of m.nfa (match_kind_of m.config)) input))
+      input.earliest ≡ true → IfOk result (Is (IsNearestAnswer way (engine m) input))
   -- For every NFA, in any other search under `MatchKind::All`: the farthest end.
   pub farthest :
       input.earliest ≡ false → match_kind_of m.config ≡ KindAll
-      → IfOk result (Is (IsFarthestAnswer way (engine_of m.nfa (match_kind_of m.config)) input))
+      → IfOk result (Is (IsFarthestAnswer way (engine m) input))
   -- It lies in the input's span, and its pattern is one of the NFA's.
   pub within : IfOk result Lies
   -- In a span that is done there is no match.
@@ -77,11 +76,6 @@ IsHalf way m input result = IsAnswered WithoutBase (λ o. IfSome o (LiesIn m inp
 -- an answer with the start of the span that gave it
 abbrev pub based_half : Option (HalfMatch × ℕ) → Option Half
 based_half = option_map (λ p. with_base p.0 p.1)
-
--- answers without it
-abbrev pub halves : Result (Option (HalfMatch × ℕ)) SearchError → Result (Option HalfMatch) SearchError
-halves (Ok found) = Ok (option_map (λ p. p.0) found)
-halves (Err e) = Err e
 
 -- what a forward search returns, with the start of the span that gave it
 abbrev pub IsBased : Machine → Input → Result (Option (HalfMatch × ℕ)) SearchError → Type 0

@@ -1,32 +1,15 @@
 -- What a pass answers, and what it makes of its cache: the whole of it, or from some unit on.
-use Rattle.std.specs.Prelude.{ℕ, List, Bool, suc, ◌≡◌, ◌-◌, ◌<◌, ◌≤◌, true, false, Option, Some, None}
-use Rattle.automata_base.specs.Haystacks.Input.{Input, IsAllowed}
+use Rattle.std.specs.Prelude.{ℕ, ◌≡◌, ◌≤◌, true, Option}
+use Rattle.automata_base.specs.Haystacks.Input.{Input}
 use Rattle.automata_base.specs.Haystacks.Matches.{HalfMatch}
 use Rattle.automata_base.specs.declared.util.search.Direction.{Direction}
-use Rattle.automata_base.specs.declared.util.search.Anchored.{Anchored}
-use Rattle.automata_base.specs.declared.util.search.Span.{Span}
-use Rattle.automata_hybrid.specs.Cache.Caches.{CacheView, IsCacheOf}
 use Rattle.automata_hybrid.specs.Machines.Machine.{Machine}
-use Rattle.automata_hybrid.specs.Searches.PassState.{HasLearnedUnit, HasRun, IsAt, IsFollowed, IsMet, found_over}
-use Rattle.automata_hybrid.specs.declared.search.follow.Stop.{Stop}
-use Rattle.automata_hybrid.specs.declared.search.pass.Place.{Place}
-use Rattle.automata_hybrid.specs.Cache.Stores.{Stored}
-use Rattle.automata_hybrid.specs.Searches.Passes.{MeetsNoQuit, Reads, tape_in}
+use Rattle.automata_hybrid.specs.Searches.PassState.{IsAt}
+use Rattle.automata_hybrid.specs.Searches.PassState.{found_over}
+use Rattle.automata_hybrid.specs.Searches.Passes.{MeetsNoQuit, tape_in}
 use Rattle.automata_hybrid.specs.Machines.StartSlots.{supports}
 use Rattle.automata_hybrid.specs.Steps.Starts.{MayStart}
 use Rattle.automata_hybrid.specs.Cache.Table.{Rows}
-
--- the input of these parts
-abbrev pub input_at : List ℕ → Span → Anchored → (earliest : Bool) → Input
-input_at haystack span anchored earliest =
-    record { haystack = haystack; start = span.start; end = span.end; anchored = anchored; earliest = earliest }
-
--- a search over an input that is rebuilt from haystack, span, mode and flag may begin with a cache
-pub record MayBegin (m : Machine) (c : CacheView) (input : Input) : Type 0 where
-  -- The cache belongs to the DFA.
-  pub of : IsCacheOf c m
-  -- The span lies in the haystack.
-  pub allowed : IsAllowed input
 
 -- what a pass over the span of an input answers
 pub record IsPassAnswer (way : Direction) (m : Machine) (input : Input) (half : Option HalfMatch) : Type 0 where
@@ -46,63 +29,3 @@ pub record IsUnderway (way : Direction) (m : Machine) (t : Rows) (input : Input)
   pub may : MayStart m input.anchored (tape_in way input).before
   -- The ID names the state after those units, and what they report was found.
   pub at : IsAt way m t input k id found
-
--- a pass over the span of an input has read its first `k` units, all by cached transitions
-pub record IsKnownUpto (way : Direction) (m : Machine) (c : Stored) (input : Input) (k id : ℕ)
-    (found : Option HalfMatch) : Type 0 where
-  -- These units are bytes of the span.
-  pub within : k ≤ input.end - input.start
-  -- The pass has read them, is in the state of the ID, and has found this.
-  pub at : IsUnderway way m c.table input k id found
-  -- The transition on each of them is cached.
-  pub known : (j : ℕ) → j < k → HasLearnedUnit way m c input j
-
--- cached transitions led a pass on from a place to this stop, each to an ID that has this tag and no other
-pub record FollowsTo (way : Direction) (m : Machine) (c : Stored) (input : Input) (tag from : ℕ) (to : Stop) :
-    Type 0 where
-  -- The stop is in the span.
-  pub within : to.at ≤ input.end - input.start
-  -- Cached transitions led the pass there, each to an ID that has this tag and no other.
-  pub followed : IsFollowed way m c input tag from to.at to.id
-  -- The ID that was met next is the one that the next byte leads to, unless it is the unknown one.
-  pub met : IsMet way m c input to.at to.id to.next
-
--- cached transitions led a pass from one place on to another, where it has this ID, has found this, and met this ID
--- next
-pub record RunsTo (way : Direction) (m : Machine) (c : Stored) (input : Input) (from : ℕ) (to : Place) : Type 0 where
-  -- Cached transitions led the pass there.
-  pub run : HasRun way m c input from to.at
-  -- It has this ID there, and has found this.
-  pub at : IsAt way m c.table input to.at to.id to.found
-  -- The ID that was met next is the one that the next byte leads to, unless it is the unknown one.
-  pub met : IsMet way m c input to.at to.id to.next
-
--- a half match by its parts, if there is one
-abbrev pub half_from : Bool → (pattern offset : ℕ) → Option HalfMatch
-half_from true pattern offset = Some (record { pattern = pattern; offset = offset })
-half_from false pattern offset = None
-
--- the same for an input that is rebuilt from haystack, span, mode and flag
-pub record IsTakenUp (way : Direction) (m : Machine) (c : Stored) (input : Input) (k id : ℕ)
-    (found : Option HalfMatch) : Type 0 where
-  -- The span lies in the haystack.
-  pub allowed : IsAllowed input
-  -- The pass has read its first `k` units by cached transitions.
-  pub upto : IsKnownUpto way m c input k id found
-
--- cached transitions led a pass to its unit at place `k`, which it reads from a state that this ID names by a cached
--- transition too, and it reads none after it: this is what it answers
-pub record IsKnownEnd (way : Direction) (m : Machine) (c : CacheView) (input : Input) (k id : ℕ)
-    (half : Option HalfMatch) : Type 0 where
-  -- This was found before.
-  pub before : Option HalfMatch
-  -- Cached transitions led the pass to the unit.
-  pub upto : IsKnownUpto way m c.store input k id before
-  -- It is what the pass answers.
-  pub answer : IsPassAnswer way m input half
-  -- The pass reads the unit.
-  pub reads : Reads way m input k
-  -- It reads none after it.
-  pub stops : (j : ℕ) → suc k ≤ j → Reads way m input j → ⊥
-  -- Its transition is cached.
-  pub known : HasLearnedUnit way m c.store input k

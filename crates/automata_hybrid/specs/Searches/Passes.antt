@@ -2,7 +2,7 @@
 use Rattle.std.specs.Prelude.{ℕ, ◌≡◌, ◌<◌, ◌≤◌, ◌+◌, ◌-◌, ◌⊎◌, max, option_map, length, true, false, Option, Some, None}
 use Rattle.automata_base.specs.Answers.Answers.{Answers, Half, Tries, later, offset_in}
 use Rattle.automata_base.specs.ByteClasses.Classes.{is_quit}
-use Rattle.automata_base.specs.Nfas.Engines.{IsSkipping, engine_of}
+use Rattle.automata_base.specs.Nfas.Engines.{IsSkipping}
 use Rattle.automata_base.specs.Haystacks.Input.{Input}
 use Rattle.std.specs.Prelude.{slice_get}
 use Rattle.automata_base.specs.Haystacks.Matches.{HalfMatch}
@@ -21,7 +21,7 @@ use Rattle.automata_config.specs.declared.error.SearchError.{SearchError}
 use Rattle.automata_config.specs.declared.error.SearchError.TheVariants as search
 use Rattle.automata_hybrid.specs.Cache.Stores.{Stored}
 use Rattle.automata_hybrid.specs.Cache.Usage.{GivesUp}
-use Rattle.automata_hybrid.specs.Machines.Machine.{Machine}
+use Rattle.automata_hybrid.specs.Machines.Machine.{Machine, engine}
 use Rattle.automata_hybrid.specs.Steps.Starts.{IsStartErrorAt, quit_behind}
 use Rattle.automata_hybrid.specs.Steps.Steps.{KnowsStep}
 use Rattle.automata_hybrid.specs.Machines.Machine.{quits_on}
@@ -109,7 +109,7 @@ Finds way m input reported =
 
 -- split places are skipped
 abbrev pub Skips : Machine → Type 0
-Skips m = IsSkipping (engine_of m.nfa (match_kind_of m.config))
+Skips m = IsSkipping (engine m)
 
 -- what a search finds: what is reported over the first span for which that is nothing or not split. No pass that it
 -- made met a quit byte.
@@ -130,7 +130,7 @@ with_base half base = record { pattern = half.pattern; offset = half.offset; bas
 abbrev pub without_base : Half → HalfMatch
 without_base half = record { pattern = half.pattern; offset = half.offset }
 
--- it is an answer of this kind without its base
+-- a half match is an answer of this kind without its base
 abbrev pub WithoutBase : (Option Half → Type 0) → Option HalfMatch → Type 0
 WithoutBase P found = (answer : Option Half) × P answer × (found ≡ option_map without_base answer)
 

@@ -1,6 +1,6 @@
 -- What the passes of a search make of their cache: their events, unit by unit, up to one that fails.
 use Rattle.std.specs.Prelude.{ℕ, zero, suc, ◌≡◌, ◌<◌, ◌≤◌, ◌+◌, ◌-◌, ◌⊎◌}
-use Rattle.std.specs.Prelude.{Option, None, Some, MatchOption}
+use Rattle.std.specs.Prelude.{Option, MatchOption}
 use Rattle.automata_base.specs.Answers.Answers.{Tries, later, offset_in}
 use Rattle.automata_base.specs.Haystacks.Input.{Input}
 use Rattle.automata_base.specs.Paths.Paths.{next}
@@ -10,7 +10,8 @@ use Rattle.automata_hybrid.specs.Cache.Caches.{CacheView, IsStoreOf}
 use Rattle.automata_hybrid.specs.Calls.Events.{Does, Event, Fails, IsStepLeft, Start, Step, begun, ended, moved}
 use Rattle.automata_hybrid.specs.Machines.Machine.{Machine}
 use Rattle.automata_hybrid.specs.Searches.Passes.{Finds, HasReadNoQuit, IsUnitError, Reads, Skips}
-use Rattle.automata_hybrid.specs.Searches.Passes.{behind_offset, given_up_offset, state_in, tape_in}
+use Rattle.automata_hybrid.specs.Searches.Passes.{behind_offset, given_up_offset, tape_in}
+use Rattle.automata_hybrid.specs.Searches.Traces.{Trace, pass_trace}
 use Rattle.automata_hybrid.specs.Steps.Starts.{IsStartErrorAt, MayStart}
 
 -- with the search begun at the unit at a place
@@ -29,30 +30,43 @@ with_search_ended way input k = ended (given_up_offset way input k)
 abbrev pub start_event : Direction → Input → Event
 start_event way input = Start input.anchored (tape_in way input).before
 
--- it steps over the unit at place `k`
-abbrev pub unit_event : Direction → Machine → Input → (k : ℕ) → Event
-unit_event way m input k = Step (state_in way m input k) (next (tape_in way input) k)
+-- a run along a trace steps over the unit at place `k`
+abbrev pub unit_event : Trace → Direction → Input → (k : ℕ) → Event
+unit_event s way input k = Step (s.state k) (next (tape_in way input) k)
 
--- the unit at place `k` is read: the search moves to it if its step is not cached
+-- a run along a trace reads the unit at place `k`: the search moves there if the step is not cached
+abbrev pub IsReadAlong : Trace → Direction → Machine → Input → (k : ℕ) → (old new : CacheView) → Type 0
+IsReadAlong s way m input k old new =
+    Does m (unit_event s way input k) old (with_search_moved way input k old) new
+
+-- a pass reads it
 abbrev pub IsUnitRead : Direction → Machine → Input → (k : ℕ) → (old new : CacheView) → Type 0
-IsUnitRead way m input k old new = Does m (unit_event way m input k) old (with_search_moved way input k old) new
+IsUnitRead way m input k old new = IsReadAlong (pass_trace way m input) way m input k old new
 
--- so many units from a place on are read, one after another
+-- a run along a trace reads so many units from a place on, one after another
+abbrev pub GoesAlong : Trace → Direction → Machine → Input → (from units : ℕ) → (old new : CacheView) → Type 0
+GoesAlong s way m input from zero old new = new ≡ old
+GoesAlong s way m input from (suc units) old new =
+    (mid : CacheView) × GoesAlong s way m input from units old mid × IsReadAlong s way m input (from + units) mid new
+
+-- a pass reads so many units, one after another
 abbrev pub Goes : Direction → Machine → Input → (from units : ℕ) → (old new : CacheView) → Type 0
-Goes way m input from zero old new = new ≡ old
-Goes way m input from (suc units) old new =
-    (mid : CacheView) × Goes way m input from units old mid × IsUnitRead way m input (from + units) mid new
+Goes way m input from units old new = GoesAlong (pass_trace way m input) way m input from units old new
 
--- and then the search ends: at the last of them, or if there is none, at the place
+-- a pass reads so many units, and then the search ends: at the last of them, or if there is none, at the place
 abbrev pub GoesToEnd : Direction → Machine → Input → (from units : ℕ) → (old new : CacheView) → Type 0
 GoesToEnd way m input from units old new =
     (mid : CacheView) × Goes way m input from units old mid × (new ≡ with_search_ended way input (from + (units - 1)) mid)
 
--- the search failed at the unit at place `k`, to which it moved
-abbrev pub IsLeftAt : Direction → Machine → Input → (k : ℕ) → (old new : CacheView) → Type 0
-IsLeftAt way m input k old new =
-    IsStepLeft m (state_in way m input k) (next (tape_in way input) k) (with_search_moved way input k old)
+-- a run along a trace failed at the unit at place `k`, to which the search moved
+abbrev pub IsLeftAlong : Trace → Direction → Machine → Input → (k : ℕ) → (old new : CacheView) → Type 0
+IsLeftAlong s way m input k old new =
+    IsStepLeft m (s.state k) (next (tape_in way input) k) (with_search_moved way input k old)
     (with_search_ended way input k old) new
+
+-- a pass failed so
+abbrev pub IsLeftAt : Direction → Machine → Input → (k : ℕ) → (old new : CacheView) → Type 0
+IsLeftAt way m input k old new = IsLeftAlong (pass_trace way m input) way m input k old new
 
 -- a pass reads its first so many units, and no more: none, if its start state is dead
 abbrev pub ReadsUnits : Direction → Machine → Input → (units : ℕ) → Type 0
@@ -74,7 +88,7 @@ IsStoppedAt way m input begun new e =
 abbrev pub HasItsStart : Direction → Machine → Input → (old new : CacheView) → Type 0
 HasItsStart way m input old new = Does m (start_event way input) old old new
 
--- it has none: if a search may not start, nothing has changed at all
+-- a pass has no start state: if a search may not start, nothing has changed at all
 abbrev pub HasNoStart : Direction → Machine → Input → (old new : CacheView) → Type 0
 HasNoStart way m input old new =
     (MayStart m input.anchored (tape_in way input).before → Fails m (start_event way input) old new)
@@ -94,16 +108,11 @@ PassFails way m input old new e =
     ⊎ ((mid : CacheView) × HasItsStart way m input old mid
     × IsStoppedAt way m input (with_search_begun way input 0 mid) new e)
 
--- what a pass makes of its cache, by the error that it returns, if it fails
-abbrev pub IsPassRun : Direction → Machine → Input → (old new : CacheView) → Option SearchError → Type 0
-IsPassRun way m input old new None = PassEnds way m input old new
-IsPassRun way m input old new (Some e) = PassFails way m input old new e
-
 -- a search tries the span that begins so many places later, which is not done
 abbrev pub TriesSpan : Direction → Machine → Input → (k : ℕ) → Type 0
 TriesSpan way m input k = Tries (Finds way m) (Skips m) way input k × (input.start + k ≤ input.end)
 
--- it tries so many spans
+-- a search tries so many spans, none of which is done
 abbrev pub TriesSpans : Direction → Machine → Input → (passes : ℕ) → Type 0
 TriesSpans way m input passes = (k : ℕ) → k < passes → TriesSpan way m input k
 

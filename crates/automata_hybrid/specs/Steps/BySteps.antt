@@ -1,16 +1,14 @@
 -- Searches by steps: where a search stands that ends at its first match, and what a step of it means.
 use Rattle.std.specs.Prelude.{ℕ, ◌≡◌, ◌+◌, ◌-◌, ◌<◌, ◌≤◌, ◌⊎◌, true, length, Option, Some, None, slice_index}
-use Rattle.automata_base.specs.Nfas.Engines.{engine_of}
 use Rattle.automata_base.specs.Haystacks.Input.{Input}
 use Rattle.automata_base.specs.Haystacks.Matches.{HalfMatch}
 use Rattle.automata_base.specs.Powersets.Powerset.{Powerset}
 use Rattle.automata_base.specs.Haystacks.Tapes.{IsHaystack}
 use Rattle.automata_base.specs.declared.util.search.Direction.TheVariants.{Forward}
 use Rattle.automata_base.specs.Answers.OfPasses.{IsNearestAnswer}
-use Rattle.automata_config.specs.Options.{match_kind_of}
 use Rattle.automata_hybrid.specs.Cache.Caches.{CacheView, HoldsRow}
 use Rattle.automata_hybrid.specs.Cache.Ids.{dead_id, HasMatchTag, HasDeadTag, HasQuitTag}
-use Rattle.automata_hybrid.specs.Machines.Machine.{Machine}
+use Rattle.automata_hybrid.specs.Machines.Machine.{Machine, engine}
 use Rattle.automata_hybrid.specs.Searches.PassContracts.{IsPassAnswer, IsUnderway}
 use Rattle.automata_hybrid.specs.Searches.Passes.{IsFound, Skips, WithoutBase}
 use Rattle.automata_hybrid.specs.Cache.Table.{Names}
@@ -86,4 +84,4 @@ FirstMatchIsFound m =
     → IsFirstMatch m input half
     → WithoutBase (IsFound Forward m input) half
     × (input.earliest ≡ true
-    → WithoutBase (IsNearestAnswer Forward (engine_of m.nfa (match_kind_of m.config)) input) half)
+    → WithoutBase (IsNearestAnswer Forward (engine m) input) half)

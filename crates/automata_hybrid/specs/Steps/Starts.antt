@@ -6,8 +6,6 @@ use Rattle.automata_base.specs.Retraced.Steps.{start_state_of}
 use Rattle.automata_base.specs.declared.util.search.Anchored.{Anchored}
 use Rattle.automata_base.specs.declared.util.search.MatchErrorKind.TheVariants.{Quit as QuitAt, GaveUp}
 use Rattle.automata_base.specs.declared.util.search.MatchErrorKind.TheVariants.{UnsupportedAnchored as UnsupportedMode}
-use Rattle.automata_config.specs.declared.error.StepError.{StepError}
-use Rattle.automata_config.specs.declared.error.StepError.TheVariants as step
 use Rattle.automata_config.specs.declared.error.StartError.{StartError}
 use Rattle.automata_config.specs.declared.error.StartError.TheVariants as start
 use Rattle.automata_config.specs.declared.error.SearchError.{SearchError}
@@ -34,15 +32,6 @@ MayStart m mode behind = (quit_behind m behind ≡ None) × (supports m mode ≡
 -- the mode has a start slot: it has none for a pattern past the last
 abbrev pub HasSlot : Machine → Anchored → Option ℕ → Type 0
 HasSlot m mode behind = slot_behind m mode behind < m.slots
-
--- a search may start, and this is the slot of its start
-pub record IsStartSlot (m : Machine) (mode : Anchored) (behind : Option ℕ) (slot : ℕ) : Type 0 where
-  -- The look-behind byte is no quit byte, and the anchored mode is supported.
-  pub may : MayStart m mode behind
-  -- The slot is that of the anchored mode and of the look-behind byte.
-  pub at : slot ≡ slot_behind m mode behind
-  -- There is such a slot.
-  pub within : slot < m.slots
 
 -- the row of a start state, which has the start tag if the settings specialize start states
 abbrev pub start_row : Machine → Anchored → Option ℕ → Row
@@ -71,11 +60,6 @@ IsStartError m c mode behind (start.UnsupportedAnchored reported) =
 -- the cache does not have the state, has no room for it, and may not be cleared
 IsStartError m c mode behind (start.Cache err) = MayStart m mode behind × GivesUp c (start_state_of m.nfa mode behind)
 IsStartError m c mode behind start.OutOfMemory = MayStart m mode behind
-
--- the error of a step, as a call for a start state reports it
-abbrev pub start_error : StepError → StartError
-start_error (step.Cache err) = start.Cache err
-start_error step.OutOfMemory = start.OutOfMemory
 
 -- the error of a start state, as a search reports it: a quit byte and the "gave up" error each have an offset
 abbrev pub start_search_error : StartError → (behind at : ℕ) → SearchError

@@ -4,7 +4,7 @@ use Rattle.automata_base.specs.Powersets.Powerset.{Powerset}
 use Rattle.automata_base.specs.Retraced.Steps.{successor}
 use Rattle.automata_hybrid.specs.Cache.Stores.{Stored, IsKnownTransition, cell_of}
 use Rattle.automata_hybrid.specs.Cache.Caches.{CacheView, HoldsRow}
-use Rattle.automata_hybrid.specs.Cache.Ids.{fixed_from, quit_id, unknown_id}
+use Rattle.automata_hybrid.specs.Cache.Ids.{fixed_from, quit_id}
 use Rattle.automata_hybrid.specs.Machines.Machine.{quits_on, unit_class}
 use Rattle.automata_hybrid.specs.Machines.Machine.{Machine}
 use Rattle.automata_hybrid.specs.Cache.Table.{HasItsMatchTag, Leads, Names}
@@ -17,11 +17,6 @@ KnowsStep m c id unit = IsKnownTransition c id (unit_class m unit)
 -- the ID that a cached transition leads to
 abbrev pub known_step : Machine → Stored → (id : ℕ) → (unit : Option ℕ) → ℕ
 known_step m c id unit = cell_of c id (unit_class m unit)
-
--- this was read in the cell of a transition: the ID that it leads to, or the unknown one if it is not cached
-abbrev pub IsCellRead : Machine → Stored → (id : ℕ) → (unit : Option ℕ) → (cell : ℕ) → Type 0
-IsCellRead m c id unit cell =
-    (cell < unknown_id → cell ≡ known_step m c id unit) × (unknown_id ≤ cell → KnowsStep m c id unit → ⊥)
 
 -- the ID that a step from an ID on a unit returns
 pub record IsStepAnswer (m : Machine) (id : ℕ) (unit : Option ℕ) (old new : CacheView) (next : ℕ) : Type 0 where

@@ -22,7 +22,7 @@ use Rattle.automata_hybrid.specs.Searches.Passes.{given_up_offset}
 use Rattle.automata_hybrid.specs.Searches.Passes.{state_in, tape_in}
 use Rattle.automata_hybrid.specs.Steps.Starts.{IsStartErrorAt, MayStart}
 use Rattle.automata_hybrid.specs.Machines.Machine.{quits_on}
-use Rattle.automata_hybrid.specs.Cache.Table.{IsKnownState, IsRowState, Names, Rows}
+use Rattle.automata_hybrid.specs.Cache.Table.{IsKnownState, IsRowState, Rows}
 use Rattle.automata_hybrid.specs.Walks.State.{At, Ended, Fresh, Ids, Keeping, Stage, States, Walk}
 use Rattle.automata_config.specs.Options.{match_kind_of}
 
@@ -113,7 +113,7 @@ HasReportedAt way m input Ended units reported k = HasReportedAll way m input k
 abbrev pub HasReported : Direction → Machine → Input → Walk → ℕ → Type 0
 HasReported way m input w k = HasReportedAt way m input w.stage w.units w.reported k
 
--- it is a walk over this input
+-- a walk is one over this input
 abbrev pub IsWalkOf : Direction → Machine → Input → Walk → Type 0
 IsWalkOf way m input w = (k : ℕ) × HasReported way m input w k
 
@@ -172,56 +172,11 @@ IsWalkError keeping way m c input w k e =
 abbrev pub IsSilent : Direction → Machine → Input → (from to : ℕ) → Type 0
 IsSilent way m input from to = (k : ℕ) → HasReportedBy way m input from k → HasReportedBy way m input to k
 
--- from its first `from` units a walk went on, without a quit byte, to a state that reports patterns at a place that is
--- not skipped, and the ID names it
-pub record Arrives (way : Direction) (m : Machine) (t : Rows) (input : Input) (from id units : ℕ) : Type 0 where
-  -- the place of the last unit read
-  pub place : ℕ
-  -- the walk stands after this unit
-  pub one_after : units ≡ suc place
-  -- it has read at least one unit more
-  pub more : from ≤ place
-  -- the unit is a byte of the span, or the one after it
-  pub within : place ≤ length (tape_in way input).bytes
-  -- the ID names the state after these units
-  pub named : Names t id (state_in way m input units)
-  -- none of these units is a quit byte
-  pub clean : HasReadNoQuit way m input units
-  -- the state has patterns
-  pub reports : (q : Powerset) → Names t id q → 0 < length q.patterns
-  -- the place is not one that is skipped
-  pub unskipped : Skips m → is_split input.haystack (offset_in way input place) ≡ false
-  -- the units before the last one report nothing more
-  pub silent : IsSilent way m input from place
-
--- from its first `from` units a walk went on, without a quit byte, to its end after `units` of them
-pub record Finishes (way : Direction) (m : Machine) (input : Input) (from units : ℕ) : Type 0 where
-  -- it has read no fewer units than before
-  pub more : from ≤ units
-  -- it meets no quit byte
-  pub clean : WalkMeetsNoQuit way m input
-  -- the units after the first `from` report nothing
-  pub silent : IsSilent way m input from (suc (length (tape_in way input).bytes))
-  -- it reads no unit after these
-  pub stops : (j : ℕ) → units ≤ j → WalkReads way m input j → ⊥
-
--- a walk went on to a state that reports patterns, if there is an ID, or to its end, if there is none
-abbrev pub IsArrival : Direction → Machine → Rows → Input → (from : ℕ) → Option ℕ → (units : ℕ) → Type 0
-IsArrival way m t input from None units = Finishes way m input from units
-IsArrival way m t input from (Some id) units = Arrives way m t input from id units
-
 -- the cache has the state that a walk goes on from
 abbrev pub HasItsState : Rows → Stage → Type 0
 HasItsState t Fresh = Unit {0}
 HasItsState t (At q) = IsKnownState t q
 HasItsState t Ended = Unit {0}
-
--- a call found no match, or the walk has read more units, or has reported one pattern more
-abbrev pub GoesOn : Walk → Walk → Type 0
-GoesOn old new =
-    (new.found ≡ None)
-    ⊎ ((new.stage ≡ Ended → ⊥)
-    × ((old.units < new.units) ⊎ ((new.units ≡ old.units) × (new.reported ≡ suc old.reported))))
 
 -- one determinization for the start state of a walk that has not begun
 abbrev pub start_count : Stage → ℕ

@@ -3,7 +3,6 @@
 use Rattle.std.specs.Prelude.{ℕ, ◌≡◌, ◌<◌, Bool, List, length, None, Result, Err}
 use Rattle.std.specs.Prelude.{IfErr, IfSome, IsOk, OnOk, OnErr}
 use Rattle.automata_base.specs.Answers.Answers.{ArePatterns, ArePatternsFound, IsOverlapping}
-use Rattle.automata_base.specs.Nfas.Engines.{engine_of}
 use Rattle.automata_base.specs.Haystacks.Input.{Input}
 use Rattle.automata_base.specs.Nfas.Nodes.{nfa_of}
 use Rattle.automata_base.specs.Paths.Paths.{KeepsCycles}
@@ -12,7 +11,7 @@ use Rattle.automata_base.specs.Paths.Selections.{Pair}
 use Rattle.automata_base.specs.declared.util.search.Direction.{Direction}
 use Rattle.automata_base.specs.declared.util.search.Direction.TheVariants.{Forward}
 use Rattle.automata_config.specs.declared.error.SearchError.{SearchError}
-use Rattle.automata_hybrid.specs.Machines.Machine.{Machine}
+use Rattle.automata_hybrid.specs.Machines.Machine.{Machine, engine}
 use Rattle.automata_hybrid.specs.Searches.Contracts.{IsMemory, IsUnhindered, IsUnsupported}
 use Rattle.automata_hybrid.specs.Searches.Contracts.{unsupported_error}
 use Rattle.automata_hybrid.specs.Walks.Progress.{ReadsNoUnit}
@@ -21,7 +20,6 @@ use Rattle.automata_hybrid.specs.Walks.Answers.{ReportsNext}
 use Rattle.automata_hybrid.specs.Walks.Answers.{half_nth}
 use Rattle.automata_hybrid.specs.Walks.State.{Ended, Fresh, Walk, without_match}
 use Rattle.automata_hybrid.specs.Searches.Bounds.{LiesIn}
-use Rattle.automata_config.specs.Options.{match_kind_of}
 
 -- what a call of a walk answers, and what it makes of the walk
 pub record IsWalkCall (way : Direction) (m : Machine) (input : Input) (old new : Walk)
@@ -31,7 +29,7 @@ pub record IsWalkCall (way : Direction) (m : Machine) (input : Input) (old new :
   -- if the NFA keeps its cycles, that of the list which the ordered paths define
   pub paths :
       KeepsCycles (nfa_of m.nfa) → (k : ℕ) (pairs : List Pair) → HasReported way m input old k
-      → IsOverlapping way (engine_of m.nfa (match_kind_of m.config)) input pairs
+      → IsOverlapping way (engine m) input pairs
       → OnOk result (new.found ≡ half_nth pairs k)
   -- it lies in the input's span, and its pattern is one of the NFA's
   pub within : IfSome new.found (LiesIn m input)
@@ -51,30 +49,13 @@ abbrev pub JoinsReported : Machine → Input → (old new : List Bool) → Type 
 JoinsReported m input old new =
     ArePatterns (AreWalked Forward m input) input (length old) (members old) (members new)
 
--- what a set is joined with, by passes and by paths
-pub record IsSetReported (m : Machine) (input : Input) (old new : List Bool)
-    (result : Result (Unit {0}) SearchError) : Type 0 where
-  -- for every NFA, the set is joined with the patterns that the walk reports
-  pub found : OnOk result (JoinsReported m input old new)
-  -- if the NFA keeps its cycles, those of the ordered paths
-  pub paths :
-      KeepsCycles (nfa_of m.nfa)
-      → OnOk result (ArePatternsFound (engine_of m.nfa (match_kind_of m.config)) input (length old) (members old)
-      (members new))
-  -- the capacity of the set is unchanged
-  pub capacity : length new ≡ length old
-  -- an anchored mode that is not supported is reported, and the set is unchanged
-  pub unsupported : IsUnsupported Forward m input → (result ≡ Err (unsupported_error input)) × (new ≡ old)
-  -- if the span is done, the set is unchanged too, and the call returns Ok
-  pub done : input.end < input.start → IsOk result × (new ≡ old)
-
 -- what a call that joins a set returns
 pub record IsWhich (m : Machine) (input : Input) (old new : List Bool)
     (result : Result (Unit {0}) SearchError) : Type 0 where
   -- if the NFA keeps its cycles, the set is joined with the patterns below its capacity that the ordered paths report
   pub paths :
       KeepsCycles (nfa_of m.nfa)
-      → OnOk result (ArePatternsFound (engine_of m.nfa (match_kind_of m.config)) input (length old) (members old)
+      → OnOk result (ArePatternsFound (engine m) input (length old) (members old)
       (members new))
   -- the capacity of the set is unchanged
   pub capacity : length new ≡ length old

@@ -97,7 +97,7 @@ CallsFollow m =
     → IsWalkRun keeping way m input walk next old new error
     → CallFollows keeping way m input walk next old new error
 
--- and so has each search for a set
+-- each search for a set has such consequences, as each call of a walk has
 abbrev pub SetsFollow : Machine → Type 0
 SetsFollow m =
     (input : Input) (set joined : List Bool) (old new : CacheView) (error : Option SearchError)

@@ -41,7 +41,8 @@ IsResumed way m input Fresh old new = HasItsStart way m input old new
 IsResumed way m input (At q) old new = HasItsRow m q old new
 IsResumed way m input Ended old new = ⊥
 
--- it has it not: its start failed; or the state where it stands is not put back, and nothing has changed
+-- a walk lacks the state that it goes on from: its start failed; or the state where it stands is not put back, and
+-- nothing has changed
 abbrev pub IsNotResumed : Direction → Machine → Input → Stage → (old new : CacheView) → Type 0
 IsNotResumed way m input Fresh old new = HasNoStart way m input old new
 IsNotResumed way m input (At q) old new = new ≡ old

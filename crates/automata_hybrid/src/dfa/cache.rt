@@ -2,7 +2,7 @@
 //! Steps, start states and searches do all that they do to a cache by these methods. A state that does not fit is
 //! added after a clear, which makes the new store beside the old one: an error leaves the cache as it was.
 ghost use Rattle.std.specs.Prelude.{ℕ, ◌≡◌, ◌*◌, ◌%◌, ◌<◌, ◌≤◌, IfOk, IfErr, OnOk, OnErr, slice_index};
-ghost use Rattle.std.specs.Prelude.{length, is_some, IfSome, IsSome, IsTrue, ◌+◌, ◌↔◌, ◌⊎◌, false, None, Option};
+ghost use Rattle.std.specs.Prelude.{All, length, is_some, IfSome, IsSome, IsTrue, ◌+◌, ◌↔◌, ◌⊎◌, false, None, Option};
 ghost use Rattle.automata_base.specs.Powersets.Powerset.{Powerset, cost, dead};
 ghost use Rattle.automata_base.specs.Retraced.Steps.{successor, start_state_of};
 ghost use Rattle.automata_base.specs.Powersets.Passes.{IsUnit};
@@ -12,24 +12,29 @@ ghost use Rattle.automata_hybrid.specs.Machines.OwnStates.{IsOwn};
 ghost use Rattle.automata_hybrid.specs.Machines.Machine.{quits_on, unit_class};
 ghost use Rattle.automata_hybrid.specs.Cache.Ids.{dead_id, unknown_id, offset_limit};
 ghost use Rattle.automata_hybrid.specs.Cache.Table.{id_of, Names, IsRowId, IsCell, LeadsByClass};
-ghost use Rattle.automata_hybrid.specs.Cache.Table.{HasItsMatchTag, HasState};
-ghost use Rattle.automata_hybrid.specs.Cache.Leaps.{AreLeaps, IsShapeOf, making_bytes};
-ghost use Rattle.automata_hybrid.specs.Cache.Table.{IsNewState, IsRowState};
+ghost use Rattle.automata_hybrid.specs.Cache.Table.{HasItsMatchTag};
+ghost use Rattle.automata_hybrid.specs.Private.Cache.Table.{HasState};
+ghost use Rattle.automata_hybrid.specs.Private.Cache.Leaps.{AreLeaps, IsShapeOf, making_bytes};
+ghost use Rattle.automata_hybrid.specs.Cache.Table.{IsRowState};
+ghost use Rattle.automata_hybrid.specs.Private.Cache.Table.{IsNewState};
 ghost use Rattle.automata_hybrid.specs.Cache.Stores.{IsSoundStore, cell_of, with_next, with_start};
 ghost use Rattle.automata_hybrid.specs.Cache.Stores.{with_searched};
 ghost use Rattle.automata_hybrid.specs.Cache.Usage.{cleared, usage, Fits};
-ghost use Rattle.automata_hybrid.specs.Cache.Changes.{AddsNext, AddsRow};
+ghost use Rattle.automata_hybrid.specs.Private.Cache.Changes.{AddsNext, AddsRow};
 ghost use Rattle.automata_hybrid.specs.Cache.Caches.{HoldsRow, IsCacheOf, IsStoreOf, counted, fresh_cache, with_store};
-ghost use Rattle.automata_hybrid.specs.Cache.Growth.{AddFails, PutsBack};
-ghost use Rattle.automata_hybrid.specs.Steps.Starts.{IsStartSlot};
-ghost use Rattle.automata_hybrid.specs.Walks.State.{IsHandle};
+ghost use Rattle.automata_hybrid.specs.Cache.Growth.{PutsBack};
+ghost use Rattle.automata_hybrid.specs.Private.Cache.Growth.{AddFails};
+ghost use Rattle.automata_hybrid.specs.Private.Steps.Starts.{IsStartSlot};
+ghost use Rattle.automata_hybrid.specs.Private.Walks.State.{IsHandle};
 ghost use Rattle.automata_hybrid.specs.Cache.Progress.{progress_finished, progress_started, progress_updated};
 ghost use Rattle.automata_hybrid.specs.Cache.Progress.{saturated, total_len};
+ghost use Rattle.automata_hybrid.specs.Cache.States.{IsHeldState, held_states};
 ghost use Rattle.automata_config.specs.Options.{match_kind_of};
 
 use crate::dfa::handle::Handle;
 use crate::dfa::leaps::{Leaping, Leaps, Shape};
 use crate::dfa::self_loops::KnownLoop;
+use crate::dfa::states::States;
 use crate::dfa::store::Store;
 use crate::dfa::table::Table;
 use crate::dfa::{DFA, row};
@@ -78,7 +83,7 @@ impl Drop for Cache {
 impl Model for Cache {
     ghost use Rattle.std.specs.Prelude.{◌≡◌};
     ghost use Rattle.automata_hybrid.specs.Cache.Caches.{CacheView};
-    ghost use Rattle.automata_hybrid.specs.Cache.Leaps.{AreCacheParts};
+    ghost use Rattle.automata_hybrid.specs.Private.Cache.Leaps.{AreCacheParts};
 
     ghost Value = { CacheView };
 
@@ -114,7 +119,7 @@ impl fmt::Debug for Cache {
 }
 
 impl Cache {
-    ghost use Rattle.automata_hybrid.specs.Cache.LookUps.{IsLookedUp};
+    ghost use Rattle.automata_hybrid.specs.Private.Cache.LookUps.{IsLookedUp};
 
     /// A cache of a DFA, with no state yet. It can be used with this DFA alone, until it is reset.
     pub fn new(dfa: &DFA) -> Result<Cache, AllocError>
@@ -243,6 +248,26 @@ impl Cache {
             || id == LazyStateID::dead(stride)
             || id == LazyStateID::quit(stride)
             || table.has_row(id)
+    }
+
+    /// The states that it holds, in the order in which they were added: what searches have built since the last clear,
+    /// and what that kept. Dead and quit are not among them.
+    pub fn states(&self) -> States<'_>
+        ensures value { result ≡ held_states self.now.store.table }
+        ensures held { All (IsHeldState self.now.store) result }
+    {
+        self.see_bounds();
+        self.store.table.states()
+    }
+
+    /// The start states that are cached, six for each group: the unanchored ones, the anchored ones, and those of each
+    /// pattern, if the DFA has them. In a group the first is the one after another byte, and then come those after a word
+    /// byte, at the edge of the haystack, after a line feed, after a carriage return, and after another line terminator.
+    /// `is_unknown` is true of those that are not cached.
+    pub fn starts(&self) -> &[LazyStateID]
+        ensures { result.now ≡ self.now.store.starts }
+    {
+        self.store.starts.as_slice()
     }
 
     /// Its transition table.

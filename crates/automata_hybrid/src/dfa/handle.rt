@@ -1,6 +1,6 @@
 //! A powerset state that is held beside the rows of caches.
 ghost use Rattle.std.specs.Prelude.{IfOk};
-ghost use Rattle.automata_hybrid.specs.Walks.State.{IsHandle};
+ghost use Rattle.automata_hybrid.specs.Private.Walks.State.{IsHandle};
 
 use automata_base::util::determinize::{Key, State};
 use std::alloc::AllocError;

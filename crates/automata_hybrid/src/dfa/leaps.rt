@@ -4,8 +4,8 @@
 //! by one. So they say nothing that the table does not say, and no contract of a search speaks of them.
 ghost use Rattle.std.specs.Prelude.{ℕ, suc, ◌≡◌, true, false, ◌+◌, ◌*◌, ◌^◌, ◌<◌, ◌≤◌, IfOk, IfSome, None, OnOk};
 ghost use Rattle.std.specs.Prelude.{length, slice_index};
-ghost use Rattle.automata_hybrid.specs.Cache.Leaps.{AreLeaps, AreSteps, IsLevel, IsShape, IsShapeOf, first_cell};
-ghost use Rattle.automata_hybrid.specs.Cache.Leaps.{leaps_bytes, making_bytes};
+ghost use Rattle.automata_hybrid.specs.Private.Cache.Leaps.{AreLeaps, AreLeapSteps, IsLevel, IsShape, IsShapeOf, first_cell};
+ghost use Rattle.automata_hybrid.specs.Private.Cache.Leaps.{leaps_bytes, making_bytes};
 
 use crate::dfa::progress::Searched;
 use crate::dfa::table::Table;
@@ -183,9 +183,9 @@ fn add_steps(
     requires rows { length table.now.rows ≤ 2 ^ 18 }
     requires classes { classes ≤ table.now.of.stride }
     requires place { length steps.old.items ≡ row * classes }
-    requires steps { AreSteps table.now classes steps.old.items }
+    requires steps { AreLeapSteps table.now classes steps.old.items }
     ensures place { OnOk result (length steps.new.items ≡ (row + 1) * classes) }
-    ensures steps { OnOk result (AreSteps table.now classes steps.new.items) }
+    ensures steps { OnOk result (AreLeapSteps table.now classes steps.new.items) }
 {
     for class in 0..classes {
         steps.push(table.row_after(row, class) as u32)?;
@@ -199,7 +199,7 @@ fn steps_of(alloc: Global, table: &Table, classes: usize) -> Result<Vec<u32>, Al
     requires classes { classes ≤ table.now.of.stride }
     requires few { classes ≤ 32 }
     ensures long { IfOk result (λ v. length v.items ≡ (length table.now.rows + 1) * classes) }
-    ensures steps { IfOk result (λ v. AreSteps table.now classes v.items) }
+    ensures steps { IfOk result (λ v. AreLeapSteps table.now classes v.items) }
 {
     let rows = table.len();
     let mut steps = Vec::with_capacity(alloc, (rows + 1) * classes)?;
@@ -219,7 +219,7 @@ fn next_level(
     level: &[u32],
 ) -> Result<Vec<u32>, AllocError>
     requires long { length steps.now ≡ (length _table.now.rows + 1) * classes }
-    requires steps { AreSteps _table.now classes steps.now }
+    requires steps { AreLeapSteps _table.now classes steps.now }
     requires room { length level.now * classes < 2 ^ 64 }
     requires level { (count : ℕ) × IsLevel _table.now classes count level.now }
     ensures long { IfOk result (λ v. length v.items ≡ length level.now * classes) }
@@ -244,7 +244,7 @@ fn last_level(
     requires shape { IsShape shape }
     requires rows { shape.rows ≡ length table.now.rows }
     requires long { length steps.now ≡ (length table.now.rows + 1) * shape.classes }
-    requires steps { AreSteps table.now shape.classes steps.now }
+    requires steps { AreLeapSteps table.now shape.classes steps.now }
     ensures long { IfOk result (λ v. length v.items ≡ shape.rows * shape.width) }
     ensures level { IfOk result (λ v. IsLevel table.now shape.classes shape.reach v.items) }
 {

@@ -2,20 +2,21 @@
 //! `Cache` (`cache`), which holds a `Store` (`store`), and that the `Table` of their rows (`table`, `row`), the start
 //! slots and the progress of searches (`progress`). `start` and `step` find an ID in the cache, or determinize its
 //! state and add a row; where the row does not fit, `clears` says what a clear keeps. Searches have from a cache what it
-//! keeps of a row's self-loop (`self_loops`), leaps (`leaps`), and a state that a walk holds (`handle`). `builder` makes
-//! DFAs, with the limits of their caches (`settings`).
+//! keeps of a row's self-loop (`self_loops`), leaps (`leaps`), and a state that a walk holds (`handle`). `states` are what
+//! a cache holds, to look at. `builder` makes DFAs, with the limits of their caches (`settings`).
 ghost use Rattle.std.specs.Prelude.{ℕ, ◌≡◌, ◌<◌, ◌≤◌, ◌^◌, IfOk, OnOk, OnErr, Some, None, true, false, slice_index};
 ghost use Rattle.std.specs.Prelude.{length};
 ghost use Rattle.automata_base.specs.ByteClasses.Classes.{AreClasses, class_in, eoi_class, is_quit};
 ghost use Rattle.automata_base.specs.Powersets.Passes.{IsUnit};
 ghost use Rattle.automata_base.specs.Powersets.Accounting.{start_slots};
 ghost use Rattle.automata_hybrid.specs.Cache.Ids.{quit_id, unknown_id};
-ghost use Rattle.automata_hybrid.specs.Machines.Machine.{IsMachine};
+ghost use Rattle.automata_hybrid.specs.Private.Machines.Machine.{IsMachine};
 ghost use Rattle.automata_config.specs.Settling.{IsSettled};
 ghost use Rattle.automata_config.specs.Options.{unset};
 ghost use Rattle.automata_hybrid.specs.Cache.Caches.{fresh_cache};
 ghost use Rattle.automata_hybrid.specs.Machines.Builds.{built_machine};
-ghost use Rattle.automata_hybrid.specs.Cache.Stores.{fresh_store, settings_of};
+ghost use Rattle.automata_hybrid.specs.Cache.Stores.{fresh_store};
+ghost use Rattle.automata_hybrid.specs.Private.Cache.Stores.{cache_settings};
 ghost use Rattle.automata_config.specs.Options.{starts_for_each_pattern_of};
 ghost use Rattle.automata_hybrid.specs.Machines.Machine.{quits_on, unit_class};
 
@@ -29,6 +30,7 @@ pub(crate) mod row;
 pub(crate) mod self_loops;
 pub(crate) mod settings;
 pub(crate) mod start;
+pub mod states;
 pub(crate) mod step;
 pub(crate) mod store;
 pub(crate) mod table;
@@ -71,11 +73,12 @@ impl Drop for DFA {
 }
 
 impl Model for DFA {
-    ghost use Rattle.automata_hybrid.specs.Machines.Machine.{Machine, IsMachine};
+    ghost use Rattle.automata_hybrid.specs.Machines.Machine.{Machine};
+    ghost use Rattle.automata_hybrid.specs.Private.Machines.Machine.{IsMachine};
 
     ghost Value = { Machine };
 
-    ghost use Rattle.automata_hybrid.specs.Machines.Fields.{machine_of};
+    ghost use Rattle.automata_hybrid.specs.Private.Machines.Fields.{machine_of};
 
     ghost view = { machine_of };
 
@@ -253,7 +256,7 @@ impl DFA {
 
     /// What its caches are bounded by.
     fn settings(&self) -> Settings
-        ensures { result ≡ settings_of self.now }
+        ensures { result ≡ cache_settings self.now }
     {
         Settings {
             capacity: self.capacity,

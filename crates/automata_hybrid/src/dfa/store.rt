@@ -6,11 +6,14 @@ ghost use Rattle.std.specs.Prelude.{true};
 ghost use Rattle.automata_base.specs.Powersets.Powerset.{Powerset, cost};
 ghost use Rattle.automata_base.specs.Powersets.Accounting.{minimum_capacity};
 ghost use Rattle.automata_hybrid.specs.Cache.Ids.{offset_limit};
-ghost use Rattle.automata_hybrid.specs.Machines.Machine.{IsTemplate};
-ghost use Rattle.automata_hybrid.specs.Cache.Table.{id_of, Names, IsNewState, IsRowId};
+ghost use Rattle.automata_hybrid.specs.Private.Machines.Machine.{IsTemplate};
+ghost use Rattle.automata_hybrid.specs.Cache.Table.{id_of, Names, IsRowId};
+ghost use Rattle.automata_hybrid.specs.Private.Cache.Table.{IsNewState};
 ghost use Rattle.automata_hybrid.specs.Cache.Clears.{row_of};
-ghost use Rattle.automata_hybrid.specs.Cache.Stores.{with_table, IsCacheError, fresh_store, settings_of};
-ghost use Rattle.automata_hybrid.specs.Cache.Usage.{usage, Fits, FitsAny, IsCleared, refuses_to_clear};
+ghost use Rattle.automata_hybrid.specs.Cache.Stores.{with_table, IsCacheError, fresh_store};
+ghost use Rattle.automata_hybrid.specs.Private.Cache.Stores.{cache_settings};
+ghost use Rattle.automata_hybrid.specs.Cache.Usage.{usage, Fits, refuses_to_clear};
+ghost use Rattle.automata_hybrid.specs.Private.Cache.Usage.{FitsAny, IsCleared};
 ghost use Rattle.automata_hybrid.specs.Cache.Changes.{grown, put_found};
 
 use crate::dfa::clears::{keep_row, keep_starts};
@@ -40,7 +43,7 @@ pub struct Store {
 
 impl Model for Store {
     ghost use Rattle.automata_hybrid.specs.Cache.Stores.{Stored};
-    ghost use Rattle.automata_hybrid.specs.Cache.Usage.{IsCache};
+    ghost use Rattle.automata_hybrid.specs.Private.Cache.Usage.{IsCache};
 
     ghost Value = { Stored };
 
@@ -77,7 +80,7 @@ impl Store {
         requires stride { stride ≡ dfa.now.stride }
         requires template { template.items ≡ dfa.now.template }
         requires slots { slots ≡ dfa.now.slots }
-        requires settings { settings ≡ settings_of dfa.now }
+        requires settings { settings ≡ cache_settings dfa.now }
         requires enough { minimum_capacity stride slots dfa.now.greatest settings.fixed ≤ settings.capacity }
         requires offsets { (slots + 4) * stride < offset_limit }
         ensures { IfOk result (λ c. c ≡ fresh_store dfa.now) }

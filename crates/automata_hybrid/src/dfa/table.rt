@@ -8,13 +8,17 @@ ghost use Rattle.automata_base.specs.ByteClasses.Classes.{eoi_class, stride_for}
 ghost use Rattle.automata_base.specs.Powersets.Powerset.{dead};
 ghost use Rattle.automata_hybrid.specs.Machines.Reachable.{IsStateOf};
 ghost use Rattle.automata_hybrid.specs.Cache.Ids.{unknown_id, offset_limit};
-ghost use Rattle.automata_hybrid.specs.Machines.Machine.{IsTemplate, marked};
-ghost use Rattle.automata_hybrid.specs.Cache.Table.{id_of, with_row, fresh, Names, row_cost, IsRowId, HasState, LeadsByClass};
-ghost use Rattle.automata_hybrid.specs.Cache.Table.{IsNewState, IsSoundTable};
+ghost use Rattle.automata_hybrid.specs.Machines.Machine.{marked};
+ghost use Rattle.automata_hybrid.specs.Private.Machines.Machine.{IsTemplate};
+ghost use Rattle.automata_hybrid.specs.Cache.Table.{id_of, with_row, fresh, Names, row_cost, IsRowId, LeadsByClass};
+ghost use Rattle.automata_hybrid.specs.Private.Cache.Table.{HasState};
+ghost use Rattle.automata_hybrid.specs.Private.Cache.Table.{IsNewState, IsSoundTable};
 ghost use Rattle.automata_hybrid.specs.Cache.Table.{IsCell, cell_at, with_cell};
-ghost use Rattle.automata_hybrid.specs.Cache.Leaps.{LeadsTo};
+ghost use Rattle.automata_hybrid.specs.Private.Cache.Leaps.{LeadsToRow};
+ghost use Rattle.automata_hybrid.specs.Cache.States.{held_states};
 
 use crate::dfa::row::Row;
+use crate::dfa::states::States;
 use crate::dfa::{DFA, row};
 use crate::id::LazyStateID;
 use automata_base::util::alphabet::ByteClasses;
@@ -38,7 +42,8 @@ pub struct Table {
 }
 
 impl Model for Table {
-    ghost use Rattle.automata_hybrid.specs.Cache.Table.{Rows, IsHeld};
+    ghost use Rattle.automata_hybrid.specs.Cache.Table.{Rows};
+    ghost use Rattle.automata_hybrid.specs.Private.Cache.Table.{IsHeld};
 
     ghost Value = { Rows };
 
@@ -114,6 +119,14 @@ impl Table {
         ensures { result ≡ length self.now.cells }
     {
         self.cells.len()
+    }
+
+    /// The states of all rows.
+    pub fn states(&self) -> States<'_>
+        ensures { result ≡ held_states self.now }
+    {
+        let fixed = 3 * self.stride;
+        States::new(&self.rows, &self.cells[fixed..], self.stride, fixed)
     }
 
     /// The state that an ID names.
@@ -272,7 +285,7 @@ impl Table {
         requires row { row < length self.now.rows }
         requires class { class < self.now.of.stride }
         ensures upto { result ≤ length self.now.rows }
-        ensures leads { result < length self.now.rows → LeadsTo self.now row class result }
+        ensures leads { result < length self.now.rows → LeadsToRow self.now row class result }
     {
         let rows = self.rows.len();
         let offset = self.cells[(row + 3) * self.stride + class].offset_by(0);

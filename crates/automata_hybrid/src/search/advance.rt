@@ -7,13 +7,14 @@ ghost use Rattle.automata_base.specs.Paths.Paths.{next};
 ghost use Rattle.automata_base.specs.Powersets.Powerset.{Powerset};
 ghost use Rattle.automata_base.specs.Haystacks.Tapes.{is_split};
 ghost use Rattle.automata_hybrid.specs.Cache.Caches.{IsCacheOf};
-ghost use Rattle.automata_hybrid.specs.Searches.PassContracts.{FollowsTo};
-ghost use Rattle.automata_hybrid.specs.Searches.PassState.{IsFollowed, IsMet};
-ghost use Rattle.automata_hybrid.specs.Walks.Parts.{IsAdvanceEffect, IsUnitEffect, StandsAfterUnits};
+ghost use Rattle.automata_hybrid.specs.Private.Searches.PassContracts.{FollowsTo};
+ghost use Rattle.automata_hybrid.specs.Private.Searches.PassState.{IsFollowed, IsMet};
+ghost use Rattle.automata_hybrid.specs.Private.Walks.Parts.{IsAdvanceEffect, IsUnitEffect, StandsAfterUnits};
 ghost use Rattle.automata_hybrid.specs.Searches.Passes.{HasReadNoQuit, IsUnitError, Skips};
 ghost use Rattle.automata_hybrid.specs.Searches.Passes.{state_in, tape_in, unit_offset};
 ghost use Rattle.automata_hybrid.specs.Cache.Table.{IsRowId, Leads, Names};
-ghost use Rattle.automata_hybrid.specs.Walks.Answers.{IsArrival, WalkReads};
+ghost use Rattle.automata_hybrid.specs.Walks.Answers.{WalkReads};
+ghost use Rattle.automata_hybrid.specs.Private.Walks.Answers.{IsArrival};
 
 use crate::dfa::DFA;
 use crate::dfa::cache::Cache;

@@ -9,7 +9,7 @@ ghost use Rattle.automata_hybrid.specs.Searches.Progress.{HasItsStart};
 ghost use Rattle.automata_hybrid.specs.Searches.Passes.{behind_offset, given_up_offset, tape_in, unit_offset};
 ghost use Rattle.automata_hybrid.specs.Calls.Steps.{StartFailsAt};
 ghost use Rattle.automata_hybrid.specs.Steps.Starts.{IsStartAnswer};
-ghost use Rattle.automata_hybrid.specs.Searches.SelfLoops.{byte_in};
+ghost use Rattle.automata_hybrid.specs.Private.Searches.SelfLoops.{byte_in};
 
 use crate::dfa::DFA;
 use crate::dfa::cache::Cache;

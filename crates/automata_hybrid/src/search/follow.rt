@@ -2,12 +2,14 @@
 //! self-loops.
 ghost use Rattle.std.specs.Prelude.{ℕ, ◌≡◌, ◌+◌, ◌-◌, ◌^◌, ◌<◌, ◌≤◌};
 ghost use Rattle.automata_hybrid.specs.Cache.Caches.{IsCacheOf};
-ghost use Rattle.automata_hybrid.specs.Cache.Ids.{fixed_from, HasOnly, IsRunTag};
-ghost use Rattle.automata_hybrid.specs.Searches.PassContracts.{FollowsTo};
-ghost use Rattle.automata_hybrid.specs.Searches.PassState.{IsMatchRun, IsMet, IsNextCell, IsRun, IsTagAt, MeetsMatch};
-ghost use Rattle.automata_hybrid.specs.Searches.Passes.{state_in};
-ghost use Rattle.automata_hybrid.specs.Searches.SelfLoops.{IsSelfLoop};
-ghost use Rattle.automata_hybrid.specs.Cache.Table.{IsRowId, Names};
+ghost use Rattle.automata_hybrid.specs.Cache.Ids.{fixed_from};
+ghost use Rattle.automata_hybrid.specs.Private.Cache.Ids.{HasOnly, IsRunTag};
+ghost use Rattle.automata_hybrid.specs.Private.Searches.PassContracts.{FollowsAlong};
+ghost use Rattle.automata_hybrid.specs.Private.Searches.PassState.{IsMatchRun, IsMetAlong, IsNextCell, IsOnTrace, IsRun};
+ghost use Rattle.automata_hybrid.specs.Private.Searches.PassState.{IsTagAt, MayFollow, MeetsMatch};
+ghost use Rattle.automata_hybrid.specs.Searches.Traces.{Trace};
+ghost use Rattle.automata_hybrid.specs.Private.Searches.SelfLoops.{IsSelfLoop};
+ghost use Rattle.automata_hybrid.specs.Cache.Table.{IsRowId};
 
 use crate::dfa::DFA;
 use crate::dfa::cache::Cache;
@@ -42,13 +44,11 @@ impl DFA {
         tag: u32,
         end: usize,
     ) -> Stop
+        ghost trace: { Trace }
         requires of { IsCacheOf cache.now self.now }
-        requires open { input.now.start ≤ input.now.end }
-        requires within { start ≤ input.now.end - input.now.start }
-        requires upto { end ≤ input.now.end - input.now.start }
+        requires may { MayFollow trace way self.now cache.now.store.table input.now start end from }
         requires kind { IsRunTag tag }
-        requires named { Names cache.now.store.table from (state_in way self.now input.now start) }
-        ensures to { FollowsTo way self.now cache.now.store input.now tag start result }
+        ensures to { FollowsAlong trace way self.now cache.now.store input.now tag start result }
         ensures read { result.at < end
             → IsNextCell way self.now cache.now.store input.now result.at result.id result.next }
         ensures only { HasOnly tag from → HasOnly tag result.id }
@@ -99,11 +99,10 @@ impl DFA {
         id: LazyStateID,
         end: usize,
     ) -> LazyStateID
+        ghost trace: { Trace }
         requires of { IsCacheOf cache.now self.now }
-        requires open { input.now.start ≤ input.now.end }
-        requires upto { end ≤ input.now.end - input.now.start }
-        requires named { Names cache.now.store.table id (state_in way self.now input.now at) }
-        ensures met { IsMet way self.now cache.now.store input.now at id result }
+        requires may { MayFollow trace way self.now cache.now.store.table input.now at end id }
+        ensures met { IsMetAlong trace way self.now cache.now.store input.now at id result }
         ensures read { at < end → IsNextCell way self.now cache.now.store input.now at id result }
     {
         if at >= end {
@@ -124,12 +123,13 @@ impl DFA {
         from: LazyStateID,
         next: LazyStateID,
     ) -> Stop
+        ghost trace: { Trace }
         requires of { IsCacheOf cache.now self.now }
+        requires on { IsOnTrace trace way self.now cache.now.store.table input.now start from }
+        requires met { MeetsMatch trace way self.now cache.now.store input.now start from next }
         requires open { input.now.start ≤ input.now.end }
-        requires named { Names cache.now.store.table from (state_in way self.now input.now start) }
-        requires met { MeetsMatch way self.now cache.now.store input.now start from next }
-        ensures run { IsMatchRun way self.now cache.now.store input.now start result.at result.id }
-        ensures met { IsMet way self.now cache.now.store input.now result.at result.id result.next }
+        ensures run { IsMatchRun trace way self.now cache.now.store input.now start result.at result.id }
+        ensures met { IsMetAlong trace way self.now cache.now.store input.now result.at result.id result.next }
         ensures read { result.at < input.now.end - input.now.start
             → IsNextCell way self.now cache.now.store input.now result.at result.id result.next }
     {
@@ -148,13 +148,14 @@ impl DFA {
         from: LazyStateID,
         tag: u32,
     ) -> Stop
+        ghost trace: { Trace }
         requires of { IsCacheOf cache.now self.now }
+        requires at { IsTagAt trace way self.now cache.now.store.table input.now tag start from }
         requires within { start + 8 ≤ input.now.end - input.now.start }
         requires room { start + 8 < 2 ^ 64 }
-        requires at { IsTagAt way self.now cache.now.store.table input.now tag start from }
         ensures upto { result.at ≤ start + 8 }
-        ensures run { IsRun way self.now cache.now.store input.now tag start result.at result.id }
-        ensures met { IsMet way self.now cache.now.store input.now result.at result.id result.next }
+        ensures run { IsRun trace way self.now cache.now.store input.now tag start result.at result.id }
+        ensures met { IsMetAlong trace way self.now cache.now.store input.now result.at result.id result.next }
         ensures read { result.at < start + 8
             → IsNextCell way self.now cache.now.store input.now result.at result.id result.next }
     {
@@ -191,14 +192,14 @@ impl DFA {
         tag: u32,
         end: usize,
     ) -> Stop
+        ghost trace: { Trace }
         requires of { IsCacheOf cache.now self.now }
-        requires open { input.now.start ≤ input.now.end }
-        requires within { start ≤ input.now.end - input.now.start }
-        requires upto { end ≤ input.now.end - input.now.start }
-        requires at { IsTagAt way self.now cache.now.store.table input.now tag start from }
+        requires may { MayFollow trace way self.now cache.now.store.table input.now start end from }
+        requires kind { IsRunTag tag }
+        requires only { HasOnly tag from }
         ensures within { result.at ≤ input.now.end - input.now.start }
-        ensures run { IsRun way self.now cache.now.store input.now tag start result.at result.id }
-        ensures met { IsMet way self.now cache.now.store input.now result.at result.id result.next }
+        ensures run { IsRun trace way self.now cache.now.store input.now tag start result.at result.id }
+        ensures met { IsMetAlong trace way self.now cache.now.store input.now result.at result.id result.next }
         ensures read { result.at < end
             → IsNextCell way self.now cache.now.store input.now result.at result.id result.next }
     {
@@ -232,13 +233,14 @@ impl DFA {
         row: usize,
         tag: u32,
     ) -> LazyStateID
+        ghost trace: { Trace }
         requires of { IsCacheOf cache.now self.now }
-        requires within { place < input.now.end - input.now.start }
-        requires at { IsTagAt way self.now cache.now.store.table input.now tag place id }
+        requires at { IsTagAt trace way self.now cache.now.store.table input.now tag place id }
         requires row { id ≡ row + tag }
+        requires within { place < input.now.end - input.now.start }
         ensures run { HasOnly tag result
-            → IsRun way self.now cache.now.store input.now tag place (place + 1) result }
-        ensures met { IsMet way self.now cache.now.store input.now place id result }
+            → IsRun trace way self.now cache.now.store input.now tag place (place + 1) result }
+        ensures met { IsMetAlong trace way self.now cache.now.store input.now place id result }
         ensures read { IsNextCell way self.now cache.now.store input.now place id result }
     {
         let class = self.class_of(byte_at(input, way, place));

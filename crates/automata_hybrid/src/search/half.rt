@@ -5,9 +5,9 @@ ghost use Rattle.std.specs.Result.{result_err};
 ghost use Rattle.automata_base.specs.declared.util.search.Direction.TheVariants.{Forward, Backward};
 ghost use Rattle.automata_hybrid.specs.Cache.Caches.{IsCacheOf};
 ghost use Rattle.automata_hybrid.specs.Searches.Contracts.{IsBased, IsHalf, IsUnsupported, based_half};
-ghost use Rattle.automata_hybrid.specs.Searches.Contracts.{halves};
+ghost use Rattle.automata_hybrid.specs.Private.Searches.Contracts.{halves};
 ghost use Rattle.automata_hybrid.specs.Searches.Contracts.{unsupported_error};
-ghost use Rattle.automata_hybrid.specs.Searches.PassContracts.{MayBegin, input_at};
+ghost use Rattle.automata_hybrid.specs.Private.Searches.PassContracts.{MayBegin, input_at};
 ghost use Rattle.automata_hybrid.specs.Searches.Passes.{IsFound, WithoutBase};
 ghost use Rattle.automata_hybrid.specs.Searches.Progress.{HaveTried, IsSearchRun};
 

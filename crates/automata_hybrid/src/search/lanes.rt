@@ -1,7 +1,7 @@
 //! Which of 32 bytes are in a range, or in one of two, all compared at once.
 ghost use Rattle.std.specs.Prelude.{◌+◌, ◌<◌, ◌≡◌, ◌≤◌, ◌^◌, ℕ, IsTrue, length, slice_index};
 ghost use Rattle.std.specs.Int.{bit_at};
-ghost use Rattle.automata_hybrid.specs.Searches.SelfLoops.{HasByte, HasEither, above, byte_in, lane_of};
+ghost use Rattle.automata_hybrid.specs.Private.Searches.SelfLoops.{HasByte, HasEither, above, byte_in, lane_of};
 
 use crate::dfa::self_loops::LoopRange;
 use automata_base::util::search::Direction;

@@ -4,13 +4,15 @@ ghost use Rattle.std.specs.Prelude.{ℕ, ◌≡◌, ◌+◌, ◌-◌, ◌*◌, �
 ghost use Rattle.automata_base.specs.ByteClasses.Classes.{AreClasses, eoi_class};
 ghost use Rattle.automata_hybrid.specs.Cache.Caches.{IsCacheOf};
 ghost use Rattle.automata_hybrid.specs.Cache.Ids.{offset_limit};
-ghost use Rattle.automata_hybrid.specs.Cache.Leaps.{AreLeaps};
-ghost use Rattle.automata_hybrid.specs.Cache.Table.{IsRowId, Names};
-ghost use Rattle.automata_hybrid.specs.Searches.Leaps.{IsLeapt, LeadsIds, column_of};
-ghost use Rattle.automata_hybrid.specs.Searches.PassContracts.{FollowsTo, MayBegin, input_at};
-ghost use Rattle.automata_hybrid.specs.Searches.PassState.{IsMet, IsNextCell, IsRun, IsTagAt};
-ghost use Rattle.automata_hybrid.specs.Searches.Passes.{state_in};
-ghost use Rattle.automata_hybrid.specs.Searches.SelfLoops.{byte_in};
+ghost use Rattle.automata_hybrid.specs.Private.Cache.Ids.{HasOnly};
+ghost use Rattle.automata_hybrid.specs.Private.Cache.Leaps.{AreLeaps};
+ghost use Rattle.automata_hybrid.specs.Cache.Table.{IsRowId};
+ghost use Rattle.automata_hybrid.specs.Private.Searches.Leaps.{IsLeapt, LeadsIds, column_of};
+ghost use Rattle.automata_hybrid.specs.Private.Searches.PassContracts.{FollowsAlong, MayBegin, input_at};
+ghost use Rattle.automata_hybrid.specs.Private.Searches.PassState.{IsMetAlong, IsNextCell, IsOnTrace, IsRun, MayFollow};
+ghost use Rattle.automata_hybrid.specs.Private.Searches.SelfLoops.{byte_in};
+ghost use Rattle.automata_hybrid.specs.Searches.Traces.{Trace};
+ghost use Rattle.automata_hybrid.specs.Private.Searches.Traces.{IsTrace};
 
 use crate::dfa::DFA;
 use crate::dfa::cache::Cache;
@@ -80,11 +82,13 @@ impl DFA {
         way: Direction,
         near: Stop,
     ) -> Stop
+        ghost trace: { Trace }
         requires of { IsCacheOf cache.old self.now }
+        requires near { FollowsAlong trace way self.now cache.old.store input.now 0 near.at near }
+        requires trace { IsTrace way self.now input.now trace }
         requires open { input.now.start ≤ input.now.end }
-        requires near { FollowsTo way self.now cache.old.store input.now 0 near.at near }
         ensures same { cache.new ≡ cache.old }
-        ensures far { FollowsTo way self.now cache.new.store input.now 0 near.at result }
+        ensures far { FollowsAlong trace way self.now cache.new.store input.now 0 near.at result }
         ensures read { result.at < input.now.end - input.now.start
             → IsNextCell way self.now cache.new.store input.now result.at result.id result.next }
     {
@@ -241,14 +245,15 @@ impl DFA {
         start: usize,
         from: LazyStateID,
     ) -> Stop
+        ghost trace: { Trace }
         requires of { IsCacheOf cache.now self.now }
         requires leaps { AreLeaps cache.now.store.table leaps.now }
-        requires open { input.now.start ≤ input.now.end }
-        requires within { start ≤ input.now.end - input.now.start }
-        requires at { IsTagAt way self.now cache.now.store.table input.now 0 start from }
+        requires may { MayFollow trace way self.now cache.now.store.table input.now start
+            (input.now.end - input.now.start) from }
+        requires only { HasOnly 0 from }
         ensures within { result.at ≤ input.now.end - input.now.start }
-        ensures run { IsRun way self.now cache.now.store input.now 0 start result.at result.id }
-        ensures met { IsMet way self.now cache.now.store input.now result.at result.id result.next }
+        ensures run { IsRun trace way self.now cache.now.store input.now 0 start result.at result.id }
+        ensures met { IsMetAlong trace way self.now cache.now.store input.now result.at result.id result.next }
         ensures read { result.at < input.now.end - input.now.start
             → IsNextCell way self.now cache.now.store input.now result.at result.id result.next }
     {
@@ -288,14 +293,15 @@ impl DFA {
         start: usize,
         from: LazyStateID,
     ) -> Stop
+        ghost trace: { Trace }
         requires of { IsCacheOf cache.now self.now }
         requires leaps { AreLeaps cache.now.store.table leaps.now }
-        requires open { input.now.start ≤ input.now.end }
-        requires within { start ≤ input.now.end - input.now.start }
-        requires at { IsTagAt way self.now cache.now.store.table input.now 0 start from }
+        requires may { MayFollow trace way self.now cache.now.store.table input.now start
+            (input.now.end - input.now.start) from }
+        requires only { HasOnly 0 from }
         ensures within { result.at ≤ input.now.end - input.now.start }
-        ensures run { IsRun way self.now cache.now.store input.now 0 start result.at result.id }
-        ensures met { IsMet way self.now cache.now.store input.now result.at result.id result.next }
+        ensures run { IsRun trace way self.now cache.now.store input.now 0 start result.at result.id }
+        ensures met { IsMetAlong trace way self.now cache.now.store input.now result.at result.id result.next }
         ensures read { result.at < input.now.end - input.now.start
             → IsNextCell way self.now cache.now.store input.now result.at result.id result.next }
     {
@@ -323,13 +329,14 @@ impl DFA {
         start: usize,
         from: LazyStateID,
     ) -> Stop
+        ghost trace: { Trace }
         requires may { MayBegin self.now cache.old (input_at haystack.now span anchored earliest) }
+        requires on { IsOnTrace trace way self.now cache.old.store.table
+            (input_at haystack.now span anchored earliest) start from }
         requires open { span.start ≤ span.end }
         requires within { start ≤ span.end - span.start }
-        requires named { Names cache.old.store.table from (state_in way self.now
-            (input_at haystack.now span anchored earliest) start) }
         ensures same { cache.new ≡ cache.old }
-        ensures far { FollowsTo way self.now cache.old.store
+        ensures far { FollowsAlong trace way self.now cache.old.store
             (input_at haystack.now span anchored earliest) 0 start result }
         ensures read { result.at < span.end - span.start
             → IsNextCell way self.now cache.old.store
@@ -350,11 +357,12 @@ impl DFA {
         start: usize,
         from: LazyStateID,
     ) -> Stop
+        ghost trace: { Trace }
         requires of { IsCacheOf cache.now self.now }
-        requires open { input.now.start ≤ input.now.end }
+        requires on { IsOnTrace trace way self.now cache.now.store.table input.now start from }
         requires within { start ≤ input.now.end - input.now.start }
-        requires named { Names cache.now.store.table from (state_in way self.now input.now start) }
-        ensures far { FollowsTo way self.now cache.now.store input.now 0 start result }
+        requires open { input.now.start ≤ input.now.end }
+        ensures far { FollowsAlong trace way self.now cache.now.store input.now 0 start result }
         ensures read { result.at < input.now.end - input.now.start
             → IsNextCell way self.now cache.now.store input.now result.at result.id result.next }
     {

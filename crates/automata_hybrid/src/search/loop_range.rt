@@ -2,7 +2,7 @@
 ghost use Rattle.std.specs.Prelude.{◌≡◌, ◌+◌, ◌<◌, ◌≤◌, ℕ, IsTrue};
 ghost use Rattle.automata_hybrid.specs.Cache.Caches.{IsCacheOf};
 ghost use Rattle.automata_hybrid.specs.Cache.Ids.{fixed_from};
-ghost use Rattle.automata_hybrid.specs.Searches.SelfLoops.{IsLoopRange, LoopsOn};
+ghost use Rattle.automata_hybrid.specs.Private.Searches.SelfLoops.{IsLoopRange, LoopsOn};
 ghost use Rattle.automata_hybrid.specs.Cache.Table.{IsRowId};
 
 use crate::dfa::DFA;

@@ -1,22 +1,25 @@
 //! Searches. Here is what one unit does to the state of a search. `follow` runs over cached transitions, and
 //! `self_loop` over a row that leads back to itself, by the ranges of bytes that `loop_range` finds and `lanes`
 //! compares; far in a run `leap` takes a few bytes at once. `known` is a pass over a span that only reads the cache,
-//! `pass` one that determinizes, and `half` one pass after another: the public searches for one end of a match. A
-//! `walk` is an overlapping search between its calls; `advance` takes it to the next match, `overlapping` is one call,
-//! and `which` collects the patterns of all. `direction` has all in which the two directions differ.
+//! `pass` one that determinizes, and `half` one pass after another: the public searches for one end of a match.
+//! `pieces` is a search whose haystack comes in pieces, and `pieces_walk` one that stops at each match. A `walk` is an
+//! overlapping search between its calls; `advance` takes it to the next match, `overlapping` is one call, and `which`
+//! collects the patterns of all. `direction` has all in which the two directions differ.
 ghost use Rattle.std.specs.Prelude.{◌≡◌, slice_index, ◌<◌, IfOk, IfErr, OnOk};
 ghost use Rattle.std.specs.Prelude.{Some, None, true, false};
 ghost use Rattle.automata_base.specs.Powersets.Powerset.{Powerset};
 ghost use Rattle.automata_hybrid.specs.Cache.Caches.{IsCacheOf};
 ghost use Rattle.automata_base.specs.Haystacks.Tapes.{is_split};
-ghost use Rattle.automata_hybrid.specs.Searches.PassState.{half_at, step_error};
-ghost use Rattle.automata_hybrid.specs.Searches.Units.{IsReadAnswer, IsReadEffect, ReadFails};
-ghost use Rattle.automata_hybrid.specs.Searches.Units.{IsStepTaken, StepFailsAt};
+ghost use Rattle.automata_hybrid.specs.Searches.PassState.{half_at};
+ghost use Rattle.automata_hybrid.specs.Private.Searches.PassState.{step_error};
+ghost use Rattle.automata_hybrid.specs.Private.Searches.Units.{IsReadAnswer, IsReadEffect, ReadFails};
+ghost use Rattle.automata_hybrid.specs.Private.Searches.Units.{IsStepTaken, StepFailsAt};
 ghost use Rattle.automata_hybrid.specs.Calls.Events.{moved};
 ghost use Rattle.automata_hybrid.specs.Searches.Passes.{Skips};
 ghost use Rattle.automata_base.specs.declared.util.search.MatchErrorKind.TheVariants.{Quit as QuitAt};
 ghost use Rattle.automata_hybrid.specs.Cache.Ids.{unknown_id, HasMatchTag};
-ghost use Rattle.automata_hybrid.specs.Steps.Steps.{IsCellRead, IsStepAnswer, known_step};
+ghost use Rattle.automata_hybrid.specs.Steps.Steps.{IsStepAnswer, known_step};
+ghost use Rattle.automata_hybrid.specs.Private.Steps.Steps.{IsCellRead};
 ghost use Rattle.automata_hybrid.specs.Cache.Table.{IsRowId, Leads, Names};
 
 mod advance;
@@ -29,6 +32,8 @@ mod leap;
 mod loop_range;
 mod overlapping;
 mod pass;
+pub mod pieces;
+pub mod pieces_walk;
 mod self_loop;
 pub mod walk;
 mod which;

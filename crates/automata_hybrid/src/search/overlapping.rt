@@ -4,19 +4,21 @@ ghost use Rattle.std.specs.Prelude.{length, slice_index};
 ghost use Rattle.std.specs.Result.{result_err};
 ghost use Rattle.automata_base.specs.Powersets.Powerset.{Powerset};
 ghost use Rattle.automata_base.specs.declared.util.search.Direction.TheVariants.{Forward, Backward};
-ghost use Rattle.automata_hybrid.specs.Cache.Growth.{AddFails};
+ghost use Rattle.automata_hybrid.specs.Private.Cache.Growth.{AddFails};
 ghost use Rattle.automata_hybrid.specs.Cache.Caches.{IsCacheOf};
 ghost use Rattle.automata_hybrid.specs.Walks.Contracts.{IsWalkCall};
-ghost use Rattle.automata_hybrid.specs.Walks.Parts.{HoldsOn, IsCallAnswer, IsHeldWalk, IsKeptWalk};
-ghost use Rattle.automata_hybrid.specs.Walks.Parts.{IsResumeAnswer, ReadsOn};
+ghost use Rattle.automata_hybrid.specs.Private.Walks.Parts.{HoldsOn, IsCallAnswer, IsHeldWalk, IsKeptWalk};
+ghost use Rattle.automata_hybrid.specs.Private.Walks.Parts.{IsResumeAnswer, ReadsNext};
 ghost use Rattle.automata_hybrid.specs.Walks.Progress.{HasItsRow, IsNotResumed, IsResumed, IsWalkRun};
 ghost use Rattle.automata_hybrid.specs.Searches.Passes.{tape_in};
 ghost use Rattle.automata_hybrid.specs.Steps.Starts.{MayStart};
 ghost use Rattle.automata_hybrid.specs.Cache.Table.{IsKnownState, IsRowState, Names};
-ghost use Rattle.automata_hybrid.specs.Walks.Answers.{Arrives, HasReported, HasReportedBy};
+ghost use Rattle.automata_hybrid.specs.Walks.Answers.{HasReported, HasReportedBy};
+ghost use Rattle.automata_hybrid.specs.Private.Walks.Answers.{Arrives};
 ghost use Rattle.automata_hybrid.specs.Walks.Answers.{IsResumeError, IsWalkOf};
 ghost use Rattle.automata_hybrid.specs.Walks.Answers.{ReportsNext};
-ghost use Rattle.automata_hybrid.specs.Walks.State.{At, Ended, IsHeldAt, States, keeping_of, without_match};
+ghost use Rattle.automata_hybrid.specs.Walks.State.{At, Ended, States, without_match};
+ghost use Rattle.automata_hybrid.specs.Private.Walks.State.{IsHeldAt, keeping_of};
 
 use crate::dfa::DFA;
 use crate::dfa::cache::Cache;
@@ -89,7 +91,11 @@ impl DFA {
     }
 
     /// The ID of a state that a walk holds, which is added again if the cache lacks it.
-    fn put_back(&self, cache: &mut Cache, handle: &Handle) -> Result<LazyStateID, StepError>
+    pub(super) fn put_back(
+        &self,
+        cache: &mut Cache,
+        handle: &Handle,
+    ) -> Result<LazyStateID, StepError>
         requires of { IsCacheOf cache.old self.now }
         requires key { handle.now.key ≡ handle.now.state }
         requires state { IsRowState self.now handle.now.state }
@@ -119,7 +125,7 @@ impl DFA {
         held: &Held,
     ) -> Result<LazyStateID, SearchError>
         requires of { IsCacheOf cache.old self.now }
-        requires walk { ReadsOn way self.now input.now cache.old.store.table walk.now held.now }
+        requires walk { ReadsNext way self.now input.now cache.old.store.table walk.now held.now }
         ensures of { IsCacheOf cache.new self.now }
         ensures answer { IfOk result
             (IsResumeAnswer way self.now input.now walk.now cache.new.store) }
@@ -156,7 +162,7 @@ impl DFA {
         held: &mut Held,
     ) -> Result<(), SearchError>
         requires of { IsCacheOf cache.old self.now }
-        requires walk { ReadsOn way self.now input.now cache.old.store.table walk.old held.old }
+        requires walk { ReadsNext way self.now input.now cache.old.store.table walk.old held.old }
         ensures of { IsCacheOf cache.new self.now }
         ensures answer { OnOk result (IsCallAnswer way self.now input.now walk.old walk.new) }
         ensures held { OnOk result (HoldsOn cache.new.store.table walk.new held.old held.new) }

@@ -8,13 +8,18 @@ ghost use Rattle.automata_base.specs.Powersets.Powerset.{Powerset, dead};
 ghost use Rattle.automata_hybrid.specs.Cache.Ids.{unknown_id};
 ghost use Rattle.automata_hybrid.specs.Cache.Caches.{IsCacheOf};
 ghost use Rattle.automata_hybrid.specs.Searches.Contracts.{IsUnsupported, unsupported_error};
-ghost use Rattle.automata_hybrid.specs.Searches.PassContracts.{IsKnownUpto, IsPassAnswer};
-ghost use Rattle.automata_hybrid.specs.Searches.PassContracts.{IsTakenUp, half_from};
-ghost use Rattle.automata_hybrid.specs.Searches.PassContracts.{IsUnderway, input_at};
-ghost use Rattle.automata_hybrid.specs.Searches.PassState.{IsAt, IsNextCell};
-ghost use Rattle.automata_hybrid.specs.Searches.PassContracts.{RunsTo};
-ghost use Rattle.automata_hybrid.specs.Searches.Units.{IsEndProgress};
-ghost use Rattle.automata_hybrid.specs.Searches.Progress.{EndsAtLast, IsPassRun, IsStoppedAt};
+ghost use Rattle.automata_hybrid.specs.Searches.PassContracts.{IsPassAnswer};
+ghost use Rattle.automata_hybrid.specs.Private.Searches.PassContracts.{IsKnownUpto};
+ghost use Rattle.automata_hybrid.specs.Private.Searches.PassContracts.{IsTakenUp, half_if};
+ghost use Rattle.automata_hybrid.specs.Searches.PassContracts.{IsUnderway};
+ghost use Rattle.automata_hybrid.specs.Private.Searches.PassContracts.{input_at};
+ghost use Rattle.automata_hybrid.specs.Searches.PassState.{IsAtAlong};
+ghost use Rattle.automata_hybrid.specs.Private.Searches.PassState.{IsMetAlong, IsNextCell, MayFollow};
+ghost use Rattle.automata_hybrid.specs.Private.Searches.PassContracts.{RunsAlong};
+ghost use Rattle.automata_hybrid.specs.Searches.Traces.{Trace};
+ghost use Rattle.automata_hybrid.specs.Private.Searches.Units.{IsEndProgress};
+ghost use Rattle.automata_hybrid.specs.Searches.Progress.{EndsAtLast, IsStoppedAt};
+ghost use Rattle.automata_hybrid.specs.Private.Searches.Progress.{IsPassRun};
 ghost use Rattle.automata_hybrid.specs.Searches.Passes.{IsUnitError};
 ghost use Rattle.automata_hybrid.specs.Cache.Table.{Names};
 
@@ -44,7 +49,7 @@ pub(super) struct Place {
 
 /// Whether there is a half match, and its parts.
 fn parts_of(found: Option<HalfMatch>) -> (bool, PatternID, usize)
-    ensures { half_from result.0 result.1 result.2 ≡ found }
+    ensures { half_if result.0 result.1 result.2 ≡ found }
 {
     match found {
         Some(half) => (true, half.pattern(), half.offset()),
@@ -54,7 +59,7 @@ fn parts_of(found: Option<HalfMatch>) -> (bool, PatternID, usize)
 
 /// A half match of these parts, if there is one.
 fn half_from(has: bool, pattern: PatternID, offset: usize) -> Option<HalfMatch>
-    ensures { result ≡ half_from has pattern offset }
+    ensures { result ≡ half_if has pattern offset }
 {
     if has {
         return Some(HalfMatch::new(pattern, offset));
@@ -81,7 +86,7 @@ pub(super) fn input_of<'h>(
 
 /// The place up to which a run from a place follows cached transitions before it looks for leaps.
 #[inline(always)]
-fn near_end(cache: &Cache, input: &Input<'_>, way: Direction, at: usize) -> usize
+pub(super) fn near_end(cache: &Cache, input: &Input<'_>, way: Direction, at: usize) -> usize
     requires open { input.now.start ≤ input.now.end }
     requires within { at ≤ input.now.end - input.now.start }
     ensures { result ≤ input.now.end - input.now.start }
@@ -237,12 +242,11 @@ impl DFA {
         found: Option<HalfMatch>,
         end: usize,
     ) -> Place
+        ghost trace: { Trace }
         requires of { IsCacheOf cache.now self.now }
-        requires open { input.now.start ≤ input.now.end }
-        requires within { start ≤ input.now.end - input.now.start }
-        requires upto { end ≤ input.now.end - input.now.start }
-        requires at { IsAt way self.now cache.now.store.table input.now start from found }
-        ensures runs { RunsTo way self.now cache.now.store input.now start result }
+        requires may { MayFollow trace way self.now cache.now.store.table input.now start end from }
+        requires at { IsAtAlong trace way self.now cache.now.store.table input.now start from found }
+        ensures runs { RunsAlong trace way self.now cache.now.store input.now start result }
         ensures read { result.at < end
             → IsNextCell way self.now cache.now.store input.now result.at result.id result.next }
     {
@@ -294,7 +298,7 @@ impl DFA {
     ) -> Result<Option<HalfMatch>, SearchError>
         requires of { IsCacheOf cache.old self.now }
         requires at { IsTakenUp way self.now cache.old.store
-            (input_at haystack.now span anchored earliest) from start (half_from has pattern offset) }
+            (input_at haystack.now span anchored earliest) from start (half_if has pattern offset) }
         requires missing { missing ≡ true → IsNextCell way self.now cache.old.store
             (input_at haystack.now span anchored earliest) from start unknown_id }
         ensures of { IsCacheOf cache.new self.now }
@@ -374,7 +378,7 @@ impl DFA {
     /// Goes on by leaps, where a run has come to the place where it looks for them; and the place where it looks for them
     /// next.
     #[inline(always)]
-    fn go_far(
+    pub(super) fn go_far(
         &self,
         cache: &mut Cache,
         input: &Input<'_>,
@@ -382,15 +386,15 @@ impl DFA {
         near: Place,
         end: usize,
     ) -> (Place, usize)
+        ghost trace: { Trace }
         requires of { IsCacheOf cache.old self.now }
-        requires open { input.now.start ≤ input.now.end }
-        requires upto { end ≤ input.now.end - input.now.start }
-        requires runs { (from : ℕ) × RunsTo way self.now cache.old.store input.now from near }
+        requires may { MayFollow trace way self.now cache.old.store.table input.now near.at end near.id }
+        requires met { IsMetAlong trace way self.now cache.old.store input.now near.at near.id near.next }
         requires read { near.at < end
             → IsNextCell way self.now cache.old.store input.now near.at near.id near.next }
         ensures same { cache.new ≡ cache.old }
-        ensures runs { (from : ℕ) → RunsTo way self.now cache.old.store input.now from near
-            → RunsTo way self.now cache.new.store input.now from result.0 }
+        ensures runs { (from : ℕ) → RunsAlong trace way self.now cache.old.store input.now from near
+            → RunsAlong trace way self.now cache.new.store input.now from result.0 }
         ensures read { result.0.at < input.now.end - input.now.start → IsNextCell way self.now cache.new.store
             input.now result.0.at result.0.id result.0.next }
         ensures upto { result.1 ≤ input.now.end - input.now.start }

@@ -4,7 +4,7 @@ ghost use Rattle.std.specs.Prelude.{◌≡◌, ◌+◌, ◌<◌, ◌≤◌, IsTr
 ghost use Rattle.automata_base.specs.declared.util.search.Direction.TheVariants.{Backward, Forward};
 ghost use Rattle.automata_hybrid.specs.Cache.Caches.{IsCacheOf};
 ghost use Rattle.automata_hybrid.specs.Cache.Ids.{fixed_from};
-ghost use Rattle.automata_hybrid.specs.Searches.SelfLoops.{IsKnownLoop, IsLoopRun, LoopsOn, LoopsOver, byte_in};
+ghost use Rattle.automata_hybrid.specs.Private.Searches.SelfLoops.{IsKnownLoop, IsLoopRun, LoopsOn, LoopsOver, byte_in};
 ghost use Rattle.automata_hybrid.specs.Cache.Table.{IsRowId};
 
 use crate::dfa::DFA;

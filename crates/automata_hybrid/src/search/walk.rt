@@ -3,8 +3,9 @@ ghost use Rattle.std.specs.Prelude.{◌≡◌, ◌+◌, ◌<◌, ◌≤◌, ◌^
 ghost use Rattle.std.specs.Prelude.{None};
 ghost use Rattle.automata_base.specs.Powersets.Powerset.{Powerset};
 ghost use Rattle.automata_hybrid.specs.Cache.Table.{IsRowId, Names};
-ghost use Rattle.automata_hybrid.specs.Walks.State.{At, Ended, Fresh, States, ended_walk, fresh_walk, keeping_of};
-ghost use Rattle.automata_hybrid.specs.Walks.State.{Holds, HoldsNone, IsHeldItself, with_match};
+ghost use Rattle.automata_hybrid.specs.Walks.State.{At, Ended, Fresh, States, fresh_walk};
+ghost use Rattle.automata_hybrid.specs.Private.Walks.State.{ended_walk, keeping_of};
+ghost use Rattle.automata_hybrid.specs.Private.Walks.State.{Holds, HoldsNone, IsHeldItself, with_match};
 ghost use Rattle.automata_hybrid.specs.Walks.State.{without_match};
 
 use crate::dfa::cache::Cache;
@@ -97,7 +98,8 @@ pub(crate) struct Cursor {
 }
 
 impl Model for Cursor {
-    ghost use Rattle.automata_hybrid.specs.Walks.State.{Walk, HasItsCount, stage_of, walk_of};
+    ghost use Rattle.automata_hybrid.specs.Walks.State.{Walk};
+    ghost use Rattle.automata_hybrid.specs.Private.Walks.State.{HasItsCount, stage_of, walk_of};
 
     ghost Value = { Walk };
 
@@ -262,7 +264,8 @@ impl Drop for OverlappingState {
 }
 
 impl Model for OverlappingState {
-    ghost use Rattle.automata_hybrid.specs.Walks.State.{Walk, IsHeldItself};
+    ghost use Rattle.automata_hybrid.specs.Walks.State.{Walk};
+    ghost use Rattle.automata_hybrid.specs.Private.Walks.State.{IsHeldItself};
 
     ghost Value = { Walk };
 

@@ -2,7 +2,8 @@
 ghost use Rattle.std.specs.Prelude.{◌≤◌, OnOk, length};
 ghost use Rattle.std.specs.Result.{result_err};
 ghost use Rattle.automata_hybrid.specs.Cache.Caches.{IsCacheOf};
-ghost use Rattle.automata_hybrid.specs.Walks.Contracts.{IsSetReported, IsWhich, JoinsReported};
+ghost use Rattle.automata_hybrid.specs.Walks.Contracts.{IsWhich, JoinsReported};
+ghost use Rattle.automata_hybrid.specs.Private.Walks.Contracts.{IsSetReported};
 ghost use Rattle.automata_hybrid.specs.Walks.Progress.{IsSetRun};
 
 use crate::dfa::DFA;

@@ -5,8 +5,8 @@ use Rattle.automata_base.specs.declared.util.search.Direction.{Direction}
 use Rattle.automata_config.specs.declared.error.SearchError.{SearchError}
 use Rattle.automata_hybrid.specs.declared.search.advance.Arrival.{Arrival}
 use Rattle.automata_hybrid.specs.Cache.Caches.{CacheView}
-use Rattle.automata_hybrid.specs.Searches.PassState.{IsFollowed}
-use Rattle.automata_hybrid.specs.Walks.Parts.{IsAdvanceEffect}
+use Rattle.automata_hybrid.specs.Private.Searches.PassState.{IsFollowed}
+use Rattle.automata_hybrid.specs.Private.Walks.Parts.{IsAdvanceEffect}
 use Rattle.automata_hybrid.specs.Searches.Passes.{HasReadNoQuit, state_in, tape_in}
 use Rattle.automata_hybrid.specs.Cache.Table.{Names}
 use Rattle.automata_hybrid.specs.Walks.Answers.{IsSilent, WalkReads}

@@ -4,9 +4,10 @@ use Rattle.automata_base.specs.Haystacks.Input.{Allows, Input}
 use Rattle.automata_base.specs.Powersets.Powerset.{dead}
 use Rattle.automata_base.specs.declared.util.search.Direction.{Direction}
 use Rattle.automata_hybrid.specs.Cache.Caches.{CacheView}
-use Rattle.automata_hybrid.specs.Searches.PassContracts.{IsKnownUpto}
+use Rattle.automata_hybrid.specs.Private.Searches.PassContracts.{IsKnownUpto}
 use Rattle.automata_hybrid.specs.Calls.Events.{begun}
-use Rattle.automata_hybrid.specs.Searches.Progress.{EndsAtLast, IsPassRun, IsStoppedAt, with_search_begun, with_search_ended}
+use Rattle.automata_hybrid.specs.Searches.Progress.{EndsAtLast, IsStoppedAt, with_search_begun, with_search_ended}
+use Rattle.automata_hybrid.specs.Private.Searches.Progress.{IsPassRun}
 use Rattle.automata_hybrid.specs.Searches.Passes.{behind_offset, state_in, tape_in}
 use Rattle.automata_hybrid.specs.Cache.Table.{Rows, Names}
 use Rattle.automata_hybrid.proofs.Searches.Directions.{begins_alive, begins_dead}

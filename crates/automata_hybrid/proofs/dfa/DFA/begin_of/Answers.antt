@@ -1,7 +1,7 @@
 use Rattle.std.specs.Result.{result_err}
 use Rattle.std.proofs.Common.{subst}
 use Rattle.automata_base.specs.Haystacks.Input.{Input}
-use Rattle.automata_hybrid.specs.Searches.Progress.{IsPassRun}
+use Rattle.automata_hybrid.specs.Private.Searches.Progress.{IsPassRun}
 use Rattle.automata_hybrid.proofs.dfa.DFA.begin_of.Goals as goal
 
 pub returns-clause-effect : goal.returns-clause-effect

@@ -5,7 +5,8 @@ use Rattle.automata_base.specs.Laws.Walks.{OverlappingIsReported, WalksAreReport
 use Rattle.automata_base.specs.Answers.Within.{WalkLiesWithin}
 use Rattle.automata_config.specs.Options.{match_kind_of}
 use Rattle.automata_config.specs.declared.error.SearchError.{SearchError}
-use Rattle.automata_hybrid.specs.Walks.State.{IsHeldItself, States, Walk, keeping_of}
+use Rattle.automata_hybrid.specs.Walks.State.{States, Walk}
+use Rattle.automata_hybrid.specs.Private.Walks.State.{IsHeldItself, keeping_of}
 use Rattle.automata_hybrid.specs.Walks.Progress.{IsWalkRun}
 use Rattle.automata_hybrid.specs.declared.search.walk.Held.{Held}
 use Rattle.automata_hybrid.proofs.Walks.Parts.{held_itself, itself_held, left_by, supported_call, unsupported_call}

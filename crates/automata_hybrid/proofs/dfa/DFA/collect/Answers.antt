@@ -11,10 +11,11 @@ use Rattle.automata_base.specs.Laws.Walks.{WalkIsRight, WalksAreReported}
 use Rattle.automata_config.specs.declared.error.SearchError.{SearchError}
 use Rattle.automata_hybrid.specs.Cache.Caches.{CacheView}
 use Rattle.automata_hybrid.specs.Machines.Machine.{Machine}
-use Rattle.automata_hybrid.specs.Walks.Contracts.{IsSetReported}
+use Rattle.automata_hybrid.specs.Private.Walks.Contracts.{IsSetReported}
 use Rattle.automata_hybrid.specs.Walks.Progress.{HaveCalled, IsSetRun}
 use Rattle.automata_hybrid.specs.Walks.Answers.{AreWalked}
-use Rattle.automata_hybrid.specs.Walks.State.{Ended, Ids, Walk, keeping_of}
+use Rattle.automata_hybrid.specs.Walks.State.{Ended, Ids, Walk}
+use Rattle.automata_hybrid.specs.Private.Walks.State.{keeping_of}
 use Rattle.automata_hybrid.proofs.Searches.Contracts.{is_store}
 use Rattle.automata_hybrid.proofs.Walks.CachedSets.{half_none}
 use Rattle.automata_hybrid.proofs.Searches.Reads.{at_err}

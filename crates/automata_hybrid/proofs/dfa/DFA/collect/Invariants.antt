@@ -4,7 +4,8 @@ use Rattle.automata_base.specs.declared.util.search.Direction.TheVariants.{Forwa
 use Rattle.automata_hybrid.specs.Searches.Contracts.{IsUnsupported}
 use Rattle.automata_hybrid.specs.Walks.Progress.{HaveCalled}
 use Rattle.automata_hybrid.specs.Walks.Answers.{HasItsState}
-use Rattle.automata_hybrid.specs.Walks.State.{Ended, Fresh, Ids, IsHeldAt, keeping_of}
+use Rattle.automata_hybrid.specs.Walks.State.{Ended, Fresh, Ids}
+use Rattle.automata_hybrid.specs.Private.Walks.State.{IsHeldAt, keeping_of}
 use Rattle.automata_hybrid.proofs.Walks.Sets.{Joins, steps_left}
 use Rattle.automata_hybrid.proofs.dfa.DFA.collect.Given as goal
 

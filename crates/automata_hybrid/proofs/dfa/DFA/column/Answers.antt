@@ -1,7 +1,7 @@
 use Rattle.std.proofs.Common.{◌≡◌, ◌∙◌, ◌+◌, ◌*◌, ◌<◌, ◌^◌, suc, ap, subst, arith}
 use Rattle.automata_base.specs.ByteClasses.Classes.{class_in}
-use Rattle.automata_hybrid.specs.Searches.Leaps.{column_of}
-use Rattle.automata_hybrid.specs.Searches.SelfLoops.{byte_in}
+use Rattle.automata_hybrid.specs.Private.Searches.Leaps.{column_of}
+use Rattle.automata_hybrid.specs.Private.Searches.SelfLoops.{byte_in}
 use Rattle.automata_hybrid.proofs.Searches.Leaps.{byte_small, column_below, column_fits}
 use Rattle.automata_hybrid.proofs.dfa.DFA.column.Goals as goal
 

@@ -1,5 +1,5 @@
 use Rattle.std.proofs.Common.{◌≡◌, ◌^◌, ◌<◌}
-use Rattle.automata_hybrid.specs.Searches.Leaps.{column_of}
+use Rattle.automata_hybrid.specs.Private.Searches.Leaps.{column_of}
 use Rattle.automata_hybrid.proofs.dfa.DFA.column.Given as goal
 
 abbrev pub invariant-loop-k : goal.invariant-loop-k

@@ -5,7 +5,7 @@ use Rattle.automata_base.specs.Paths.Paths.{next}
 use Rattle.automata_base.specs.declared.util.search.Direction.{Direction}
 use Rattle.automata_hybrid.specs.Searches.PassState.{IsAt}
 use Rattle.automata_hybrid.specs.Cache.Caches.{CacheView, IsCacheOf, IsStoreOf}
-use Rattle.automata_hybrid.specs.Steps.Steps.{IsCellRead}
+use Rattle.automata_hybrid.specs.Private.Steps.Steps.{IsCellRead}
 use Rattle.automata_hybrid.specs.Searches.Passes.{Reads, given_up_offset, tape_in}
 use Rattle.std.proofs.lemmas.Result.{IfOk-weaker}
 use Rattle.automata_hybrid.proofs.Searches.PassContracts.{dead_answer, first_answer}
@@ -14,6 +14,7 @@ use Rattle.automata_hybrid.proofs.Searches.Goes.{pass_stopped, taken_here}
 use Rattle.automata_hybrid.proofs.Searches.PassState.{at_reads, stops_dead, stops_ends, stops_last, more_leads, more_at}
 use Rattle.automata_hybrid.proofs.Searches.PassState.{unit_refuses, if_both, false_true}
 use Rattle.automata_hybrid.proofs.Searches.PassState.{none_is, some_is}
+use Rattle.automata_hybrid.proofs.Searches.Traces.{pass_is_trace}
 use Rattle.automata_hybrid.proofs.Searches.Directions.{quit_free, span_unit, units_in}
 use Rattle.automata_hybrid.proofs.Steps.Ids.{dead_tagged}
 use Rattle.automata_hybrid.proofs.dfa.DFA.find.Goals as goal
@@ -81,8 +82,8 @@ returns-then-is_some-clause-answer c =
     let few : k ≤ length (tape_in d c.args.input.now).bytes = (let u = units_in d c.args.input.now c.requires.at.at.undone c.last_place-last.ensures.inside in omega (arith, u, inside)) in
     first_answer d c.args.self.now c.args.input.now k c.loop-run.run.id _ c.loop-run.run.found c.loop-run.cache c.read_met.new.cache (record { undone = c.requires.at.at.undone; may = c.requires.at.at.may; at = at }) read c.in-Ok.next c.found_at-found.result c.in-Ok.ensures.answer c.place_offset.result c.place_offset.ensures.value c.found_at-found.ensures (sym c.get_earliest.ensures ∙ c.if-get_earliest.true) (some_is c.found_at-found.result c.if-is_some.ensures) few
 
-pub run-near-requires-clause-at : goal.run-near-requires-clause-at
-run-near-requires-clause-at c =
+pub run-near-requires : goal.run-near-requires
+run-near-requires c =
     let d : Direction = c.args.way in
     let k : ℕ = c.loop-run.run.at in
     let at : IsAt d c.args.self.now c.loop-run.cache.store.table c.args.input.now k c.loop-run.run.id c.loop-run.run.found = c.loop-run.invariant.at in
@@ -93,14 +94,38 @@ run-near-requires-clause-at c =
       | else-get_earliest-via-else-get_earliest w ↦ λ e. absurd (false_true (sym w.if-get_earliest.false ∙ (c.get_earliest.ensures ∙ e)))
     ] in
     let more : suc k ≡ c.loop-run.run.at + 1 = omega arith in
-    subst (λ n. IsAt d c.args.self.now c.read_met.new.cache.store.table c.args.input.now n c.in-Ok.next c.found_at-found.result) more
+    let at = subst (λ n. IsAt d c.args.self.now c.read_met.new.cache.store.table c.args.input.now n c.in-Ok.next c.found_at-found.result) more
     (more_at d c.args.self.now c.loop-run.cache.store.table c.read_met.new.cache.store.table c.args.input.now k c.loop-run.run.id c.in-Ok.next _ c.loop-run.run.found c.found_at-found.result at read
     c.in-Ok.ensures.answer.named (quit_free c.args.self.now _ c.in-Ok.ensures.answer.clean) (c.place_offset.result, c.place_offset.ensures.value, c.found_at-found.ensures) first
     (λ l. (dead_tagged c.read_met.new.cache.store.table c.in-Ok.next (c.see_bounds-in-loop-run.ensures.sound.low c.in-Ok.next) c.see_bounds-in-loop-run.ensures.sound.small _ l).1
-    (λ b. false_true (c.if-is_dead.ensures.1 b))))
+    (λ b. false_true (c.if-is_dead.ensures.1 b)))) in (
+      c.in-Ok.ensures.of,
+      (
+        record {
+          on = record { trace = pass_is_trace d c.args.self.now c.args.input.now; named = at.named };
+          undone = c.requires.at.at.undone;
+          within = omega (arith, c.loop-run-test.true, c.last_place-last.ensures.place);
+          upto = c.loop-run.invariant.upto;
+        },
+        at,
+      ),
+    )
 
-pub go_far-far-requires-clause-runs : goal.go_far-far-requires-clause-runs
-go_far-far-requires-clause-runs c = (_, c.run-near.ensures.runs)
+pub go_far-far-requires : goal.go_far-far-requires
+go_far-far-requires c =
+    let trace = pass_is_trace c.args.way c.args.self.now c.args.input.now in
+    let near = c.run-near.ensures.runs in (
+      c.in-Ok.ensures.of,
+      (
+        record {
+          on = record { trace = trace; named = near.at.named };
+          undone = c.requires.at.at.undone;
+          within = near.run.within;
+          upto = c.loop-run.invariant.upto;
+        },
+        (near.met, c.run-near.ensures.read),
+      ),
+    )
 
 pub loop-run-preserved : goal.loop-run-preserved
 loop-run-preserved c =

@@ -1,7 +1,9 @@
 use Rattle.std.proofs.Common.{◌<◌, ◌≤◌, ◌-◌}
 use Rattle.automata_hybrid.specs.Cache.Caches.{IsCacheOf}
-use Rattle.automata_hybrid.specs.Searches.PassState.{IsAt, IsNextCell}
+use Rattle.automata_hybrid.specs.Searches.PassState.{IsAt}
+use Rattle.automata_hybrid.specs.Private.Searches.PassState.{IsNextCell}
 use Rattle.automata_hybrid.proofs.Searches.Goes.{GoesTo}
+use Rattle.automata_hybrid.specs.Searches.Traces.{pass_trace}
 use Rattle.automata_hybrid.proofs.dfa.DFA.find.Given as goal
 
 abbrev pub invariant-loop-run : goal.invariant-loop-run
@@ -18,3 +20,9 @@ invariant-loop-run l = record {
 
 abbrev pub decreases-loop-run : goal.decreases-loop-run
 decreases-loop-run l = l.last - l.run.at
+
+abbrev pub ghost-run : goal.ghost-run
+ghost-run a = pass_trace a.way a.self.now a.input.now
+
+abbrev pub ghost-go_far : goal.ghost-go_far
+ghost-go_far a = pass_trace a.way a.self.now a.input.now

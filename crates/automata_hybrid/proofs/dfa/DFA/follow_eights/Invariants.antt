@@ -1,5 +1,5 @@
 use Rattle.std.proofs.Common.{◌≤◌, ◌-◌}
-use Rattle.automata_hybrid.specs.Searches.SelfLoops.{IsLoopRun}
+use Rattle.automata_hybrid.specs.Private.Searches.SelfLoops.{IsLoopRun}
 use Rattle.automata_hybrid.proofs.dfa.DFA.follow_eights.Given as goal
 
 abbrev pub invariant-eights : goal.invariant-eights

@@ -1,5 +1,5 @@
 use Rattle.std.proofs.Common.{◌^◌, refl, arith}
-use Rattle.automata_hybrid.specs.Cache.Ids.{IsRunTag}
+use Rattle.automata_hybrid.specs.Private.Cache.Ids.{IsRunTag}
 use Rattle.automata_hybrid.proofs.Searches.Runs.{followed_on}
 use Rattle.automata_hybrid.proofs.Cache.Places.{match_tagged}
 use Rattle.automata_hybrid.proofs.dfa.DFA.follow_matches.Goals as goal
@@ -7,23 +7,26 @@ use Rattle.automata_hybrid.proofs.dfa.DFA.follow_matches.Goals as goal
 match_tag : IsRunTag (2 ^ 27)
 match_tag = record { upto = omega arith; whole = refl }
 
-pub follow-requires-clause-within : goal.follow-requires-clause-within
-follow-requires-clause-within c =
-    let on = c.requires.met.met (omega (arith, c.requires.met.only.below)) in
-    omega (arith, on.within)
-
-pub follow-requires-clause-kind : goal.follow-requires-clause-kind
-follow-requires-clause-kind c = match_tag
-
-pub follow-requires-clause-named : goal.follow-requires-clause-named
-follow-requires-clause-named c =
-    let only = c.requires.met.only in
-    ((c.requires.met.met (omega (arith, only.below))).run (2 ^ 27) match_tag only).followed.named
+pub follow-requires : goal.follow-requires
+follow-requires g c =
+    let only = c.requires.1.1.0.only in
+    let one = c.requires.1.1.0.met (omega (arith, only.below)) in (
+      c.requires.0,
+      (
+        record {
+          on = record { trace = c.requires.1.0.trace; named = (one.run (2 ^ 27) match_tag only).followed.named };
+          undone = c.requires.1.1.1;
+          within = omega (arith, one.within);
+          upto = omega (arith, c.last_place-last.ensures.place);
+        },
+        match_tag,
+      ),
+    )
 
 pub returns-clause-run : goal.returns-clause-run
-returns-clause-run c =
-    let only = c.requires.met.only in
-    let one = (c.requires.met.met (omega (arith, only.below))).run (2 ^ 27) match_tag only in
+returns-clause-run g c =
+    let only = c.requires.1.1.0.only in
+    let one = (c.requires.1.1.0.met (omega (arith, only.below))).run (2 ^ 27) match_tag only in
     record {
       further = omega (arith, c.follow.ensures.to.followed.more);
       within = c.follow.ensures.to.within;
@@ -32,4 +35,4 @@ returns-clause-run c =
     }
 
 pub returns-clause-met : goal.returns-clause-met
-returns-clause-met c = c.follow.ensures.to.met
+returns-clause-met g c = c.follow.ensures.to.met

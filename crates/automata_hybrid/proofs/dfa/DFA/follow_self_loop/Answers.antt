@@ -1,6 +1,6 @@
 use Rattle.std.proofs.Common.{refl, subst}
 use Rattle.automata_base.specs.declared.util.search.Direction.{Direction}
-use Rattle.automata_hybrid.specs.Searches.SelfLoops.{LoopsOver}
+use Rattle.automata_hybrid.specs.Private.Searches.SelfLoops.{LoopsOver}
 use Rattle.automata_hybrid.proofs.dfa.DFA.follow_self_loop.Goals as goal
 
 pub follow_many_fwd-requires-clause-first : goal.follow_many_fwd-requires-clause-first

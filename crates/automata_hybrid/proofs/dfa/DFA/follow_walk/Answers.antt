@@ -1,19 +1,50 @@
 use Rattle.std.proofs.Common.{refl, sym, subst, arith}
 use Rattle.automata_base.specs.declared.util.search.Direction.{Direction}
-use Rattle.automata_hybrid.specs.Cache.Ids.{IsRunTag}
-use Rattle.automata_hybrid.specs.Searches.PassContracts.{FollowsTo}
+use Rattle.automata_hybrid.specs.Private.Cache.Ids.{IsRunTag}
+use Rattle.automata_hybrid.specs.Private.Searches.PassContracts.{FollowsTo}
+use Rattle.automata_hybrid.specs.Private.Searches.PassState.{IsOnTrace}
+use Rattle.automata_hybrid.specs.Searches.Traces.{pass_trace}
 use Rattle.automata_hybrid.specs.declared.search.follow.Stop.{Stop}
 use Rattle.automata_hybrid.proofs.Searches.Runs.{follows_on}
+use Rattle.automata_hybrid.proofs.Searches.Traces.{pass_is_trace}
 use Rattle.automata_hybrid.proofs.dfa.DFA.follow_walk.Goals as goal
 
 no_tag : IsRunTag 0
 no_tag = record { upto = omega arith; whole = refl }
 
-pub follow-requires-clause-kind : goal.follow-requires-clause-kind
-follow-requires-clause-kind c = no_tag
+pub follow-requires : goal.follow-requires
+follow-requires c =
+    let on : IsOnTrace (pass_trace c.args.way c.args.self.now c.args.input.now) c.args.way c.args.self.now c.args.cache.now.store.table c.args.input.now c.leave_tag-first.result.at c.leave_tag-first.result.id =
+    record { trace = pass_is_trace c.args.way c.args.self.now c.args.input.now; named = c.leave_tag-first.ensures.followed.named } in (
+      c.requires.of,
+      (
+        record {
+          on =
+              subst (λ (way : Direction). IsOnTrace (pass_trace way c.args.self.now c.args.input.now) way c.args.self.now c.args.cache.now.store.table c.args.input.now c.leave_tag-first.result.at c.leave_tag-first.result.id) c.in-Forward.is on;
+          undone = c.requires.«open»;
+          within = c.leave_tag-first.ensures.within;
+          upto = c.requires.upto;
+        },
+        no_tag,
+      ),
+    )
 
-pub follow-requires-in-Backward-clause-kind : goal.follow-requires-in-Backward-clause-kind
-follow-requires-in-Backward-clause-kind c = no_tag
+pub follow-requires-in-Backward : goal.follow-requires-in-Backward
+follow-requires-in-Backward c =
+    let on : IsOnTrace (pass_trace c.args.way c.args.self.now c.args.input.now) c.args.way c.args.self.now c.args.cache.now.store.table c.args.input.now c.leave_tag-first.result.at c.leave_tag-first.result.id =
+    record { trace = pass_is_trace c.args.way c.args.self.now c.args.input.now; named = c.leave_tag-first.ensures.followed.named } in (
+      c.requires.of,
+      (
+        record {
+          on =
+              subst (λ (way : Direction). IsOnTrace (pass_trace way c.args.self.now c.args.input.now) way c.args.self.now c.args.cache.now.store.table c.args.input.now c.leave_tag-first.result.at c.leave_tag-first.result.id) c.in-Backward.is on;
+          undone = c.requires.«open»;
+          within = c.leave_tag-first.ensures.within;
+          upto = c.requires.upto;
+        },
+        no_tag,
+      ),
+    )
 
 pub returns-then-not-has_only : goal.returns-then-not-has_only
 returns-then-not-has_only c =

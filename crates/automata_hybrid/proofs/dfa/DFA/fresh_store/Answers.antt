@@ -1,9 +1,10 @@
 use Rattle.std.proofs.Common.{◌≡◌, ◌+◌, ◌*◌, ◌<◌, ◌≤◌, ◌∙◌, ap, sym, subst, List, ℕ}
 use Rattle.automata_base.specs.Powersets.Accounting.{start_slots, minimum_capacity}
 use Rattle.automata_base.specs.ByteClasses.Classes.{eoi_class}
-use Rattle.automata_hybrid.specs.Machines.Fields.{machine_of}
+use Rattle.automata_hybrid.specs.Private.Machines.Fields.{machine_of}
 use Rattle.automata_hybrid.specs.Cache.Ids.{offset_limit}
-use Rattle.automata_hybrid.specs.Machines.Machine.{Machine, IsTemplate, marked}
+use Rattle.automata_hybrid.specs.Machines.Machine.{Machine, marked}
+use Rattle.automata_hybrid.specs.Private.Machines.Machine.{IsTemplate}
 use Rattle.automata_hybrid.specs.declared.dfa.settings.Settings.{Settings}
 use Rattle.automata_hybrid.proofs.dfa.DFA.fresh_store.Goals as goal
 

@@ -7,10 +7,11 @@ use Rattle.automata_base.specs.Haystacks.Matches.{HalfMatch}
 use Rattle.automata_base.specs.declared.util.search.Direction.{Direction}
 use Rattle.automata_hybrid.specs.Machines.Machine.{Machine}
 use Rattle.automata_hybrid.specs.Walks.Progress.{IsWalkRun}
-use Rattle.automata_hybrid.specs.Walks.Parts.{IsCallAnswer}
+use Rattle.automata_hybrid.specs.Private.Walks.Parts.{IsCallAnswer}
 use Rattle.automata_hybrid.specs.Searches.Passes.{tape_in}
 use Rattle.automata_hybrid.specs.Walks.Answers.{ReportsNext}
-use Rattle.automata_hybrid.specs.Walks.State.{At, Ended, Walk, ended_walk, keeping_of, with_match}
+use Rattle.automata_hybrid.specs.Walks.State.{At, Ended, Walk}
+use Rattle.automata_hybrid.specs.Private.Walks.State.{ended_walk, keeping_of, with_match}
 use Rattle.automata_hybrid.specs.Walks.State.{without_match}
 use Rattle.automata_hybrid.proofs.Searches.Contracts.{is_store}
 use Rattle.std.proofs.lemmas.Result.{on_ok_weaker}

@@ -1,7 +1,7 @@
 use Rattle.std.proofs.Common.{ℕ, suc, ◌≡◌, ◌∙◌, ◌+◌, ◌-◌, ◌<◌, ◌≤◌, ◌^◌, None, true, length, subst, sym, refl, arith}
 use Rattle.std.proofs.lemmas.Grind.{common_steps}
 use Rattle.automata_base.specs.declared.util.search.Direction.{Direction}
-use Rattle.automata_hybrid.specs.Searches.PassContracts.{IsKnownEnd, IsKnownUpto}
+use Rattle.automata_hybrid.specs.Private.Searches.PassContracts.{IsKnownEnd, IsKnownUpto}
 use Rattle.automata_hybrid.specs.Searches.Passes.{tape_in}
 use Rattle.automata_hybrid.specs.declared.search.known.Known.{Known}
 use Rattle.automata_hybrid.proofs.Searches.Directions.{units_in}
@@ -9,6 +9,7 @@ use Rattle.automata_hybrid.proofs.Searches.KnownPasses.{known_dead, known_first,
 use Rattle.automata_hybrid.proofs.Searches.PassState.{false_true, none_is, some_is}
 use Rattle.automata_hybrid.proofs.Steps.Ids.{dead_clear}
 use Rattle.automata_hybrid.specs.declared.search.known.KnownStop.TheVariants.{Ended}
+use Rattle.automata_hybrid.proofs.Searches.Traces.{pass_is_trace}
 use Rattle.automata_hybrid.proofs.dfa.DFA.known_pass.Goals as goal
 use Rattle.automata_hybrid.proofs.dfa.DFA.known_pass.Goals.{else-get_earliest-via-then-get_earliest+else-is_some}
 use Rattle.automata_hybrid.proofs.dfa.DFA.known_pass.Goals.{else-get_earliest-via-else-get_earliest}
@@ -23,8 +24,10 @@ found_at-found-requires-clause-leads c =
       at = record { undone = c.requires.at.undone; may = c.requires.at.may; at = c.run-run.ensures.runs.at };
       known = λ j below. c.run-run.ensures.runs.run.known j (omega arith) below;
     } in
-    let few : k ≤ length (tape_in d c.args.input.now).bytes = (let u = units_in d c.args.input.now c.requires.at.undone c.last_place-last.ensures.inside in omega (arith, u, upto.within)) in
-    (_, known_leads d c.args.self.now c.args.input.now k c.run-run.result.id c.args.cache.now c.run-run.result.found c.known_next-next.result c.requires.of c.see_bounds.ensures.sound upto few (subst (λ n. n < 2 ^ 31) (c.known_next-next.ensures.value low) low) (c.known_next-next.ensures.answer low) (c.known_next-next.ensures.below low) (λ b. false_true (c.if-is_quit.ensures.1 b)))
+    let few : k ≤ length (tape_in d c.args.input.now).bytes = (let u = units_in d c.args.input.now c.requires.at.undone c.last_place-last.ensures.inside in omega (arith, u, upto.within)) in (
+      _,
+      known_leads d c.args.self.now c.args.input.now k c.run-run.result.id c.args.cache.now c.run-run.result.found c.known_next-next.result c.requires.of c.see_bounds.ensures.sound upto few (subst (λ n. n < 2 ^ 31) (c.known_next-next.ensures.value low) low) (c.known_next-next.ensures.answer low) (c.known_next-next.ensures.below low) (λ b. false_true (c.if-is_quit.ensures.1 b)),
+    )
 
 pub returns-then-is_dead-clause-ended : goal.returns-then-is_dead-clause-ended
 returns-then-is_dead-clause-ended c =
@@ -119,3 +122,18 @@ returns-then-is_quit-clause-left c =
       known = λ j below. c.run-run.ensures.runs.run.known j (omega arith) below;
     } in
     subst (λ (r : Known). (r.stop ≡ Ended → ⊥) → IsKnownUpto d c.args.self.now c.args.cache.now.store c.args.input.now r.at r.id r.found) (sym c.new-then-is_quit.ensures) (λ _. upto)
+
+pub run-run-requires : goal.run-run-requires
+run-run-requires c =
+    let trace = pass_is_trace c.args.way c.args.self.now c.args.input.now in (
+      c.requires.of,
+      (
+        record {
+          on = record { trace = trace; named = c.requires.at.at.named };
+          undone = c.requires.at.undone;
+          within = omega arith;
+          upto = omega (arith, c.min.ensures, c.last_place-last.ensures.place);
+        },
+        c.requires.at.at,
+      ),
+    )

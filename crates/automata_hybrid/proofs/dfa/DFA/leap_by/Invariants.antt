@@ -1,5 +1,5 @@
 use Rattle.std.proofs.Common.{◌≤◌, ◌-◌}
-use Rattle.automata_hybrid.specs.Searches.Leaps.{IsLeapt}
+use Rattle.automata_hybrid.specs.Private.Searches.Leaps.{IsLeapt}
 use Rattle.automata_hybrid.proofs.dfa.DFA.leap_by.Given as goal
 
 abbrev pub invariant-leaps : goal.invariant-leaps

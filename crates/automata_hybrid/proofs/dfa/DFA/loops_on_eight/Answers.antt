@@ -1,5 +1,5 @@
 use Rattle.std.proofs.Common.{◌≡◌, ◌+◌, refl, subst, arith}
-use Rattle.automata_hybrid.specs.Searches.SelfLoops.{LoopsOn, LoopsOver}
+use Rattle.automata_hybrid.specs.Private.Searches.SelfLoops.{LoopsOn, LoopsOver}
 use Rattle.automata_hybrid.proofs.Searches.SelfLoops.{over_more}
 use Rattle.automata_hybrid.proofs.dfa.DFA.loops_on_eight.Goals as goal
 

@@ -1,5 +1,5 @@
 use Rattle.std.proofs.Common.{◌+◌}
-use Rattle.automata_hybrid.specs.Searches.SelfLoops.{LoopsOver}
+use Rattle.automata_hybrid.specs.Private.Searches.SelfLoops.{LoopsOver}
 use Rattle.automata_hybrid.proofs.dfa.DFA.loops_on_eight.Given as goal
 
 abbrev pub invariant-loop-k : goal.invariant-loop-k

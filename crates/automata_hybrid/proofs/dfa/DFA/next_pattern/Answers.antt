@@ -1,7 +1,8 @@
 use Rattle.std.proofs.Common.{ℕ, ◌<◌, ◌∙◌, ap, length, refl, subst, sym, Option}
 use Rattle.automata_base.specs.Powersets.Powerset.{Powerset}
 use Rattle.automata_hybrid.specs.Cache.Table.{Names}
-use Rattle.automata_hybrid.specs.Walks.State.{At, Holds, IsHeldAt, Stage}
+use Rattle.automata_hybrid.specs.Walks.State.{At, Stage}
+use Rattle.automata_hybrid.specs.Private.Walks.State.{Holds, IsHeldAt}
 use Rattle.automata_hybrid.specs.declared.search.walk.Held.{Held}
 use Rattle.automata_hybrid.specs.declared.search.walk.Held.TheVariants as held
 use Rattle.automata_hybrid.proofs.dfa.DFA.next_pattern.Goals as goal

@@ -6,8 +6,9 @@ use Rattle.automata_base.specs.declared.util.search.Direction.{Direction}
 use Rattle.automata_hybrid.specs.Cache.Caches.{CacheView, with_store, IsStoreOf}
 use Rattle.automata_hybrid.specs.Cache.Progress.{saturated, total_len}
 use Rattle.automata_hybrid.specs.Cache.Stores.{with_searched}
-use Rattle.automata_hybrid.specs.Searches.PassContracts.{IsKnownUpto, half_from}
-use Rattle.automata_hybrid.specs.Searches.Progress.{EndsAtLast, IsStoppedAt, with_search_begun, IsPassRun}
+use Rattle.automata_hybrid.specs.Private.Searches.PassContracts.{IsKnownUpto, half_if}
+use Rattle.automata_hybrid.specs.Searches.Progress.{EndsAtLast, IsStoppedAt, with_search_begun}
+use Rattle.automata_hybrid.specs.Private.Searches.Progress.{IsPassRun}
 use Rattle.automata_hybrid.specs.Calls.Events.{begun}
 use Rattle.automata_hybrid.proofs.Searches.Directions.{begins_alive}
 use Rattle.automata_hybrid.proofs.Searches.KnownPasses.{known_ended}
@@ -16,7 +17,7 @@ use Rattle.automata_hybrid.proofs.Searches.Contracts.{is_store}
 use Rattle.automata_hybrid.proofs.Searches.PassState.{starts_at}
 use Rattle.automata_hybrid.proofs.Steps.Ids.{low_bit}
 use Rattle.automata_hybrid.specs.Cache.Ids.{unknown_id}
-use Rattle.automata_hybrid.specs.Searches.PassState.{IsNextCell}
+use Rattle.automata_hybrid.specs.Private.Searches.PassState.{IsNextCell}
 use Rattle.automata_hybrid.proofs.dfa.DFA.pass.Goals as goal
 
 pub known_pass-known-requires-clause-at : goal.known_pass-known-requires-clause-at
@@ -55,7 +56,7 @@ rest-requires-clause-at c =
     (subst (λ (v : CacheView). IsKnownUpto d c.args.self.now v.store c.args.input.now c.known_pass-known.result.at c.known_pass-known.result.id c.known_pass-known.result.found) (sym c.search_start.ensures.value)
     (record { within = k.within; at = k.at; known = k.known })) in record {
       allowed = subst (λ (i : Input). Allows i.haystack i.start i.end) (sym same) c.get_span-2.ensures.within;
-      upto = subst (λ (i : Input). IsKnownUpto d c.args.self.now c.search_start.new.self.store i c.known_pass-known.result.at c.known_pass-known.result.id (half_from c.parts_of-before.result.0 c.parts_of-before.result.1 c.parts_of-before.result.2)) (sym same) upto;
+      upto = subst (λ (i : Input). IsKnownUpto d c.args.self.now c.search_start.new.self.store i c.known_pass-known.result.at c.known_pass-known.result.id (half_if c.parts_of-before.result.0 c.parts_of-before.result.1 c.parts_of-before.result.2)) (sym same) upto;
     }
 
 pub rest-requires-clause-missing : goal.rest-requires-clause-missing

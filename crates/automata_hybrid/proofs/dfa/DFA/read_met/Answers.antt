@@ -1,6 +1,6 @@
 use Rattle.std.proofs.Common.{◌≡◌, false, true, None, Some, refl, sym, subst}
 use Rattle.automata_hybrid.specs.Machines.Machine.{quits_on}
-use Rattle.automata_hybrid.specs.Searches.Units.{IsReadEffect, ReadFails}
+use Rattle.automata_hybrid.specs.Private.Searches.Units.{IsReadEffect, ReadFails}
 use Rattle.std.specs.Prelude.{IfErr}
 use Rattle.automata_hybrid.specs.Searches.Passes.{IsStepError}
 use Rattle.automata_hybrid.proofs.Searches.Reads.{at_err, at_quit, reported_refusal, unit_left, unit_quits, unit_read}

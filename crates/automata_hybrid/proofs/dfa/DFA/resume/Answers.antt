@@ -3,7 +3,7 @@ use Rattle.automata_hybrid.proofs.Searches.Contracts.{is_store}
 use Rattle.automata_hybrid.proofs.Walks.Parts.{back_left, back_refusal, back_resumed, row_resumed, start_answer, start_left, start_error}
 use Rattle.automata_hybrid.proofs.Walks.Parts.{start_resumed}
 use Rattle.automata_hybrid.specs.Searches.Passes.{given_up_offset}
-use Rattle.automata_hybrid.specs.Searches.PassState.{step_error}
+use Rattle.automata_hybrid.specs.Private.Searches.PassState.{step_error}
 use Rattle.automata_hybrid.specs.declared.dfa.handle.Handle.{Handle}
 use Rattle.automata_hybrid.specs.declared.search.walk.Held.TheVariants as held
 use Rattle.automata_hybrid.proofs.dfa.DFA.resume.Goals as goal

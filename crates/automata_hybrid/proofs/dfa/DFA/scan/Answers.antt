@@ -1,5 +1,5 @@
 use Rattle.std.proofs.Common.{refl, subst, arith, inl}
-use Rattle.automata_hybrid.specs.Searches.SelfLoops.{LoopsOn}
+use Rattle.automata_hybrid.specs.Private.Searches.SelfLoops.{LoopsOn}
 use Rattle.automata_hybrid.proofs.Searches.SelfLoops.{run_known, run_more, run_none}
 use Rattle.automata_hybrid.proofs.dfa.DFA.scan.Goals as goal
 

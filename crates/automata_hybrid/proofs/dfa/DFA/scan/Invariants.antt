@@ -1,5 +1,5 @@
 use Rattle.std.proofs.Common.{◌-◌}
-use Rattle.automata_hybrid.specs.Searches.SelfLoops.{IsKnownLoop, IsLoopRun}
+use Rattle.automata_hybrid.specs.Private.Searches.SelfLoops.{IsKnownLoop, IsLoopRun}
 use Rattle.automata_hybrid.proofs.dfa.DFA.scan.Given as goal
 
 abbrev pub invariant-lanes : goal.invariant-lanes

@@ -8,7 +8,7 @@ use Rattle.automata_base.specs.declared.util.search.Direction.{Direction}
 use Rattle.automata_base.specs.declared.util.search.Direction.TheVariants.{Forward}
 use Rattle.automata_hybrid.specs.Searches.Contracts.{based_half}
 use Rattle.automata_hybrid.specs.Searches.Passes.{Finds, IsFound, Skips, with_base}
-use Rattle.automata_hybrid.specs.Searches.PassContracts.{input_at}
+use Rattle.automata_hybrid.specs.Private.Searches.PassContracts.{input_at}
 use Rattle.automata_hybrid.specs.Searches.Progress.{HaveTried, IsSearchRun}
 use Rattle.automata_hybrid.proofs.Searches.Contracts.{is_store}
 use Rattle.automata_hybrid.proofs.Searches.Directions.{later_none}

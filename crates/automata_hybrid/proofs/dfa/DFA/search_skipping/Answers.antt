@@ -5,7 +5,7 @@ use Rattle.std.specs.Prelude.{IfOk, IfSome}
 use Rattle.std.specs.Result.{result_err}
 use Rattle.automata_base.specs.Haystacks.Input.{Input}
 use Rattle.automata_hybrid.specs.Searches.Contracts.{based_half}
-use Rattle.automata_hybrid.specs.Searches.PassContracts.{input_at}
+use Rattle.automata_hybrid.specs.Private.Searches.PassContracts.{input_at}
 use Rattle.automata_hybrid.specs.Searches.Passes.{IsFound}
 use Rattle.automata_hybrid.specs.Searches.Progress.{HaveTried, IsSearchRun}
 use Rattle.automata_hybrid.proofs.dfa.DFA.search_skipping.Goals as goal

@@ -6,7 +6,8 @@ use Rattle.automata_hybrid.specs.Machines.Machine.{Machine}
 use Rattle.automata_hybrid.specs.Searches.Passes.{state_in}
 use Rattle.automata_hybrid.specs.Cache.Table.{IsRowState}
 use Rattle.automata_hybrid.specs.Walks.Answers.{ReportsNext}
-use Rattle.automata_hybrid.specs.Walks.State.{Walk, with_match}
+use Rattle.automata_hybrid.specs.Walks.State.{Walk}
+use Rattle.automata_hybrid.specs.Private.Walks.State.{with_match}
 use Rattle.automata_hybrid.proofs.Walks.Calls.{next_arrives}
 use Rattle.automata_hybrid.proofs.dfa.DFA.stand.Goals as goal
 

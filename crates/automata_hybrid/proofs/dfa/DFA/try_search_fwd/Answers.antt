@@ -6,7 +6,8 @@ use Rattle.automata_base.specs.declared.util.search.Direction.TheVariants.{Forwa
 use Rattle.automata_base.specs.Answers.OfPasses.{ReportedEndsAreRight, ReportedIsRight}
 use Rattle.automata_base.specs.Answers.Within.{ReportedLiesWithin}
 use Rattle.automata_config.specs.Options.{match_kind_of}
-use Rattle.automata_hybrid.specs.Searches.Contracts.{IsHalf, halves}
+use Rattle.automata_hybrid.specs.Searches.Contracts.{IsHalf}
+use Rattle.automata_hybrid.specs.Private.Searches.Contracts.{halves}
 use Rattle.automata_hybrid.specs.Searches.Passes.{IsFound}
 use Rattle.automata_hybrid.specs.Searches.Progress.{IsSearchRun}
 use Rattle.automata_hybrid.proofs.Searches.Follows.{call_refused}

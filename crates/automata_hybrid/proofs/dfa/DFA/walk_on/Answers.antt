@@ -9,7 +9,7 @@ use Rattle.automata_config.specs.declared.error.SearchError.TheVariants as searc
 use Rattle.automata_hybrid.specs.Cache.Caches.{CacheView, with_store}
 use Rattle.automata_hybrid.specs.Machines.Machine.{Machine}
 use Rattle.automata_hybrid.specs.Cache.Progress.{progress_started}
-use Rattle.automata_hybrid.specs.Walks.Parts.{IsAdvanceEffect, IsCallAnswer}
+use Rattle.automata_hybrid.specs.Private.Walks.Parts.{IsAdvanceEffect, IsCallAnswer}
 use Rattle.automata_hybrid.specs.Searches.Progress.{GoesToEnd, with_search_begun}
 use Rattle.automata_hybrid.specs.Calls.Events.{begun as began}
 use Rattle.automata_hybrid.proofs.Searches.Contracts.{is_store}
@@ -17,8 +17,9 @@ use Rattle.automata_hybrid.specs.Walks.Progress.{IsCallStopped, IsWalkRun}
 use Rattle.automata_hybrid.specs.Searches.Passes.{HasReadNoQuit, given_up_offset, state_in, tape_in}
 use Rattle.automata_hybrid.specs.Cache.Stores.{with_searched}
 use Rattle.automata_hybrid.specs.Cache.Table.{Rows, Leads, Names}
-use Rattle.automata_hybrid.specs.Walks.Answers.{Arrives, Finishes, IsArrival}
-use Rattle.automata_hybrid.specs.Walks.State.{Holds, Ids, IsHeldAt, Stage, Walk, ended_walk, keeping_of}
+use Rattle.automata_hybrid.specs.Private.Walks.Answers.{Arrives, Finishes, IsArrival}
+use Rattle.automata_hybrid.specs.Walks.State.{Ids, Stage, Walk}
+use Rattle.automata_hybrid.specs.Private.Walks.State.{Holds, IsHeldAt, ended_walk, keeping_of}
 use Rattle.automata_hybrid.specs.declared.search.advance.Arrival.{Arrival}
 use Rattle.automata_hybrid.proofs.Searches.Reads.{at_err}
 use Rattle.automata_hybrid.proofs.Searches.Skips.{skips_or_not}

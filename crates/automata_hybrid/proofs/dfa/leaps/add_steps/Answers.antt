@@ -1,5 +1,5 @@
 use Rattle.std.proofs.Common.{subst, sym, arith}
-use Rattle.automata_hybrid.specs.Cache.Leaps.{AreSteps}
+use Rattle.automata_hybrid.specs.Private.Cache.Leaps.{AreLeapSteps}
 use Rattle.automata_hybrid.proofs.Cache.Leaps.{steps_more}
 use Rattle.automata_hybrid.proofs.dfa.leaps.add_steps.Goals as goal
 
@@ -7,7 +7,7 @@ pub loop-class-preserved : goal.loop-class-preserved
 loop-class-preserved c = record {
   long = omega (arith, c.in_ok-push.ensures.len, c.loop-class.invariant.long);
   steps =
-      subst (AreSteps c.args.table.now c.args.classes) (sym c.in_ok-push.ensures.items)
+      subst (AreLeapSteps c.args.table.now c.args.classes) (sym c.in_ok-push.ensures.items)
       (steps_more c.args.table.now c.args.classes c.loop-class.steps.items c.args.row c.loop-class.class c.row_after.result
       c.loop-class.invariant.long c.loop-class-test.true c.requires.row c.row_after.ensures.upto c.row_after.ensures.leads
       c.loop-class.invariant.steps);

@@ -1,7 +1,7 @@
 use Rattle.std.proofs.Common.{ℕ, suc, ◌≡◌, ◌≤◌, ◌+◌, ◌*◌, ◌^◌, ◌∙◌, ap, length, slice_index, subst, sym, arith, List}
 use Rattle.std.proofs.Math.Nat.{mul-le-mul_right, pow-suc, pow-zero}
 use Rattle.std.proofs.lemmas.List.{get_or-take, length-take-le}
-use Rattle.automata_hybrid.specs.Cache.Leaps.{IsLevel}
+use Rattle.automata_hybrid.specs.Private.Cache.Leaps.{IsLevel}
 use Rattle.automata_hybrid.proofs.Cache.Leaps.{level_fits, level_one}
 use Rattle.automata_hybrid.proofs.dfa.leaps.last_level.Goals as goal
 

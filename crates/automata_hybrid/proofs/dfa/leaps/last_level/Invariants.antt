@@ -1,5 +1,5 @@
 use Rattle.std.proofs.Common.{◌≡◌, ◌*◌, ◌^◌, length}
-use Rattle.automata_hybrid.specs.Cache.Leaps.{IsLevel}
+use Rattle.automata_hybrid.specs.Private.Cache.Leaps.{IsLevel}
 use Rattle.automata_hybrid.proofs.dfa.leaps.last_level.Given as goal
 
 abbrev pub invariant-loop : goal.invariant-loop

@@ -1,5 +1,5 @@
 use Rattle.std.proofs.Common.{ℕ, suc, ◌≡◌, ◌*◌, length}
-use Rattle.automata_hybrid.specs.Cache.Leaps.{IsLevel}
+use Rattle.automata_hybrid.specs.Private.Cache.Leaps.{IsLevel}
 use Rattle.automata_hybrid.proofs.dfa.leaps.next_level.Given as goal
 
 abbrev pub invariant-loop-row : goal.invariant-loop-row

@@ -1,5 +1,5 @@
 use Rattle.std.proofs.Common.{ℕ, ◌≡◌, ◌<◌, ◌≤◌, length, slice_index}
-use Rattle.automata_hybrid.specs.Cache.Leaps.{first_cell}
+use Rattle.automata_hybrid.specs.Private.Cache.Leaps.{first_cell}
 use Rattle.automata_hybrid.proofs.dfa.leaps.scale.Given as goal
 
 abbrev pub invariant-loop-k : goal.invariant-loop-k

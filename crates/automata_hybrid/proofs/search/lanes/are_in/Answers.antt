@@ -1,5 +1,5 @@
 use Rattle.std.proofs.lemmas.Bool.{eqb-true}
-use Rattle.automata_hybrid.specs.Searches.SelfLoops.{HasByte}
+use Rattle.automata_hybrid.specs.Private.Searches.SelfLoops.{HasByte}
 use Rattle.automata_hybrid.proofs.Searches.Lanes.{all_near}
 use Rattle.automata_hybrid.proofs.search.lanes.are_in.Goals as goal
 

@@ -1,7 +1,7 @@
 use Rattle.std.proofs.Common.{◌≡◌, subst, sym, arith}
 use Rattle.automata_base.specs.declared.util.search.Direction.{Direction}
 use Rattle.std.specs.Int.{bit_at}
-use Rattle.automata_hybrid.specs.Searches.SelfLoops.{HasEither, lane_of}
+use Rattle.automata_hybrid.specs.Private.Searches.SelfLoops.{HasEither, lane_of}
 use Rattle.automata_hybrid.proofs.Searches.Lanes.{all_near, leading_clear, near_upto, trailing_clear, trailing_few}
 use Rattle.automata_hybrid.proofs.search.lanes.count_in_either.Goals as goal
 

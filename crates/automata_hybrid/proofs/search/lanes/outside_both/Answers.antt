@@ -1,7 +1,7 @@
 use Rattle.std.proofs.Common.{◌≡◌, arith, ⊎_elim, inl, inr}
 use Rattle.std.specs.Int.{bit_at}
 use Rattle.std.proofs.lemmas.Nat.{and_le_l}
-use Rattle.automata_hybrid.specs.Searches.SelfLoops.{lane_of}
+use Rattle.automata_hybrid.specs.Private.Searches.SelfLoops.{lane_of}
 use Rattle.automata_hybrid.proofs.Searches.Lanes.{both_clear}
 use Rattle.automata_hybrid.proofs.search.lanes.outside_both.Goals as goal
 

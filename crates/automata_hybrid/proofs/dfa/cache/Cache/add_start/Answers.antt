@@ -2,7 +2,8 @@ use Rattle.std.proofs.Common.{◌≡◌, refl, sym, subst}
 use Rattle.automata_hybrid.specs.declared.dfa.row.Row.{Row}
 use Rattle.automata_hybrid.specs.Cache.Caches.{CacheView}
 use Rattle.automata_hybrid.specs.Cache.Usage.{Fits, cleared}
-use Rattle.automata_hybrid.specs.Cache.Changes.{AddsRow, grown}
+use Rattle.automata_hybrid.specs.Cache.Changes.{grown}
+use Rattle.automata_hybrid.specs.Private.Cache.Changes.{AddsRow}
 use Rattle.automata_hybrid.specs.declared.dfa.cache.Cache.TheInside.{Inside}
 use Rattle.automata_hybrid.proofs.Cache.Additions.{start_fits}
 use Rattle.automata_hybrid.proofs.Searches.PassState.{false_true}

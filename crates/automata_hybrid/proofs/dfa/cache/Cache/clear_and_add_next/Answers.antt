@@ -3,10 +3,12 @@ use Rattle.automata_hybrid.specs.declared.dfa.cache.Cache.TheInside.{Inside}
 use Rattle.automata_hybrid.specs.Cache.Caches.{CacheView}
 use Rattle.automata_base.specs.Powersets.Powerset.{cost}
 use Rattle.automata_hybrid.specs.Cache.Usage.{Fits}
-use Rattle.automata_hybrid.specs.Cache.Changes.{AddsNext, put_found}
+use Rattle.automata_hybrid.specs.Cache.Changes.{put_found}
+use Rattle.automata_hybrid.specs.Private.Cache.Changes.{AddsNext}
 use Rattle.automata_hybrid.specs.Cache.Clears.{row_of}
 use Rattle.automata_hybrid.specs.Cache.Stores.{with_table}
-use Rattle.automata_hybrid.specs.Cache.Table.{IsNewState, Names, id_of}
+use Rattle.automata_hybrid.specs.Cache.Table.{Names, id_of}
+use Rattle.automata_hybrid.specs.Private.Cache.Table.{IsNewState}
 use Rattle.automata_hybrid.proofs.Cache.Additions.{new_there, next_clears}
 use Rattle.automata_hybrid.proofs.dfa.cache.Cache.clear_and_add_next.Goals as goal
 

@@ -3,8 +3,8 @@ use Rattle.automata_hybrid.specs.declared.dfa.row.Row.{Row}
 use Rattle.automata_hybrid.specs.Cache.Caches.{CacheView}
 use Rattle.automata_base.specs.Powersets.Powerset.{cost}
 use Rattle.automata_hybrid.specs.Cache.Usage.{Fits, cleared}
-use Rattle.automata_hybrid.specs.Cache.Changes.{AddsRow}
-use Rattle.automata_hybrid.specs.Cache.Table.{IsNewState}
+use Rattle.automata_hybrid.specs.Private.Cache.Changes.{AddsRow}
+use Rattle.automata_hybrid.specs.Private.Cache.Table.{IsNewState}
 use Rattle.automata_hybrid.proofs.Cache.Additions.{new_there, start_clears}
 use Rattle.automata_hybrid.proofs.dfa.cache.Cache.clear_and_add_start.Goals as goal
 

@@ -1,8 +1,9 @@
 use Rattle.std.proofs.Common.{◌≡◌, ◌∙◌, ap, inr, sym, subst}
 use Rattle.automata_base.specs.Powersets.Powerset.{Powerset}
 use Rattle.automata_hybrid.specs.Cache.Caches.{CacheView, counted}
-use Rattle.automata_hybrid.specs.Cache.LookUps.{IsLookedUp}
-use Rattle.automata_hybrid.specs.Cache.Table.{IsNewState, Leads, Names}
+use Rattle.automata_hybrid.specs.Private.Cache.LookUps.{IsLookedUp}
+use Rattle.automata_hybrid.specs.Cache.Table.{Leads, Names}
+use Rattle.automata_hybrid.specs.Private.Cache.Table.{IsNewState}
 use Rattle.automata_hybrid.specs.Cache.Usage.{GivesUp}
 use Rattle.automata_hybrid.specs.declared.dfa.cache.Found.TheVariants.{Known, New}
 use Rattle.automata_hybrid.proofs.Cache.Additions.{looked_up, new_state}

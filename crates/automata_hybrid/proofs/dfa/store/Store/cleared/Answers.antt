@@ -1,5 +1,5 @@
 use Rattle.std.proofs.Common.{◌≡◌, ◌+◌, ◌≤◌, ◌∙◌, ap, sym, subst, length, List, ℕ, rules, arith}
-use Rattle.automata_hybrid.specs.Cache.Clears.{KeepsAllStarts}
+use Rattle.automata_hybrid.specs.Private.Cache.Clears.{KeepsAllStarts}
 use Rattle.automata_hybrid.specs.Cache.Stores.{Stored}
 use Rattle.automata_hybrid.specs.Cache.Usage.{cleared}
 use Rattle.automata_hybrid.proofs.Cache.Usage.{Fits-few, IsCache-cleared}

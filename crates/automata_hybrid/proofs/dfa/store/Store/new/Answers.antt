@@ -3,7 +3,7 @@ use Rattle.std.proofs.lemmas.Grind.{common_steps}
 use Rattle.automata_base.specs.Powersets.Accounting.{minimum_capacity}
 use Rattle.automata_hybrid.specs.Machines.Machine.{Machine}
 use Rattle.automata_hybrid.specs.Cache.Stores.{fresh_store}
-use Rattle.automata_hybrid.specs.Cache.Usage.{IsCache}
+use Rattle.automata_hybrid.specs.Private.Cache.Usage.{IsCache}
 use Rattle.automata_hybrid.specs.declared.dfa.settings.Settings.{Settings}
 use Rattle.automata_hybrid.proofs.Cache.Usage.{IsCache-fresh}
 use Rattle.automata_hybrid.proofs.dfa.store.Store.new.Goals as goal

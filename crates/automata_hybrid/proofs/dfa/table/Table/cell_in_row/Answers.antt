@@ -4,12 +4,12 @@ use Rattle.std.proofs.lemmas.List.{get_or-drop, get_or-take}
 use Rattle.automata_base.specs.Powersets.Powerset.{Powerset}
 use Rattle.automata_hybrid.proofs.Cache.Places.{Names-Placed, Placed-cell, Placed-IsCell}
 use Rattle.automata_hybrid.specs.Cache.Ids.{offset_limit}
-use Rattle.automata_hybrid.specs.Cache.Table.{AreRows, Names, Rows, IsCell, cell_at}
+use Rattle.automata_hybrid.specs.Cache.Table.{RowsFitCells, Names, Rows, IsCell, cell_at}
 use Rattle.automata_hybrid.proofs.dfa.table.Table.cell_in_row.Goals as goal
 
 -- the cell of a row stands in the table
 cell_inside :
-    (t : Rows) (id row class : ℕ) (q : Powerset) (cells : List ℕ) → AreRows t → Names t id q → class < t.of.stride → row ≡ id % offset_limit
+    (t : Rows) (id row class : ℕ) (q : Powerset) (cells : List ℕ) → RowsFitCells t → Names t id q → class < t.of.stride → row ≡ id % offset_limit
     → cells ≡ t.cells → row + class < length cells
 cell_inside t id row class q cells i named below offset same =
     let l : cell_at id class < length t.cells = Placed-cell t id class q i (Names-Placed t id q i named) below in
@@ -18,14 +18,14 @@ cell_inside t id row class q cells i named below offset same =
 
 pub bounds-column-row : goal.bounds-column-row
 bounds-column-row c =
-    let inside = cell_inside c.args.self.now c.args.id c.args.row c.args.class c.requires.row.0 c.as_slice-cells.result.now (subst AreRows c.self.view_is c.self.invariant.rows)
+    let inside = cell_inside c.args.self.now c.args.id c.args.row c.args.class c.requires.row.0 c.as_slice-cells.result.now (subst RowsFitCells c.self.view_is c.self.invariant.rows)
     c.requires.row.1 c.requires.class c.requires.offset (c.as_slice-cells.ensures.value ∙ ap (λ (v : Rows). v.cells) c.self.view_is) in
     grind (arith, common_steps, inside)
 
 read : (c : goal.After-index-column-row) → c.index-column-row.result ≡ get_or c.args.self.now.cells (cell_at c.args.id c.args.class) 0
 read c =
     let cells : List ℕ = c.as_slice-cells.result.now in
-    let inside = cell_inside c.args.self.now c.args.id c.args.row c.args.class c.requires.row.0 cells (subst AreRows c.self.view_is c.self.invariant.rows)
+    let inside = cell_inside c.args.self.now c.args.id c.args.row c.args.class c.requires.row.0 cells (subst RowsFitCells c.self.view_is c.self.invariant.rows)
     c.requires.row.1 c.requires.class c.requires.offset (c.as_slice-cells.ensures.value ∙ ap (λ (v : Rows). v.cells) c.self.view_is) in
     let r : ℕ = c.index-column-row.result in
     let at : c.args.class + c.args.row ≡ cell_at c.args.id c.args.class = omega (arith, c.requires.offset) in
@@ -42,6 +42,6 @@ returns-clause-value c = read c
 pub returns-clause-named : goal.returns-clause-named
 returns-clause-named c = λ q h.
     let t : Rows = c.args.self.now in
-    let i : AreRows t = subst AreRows c.self.view_is c.self.invariant.rows in
+    let i : RowsFitCells t = subst RowsFitCells c.self.view_is c.self.invariant.rows in
     let p = Names-Placed t c.args.id q i h in
     subst (IsCell t q c.args.class) (sym (read c)) (Placed-IsCell t c.args.id c.args.class q i p c.requires.class)

@@ -5,7 +5,7 @@ use Rattle.std.proofs.lemmas.Option.{slice_get_read}
 use Rattle.automata_hybrid.specs.declared.dfa.row.Row.{Row}
 use Rattle.automata_hybrid.proofs.Cache.Places.{placed_valid, valid_at}
 use Rattle.automata_base.proofs.Paths.Orders.{some_inj}
-use Rattle.automata_hybrid.specs.Cache.Table.{AreRows, Rows, IsRowId, row_id}
+use Rattle.automata_hybrid.specs.Cache.Table.{RowsFitCells, Rows, IsRowId, row_id}
 use Rattle.automata_hybrid.proofs.dfa.table.Table.has_row.Goals as goal
 use Rattle.automata_hybrid.proofs.dfa.table.Table.has_row.Goals.{then-index-lt3-via-then-index-lt3}
 use Rattle.automata_hybrid.proofs.dfa.table.Table.has_row.Goals.{then-index-lt3-via-else-index-lt3+then-len-index}
@@ -22,7 +22,7 @@ rows_before-index-requires c =
 pub returns-then-index-lt3 : goal.returns-then-index-lt3
 returns-then-index-lt3 c =
     let t : Rows = c.args.self.now in
-    let i : AreRows t = subst AreRows c.self.view_is c.self.invariant.rows in
+    let i : RowsFitCells t = subst RowsFitCells c.self.view_is c.self.invariant.rows in
     let positive : 0 < t.of.stride = subst (λ (v : Rows). 0 < v.of.stride) c.self.view_is c.self.invariant.cells.positive in
     let s : c.self.inside.stride ≡ t.of.stride = c.self.invariant.stride ∙ ap (λ (v : Rows). v.of.stride) c.self.view_is in
     let e : c.rows_before-index.result ≡ (c.args.id % 2 ^ 27) / t.of.stride =
@@ -39,7 +39,7 @@ returns-then-index-lt3 c =
 pub returns-then-index-self : goal.returns-then-index-self
 returns-then-index-self c =
     let t : Rows = c.args.self.now in
-    let i : AreRows t = subst AreRows c.self.view_is c.self.invariant.rows in
+    let i : RowsFitCells t = subst RowsFitCells c.self.view_is c.self.invariant.rows in
     let positive : 0 < t.of.stride = subst (λ (v : Rows). 0 < v.of.stride) c.self.view_is c.self.invariant.cells.positive in
     let s : c.self.inside.stride ≡ t.of.stride = c.self.invariant.stride ∙ ap (λ (v : Rows). v.of.stride) c.self.view_is in
     let e : c.rows_before-index.result ≡ (c.args.id % 2 ^ 27) / t.of.stride =
@@ -52,7 +52,7 @@ returns-then-index-self c =
 pub returns : goal.returns
 returns c =
     let t : Rows = c.args.self.now in
-    let i : AreRows t = subst AreRows c.self.view_is c.self.invariant.rows in
+    let i : RowsFitCells t = subst RowsFitCells c.self.view_is c.self.invariant.rows in
     let positive : 0 < t.of.stride = subst (λ (v : Rows). 0 < v.of.stride) c.self.view_is c.self.invariant.cells.positive in
     let s : c.self.inside.stride ≡ t.of.stride = c.self.invariant.stride ∙ ap (λ (v : Rows). v.of.stride) c.self.view_is in
     let e : c.rows_before-index.result ≡ (c.args.id % 2 ^ 27) / t.of.stride =

@@ -1,6 +1,6 @@
 use Rattle.std.proofs.Common.{◌≡◌, ◌∙◌, ap, ◌+◌, ◌/◌, ◌%◌, ◌^◌, ◌<◌, arith, subst, refl, sym}
 use Rattle.automata_hybrid.proofs.Cache.Places.{Names-Placed, Placed-place, Placed-HasState}
-use Rattle.automata_hybrid.specs.Cache.Table.{AreRows, Rows}
+use Rattle.automata_hybrid.specs.Cache.Table.{RowsFitCells, Rows}
 use Rattle.automata_hybrid.proofs.dfa.table.Table.row_index.Goals as goal
 
 pub rows_before-requires : goal.rows_before-requires
@@ -16,7 +16,7 @@ pub overflow_sub-result : goal.overflow_sub-result
 overflow_sub-result c =
     let t : Rows = c.args.self.now in
     let positive : 0 < t.of.stride = subst (λ (v : Rows). 0 < v.of.stride) c.self.view_is c.self.invariant.cells.positive in
-    let i : AreRows t = subst AreRows c.self.view_is c.self.invariant.rows in
+    let i : RowsFitCells t = subst RowsFitCells c.self.view_is c.self.invariant.rows in
     let s : c.self.inside.stride ≡ t.of.stride = c.self.invariant.stride ∙ ap (λ (v : Rows). v.of.stride) c.self.view_is in
     let p = Names-Placed t c.args.id c.requires.0 i c.requires.1 in
     let e : (c.args.id % 2 ^ 27) / t.of.stride ≡ p.place + 3 = Placed-place t c.args.id c.requires.0 positive p in
@@ -31,7 +31,7 @@ pub returns-clause-row : goal.returns-clause-row
 returns-clause-row c = λ q h.
     let t : Rows = c.args.self.now in
     let positive : 0 < t.of.stride = subst (λ (v : Rows). 0 < v.of.stride) c.self.view_is c.self.invariant.cells.positive in
-    let i : AreRows t = subst AreRows c.self.view_is c.self.invariant.rows in
+    let i : RowsFitCells t = subst RowsFitCells c.self.view_is c.self.invariant.rows in
     let s : c.self.inside.stride ≡ t.of.stride = c.self.invariant.stride ∙ ap (λ (v : Rows). v.of.stride) c.self.view_is in
     Placed-HasState t c.args.id _ q positive (Names-Placed t c.args.id q i h) (rw (c.rows_before.ensures, c.offset.ensures, s) refl)
 
@@ -39,7 +39,7 @@ pub returns-clause-within : goal.returns-clause-within
 returns-clause-within c =
     let t : Rows = c.args.self.now in
     let positive : 0 < t.of.stride = subst (λ (v : Rows). 0 < v.of.stride) c.self.view_is c.self.invariant.cells.positive in
-    let i : AreRows t = subst AreRows c.self.view_is c.self.invariant.rows in
+    let i : RowsFitCells t = subst RowsFitCells c.self.view_is c.self.invariant.rows in
     let s : c.self.inside.stride ≡ t.of.stride = c.self.invariant.stride ∙ ap (λ (v : Rows). v.of.stride) c.self.view_is in
     let p = Names-Placed t c.args.id c.requires.0 i c.requires.1 in
     let e : (c.args.id % 2 ^ 27) / t.of.stride ≡ p.place + 3 = Placed-place t c.args.id c.requires.0 positive p in

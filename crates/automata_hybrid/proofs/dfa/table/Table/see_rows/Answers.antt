@@ -1,18 +1,18 @@
 use Rattle.std.proofs.Common.{subst}
-use Rattle.automata_hybrid.proofs.Cache.Places.{AreRows-costs, Names-Placed, Names-alive, Names-own, Names-tagged}
+use Rattle.automata_hybrid.proofs.Cache.Places.{RowsFitCells-costs, Names-Placed, Names-alive, Names-own, Names-tagged}
 use Rattle.automata_hybrid.proofs.Cache.Places.{Placed-cell}
-use Rattle.automata_hybrid.specs.Cache.Table.{AreRows, Rows}
-use Rattle.automata_hybrid.specs.Machines.Machine.{IsTemplate}
+use Rattle.automata_hybrid.specs.Cache.Table.{RowsFitCells, Rows}
+use Rattle.automata_hybrid.specs.Private.Machines.Machine.{IsTemplate}
 use Rattle.automata_hybrid.proofs.dfa.table.Table.see_rows.Goals as goal
 
 pub returns : goal.returns
 returns c =
     let t : Rows = c.args.self.now in
-    let i : AreRows t = subst AreRows c.self.view_is c.self.invariant.rows in
+    let i : RowsFitCells t = subst RowsFitCells c.self.view_is c.self.invariant.rows in
     record {
       rows = i;
       template = subst (λ (v : Rows). IsTemplate v.of.stride v.of.template) c.self.view_is c.self.invariant.cells;
-      costs = AreRows-costs t i;
+      costs = RowsFitCells-costs t i;
       low = λ id q h. (Names-Placed t id q i h).low;
       tagged = λ id q h. Names-tagged t id q i h;
       alive = λ id q h. Names-alive t id q i h;

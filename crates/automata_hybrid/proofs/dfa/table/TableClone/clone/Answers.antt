@@ -3,7 +3,8 @@ use Rattle.std.specs.List.{each_same}
 use Rattle.std.specs.Map.{lookup}
 use Rattle.std.proofs.lemmas.Map.Entries.{entries_from_clone}
 use Rattle.automata_base.specs.Powersets.Equal.{powerset_eq}
-use Rattle.automata_hybrid.specs.Cache.Table.{IsHeld, Rows}
+use Rattle.automata_hybrid.specs.Cache.Table.{Rows}
+use Rattle.automata_hybrid.specs.Private.Cache.Table.{IsHeld}
 use Rattle.automata_hybrid.proofs.Cache.Rows.{IsHeld-map}
 use Rattle.automata_hybrid.proofs.dfa.table.TableClone.clone.Goals as goal
 

@@ -1,5 +1,6 @@
 use Rattle.std.proofs.Common.{sym, subst}
-use Rattle.automata_hybrid.specs.Walks.State.{IsHeldItself, Walk}
+use Rattle.automata_hybrid.specs.Walks.State.{Walk}
+use Rattle.automata_hybrid.specs.Private.Walks.State.{IsHeldItself}
 use Rattle.automata_hybrid.proofs.Walks.Parts.{shared_itself}
 use Rattle.automata_hybrid.proofs.search.walk.OverlappingStateClone.clone.Goals as goal
 

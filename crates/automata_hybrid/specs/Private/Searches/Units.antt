@@ -11,7 +11,7 @@ use Rattle.automata_hybrid.specs.Cache.Caches.{CacheView}
 use Rattle.automata_hybrid.specs.Calls.Events.{Does, IsStepLeft, Step, ended, moved}
 use Rattle.automata_hybrid.specs.Calls.Steps.{StepFails}
 use Rattle.automata_hybrid.specs.Machines.Machine.{Machine}
-use Rattle.automata_hybrid.specs.Searches.PassState.{step_error}
+use Rattle.automata_hybrid.specs.Private.Searches.PassState.{step_error}
 use Rattle.automata_hybrid.specs.Searches.Progress.{IsLeftAt, IsUnitRead, with_search_ended}
 use Rattle.automata_hybrid.specs.Searches.Passes.{IsStepError}
 use Rattle.automata_hybrid.specs.Machines.Machine.{quits_on}

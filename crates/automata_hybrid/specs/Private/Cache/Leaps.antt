@@ -16,7 +16,7 @@ abbrev pub mark : ℕ
 mark = 2 ^ 32 - 1
 
 -- the cell of a row at a class has the ID of a row, without a tag
-pub record LeadsTo (t : Rows) (row class to : ℕ) : Type 0 where
+pub record LeadsToRow (t : Rows) (row class to : ℕ) : Type 0 where
   -- the cell has the offset of the row that it leads to
   pub cell : slice_index t.cells ((row + 3) * t.of.stride + class) ≡ (to + 3) * t.of.stride
   -- that offset is below the limit, so that as an ID it has no tag
@@ -24,9 +24,9 @@ pub record LeadsTo (t : Rows) (row class to : ℕ) : Type 0 where
 
 -- a place is a row's index and then so many classes, as the digits of a number to the base of `n`: from that row they
 -- lead to another one
-abbrev pub Reaches : Rows → (n count place to : ℕ) → Type 0
-Reaches t n zero place to = place ≡ to
-Reaches t n (suc count) place to = (row : ℕ) × Reaches t n count (place / n) row × LeadsTo t row (place % n) to
+abbrev pub ReachesRow : Rows → (n count place to : ℕ) → Type 0
+ReachesRow t n zero place to = place ≡ to
+ReachesRow t n (suc count) place to = (row : ℕ) × ReachesRow t n count (place / n) row × LeadsToRow t row (place % n) to
 
 -- how many bytes a leap takes, and how many cells a row has: one for each sequence of so many classes
 pub record IsShape (s : Shape) : Type 0 where
@@ -61,7 +61,7 @@ pub record LeapsTo (t : Rows) (s : Shape) (place cell : ℕ) : Type 0 where
   -- the cell has the place of the first cell of that row
   pub first : cell ≡ to * s.width
   -- the classes of the cell's own place lead to that row
-  pub reaches : Reaches t s.classes s.reach place to
+  pub reaches : ReachesRow t s.classes s.reach place to
 
 -- each cell is marked or says where its classes lead
 pub record AreLeaps (t : Rows) (l : Leaps) : Type 0 where
@@ -95,24 +95,24 @@ pub record AreCacheParts (c : Stored) (nfa : Automaton) (held : Option (Box Leap
 
 -- a step on one class: from a row to a row or, if it is not cached or has a tag, to none, which counts as the one after
 -- the last
-pub record IsStepOf (t : Rows) (n place to : ℕ) : Type 0 where
+pub record IsLeapStep (t : Rows) (n place to : ℕ) : Type 0 where
   -- it leads to a row, or to none, which is the one after the last
   pub upto : to ≤ length t.rows
   -- if it leads to a row, it begins at one
   pub from : to < length t.rows → place / n < length t.rows
   -- if it leads to a row, the cell of the class leads there
-  pub leads : to < length t.rows → LeadsTo t (place / n) (place % n) to
+  pub leads : to < length t.rows → LeadsToRow t (place / n) (place % n) to
 
 -- steps of a table, class by class for each row
-abbrev pub AreSteps : Rows → ℕ → List ℕ → Type 0
-AreSteps t n steps = (place : ℕ) → place < length steps → IsStepOf t n place (slice_index steps place)
+abbrev pub AreLeapSteps : Rows → ℕ → List ℕ → Type 0
+AreLeapSteps t n steps = (place : ℕ) → place < length steps → IsLeapStep t n place (slice_index steps place)
 
 -- where so many classes lead from each row: to a row or to none
 pub record IsLevelCell (t : Rows) (n count place to : ℕ) : Type 0 where
   -- this is a row, or none, which is the one after the last
   pub upto : to ≤ length t.rows
   -- if it is a row, the classes lead there
-  pub reaches : to < length t.rows → Reaches t n count place to
+  pub reaches : to < length t.rows → ReachesRow t n count place to
 
 -- where each sequence of so many classes leads from each row: to a row or to none
 abbrev pub IsLevel : Rows → ℕ → ℕ → List ℕ → Type 0

@@ -14,9 +14,11 @@ use Rattle.automata_hybrid.specs.Walks.Progress.{IsCallStopped}
 use Rattle.automata_hybrid.specs.Searches.Passes.{state_in, tape_in}
 use Rattle.automata_hybrid.specs.Steps.Starts.{MayStart}
 use Rattle.automata_hybrid.specs.Cache.Table.{Leads, Names, Rows}
-use Rattle.automata_hybrid.specs.Walks.Answers.{GoesOn, IsWalkOf, ReportsNext, WalkReads}
-use Rattle.automata_hybrid.specs.Walks.State.{Ids, IsHeldAt, IsHeldItself, Walk}
-use Rattle.automata_hybrid.specs.Walks.State.{keeping_of}
+use Rattle.automata_hybrid.specs.Walks.Answers.{IsWalkOf, ReportsNext, WalkReads}
+use Rattle.automata_hybrid.specs.Private.Walks.Answers.{GoesOn}
+use Rattle.automata_hybrid.specs.Walks.State.{Ids, Walk}
+use Rattle.automata_hybrid.specs.Private.Walks.State.{IsHeldAt, IsHeldItself}
+use Rattle.automata_hybrid.specs.Private.Walks.State.{keeping_of}
 use Rattle.automata_hybrid.specs.declared.search.walk.Held.{Held}
 
 -- a walk over this input, and what is held is the state where it stands
@@ -27,7 +29,7 @@ pub record IsHeldWalk (way : Direction) (m : Machine) (input : Input) (t : Rows)
   -- what is held is the state where it stands
   pub holds : IsHeldAt t w.stage held
 
--- and it is the state itself
+-- a walk over this input, and what is held is the state itself where it stands
 pub record IsKeptWalk (way : Direction) (m : Machine) (input : Input) (w : Walk) (held : Held) : Type 0 where
   -- it is a walk over this input
   pub reported : IsWalkOf way m input w
@@ -35,7 +37,7 @@ pub record IsKeptWalk (way : Direction) (m : Machine) (input : Input) (w : Walk)
   pub itself : IsHeldItself w.stage held
 
 -- a walk whose next call reads units
-pub record ReadsOn (way : Direction) (m : Machine) (input : Input) (t : Rows) (w : Walk) (held : Held) :
+pub record ReadsNext (way : Direction) (m : Machine) (input : Input) (t : Rows) (w : Walk) (held : Held) :
     Type 0 where
   -- it is a walk over this input
   pub reported : IsWalkOf way m input w

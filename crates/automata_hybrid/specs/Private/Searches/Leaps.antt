@@ -2,9 +2,9 @@
 use Rattle.std.specs.Prelude.{ℕ, zero, suc, ◌≡◌, ◌+◌, ◌*◌, ◌<◌, ◌≤◌, List, length}
 use Rattle.automata_base.specs.ByteClasses.Classes.{class_in}
 use Rattle.automata_base.specs.declared.util.search.Direction.{Direction}
-use Rattle.automata_hybrid.specs.Cache.Leaps.{LeadsTo}
+use Rattle.automata_hybrid.specs.Private.Cache.Leaps.{LeadsToRow}
 use Rattle.automata_hybrid.specs.Cache.Table.{Rows}
-use Rattle.automata_hybrid.specs.Searches.SelfLoops.{byte_in}
+use Rattle.automata_hybrid.specs.Private.Searches.SelfLoops.{byte_in}
 use Rattle.automata_hybrid.specs.declared.dfa.leaps.Shape.{Shape}
 
 -- so many bytes from a place on lead from a row to another one, by the cells of their classes
@@ -12,7 +12,7 @@ abbrev pub LeadsOver : Rows → Direction → List ℕ → (from count row to : 
 LeadsOver t way bytes from zero row to = row ≡ to
 LeadsOver t way bytes from (suc count) row to =
     (at : ℕ) × LeadsOver t way bytes from count row at
-    × LeadsTo t at (class_in t.of.classes (byte_in way bytes (from + count))) to
+    × LeadsToRow t at (class_in t.of.classes (byte_in way bytes (from + count))) to
 
 -- the classes of so many bytes from a place on, as the digits of a number to the base of `n`
 abbrev pub column_of : (classes : List ℕ) → ℕ → Direction → List ℕ → (from count : ℕ) → ℕ

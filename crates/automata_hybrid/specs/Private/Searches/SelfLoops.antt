@@ -54,18 +54,18 @@ pub record IsLoopRange (m : Machine) (c : Stored) (id : ℕ) (r : LoopRange) : T
   -- the row leads back on each byte of the range
   pub loops : (byte : ℕ) → byte < 256 → HasByte r byte → LoopsOn m c id byte
 
--- and on each byte of the two ranges that are kept of its self-loop
+-- an ID's row leads back to it on each byte of the two ranges that are kept of its self-loop
 pub record IsKnownLoop (m : Machine) (c : Stored) (id : ℕ) (k : KnownLoop) : Type 0 where
   -- the row leads back on each byte of the first range
   pub first : IsLoopRange m c id k.first
   -- the row leads back on each byte of the second range
   pub second : IsLoopRange m c id k.second
 
--- and on each byte of a list from a place on, before another
+-- an ID's row leads back to it on each byte of a list from a place on, before another
 abbrev pub LoopsOver : Machine → Stored → ℕ → Direction → List ℕ → ℕ → ℕ → Type 0
 LoopsOver m c id way bytes from to = (k : ℕ) → from ≤ k → k < to → LoopsOn m c id (byte_in way bytes k)
 
--- and so it does up to a place within the list
+-- an ID's row leads back to it on each byte up to a place within the list
 pub record IsLoopRun (m : Machine) (c : Stored) (id : ℕ) (way : Direction) (bytes : List ℕ) (from to : ℕ) : Type 0 where
   -- it does not end before it begins
   pub more : from ≤ to

@@ -1,0 +1,75 @@
+-- Searches whose pieces are the whole haystack.
+use Rattle.std.proofs.Common.{ℕ, ◌≡◌, ◌≤◌, ◌+◌, ◌-◌, Bool, List, [], ◌∷◌, ◌++◌, length, take, drop}
+use Rattle.std.proofs.Common.{Option, Some, None, refl, sym, ap, ap₂, ◌∙◌, subst, arith}
+use Rattle.std.proofs.lemmas.List.{append_assoc, length-append}
+use Rattle.std.proofs.Math.Seq.{drop-append_seam, take-append_seam}
+use Rattle.std.specs.Prelude.{slice_get}
+use Rattle.automata_base.specs.Haystacks.Input.{Input}
+use Rattle.automata_base.specs.Haystacks.Matches.{HalfMatch}
+use Rattle.automata_base.specs.Haystacks.Tapes.{IsHaystack, between}
+use Rattle.automata_base.specs.declared.util.search.Anchored.{Anchored}
+use Rattle.automata_hybrid.specs.Machines.Machine.{Machine}
+use Rattle.automata_hybrid.specs.Pieces.Answers.{IsPieceAt, IsWhole, WasGiven, from_first}
+use Rattle.automata_hybrid.specs.Pieces.State.{PiecesView}
+use Rattle.automata_hybrid.specs.Pieces.Whole.{HasReadAll, PiecesAreWhole, bytes_of_pieces, whole_input}
+use Rattle.automata_hybrid.proofs.Searches.Units.{nth_past}
+
+-- a piece stands where it was put together
+piece_at : (mode : Anchored) (earliest : Bool) (xs piece rest : List ℕ) → IsPieceAt (whole_input (xs ++ (piece ++ rest)) mode earliest) (length xs) piece
+piece_at mode earliest xs piece rest = record {
+  within = omega (arith, whole);
+  bytes = sym (ap₂ (λ n s. take n (drop s h)) width start ∙ (ap (take (length piece)) (drop-append_seam xs (piece ++ rest)) ∙ take-append_seam piece rest));
+} where
+  h : List ℕ
+  h = xs ++ (piece ++ rest)
+
+  whole : length h ≡ length xs + (length piece + length rest)
+  whole = length-append xs (piece ++ rest) ∙ ap (λ n. length xs + n) (length-append piece rest)
+
+  start : 0 + length xs ≡ length xs
+  start = omega arith
+
+  width : 0 + length xs + length piece - (0 + length xs) ≡ length piece
+  width = omega arith
+
+-- a search that has read pieces was given the bytes of each haystack that begins with them
+given_all :
+    (m : Machine) (mode : Anchored) (earliest : Bool) (pieces : List (List ℕ)) (p : PiecesView) (rest : List ℕ)
+    → HasReadAll m mode earliest pieces p
+    → WasGiven m (whole_input (bytes_of_pieces pieces ++ rest) mode earliest) (length (bytes_of_pieces pieces)) p
+given_all m mode earliest [] p rest begun =
+    begun.given (whole_input rest mode earliest)
+    (record { undone = omega arith; inside = omega arith; moded = refl; follows = refl; early = refl })
+given_all m mode earliest (piece ∷ earlier) p rest (before, read, on) =
+    subst (λ (h : List ℕ). WasGiven m (whole_input h mode earliest) (length (bytes_of_pieces earlier ++ piece)) p)
+    (sym (append_assoc (bytes_of_pieces earlier) piece rest))
+    (subst (λ n. WasGiven m (whole_input (bytes_of_pieces earlier ++ (piece ++ rest)) mode earliest) n p)
+    (sym (length-append (bytes_of_pieces earlier) piece))
+    (on (whole_input (bytes_of_pieces earlier ++ (piece ++ rest)) mode earliest) (length (bytes_of_pieces earlier))
+    (given_all m mode earliest earlier before (piece ++ rest) read) (piece_at mode earliest (bytes_of_pieces earlier) piece rest)))
+
+append_none : (xs : List ℕ) → xs ++ [] ≡ xs
+append_none [] = refl
+append_none (x ∷ xs) = ap (λ (ys : List ℕ). x ∷ ys) (append_none xs)
+
+first_zero : (half : Option HalfMatch) → from_first 0 half ≡ half
+first_zero None = refl
+first_zero (Some half) = let same : 0 + half.offset ≡ half.offset = omega arith in ap (λ n. Some (record { pattern = half.pattern; offset = n })) same
+
+pub pieces_are_whole : PiecesAreWhole
+pieces_are_whole m mode earliest pieces p half bytes read ends =
+    subst (IsWhole m (whole_input h mode earliest)) (first_zero half)
+    (ends (whole_input h mode earliest) (record {
+      bytes = bytes;
+      given =
+          subst (λ n. WasGiven m (whole_input h mode earliest) n p) all
+          (subst (λ (ys : List ℕ). WasGiven m (whole_input ys mode earliest) (length h) p) (append_none h)
+          (given_all m mode earliest pieces p [] read));
+      followed = nth_past h (length h) (omega arith);
+    }))
+  where
+    h : List ℕ
+    h = bytes_of_pieces pieces
+
+    all : length h ≡ length h - 0
+    all = omega arith

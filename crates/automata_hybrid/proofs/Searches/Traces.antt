@@ -1,0 +1,149 @@
+-- What a run along a trace has found so far, unit by unit, and where it stands after one unit more.
+use Rattle.std.proofs.Common.{ℕ, suc, ◌≡◌, ◌<◌, ◌≤◌, ◌⊎◌, inl, inr, Bool, true, false, List, [], ◌∷◌, Option, Some, None}
+use Rattle.std.proofs.Common.{refl, sym, ap, ◌∙◌, subst, arith}
+use Rattle.std.proofs.lemmas.Bool.{cases_lt}
+use Rattle.automata_base.specs.Answers.Answers.{offset_in}
+use Rattle.automata_base.specs.ByteClasses.Classes.{is_quit}
+use Rattle.automata_base.specs.Haystacks.Input.{Input}
+use Rattle.automata_base.specs.Haystacks.Matches.{HalfMatch}
+use Rattle.automata_base.specs.Nfas.Nodes.{Automaton}
+use Rattle.automata_base.specs.Paths.Paths.{Tape, next}
+use Rattle.automata_base.specs.Paths.Selections.{Pair}
+use Rattle.automata_base.specs.Powersets.Powerset.{Powerset}
+use Rattle.automata_base.specs.Retraced.Passes.{earlier_or, first_among, first_reported, last_among, last_reported, pair_at}
+use Rattle.automata_base.specs.Retraced.Passes.{reported_upto, state_after}
+use Rattle.automata_base.specs.Retraced.Steps.{successor}
+use Rattle.automata_base.specs.declared.util.search.Anchored.{Anchored}
+use Rattle.automata_base.specs.declared.util.search.Direction.{Direction}
+use Rattle.automata_base.specs.declared.util.search.MatchKind.{MatchKind}
+use Rattle.automata_config.specs.Options.{match_kind_of}
+use Rattle.automata_hybrid.specs.Cache.Table.{Leads, Names, Rows}
+use Rattle.automata_hybrid.specs.Machines.Machine.{Machine}
+use Rattle.automata_hybrid.specs.Searches.PassState.{IsAtAlong, half_at, half_of}
+use Rattle.automata_hybrid.specs.Searches.Passes.{tape_in}
+use Rattle.automata_hybrid.specs.Searches.Traces.{Trace, pass_trace, reported_along}
+use Rattle.automata_hybrid.specs.Private.Searches.Traces.{IsTrace}
+
+pass_reports :
+    (kind : MatchKind) (e : Bool) (a : Automaton) (mode : Anchored) (t : Tape) (k : ℕ)
+    → reported_upto kind e a mode t k ≡ reported_along e (λ i. state_after a kind mode t i) k
+unfolding last_reported first_reported
+pass_reports kind false a mode t k = refl
+pass_reports kind true a mode t k = refl
+
+-- a pass runs along its trace
+pub pass_is_trace : (way : Direction) (m : Machine) (input : Input) → IsTrace way m input (pass_trace way m input)
+unfolding state_after
+pass_is_trace way m input = record {
+  steps = λ k. refl;
+  reports = λ k. pass_reports (match_kind_of m.config) input.earliest m.nfa input.anchored (tape_in way input) k;
+}
+
+pub half_none : (way : Direction) (input : Input) (o : Option Pair) → half_of way input o ≡ None → o ≡ None
+half_none way input None e = refl
+half_none way input (Some pair) e = cc
+
+pub pair_half :
+    (way : Direction) (input : Input) (ps : List ℕ) (k : ℕ) (o : Option Pair)
+    → half_of way input (pair_at ps k o) ≡ half_at ps (offset_in way input k) (half_of way input o)
+pair_half way input [] k o = refl
+pair_half way input (p ∷ ps) k o = refl
+
+found_by :
+    (way : Direction) (input : Input) (e : Bool) (state : ℕ → Powerset) (k : ℕ)
+    → (e ≡ true → half_of way input (reported_along e state k) ≡ None)
+    → half_of way input (reported_along e state (suc k))
+    ≡ half_at (state (suc k)).patterns (offset_in way input k) (half_of way input (reported_along e state k))
+found_by way input false state k first =
+    pair_half way input (state (suc k)).patterns k (last_among (λ i. (state (suc i)).patterns) k)
+found_by way input true state k first =
+    let before : Option Pair = first_among (λ i. (state (suc i)).patterns) k in
+    let none : before ≡ None = half_none way input before (first refl) in
+    ap (λ o. half_of way input (earlier_or o (pair_at (state (suc k)).patterns k None))) none
+    ∙ (pair_half way input (state (suc k)).patterns k None
+    ∙ ap (λ o. half_at (state (suc k)).patterns (offset_in way input k) (half_of way input o)) (sym none))
+
+earlier_none : (o : Option Pair) → earlier_or o None ≡ o
+earlier_none None = refl
+earlier_none (Some pair) = refl
+
+silent_by :
+    (e : Bool) (state : ℕ → Powerset) (k : ℕ) → (state (suc k)).patterns ≡ []
+    → reported_along e state (suc k) ≡ reported_along e state k
+silent_by false state k n = ap (λ ps. pair_at ps k (last_among (λ i. (state (suc i)).patterns) k)) n
+silent_by true state k n =
+    let before : Option Pair = first_among (λ i. (state (suc i)).patterns) k in
+    ap (λ ps. earlier_or before (pair_at ps k None)) n ∙ earlier_none before
+
+none_by : (e : Bool) (state : ℕ → Powerset) → reported_along e state 0 ≡ None
+none_by false state = refl
+none_by true state = refl
+
+module _ {s : Trace} {way : Direction} {m : Machine} {input : Input} (trace : IsTrace way m input s) where
+  -- after one unit more it has found what the state there reports, or what it had
+  pub found_along :
+      (k : ℕ) → (input.earliest ≡ true → half_of way input (s.reported k) ≡ None)
+      → half_of way input (s.reported (suc k))
+      ≡ half_at (s.state (suc k)).patterns (offset_in way input k) (half_of way input (s.reported k))
+  found_along k first =
+      let now : half_of way input (s.reported k) ≡ half_of way input (reported_along input.earliest s.state k) =
+      ap (half_of way input) (trace.reports k) in
+      ap (half_of way input) (trace.reports (suc k))
+      ∙ (found_by way input input.earliest s.state k (λ e. sym now ∙ first e)
+      ∙ ap (half_at (s.state (suc k)).patterns (offset_in way input k)) (sym now))
+
+  -- a unit after which the state has no patterns reports nothing
+  pub quiet_along : (k : ℕ) → (s.state (suc k)).patterns ≡ [] → s.reported (suc k) ≡ s.reported k
+  quiet_along k silent =
+      trace.reports (suc k) ∙ (silent_by input.earliest s.state k silent ∙ sym (trace.reports k))
+
+  -- before its first unit it has found nothing
+  pub none_along : None ≡ half_of way input (s.reported 0)
+  none_along = sym (ap (half_of way input) (trace.reports 0 ∙ none_by input.earliest s.state))
+
+  -- it stands at its first state
+  pub begins_along : {t : Rows} {id : ℕ} → Names t id (s.state 0) → IsAtAlong s way m t input 0 id None
+  begins_along n =
+      record { named = n; reported = none_along; nothing = λ e. refl; clean = λ j byte l e. absurd (omega (arith, l)) }
+
+  -- it stands at a place, and reads one unit more
+  module _ (t t' : Rows) (k id id' : ℕ) (u : Option ℕ) (found found' : Option HalfMatch)
+      (at : IsAtAlong s way m t input k id found) (unit : next (tape_in way input) k ≡ u)
+      (reads : (q : Powerset) → Names t id q → Leads t' id' (successor m.nfa (match_kind_of m.config) q u)) where
+    pub leads_along : Leads t' id' (s.state (suc k))
+    leads_along =
+        subst (λ q. Leads t' id' q) (sym (trace.steps k ∙ ap (successor m.nfa (match_kind_of m.config) (s.state k)) unit))
+        (reads (s.state k) at.named)
+
+    -- the ID found reports its patterns at the offset of the place
+    abbrev pub ReportsAlong : Type 0
+    ReportsAlong = (o : ℕ) × (o ≡ offset_in way input k) × ((q : Powerset) → Leads t' id' q → found' ≡ half_at q.patterns o found)
+
+    pub first_along : input.earliest ≡ true → half_of way input (s.reported k) ≡ None
+    first_along e = sym at.reported ∙ at.nothing e
+
+    -- what it has found then
+    pub more_along : ReportsAlong → found' ≡ half_of way input (s.reported (suc k))
+    more_along reports =
+        reports.2 (s.state (suc k)) leads_along
+        ∙ (ap (λ v. half_at (s.state (suc k)).patterns v found) reports.1
+        ∙ (ap (half_at (s.state (suc k)).patterns (offset_in way input k)) at.reported
+        ∙ sym (found_along k first_along)))
+
+    -- a unit that is no quit byte
+    module _ (free : (byte : ℕ) → u ≡ Some byte → is_quit m.quits byte ≡ false) where
+      pub clean_along : (j byte : ℕ) → j < suc k → next (tape_in way input) j ≡ Some byte → is_quit m.quits byte ≡ false
+      clean_along j byte l e = go (cases_lt j k) where
+        go : (j < k) ⊎ (k ≤ j) → is_quit m.quits byte ≡ false
+        go (inl less) = at.clean j byte less e
+        go (inr more) =
+            let same : k ≡ j = omega (arith, l, more) in
+            free byte (sym unit ∙ (ap (next (tape_in way input)) same ∙ e))
+
+      -- it stands after it, if the state there is not dead
+      pub at_along :
+          ReportsAlong → (input.earliest ≡ true → found' ≡ None)
+          → (Leads t' id' (s.state (suc k)) → Names t' id' (s.state (suc k)))
+          → IsAtAlong s way m t' input (suc k) id' found'
+      at_along reports first alive =
+          record { named = alive leads_along; reported = more_along reports; nothing = first; clean = clean_along }

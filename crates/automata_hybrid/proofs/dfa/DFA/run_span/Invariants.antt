@@ -1,0 +1,32 @@
+use Rattle.std.proofs.Common.{◌<◌, ◌≤◌, ◌-◌}
+use Rattle.automata_base.specs.declared.util.search.Direction.TheVariants.{Forward}
+use Rattle.automata_hybrid.specs.Cache.Caches.{IsCacheOf}
+use Rattle.automata_hybrid.specs.Searches.PassState.{IsAtAlong}
+use Rattle.automata_hybrid.specs.Private.Searches.PassState.{IsNextCell}
+use Rattle.automata_hybrid.specs.Searches.Progress.{with_search_begun}
+use Rattle.automata_hybrid.proofs.Searches.Goes.{GoesToAlong}
+use Rattle.automata_hybrid.proofs.dfa.DFA.run_span.Given as goal
+
+abbrev pub ghost-next_known : goal.ghost-next_known
+ghost-next_known g a = g.trace
+
+abbrev pub ghost-run : goal.ghost-run
+ghost-run g a = g.trace
+
+abbrev pub ghost-go_far : goal.ghost-go_far
+ghost-go_far g a = g.trace
+
+abbrev pub invariant-loop-run : goal.invariant-loop-run
+invariant-loop-run g l = record {
+  of : IsCacheOf l.cache l.self;
+  within : l.run.at ≤ l.last;
+  upto : l.end ≤ l.input.end - l.input.start;
+  at : IsAtAlong g.trace Forward l.self l.cache.store.table l.input l.run.at l.run.id l.run.found;
+  read :
+      l.run.at < l.input.end - l.input.start
+      → IsNextCell Forward l.self l.cache.store l.input l.run.at l.run.id l.run.next;
+  progress : GoesToAlong g.trace Forward l.self l.input 0 l.run.at (with_search_begun Forward l.input 0 l.fn.cache) l.cache;
+}
+
+abbrev pub decreases-loop-run : goal.decreases-loop-run
+decreases-loop-run g l = l.last - l.run.at

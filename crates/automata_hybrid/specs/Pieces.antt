@@ -1,0 +1,7 @@
+pub mod State
+pub mod Answers
+pub mod Progress
+pub mod Follows
+pub mod Whole
+pub mod Walks
+pub mod Matching

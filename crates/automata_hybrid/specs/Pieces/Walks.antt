@@ -1,0 +1,155 @@
+-- What a walk over a haystack in pieces reports: each offset at which patterns match, once, with these patterns.
+use Rattle.std.specs.Prelude.{ℕ, suc, ◌≡◌, ◌+◌, ◌-◌, ◌<◌, ◌≤◌, ◌⊎◌, List, [], length, Option, Some, None}
+use Rattle.std.specs.Prelude.{MatchOption, slice_get}
+use Rattle.automata_base.specs.Haystacks.Input.{Input}
+use Rattle.automata_base.specs.Haystacks.Matches.{HalfMatch}
+use Rattle.automata_base.specs.Powersets.Powerset.{Powerset, dead}
+use Rattle.automata_base.specs.declared.util.search.Anchored.{Anchored}
+use Rattle.automata_base.specs.declared.util.search.Direction.TheVariants.{Forward}
+use Rattle.automata_config.specs.declared.error.SearchError.{SearchError}
+use Rattle.automata_config.specs.declared.error.SearchError.TheVariants as search
+use Rattle.automata_hybrid.specs.Cache.Caches.{CacheView}
+use Rattle.automata_hybrid.specs.Machines.Machine.{Machine}
+use Rattle.automata_hybrid.specs.Pieces.Answers.{BeginsAfter, IsPieceAt, from_first}
+use Rattle.automata_hybrid.specs.Pieces.Progress.{EndsAnswer, GoesOnFrom, LeavesAnswer, LeavesPiece}
+use Rattle.automata_hybrid.specs.Pieces.Progress.{ReadsThrough, ReadsPieceUpto}
+use Rattle.automata_hybrid.specs.Pieces.State.{PiecesView}
+use Rattle.automata_hybrid.specs.Searches.PassState.{half_at}
+use Rattle.automata_hybrid.specs.Searches.Passes.{HasReadNoQuit, Skips, state_in, tape_in}
+use Rattle.automata_hybrid.specs.Steps.Starts.{MayStart}
+
+-- the patterns of a state, if the last call of a walk has come to them
+abbrev pub patterns_at : Option Powerset → Option HalfMatch → List ℕ
+patterns_at (Some q) (Some half) = q.patterns
+patterns_at (Some q) None = []
+patterns_at None found = []
+
+-- the patterns at which a walk stands: none unless its last call has come to them
+abbrev pub patterns_here : PiecesView → List ℕ
+patterns_here w = patterns_at w.state w.found
+
+-- a walk stands at a state after the first `n` bytes of the span of an input
+pub record WalksAt (m : Machine) (input : Input) (n : ℕ) (q : Powerset) (w : PiecesView) : Type 0 where
+  -- it has read these bytes
+  pub read : w.read ≡ n
+  -- the state is that of a pass after them
+  pub state : q ≡ state_in Forward m input n
+  -- none of them is a quit byte
+  pub clean : HasReadNoQuit Forward m input n
+
+-- a walk was given the first `n` bytes of the span of an input
+pub record HasWalked (m : Machine) (input : Input) (n : ℕ) (w : PiecesView) : Type 0 where
+  -- no offset is skipped
+  pub plain : Skips m → ⊥
+  -- the bytes lie in the span
+  pub within : input.start + n ≤ input.end
+  -- it ends in the haystack
+  pub inside : input.end ≤ length input.haystack
+  -- a search may start there
+  pub may : MayStart m input.anchored (tape_in Forward input).before
+  -- if it stands at a state, that is the one after these bytes
+  pub stands : (q : Powerset) → w.state ≡ Some q → WalksAt m input n q w
+  -- if it stands at none, a pass is dead after them: nothing matches from there on
+  pub over : w.state ≡ None → state_in Forward m input n ≡ dead
+
+-- a walk has begun
+pub record HasBegunWalk (m : Machine) (mode : Anchored) (behind : Option ℕ) (w : PiecesView) : Type 0 where
+  -- it was given no byte of any input that it may be a walk over
+  pub given : (input : Input) → BeginsAfter mode behind input.earliest input → HasWalked m input 0 w
+  -- it has read none
+  pub read : w.read ≡ 0
+  -- it stands at no match
+  pub found : w.found ≡ None
+
+-- between two places of a span no pattern matches at the offset of a place: the states there report none
+abbrev pub HasNoMatch : Machine → Input → (from to : ℕ) → Type 0
+HasNoMatch m input from to = (k : ℕ) → from ≤ k → k < to → (state_in Forward m input (suc k)).patterns ≡ []
+
+-- a walk stands at the patterns that match at the offset of a place of a span
+pub record IsAtMatch (m : Machine) (input : Input) (k : ℕ) (w : PiecesView) : Type 0 where
+  -- its patterns are those that the state there reports
+  pub patterns : patterns_here w ≡ (state_in Forward m input (suc k)).patterns
+  -- there is one at least
+  pub some : patterns_here w ≡ [] → ⊥
+  -- its match is the first of them, at that offset
+  pub found :
+      from_first input.start w.found ≡ half_at (state_in Forward m input (suc k)).patterns (input.start + k) None
+
+-- where a walk stops that goes on from place `k` of a span over a piece, of which it reads `n` bytes
+pub data StopsAt (m : Machine) (input : Input) (k : ℕ) (piece : List ℕ) (n : ℕ) (w : PiecesView) : Type 0 where
+  -- at the end of the piece, and at no match: no pattern matches on the way
+  AtPieceEnd :
+      n ≡ length piece → HasNoMatch m input k (k + n) → patterns_here w ≡ [] → StopsAt m input k piece n w
+  -- at the first match on the way
+  AtMatch :
+      (i : ℕ) → n ≡ suc i → HasNoMatch m input k (k + i) → IsAtMatch m input (k + i) w → StopsAt m input k piece n w
+
+-- a walk that was given the bytes of an input before a piece goes on over `n` bytes of the piece
+abbrev pub WalksOn : Machine → (piece : List ℕ) → (old new : PiecesView) → (n : ℕ) → Type 0
+WalksOn m piece old new n =
+    (input : Input) (k : ℕ) → HasWalked m input k old → IsPieceAt input k piece
+    → HasWalked m input (k + n) new × StopsAt m input k piece n new
+
+-- what a call of a walk returns, over a piece: how many of its bytes it has read
+pub record IsWalked (m : Machine) (piece : List ℕ) (old new : PiecesView) (n : ℕ) : Type 0 where
+  -- they are bytes of the piece
+  pub few : n ≤ length piece
+  -- unless it stands at a match, they are all
+  pub all : new.found ≡ None → n ≡ length piece
+  -- if it stands at a match, it has read one at least
+  pub some : (new.found ≡ None → ⊥) → 0 < n
+  -- over each input, it stands at the next match in the piece, or there is none
+  pub walks : WalksOn m piece old new n
+
+-- what a call of a walk over a piece makes of the walk and of the cache, if it returns Ok
+pub data EndsWalkCall (m : Machine) (piece : List ℕ) (w next : PiecesView) (old new : CacheView) : Type 0 where
+  -- nothing could match any more, and nothing has changed
+  AlreadyDone : w.state ≡ None → next ≡ w → new ≡ old → EndsWalkCall m piece w next old new
+  -- all bytes of the piece are read
+  WalksThrough :
+      (q : Powerset) (row : CacheView) (id : ℕ) (found : Option HalfMatch) → GoesOnFrom m w q old row
+      → ReadsThrough m piece w q id found row new → next.read ≡ w.read + length piece
+      → EndsWalkCall m piece w next old new
+  -- they are read up to one at which patterns match, or after which nothing can
+  WalksUpto :
+      (q : Powerset) (row : CacheView) (i : ℕ) (found : Option HalfMatch) → GoesOnFrom m w q old row
+      → ReadsPieceUpto m piece w q i found row new → next.read ≡ w.read + suc i → EndsWalkCall m piece w next old new
+
+-- why a call of a walk fails, and what that makes of the cache: as a search in pieces that ends at its first match, or
+-- since the state at the match cannot be held
+pub data LeavesWalkCall (m : Machine) (piece : List ℕ) (w : PiecesView) (old new : CacheView) (e : SearchError) :
+    Type 0 where
+  -- as such a search
+  AsSearch : LeavesPiece m piece w old new e → LeavesWalkCall m piece w old new e
+  -- the count of those who share the state cannot rise
+  NotHeldAt :
+      (q : Powerset) (row : CacheView) (i : ℕ) (found : Option HalfMatch) → GoesOnFrom m w q old row
+      → ReadsPieceUpto m piece w q i found row new → e ≡ search.OutOfMemory → LeavesWalkCall m piece w old new e
+
+-- what a call of a walk over a piece makes of the walk and of the cache, by the error that it returns, if it fails
+abbrev pub IsWalkCallRun :
+    Machine → (piece : List ℕ) → (w next : PiecesView) → (old new : CacheView) → Option SearchError → Type 0
+IsWalkCallRun m piece w next old new error =
+    MatchOption error (EndsWalkCall m piece w next old new) (LeavesWalkCall m piece w old new)
+
+-- a walk was given the whole span of an input, which this byte follows, or none
+pub record HasWalkedAll (m : Machine) (input : Input) (ahead : Option ℕ) (w : PiecesView) : Type 0 where
+  -- it was given the bytes of the span
+  pub given : HasWalked m input (input.end - input.start) w
+  -- this byte follows the span, or none
+  pub followed : slice_get input.haystack input.end ≡ ahead
+
+-- over each input whose span is all that was given, these patterns match at its end: the state after the unit that
+-- follows reports them
+abbrev pub EndsWith : Machine → PiecesView → (ahead : Option ℕ) → List ℕ → Type 0
+EndsWith m w ahead patterns =
+    (input : Input) → HasWalkedAll m input ahead w
+    → patterns ≡ (state_in Forward m input (suc (input.end - input.start))).patterns
+
+-- what asking for the end of a walk makes of the cache, by the error that it returns, if it fails: as a search in
+-- pieces that is asked for its answer, but the state at the end is held, for which the count of those who share it has
+-- to rise
+abbrev pub IsWalkEndRun : Machine → (ahead : Option ℕ) → PiecesView → (old new : CacheView) → Option SearchError → Type 0
+IsWalkEndRun m ahead w old new None = EndsAnswer m ahead w old new
+IsWalkEndRun m ahead w old new (Some e) =
+    LeavesAnswer m ahead w old new e ⊎ (EndsAnswer m ahead w old new × (e ≡ search.OutOfMemory))

@@ -1,0 +1,7 @@
+-- What no contract of a public call reaches: the words of private functions and of proofs, by the same folders.
+pub mod Cache
+pub mod Machines
+pub mod Pieces
+pub mod Searches
+pub mod Steps
+pub mod Walks

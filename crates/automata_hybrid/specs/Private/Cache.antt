@@ -1,0 +1,10 @@
+pub mod Changes
+pub mod Clears
+pub mod Growth
+pub mod Ids
+pub mod Leaps
+pub mod LookUps
+pub mod Stores
+pub mod Table
+pub mod Usage
+pub mod States

@@ -1,0 +1,21 @@
+-- What private functions and proofs need beside `Pieces/State`; no contract of a public call reaches it.
+use Rattle.std.specs.Prelude.{Option, Some, None}
+use Rattle.automata_base.specs.Powersets.Powerset.{Powerset}
+use Rattle.automata_hybrid.specs.Private.Walks.State.{IsHandle}
+use Rattle.automata_hybrid.specs.declared.dfa.handle.Handle.{Handle}
+use Rattle.automata_hybrid.specs.declared.search.pieces.Pieces.TheInside.{Inside}
+use Rattle.automata_hybrid.specs.Pieces.State.{PiecesView}
+
+-- the state that is held
+abbrev pub held_state : Option Handle → Option Powerset
+held_state None = None
+held_state (Some handle) = Some handle.state
+
+-- a state is held with its own key
+abbrev pub HasOwnKey : Option Handle → Type 0
+HasOwnKey None = Unit {0}
+HasOwnKey (Some handle) = IsHandle handle handle.state
+
+-- what contracts see of a search in pieces, by what it holds
+abbrev pub pieces_view : Inside → PiecesView
+pieces_view s = record { state = held_state s.held; read = s.read; earliest = s.earliest; found = s.found }

@@ -1,0 +1,32 @@
+-- What private functions and proofs need beside `Pieces/Walks`; no contract of a public call reaches it.
+use Rattle.std.specs.Prelude.{ℕ, ◌≡◌, true, List, [], Option, Some, None}
+use Rattle.automata_base.specs.Haystacks.Matches.{HalfMatch}
+use Rattle.automata_base.specs.Powersets.Powerset.{Powerset}
+use Rattle.automata_hybrid.specs.Cache.Table.{Names, Rows}
+use Rattle.automata_hybrid.specs.Pieces.State.{PiecesView}
+use Rattle.automata_hybrid.specs.declared.dfa.handle.Handle.{Handle}
+
+-- a walk is a search in pieces that stops at each match, and goes on from there
+pub record IsPiecesWalk (w : PiecesView) : Type 0 where
+  -- it stops at a match
+  pub early : w.earliest ≡ true
+  -- at no state it stands at no match
+  pub none : w.state ≡ None → w.found ≡ None
+
+-- a walk stands after so many bytes at the state that an ID names, and has found this
+pub record StandsInRow (t : Rows) (id count : ℕ) (half : Option HalfMatch) (old new : PiecesView) : Type 0 where
+  -- the state is that of the ID's row
+  pub state : (q : Powerset) → Names t id q → new.state ≡ Some q
+  -- it stands at a state
+  pub some : new.state ≡ None → ⊥
+  -- it has read so many bytes
+  pub read : new.read ≡ count
+  -- it has found this
+  pub found : new.found ≡ half
+  -- it stops at a match if it did
+  pub early : new.earliest ≡ old.earliest
+
+-- the patterns of a state that is held, if there is one
+abbrev pub patterns_held : Option Handle → List ℕ
+patterns_held None = []
+patterns_held (Some handle) = handle.state.patterns

@@ -1,0 +1,9 @@
+pub mod Contracts
+pub mod Leaps
+pub mod PassContracts
+pub mod PassState
+pub mod PieceRuns
+pub mod Progress
+pub mod SelfLoops
+pub mod Traces
+pub mod Units

@@ -1,0 +1,150 @@
+-- What private functions and proofs need beside `Searches/PassState`; no contract of a public call reaches it.
+use Rattle.std.specs.Prelude.{ℕ, suc, ◌≡◌, ◌+◌, ◌-◌, ◌^◌, ◌<◌, ◌≤◌, false, Some}
+use Rattle.automata_base.specs.ByteClasses.Classes.{is_quit}
+use Rattle.automata_base.specs.Haystacks.Input.{Input}
+use Rattle.automata_base.specs.Paths.Paths.{next}
+use Rattle.automata_base.specs.declared.util.search.Direction.{Direction}
+use Rattle.automata_base.specs.declared.util.search.MatchErrorKind.TheVariants.{GaveUp}
+use Rattle.automata_config.specs.declared.error.StepError.{StepError}
+use Rattle.automata_config.specs.declared.error.StepError.TheVariants as step
+use Rattle.automata_config.specs.declared.error.SearchError.{SearchError}
+use Rattle.automata_config.specs.declared.error.SearchError.TheVariants as search
+use Rattle.automata_hybrid.specs.Machines.Machine.{Machine}
+use Rattle.automata_hybrid.specs.Cache.Table.{Rows, Names}
+use Rattle.automata_hybrid.specs.Searches.Passes.{tape_in}
+use Rattle.automata_hybrid.specs.Cache.Stores.{Stored}
+use Rattle.automata_hybrid.specs.Searches.Cached.{KnowsAlong}
+use Rattle.automata_hybrid.specs.Searches.Traces.{Trace, pass_trace}
+use Rattle.automata_hybrid.specs.Private.Searches.Traces.{IsTrace}
+use Rattle.automata_hybrid.specs.Cache.Ids.{HasMatchTag, unknown_id}
+use Rattle.automata_hybrid.specs.Private.Cache.Ids.{HasOnly, IsRunTag}
+use Rattle.automata_hybrid.specs.Steps.Steps.{known_step}
+use Rattle.automata_hybrid.specs.Private.Steps.Steps.{IsCellRead}
+use Rattle.automata_hybrid.specs.Machines.Machine.{unit_class}
+
+-- the error of a step, as a search reports it at an offset
+abbrev pub step_error : StepError → (at : ℕ) → SearchError
+step_error (step.Cache err) at = search.Match (GaveUp at)
+step_error step.OutOfMemory at = search.OutOfMemory
+
+-- the transition that a run along a trace takes on the unit at place `k` is cached, at a class that rows have
+abbrev pub HasLearnedAlong : Trace → Direction → Machine → Stored → Input → ℕ → Type 0
+HasLearnedAlong s way m c input k =
+    KnowsAlong s way m c input k × (unit_class m (next (tape_in way input) k) < c.table.of.stride)
+
+-- the transition that a pass takes on the unit at place `k` is cached, at a class that rows have
+abbrev pub HasLearnedUnit : Direction → Machine → Stored → Input → ℕ → Type 0
+HasLearnedUnit way m c input k = HasLearnedAlong (pass_trace way m input) way m c input k
+
+-- the unit at place `k` is no quit byte, and its cached transition leads to an ID that has this tag and no other
+pub record IsTaken (s : Trace) (way : Direction) (m : Machine) (c : Stored) (input : Input) (tag k : ℕ) : Type 0 where
+  -- the unit is no quit byte
+  pub clean : (byte : ℕ) → next (tape_in way input) k ≡ Some byte → is_quit m.quits byte ≡ false
+  -- its transition is cached
+  pub known : HasLearnedAlong s way m c input k
+  -- it leads to an ID that has this tag and no other
+  pub leads : (id : ℕ) × Names c.table id (s.state (suc k)) × HasOnly tag id
+
+-- cached transitions led a run from its first `from` units on to this ID after its first `to`, each of them to an ID
+-- that has this tag and no other: without a tag, none of them reported anything
+pub record IsFollowedAlong (s : Trace) (way : Direction) (m : Machine) (c : Stored) (input : Input)
+    (tag from to id : ℕ) : Type 0 where
+  -- the run went on, or stayed where it was
+  pub more : from ≤ to
+  -- the ID names the state that it came to
+  pub named : Names c.table id (s.state to)
+  -- the transition on each unit between is cached, and leads to an ID that has this tag and no other
+  pub taken : (k : ℕ) → from ≤ k → k < to → IsTaken s way m c input tag k
+
+-- cached transitions led a pass from its first `from` units to this ID after its first `to`, each to an ID with this
+-- tag alone
+abbrev pub IsFollowed : Direction → Machine → Stored → Input → (tag from to id : ℕ) → Type 0
+IsFollowed way m c input tag from to id = IsFollowedAlong (pass_trace way m input) way m c input tag from to id
+
+-- an ID names the state of a trace after `k` units
+pub record IsOnTrace (s : Trace) (way : Direction) (m : Machine) (t : Rows) (input : Input) (k id : ℕ) : Type 0 where
+  -- it is a trace of the units of the span
+  pub trace : IsTrace way m input s
+  -- the ID names the state after these units
+  pub named : Names t id (s.state k)
+
+-- a run along a trace may go on from an ID, to which so many units led it, up to a place
+pub record MayFollow (s : Trace) (way : Direction) (m : Machine) (t : Rows) (input : Input) (at end id : ℕ) : Type 0 where
+  -- the ID names the state after these units
+  pub on : IsOnTrace s way m t input at id
+  -- the span is not done
+  pub undone : input.start ≤ input.end
+  -- the units are bytes of the span
+  pub within : at ≤ input.end - input.start
+  -- the place is in the span
+  pub upto : end ≤ input.end - input.start
+
+-- an ID names the state of a trace after `k` units, and has this tag, none or that of a match, and no other
+pub record IsTagAt (s : Trace) (way : Direction) (m : Machine) (t : Rows) (input : Input) (tag k id : ℕ) :
+    Type 0 where
+  -- the tag is none, or that of a match
+  pub kind : IsRunTag tag
+  -- the ID has this tag and no other
+  pub only : HasOnly tag id
+  -- it names the state of a trace after these units
+  pub on : IsOnTrace s way m t input k id
+
+-- cached transitions led a run so, and this ID too has that tag and no other
+pub record IsRun (s : Trace) (way : Direction) (m : Machine) (c : Stored) (input : Input) (tag from to id : ℕ) :
+    Type 0 where
+  -- cached transitions led the run to this ID, each to an ID that has this tag and no other
+  pub followed : IsFollowedAlong s way m c input tag from to id
+  -- the last ID has this tag and no other too
+  pub only : HasOnly tag id
+
+-- this was read in the cell of the unit at place `k`, in the row of an ID
+abbrev pub IsNextCell : Direction → Machine → Stored → Input → (k id cell : ℕ) → Type 0
+IsNextCell way m c input k id cell = IsCellRead m c id (next (tape_in way input) k) cell
+
+-- the cached transition on the byte at place `k` leads from one ID to another; a run follows it, if that has no tag or
+-- the match tag alone
+pub record IsNextId (s : Trace) (way : Direction) (m : Machine) (c : Stored) (input : Input) (k id to : ℕ) :
+    Type 0 where
+  -- the unit at place `k` is a byte of the span
+  pub within : k < input.end - input.start
+  -- the cached transition on it leads to this ID
+  pub cached : to ≡ known_step m c id (next (tape_in way input) k)
+  -- if this ID has no tag or the match tag alone, the run follows the transition
+  pub run : (tag : ℕ) → IsRunTag tag → HasOnly tag to → IsRun s way m c input tag k (k + 1) to
+
+-- this ID was met after another one: unless it is the unknown one, the transition on the byte at place `k` leads to it
+abbrev pub IsMetAlong : Trace → Direction → Machine → Stored → Input → (k id met : ℕ) → Type 0
+IsMetAlong s way m c input k id met = met < unknown_id → IsNextId s way m c input k id met
+
+-- a pass met it so
+abbrev pub IsMet : Direction → Machine → Stored → Input → (k id met : ℕ) → Type 0
+IsMet way m c input k id met = IsMetAlong (pass_trace way m input) way m c input k id met
+
+-- the ID that was met so has the match tag and no other
+pub record MeetsMatch (s : Trace) (way : Direction) (m : Machine) (c : Stored) (input : Input) (k id to : ℕ) :
+    Type 0 where
+  -- this ID was met after the other one
+  pub met : IsMetAlong s way m c input k id to
+  -- it has the match tag and no other
+  pub only : HasOnly (2 ^ 27) to
+
+-- cached transitions led a run on, over units of its span, to the ID of a state that has patterns
+pub record IsMatchRun (s : Trace) (way : Direction) (m : Machine) (c : Stored) (input : Input) (from to id : ℕ) :
+    Type 0 where
+  -- the run has read at least one unit more
+  pub further : from < to
+  -- the units are bytes of the span
+  pub within : to ≤ input.end - input.start
+  -- cached transitions led the run there, each to an ID that has the match tag and no other
+  pub followed : IsFollowedAlong s way m c input (2 ^ 27) from to id
+  -- the ID that it came to has the match tag
+  pub reports : HasMatchTag id
+
+-- cached transitions led a run from one place to another
+pub record HasRun (s : Trace) (way : Direction) (m : Machine) (c : Stored) (input : Input) (from to : ℕ) : Type 0 where
+  -- the run went on, or stayed where it was
+  pub more : from ≤ to
+  -- the units are bytes of the span
+  pub within : to ≤ input.end - input.start
+  -- the transition on each unit between is cached
+  pub known : (k : ℕ) → from ≤ k → k < to → HasLearnedAlong s way m c input k

@@ -1,0 +1,4 @@
+pub mod Answers
+pub mod Contracts
+pub mod Parts
+pub mod State

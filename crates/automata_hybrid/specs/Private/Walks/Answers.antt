@@ -1,0 +1,58 @@
+-- What private functions and proofs need beside `Walks/Answers`; no contract of a public call reaches it.
+use Rattle.std.specs.Prelude.{ℕ, suc, ◌≡◌, ◌<◌, ◌≤◌, ◌⊎◌, false, length, Option, None, Some}
+use Rattle.automata_base.specs.Answers.Answers.{offset_in}
+use Rattle.automata_base.specs.Haystacks.Input.{Input}
+use Rattle.automata_base.specs.Powersets.Powerset.{Powerset}
+use Rattle.automata_base.specs.Haystacks.Tapes.{is_split}
+use Rattle.automata_base.specs.declared.util.search.Direction.{Direction}
+use Rattle.automata_hybrid.specs.Machines.Machine.{Machine}
+use Rattle.automata_hybrid.specs.Searches.Passes.{HasReadNoQuit, Skips}
+use Rattle.automata_hybrid.specs.Searches.Passes.{state_in, tape_in}
+use Rattle.automata_hybrid.specs.Cache.Table.{Names, Rows}
+use Rattle.automata_hybrid.specs.Walks.State.{Ended, Walk}
+use Rattle.automata_hybrid.specs.Walks.Answers.{IsSilent, WalkMeetsNoQuit, WalkReads}
+
+-- from its first `from` units a walk went on, without a quit byte, to a state that reports patterns at a place that is
+-- not skipped, and the ID names it
+pub record Arrives (way : Direction) (m : Machine) (t : Rows) (input : Input) (from id units : ℕ) : Type 0 where
+  -- the place of the last unit read
+  pub place : ℕ
+  -- the walk stands after this unit
+  pub one_after : units ≡ suc place
+  -- it has read at least one unit more
+  pub more : from ≤ place
+  -- the unit is a byte of the span, or the one after it
+  pub within : place ≤ length (tape_in way input).bytes
+  -- the ID names the state after these units
+  pub named : Names t id (state_in way m input units)
+  -- none of these units is a quit byte
+  pub clean : HasReadNoQuit way m input units
+  -- the state has patterns
+  pub reports : (q : Powerset) → Names t id q → 0 < length q.patterns
+  -- the place is not one that is skipped
+  pub unskipped : Skips m → is_split input.haystack (offset_in way input place) ≡ false
+  -- the units before the last one report nothing more
+  pub silent : IsSilent way m input from place
+
+-- from its first `from` units a walk went on, without a quit byte, to its end after `units` of them
+pub record Finishes (way : Direction) (m : Machine) (input : Input) (from units : ℕ) : Type 0 where
+  -- it has read no fewer units than before
+  pub more : from ≤ units
+  -- it meets no quit byte
+  pub clean : WalkMeetsNoQuit way m input
+  -- the units after the first `from` report nothing
+  pub silent : IsSilent way m input from (suc (length (tape_in way input).bytes))
+  -- it reads no unit after these
+  pub stops : (j : ℕ) → units ≤ j → WalkReads way m input j → ⊥
+
+-- a walk went on to a state that reports patterns, if there is an ID, or to its end, if there is none
+abbrev pub IsArrival : Direction → Machine → Rows → Input → (from : ℕ) → Option ℕ → (units : ℕ) → Type 0
+IsArrival way m t input from None units = Finishes way m input from units
+IsArrival way m t input from (Some id) units = Arrives way m t input from id units
+
+-- a call found no match, or the walk has read more units, or has reported one pattern more
+abbrev pub GoesOn : Walk → Walk → Type 0
+GoesOn old new =
+    (new.found ≡ None)
+    ⊎ ((new.stage ≡ Ended → ⊥)
+    × ((old.units < new.units) ⊎ ((new.units ≡ old.units) × (new.reported ≡ suc old.reported))))

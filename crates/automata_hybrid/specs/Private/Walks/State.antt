@@ -1,0 +1,82 @@
+-- What private functions and proofs need beside `Walks/State`; no contract of a public call reaches it.
+use Rattle.std.specs.Prelude.{ℕ, ◌≡◌, suc, length, Option, None, Some}
+use Rattle.automata_base.specs.Haystacks.Matches.{HalfMatch}
+use Rattle.automata_base.specs.Powersets.Powerset.{Powerset}
+use Rattle.automata_hybrid.specs.Cache.Table.{Names, Rows}
+use Rattle.automata_hybrid.specs.declared.dfa.handle.Handle.{Handle}
+use Rattle.automata_hybrid.specs.declared.search.walk.Held.{Held}
+use Rattle.automata_hybrid.specs.declared.search.walk.Held.TheVariants as held
+use Rattle.automata_hybrid.specs.declared.search.walk.Stage.{Stage as AStage}
+use Rattle.automata_hybrid.specs.declared.search.walk.Stage.TheVariants as stage
+use Rattle.automata_hybrid.specs.declared.search.walk.Cursor.TheInside.{Inside}
+use Rattle.automata_hybrid.specs.Walks.State.{At, Ended, Fresh, Ids, Keeping, Stage, States, Walk}
+
+-- with the next pattern of its state reported
+abbrev pub with_match : Walk → HalfMatch → Walk
+with_match w half = record { stage = w.stage; units = w.units; reported = suc w.reported; found = Some half }
+
+-- at its end, when it has read so many units
+abbrev pub ended_walk : Walk → ℕ → Walk
+ended_walk w units = record { stage = Ended; units = units; reported = 0; found = None }
+
+-- what is kept by what is held
+abbrev pub keeping_of : Held → Keeping
+keeping_of (held.State handle) = States
+keeping_of (held.Row id) = Ids
+
+-- a handle on this state, with the state's own key
+abbrev pub IsHandle : Handle → Powerset → Type 0
+IsHandle h q = (h.state ≡ q) × (h.key ≡ q)
+
+-- there is a handle, and it is one on this state
+abbrev pub IsHandleOn : Option Handle → Powerset → Type 0
+IsHandleOn None q = ⊥
+IsHandleOn (Some h) q = IsHandle h q
+
+-- there is an ID, and it is that of this state's row
+abbrev pub IsIdOf : Rows → Option ℕ → Powerset → Type 0
+IsIdOf t None q = ⊥
+IsIdOf t (Some id) q = Names t id q
+
+-- this state is held, by itself or by its ID in a cache
+abbrev pub Holds : Rows → Held → Powerset → Type 0
+Holds t (held.State handle) q = IsHandleOn handle q
+Holds t (held.Row id) q = IsIdOf t id q
+
+-- no state is held
+abbrev pub HoldsNone : Held → Type 0
+HoldsNone (held.State handle) = handle ≡ None
+HoldsNone (held.Row id) = id ≡ None
+
+-- what is held is the state where a walk stands
+abbrev pub IsHeldAt : Rows → Stage → Held → Type 0
+IsHeldAt t Fresh h = HoldsNone h
+IsHeldAt t (At q) h = Holds t h q
+IsHeldAt t Ended h = Unit {0}
+
+-- what is held of a walk is the state itself where it stands
+abbrev pub IsHandleAt : Stage → Option Handle → Type 0
+IsHandleAt Fresh handle = handle ≡ None
+IsHandleAt (At q) handle = IsHandleOn handle q
+IsHandleAt Ended handle = Unit {0}
+
+-- what is held of a walk is no ID, but the state itself where it stands
+abbrev pub IsHeldItself : Stage → Held → Type 0
+IsHeldItself stage (held.State handle) = IsHandleAt stage handle
+IsHeldItself stage (held.Row id) = ⊥
+
+-- what contracts see of a stage
+abbrev pub stage_of : AStage → Stage
+stage_of stage.Fresh = Fresh
+stage_of (stage.At q) = At q.value
+stage_of stage.Ended = Ended
+
+-- what contracts see of a walk
+abbrev pub walk_of : Inside → Walk
+walk_of s = record { stage = stage_of s.stage; units = s.units; reported = s.reported; found = s.found }
+
+-- the state where a walk stands has so many patterns; where it stands at none, there are none
+abbrev pub HasItsCount : Stage → ℕ → Type 0
+HasItsCount Fresh n = n ≡ 0
+HasItsCount (At q) n = n ≡ length q.patterns
+HasItsCount Ended n = n ≡ 0

@@ -1,0 +1,28 @@
+-- The powerset states that units lead through, one after another, from whichever one. The loops that follow cached
+-- transitions say by them what they do: a pass begins at its start state, and a run over a piece of a haystack at the
+-- state that a search has come to.
+use Rattle.std.specs.Prelude.{ℕ, suc, Bool, true, false, Option}
+use Rattle.automata_base.specs.Haystacks.Input.{Input}
+use Rattle.automata_base.specs.Paths.Selections.{Pair}
+use Rattle.automata_base.specs.Powersets.Powerset.{Powerset}
+use Rattle.automata_base.specs.Retraced.Passes.{first_among, last_among}
+use Rattle.automata_base.specs.declared.util.search.Direction.{Direction}
+use Rattle.automata_hybrid.specs.Machines.Machine.{Machine}
+use Rattle.automata_hybrid.specs.Searches.Passes.{reported_in, state_in}
+
+-- where units lead from a powerset state, and what they report on the way
+pub record Trace : Type 0 where
+  -- the state after the first `k` units
+  pub state : ℕ → Powerset
+  -- what these units report
+  pub reported : ℕ → Option Pair
+
+-- what the first `k` units report, if they lead through these states: an earliest search the first match, any other
+-- the last one
+abbrev pub reported_along : (earliest : Bool) → (ℕ → Powerset) → ℕ → Option Pair
+reported_along true state k = first_among (λ i. (state (suc i)).patterns) k
+reported_along false state k = last_among (λ i. (state (suc i)).patterns) k
+
+-- the trace of a pass, which begins at its start state
+abbrev pub pass_trace : Direction → Machine → Input → Trace
+pass_trace way m input = record { state = λ k. state_in way m input k; reported = λ k. reported_in way m input k }
