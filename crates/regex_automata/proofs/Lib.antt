@@ -3,3 +3,4 @@ pub mod Regexes
 pub mod Spans
 pub mod TokenLists
 pub mod Replies
+pub mod Sent

@@ -5,7 +5,7 @@
 pub use Rattle.automata_hybrid.specs.Cache.Caches.{CacheView, IsCacheOf}
 pub use Rattle.regex_automata.specs.Regexes.Caches.{AreCachesOf}
 -- What contracts see of a DFA; its NFA, as paths need it; its match kind.
-pub use Rattle.automata_hybrid.specs.Machines.Machine.{Machine}
+pub use Rattle.automata_hybrid.specs.Machines.Machine.{Machine, engine}
 pub use Rattle.automata_base.specs.Nfas.Nodes.{nfa_of}
 pub use Rattle.automata_config.specs.Options.{match_kind_of}
 pub use Rattle.automata_base.specs.declared.util.search.MatchKind.TheVariants.{All as KindAll, LeftmostFirst}
@@ -34,6 +34,20 @@ pub use Rattle.automata_hybrid.specs.Searches.Agreement.{AnswersAgree}
 pub use Rattle.automata_hybrid.specs.Walks.State.{Walk}
 pub use Rattle.automata_hybrid.specs.Walks.Answers.{AreWalked, HasReported, IsWalkOf, ReportsNext, half_nth}
 pub use Rattle.automata_hybrid.specs.Walks.Contracts.{IsWalkCall}
+-- A search in pieces as contracts see it; it belongs to the DFA; which inputs it may be one of, once it has begun; it
+-- was given so many bytes of the span of an input, or all; a piece lies in a span; what reading one, and asking for the
+-- answer, means, and that of a whole haystack, by `laws::pieces_are_whole`; what they cost, by `laws::pieces_follow`.
+pub use Rattle.automata_hybrid.specs.Pieces.State.{IsPiecesOf, PiecesView}
+pub use Rattle.automata_hybrid.specs.Pieces.Answers.{BeginsAfter, EndsHere, HasBegun, IsPieceAt, IsWhole, ReadsOn}
+pub use Rattle.automata_hybrid.specs.Pieces.Answers.{WasGiven, WasGivenAll, from_first}
+pub use Rattle.automata_hybrid.specs.Pieces.Whole.{HasReadAll, PiecesAreWhole, bytes_of_pieces, whole_input}
+pub use Rattle.automata_hybrid.specs.Pieces.Follows.{IsCostOfUnits, IsFreePiece, PieceAnswersFollow, PiecesFollow}
+-- A walk over a haystack in pieces: where it stands after so many bytes of the span of an input, or all; the patterns
+-- at which it stands; what a call returns, where it stops, and what its end means; and that the states of a pass report
+-- just the patterns that match at each offset, by `laws::states_have_matching`.
+pub use Rattle.automata_hybrid.specs.Pieces.Walks.{EndsWith, HasBegunWalk, HasWalked, HasWalkedAll, IsAtMatch, HasNoMatch}
+pub use Rattle.automata_hybrid.specs.Pieces.Walks.{IsWalked, StopsAt, WalksOn, patterns_here}
+pub use Rattle.automata_hybrid.specs.Pieces.Matching.{MatchesAt, StatesHaveMatching}
 -- Some path of the pattern, from a start and through the span of an input, ends in a match; under `MatchKind::All` a
 -- set has exactly these patterns after a call that answers.
 pub use Rattle.automata_hybrid.specs.Walks.SetsByPaths.{MatchesIn, SetsHaveMatching}

@@ -3,7 +3,7 @@ use Rattle.std.specs.Prelude.{ℕ, ◌≡◌, ◌<◌, ◌≤◌, ◌⊎◌, ◌
 use Rattle.std.specs.Prelude.{length, Option, None, Some, Result, Ok, Err, IfOk, IfSome, slice_range}
 use Rattle.automata_base.specs.Answers.Answers.{IsAnswer}
 use Rattle.automata_base.specs.Answers.Spans.{IsSpan}
-use Rattle.automata_base.specs.Nfas.Engines.{Engine, engine_of}
+use Rattle.automata_base.specs.Nfas.Engines.{Engine}
 use Rattle.automata_base.specs.Haystacks.Input.{Input}
 use Rattle.automata_base.specs.Haystacks.Matches.{HalfMatch, Match}
 use Rattle.automata_base.specs.Nfas.Nodes.{nfa_of}
@@ -13,14 +13,13 @@ use Rattle.automata_base.specs.declared.util.search.Anchored.TheVariants.{Yes}
 use Rattle.automata_config.specs.declared.error.SearchError.{SearchError}
 use Rattle.automata_config.specs.declared.error.SearchError.TheVariants as search
 use Rattle.automata_hybrid.specs.Cache.Caches.{CacheView}
-use Rattle.automata_hybrid.specs.Machines.Machine.{Machine}
+use Rattle.automata_hybrid.specs.Machines.Machine.{Machine, engine}
 use Rattle.automata_hybrid.specs.Searches.Contracts.{IsHalf, IsMemory, IsUnhindered}
 use Rattle.automata_hybrid.specs.Searches.Progress.{IsSearchRun}
 use Rattle.automata_hybrid.specs.Searches.Passes.{IsFound, WithoutBase}
 use Rattle.regex_automata.specs.declared.tokens.error.TokenError.{TokenError}
 use Rattle.regex_automata.specs.declared.tokens.error.TokenError.TheVariants.{NoToken, Search}
 use Rattle.regex_automata.specs.declared.tokens.token.Token.{Token}
-use Rattle.automata_config.specs.Options.{match_kind_of}
 
 -- what is searched at an offset: what is left of the span, anchored and not earliest
 abbrev pub asked : List ℕ → (end offset : ℕ) → Input
@@ -134,8 +133,8 @@ AreGiven m h end offset [] None = end ≤ offset
 AreGiven m h end offset [] (Some e) = (e ≡ Search search.OutOfMemory) ⊎ IsItemAt m h end offset (Err e)
 AreGiven m h end offset (t ∷ ts) error = IsItemAt m h end offset (Ok t) × AreGiven m h end t.end ts error
 
--- the same by what searches find: a token ends where an answer does, past its offset; there is no token if there is no
--- answer, or one that ends at the offset
+-- the tokens of an input, by what searches find: a token ends where an answer does, past its offset; there is no token
+-- if there is no answer, or one that ends at the offset
 abbrev pub AreFoundBy :
     (Finds : Input → Option HalfMatch → Type 0) → List ℕ → (end offset : ℕ) → List Match → Option TokenError → Type 0
 AreFoundBy Finds h end offset [] None = end ≤ offset
@@ -171,7 +170,7 @@ pub record AreTokensUpto (m : Machine) (input : Input) (ts : List Match) (error 
   -- if the NFA keeps its cycles, the answers of the ordered paths
   pub paths :
       KeepsCycles (nfa_of m.nfa)
-      → AreFoundBy (λ i. WithoutBase (IsAnswer Forward (engine_of m.nfa (match_kind_of m.config)) i))
+      → AreFoundBy (λ i. WithoutBase (IsAnswer Forward (engine m) i))
       input.haystack input.end input.start ts error
   -- their bytes, joined, are a beginning of the span's bytes
   pub beginning :
@@ -208,4 +207,4 @@ pub record AreOfPaths (m : Machine) (d : Engine) (h : List ℕ) (end : ℕ) : Ty
 abbrev pub TokensAreSpans : Type 0
 TokensAreSpans =
     (m : Machine) (h : List ℕ) (end : ℕ)
-    → KeepsCycles (nfa_of m.nfa) → AreOfPaths m (engine_of m.nfa (match_kind_of m.config)) h end
+    → KeepsCycles (nfa_of m.nfa) → AreOfPaths m (engine m) h end

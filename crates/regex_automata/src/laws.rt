@@ -11,7 +11,8 @@ pub use automata_base::laws::{
 };
 pub use automata_hybrid::laws::{
     answers_agree, cache_is_within, calls_follow, first_match_is_found, known_stays,
-    searches_follow, sets_follow, sets_have_matching, sizes_are_of_nfa, steps_follow, walks_agree,
+    pieces_are_whole, pieces_follow, searches_follow, sets_follow, sets_have_matching,
+    sizes_are_of_nfa, states_have_matching, steps_follow, walks_agree,
 };
 
 /// Earlier searches and the capacity of the caches show in no match: two searches for one input that answer find the

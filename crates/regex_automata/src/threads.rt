@@ -1,7 +1,9 @@
-//! What several threads may use at once. The bounds are the promise; the functions do nothing when they run.
-use crate::hybrid::dfa::DFA;
-use crate::hybrid::regex::Regex;
+//! What several threads may use at once, and what may move from one to another. The bounds are the promise; the functions
+//! do nothing when they run.
+use crate::hybrid::dfa::{self, DFA, OverlappingState, Pieces};
+use crate::hybrid::regex::{self, FindMatches, Regex};
 use crate::nfa::thompson::NFA;
+use crate::tokens::Tokens;
 
 /// Takes what may be sent to another thread, and used by several threads at once.
 fn is_shared<T: Send + Sync>(_value: &T) {}
@@ -19,4 +21,37 @@ pub fn dfa_is_shared(dfa: &DFA) {
 /// A regex may be used by several threads at once, each with a cache of its own.
 pub fn regex_is_shared(regex: &Regex) {
     is_shared(regex);
+}
+
+/// Takes what may move to another thread.
+fn is_sent<T: Send>(_value: &T) {}
+
+/// The cache of a lazy DFA may move to another thread, where its searches go on with what it has.
+pub fn dfa_cache_is_sent(cache: &dfa::Cache) {
+    is_sent(cache);
+}
+
+/// The caches of a regex may move to another thread.
+pub fn regex_cache_is_sent(cache: &regex::Cache) {
+    is_sent(cache);
+}
+
+/// An overlapping search may go on in another thread.
+pub fn overlapping_state_is_sent(state: &OverlappingState) {
+    is_sent(state);
+}
+
+/// Matches may be asked for in another thread than the first one was.
+pub fn matches_are_sent<'r, 'c, 'h>(matches: &FindMatches<'r, 'c, 'h>) {
+    is_sent(matches);
+}
+
+/// Tokens may be asked for in another thread than the first one was.
+pub fn tokens_are_sent<'r, 'c, 'h>(tokens: &Tokens<'r, 'c, 'h>) {
+    is_sent(tokens);
+}
+
+/// A search in pieces may go on in another thread than the one that read the piece before.
+pub fn pieces_are_sent(pieces: &Pieces) {
+    is_sent(pieces);
 }

@@ -15,7 +15,7 @@ use Rattle.automata_config.specs.Settling.{settling_error}
 use Rattle.automata_config.specs.declared.error.BuildError.{BuildError}
 use Rattle.automata_config.specs.declared.error.BuildError.TheVariants.{PatternCounts}
 use Rattle.automata_config.proofs.KeptUnions.{settling_with}
-use Rattle.automata_hybrid.specs.Machines.Machine.{Machine}
+use Rattle.automata_hybrid.specs.Machines.Machine.{Machine, engine}
 use Rattle.regex_automata.specs.declared.hybrid.regex.Regex.{Regex}
 use Rattle.regex_automata.specs.Regexes.Builds.{BuildsPair, backward, error_of_two, pair_error, pattern_count}
 use Rattle.regex_automata.specs.Regexes.SoundPairs.{IsSoundPair, forward_engine, reverse_engine}
@@ -24,8 +24,8 @@ module _ (o : Options) (a b : Automaton) (p : Regex) (built : BuildsPair o a b p
   pair_is :
       ((kind : MatchKind) → IsTruePair (engine_of a kind) (engine_of b All)) → IsTruePair (forward_engine p) (reverse_engine p)
   pair_is f =
-      subst (λ (m : Machine). IsTruePair (engine_of m.nfa (match_kind_of m.config)) (reverse_engine p)) (sym built.0.2)
-      (subst (λ (m : Machine). IsTruePair (engine_of a (match_kind_of o)) (engine_of m.nfa (match_kind_of m.config))) (sym built.1.2)
+      subst (λ (m : Machine). IsTruePair (engine m) (reverse_engine p)) (sym built.0.2)
+      (subst (λ (m : Machine). IsTruePair (engine_of a (match_kind_of o)) (engine m)) (sym built.1.2)
       (f (match_kind_of o)))
 
   sound_is :
@@ -35,7 +35,7 @@ module _ (o : Options) (a b : Automaton) (p : Regex) (built : BuildsPair o a b p
     cycles = subst (λ (m : Machine). KeepsCycles (nfa_of m.nfa)) (sym built.0.2) cycles;
     pair = pair_is f;
     utf8 =
-        subst (λ (m : Machine). KeepsUtf8 Forward (engine_of m.nfa (match_kind_of m.config))) (sym built.0.2)
+        subst (λ (m : Machine). KeepsUtf8 Forward (engine m)) (sym built.0.2)
         (utf8 (match_kind_of o));
   }
 

@@ -2,7 +2,6 @@
 use Rattle.std.proofs.Common.{◌≡◌, ◌∙◌, ◌+◌, ◌<◌, ◌≤◌, ℕ, suc, false, List, length, Option, None, Ok, Err, IfSome, add-one, ap, arith, inl, inr}
 use Rattle.std.proofs.Common.{refl, subst, sym}
 use Rattle.automata_base.specs.Answers.Answers.{IsOverlapping}
-use Rattle.automata_base.specs.Nfas.Engines.{engine_of}
 use Rattle.automata_base.specs.Haystacks.Input.{Input}
 use Rattle.automata_base.specs.Haystacks.Matches.{HalfMatch}
 use Rattle.automata_base.specs.Nfas.Nodes.{nfa_of}
@@ -11,7 +10,7 @@ use Rattle.automata_base.specs.Paths.Selections.{Pair}
 use Rattle.automata_base.specs.declared.util.search.Direction.{Direction}
 use Rattle.automata_base.specs.declared.util.search.Anchored.{Anchored}
 use Rattle.automata_config.specs.declared.error.SearchError.{SearchError}
-use Rattle.automata_hybrid.specs.Machines.Machine.{Machine}
+use Rattle.automata_hybrid.specs.Machines.Machine.{Machine, engine}
 use Rattle.automata_hybrid.specs.Searches.Contracts.{IsMemory, IsUnhindered, IsUnsupported, unsupported_error}
 use Rattle.automata_hybrid.specs.Machines.StartSlots.{supports}
 use Rattle.automata_hybrid.specs.Steps.Starts.{MayStart}
@@ -21,7 +20,6 @@ use Rattle.automata_hybrid.specs.Searches.Bounds.{LiesIn}
 use Rattle.automata_hybrid.proofs.Walks.CachedSets.{half_none}
 use Rattle.regex_automata.specs.Spans.Contracts.{IsStep}
 use Rattle.regex_automata.specs.Replay.Caches.{HasAnswered}
-use Rattle.automata_config.specs.Options.{match_kind_of}
 
 not_supported : (m : Machine) (mode : Anchored) (behind : Option ℕ) → MayStart m mode behind → supports m mode ≡ false → ⊥
 not_supported m mode behind may e = let f = may.1 in cc
@@ -40,7 +38,7 @@ module _ (way : Direction) (m : Machine) (input : Input) (old : Walk) (k : ℕ) 
   pub step_answers :
       (new : Walk) (found : Option HalfMatch) → found ≡ new.found → ReportsNext way m input old new
       → (KeepsCycles (nfa_of m.nfa) → (j : ℕ) (pairs : List Pair) → HasReported way m input old j
-      → IsOverlapping way (engine_of m.nfa (match_kind_of m.config)) input pairs → new.found ≡ half_nth pairs j)
+      → IsOverlapping way (engine m) input pairs → new.found ≡ half_nth pairs j)
       → IfSome new.found (LiesIn m input) → (old.stage ≡ Fresh → IsUnsupported way m input → ⊥)
       → IsStep way m input k (Ok found)
   step_answers new found is reports paths within supported = record {

@@ -13,7 +13,7 @@ use Rattle.regex_automata.specs.Regexes.Caches.{AreCachesOf}
 use Rattle.regex_automata.specs.Replay.Histories.{Begun, History, stepped, after_step}
 use Rattle.regex_automata.specs.Replay.Replies.{IsReply, IsStepOf, walk_fault}
 use Rattle.regex_automata.specs.Spans.Contracts.{IsStep}
-use Rattle.regex_automata.specs.Replay.Players.{IsWalk, AreWalks, HasPlayed, HasAnsweredBy, IsStepFrom, Goes, MakesStep}
+use Rattle.regex_automata.specs.Replay.Players.{IsWalk, AreWalks, HasPlayed, HasAnsweredBy, IsStepFrom, MakesOneCall, MakesWalkStep}
 use Rattle.regex_automata.specs.Replay.Caches.{IsRequestEffect, IsCalled, IsMadeByOf, IsWalkStepped, other_of, own_of}
 use Rattle.regex_automata.specs.declared.hybrid.regex.caches.Cache.{Cache}
 use Rattle.regex_automata.specs.declared.replay.requests.Request.TheVariants as request
@@ -91,7 +91,7 @@ step_reply h s n k result a is e returned =
 -- what it does to the caches
 begun_made :
     (rs : List Regex) (r : Regex) (w : Begun) (k : KeptWalk) (old new : Cache) (result : Result (Option HalfMatch) SearchError)
-    → IsWalk rs w k → HasAnsweredBy r k w.reported → MakesStep r k old new result → IsWalkStepped r (Some w) old new result
+    → IsWalk rs w k → HasAnsweredBy r k w.reported → MakesWalkStep r k old new result → IsWalkStepped r (Some w) old new result
 begun_made rs r w k old new result walk reported made =
     subst (λ (i : Input). IsCalled w.way (dfa_of w.way r) i w.reported (own_of w.way old) (own_of w.way new) result × (other_of w.way new ≡ other_of w.way old)) walk.input
     (subst (λ b. IsCalled b (dfa_of b r) k.input w.reported (own_of b old) (own_of b new) result × (other_of b new ≡ other_of b old)) walk.way
@@ -100,7 +100,7 @@ begun_made rs r w k old new result walk reported made =
 pub step_made :
     (h : History) (s : Player) (n : ℕ) (k : KeptWalk) (old new : Cache) (result : Result (Option HalfMatch) SearchError)
     → HasPlayed h s → slice_get s.walks.items n ≡ Some k → k.regex ≡ s.current
-    → MakesStep s.regex.now k old new result → IsRequestEffect s.regexes.now h (request.StepWalk n) (reply.Half result) old new
+    → MakesWalkStep s.regex.now k old new result → IsRequestEffect s.regexes.now h (request.StepWalk n) (reply.Half result) old new
 step_made h s n k old new result a is e made =
     let (w, at, walk) = walk_at s.regexes.now h.walks s.walks.items n k a.walks is in
     subst (λ (o : Option Regex). IsMadeByOf o h.walks (request.StepWalk n) old new (reply.Half result)) (sym a.regex)
@@ -112,7 +112,7 @@ some_regex : {v w : Regex} → Some v ≡ Some w → v ≡ w
 some_regex e = cc
 
 goes_on : (rs : List Regex) (r : Regex) (w : Begun) (old new : KeptWalk) (found : Option HalfMatch)
-    → slice_get rs w.regex ≡ Some r → IsWalk rs w old → Goes r old new (Ok found) → IsWalk rs (stepped w) new
+    → slice_get rs w.regex ≡ Some r → IsWalk rs w old → MakesOneCall r old new (Ok found) → IsWalk rs (stepped w) new
 goes_on rs r w old new found at is g = record {
   regex = g.regex ∙ is.regex;
   way = g.way ∙ is.way;
@@ -121,7 +121,7 @@ goes_on rs r w old new found at is g = record {
 }
 
 stays : (rs : List Regex) (r : Regex) (w : Begun) (old new : KeptWalk) (error : SearchError)
-    → slice_get rs w.regex ≡ Some r → IsWalk rs w old → Goes r old new (Err error) → IsWalk rs w new
+    → slice_get rs w.regex ≡ Some r → IsWalk rs w old → MakesOneCall r old new (Err error) → IsWalk rs w new
 stays rs r w old new error at is g = record {
   regex = g.regex ∙ is.regex;
   way = g.way ∙ is.way;
@@ -130,7 +130,7 @@ stays rs r w old new error at is g = record {
 }
 
 walks_after : (rs : List Regex) (r : Regex) (h : History) (ks : List KeptWalk) (n : ℕ) (w : Begun) (old new : KeptWalk) (result : Result (Option HalfMatch) SearchError)
-    → AreWalks rs h.walks ks → slice_get h.walks n ≡ Some w → slice_get rs w.regex ≡ Some r → IsWalk rs w old → Goes r old new result
+    → AreWalks rs h.walks ks → slice_get h.walks n ≡ Some w → slice_get rs w.regex ≡ Some r → IsWalk rs w old → MakesOneCall r old new result
     → AreWalks rs (after_step h n (reply.Half result)).walks (set ks n new)
 walks_after rs r h ks n w old new (Ok found) all at of is g =
     walks_step rs h.walks ks n w new all at (goes_on rs r w old new found of is g)
@@ -144,7 +144,7 @@ current_after h n (Err error) = refl
 
 pub at_stepped : (h : History) (s t : Player) (n : ℕ) (old : KeptWalk) (xs ks : List KeptWalk) (result : Result (Option HalfMatch) SearchError)
     → HasPlayed h s → slice_get s.walks.items n ≡ Some old → old.regex ≡ s.current
-    → xs ≡ s.walks.items → (new : KeptWalk) × Goes s.regex.now old new result × (ks ≡ set xs n new)
+    → xs ≡ s.walks.items → (new : KeptWalk) × MakesOneCall s.regex.now old new result × (ks ≡ set xs n new)
     → t.regexes.now ≡ s.regexes.now → t.regex.now ≡ s.regex.now → t.current ≡ s.current → AreCachesOf t.cache s.regex.now
     → t.walks.items ≡ ks
     → HasPlayed (after_step h n (reply.Half result)) t

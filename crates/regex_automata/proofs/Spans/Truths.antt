@@ -4,7 +4,6 @@ use Rattle.std.proofs.Common.{Option, Some, None, refl, sym, ap, subst, arith}
 use Rattle.std.specs.Prelude.{is_some}
 use Rattle.std.specs.Option.{option_map}
 use Rattle.automata_base.specs.Answers.Answers.{Half, IsInput, IsSplit, Tries, later, offset_in}
-use Rattle.automata_base.specs.Nfas.Engines.{engine_of}
 use Rattle.automata_base.specs.Haystacks.Input.{Input}
 use Rattle.automata_base.specs.Haystacks.Matches.{HalfMatch}
 use Rattle.automata_base.specs.Nfas.Nodes.{Automaton, nfa_of}
@@ -18,7 +17,7 @@ use Rattle.automata_base.specs.Answers.OfPasses.{IsNearestAnswer, IsReported, Re
 use Rattle.automata_base.specs.declared.util.search.Anchored.{Anchored}
 use Rattle.automata_base.specs.declared.util.search.Anchored.TheVariants.{No}
 use Rattle.automata_base.specs.declared.util.search.MatchKind.{MatchKind}
-use Rattle.automata_hybrid.specs.Machines.Machine.{Machine}
+use Rattle.automata_hybrid.specs.Machines.Machine.{Machine, engine}
 use Rattle.automata_hybrid.specs.Searches.Passes.{IsFound, Skips, WithoutBase, without_base}
 use Rattle.automata_hybrid.proofs.Searches.Skips.{found_reported}
 use Rattle.regex_automata.specs.Spans.IsMatch.{IsAsked, IsMatchReported, IsNearestThere, IsTruthFound, in_part}
@@ -125,18 +124,18 @@ truth_reported m input asked (inr a) found truth f e =
 
 pub match_right :
     (m : Machine) → ReportedIsRight m.nfa → (input : Input) (truth : Bool) → KeepsCycles (nfa_of m.nfa) → IsInput input
-    → IsMatchReported m input truth → IsMatch (engine_of m.nfa (match_kind_of m.config)) input truth
+    → IsMatchReported m input truth → IsMatch (engine m) input truth
 match_right m law input truth cycles given f = (f.0, law Forward (match_kind_of m.config) (in_full input) f.0 cycles given f.1, f.2)
 
 -- if nothing is skipped the nearest end is searched for
 pub truth_nearest :
     (m : Machine) (input asked : Input) → IsAsked m input asked → (found : Option HalfMatch) (truth : Bool)
-    → (asked.earliest ≡ true → WithoutBase (IsNearestAnswer Forward (engine_of m.nfa (match_kind_of m.config)) asked) found)
+    → (asked.earliest ≡ true → WithoutBase (IsNearestAnswer Forward (engine m) asked) found)
     → truth ≡ is_some found → (Skips m → ⊥) → IsNearestThere m input truth
 truth_nearest m input asked (inl a) found truth f e whole = absurd (whole a.0)
 truth_nearest m input asked (inr a) found truth f e whole =
     let g = f (ap (λ (i : Input). i.earliest) a.1) in (
       g.0,
-      subst (λ (i : Input). IsNearestAnswer Forward (engine_of m.nfa (match_kind_of m.config)) i g.0) a.1 g.1,
+      subst (λ (i : Input). IsNearestAnswer Forward (engine m) i g.0) a.1 g.1,
       e ∙ same_some found g.0 g.2,
     )

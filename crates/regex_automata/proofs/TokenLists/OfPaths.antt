@@ -4,18 +4,18 @@ use Rattle.std.specs.Prelude.{Ok}
 use Rattle.automata_base.specs.Answers.Answers.{Half, IsAnswer}
 use Rattle.automata_base.specs.Answers.Spans.{IsSpan}
 use Rattle.automata_base.specs.Haystacks.Matches.{HalfMatch, Match}
-use Rattle.automata_base.specs.Nfas.Engines.{Engine, IsSkipping, engine_of}
+use Rattle.automata_base.specs.Nfas.Engines.{Engine, IsSkipping}
 use Rattle.automata_base.specs.declared.util.search.Anchored.TheVariants.{No, Yes}
 use Rattle.automata_base.specs.declared.util.search.Direction.TheVariants.{Forward}
 use Rattle.automata_base.proofs.Answers.Starts.{answered, yes_no}
 use Rattle.automata_base.proofs.Paths.Orders.{none_some, some_inj, some_none}
-use Rattle.automata_config.specs.Options.{match_kind_of}
 use Rattle.automata_hybrid.specs.Searches.Passes.{WithoutBase, without_base}
 use Rattle.regex_automata.specs.Tokens.{AreGiven, AreTokenSpans, HasNoSpanPast, IsItemAt, IsNoTokenAt, IsTokenAt, SearchReturns}
 use Rattle.regex_automata.specs.Tokens.{TokensAreSpans, asked, match_of}
 use Rattle.regex_automata.specs.declared.tokens.error.TokenError.{TokenError}
 use Rattle.regex_automata.specs.declared.tokens.token.Token.{Token}
 use Rattle.regex_automata.proofs.TokenLists.Tiling.{token_is}
+use Rattle.automata_hybrid.specs.Machines.Machine.{engine}
 
 -- an anchored answer ends a path that begins where the search did
 span_at :
@@ -44,7 +44,7 @@ no_span d h end offset (Some half, a, is) = absurd (none_some is)
 pub spans_of_paths : TokensAreSpans
 spans_of_paths m h end cycles = record { token = token; none = none; list = list } where
   d : Engine
-  d = engine_of m.nfa (match_kind_of m.config)
+  d = engine m
 
   reported :
       (offset : ℕ) (t : Match) → SearchReturns m h end offset (Ok (Some (record { pattern = t.pattern; offset = t.end })))

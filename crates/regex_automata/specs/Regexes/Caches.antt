@@ -38,7 +38,7 @@ AreStill old new = IsStill old.forward new.forward × IsStill old.reverse new.re
 abbrev pub KnowsBack : Regex → Stored → Input → Half → Type 0
 KnowsBack p c input half = (IsShort (forward_engine p) input half → ⊥) → Knows Backward p.reverse c (back input half)
 
--- and all that both searches use
+-- all that both searches for a match use is cached
 abbrev pub KnowsBoth : Regex → Cache → Input → Type 0
 KnowsBoth p c input =
     Knows Forward p.forward c.forward.store input

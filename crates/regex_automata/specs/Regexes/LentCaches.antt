@@ -15,10 +15,10 @@ StaysSame s = follows_so the_row the_row s.ghost_name none (λ _ _. ⊤) (λ las
 abbrev pub LendsForward : MutBor Cache → MutBor CacheView → Fml
 LendsForward s r = Lends the_row part s r (λ w. record s.now { forward = w })
 
--- and with it as its reverse part
+-- the cache ends with the reference's last value as its reverse part
 abbrev pub LendsReverse : MutBor Cache → MutBor CacheView → Fml
 LendsReverse s r = Lends the_row part s r (λ w. record s.now { reverse = w })
 
--- and with the last values of two references as its parts
+-- the cache ends with the last values of two references as its parts
 abbrev pub LendsBothParts : MutBor Cache → MutBor CacheView × MutBor CacheView → Fml
 LendsBothParts s r = LendsBoth the_row part part s r (λ v w. record { forward = v; reverse = w })

@@ -1,25 +1,25 @@
 -- What the two lazy DFAs of a regex have to be so that spans are promised.
-use Rattle.automata_base.specs.Nfas.Engines.{Engine, engine_of}
+use Rattle.automata_base.specs.Nfas.Engines.{Engine}
 use Rattle.automata_base.specs.Nfas.Nodes.{nfa_of}
 use Rattle.automata_base.specs.Paths.Paths.{KeepsCycles}
 use Rattle.automata_base.specs.declared.util.search.Direction.TheVariants.{Forward}
 use Rattle.automata_base.specs.Answers.TruePairs.{IsTruePair, KeepsUtf8}
 use Rattle.regex_automata.specs.declared.hybrid.regex.Regex.{Regex}
-use Rattle.automata_config.specs.Options.{match_kind_of}
+use Rattle.automata_hybrid.specs.Machines.Machine.{engine}
 
 -- what the forward DFA searches by: its NFA and its match kind
 abbrev pub forward_engine : Regex → Engine
-forward_engine p = engine_of p.forward.nfa (match_kind_of p.forward.config)
+forward_engine p = engine p.forward
 
 -- what the reverse DFA searches by: its NFA and its match kind
 abbrev pub reverse_engine : Regex → Engine
-reverse_engine p = engine_of p.reverse.nfa (match_kind_of p.reverse.config)
+reverse_engine p = engine p.reverse
 
 -- both NFAs keep their cycles
 abbrev pub BothKeepCycles : Regex → Type 0
 BothKeepCycles p = KeepsCycles (nfa_of p.forward.nfa) × KeepsCycles (nfa_of p.reverse.nfa)
 
--- they are of one regular expression, which keeps the UTF-8 promise, and the forward NFA keeps its cycles
+-- the two DFAs are of one regular expression, which keeps the UTF-8 promise, and the forward NFA keeps its cycles
 pub record IsSoundPair (p : Regex) : Type 0 where
   -- the forward NFA keeps its cycles
   pub cycles : KeepsCycles (nfa_of p.forward.nfa)

@@ -65,7 +65,7 @@ after h (request.StepWalk k) r = after_step h k r
 after h (request.Reset k) r = after_reset h k r
 after h other r = h
 
--- and after a whole script
+-- the history after a whole script
 abbrev pub history : History → List Request → List Reply → History
 history h [] replies = h
 history h (q ∷ qs) [] = h

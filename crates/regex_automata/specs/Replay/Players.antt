@@ -30,7 +30,7 @@ pub record IsCall (way : Direction) (m : Machine) (input : Input) (old new : Wal
   -- if it fails, the walk has answered as many calls as before
   pub kept : (k : ℕ) → HasAnswered way m input old k → OnErr result (HasAnswered way m input new k)
 
--- and what it does to its cache
+-- what a call of a walk does to its cache
 abbrev pub MakesCall :
     Direction → Machine → Input → Walk → (old new : CacheView) → Result (Option HalfMatch) SearchError → Type 0
 MakesCall way m input w old new result =
@@ -45,7 +45,7 @@ abbrev pub IsStepFrom : Regex → KeptWalk → ℕ → Result (Option HalfMatch)
 IsStepFrom r kept k result = IsStep kept.way (dfa_of kept.way r) kept.input k result
 
 -- one more call of it
-pub record Goes (r : Regex) (old new : KeptWalk) (result : Result (Option HalfMatch) SearchError) : Type 0 where
+pub record MakesOneCall (r : Regex) (old new : KeptWalk) (result : Result (Option HalfMatch) SearchError) : Type 0 where
   -- the walk belongs to the same regex as before
   pub regex : new.regex ≡ old.regex
   -- it has the same direction
@@ -67,11 +67,11 @@ IsWalkAt ks number kept = slice_get ks number ≡ Some kept
 abbrev pub GoesAt : Regex → ℕ → (olds news : List KeptWalk) → Result (Option HalfMatch) SearchError → Type 0
 GoesAt r number olds news result =
     (old : KeptWalk) → IsWalkAt olds number old
-    → (new : KeptWalk) × Goes r old new result × (news ≡ slice_set olds number new)
+    → (new : KeptWalk) × MakesOneCall r old new result × (news ≡ slice_set olds number new)
 
 -- what it does to the caches: to that of its direction what its call does, and nothing to the other
-abbrev pub MakesStep : Regex → KeptWalk → (old new : Cache) → Result (Option HalfMatch) SearchError → Type 0
-MakesStep r kept old new result =
+abbrev pub MakesWalkStep : Regex → KeptWalk → (old new : Cache) → Result (Option HalfMatch) SearchError → Type 0
+MakesWalkStep r kept old new result =
     MakesCall kept.way (dfa_of kept.way r) kept.input kept.state (own_of kept.way old)
     (own_of kept.way new) result
     × (other_of kept.way new ≡ other_of kept.way old)
@@ -80,7 +80,7 @@ MakesStep r kept old new result =
 abbrev pub MakesStepAt :
     Regex → ℕ → List KeptWalk → (old new : Cache) → Result (Option HalfMatch) SearchError → Type 0
 MakesStepAt r number walks old new result =
-    (kept : KeptWalk) → IsWalkAt walks number kept → MakesStep r kept old new result
+    (kept : KeptWalk) → IsWalkAt walks number kept → MakesWalkStep r kept old new result
 
 -- what is kept of a walk belongs to the walk that was begun, and has answered as many calls
 pub record IsWalk (regexes : List Regex) (w : Begun) (kept : KeptWalk) : Type 0 where
@@ -116,8 +116,8 @@ abbrev pub IsReplyTo : Player → Request → Reply → Type 0
 IsReplyTo s q answer = (h : History) → HasPlayed h s → IsReply s.regexes.now h q answer
 
 -- what is kept after a request fits the history that its reply makes, whatever the history before
-abbrev pub StandsAfter : (old : Player) → Request → Reply → (new : Player) → Type 0
-StandsAfter old q answer new = (h : History) → HasPlayed h old → HasPlayed (after h q answer) new
+abbrev pub KeepsHistory : (old : Player) → Request → Reply → (new : Player) → Type 0
+KeepsHistory old q answer new = (h : History) → HasPlayed h old → HasPlayed (after h q answer) new
 
 -- what the request does to the caches, after any history
 abbrev pub MakesCaches : (old : Player) → Request → Reply → (new : Player) → Type 0

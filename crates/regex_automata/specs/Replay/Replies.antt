@@ -2,7 +2,6 @@
 use Rattle.std.specs.Prelude.{ℕ, suc, ◌≡◌, ◌==◌, ◌∷◌, [], List, length, nat_lt, Bool, if◌then◌else◌}
 use Rattle.std.specs.Prelude.{Option, Some, None, Result, Ok, Err, IfErr, MatchOption, slice_get}
 use Rattle.automata_base.specs.Answers.Answers.{IsOverlapping}
-use Rattle.automata_base.specs.Nfas.Engines.{engine_of}
 use Rattle.automata_base.specs.Haystacks.Input.{Input}
 use Rattle.automata_base.specs.Haystacks.Matches.{HalfMatch, Match}
 use Rattle.automata_base.specs.Nfas.Nodes.{nfa_of}
@@ -11,7 +10,7 @@ use Rattle.automata_base.specs.Paths.Selections.{Pair}
 use Rattle.automata_base.specs.declared.util.search.Direction.{Direction}
 use Rattle.automata_base.specs.declared.util.search.Direction.TheVariants.{Forward, Backward}
 use Rattle.automata_config.specs.declared.error.SearchError.{SearchError}
-use Rattle.automata_hybrid.specs.Machines.Machine.{Machine}
+use Rattle.automata_hybrid.specs.Machines.Machine.{Machine, engine}
 use Rattle.automata_hybrid.specs.Searches.Contracts.{IsHalf, IsMemory}
 use Rattle.automata_hybrid.specs.Walks.Answers.{AreWalked, half_nth}
 use Rattle.regex_automata.specs.Replay.Histories.{Begun, History, start, after, history}
@@ -25,7 +24,6 @@ use Rattle.regex_automata.specs.declared.replay.requests.Reply.TheVariants as re
 use Rattle.regex_automata.specs.declared.replay.requests.Fault.{Fault}
 use Rattle.regex_automata.specs.declared.replay.requests.Fault.TheVariants as fault
 use Rattle.regex_automata.specs.declared.tokens.error.TokenError.{TokenError}
-use Rattle.automata_config.specs.Options.{match_kind_of}
 
 -- why a step is bad: there is no such walk, or it belongs to a regex that is not the current one
 abbrev pub walk_fault : (current : ℕ) → Option Begun → Option Fault
@@ -147,21 +145,21 @@ reported_to k [] replies = []
 reported_to k (q ∷ qs) [] = []
 reported_to k (q ∷ qs) (r ∷ rs) = report k q r (reported_to k qs rs)
 
--- they are the pairs of a list from number `reported` on, and then none
+-- replies are the pairs of a list from number `reported` on, and then none
 abbrev pub AreReportedFrom : ℕ → List Pair → List (Option HalfMatch) → Type 0
 AreReportedFrom reported pairs [] = Unit {0}
 AreReportedFrom reported pairs (found ∷ later) =
     (found ≡ half_nth pairs reported) × AreReportedFrom (suc reported) pairs later
 
--- they are the pairs of the walk over an input, and then none: for every NFA those that its passes report (there is one
--- such list), and if the NFA keeps its cycles those of the ordered paths
+-- the replies to a walk's steps are the pairs of the walk over an input, and then none: for every NFA those that its
+-- passes report (there is one such list), and if the NFA keeps its cycles those of the ordered paths
 pub record ReportWalk (way : Direction) (m : Machine) (input : Input) (steps : List (Option HalfMatch)) : Type 0 where
   -- for every NFA, they are the pairs that its passes report
   pub reported : (pairs : List Pair) → AreWalked way m input pairs → AreReportedFrom 0 pairs steps
   -- if the NFA keeps its cycles, they are those of the ordered paths
   pub paths :
       KeepsCycles (nfa_of m.nfa)
-      → (pairs : List Pair) → IsOverlapping way (engine_of m.nfa (match_kind_of m.config)) input pairs
+      → (pairs : List Pair) → IsOverlapping way (engine m) input pairs
       → AreReportedFrom 0 pairs steps
 
 -- the Ok replies to the steps of each walk, in their order, are the pairs of its list, and then none

@@ -2,7 +2,6 @@
 use Rattle.std.specs.Prelude.{ℕ, suc, ◌≡◌, ◌<◌, ◌≤◌, ◌+◌, ◌-◌, ◌⊎◌, Bool, false, List, [], ◌∷◌, length, replicate}
 use Rattle.std.specs.Prelude.{Option, Some, None, Result, Ok, Err, IfOk, IfErr, IfSome, take}
 use Rattle.automata_base.specs.Answers.Answers.{IsOverlapping, ArePatterns, ArePatternsFound}
-use Rattle.automata_base.specs.Nfas.Engines.{engine_of}
 use Rattle.automata_base.specs.Haystacks.Input.{Input}
 use Rattle.automata_base.specs.Haystacks.Matches.{HalfMatch, Match}
 use Rattle.automata_base.specs.Nfas.Nodes.{nfa_of}
@@ -14,7 +13,7 @@ use Rattle.automata_base.specs.declared.util.search.Direction.TheVariants.{Forwa
 use Rattle.automata_config.specs.declared.error.SearchError.{SearchError}
 use Rattle.automata_config.specs.declared.error.SearchError.TheVariants as search
 use Rattle.automata_hybrid.specs.Walks.Cached.{IsOpen}
-use Rattle.automata_hybrid.specs.Machines.Machine.{Machine}
+use Rattle.automata_hybrid.specs.Machines.Machine.{Machine, engine}
 use Rattle.automata_hybrid.specs.Searches.Contracts.{IsMemory, IsUnhindered, IsUnsupported}
 use Rattle.automata_hybrid.specs.Searches.Contracts.{unsupported_error}
 use Rattle.automata_hybrid.specs.Walks.Progress.{IsOpenAfter}
@@ -28,7 +27,6 @@ use Rattle.regex_automata.specs.Spans.Outcomes.{FindsMatch, MatchLiesIn}
 use Rattle.regex_automata.specs.Spans.Errors.{IsFree, IsOfMemory}
 use Rattle.regex_automata.specs.Regexes.SoundPairs.{BothKeepCycles, IsSoundPair, forward_engine, reverse_engine}
 use Rattle.regex_automata.specs.declared.hybrid.regex.Regex.{Regex}
-use Rattle.automata_config.specs.Options.{match_kind_of}
 
 -- what a call of a walk returns after so many that returned Ok
 pub record IsStep (way : Direction) (m : Machine) (input : Input) (reported : ℕ)
@@ -40,7 +38,7 @@ pub record IsStep (way : Direction) (m : Machine) (input : Input) (reported : �
   pub paths :
       KeepsCycles (nfa_of m.nfa)
       → IfOk result (λ found.
-      (pairs : List Pair) → IsOverlapping way (engine_of m.nfa (match_kind_of m.config)) input pairs
+      (pairs : List Pair) → IsOverlapping way (engine m) input pairs
       → found ≡ half_nth pairs reported)
   -- with it the walk has reported so many, and no unit that it read is a quit byte
   pub clean : IfOk result (λ found. (w : Walk) × HasReported way m input w (suc reported))
@@ -159,7 +157,7 @@ pub record ArePatternsUpto (m : Machine) (input : Input) (capacity : ℕ) (found
   -- if the NFA keeps its cycles, those of the ordered paths
   pub paths :
       KeepsCycles (nfa_of m.nfa) → error ≡ None
-      → ArePatternsFound (engine_of m.nfa (match_kind_of m.config)) input capacity [] found
+      → ArePatternsFound (engine m) input capacity [] found
   -- if the anchored mode is not supported there are none, and that is reported, or out of memory for the set or the
   -- list
   pub unsupported :

@@ -82,7 +82,7 @@ ErrorsFollow p =
     (input : Input) (old new : Cache) (error : Option SearchError) → IsInput input → AreCachesOf old p
     → IsSpanRun p input old new error → IfSome error (IsRegexError p new input)
 
--- And of each search for the next match of an iteration.
+-- Why each search for the next match of an iteration fails, and what that excludes.
 abbrev pub NextsFollow : Regex → Type 0
 NextsFollow p =
     (input : Input) (last : Option ℕ) (old new : Cache) (error : Option SearchError) → IsInput input → AreCachesOf old p

@@ -1,12 +1,11 @@
 -- Whether there is a match.
 use Rattle.std.specs.Prelude.{◌≡◌, ◌⊎◌, Bool, true, Option, is_some}
 use Rattle.automata_base.specs.Answers.Answers.{Half}
-use Rattle.automata_base.specs.Nfas.Engines.{engine_of}
 use Rattle.automata_base.specs.Haystacks.Input.{Input}
 use Rattle.automata_base.specs.Answers.Spans.{in_full}
 use Rattle.automata_base.specs.declared.util.search.Direction.TheVariants.{Forward}
 use Rattle.automata_base.specs.Answers.OfPasses.{IsNearestAnswer, IsReported}
-use Rattle.automata_hybrid.specs.Machines.Machine.{Machine}
+use Rattle.automata_hybrid.specs.Machines.Machine.{Machine, engine}
 use Rattle.automata_hybrid.specs.Searches.Passes.{IsFound, Skips}
 use Rattle.automata_config.specs.Options.{match_kind_of}
 
@@ -28,8 +27,8 @@ abbrev pub IsMatchReported : Machine → Input → Bool → Type 0
 IsMatchReported m input truth =
     (o : Option Half) × IsReported Forward m.nfa (match_kind_of m.config) (in_full input) o × (truth ≡ is_some o)
 
--- and by the nearest end of an accepting path, which an earliest search finds
+-- whether there is a match, by the nearest end of an accepting path, which an earliest search finds
 abbrev pub IsNearestThere : Machine → Input → Bool → Type 0
 IsNearestThere m input truth =
-    (o : Option Half) × IsNearestAnswer Forward (engine_of m.nfa (match_kind_of m.config)) (in_part input) o
+    (o : Option Half) × IsNearestAnswer Forward (engine m) (in_part input) o
     × (truth ≡ is_some o)

@@ -18,7 +18,7 @@ abbrev pub IsOutcome : Regex → Input → Outcome → Type 0
 IsOutcome p input outcome =
     ReportsBy (IsFound Forward p.forward) (IsFound Backward p.reverse) (forward_engine p) input outcome
 
--- it returns this match, or none
+-- a search returns this match, or none, by the passes of two lazy DFAs
 abbrev pub FindsMatch : Regex → Input → Option Match → Type 0
 FindsMatch p input answer = IsOutcome p input (Found answer)
 

@@ -1,7 +1,7 @@
 //! What a replay keeps between requests.
 ghost use Rattle.std.specs.Prelude.{◌≡◌, IfOk, Some, slice_get};
 ghost use Rattle.regex_automata.specs.Replay.Histories.{History, start};
-ghost use Rattle.regex_automata.specs.Replay.Players.{HasPlayed, IsReplyTo, MakesCaches, StandsAfter};
+ghost use Rattle.regex_automata.specs.Replay.Players.{HasPlayed, IsReplyTo, MakesCaches, KeepsHistory};
 ghost use Rattle.regex_automata.specs.Regexes.Caches.{AreFresh};
 ghost use Rattle.regex_automata.specs.declared.replay.requests.Request.TheVariants as request;
 
@@ -69,7 +69,7 @@ impl<'r, 'h> Player<'r, 'h> {
         requires { (h : History) × HasPlayed h self.old }
         ensures regexes { self.new.regexes.now ≡ self.old.regexes.now }
         ensures reply { IsReplyTo self.old request.now result }
-        ensures at { StandsAfter self.old request.now result self.new }
+        ensures at { KeepsHistory self.old request.now result self.new }
         ensures made { MakesCaches self.old request.now result self.new }
     {
         let alloc = self.alloc;
@@ -116,7 +116,7 @@ impl<'r, 'h> Player<'r, 'h> {
         requires { (h : History) × HasPlayed h self.old }
         ensures regexes { self.new.regexes.now ≡ self.old.regexes.now }
         ensures reply { IsReplyTo self.old (request.BeginWalk way input.now) result }
-        ensures at { StandsAfter self.old (request.BeginWalk way input.now) result self.new }
+        ensures at { KeepsHistory self.old (request.BeginWalk way input.now) result self.new }
         ensures made { MakesCaches self.old (request.BeginWalk way input.now) result self.new }
     {
         let number = self.walks.len();
@@ -137,7 +137,7 @@ impl<'r, 'h> Player<'r, 'h> {
         requires { (h : History) × HasPlayed h self.old }
         ensures regexes { self.new.regexes.now ≡ self.old.regexes.now }
         ensures reply { IsReplyTo self.old (request.StepWalk number) result }
-        ensures at { StandsAfter self.old (request.StepWalk number) result self.new }
+        ensures at { KeepsHistory self.old (request.StepWalk number) result self.new }
         ensures made { MakesCaches self.old (request.StepWalk number) result self.new }
     {
         let of = match self.walks.get(number) {
@@ -157,7 +157,7 @@ impl<'r, 'h> Player<'r, 'h> {
         requires { (h : History) × HasPlayed h self.old }
         ensures regexes { self.new.regexes.now ≡ self.old.regexes.now }
         ensures reply { IsReplyTo self.old (request.Reset number) result }
-        ensures at { StandsAfter self.old (request.Reset number) result self.new }
+        ensures at { KeepsHistory self.old (request.Reset number) result self.new }
         ensures made { MakesCaches self.old (request.Reset number) result self.new }
     {
         let regexes = self.regexes;

@@ -1,7 +1,6 @@
 use Rattle.std.proofs.Common.{◌≡◌, ◌∙◌, Bool, List, Option, [], ap, inl, inr, refl, subst, sym, IfSome}
 use Rattle.std.specs.Result.{result_err}
 use Rattle.automata_base.specs.Answers.Answers.{ArePatterns, ArePatternsFound}
-use Rattle.automata_base.specs.Nfas.Engines.{engine_of}
 use Rattle.automata_base.specs.Answers.Answers.{IsOverlapping}
 use Rattle.automata_base.specs.Haystacks.PatternSet.{members}
 use Rattle.automata_base.specs.declared.util.search.Direction.TheVariants.{Forward}
@@ -13,8 +12,8 @@ use Rattle.regex_automata.specs.Spans.Contracts.{HasReportedSet}
 use Rattle.regex_automata.proofs.Replies.SetLists.{members_rise, memory_where, no_patterns, none_where, patterns_reported}
 use Rattle.regex_automata.proofs.Replies.SetLists.{reported_set, reported_where, run_ended}
 use Rattle.regex_automata.proofs.replay.patterns.patterns_below.Goals as goal
-use Rattle.automata_config.specs.Options.{match_kind_of}
 use Rattle.automata_base.proofs.Paths.Orders.{some_none}
+use Rattle.automata_hybrid.specs.Machines.Machine.{engine}
 
 pub returns-in_default-clause-returned : goal.returns-in_default-clause-returned
 returns-in_default-clause-returned c = no_patterns c.args.dfa.now c.args.input.now c.args.capacity c.new-in_default.result.items c.new-in_default.ensures.items
@@ -32,8 +31,8 @@ returns-in-Ok-list_members-clause-returned c =
     let still : new ≡ old → found ≡ [] = (λ same. c.in-Ok-list_members.ensures ∙ (ap members same ∙ c.in-Ok.ensures.empty)) in
     record {
       rise = members_rise new found c.in-Ok-list_members.ensures;
-      paths = λ cycles none. patterns_reported (IsOverlapping Forward (engine_of m.nfa (match_kind_of m.config)) input) input c.args.capacity old new found c.in-Ok.ensures.capacity c.in-Ok.ensures.empty c.in-Ok-list_members.ensures
-          (reported_where reported (ArePatternsFound (engine_of m.nfa (match_kind_of m.config)) input _ _ _) (s.paths cycles) (sym error ∙ none));
+      paths = λ cycles none. patterns_reported (IsOverlapping Forward (engine m) input) input c.args.capacity old new found c.in-Ok.ensures.capacity c.in-Ok.ensures.empty c.in-Ok-list_members.ensures
+          (reported_where reported (ArePatternsFound (engine m) input _ _ _) (s.paths cycles) (sym error ∙ none));
       unsupported = λ u. (let reported = s.unsupported u in (still reported.1, inl (error ∙ ap result_err reported.0)));
       free = λ f. subst (λ (e : Option SearchError). IfSome e IsMemory) (sym error) (memory_where reported (s.free f));
       done = λ past. (

@@ -1,5 +1,4 @@
 use Rattle.automata_base.specs.Answers.Answers.{IsAnswer}
-use Rattle.automata_base.specs.Nfas.Engines.{engine_of}
 use Rattle.automata_base.specs.declared.util.search.Direction.TheVariants.{Forward}
 use Rattle.automata_hybrid.specs.Searches.Passes.{IsFound, WithoutBase}
 use Rattle.regex_automata.proofs.TokenLists.Tiling.{begins, found_by, free_of, tiles}
@@ -7,7 +6,7 @@ use Rattle.std.proofs.Common.{Option, subst, arith}
 use Rattle.regex_automata.specs.Tokens.{AreGiven}
 use Rattle.regex_automata.specs.declared.tokens.error.TokenError.{TokenError}
 use Rattle.regex_automata.proofs.replay.tokens.tokens_upto.Goals as goal
-use Rattle.automata_config.specs.Options.{match_kind_of}
+use Rattle.automata_hybrid.specs.Machines.Machine.{engine}
 
 pub returns-clause-of : goal.returns-clause-of
 returns-clause-of c = (c.take_tokens.ensures.forward, c.take_tokens.ensures.reverse)
@@ -20,7 +19,7 @@ returns-clause-returned c =
     let error = c.take_tokens.result.1 in
     let given = c.take_tokens.ensures.given in
     record {
-      paths = λ cycles. found_by m input.haystack input.end (λ i. WithoutBase (IsAnswer Forward (engine_of m.nfa (match_kind_of m.config)) i))
+      paths = λ cycles. found_by m input.haystack input.end (λ i. WithoutBase (IsAnswer Forward (engine m) i))
           (λ offset o returned. returned.0.answer cycles) input.start ts error given;
       beginning = begins m input.haystack input.end input.start ts error given;
       whole = λ none. tiles m input.haystack input.end input.start ts
