@@ -13,14 +13,14 @@ use Rattle.automata_base.specs.Nfas.Engines.{any_byte}
 use Rattle.automata_base.specs.Nfas.Nfa.{Nfa, Split, Assert, hop_at, node, node_or_fail}
 use Rattle.automata_base.specs.Paths.Paths.{IsLookAcyclic, LeadsOn, Run, all_true}
 use Rattle.automata_base.proofs.Paths.Orders.{some_inj, none_some}
-use Rattle.meaning.specs.Translated.{node_of, nfa_of, size_of, starts_of}
-use Rattle.meaning.specs.Agreeing.{Holds, HoldsAll}
+use Rattle.meaning.specs.Translated.{node_of, joined_nfa, size_of, starts_of}
+use Rattle.meaning.specs.Agreeing.{HasStatesOf, HoldsAll}
 use Rattle.meaning.proofs.Nodes.{node_known}
 use Rattle.meaning.proofs.Ranks.{rank}
 use Rattle.meaning.proofs.Unions.{behind, holds_all}
 
 module _ (k : kit_nfa.Nfa) (b p : ℕ) where
-  hop_falls : (q : ℕ) (x : kit_state.State) → state_of k q ≡ x → (e r : ℕ) →
+  pub hop_falls : (q : ℕ) (x : kit_state.State) → state_of k q ≡ x → (e r : ℕ) →
       hop_at (node_of b p k.transitions.items x) all_true e ≡ Some r → (y : ℕ) × (r ≡ b + y) × IsBelow k.ranks.items y q
   hop_falls q (kit.ByteRange t) is e r h = absurd (none_some h)
   hop_falls q (kit.Sparse from to) is e r h = absurd (none_some h)
@@ -35,7 +35,7 @@ module _ (k : kit_nfa.Nfa) (b p : ℕ) where
   hop_falls q kit.Fail is e r h = absurd (none_some h)
 
   -- so it has fallen at the end of each path of such edges
-  run_falls : (n : Nfa) → Holds n b p k → (q : ℕ) (path : List ℕ) (z : ℕ) → q < length k.states.items →
+  run_falls : (n : Nfa) → HasStatesOf n b p k → (q : ℕ) (path : List ℕ) (z : ℕ) → q < length k.states.items →
       Run n (b + q) path z → (y : ℕ) × (z ≡ b + y) × (rank k y ≤ rank k q)
   run_falls n holds q [] z l h = (q, sym h, omega arith)
   run_falls n holds q (e ∷ path) z l h =
@@ -43,7 +43,7 @@ module _ (k : kit_nfa.Nfa) (b p : ℕ) where
       let rest = run_falls n holds step.0 path z (let i = step.2.0 in omega (arith, i, k.ranks_len)) (subst (λ v. Run n v path z) step.1 h.2) in
       (rest.0, rest.1, (let falls = step.2.1 in let low = rest.2 in omega (arith, falls, low)))
 
-  never_returns : (n : Nfa) → Holds n b p k → (q : ℕ) → q < length k.states.items → LeadsOn n (b + q) (b + q) → ⊥
+  never_returns : (n : Nfa) → HasStatesOf n b p k → (q : ℕ) → q < length k.states.items → LeadsOn n (b + q) (b + q) → ⊥
   never_returns n holds q l h =
       let step = hop_falls q _ refl h.0 h.1 (sym (ap (λ v. hop_at v all_true h.0) (node_known n b p k holds q l _ refl)) ∙ h.2) in
       let rest = run_falls n holds step.0 h.3.0 (b + q) (let i = step.2.0 in omega (arith, i, k.ranks_len)) (subst (λ v. Run n v h.3.0 (b + q)) step.1 h.3.1) in
@@ -64,7 +64,7 @@ in_patterns n b p (k ∷ ks) holds q low high h =
     (cases_lt q (b + length k.states.items))
 
 -- behind the patterns there is no look
-no_look : (ks : List kit_nfa.Nfa) (i : ℕ) (look : Look) (to : ℕ) → node (nfa_of ks) (size_of ks + i) ≡ Assert look to → ⊥
+no_look : (ks : List kit_nfa.Nfa) (i : ℕ) (look : Look) (to : ℕ) → node (joined_nfa ks) (size_of ks + i) ≡ Assert look to → ⊥
 no_look ks i look to is = go i (sym (behind ks i) ∙ is) where
   go : (i : ℕ) →
       node_or_fail (slice_get (Split (starts_of 0 ks) ∷ Split (size_of ks ∷ (size_of ks + 2) ∷ []) ∷ any_byte (size_of ks + 1) ∷ []) i)
@@ -74,11 +74,11 @@ no_look ks i look to is = go i (sym (behind ks i) ∙ is) where
   go (suc (suc zero)) h = cc
   go (suc (suc (suc i))) h = cc
 
-pub joined_acyclic : (ks : List kit_nfa.Nfa) → IsLookAcyclic (nfa_of ks)
+pub joined_acyclic : (ks : List kit_nfa.Nfa) → IsLookAcyclic (joined_nfa ks)
 joined_acyclic ks q look to is h =
     ⊎_elim
-    (λ (l : q < size_of ks). in_patterns (nfa_of ks) 0 0 ks (holds_all ks) q (omega arith) (omega (arith, l)) h)
+    (λ (l : q < size_of ks). in_patterns (joined_nfa ks) 0 0 ks (holds_all ks) q (omega arith) (omega (arith, l)) h)
     (λ (l : size_of ks ≤ q).
     let same : q ≡ size_of ks + (q - size_of ks) = omega (arith, l) in
-    no_look ks (q - size_of ks) look to (subst (λ v. node (nfa_of ks) v ≡ Assert look to) same is))
+    no_look ks (q - size_of ks) look to (subst (λ v. node (joined_nfa ks) v ≡ Assert look to) same is))
     (cases_lt q (size_of ks))

@@ -16,22 +16,22 @@ use Rattle.automata_base.specs.declared.util.search.Direction.TheVariants.{Forwa
 use Rattle.automata_base.proofs.Answers.Once.{answer_once, match_iff_find, span_once}
 use Rattle.automata_base.proofs.Answers.Rising.{spans_inside}
 use Rattle.automata_base.proofs.Paths.Orders.{none_some, some_inj}
-use Rattle.meaning.specs.Patterns.{IsFirstLeft, end_of, left_by, match_of, next_by, span_input}
+use Rattle.meaning.specs.Patterns.{IsFirstLeft, end_of, left_by, numbered_match, next_by, span_input}
 use Rattle.meaning.proofs.Options.{some_map}
 
 module _ (d : Engine) (res : List Re) (hay : List ℕ) (search : ℕ → Option kit_find.Match)
-    (spans : (s : ℕ) → IsSpan d (span_input hay s (length hay)) (option_map (match_of res hay) (search s))) where
+    (spans : (s : ℕ) → IsSpan d (span_input hay s (length hay)) (option_map (numbered_match res hay) (search s))) where
   abbrev own : kit_find.Match → Match
-  own m = match_of res hay m
+  own m = numbered_match res hay m
 
   -- whether there is a match
   pub truth_is : (s : ℕ) (truth : Bool) → IsMatch d (span_input hay s (length hay)) truth → truth ≡ is_some (search s)
   truth_is s truth h =
-      match_iff_find d (span_input hay s (length hay)) truth (option_map (match_of res hay) (search s)) (inl refl) h (spans s)
-      ∙ some_map (match_of res hay) (search s)
+      match_iff_find d (span_input hay s (length hay)) truth (option_map (numbered_match res hay) (search s)) (inl refl) h (spans s)
+      ∙ some_map (numbered_match res hay) (search s)
 
   -- the span is the one that is meant
-  pub span_is : (s : ℕ) (o : Option Match) → IsSpan d (span_input hay s (length hay)) o → o ≡ option_map (match_of res hay) (search s)
+  pub span_is : (s : ℕ) (o : Option Match) → IsSpan d (span_input hay s (length hay)) o → o ≡ option_map (numbered_match res hay) (search s)
   span_is s o h = span_once d (span_input hay s (length hay)) o _ h (spans s)
 
   -- a forward search has the end of the match that is meant
@@ -39,7 +39,7 @@ module _ (d : Engine) (res : List Re) (hay : List ℕ) (search : ℕ → Option 
   half_of half = record { pattern = half.pattern; offset = half.offset }
 
   ends_with : (s : ℕ) (answer : Option Half) → IsAnswer Forward d (span_input hay s (length hay)) answer →
-      (m : Option kit_find.Match) → IsSpan d (span_input hay s (length hay)) (option_map (match_of res hay) m) →
+      (m : Option kit_find.Match) → IsSpan d (span_input hay s (length hay)) (option_map (numbered_match res hay) m) →
       option_map half_of answer ≡ option_map (end_of res hay) m
   ends_with s answer a None h = ap (option_map half_of) (answer_once Forward d (span_input hay s (length hay)) answer None a h)
   ends_with s answer a (Some m) h =
@@ -50,11 +50,11 @@ module _ (d : Engine) (res : List Re) (hay : List ℕ) (search : ℕ → Option 
       option_map half_of answer ≡ option_map (end_of res hay) (search s)
   end_is s answer a = ends_with s answer a (search s) (spans s)
 
-  none_of : (o : Option kit_find.Match) → None ≡ option_map (match_of res hay) o → o ≡ None
+  none_of : (o : Option kit_find.Match) → None ≡ option_map (numbered_match res hay) o → o ≡ None
   none_of None e = refl
   none_of (Some m) e = absurd (none_some e)
 
-  some_of : (o : Option kit_find.Match) (m : Match) → Some m ≡ option_map (match_of res hay) o →
+  some_of : (o : Option kit_find.Match) (m : Match) → Some m ≡ option_map (numbered_match res hay) o →
       (k : kit_find.Match) × (o ≡ Some k) × (m ≡ own k)
   some_of None m e = absurd (none_some (sym e))
   some_of (Some k) m e = (k, refl, some_inj e)
@@ -86,21 +86,21 @@ module _ (d : Engine) (res : List Re) (hay : List ℕ) (search : ℕ → Option 
 
     -- the item after a match that ended here
     next_is : (begin : ℕ) (o : Option Match) → IsNextItem (IsSpan d) (span_input hay begin (length hay)) start (Some start) o →
-        o ≡ option_map (match_of res hay) (find_after search start)
+        o ≡ option_map (numbered_match res hay) (find_after search start)
     next_is begin None (inl h) =
         let e = span_is start None h in
-        e ∙ ap (option_map (match_of res hay)) (sym (stops (none_of (search start) e)))
+        e ∙ ap (option_map (numbered_match res hay)) (sym (stops (none_of (search start) e)))
     next_is begin None (inr h) =
-        span_is (suc start) None h.3 ∙ ap (option_map (match_of res hay)) (sym (passed h.0 h.1 h.2))
+        span_is (suc start) None h.3 ∙ ap (option_map (numbered_match res hay)) (sym (passed h.0 h.1 h.2))
     next_is begin (Some m) (inl h) =
         let e = span_is start (Some m) h.0 in
         let w = some_of (search start) m e in
         let inside = spans_inside d (span_input hay start (length hay)) m (omega arith) h.0 in
-        e ∙ ap (option_map (match_of res hay)) (sym (goes_on w.0 w.1 (λ same.
+        e ∙ ap (option_map (numbered_match res hay)) (sym (goes_on w.0 w.1 (λ same.
         let ends : m.end ≡ start = ap (λ (v : Match). v.end) w.2 ∙ same in
         h.1 (omega (arith, ends, inside.0, inside.1), ap (λ v. Some v) (sym ends)))))
     next_is begin (Some m) (inr h) =
-        span_is (suc start) (Some m) h.3 ∙ ap (option_map (match_of res hay)) (sym (passed h.0 h.1 h.2))
+        span_is (suc start) (Some m) h.3 ∙ ap (option_map (numbered_match res hay)) (sym (passed h.0 h.1 h.2))
 
   yields_none : (fuel : ℕ) → matches_from search fuel None ≡ []
   unfolding matches_from
@@ -109,7 +109,7 @@ module _ (d : Engine) (res : List Re) (hay : List ℕ) (search : ℕ → Option 
 
   -- the first item, and each one
   first_is : (begin : ℕ) (o : Option Match) → IsNextItem (IsSpan d) (span_input hay begin (length hay)) 0 None o →
-      o ≡ option_map (match_of res hay) (search 0)
+      o ≡ option_map (numbered_match res hay) (search 0)
   first_is begin None (inl h) = span_is 0 None h
   first_is begin None (inr h) = absurd (none_some h.2.1)
   first_is begin (Some m) (inl h) = span_is 0 (Some m) h.0
@@ -117,7 +117,7 @@ module _ (d : Engine) (res : List Re) (hay : List ℕ) (search : ℕ → Option 
 
   item_is : (begin : ℕ) (last : Option ℕ) (o : Option Match) →
       IsNextItem (IsSpan d) (span_input hay begin (length hay)) (unwrap_or last 0) last o →
-      o ≡ option_map (match_of res hay) (next_by search last)
+      o ≡ option_map (numbered_match res hay) (next_by search last)
   item_is begin None o h = first_is begin o h
   item_is begin (Some end) o h = next_is end begin o h
 
@@ -125,7 +125,7 @@ module _ (d : Engine) (res : List Re) (hay : List ℕ) (search : ℕ → Option 
   found_inside : (s : ℕ) (m : kit_find.Match) → search s ≡ Some m → (s ≤ m.start) × (m.start ≤ m.trace.end) × (m.trace.end ≤ length hay)
   found_inside s m e =
       spans_inside d (span_input hay s (length hay)) (own m) (omega arith)
-      (subst (λ o. IsSpan d (span_input hay s (length hay)) (option_map (match_of res hay) o)) e (spans s))
+      (subst (λ o. IsSpan d (span_input hay s (length hay)) (option_map (numbered_match res hay) o)) e (spans s))
 
   -- so ends rise
   rises : (e : ℕ) (m : kit_find.Match) → find_after search e ≡ Some m → (e < m.trace.end) × (m.trace.end ≤ length hay)
@@ -168,20 +168,20 @@ module _ (d : Engine) (res : List Re) (hay : List ℕ) (search : ℕ → Option 
       ∙ sym (ap (matches_from search (suc k)) w.1))
       (option_cases (find_after search e))
 
-  after : (m : kit_find.Match) → map (match_of res hay) (matches_from search (length hay + 1) (Some m)) ≡ own m ∷ left_by search res hay (Some m.trace.end)
+  after : (m : kit_find.Match) → map (numbered_match res hay) (matches_from search (length hay + 1) (Some m)) ≡ own m ∷ left_by search res hay (Some m.trace.end)
   unfolding matches_from
   after m =
-      ap (λ n. map (match_of res hay) (matches_from search n (Some m))) (add-one (length hay))
-      ∙ ap (λ ms. own m ∷ map (match_of res hay) ms) (enough (length hay) (length hay + 1) m.trace.end (omega arith) (omega arith))
+      ap (λ n. map (numbered_match res hay) (matches_from search n (Some m))) (add-one (length hay))
+      ∙ ap (λ ms. own m ∷ map (numbered_match res hay) ms) (enough (length hay) (length hay + 1) m.trace.end (omega arith) (omega arith))
 
-  first_left : (last : Option ℕ) (o : Option Match) → o ≡ option_map (match_of res hay) (next_by search last) →
+  first_left : (last : Option ℕ) (o : Option Match) → o ≡ option_map (numbered_match res hay) (next_by search last) →
       IsFirstLeft (left_by search res hay) last o
   first_left last None e =
-      ap (λ o. map (match_of res hay) (matches_from search (length hay + 1) o)) (none_of (next_by search last) e)
-      ∙ ap (map (match_of res hay)) (yields_none (length hay + 1))
+      ap (λ o. map (numbered_match res hay) (matches_from search (length hay + 1) o)) (none_of (next_by search last) e)
+      ∙ ap (map (numbered_match res hay)) (yields_none (length hay + 1))
   first_left last (Some m) e =
       let w = some_of (next_by search last) m e in
-      ap (λ o. map (match_of res hay) (matches_from search (length hay + 1) o)) w.1 ∙ after w.0
+      ap (λ o. map (numbered_match res hay) (matches_from search (length hay + 1) o)) w.1 ∙ after w.0
       ∙ ap (λ (v : Match). v ∷ left_by search res hay (Some v.end)) (sym w.2)
 
   -- an item is the first of the matches that are left

@@ -5,12 +5,16 @@ pub mod Ascii
 pub mod Ranks
 pub mod Edges
 pub mod Runs
+pub mod Ways
 pub mod Unions
 pub mod Lists
 pub mod Loops
 pub mod Acyclic
+pub mod Singles
 pub mod Texts
 pub mod Spanning
 pub mod Means
 pub mod Iterations
 pub mod Matching
+pub mod Flags
+pub mod Sets

@@ -12,8 +12,8 @@ use Rattle.automata_base.specs.Nfas.Engines.{HasEdge, Reaches, Road, LoopsLazily
 use Rattle.automata_base.specs.Nfas.Nfa.{Nfa, hop_at, takes_at}
 use Rattle.automata_base.specs.Paths.Paths.{all_true}
 use Rattle.automata_base.proofs.Paths.Orders.{some_inj, none_some}
-use Rattle.meaning.specs.Translated.{node_of, nfa_of, size_of, starts_of}
-use Rattle.meaning.specs.Agreeing.{Holds, HoldsAll}
+use Rattle.meaning.specs.Translated.{node_of, joined_nfa, size_of, starts_of}
+use Rattle.meaning.specs.Agreeing.{HasStatesOf, HoldsAll}
 use Rattle.meaning.proofs.Nodes.{node_known, takes_known}
 use Rattle.meaning.proofs.Unions.{holds_all, union_is, loop_is, skip_is}
 
@@ -45,7 +45,7 @@ module _ (k : kit_nfa.Nfa) (b p : ℕ) where
   hop_stays q kit.Fail is e r h = absurd (none_some h)
 
   -- no edge leaves the pattern's states
-  edge_stays : (n : Nfa) → Holds n b p k → (q r : ℕ) → q < length k.states.items → HasEdge n (b + q) r →
+  edge_stays : (n : Nfa) → HasStatesOf n b p k → (q r : ℕ) → q < length k.states.items → HasEdge n (b + q) r →
       r < b + length k.states.items
   edge_stays n holds q r l (inl h) =
       hop_stays q _ refl h.0 r (sym (ap (λ v. hop_at v all_true h.0) (node_known n b p k holds q l _ refl)) ∙ h.1)
@@ -68,26 +68,26 @@ edges_stay n b p (k ∷ ks) holds q r low high h =
     omega (arith, w))
     (cases_lt q (b + length k.states.items))
 
-starts_below : (b : ℕ) (ks : List kit_nfa.Nfa) (e r : ℕ) → slice_get (starts_of b ks) e ≡ Some r → r < b + size_of ks
+pub starts_below : (b : ℕ) (ks : List kit_nfa.Nfa) (e r : ℕ) → slice_get (starts_of b ks) e ≡ Some r → r < b + size_of ks
 starts_below b [] e r h = absurd (none_some h)
 starts_below b (k ∷ ks) zero r h = let f = some_inj h in omega (arith, f, k.start_in)
 starts_below b (k ∷ ks) (suc e) r h = let w = starts_below (b + length k.states.items) ks e r h in omega (arith, w)
 
 module _ (ks : List kit_nfa.Nfa) where
-  road_stays : (q : ℕ) (rs : List ℕ) (z : ℕ) → q < size_of ks → Road (nfa_of ks) q rs z → z < size_of ks
+  road_stays : (q : ℕ) (rs : List ℕ) (z : ℕ) → q < size_of ks → Road (joined_nfa ks) q rs z → z < size_of ks
   road_stays q [] z l h = subst (λ v. v < size_of ks) h l
   road_stays q (r ∷ rs) z l h =
-      let w = edges_stay (nfa_of ks) 0 0 ks (holds_all ks) q r (omega arith) (omega (arith, l)) h.0 in
+      let w = edges_stay (joined_nfa ks) 0 0 ks (holds_all ks) q r (omega arith) (omega (arith, l)) h.0 in
       road_stays r rs z (omega (arith, w)) h.1
 
-  first_stays : (r : ℕ) → HasEdge (nfa_of ks) (size_of ks) r → r < size_of ks
+  first_stays : (r : ℕ) → HasEdge (joined_nfa ks) (size_of ks) r → r < size_of ks
   first_stays r (inl h) =
       let w = starts_below 0 ks h.0 r (sym (ap (λ v. hop_at v all_true h.0) (union_is ks)) ∙ h.1) in omega (arith, w)
   first_stays r (inr h) = absurd (none_some (sym (ap (λ v. takes_at v h.0) (union_is ks)) ∙ h.1))
 
-  returns_not : Reaches (nfa_of ks) (size_of ks) (size_of ks + 1) → ⊥
+  returns_not : Reaches (joined_nfa ks) (size_of ks) (size_of ks + 1) → ⊥
   returns_not ([], e) = omega (arith, e)
   returns_not (r ∷ rs, h) = let w = road_stays r rs (size_of ks + 1) (first_stays r h.0) h.1 in omega (arith, w)
 
-  pub loops_lazily : LoopsLazily (nfa_of ks) (size_of ks) (size_of ks + 1) (size_of ks + 2)
+  pub loops_lazily : LoopsLazily (joined_nfa ks) (size_of ks) (size_of ks + 1) (size_of ks + 2)
   loops_lazily = (loop_is ks, skip_is ks, returns_not)

@@ -17,8 +17,8 @@ use Rattle.automata_base.specs.Nfas.Engines.{Engine, IsSkipping}
 use Rattle.automata_base.specs.Paths.Selections.{Accepts}
 use Rattle.automata_base.proofs.Answers.Tried.{ComesTo}
 use Rattle.meaning.specs.Agreeing.{Each, HasSameLooks, ImplementAll}
-use Rattle.meaning.specs.Patterns.{any_of, HasPart, match_of, span_input}
-use Rattle.meaning.specs.Translated.{engine}
+use Rattle.meaning.specs.Patterns.{any_of, HasPart, numbered_match, span_input}
+use Rattle.meaning.specs.Translated.{joined_engine}
 use Rattle.meaning.proofs.Means.{bytes_mean}
 use Rattle.meaning.proofs.Options.{some_map}
 
@@ -78,10 +78,10 @@ part_is res hay truth e = (
 -- So a search over bytes, earliest or not, tells whether some part of the haystack is a match.
 pub part_of_answer : (ks : List kit_nfa.Nfa) (res : List Re) → ImplementAll ks res → (hay : List ℕ) → Each (HasSameLooks hay) ks →
     IsHaystack hay → (e : Bool) (o : Option Half) →
-    IsAnswer Forward (engine false ks) (record (span_input hay 0 (length hay)) { earliest = e }) o →
+    IsAnswer Forward (joined_engine false ks) (record (span_input hay 0 (length hay)) { earliest = e }) o →
     (truth : Bool) → truth ≡ is_some o → IsTrue truth ↔ HasPart res hay
 part_of_answer ks res is hay same bytes e o a truth t =
     part_is res hay truth
     (t
-    ∙ answer_tells (engine false ks) (λ h. true≢false (sym h.0)) hay 0 (length hay) (omega arith) e o a _ (bytes_mean ks res is hay same bytes 0)
-    ∙ some_map (match_of res hay) (find (any_of res) hay 0))
+    ∙ answer_tells (joined_engine false ks) (λ h. true≢false (sym h.0)) hay 0 (length hay) (omega arith) e o a _ (bytes_mean ks res is hay same bytes 0)
+    ∙ some_map (numbered_match res hay) (find (any_of res) hay 0))

@@ -10,7 +10,7 @@ use Rattle.regex_nfa.specs.declared.state.Transition.{Transition}
 use Rattle.regex_nfa.specs.declared.nfa.Nfa as kit_nfa
 use Rattle.automata_base.specs.Nfas.Nfa.{Nfa, node, takes, takes_at, takes_in}
 use Rattle.meaning.specs.Translated.{ranges_of, node_of, nodes_of}
-use Rattle.meaning.specs.Agreeing.{Holds}
+use Rattle.meaning.specs.Agreeing.{HasStatesOf}
 use Rattle.meaning.proofs.Options.{map_cond}
 
 pub node_at : (b p : ℕ) (ts : List Transition) (xs : List kit_state.State) (q : ℕ) → q < length xs →
@@ -48,7 +48,7 @@ takes_at-node_of b p ts (kit.Look l next) u = refl
 takes_at-node_of b p ts kit.Match u = refl
 takes_at-node_of b p ts kit.Fail u = refl
 
-module _ (n : Nfa) (b p : ℕ) (k : kit_nfa.Nfa) (holds : Holds n b p k) (q : ℕ) (inside : q < length k.states.items) where
+module _ (n : Nfa) (b p : ℕ) (k : kit_nfa.Nfa) (holds : HasStatesOf n b p k) (q : ℕ) (inside : q < length k.states.items) where
   -- the node of a known state
   pub node_known : (x : kit_state.State) → state_of k q ≡ x → node n (b + q) ≡ node_of b p k.transitions.items x
   node_known x is = holds.nodes q inside ∙ ap (node_of b p k.transitions.items) is

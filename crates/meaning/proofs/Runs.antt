@@ -23,14 +23,14 @@ use Rattle.automata_base.specs.Paths.Paths.{Tape, truth, next, prev, Moves}
 use Rattle.automata_base.proofs.Paths.Orders.{none_some}
 use Rattle.automata_base.proofs.Answers.Bytes.{forward_next, forward_prev, forward_byte, forward_length}
 use Rattle.meaning.specs.Translated.{look_of}
-use Rattle.meaning.specs.Agreeing.{HasSameLooks, Holds, IsLeastEnd}
+use Rattle.meaning.specs.Agreeing.{HasSameLooks, HasStatesOf, IsLeastEnd}
 use Rattle.meaning.proofs.Options.{map_then, map_or, half_of, half_written}
 use Rattle.meaning.proofs.Nodes.{node_known, takes_known}
 use Rattle.meaning.proofs.Ranks.{IsAbove, above_new, above_next}
 use Rattle.meaning.proofs.Edges.{past_none, past_edge, all_edges, none_best, read_best, here_best}
 
 -- the byte that a run reads at an offset is the one of the tape there
-tape_byte : (hay : List ℕ) (s stop p : ℕ) → s + p ≤ stop → stop ≤ length hay →
+pub tape_byte : (hay : List ℕ) (s stop p : ℕ) → s + p ≤ stop → stop ≤ length hay →
     slice_get (forward_tape hay s stop).bytes p ≡ byte_below hay stop (s + p)
 tape_byte hay s stop p inside fits =
     ⊎_elim
@@ -63,7 +63,7 @@ look_none : (A : Truth) (l : Look) (a e r : ℕ) → A l ≡ false → hop_at (A
 look_none A l a zero r f h = none_some (sym (ap (λ b. cond b (Some a) None) f) ∙ h)
 look_none A l a (suc e) r f h = none_some h
 
-module _ (n : Nfa) (b pat : ℕ) (k : kit_nfa.Nfa) (holds : Holds n b pat k) (hay : List ℕ) (s stop : ℕ)
+module _ (n : Nfa) (b pat : ℕ) (k : kit_nfa.Nfa) (holds : HasStatesOf n b pat k) (hay : List ℕ) (s stop : ℕ)
     (fits : stop ≤ length hay) (same : HasSameLooks hay k) where
   abbrev t : Tape
   t = forward_tape hay s stop
@@ -78,7 +78,7 @@ module _ (n : Nfa) (b pat : ℕ) (k : kit_nfa.Nfa) (holds : Holds n b pat k) (ha
       (p : ℕ) (seen : List ℕ) → q < length k.states.items → i ≡ s + p → i ≤ stop → IsAbove k b seen q
       → IsLeastEnd n t s p seen (b + q) (end_of q i)
 
-  truth_is : (q r : ℕ) (l : kit_look.Look) → state_of k q ≡ kit.Look l r → (p i : ℕ) → i ≡ s + p → i ≤ stop →
+  pub truth_is : (q r : ℕ) (l : kit_look.Look) → state_of k q ≡ kit.Look l r → (p i : ℕ) → i ≡ s + p → i ≤ stop →
       truth n t p (look_of l) ≡ kit_looks.holds l hay i
   truth_is q r l is p i at inside =
       ap₂ (λ v w. our.holds v w (look_of l) (prev t p) (next t p)) holds.lines holds.forward
@@ -87,7 +87,7 @@ module _ (n : Nfa) (b pat : ℕ) (k : kit_nfa.Nfa) (holds : Holds n b pat k) (ha
       ∙ ap (λ j. our.holds 10 false (look_of l) (byte_before hay j) (slice_get hay j)) (sym at)
       ∙ sym (same q r l is i (omega (arith, inside, fits)))
 
-  within : (r q : ℕ) → IsBelow k.ranks.items r q → r < length k.states.items
+  pub within : (r q : ℕ) → IsBelow k.ranks.items r q → r < length k.states.items
   within r q below = let l = below.0 in omega (arith, l, k.ranks_len)
 
   module _ (q i : ℕ) (before : (r j : ℕ) → measure k hay stop r j < measure k hay stop q i → Agrees r j)

@@ -63,6 +63,15 @@ ends_whole hay i e text le fits begin inner =
 
 -- Under the UTF-8 promise a match is empty, or begins and ends where characters do.
 module _ (d : Engine) (keeps : KeepsUtf8 Forward d) (utf8 : d.utf8 ≡ true) (hay : List ℕ) (bytes : IsHaystack hay) (text : IsUtf8 hay) where
+  pub whole_path : (s k i z pattern : ℕ) (path : List ℕ) → k < i → s + i ≤ length hay →
+      IsPathFrom d.nfa (forward_tape hay s (length hay)) k [] d.anchored path i z → accepts d.nfa z ≡ Some pattern →
+      (is_split hay (s + k) ≡ false) × (is_split hay (s + i) ≡ false)
+  whole_path s k i z pattern path l fits h acc =
+      let joined = narrow d hay s (length hay) i k pattern z path (omega (arith, l)) fits (omega arith) h acc in
+      let inner = keeps hay (s + k) (s + i) pattern Yes d.anchored joined.0 utf8 bytes (omega (arith, l)) fits (λ e. cc) refl joined.1 in
+      let begin = unsplit hay (s + k) (s + i) (omega (arith, l)) inner in
+      (begin, ends_whole hay (s + k) (s + i) text (omega (arith, l)) fits begin inner)
+
   pub whole_match : (i : ℕ) (half : HalfMatch) → i ≤ length hay →
       IsLeastEnd d.nfa (forward_tape hay i (length hay)) i 0 [] d.anchored (Some half) → half.offset ≤ length hay →
       (i ≡ half.offset) ⊎ ((is_split hay i ≡ false) × (is_split hay half.offset ≡ false))
@@ -71,16 +80,9 @@ module _ (d : Engine) (keeps : KeepsUtf8 Forward d) (utf8 : d.utf8 ≡ true) (ha
     where
       longer : 0 < own.1 → (is_split hay i ≡ false) × (is_split hay half.offset ≡ false)
       longer l =
-          let joined = narrow d hay i (length hay) own.1 0 half.pattern own.2 own.0 (omega arith) (omega (arith, own.5, fits)) (omega arith) own.3 own.4 in
-          let inner = keeps hay (i + 0) (i + own.1) half.pattern Yes d.anchored joined.0 utf8 bytes (omega (arith, l)) (omega (arith, own.5, fits))
-          (λ e. cc) refl joined.1 in
-          let begin : is_split hay i ≡ false = ap (is_split hay) (omega arith) ∙ unsplit hay (i + 0) (i + own.1) (omega (arith, l)) inner in
+          let whole = whole_path i 0 own.1 own.2 half.pattern own.0 l (omega (arith, own.5, fits)) own.3 own.4 in
           let from : i + 0 ≡ i = omega arith in
-          let there : i + own.1 ≡ half.offset = own.5 in (
-            begin,
-            ends_whole hay i half.offset text (omega (arith, own.5)) fits begin
-                (subst (λ v. IsUtf8 (between hay v half.offset)) from (subst (λ v. IsUtf8 (between hay (i + 0) v)) there inner)),
-          )
+          (subst (λ v. is_split hay v ≡ false) from whole.0, subst (λ v. is_split hay v ≡ false) own.5 whole.1)
 
 -- A path that stays at its place reads nothing.
 still : (n : Nfa) (t : Tape) (i : ℕ) (seen : List ℕ) (q : ℕ) (path : List ℕ) (z : ℕ) → IsPathFrom n t i seen q path i z → HasEpsilonPath n q z
@@ -92,17 +94,17 @@ still n t i seen q (e ∷ path) z (inr h) =
     absurd (let g = path_grows n t (suc i) [] h.0 path i z h.3 in omega (arith, g))
 
 -- So if a match from a union of starts is empty, the empty match is one of a start.
-pub empty_start : (n : Nfa) (t : Tape) (u : ℕ) (starts : List ℕ) → node n u ≡ Split starts → (path : List ℕ) (z pattern : ℕ) →
-    IsPathFrom n t 0 [] u path 0 z → accepts n z ≡ Some pattern → MatchesEmpty n starts
-empty_start n t u starts is [] z pattern h acc =
+pub empty_start : (n : Nfa) (t : Tape) (i u : ℕ) (starts : List ℕ) → node n u ≡ Split starts → (path : List ℕ) (z pattern : ℕ) →
+    IsPathFrom n t i [] u path i z → accepts n z ≡ Some pattern → MatchesEmpty n starts
+empty_start n t i u starts is [] z pattern h acc =
     absurd (none_some (sym (ap accepts_at is) ∙ ap (λ v. accepts n v) h.1 ∙ acc))
-empty_start n t u starts is (e ∷ path) z pattern (inl h) acc = (
+empty_start n t i u starts is (e ∷ path) z pattern (inl h) acc = (
   h.0,
   z,
   pattern,
-  nth_in starts e h.0 (sym (ap (λ v. hop_at v (truth n t 0) e) is) ∙ h.1),
-  still n t 0 (u ∷ []) h.0 path z h.3,
+  nth_in starts e h.0 (sym (ap (λ v. hop_at v (truth n t i) e) is) ∙ h.1),
+  still n t i (u ∷ []) h.0 path z h.3,
   acc,
 )
-empty_start n t u starts is (e ∷ path) z pattern (inr h) acc =
-    absurd (let g = path_grows n t 1 [] h.0 path 0 z h.3 in omega (arith, g))
+empty_start n t i u starts is (e ∷ path) z pattern (inr h) acc =
+    absurd (let g = path_grows n t (suc i) [] h.0 path i z h.3 in omega (arith, g))

@@ -11,8 +11,8 @@ use Rattle.automata_base.specs.Nfas.Engines.{any_byte}
 use Rattle.automata_base.specs.Nfas.Nfa.{Nfa, Node, Split, node, node_or_fail, hop, hop_at}
 use Rattle.automata_base.specs.Paths.Paths.{truth}
 use Rattle.automata_base.proofs.Paths.Orders.{none_some}
-use Rattle.meaning.specs.Translated.{nodes_of, nodes_of_all, nfa_of, size_of, starts_of}
-use Rattle.meaning.specs.Agreeing.{Each, HasSameLooks, HoldsAll, IsLeastEnd}
+use Rattle.meaning.specs.Translated.{nodes_of, nodes_of_all, joined_nfa, size_of, starts_of}
+use Rattle.meaning.specs.Agreeing.{Each, HasSameLooks, HasStatesOf, HoldsAll, IsLeastEnd}
 use Rattle.meaning.proofs.Options.{half_of}
 use Rattle.meaning.proofs.Nodes.{node_at, length-nodes_of}
 use Rattle.meaning.proofs.Edges.{IsLeastPast, all_edges, past_edge, past_none}
@@ -69,7 +69,7 @@ holds_from n lines forward (k ∷ ks) b p pre post count e = (
 
 module _ (ks : List kit_nfa.Nfa) where
   abbrev n : Nfa
-  n = nfa_of ks
+  n = joined_nfa ks
 
   abbrev union : ℕ
   union = size_of ks
@@ -96,6 +96,13 @@ found_of hay stop i p (k ∷ ks) =
     option_or (option_map (half_of p) (run k hay stop k.start i)) (found_of hay stop i (suc p) ks)
 
 module _ (n : Nfa) (hay : List ℕ) (s stop u place i : ℕ) (fits : stop ≤ length hay) (at : i ≡ s + place) (inside : i ≤ stop) where
+  -- from the start of one pattern, after the union
+  pub pattern_finds : (b p : ℕ) (k : kit_nfa.Nfa) → HasStatesOf n b p k → HasSameLooks hay k → b + length k.states.items ≤ u →
+      IsLeastEnd n (forward_tape hay s stop) s place (u ∷ []) (b + k.start) (option_map (half_of p) (run k hay stop k.start i))
+  pattern_finds b p k holds same room =
+      run_agrees n b p k holds hay s stop fits same k.start i place (u ∷ []) (let l = k.start_in in omega (arith, l)) at inside
+      (λ x l m. ⊎_elim (λ (e : b + x ≡ u). absurd (omega (arith, l, e, room))) (λ (x : ⊥). absurd x) m)
+
   -- by the edges to the starts of the patterns from number `p` on
   past : (b p : ℕ) (ks : List kit_nfa.Nfa) → HoldsAll n b p ks → Each (HasSameLooks hay) ks → b + size_of ks ≤ u →
       ((e : ℕ) → hop n (truth n (forward_tape hay s stop) place) u (p + e) ≡ slice_get (starts_of b ks) e) →
@@ -107,32 +114,28 @@ module _ (n : Nfa) (hay : List ℕ) (s stop u place i : ℕ) (fits : stop ≤ le
   past b p (k ∷ ks) holds same room edges =
       past_edge n (forward_tape hay s stop) s place [] u p (b + k.start) _ (found_of hay stop i (suc p) ks)
       (ap (λ v. hop n (truth n (forward_tape hay s stop) place) u v) first ∙ edges 0)
-      (λ m. ⊎_elim (λ (e : b + k.start ≡ u). apart k.start first_in e) (λ (x : ⊥). x) m)
-      (run_agrees n b p k holds.0 hay s stop fits same.0 k.start i place (u ∷ []) first_in at inside
-      (λ x l m. ⊎_elim (λ (e : b + x ≡ u). absurd (apart x l e)) (λ (x : ⊥). absurd x) m))
+      (λ m. ⊎_elim (λ (e : b + k.start ≡ u). apart e) (λ (x : ⊥). x) m)
+      (pattern_finds b p k holds.0 same.0 (omega (arith, room)))
       (past (b + length k.states.items) (suc p) ks holds.1 same.1 (omega (arith, room))
       (λ e. ap (λ v. hop n (truth n (forward_tape hay s stop) place) u v) (later e) ∙ edges (suc e)))
     where
-      first_in : k.start < length k.states.items
-      first_in = let l = k.start_in in omega (arith, l)
-
       first : p ≡ p + 0
       first = omega arith
 
       later : (e : ℕ) → suc p + e ≡ p + suc e
       later e = omega arith
 
-      apart : (x : ℕ) → x < length k.states.items → b + x ≡ u → ⊥
-      apart x l e = omega (arith, l, e, room)
+      apart : b + k.start ≡ u → ⊥
+      apart e = let l = k.start_in in omega (arith, l, e, room)
 
 -- what the union finds at each place of a span
 pub union_finds : (ks : List kit_nfa.Nfa) (hay : List ℕ) (stop : ℕ) → stop ≤ length hay → Each (HasSameLooks hay) ks →
     (s place : ℕ) → s + place ≤ stop →
-    IsLeastEnd (nfa_of ks) (forward_tape hay s stop) s place [] (size_of ks) (found_of hay stop (s + place) 0 ks)
+    IsLeastEnd (joined_nfa ks) (forward_tape hay s stop) s place [] (size_of ks) (found_of hay stop (s + place) 0 ks)
 union_finds ks hay stop fits same s place inside =
-    all_edges (nfa_of ks) (forward_tape hay s stop) s place [] (size_of ks) _
-    (accepts_none (nfa_of ks) (forward_tape hay s stop) place (size_of ks) _ (union_is ks) refl)
-    (moves_none (nfa_of ks) (forward_tape hay s stop) place (size_of ks) _ (union_is ks) (λ v r m. none_some m))
-    (past (nfa_of ks) hay s stop (size_of ks) place (s + place) fits refl inside 0 0 ks (holds_all ks) same (omega arith)
-    (λ e. ap (λ v. hop_at v (truth (nfa_of ks) (forward_tape hay s stop) place) (0 + e)) (union_is ks)
+    all_edges (joined_nfa ks) (forward_tape hay s stop) s place [] (size_of ks) _
+    (accepts_none (joined_nfa ks) (forward_tape hay s stop) place (size_of ks) _ (union_is ks) refl)
+    (moves_none (joined_nfa ks) (forward_tape hay s stop) place (size_of ks) _ (union_is ks) (λ v r m. none_some m))
+    (past (joined_nfa ks) hay s stop (size_of ks) place (s + place) fits refl inside 0 0 ks (holds_all ks) same (omega arith)
+    (λ e. ap (λ v. hop_at v (truth (joined_nfa ks) (forward_tape hay s stop) place) (0 + e)) (union_is ks)
     ∙ ap (λ v. slice_get (starts_of 0 ks) v) (omega arith)))

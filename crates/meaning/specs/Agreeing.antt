@@ -3,7 +3,7 @@ use Rattle.std.specs.Prelude.{ℕ, suc, ◌≡◌, ◌+◌, ◌<◌, ◌≤◌, 
 use Rattle.regex_hir.specs.Looks as kit_looks
 use Rattle.regex_hir.specs.declared.look.Look as kit_look
 use Rattle.regex_hir.specs.Re.{Re}
-use Rattle.regex_compile.specs.Implements.{Implements}
+use Rattle.regex_compile.specs.Implements.{HasPaths, Implements}
 use Rattle.regex_nfa.specs.Run.{state_of}
 use Rattle.regex_nfa.specs.Sides.{is_unicode_look}
 use Rattle.regex_nfa.specs.declared.state.State.TheVariants as kit
@@ -31,16 +31,21 @@ abbrev pub Each : (kit_nfa.Nfa → Type 0) → List kit_nfa.Nfa → Type 0
 Each P [] = Unit {0}
 Each P (k ∷ ks) = P k × Each P ks
 
+-- From its start the NFA finds at each offset what the pattern means, and each way in which the pattern matches, be it
+-- preferred or not, is a path of it.
+abbrev pub HasMeaning : kit_nfa.Nfa → Re → Type 0
+HasMeaning k re = Implements k re × HasPaths k re
+
 -- Each NFA finds what its pattern means.
 abbrev pub ImplementAll : List kit_nfa.Nfa → List Re → Type 0
 ImplementAll [] [] = Unit {0}
 ImplementAll [] (re ∷ res) = ⊥
 ImplementAll (k ∷ ks) [] = ⊥
-ImplementAll (k ∷ ks) (re ∷ res) = Implements k re × ImplementAll ks res
+ImplementAll (k ∷ ks) (re ∷ res) = HasMeaning k re × ImplementAll ks res
 
 -- The NFA has the states of the kit's one, after `base` others, as pattern `p`; it reads forward, and lines end at
 -- `\n`.
-pub record Holds (n : Nfa) (base p : ℕ) (k : kit_nfa.Nfa) : Type 0 where
+pub record HasStatesOf (n : Nfa) (base p : ℕ) (k : kit_nfa.Nfa) : Type 0 where
   -- its states after `base` others are the states of the kit's NFA, in order
   pub nodes :
       (q : ℕ) → q < length k.states.items
@@ -53,7 +58,7 @@ pub record Holds (n : Nfa) (base p : ℕ) (k : kit_nfa.Nfa) : Type 0 where
 -- The NFA has the states of each of these, one after another, as patterns that are numbered from `p` on.
 abbrev pub HoldsAll : Nfa → (base p : ℕ) → List kit_nfa.Nfa → Type 0
 HoldsAll n base p [] = Unit {0}
-HoldsAll n base p (k ∷ ks) = Holds n base p k × HoldsAll n (base + length k.states.items) (suc p) ks
+HoldsAll n base p (k ∷ ks) = HasStatesOf n base p k × HoldsAll n (base + length k.states.items) (suc p) ks
 
 -- The pattern and the end of the least accepting path from `q` at place `p` of a span that begins at offset `s`, where
 -- these states were met at that place before; none if no path accepts.

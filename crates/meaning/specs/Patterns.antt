@@ -20,8 +20,8 @@ first_at [] hay i = 0
 first_at (re ∷ res) hay i = cond (is_some (attempt hay re accept i)) 0 (suc (first_at res hay i))
 
 -- A match of the alternation, with the number of its pattern.
-abbrev pub match_of : List Re → List ℕ → kit.Match → Match
-match_of res hay m = record { pattern = first_at res hay m.start; start = m.start; end = m.trace.end }
+abbrev pub numbered_match : List Re → List ℕ → kit.Match → Match
+numbered_match res hay m = record { pattern = first_at res hay m.start; start = m.start; end = m.trace.end }
 
 -- Its end alone, with the number.
 abbrev pub end_of : List Re → List ℕ → kit.Match → HalfMatch
@@ -30,6 +30,10 @@ end_of res hay m = record { pattern = first_at res hay m.start; offset = m.trace
 -- What the patterns find at or after an offset: in text if `utf8` is true, and else in bytes.
 abbrev pub find_any : (utf8 : Bool) → List Re → List ℕ → ℕ → Option kit.Match
 find_any utf8 res hay start = cond utf8 (kit.find_str (any_of res) hay start) (kit.find (any_of res) hay start)
+
+-- Whether a pattern matches some part of a haystack, by itself: in text if `utf8` is true, and else in bytes.
+abbrev pub is_found : (utf8 : Bool) → List ℕ → Re → Bool
+is_found utf8 hay re = is_some (find_any utf8 (re ∷ []) hay 0)
 
 -- What a search finds after a match that ended at `last`, where an empty match at `last` is skipped; and before any
 -- match.
@@ -40,7 +44,7 @@ next_by search (Some end) = kit.find_after search end
 -- The matches that are left, one after another, after one that ended at `last`; all of them, if there was none.
 abbrev pub left_by : (search : ℕ → Option kit.Match) → List Re → List ℕ → (last : Option ℕ) → List Match
 left_by search res hay last =
-    map (match_of res hay) (kit.matches_from search (length hay + 1) (next_by search last))
+    map (numbered_match res hay) (kit.matches_from search (length hay + 1) (next_by search last))
 
 -- The matches of these patterns that are left, in text if `utf8` is true, and else in bytes.
 abbrev pub left_any : (utf8 : Bool) → List Re → List ℕ → (last : Option ℕ) → List Match

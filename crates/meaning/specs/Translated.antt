@@ -76,8 +76,8 @@ starts_of base [] = []
 starts_of base (k ∷ ks) = (base + k.start) ∷ starts_of (base + length k.states.items) ks
 
 -- After the patterns come a union of their starts, and a loop that tries it and then skips a byte.
-abbrev pub nfa_of : List kit_nfa.Nfa → Nfa
-nfa_of ks = let union = size_of ks in record {
+abbrev pub joined_nfa : List kit_nfa.Nfa → Nfa
+joined_nfa ks = let union = size_of ks in record {
   nodes = nodes_of_all 0 0 ks
       ++ Split (starts_of 0 ks) ∷ Split (union ∷ (union + 2) ∷ []) ∷ any_byte (union + 1) ∷ [];
   terminator = 10;
@@ -86,9 +86,9 @@ nfa_of ks = let union = size_of ks in record {
 }
 
 -- It is searched leftmost first: over text if `utf8` is true, and else over bytes.
-abbrev pub engine : (utf8 : Bool) → List kit_nfa.Nfa → Engine
-engine utf8 ks = record {
-  nfa = nfa_of ks;
+abbrev pub joined_engine : (utf8 : Bool) → List kit_nfa.Nfa → Engine
+joined_engine utf8 ks = record {
+  nfa = joined_nfa ks;
   anchored = size_of ks;
   unanchored = size_of ks + 1;
   starts = starts_of 0 ks;

@@ -6,7 +6,6 @@ use Rattle.std.proofs.lemmas.List.Sums.{sum_by-append, sum_by-cons}
 use Rattle.std.proofs.lemmas.Option.{slice_get-get_or, slice_get-map}
 use Rattle.std.proofs.Math.Seq.{take-suc}
 use Rattle.regex_hir.specs.Re.{Re}
-use Rattle.regex_compile.specs.Implements.{Implements}
 use Rattle.regex_nfa.specs.Sizes.{table_bytes}
 use Rattle.regex_nfa.specs.declared.nfa.Nfa as kit_nfa
 use Rattle.regex_syntax.specs.declared.Config.{Config}
@@ -17,8 +16,8 @@ use Rattle.automata_base.specs.Nfas.Nodes.{Automaton}
 use Rattle.automata_base.specs.declared.nfa.thompson.Flags.{Flags}
 use Rattle.automata_base.specs.declared.nfa.thompson.State.{State}
 use Rattle.automata_base.specs.declared.util.search.MatchKind.TheVariants.{LeftmostFirst}
-use Rattle.meaning.specs.Agreeing.{Each, HasNoUnicodeLook, ImplementAll}
-use Rattle.meaning.specs.Translated.{engine, nfa_of, nodes_of, nodes_of_all, size_of, starts_of}
+use Rattle.meaning.specs.Agreeing.{Each, HasMeaning, HasNoUnicodeLook, ImplementAll}
+use Rattle.meaning.specs.Translated.{joined_engine, joined_nfa, nodes_of, nodes_of_all, size_of, starts_of}
 use Rattle.meaning.proofs.Lists.{our_nodes, length-our_nodes, length-starts_of, nodes_of_all_push, starts_of_push}
 use Rattle.meaning.proofs.Unions.{length-nodes_of_all}
 use Rattle.patterns.specs.Drafts.{Grows, Has, IsCompiled, IsDraftOf, IsLeft}
@@ -36,7 +35,7 @@ meanings_push config (x ∷ texts) [] text re are is = absurd are
 meanings_push config (x ∷ texts) (y ∷ res) text re are is = (are.0, meanings_push config texts res text re are.1 is)
 
 implement_push : (ks : List kit_nfa.Nfa) (res : List Re) (k : kit_nfa.Nfa) (re : Re) →
-    ImplementAll ks res → Implements k re → ImplementAll (ks ++ k ∷ []) (res ++ re ∷ [])
+    ImplementAll ks res → HasMeaning k re → ImplementAll (ks ++ k ∷ []) (res ++ re ∷ [])
 implement_push [] [] k re are is = (is, tt)
 implement_push [] (x ∷ res) k re are is = absurd are
 implement_push (x ∷ ks) [] k re are is = absurd are
@@ -114,7 +113,7 @@ meanings_count config [] (re ∷ res) are = absurd are
 meanings_count config (text ∷ texts) [] are = absurd are
 meanings_count config (text ∷ texts) (re ∷ res) are = ap suc (meanings_count config texts res are.1)
 
-implement_count : (ks : List kit_nfa.Nfa) (res : List Re) → ImplementAll ks res → length ks ≡ length res
+pub implement_count : (ks : List kit_nfa.Nfa) (res : List Re) → ImplementAll ks res → length ks ≡ length res
 implement_count [] [] are = refl
 implement_count [] (re ∷ res) are = absurd are
 implement_count (k ∷ ks) [] are = absurd are
@@ -158,7 +157,7 @@ abbrev tail_of : List kit_nfa.Nfa → List Node
 tail_of ks = Split (starts_of 0 ks) ∷ Split (size_of ks ∷ (size_of ks + 2) ∷ []) ∷ any_byte (size_of ks + 1) ∷ []
 
 pub within_limit : (o : Options) (texts : List (List ℕ)) (draft : Draft) (a : Automaton) (is : IsDraftOf o texts draft) →
-    engine_of a LeftmostFirst ≡ engine o.utf8 is.1 → IsWithinLimit o texts a
+    engine_of a LeftmostFirst ≡ joined_engine o.utf8 is.1 → IsWithinLimit o texts a
 within_limit o texts draft a is same =
     let states : length a.states ≡ length (nodes_of_all 0 0 is.1 ++ tail_of is.1) =
     sym (length-our_nodes a.states) ∙ ap (λ (e : Engine). length e.nfa.nodes) same in
@@ -192,7 +191,7 @@ pub finished : (draft : Draft) (ks : List kit_nfa.Nfa) (a : Automaton) (utf8 : B
     ∷ any_byte (length draft.states.items + 1) ∷ [] →
     a.start_pattern ≡ draft.starts.items → a.start_anchored ≡ length draft.states.items →
     a.start_unanchored ≡ length draft.states.items + 1 → a.flags ≡ record { utf8 = utf8; reverse = false; line_terminator = 10 } →
-    a.keeps_unions ≡ false → engine_of a LeftmostFirst ≡ engine utf8 ks
+    a.keeps_unions ≡ false → engine_of a LeftmostFirst ≡ joined_engine utf8 ks
 finished draft ks a utf8 has nodes starts anchored unanchored flags dropped =
     ap₂ (λ v (f : Flags). record {
       nfa = record { nodes = v; terminator = f.line_terminator; reverse = f.reverse; keeps_unions = a.keeps_unions };
@@ -203,16 +202,16 @@ finished draft ks a utf8 has nodes starts anchored unanchored flags dropped =
       kind = LeftmostFirst;
     }) (nodes ∙ all) flags
     ∙ ap (λ v. record {
-      nfa = record { nodes = (nfa_of ks).nodes; terminator = 10; reverse = false; keeps_unions = v };
+      nfa = record { nodes = (joined_nfa ks).nodes; terminator = 10; reverse = false; keeps_unions = v };
       anchored = a.start_anchored;
       unanchored = a.start_unanchored;
       starts = a.start_pattern;
       utf8 = utf8;
       kind = LeftmostFirst;
     }) dropped
-    ∙ ap₂ (λ v w. record { nfa = nfa_of ks; anchored = v; unanchored = w; starts = a.start_pattern; utf8 = utf8; kind = LeftmostFirst })
+    ∙ ap₂ (λ v w. record { nfa = joined_nfa ks; anchored = v; unanchored = w; starts = a.start_pattern; utf8 = utf8; kind = LeftmostFirst })
     (anchored ∙ count) (unanchored ∙ ap (λ v. v + 1) count)
-    ∙ ap (λ v. record { nfa = nfa_of ks; anchored = size_of ks; unanchored = size_of ks + 1; starts = v; utf8 = utf8; kind = LeftmostFirst })
+    ∙ ap (λ v. record { nfa = joined_nfa ks; anchored = size_of ks; unanchored = size_of ks + 1; starts = v; utf8 = utf8; kind = LeftmostFirst })
     (starts ∙ has.starts)
   where
     count : length draft.states.items ≡ size_of ks
@@ -223,7 +222,7 @@ finished draft ks a utf8 has nodes starts anchored unanchored flags dropped =
         ++ Split draft.starts.items
         ∷ Split (length draft.states.items ∷ (length draft.states.items + 2) ∷ [])
         ∷ any_byte (length draft.states.items + 1) ∷ []
-        ≡ (nfa_of ks).nodes
+        ≡ (joined_nfa ks).nodes
     all =
         ap₂ (λ v w. v ++ Split w ∷ Split (length draft.states.items ∷ (length draft.states.items + 2) ∷ [])
         ∷ any_byte (length draft.states.items + 1) ∷ []) has.nodes has.starts

@@ -3,3 +3,4 @@ mod Drafting
 mod Faults
 pub mod Items
 pub mod Searching
+pub mod Sets

@@ -22,7 +22,7 @@ use Rattle.regex_automata.specs.Spans.Iteration.{IsNextMatch}
 use Rattle.regex_automata.specs.Spans.OfPaths.{MatchesAreSpans}
 use Rattle.regex_automata.specs.declared.hybrid.regex.Regex.{Regex}
 use Rattle.meaning.specs.Agreeing.{Each, HasNoUnicodeLook, HasSameLooks}
-use Rattle.meaning.specs.Patterns.{IsFirstLeft, end_of, find_any, left_any, match_of, span_input}
+use Rattle.meaning.specs.Patterns.{IsFirstLeft, end_of, find_any, left_any, numbered_match, span_input}
 use Rattle.meaning.proofs.Ascii.{same_looks_ascii}
 use Rattle.meaning.proofs.Iterations.{end_is, item_left, span_is, truth_is}
 use Rattle.meaning.proofs.Looking.{same_looks}
@@ -46,14 +46,14 @@ looks_same ascii hay only (k ∷ ks) looks = (
 
 module _ (p : Regex) (o : Options) (res : List Re) (is : IsRegexOf o res p) (hay : List ℕ) (for : IsFor o hay) (bytes : IsHaystack hay) where
   -- each search has the span that is meant
-  spans : (s : ℕ) → IsSpan (forward_engine p) (span_input hay s (length hay)) (option_map (match_of res hay) (find_any o.utf8 res hay s))
+  spans : (s : ℕ) → IsSpan (forward_engine p) (span_input hay s (length hay)) (option_map (numbered_match res hay) (find_any o.utf8 res hay s))
   spans s =
-      subst (λ d. IsSpan d (span_input hay s (length hay)) (option_map (match_of res hay) (find_any o.utf8 res hay s))) (sym is.1.2)
+      subst (λ d. IsSpan d (span_input hay s (length hay)) (option_map (numbered_match res hay) (find_any o.utf8 res hay s))) (sym is.1.2)
       (any_means is.1.0 res is.1.1.0 hay (looks_same o.ascii hay for.1 is.1.0 is.1.1.1) o.utf8 bytes for.0
       (subst (λ d. KeepsUtf8 Forward d) is.1.2 is.0.utf8) s)
 
   pub find_means : (s : ℕ) (found : Option Match) → IsSpan (forward_engine p) (span_input hay s (length hay)) found →
-      found ≡ option_map (match_of res hay) (find_any o.utf8 res hay s)
+      found ≡ option_map (numbered_match res hay) (find_any o.utf8 res hay s)
   find_means s found h = span_is (forward_engine p) res hay (find_any o.utf8 res hay) spans s found h
 
   pub truth_means : (r : Result Bool SearchError) → IsTruthOf p (span_input hay 0 (length hay)) r →
@@ -78,7 +78,7 @@ module _ (p : Regex) (o : Options) (res : List Re) (is : IsRegexOf o res p) (hay
 pub found_means : (p : Regex) (hay : List ℕ) (s : ℕ) (input : Input) (r : Result (Option Match) SearchError) →
     input ≡ span_input hay s (length hay) → IsHaystack input.haystack → IsSpanOf p input r →
     IfOk r (λ found. (o : Options) (res : List Re) → IsRegexOf o res p → IsFor o hay →
-    found ≡ option_map (match_of res hay) (find_any o.utf8 res hay s))
+    found ≡ option_map (numbered_match res hay) (find_any o.utf8 res hay s))
 found_means p hay s input (Err e) same bytes h = tt
 found_means p hay s input (Ok found) same bytes h = λ o res is for.
     find_means p o res is hay for (subst (λ (v : Input). IsHaystack v.haystack) same bytes) s found

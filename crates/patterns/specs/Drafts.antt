@@ -3,10 +3,9 @@ use Rattle.std.specs.Prelude.{ℕ, ◌≡◌, ◌+◌, ◌-◌, ◌*◌, ◌≤�
 use Rattle.regex_nfa.specs.Sizes.{table_bytes}
 use Rattle.regex_nfa.specs.declared.nfa.Nfa as kit_nfa
 use Rattle.regex_hir.specs.Re.{Re}
-use Rattle.regex_compile.specs.Implements.{Implements}
 use Rattle.regex_syntax.specs.declared.Config.{Config}
 use Rattle.automata_base.specs.Nfas.Nodes as ours
-use Rattle.meaning.specs.Agreeing.{HasNoUnicodeLook}
+use Rattle.meaning.specs.Agreeing.{HasMeaning, HasNoUnicodeLook}
 use Rattle.meaning.specs.Translated.{nodes_of, nodes_of_all, starts_of}
 use Rattle.patterns.specs.Patterns.{AreMeanings, AreNfasOf, IsMeaning, config_of}
 use Rattle.patterns.specs.declared.compile.Draft.{Draft}
@@ -14,7 +13,7 @@ use Rattle.patterns.specs.declared.compile.Options.{Options}
 
 -- the NFA finds what the text means
 abbrev pub IsCompiled : Config → (text : List ℕ) → kit_nfa.Nfa → Type 0
-IsCompiled config text k = (re : Re) × IsMeaning config text re × Implements k re
+IsCompiled config text k = (re : Re) × IsMeaning config text re × HasMeaning k re
 
 -- one pattern more, for which room is taken
 pub record Grows (ascii : Bool) (old : Draft) (k : kit_nfa.Nfa) (new : Draft) : Type 0 where

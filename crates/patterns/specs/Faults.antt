@@ -85,21 +85,23 @@ IsNfaFault options texts error =
     IsFirstFault options texts error
     ⊎ (((res : List Re) × AreMeanings (config_of options) texts res) × (error.number ≡ 0) × IsJoinFault error.fault)
 
--- why their NFA has no regex, with the number 0: it is the error of the regex's builder
-pub record IsUnbuilt (options : Options) (texts : List (List ℕ)) (error : PatternError) : Type 0 where
-  -- The NFA that no regex is built of.
+-- why nothing is built of their NFA, with the number 0: it is the error of the builder. `Fails` says when that fails
+pub record IsUnbuilt (Fails : Automaton → RegexBuildError → Type 0) (options : Options) (texts : List (List ℕ))
+    (error : PatternError) : Type 0 where
+  -- The NFA that nothing is built of.
   pub nfa : Automaton
   -- It is that of the patterns of these texts.
   pub of : IsNfaOf options texts nfa
-  -- The error of the regex's builder.
+  -- The error of the builder.
   pub cause : RegexBuildError
-  -- It is why no regex is built of this NFA with the settings of these options.
-  pub is : IsBuildError (settings_of options) nfa cause
+  -- It is why the builder fails for this NFA.
+  pub is : Fails nfa cause
   -- The fault carries that error.
   pub fault : error.fault ≡ Unbuilt cause
   -- The error's number is 0, since it is about all texts.
   pub number : error.number ≡ 0
 
--- why texts have no regex
+-- why texts have no regex: they have no NFA, or no regex is built of it with the settings of these options
 abbrev pub IsPatternFault : Options → (texts : List (List ℕ)) → PatternError → Type 0
-IsPatternFault options texts error = IsNfaFault options texts error ⊎ IsUnbuilt options texts error
+IsPatternFault options texts error =
+    IsNfaFault options texts error ⊎ IsUnbuilt (IsBuildError (settings_of options)) options texts error

@@ -2,3 +2,4 @@ pub mod Patterns
 pub mod Drafts
 pub mod Faults
 pub mod Iteration
+pub mod Sets

@@ -12,7 +12,7 @@ use Rattle.regex_automata.specs.Promises.{IsLookAcyclic, IsSoundPair, LeftmostFi
 use Rattle.regex_automata.specs.Regexes.Builds.{BuildsOne}
 use Rattle.regex_automata.specs.declared.hybrid.regex.Regex.{Regex}
 use Rattle.meaning.specs.Agreeing.{Each, HasNoUnicodeLook, ImplementAll}
-use Rattle.meaning.specs.Translated.{engine}
+use Rattle.meaning.specs.Translated.{joined_engine}
 use Rattle.patterns.specs.declared.compile.Options.{Options}
 
 -- the options of `Options::default`
@@ -72,7 +72,7 @@ HasNoLookCycle nfa = IsLookAcyclic (nfa_of nfa)
 -- the NFA joins NFAs that find what these patterns mean
 abbrev pub IsJoinedNfa : Options → List Re → Automaton → Type 0
 IsJoinedNfa options res nfa =
-    (ks : List kit_nfa.Nfa) × AreNfasOf options ks res × (engine_of nfa LeftmostFirst ≡ engine options.utf8 ks)
+    (ks : List kit_nfa.Nfa) × AreNfasOf options ks res × (engine_of nfa LeftmostFirst ≡ joined_engine options.utf8 ks)
 
 -- the NFA is that of the patterns of these texts
 abbrev pub IsNfaOf : Options → (texts : List (List ℕ)) → Automaton → Type 0
@@ -93,11 +93,11 @@ settings_of options = settings.overwritten settings.unset
 abbrev pub IsRegexOf : Options → List Re → Regex → Type 0
 IsRegexOf options res regex =
     IsSoundPair regex
-    × ((ks : List kit_nfa.Nfa) × AreNfasOf options ks res × (forward_engine regex ≡ engine options.utf8 ks))
+    × ((ks : List kit_nfa.Nfa) × AreNfasOf options ks res × (forward_engine regex ≡ joined_engine options.utf8 ks))
 
 -- the regex is that of the patterns of these texts
-abbrev pub IsPatternOf : Options → (texts : List (List ℕ)) → Regex → Type 0
-IsPatternOf options texts regex =
+abbrev pub IsRegexOfTexts : Options → (texts : List (List ℕ)) → Regex → Type 0
+IsRegexOfTexts options texts regex =
     (res : List Re) × AreMeanings (config_of options) texts res × IsRegexOf options res regex
 
 -- the regex is built of the NFA of these texts, which is within the size limit, by the settings of these options

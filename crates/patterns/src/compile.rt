@@ -8,7 +8,7 @@ ghost use Rattle.regex_automata.specs.Promises.{LeftmostFirst, engine_of};
 ghost use Rattle.regex_nfa.specs.Sizes as sizes;
 ghost use Rattle.regex_nfa.specs.declared.nfa.Nfa as kit_nfa;
 ghost use Rattle.regex_syntax.specs.Verdict.{Reads};
-ghost use Rattle.meaning.specs.Translated.{engine};
+ghost use Rattle.meaning.specs.Translated.{joined_engine};
 ghost use Rattle.patterns.specs.Drafts.{Grows, Has, IsCompiled, IsDraftOf};
 ghost use Rattle.patterns.specs.Faults.{IsAddFault, IsFaultOf, IsFirstFault, IsJoinFault, IsNfaFault, IsOfSize};
 ghost use Rattle.patterns.specs.Patterns.{HasNoLookCycle, IsNfaOf, IsWithinLimit, config_of};
@@ -242,7 +242,7 @@ impl Draft {
     /// The NFA of all patterns.
     fn finish(&mut self, alloc: Global, utf8: bool) -> Result<NFA, Fault>
         ensures joined { IfOk result (λ nfa. (ks : List kit_nfa.Nfa) → Has self.old ks
-            → engine_of nfa LeftmostFirst ≡ engine utf8 ks) }
+            → engine_of nfa LeftmostFirst ≡ joined_engine utf8 ks) }
         ensures refused { IfErr result IsJoinFault }
     {
         let start = id_of(self.states.len())?;

@@ -27,7 +27,7 @@ pub enum Fault {
     /// The library refused the states.
     #[error("{0}")]
     Refused(NfaError),
-    /// No regex could be built of the NFA.
+    /// No regex, or no DFA of a set, could be built of the NFA.
     #[error("{0}")]
     Unbuilt(RegexBuildError),
     /// An allocation failed.

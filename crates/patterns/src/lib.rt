@@ -4,20 +4,25 @@
 //! those of the library, and joins the patterns by one union: a pattern's number is its place in the list, and where two
 //! match at one offset, the first one is preferred. The tables of all patterns take at most `Options::size_limit` bytes
 //! and 24 more for each. What is wrong with a text is a `PatternError`, which has the pattern's number and, for an error
-//! of the parser, the bytes that it is about. `Pattern` is a regex of this NFA.
+//! of the parser, the bytes that it is about. `Pattern` is a regex of this NFA; `RegexSet` is a DFA of it, which reports
+//! all patterns that match.
 //!
-//! It is proved that what `Pattern` finds is what the texts mean, by the kit's grammar and its specification of matching
+//! It is proved that what these find is what the texts mean, by the kit's grammar and its specification of matching
 //! (`specs/Patterns.antt`; the lemmas are those of `meaning`). That these are what Rust's regex crate does is the
 //! kit's claim. Groups are read, and what they capture is not found.
 #![tactic(auto)]
 
 mod compile;
 mod error;
+pub mod laws;
 mod matches;
 mod pattern;
+mod set;
+mod threads;
 mod translate;
 
 pub use compile::{Options, nfa_of};
 pub use error::{Fault, PatternError};
 pub use matches::Matches;
 pub use pattern::Pattern;
+pub use set::RegexSet;

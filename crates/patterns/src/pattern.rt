@@ -12,10 +12,10 @@ ghost use Rattle.regex_automata.specs.Promises.{IsSearchRun, IsSpanRun, IsTruthR
 ghost use Rattle.regex_automata.specs.Spans.Runs.{IsNextRun};
 ghost use Rattle.regex_automata.specs.Regexes.Builds.{BuildsOne, IsBuildError};
 ghost use Rattle.regex_automata.specs.Regexes.Caches.{AreFresh};
-ghost use Rattle.meaning.specs.Patterns.{end_of, find_any, match_of, span_input};
+ghost use Rattle.meaning.specs.Patterns.{end_of, find_any, numbered_match, span_input};
 ghost use Rattle.patterns.specs.Iteration.{IsNextMeant, rest_of};
 ghost use Rattle.patterns.specs.Faults.{IsPatternFault};
-ghost use Rattle.patterns.specs.Patterns.{IsBuiltOf, IsFor, IsJoinedNfa, IsPatternOf, IsRegexOf, settings_of};
+ghost use Rattle.patterns.specs.Patterns.{IsBuiltOf, IsFor, IsJoinedNfa, IsRegexOfTexts, IsRegexOf, settings_of};
 ghost use Rattle.patterns.specs.declared.compile.Options as options;
 
 use crate::compile::{Options, nfa_of};
@@ -64,7 +64,7 @@ fn rest<'h>(hay: &'h [u8], start: usize) -> Input<'h>
 impl Pattern {
     /// The pattern of a text.
     pub fn new(alloc: Global, text: &str, options: &Options) -> Result<Pattern, PatternError>
-        ensures meant { IfOk result (λ pattern. IsPatternOf options.now (text.now ∷ []) pattern.regex) }
+        ensures meant { IfOk result (λ pattern. IsRegexOfTexts options.now (text.now ∷ []) pattern.regex) }
         ensures built { IfOk result (λ pattern. IsBuiltOf options.now (text.now ∷ []) pattern.regex) }
         ensures refused { IfErr result (IsPatternFault options.now (text.now ∷ [])) }
     {
@@ -74,7 +74,7 @@ impl Pattern {
     /// The patterns of texts, in which each has its place in the list as its number.
     pub fn any_of(alloc: Global, texts: &[&str], options: &Options) -> Result<Pattern, PatternError>
         ensures meant { IfOk result (λ pattern.
-            IsPatternOf options.now (map (λ text. text.now) texts.now) pattern.regex) }
+            IsRegexOfTexts options.now (map (λ text. text.now) texts.now) pattern.regex) }
         ensures built { IfOk result (λ pattern.
             IsBuiltOf options.now (map (λ text. text.now) texts.now) pattern.regex) }
         ensures refused { IfErr result (IsPatternFault options.now (map (λ text. text.now) texts.now)) }
@@ -138,7 +138,7 @@ impl Pattern {
         ensures returned { IsSpanOf self.now.regex (span_input hay.now start (length hay.now)) result }
         ensures found { IfOk result (λ found. (o : options.Options) (res : List Re)
             → IsRegexOf o res self.now.regex → IsFor o hay.now
-            → found ≡ option_map (match_of res hay.now) (find_any o.utf8 res hay.now start)) }
+            → found ≡ option_map (numbered_match res hay.now) (find_any o.utf8 res hay.now start)) }
         ensures effect { IsSpanRun self.now.regex (span_input hay.now start (length hay.now)) cache.old cache.new
             (result_err result) }
     {

@@ -78,6 +78,7 @@ fn ranges_of(
     ensures refused { IfErr result IsOfSize }
 {
     let mut ranges = Vec::new(alloc);
+    ranges.reserve_exact(own.len())?;
     for t in own {
         let next = shifted(origin, t.next)?;
         let (lo, hi) = (t.start, t.end);
@@ -147,6 +148,7 @@ pub(crate) fn push_states(
         ++ translated.nodes_of origin.now.base origin.now.pattern nfa.now.transitions.items nfa.now.states.items) }
     ensures refused { IfErr result IsOfSize }
 {
+    states.reserve(nfa.states.len())?;
     for state in &nfa.states {
         let own = state_of(alloc, nfa, origin, *state)?;
         states.push(own)?;
