@@ -3,16 +3,20 @@
 
     tools/c.py ['N passed, M failed']
 
-Every call, right and with every wrong argument (calls.c, texts.c); each allocation refused in turn (faults.c); the
-script of the program `lazydfa` by a C program (script.c), which has to print what `lazydfa` does; the example grep.c,
-which has to print what `grep -E` does, if there is one; the header in C++, if there is a C++ compiler; and the programs
-of docs/C.md, which have to print what is said there. Each C program is compiled twice, the second time under the
-address and undefined behaviour sanitizers, if the compiler has them.
+Every call, right and with every wrong argument (calls.c, texts.c, pieces.c, walks.c); each allocation refused in turn
+(faults.c); four threads over one regex (threads.c), under helgrind too if there is one; the script of the program
+`lazydfa` by a C program (script.c), which has to print what `lazydfa` does; the example grep.c, which has to print what
+`grep -E` does, if there is one; and the programs of docs/C.md, which have to print what is said there. Each C program
+is compiled twice, the second time under the address and undefined behaviour sanitizers, if the compiler has them.
 
-The last line counts these too, beside what the given line counts. It needs Python 3, the kit's rt, make, ar and cc. The
-library stands on the crates as `rt ci` proved and left them, if it did so since they were last changed, and else as
-`rt lib` makes them, which first proves what was not proved yet. What it proves of the library's own crate is kept in
-its out/, as `rt check` keeps it, and `tools/wrong.py` begins with that.
+Then the symbols of the archive and of the shared library, programs over the shared library, the version, what is
+installed and removed, calls with arguments in a wrong order, which the compiler has to refuse, the header in C++ if
+there is a C++ compiler, and the pkg-config file if there is that program.
+
+The last line counts these too, beside what the given line counts. It needs Python 3, the kit's rt, make, cc and
+binutils. The library stands on the crates as `rt ci` proved and left them, if it did so since they were last changed,
+and else as `rt lib` makes them, which first proves what was not proved yet. What it proves of the library's own crate
+is kept in its out/, as `rt check` keeps it, and `tools/wrong.py` begins with that.
 """
 import os
 import re
@@ -27,6 +31,31 @@ C = f"{TOP}/bindings/c"
 STRICT = ["-std=c99", "-Wall", "-Wextra", "-pedantic", "-Werror", "-O1", "-g"]
 SANITIZED = ["-fsanitize=address,undefined", "-fno-sanitize-recover=all"]
 REFUSING = ["-Wl,--wrap=malloc,--wrap=realloc,--wrap=free"]
+HELGRIND = ["valgrind", "--tool=helgrind", "--error-exitcode=9", "--quiet"]
+# What the library calls.
+NEEDS = ["free", "malloc", "memcpy", "memmove", "memset", "realloc"]
+# Calls of a builder, of which the compiler takes the first, and none of the others.
+ORDERS = [
+    "lazydfa_add_range(&b, 'a', 'z', id, &id), lazydfa_add_look(&b, LAZYDFA_LOOK_END, id, &id)",
+    "lazydfa_add_range(&b, id, 'a', 'z', &id)",
+    "lazydfa_add_range(&b, 'a', id, 'z', &id)",
+    "lazydfa_add_range(&b, 'a', 'z', pattern, &id)",
+    "lazydfa_add_look(&b, id, LAZYDFA_LOOK_END, &id)",
+    "lazydfa_add_capture_start(&b, id, 0, &id)",
+    "lazydfa_add_capture_end(&b, id, 0, &id)",
+    "lazydfa_finish_pattern(&b, pattern, &pattern)",
+    "lazydfa_finish_pattern(&b, id, &id)",
+    "lazydfa_patch(&b, pattern, id)",
+]
+# What is installed, below the folder for libraries or the one for headers.
+INSTALLED = [
+    "include/lazydfa.h",
+    "lib/liblazydfa.a",
+    "lib/liblazydfa.so",
+    "lib/liblazydfa.so.0",
+    "lib/liblazydfa.so.{version}",
+    "lib/pkgconfig/lazydfa.pc",
+]
 # Arguments of grep.c, to which `grep -E` has to answer the same.
 GREPS = [
     ["-c", "-e", "lazy", "-e", "[0-9]{2,}", "README.md", "docs/C.md"],
@@ -87,8 +116,8 @@ def archive(room):
     for name in below:
         words += ["-L", f"dependency={os.path.dirname(rlib(name))}"]
     words += ["--antt-project", f"{KIT}/rattle/logic/antt-project.json", "--logic-built", f"{KIT}/logic_built"]
-    words += ["--jobs", "1", "--links", "lazydfa_c=", "--toolchain", f"{KIT}/toolchain", "--backend", "llvm", "-o", made]
-    words += ["--incremental", "out/incremental"]
+    words += ["--jobs", "1", "--links", "lazydfa_c=", "--toolchain", f"{KIT}/toolchain", "--backend", "llvm"]
+    words += ["-o", made, "--incremental", "out/incremental"]
     # A build writes its verdict to standard error.
     how = {"cwd": f"{TOP}/crates/lazydfa_c", "stdin": subprocess.DEVNULL, "stdout": subprocess.PIPE}
     ran = subprocess.run([f"{KIT}/bin/rattle", "build", *words], stderr=subprocess.STDOUT, errors="replace", **how)
@@ -99,8 +128,11 @@ def archive(room):
 
 def programs():
     """Returns the programs of docs/C.md: the name of each, its text, and what it prints."""
-    program = r"`(\w+)\.c`:\n\n```c\n(.*?)```\n\n[^\n]*prints:\n\n```text\n(.*?)```"
-    return re.findall(program, text("docs/C.md"), re.S) or [("none", "", "")]
+    document = text("docs/C.md")
+    found = re.findall(r"`(\w+)\.c`:\n\n```c\n(.*?)```\n\n[^\n]*prints:\n\n```text\n(.*?)```", document, re.S)
+    is_each = len(found) == document.count("\nint main(") > 0
+    # One that is not in this form is counted as one that does not compile.
+    return found if is_each else [*found, ("another", "", "")]
 
 
 class Tests:
@@ -109,31 +141,38 @@ class Tests:
     def __init__(self, room):
         self.room, self.passed, self.failed = room, 0, 0
         self.include, self.archive = f"{room}/include", f"{room}/lib/liblazydfa.a"
+        self.shared = f"{room}/lib/liblazydfa.so"
+        header = text("bindings/c/include/lazydfa.h")
+        self.exports = sorted(re.findall(r"^lazydfa_status (lazydfa_raw_\w+)\(", header, re.M))
+        self.version = (re.search(r'^#define LAZYDFA_VERSION "(.*)"$', header, re.M) or [0, ""])[1]
 
     def count(self, name, fault):
         print(f"{name}: {fault or 'passed'}", flush=True)
         self.passed, self.failed = self.passed + (not fault), self.failed + bool(fault)
 
-    def compile(self, source, flags):
+    def compile(self, source, flags, library=None):
         """Compiles a program, and returns its path, or nothing and what is wrong."""
         target = f"{self.room}/program"
-        words = ["cc", *STRICT, *flags, f"-I{self.include}", "-o", target, source, self.archive]
+        words = ["cc", *STRICT, *flags, f"-I{self.include}", "-o", target, source, library or self.archive]
         status, out, err = run(words)
         return ("", f"it does not compile\n{out}{err}") if status else (target, "")
 
+    def write(self, name, source):
+        """Writes a source of a program, and returns its path."""
+        with open(f"{self.room}/{name}", "w", encoding="utf-8") as it:
+            it.write(source)
+        return f"{self.room}/{name}"
+
     def has(self, flags):
         """Whether the compiler has these flags, and what it makes with them runs."""
-        source = f"{self.room}/nothing.c"
-        with open(source, "w", encoding="utf-8") as it:
-            it.write("int main(void) { return 0; }\n")
-        target, _ = self.compile(source, flags)
+        target, _ = self.compile(self.write("nothing.c", "int main(void) { return 0; }\n"), flags)
         return bool(target) and not run([target])[0]
 
-    def try_program(self, name, source, flags, stdin="", prints=None):
+    def try_program(self, name, source, flags, stdin="", prints=None, under=(), words=(), library=None):
         """Compiles and runs a program, which has to end with status 0, and to print this if it is given."""
-        target, fault = self.compile(source, flags)
+        target, fault = self.compile(source, flags, library)
         if target:
-            status, out, err = run([target], stdin)
+            status, out, err = run([*under, target, *words], stdin)
             if status or err or prints not in (None, out):
                 fault = f"status {status}\n{differing(out, prints)}{err}"
         self.count(name, fault)
@@ -141,15 +180,17 @@ class Tests:
     def try_all(self, kind, flags):
         self.try_program(f"calls{kind}", f"{C}/tests/calls.c", flags)
         self.try_program(f"texts{kind}", f"{C}/tests/texts.c", ["-pthread", *flags])
+        self.try_program(f"pieces{kind}", f"{C}/tests/pieces.c", flags)
+        self.try_program(f"walks{kind}", f"{C}/tests/walks.c", flags)
         self.try_program(f"faults{kind}", f"{C}/tests/faults.c", [*REFUSING, *flags])
+        self.try_program(f"threads{kind}", f"{C}/tests/threads.c", ["-pthread", *flags])
         script, replies = text("crates/lazydfa/stdin"), text("crates/lazydfa/stdout")
         self.try_program(f"script{kind}", f"{C}/tests/script.c", flags, script, replies)
         if shutil.which("grep"):
             self.try_grep(f"grep{kind}", flags)
         for name, source, prints in programs():
-            with open(f"{self.room}/{name}.c", "w", encoding="utf-8") as it:
-                it.write(source)
-            self.try_program(f"{name}.c of docs/C.md{kind}", f"{self.room}/{name}.c", flags, "", prints)
+            path = self.write(f"{name}.c", source)
+            self.try_program(f"{name}.c of docs/C.md{kind}", path, ["-pthread", *flags], "", prints)
 
     def try_grep(self, name, flags):
         """Compares what grep.c prints, and its status, with what `grep -E` does."""
@@ -168,11 +209,73 @@ class Tests:
         self.count("the header in C++", f"it does not compile\n{out}{err}" if status else "")
 
     def try_package(self):
-        """The installed pkg-config file names the header's folder and the library."""
+        """The installed pkg-config file names the header's folder, the library, the archive and the version."""
         os.environ["PKG_CONFIG_PATH"] = f"{self.room}/lib/pkgconfig"
-        status, out, err = run(["pkg-config", "--cflags", "--libs", "lazydfa"])
-        wanted = f"-I{self.include} -L{self.room}/lib -llazydfa"
-        self.count("pkg-config", "" if not status and out.strip() == wanted else f"{out}{err}")
+        asked = ["--cflags", "--libs", "--variable=archive", "--modversion"]
+        wanted = [f"-I{self.include}", f"-L{self.room}/lib -llazydfa", self.archive, self.version]
+        said = [run(["pkg-config", it, "lazydfa"]) for it in asked]
+        self.count("pkg-config", "" if [it[1].strip() for it in said] == wanted else f"{said}")
+
+    def try_symbols(self):
+        """The archive and the shared library define what the header declares, and nothing else that others see."""
+        fault = ""
+        for words in (["nm", "-g", self.archive], ["nm", "-D", self.shared]):
+            symbols = [it.split()[-2:] for it in run(words)[1].splitlines() if " " in it.strip()]
+            defined = sorted(name.partition("@")[0] for kind, name in symbols if kind not in "UwvA")
+            used = sorted(name.partition("@")[0] for kind, name in symbols if kind == "U")
+            if defined != self.exports or used != NEEDS:
+                fault += f"{words[-1]} defines {defined} and uses {used}\n"
+        if "Library soname: [liblazydfa.so.0]" not in run(["readelf", "-d", self.shared])[1]:
+            fault += "the shared library has another name"
+        self.count("symbols", fault)
+
+    def try_shared(self):
+        """Programs run with the shared library, and beside another library with heap functions of the kit's names."""
+        found = ["-pthread", f"-Wl,-rpath,{self.room}/lib"]
+        self.try_program("calls, shared", f"{C}/tests/calls.c", found, library=self.shared)
+        self.try_program("texts, shared", f"{C}/tests/texts.c", found, library=self.shared)
+        others = "".join(f"void *rattle_{it}(void) {{ return NULL; }}\n" for it in ("alloc", "realloc", "dealloc"))
+        declared = "".join(f"void *rattle_{it}(void);\n" for it in ("alloc", "realloc", "dealloc"))
+        name, source, prints = programs()[0]
+        path = self.write("beside.c", f"#include <stddef.h>\n{declared}{others}{source}")
+        self.try_program(f"{name}.c beside another library", path, [], "", prints)
+
+    def try_version(self):
+        """The header's four words for its version say one thing."""
+        parts = "LAZYDFA_VERSION_MAJOR, LAZYDFA_VERSION_MINOR, LAZYDFA_VERSION_PATCH"
+        source = "#include <lazydfa.h>\n#include <stdio.h>\nint main(void) {\n"
+        source += f'    printf("%s %d.%d.%d\\n", LAZYDFA_VERSION, {parts});\n    return 0;\n}}\n'
+        self.try_program("version", self.write("version.c", source), [], "", f"{self.version} {self.version}\n")
+
+    def try_orders(self):
+        """The compiler takes arguments in their order, and in no other one that the header's types tell."""
+        fault = ""
+        for number, calls in enumerate(ORDERS):
+            source = "#include <lazydfa.h>\nint main(void) {\n    lazydfa_builder b = LAZYDFA_INIT;\n"
+            source += "    lazydfa_state_id id = { 0 };\n    uint32_t pattern = 0;\n"
+            source += f"    {calls};\n    return (int)(id.number + pattern);\n}}\n"
+            target, wrong = self.compile(self.write("orders.c", source), [])
+            if bool(target) != (number == 0):
+                fault += f"{calls}: {wrong or 'it compiles'}\n"
+        self.count("orders of arguments", fault)
+
+    def try_install(self):
+        """What is built is installed below DESTDIR without rt, and removed again."""
+        stage = f"{self.room}/stage"
+        how = ["PREFIX=/it", "LIBDIR=/it/lib", f"DESTDIR={stage}", "CRATE=/none", "KIT=/none"]
+        status, out, err = run(["make", "-C", C, "install", *how])
+        wanted = sorted(f"{stage}/it/{it.format(version=self.version)}" for it in INSTALLED)
+        fault = f"{out}{err}" if status or files(stage) != wanted else ""
+        if not fault:
+            with open(f"{stage}/it/lib/pkgconfig/lazydfa.pc", encoding="utf-8") as it:
+                fault = "the pkg-config file names the stage" if stage in it.read() else ""
+        status, out, err = run(["make", "-C", C, "uninstall", *how])
+        self.count("install and uninstall", fault or (f"{out}{err}" if status or files(stage) else ""))
+
+
+def files(folder):
+    """Returns the files and links below a folder."""
+    return sorted(f"{at}/{it}" for at, _, inside in os.walk(folder) for it in inside)
 
 
 def differing(out, prints):
@@ -191,12 +294,22 @@ def main(words):
     passed, failed = (int(counted[1]), int(counted[2])) if counted else (0, 1)
     with tempfile.TemporaryDirectory(prefix="c-") as room:
         tests = Tests(room)
-        status, out, err = run(["make", "-C", C, "install", f"PREFIX={room}", "DESTDIR=", *archive(room)], seconds=7200)
+        status, out, err = run(["make", "-C", C, *archive(room)], seconds=7200)
+        if not status:
+            status, out, err = run(["make", "-C", C, "install", f"PREFIX={room}", "DESTDIR="])
         tests.count("the library for C", f"it was not built\n{out}{err}" if status else "")
         if not status:
             tests.try_all("", [])
             if tests.has(SANITIZED):
                 tests.try_all(", sanitized", SANITIZED)
+            if not run(["valgrind", "--version"])[0]:
+                held = {"under": HELGRIND, "words": ["held"]}
+                tests.try_program("threads, by helgrind", f"{C}/tests/threads.c", ["-pthread"], **held)
+            tests.try_symbols()
+            tests.try_shared()
+            tests.try_version()
+            tests.try_orders()
+            tests.try_install()
             if not run(["c++", "--version"])[0]:
                 tests.try_header()
             if not run(["pkg-config", "--version"])[0]:

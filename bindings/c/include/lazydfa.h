@@ -16,8 +16,8 @@
  *     lazydfa_cache_close(&cache);
  *     lazydfa_regex_close(&regex);
  *
- * lazydfa_regex_any_of makes one of many patterns. Or a program builds an NFA state by state, with a lazydfa_builder, and
- * makes a regex of that by lazydfa_regex_build.
+ * lazydfa_regex_any_of makes one of many patterns. Or a program builds an NFA state by state, with a lazydfa_builder,
+ * and makes a regex of that by lazydfa_regex_build.
  *
  * Each call returns a status: a code, and for some codes an offset and a byte. No call aborts, and no call ends the
  * process. If an allocation that a call needs fails, the code is LAZYDFA_MEMORY; the call may be made again.
@@ -32,27 +32,31 @@
  *     LAZYDFA_MEMORY     an allocation failed
  *
  * After an error each handle owns what it owned before, and a builder, a regex and a cache are as good as before: the
- * same cache serves other searches. An out parameter is written only where its call says so; it need not be initialised.
+ * same cache serves other searches. An out parameter is written only where its call says so; it need not be
+ * initialised.
  *
  * What the program has to keep, since no library can see it. If it breaks one of these, the behaviour is undefined:
  *
  *   1. A handle begins as LAZYDFA_INIT. The program does not write to it afterwards, and does not use a copy of an open
  *      one: to close both would free one object twice. (Moving it, as by memcpy, is allowed if the old one is no longer
  *      used.) A handle that is never closed leaks its object, and no more.
- *   2. A pointer that is not null points to what its type says, and to as many of these as the length beside it says, in
- *      one object of at most PTRDIFF_MAX bytes, aligned as the type asks. What is read (a haystack, an input, settings,
- *      edges, alternates, an iteration) is initialised.
+ *   2. A pointer that is not null points to what its type says, and to as many of these as the length beside it says,
+ *      in one object of at most PTRDIFF_MAX bytes, aligned as the type asks. What is read (a haystack, an input,
+ *      settings, edges, alternates, an iteration) is initialised.
  *   3. During a call nothing else writes to what the call reads, and nothing else reads or writes what it writes. What
  *      one call writes to (a handle, an iteration, an out parameter) does not overlap anything else that it is given.
- *   4. Calls with a regex and with its caches do not overlap in time: they share counts that are not atomic. So a
- *      regex and its caches stay on one thread, or the program orders its threads. Other regexes are independent, also
- *      those of the same builder.
+ *   4. Calls with one handle do not overlap in time, and its close is one of these. Calls with different handles may,
+ *      on any threads, even if they share a regex: what they share is counted atomically, and not written otherwise. So
+ *      lazydfa_regex_share gives each thread a handle of its own on a regex, and each thread makes caches of its own.
+ *      Any thread may use or close any handle, that of a cache too, if the program orders this after the handle's call
+ *      before, as by a mutex or a join.
  *   5. No call is made from a signal handler, and none is left by longjmp or by an exception of a replaced malloc.
  *   6. malloc, realloc and free, which the library calls, are those of one allocator, as the C standard has them; a
  *      handle is used and closed in the process, and over the allocator, that opened it.
- *   7. This header is that of the archive which is linked, and the compiler passes arguments as the System V ABI of
- *      x86-64 has it. The stack has room for a call: 16 KiB are enough, whatever the NFA, and for a pattern's text 1 KiB
- *      more for each level that it may nest, since groups are read by calls within calls: 48 KiB by default.
+ *   7. This header is that of the library which is linked, and the compiler passes arguments as the System V ABI of
+ *      x86-64 has it. The processor has the instructions of x86-64-v2, of which SSSE3 and SSE4.1 are used. The stack
+ *      has room for a call: 16 KiB are enough, whatever the NFA, and for a pattern's text 1 KiB more for each level it
+ *      may nest, since groups are read by calls within calls: 48 KiB by default.
  *
  * Nothing else is asked of the program: every number is allowed in every argument.
  */
@@ -63,6 +67,12 @@
 #include <stdint.h>
 #include <stdlib.h>
 #include <string.h>
+
+/* The version of the library that this header belongs to. */
+#define LAZYDFA_VERSION "0.1.0"
+#define LAZYDFA_VERSION_MAJOR 0
+#define LAZYDFA_VERSION_MINOR 1
+#define LAZYDFA_VERSION_PATCH 0
 
 #ifdef __cplusplus
 extern "C" {
@@ -90,13 +100,14 @@ enum lazydfa_code {
     LAZYDFA_START_RANGE = 16,    /* a start state does not exist */
     LAZYDFA_PATTERN_RANGE = 17,  /* a match state has a pattern that does not exist */
     LAZYDFA_RANGES = 18,         /* the ranges of bytes of a state are not in order */
-    LAZYDFA_NOT_LAZY = 20,       /* the unanchored start does not skip lazily: lazydfa_add_unanchored_prefix makes one */
+    LAZYDFA_NOT_LAZY = 20,       /* the unanchored start does not skip lazily; lazydfa_add_unanchored_prefix does */
     LAZYDFA_NOT_UTF8 = 22,       /* in UTF-8 mode a match may be invalid UTF-8 */
     LAZYDFA_STARTS = 23,         /* the starts differ in the empty match, so that the NFA cannot be reversed */
     LAZYDFA_UNSUPPORTED = 24,    /* a Unicode word boundary, without the setting for it */
     LAZYDFA_CAPACITY = 25,       /* the cache capacity is too small; the offset is one that is enough */
     LAZYDFA_STATE_IDS = 26,      /* the smallest table is too large; the offset is the ID that does not fit */
     LAZYDFA_PATTERN_COUNTS = 27, /* the two NFAs of a pair do not have equally many patterns */
+    LAZYDFA_ONE_START = 28,      /* both starts are one state, which always_anchored of the settings would allow */
 
     /* of a search */
     LAZYDFA_QUIT = 30,           /* the search met a quit byte, at the offset */
@@ -104,6 +115,10 @@ enum lazydfa_code {
     LAZYDFA_ANCHORED = 32,       /* the regex was not built for this anchored mode */
     LAZYDFA_NOT_A_PAIR = 33,     /* the second NFA of a pair finds no start for a match of the first */
     LAZYDFA_NO_TOKEN = 34,       /* at the offset no pattern matches, or only the empty string does */
+
+    /* of a search or a walk in pieces */
+    LAZYDFA_SKIPS = 35,          /* the regex matches the empty string, but not inside a character of UTF-8 */
+    LAZYDFA_NOT_BEGUN = 36,      /* no search in pieces, or no walk, was begun over the cache */
 
     /* of a pattern's text */
     LAZYDFA_SYNTAX = 40,         /* it is no pattern: the offset is that in the text of what is wrong */
@@ -184,6 +199,14 @@ typedef struct {
     uint32_t reserved;
 } lazydfa_half;
 
+/* Where a walk over a haystack in pieces stands: how many bytes of the piece the call has read, and how many patterns
+   match up to the offset, which counts only if there are some. */
+typedef struct {
+    size_t read;
+    size_t offset;
+    size_t patterns;
+} lazydfa_stop;
+
 /* What is left to be searched, the end of the last match if there was one, and whether the iteration has ended. */
 typedef struct {
     lazydfa_input left;
@@ -192,17 +215,21 @@ typedef struct {
     uint32_t ended;
 } lazydfa_iteration;
 
+/* A state of a builder, by its number. It is a struct, so that no compiler takes a number of something else for it. */
+typedef struct { uint32_t number; } lazydfa_state_id;
+
 /* A range of bytes, both ends included, and the state that it leads to. */
 typedef struct {
     uint8_t lo, hi;
     uint16_t reserved;
-    uint32_t next;
+    lazydfa_state_id next;
 } lazydfa_edge;
 
-/* The states in which searches start: anchored ones, and the others. If both are one state, every search is anchored. */
+/* The states in which searches start: anchored ones, and the others. lazydfa_add_unanchored_prefix makes the second of
+   the first. If both are one state, every search is anchored, which the settings have to allow (always_anchored). */
 typedef struct {
-    uint32_t anchored;
-    uint32_t unanchored;
+    lazydfa_state_id anchored;
+    lazydfa_state_id unanchored;
 } lazydfa_starts;
 
 /* Zeros are the default settings. A number counts only if its has_ member is not 0. Of the others 0 is no, else yes. */
@@ -219,7 +246,7 @@ typedef struct {
     uint32_t unicode_word_boundary;     /* allowed; the bytes from 0x80 on are quit bytes where there is one */
     uint32_t specialize_start_states;
     uint32_t skip_cache_capacity_check; /* raises a capacity that is too small */
-    uint32_t reserved;
+    uint32_t always_anchored;           /* a builder's two starts may be one state: every search is anchored then */
 } lazydfa_settings;
 
 typedef struct {
@@ -281,8 +308,8 @@ lazydfa_status lazydfa_raw_add_empty(lazydfa_handle *, uint32_t *);
 lazydfa_status lazydfa_raw_add_range(lazydfa_handle *, uint8_t, uint8_t, uint32_t, uint32_t *);
 lazydfa_status lazydfa_raw_add_sparse(lazydfa_handle *, const lazydfa_edge *, size_t, uint32_t *);
 lazydfa_status lazydfa_raw_add_look(lazydfa_handle *, uint32_t, uint32_t, uint32_t *);
-lazydfa_status lazydfa_raw_add_union(lazydfa_handle *, const uint32_t *, size_t, uint32_t *);
-lazydfa_status lazydfa_raw_add_union_reverse(lazydfa_handle *, const uint32_t *, size_t, uint32_t *);
+lazydfa_status lazydfa_raw_add_union(lazydfa_handle *, const lazydfa_state_id *, size_t, uint32_t *);
+lazydfa_status lazydfa_raw_add_union_reverse(lazydfa_handle *, const lazydfa_state_id *, size_t, uint32_t *);
 lazydfa_status lazydfa_raw_add_capture_start(lazydfa_handle *, uint32_t, uint32_t, uint32_t *);
 lazydfa_status lazydfa_raw_add_capture_end(lazydfa_handle *, uint32_t, uint32_t, uint32_t *);
 lazydfa_status lazydfa_raw_add_fail(lazydfa_handle *, uint32_t *);
@@ -296,6 +323,8 @@ lazydfa_status lazydfa_raw_regex_build_pair(lazydfa_handle *, lazydfa_handle *, 
 lazydfa_status lazydfa_raw_regex_any_of(lazydfa_handle *, const uint8_t *, size_t, const size_t *, size_t,
                                         const lazydfa_text_options *, const lazydfa_settings *, const uint8_t *, size_t,
                                         lazydfa_refusal *, uint8_t *, size_t);
+lazydfa_status lazydfa_raw_regex_share(lazydfa_handle *, lazydfa_handle *);
+lazydfa_status lazydfa_raw_regex_reverse(lazydfa_handle *, lazydfa_handle *);
 lazydfa_status lazydfa_raw_cache_new(lazydfa_handle *, lazydfa_handle *);
 lazydfa_status lazydfa_raw_cache_reset(lazydfa_handle *);
 lazydfa_status lazydfa_raw_cache_usage(lazydfa_handle *, lazydfa_usage *);
@@ -315,6 +344,13 @@ lazydfa_status lazydfa_raw_all_starts(lazydfa_handle *, const uint8_t *, size_t,
                                       size_t, size_t *);
 lazydfa_status lazydfa_raw_which(lazydfa_handle *, const uint8_t *, size_t, const lazydfa_input *, size_t, uint32_t *,
                                  size_t, size_t *);
+lazydfa_status lazydfa_raw_pieces_begin(lazydfa_handle *, uint32_t, uint32_t, uint32_t, uint32_t);
+lazydfa_status lazydfa_raw_pieces_read(lazydfa_handle *, const uint8_t *, size_t, uint32_t *);
+lazydfa_status lazydfa_raw_pieces_end(lazydfa_handle *, uint32_t, lazydfa_half *);
+lazydfa_status lazydfa_raw_walk_begin(lazydfa_handle *, uint32_t, uint32_t, uint32_t);
+lazydfa_status lazydfa_raw_walk_read(lazydfa_handle *, const uint8_t *, size_t, lazydfa_stop *);
+lazydfa_status lazydfa_raw_walk_end(lazydfa_handle *, uint32_t, lazydfa_stop *);
+lazydfa_status lazydfa_raw_walk_pattern(lazydfa_handle *, size_t, uint32_t *);
 
 /* The status of a call that is given an argument which is not allowed. */
 static inline lazydfa_status lazydfa_bad_argument(void) {
@@ -330,6 +366,8 @@ static inline const uint8_t *lazydfa_bytes(const uint8_t *at, size_t length) {
 #define LAZYDFA_NEED(pointer) do { if (!(pointer)) return lazydfa_bad_argument(); } while (0)
 /* What a call counts is 0 until it has counted. */
 #define LAZYDFA_COUNT(count) do { LAZYDFA_NEED(count); *(count) = 0; } while (0)
+/* A walk stands nowhere until it has been asked. */
+#define LAZYDFA_STAND(stop) do { LAZYDFA_NEED(stop); memset(stop, 0, sizeof *(stop)); } while (0)
 #define LAZYDFA_NEED_ALL(pointer, length) do { if (!(pointer) && (length)) return lazydfa_bad_argument(); } while (0)
 
 /* What a code means, in words. */
@@ -358,11 +396,14 @@ static inline const char *lazydfa_code_text(uint32_t code) {
     case LAZYDFA_CAPACITY: return "the cache capacity is too small";
     case LAZYDFA_STATE_IDS: return "the smallest table is too large";
     case LAZYDFA_PATTERN_COUNTS: return "the two NFAs do not have equally many patterns";
+    case LAZYDFA_ONE_START: return "both starts are one state, and every search would be anchored";
     case LAZYDFA_QUIT: return "the search met a quit byte";
     case LAZYDFA_GAVE_UP: return "the search gave up";
     case LAZYDFA_ANCHORED: return "the anchored mode is not supported";
     case LAZYDFA_NOT_A_PAIR: return "the reverse NFA finds no start";
     case LAZYDFA_NO_TOKEN: return "no token";
+    case LAZYDFA_SKIPS: return "a regex that skips empty matches inside characters is not searched in pieces";
+    case LAZYDFA_NOT_BEGUN: return "no search in pieces, or no walk, was begun";
     case LAZYDFA_SYNTAX: return "the text is no pattern";
     case LAZYDFA_NOT_TEXT: return "the text of a pattern is not UTF-8";
     case LAZYDFA_NOT_COMPILED: return "the pattern was not compiled";
@@ -389,8 +430,17 @@ static inline lazydfa_status lazydfa_cache_close(lazydfa_cache *cache) {
 
 /* ---- Builders ----
  *
- * States have the numbers 0, 1, 2 and so on, in the order in which they are added. A state may lead to one that does not
- * exist yet. A call that fails changes nothing, and writes nothing. */
+ * States have the numbers 0, 1, 2 and so on, in the order in which they are added. A state may lead to one that does
+ * not exist yet: lazydfa_state gives its ID by its number, and lazydfa_patch moves what leads elsewhere. A call that
+ * adds a state takes first what the state reads or tests, then where it leads, and last where its ID is written. A
+ * call that fails changes nothing, and writes nothing. */
+
+/* The ID of the state of this number. Where a state is to be patched, any will do until then, as lazydfa_state(0). */
+static inline lazydfa_state_id lazydfa_state(uint32_t number) {
+    lazydfa_state_id id;
+    id.number = number;
+    return id;
+}
 
 /* Opens a handle on a builder without states. */
 static inline lazydfa_status lazydfa_builder_new(lazydfa_builder *builder) {
@@ -414,17 +464,18 @@ static inline lazydfa_status lazydfa_start_pattern(lazydfa_builder *builder, uin
 
 /* Finishes the pattern that was started, whose own searches start at this state, and writes its number.
    LAZYDFA_NO_PATTERN if none is started. */
-static inline lazydfa_status lazydfa_finish_pattern(lazydfa_builder *builder, uint32_t start, uint32_t *pattern) {
+static inline lazydfa_status lazydfa_finish_pattern(lazydfa_builder *builder, lazydfa_state_id start,
+                                                    uint32_t *pattern) {
     LAZYDFA_NEED(builder);
     LAZYDFA_NEED(pattern);
-    return lazydfa_raw_finish_pattern(&builder->handle, start, pattern);
+    return lazydfa_raw_finish_pattern(&builder->handle, start.number, pattern);
 }
 
 /* Lets a state lead to another one: a union gets one more alternate, any other state is moved.
    LAZYDFA_PATCH_RANGE, LAZYDFA_SPARSE_PATCH. */
-static inline lazydfa_status lazydfa_patch(lazydfa_builder *builder, uint32_t from, uint32_t to) {
+static inline lazydfa_status lazydfa_patch(lazydfa_builder *builder, lazydfa_state_id from, lazydfa_state_id to) {
     LAZYDFA_NEED(builder);
-    return lazydfa_raw_patch(&builder->handle, from, to);
+    return lazydfa_raw_patch(&builder->handle, from.number, to.number);
 }
 
 /* Settings of the NFA, which a clear keeps: whether it is in UTF-8 mode (no match splits an encoded character), whether
@@ -444,102 +495,104 @@ static inline lazydfa_status lazydfa_set_line_terminator(lazydfa_builder *builde
     return lazydfa_raw_set_line_terminator(&builder->handle, byte);
 }
 
-/* Each of the next calls adds a state, and writes its number. LAZYDFA_TOO_LARGE if there are too many. */
+/* Each of the next calls adds a state, and writes its ID. LAZYDFA_TOO_LARGE if there are too many. */
 
 /* A state that reads nothing and leads to state 0, until it is patched. */
-static inline lazydfa_status lazydfa_add_empty(lazydfa_builder *builder, uint32_t *id) {
+static inline lazydfa_status lazydfa_add_empty(lazydfa_builder *builder, lazydfa_state_id *id) {
     LAZYDFA_NEED(builder);
     LAZYDFA_NEED(id);
-    return lazydfa_raw_add_empty(&builder->handle, id);
+    return lazydfa_raw_add_empty(&builder->handle, &id->number);
 }
 
 /* A state that reads a byte from lo to hi. */
-static inline lazydfa_status lazydfa_add_range(lazydfa_builder *builder, uint8_t lo, uint8_t hi, uint32_t next,
-                                               uint32_t *id) {
+static inline lazydfa_status lazydfa_add_range(lazydfa_builder *builder, uint8_t lo, uint8_t hi, lazydfa_state_id next,
+                                               lazydfa_state_id *id) {
     LAZYDFA_NEED(builder);
     LAZYDFA_NEED(id);
-    return lazydfa_raw_add_range(&builder->handle, lo, hi, next, id);
+    return lazydfa_raw_add_range(&builder->handle, lo, hi, next.number, &id->number);
 }
 
 /* A state that reads a byte of several ranges, which are in order and do not overlap. */
 static inline lazydfa_status lazydfa_add_sparse(lazydfa_builder *builder, const lazydfa_edge *edges, size_t length,
-                                                uint32_t *id) {
-    lazydfa_edge none = { 0, 0, 0, 0 };
+                                                lazydfa_state_id *id) {
+    lazydfa_edge none = { 0, 0, 0, { 0 } };
     LAZYDFA_NEED(builder);
     LAZYDFA_NEED(id);
     LAZYDFA_NEED_ALL(edges, length);
-    return lazydfa_raw_add_sparse(&builder->handle, length ? edges : &none, length, id);
+    return lazydfa_raw_add_sparse(&builder->handle, length ? edges : &none, length, &id->number);
 }
 
 /* A state that reads nothing, and is passed only where a look-around assertion holds: an enum lazydfa_look. */
-static inline lazydfa_status lazydfa_add_look(lazydfa_builder *builder, uint32_t next, uint32_t look, uint32_t *id) {
+static inline lazydfa_status lazydfa_add_look(lazydfa_builder *builder, uint32_t look, lazydfa_state_id next,
+                                              lazydfa_state_id *id) {
     LAZYDFA_NEED(builder);
     LAZYDFA_NEED(id);
-    return lazydfa_raw_add_look(&builder->handle, next, look, id);
+    return lazydfa_raw_add_look(&builder->handle, next.number, look, &id->number);
 }
 
 /* A state that reads nothing and leads to several states, of which the first is preferred. */
-static inline lazydfa_status lazydfa_add_union(lazydfa_builder *builder, const uint32_t *alternates, size_t length,
-                                               uint32_t *id) {
-    uint32_t none = 0;
+static inline lazydfa_status lazydfa_add_union(lazydfa_builder *builder, const lazydfa_state_id *alternates,
+                                               size_t length, lazydfa_state_id *id) {
+    lazydfa_state_id none = { 0 };
     LAZYDFA_NEED(builder);
     LAZYDFA_NEED(id);
     LAZYDFA_NEED_ALL(alternates, length);
-    return lazydfa_raw_add_union(&builder->handle, length ? alternates : &none, length, id);
+    return lazydfa_raw_add_union(&builder->handle, length ? alternates : &none, length, &id->number);
 }
 
 /* A state that reads nothing and leads to several states, of which the last is preferred. */
-static inline lazydfa_status lazydfa_add_union_reverse(lazydfa_builder *builder, const uint32_t *alternates,
-                                                       size_t length, uint32_t *id) {
-    uint32_t none = 0;
+static inline lazydfa_status lazydfa_add_union_reverse(lazydfa_builder *builder, const lazydfa_state_id *alternates,
+                                                       size_t length, lazydfa_state_id *id) {
+    lazydfa_state_id none = { 0 };
     LAZYDFA_NEED(builder);
     LAZYDFA_NEED(id);
     LAZYDFA_NEED_ALL(alternates, length);
-    return lazydfa_raw_add_union_reverse(&builder->handle, length ? alternates : &none, length, id);
+    return lazydfa_raw_add_union_reverse(&builder->handle, length ? alternates : &none, length, &id->number);
 }
 
-/* Where a group of the pattern begins, and where it ends. Searches report no groups.
+/* Where a group of the pattern begins. It reads nothing, and searches report no groups.
    LAZYDFA_NO_PATTERN if no pattern is started. */
-static inline lazydfa_status lazydfa_add_capture_start(lazydfa_builder *builder, uint32_t next, uint32_t group,
-                                                       uint32_t *id) {
+static inline lazydfa_status lazydfa_add_capture_start(lazydfa_builder *builder, uint32_t group, lazydfa_state_id next,
+                                                       lazydfa_state_id *id) {
     LAZYDFA_NEED(builder);
     LAZYDFA_NEED(id);
-    return lazydfa_raw_add_capture_start(&builder->handle, next, group, id);
+    return lazydfa_raw_add_capture_start(&builder->handle, next.number, group, &id->number);
 }
 /* Where a group of the pattern ends. LAZYDFA_NO_PATTERN if no pattern is started. */
-static inline lazydfa_status lazydfa_add_capture_end(lazydfa_builder *builder, uint32_t next, uint32_t group,
-                                                     uint32_t *id) {
+static inline lazydfa_status lazydfa_add_capture_end(lazydfa_builder *builder, uint32_t group, lazydfa_state_id next,
+                                                     lazydfa_state_id *id) {
     LAZYDFA_NEED(builder);
     LAZYDFA_NEED(id);
-    return lazydfa_raw_add_capture_end(&builder->handle, next, group, id);
+    return lazydfa_raw_add_capture_end(&builder->handle, next.number, group, &id->number);
 }
 
 /* A state from which nothing matches. */
-static inline lazydfa_status lazydfa_add_fail(lazydfa_builder *builder, uint32_t *id) {
+static inline lazydfa_status lazydfa_add_fail(lazydfa_builder *builder, lazydfa_state_id *id) {
     LAZYDFA_NEED(builder);
     LAZYDFA_NEED(id);
-    return lazydfa_raw_add_fail(&builder->handle, id);
+    return lazydfa_raw_add_fail(&builder->handle, &id->number);
 }
 
 /* A match state of the pattern that was started. LAZYDFA_NO_PATTERN if there is none. */
-static inline lazydfa_status lazydfa_add_match(lazydfa_builder *builder, uint32_t *id) {
+static inline lazydfa_status lazydfa_add_match(lazydfa_builder *builder, lazydfa_state_id *id) {
     LAZYDFA_NEED(builder);
     LAZYDFA_NEED(id);
-    return lazydfa_raw_add_match(&builder->handle, id);
+    return lazydfa_raw_add_match(&builder->handle, &id->number);
 }
 
-/* Two states that skip as few bytes as can be before a start, and writes the number of the first: the unanchored start. */
-static inline lazydfa_status lazydfa_add_unanchored_prefix(lazydfa_builder *builder, uint32_t start, uint32_t *id) {
+/* Two states that skip as few bytes as can be before a start. The ID is that of the first: the unanchored start. */
+static inline lazydfa_status lazydfa_add_unanchored_prefix(lazydfa_builder *builder, lazydfa_state_id start,
+                                                           lazydfa_state_id *id) {
     LAZYDFA_NEED(builder);
     LAZYDFA_NEED(id);
-    return lazydfa_raw_add_unanchored_prefix(&builder->handle, start, id);
+    return lazydfa_raw_add_unanchored_prefix(&builder->handle, start.number, &id->number);
 }
 
 /* ---- Regexes ---- */
 
 /* Opens a handle on the regex of what a builder has, which stays as it is. settings may be NULL for the defaults, and
-   quits lists the quit bytes. Its matches are those of the NFA's ordered paths. LAZYDFA_UNFINISHED, and every code of an
-   NFA but LAZYDFA_PATTERN_COUNTS; LAZYDFA_ARGUMENT also for a match kind that is none. */
+   quits lists the quit bytes. Its matches are those of the NFA's ordered paths. LAZYDFA_UNFINISHED, and every code of
+   an NFA but LAZYDFA_PATTERN_COUNTS; LAZYDFA_ARGUMENT also for a match kind that is none. */
 static inline lazydfa_status lazydfa_regex_build(lazydfa_regex *regex, lazydfa_builder *builder, lazydfa_starts starts,
                                                  const lazydfa_settings *settings, const uint8_t *quits,
                                                  size_t length) {
@@ -555,7 +608,8 @@ static inline lazydfa_status lazydfa_regex_build(lazydfa_regex *regex, lazydfa_b
    (lazydfa_set_reverse). Nothing tests that it does: if it does not, a search may report a wrong start, or
    LAZYDFA_NOT_A_PAIR. The two builders are different handles. Both NFAs may have cycles that read nothing and pass an
    assertion, as that of `(?:\b|%)+`. The settings and codes are those of lazydfa_regex_build, with
-   LAZYDFA_PATTERN_COUNTS and without LAZYDFA_NOT_LAZY, LAZYDFA_NOT_UTF8 and LAZYDFA_STARTS. */
+   LAZYDFA_PATTERN_COUNTS and without LAZYDFA_NOT_LAZY, LAZYDFA_NOT_UTF8 and LAZYDFA_STARTS. LAZYDFA_ONE_START is about
+   the first NFA alone: a search backward begins where a match ends, so one start is enough for the second. */
 static inline lazydfa_status lazydfa_regex_build_pair(lazydfa_regex *regex, lazydfa_builder *forward,
                                                       lazydfa_starts forward_starts, lazydfa_builder *reverse,
                                                       lazydfa_starts reverse_starts,
@@ -574,17 +628,24 @@ static inline lazydfa_status lazydfa_regex_build_pair(lazydfa_regex *regex, lazy
 
 /* ---- Texts of patterns ----
  *
- * The syntax is that of Rust's regex crate, without lookahead, lookbehind and back references; groups are read, and what
- * they capture is not reported. A word boundary is that of ASCII, (?-u:\b), or the settings allow unicode_word_boundary. A
- * pattern that could match a part of a character, as (?-u:.), is LAZYDFA_SYNTAX unless the option `bytes` is on.
+ * The syntax is that of Rust's regex crate, without lookahead, lookbehind and back references; groups are read, and
+ * what they capture is not reported. A word boundary is that of ASCII, (?-u:\b), or the settings allow
+ * unicode_word_boundary. A pattern that could match a part of a character, as (?-u:.), is LAZYDFA_SYNTAX unless the
+ * option `bytes` is on.
  *
  * Both calls open a handle on a regex. options, settings and refusal may be NULL, and message if room is 0; quits lists
- * the quit bytes. message gets what is wrong, the pattern, and carets below the part that this is about: as much as there
- * is room for, with a zero at its end, or nothing but the zero. A new line stands between the lines. refusal, and message
- * if it has room, are written with every code but LAZYDFA_ARGUMENT for a null pointer.
+ * the quit bytes. message gets what is wrong, the pattern, and carets below the part that this is about: as much as
+ * there is room for, with a zero at its end, or nothing but the zero. A new line stands between the lines. refusal and
+ * message are written with every code, unless they are NULL or have no room: with zeros if no text was refused.
  *
  * LAZYDFA_SYNTAX, LAZYDFA_NOT_TEXT, LAZYDFA_NOT_COMPILED, LAZYDFA_TOO_LARGE if the size limit is passed, and
  * LAZYDFA_UNSUPPORTED; LAZYDFA_CAPACITY and LAZYDFA_STATE_IDS by the settings. */
+
+/* What a call writes before it reads texts: that none was refused. */
+static inline void lazydfa_none_refused(lazydfa_refusal *refusal, char *message, size_t room) {
+    refusal->pattern = refusal->start = refusal->end = refusal->length = 0;
+    if (message && room) *message = 0;
+}
 
 /* A regex of one pattern, of `length` bytes. */
 static inline lazydfa_status lazydfa_regex_new(lazydfa_regex *regex, const char *pattern, size_t length,
@@ -595,18 +656,21 @@ static inline lazydfa_status lazydfa_regex_new(lazydfa_regex *regex, const char 
     static const lazydfa_text_options plain = { 0, 0, 0, 0, 0, 0, 0, 0, 0, 0, 0, 0, 0 };
     lazydfa_refusal unread;
     uint8_t none;
+    if (!refusal) refusal = &unread;
+    lazydfa_none_refused(refusal, message, room);
     LAZYDFA_NEED(regex);
     LAZYDFA_NEED_ALL(pattern, length);
     LAZYDFA_NEED_ALL(quits, quit_count);
     LAZYDFA_NEED_ALL(message, room);
     return lazydfa_raw_regex_any_of(&regex->handle, lazydfa_bytes((const uint8_t *)pattern, length), length, &length, 1,
                                     options ? options : &plain, settings ? settings : &defaults,
-                                    lazydfa_bytes(quits, quit_count), quit_count, refusal ? refusal : &unread,
+                                    lazydfa_bytes(quits, quit_count), quit_count, refusal,
                                     room ? (uint8_t *)message : &none, room);
 }
 
-/* A regex of several patterns, of which each has its place in the list as its number: where two match at one offset, the
-   first is preferred. For lazydfa_which the settings ask for LAZYDFA_ALL. It copies the texts by malloc while it runs. */
+/* A regex of several patterns, of which each has its place in the list as its number: where two match at one offset,
+   the first is preferred. For lazydfa_which the settings ask for LAZYDFA_ALL. It copies the texts by malloc while it
+   runs. */
 static inline lazydfa_status lazydfa_regex_any_of(lazydfa_regex *regex, const lazydfa_text *texts, size_t count,
                                                   const lazydfa_text_options *options,
                                                   const lazydfa_settings *settings, const uint8_t *quits,
@@ -619,13 +683,12 @@ static inline lazydfa_status lazydfa_regex_any_of(lazydfa_regex *regex, const la
     uint8_t none;
     size_t i, length = 0, *block;
     uint8_t *bytes;
+    if (!refusal) refusal = &unread;
+    lazydfa_none_refused(refusal, message, room);
     LAZYDFA_NEED(regex);
     LAZYDFA_NEED_ALL(texts, count);
     LAZYDFA_NEED_ALL(quits, quit_count);
     LAZYDFA_NEED_ALL(message, room);
-    if (!refusal) refusal = &unread;
-    refusal->pattern = refusal->start = refusal->end = refusal->length = 0;
-    if (room) *message = 0;
     for (i = 0; i < count; i++) {
         LAZYDFA_NEED_ALL(texts[i].text, texts[i].length);
         if (texts[i].length > PTRDIFF_MAX - length) return status;
@@ -647,9 +710,35 @@ static inline lazydfa_status lazydfa_regex_any_of(lazydfa_regex *regex, const la
     return status;
 }
 
+/* ---- Handles of other threads ---- */
+
+/* Opens the handle `other` on the regex of the first handle, which stays as it is, and copies nothing of it. Calls with
+   the two may overlap in time, and they are closed in any order. LAZYDFA_ARGUMENT also if both are one handle. */
+static inline lazydfa_status lazydfa_regex_share(lazydfa_regex *regex, lazydfa_regex *other) {
+    LAZYDFA_NEED(regex);
+    LAZYDFA_NEED(other);
+    if (regex == other) return lazydfa_bad_argument();
+    return lazydfa_raw_regex_share(&regex->handle, &other->handle);
+}
+
+/* ---- Reading backward ---- */
+
+/* Opens the handle `other` on the regex that reads backward what the first one reads forward: where that one searches
+   back, this one searches forward, with the same states. So a haystack is searched back in pieces, for the start of a
+   match whose end is known: the pieces come from that end on, with their bytes in reverse order, and the search is
+   anchored. `behind` is then the byte after that end, `ahead` the byte before the last one that was read, and the offset
+   that is found is the length of the match, the longest one, as lazydfa_find_start finds it. LAZYDFA_ARGUMENT also if
+   both are one handle. */
+static inline lazydfa_status lazydfa_regex_reverse(lazydfa_regex *regex, lazydfa_regex *other) {
+    LAZYDFA_NEED(regex);
+    LAZYDFA_NEED(other);
+    if (regex == other) return lazydfa_bad_argument();
+    return lazydfa_raw_regex_reverse(&regex->handle, &other->handle);
+}
+
 /* ---- Caches ---- */
 
-/* Opens a handle on a cache of a regex. */
+/* Opens a handle on a cache of a regex. The regex may be closed before the cache. */
 static inline lazydfa_status lazydfa_cache_new(lazydfa_cache *cache, lazydfa_regex *regex) {
     LAZYDFA_NEED(cache);
     LAZYDFA_NEED(regex);
@@ -712,8 +801,8 @@ static inline lazydfa_status lazydfa_find_end(lazydfa_cache *cache, const uint8_
 }
 
 /* By a search backward from the span's end: where the longest match starts that ends there; of an earliest input the
-   shortest one. Only over a pair whose second NFA has an unanchored start that skips bytes, an input that is not anchored
-   also finds matches that end before. */
+   shortest one. Only over a pair whose second NFA has an unanchored start that skips bytes, an input that is not
+   anchored also finds matches that end before. */
 static inline lazydfa_status lazydfa_find_start(lazydfa_cache *cache, const uint8_t *haystack, size_t length,
                                                 const lazydfa_input *input, lazydfa_half *found) {
     LAZYDFA_NEED(cache);
@@ -757,8 +846,9 @@ static inline lazydfa_status lazydfa_next_all(lazydfa_cache *cache, const uint8_
                                 count);
 }
 
-/* The token at the start of what is left: the match that begins there and is not empty. left then starts where the token
-   ends. LAZYDFA_NONE at the end of the span; LAZYDFA_NO_TOKEN where none begins. The mode and earliest do not count. */
+/* The token at the start of what is left: the match that begins there and is not empty. left then starts where the
+   token ends. LAZYDFA_NONE at the end of the span; LAZYDFA_NO_TOKEN where none begins. The mode and earliest do not
+   count. */
 static inline lazydfa_status lazydfa_token(lazydfa_cache *cache, const uint8_t *haystack, size_t length,
                                            lazydfa_input *left, lazydfa_match *found) {
     LAZYDFA_NEED(cache);
@@ -828,8 +918,112 @@ static inline lazydfa_status lazydfa_which(lazydfa_cache *cache, const uint8_t *
                              room ? patterns : &none, room, count);
 }
 
+/* ---- A haystack in pieces ----
+ *
+ * A search forward for the end of the first match, as lazydfa_find_end, in a haystack that comes piece by piece, as
+ * from a file or a socket:
+ *
+ *     lazydfa_pieces_begin(&cache, LAZYDFA_UNANCHORED, 0, -1, 0);
+ *     while (!done && (length = fread(piece, 1, sizeof piece, file)) > 0)
+ *         lazydfa_pieces_read(&cache, piece, length, &done);
+ *     status = lazydfa_pieces_end(&cache, -1, &found);
+ *
+ * A cache has at most one such search. It keeps no piece, but the state after the last byte, which takes some bytes,
+ * and lasts until another one is begun or the cache is closed: other searches of the cache and lazydfa_cache_reset
+ * leave it as it is. Each call may be made again after an error, which leaves the search as it was. Offsets are
+ * counted in bytes from the first byte of the first piece. For the rule by which a cache gives up, each piece is a
+ * search of its own. */
+
+/* Begins a search in pieces, in place of the one that the cache has: of an enum lazydfa_anchored, and its pattern;
+   after the byte `behind`, from 0 to 255, or after none, -1; and whether it may stop at the first match that it sees.
+   LAZYDFA_SKIPS; LAZYDFA_QUIT if `behind` is a quit byte, LAZYDFA_GAVE_UP and LAZYDFA_ANCHORED, all with the offset
+   0. */
+static inline lazydfa_status lazydfa_pieces_begin(lazydfa_cache *cache, uint32_t anchored, uint32_t pattern,
+                                                  int32_t behind, uint32_t earliest) {
+    LAZYDFA_NEED(cache);
+    return lazydfa_raw_pieces_begin(&cache->handle, anchored, pattern, (uint32_t)behind, earliest);
+}
+
+/* Reads the next piece, which is `length` bytes. It writes with every code, unless that pointer is null, whether the
+   answer stands, whatever follows: 1, and then pieces are no longer read, or 0, also if there is no search.
+   LAZYDFA_NOT_BEGUN, LAZYDFA_QUIT and LAZYDFA_GAVE_UP. */
+static inline lazydfa_status lazydfa_pieces_read(lazydfa_cache *cache, const uint8_t *piece, size_t length,
+                                                 uint32_t *done) {
+    LAZYDFA_COUNT(done);
+    LAZYDFA_NEED(cache);
+    LAZYDFA_NEED_ALL(piece, length);
+    return lazydfa_raw_pieces_read(&cache->handle, lazydfa_bytes(piece, length), length, done);
+}
+
+/* Where the first match ends in the pieces so far, if the byte `ahead` follows, from 0 to 255, or the haystack ends,
+   -1. More pieces may follow. LAZYDFA_NONE if there is no match. LAZYDFA_NOT_BEGUN; LAZYDFA_QUIT if `ahead` is a quit
+   byte, and LAZYDFA_GAVE_UP, both with the number of bytes that were read as the offset. */
+static inline lazydfa_status lazydfa_pieces_end(lazydfa_cache *cache, int32_t ahead, lazydfa_half *found) {
+    LAZYDFA_NEED(cache);
+    LAZYDFA_NEED(found);
+    return lazydfa_raw_pieces_end(&cache->handle, (uint32_t)ahead, found);
+}
+
+/* ---- All ends, and sets of patterns, of a haystack in pieces ----
+ *
+ * A walk stops at each offset where patterns match, once, and goes on from there. What lazydfa_all_ends and
+ * lazydfa_which tell of a whole haystack, it tells of one that comes piece by piece:
+ *
+ *     lazydfa_walk_begin(&cache, LAZYDFA_UNANCHORED, 0, -1);
+ *     while ((length = fread(piece, 1, sizeof piece, file)) > 0)
+ *         for (at = 0; at < length; at += stop.read) {
+ *             status = lazydfa_walk_read(&cache, piece + at, length - at, &stop);
+ *             if (status.code > LAZYDFA_NONE) return status;
+ *             for (i = 0; i < stop.patterns; i++) lazydfa_walk_pattern(&cache, i, &pattern);
+ *         }
+ *     status = lazydfa_walk_end(&cache, -1, &stop);
+ *
+ * Build the regex with LAZYDFA_ALL for all patterns that match: by default a walk drops those that the first match is
+ * preferred to. A cache has at most one walk, beside its search in pieces. It keeps the state after the last byte, and
+ * no piece, and lasts as a search in pieces does; what is said there of offsets, of errors and of giving up holds here
+ * too. */
+
+/* Begins a walk, in place of the one that the cache has, by the numbers and with the codes of lazydfa_pieces_begin. */
+static inline lazydfa_status lazydfa_walk_begin(lazydfa_cache *cache, uint32_t anchored, uint32_t pattern,
+                                                int32_t behind) {
+    LAZYDFA_NEED(cache);
+    return lazydfa_raw_walk_begin(&cache->handle, anchored, pattern, (uint32_t)behind);
+}
+
+/* Reads a piece up to the next offset where patterns match, or to its end: the rest of the piece, after what was read,
+   is for the next call. LAZYDFA_NONE if the piece was read and no pattern matches. Matches are delayed by one byte, so
+   that an offset is known once the byte after it is read. It writes where the walk stands with every code, unless that
+   pointer is null: zeros after an error. LAZYDFA_NOT_BEGUN, LAZYDFA_QUIT and LAZYDFA_GAVE_UP. */
+static inline lazydfa_status lazydfa_walk_read(lazydfa_cache *cache, const uint8_t *piece, size_t length,
+                                               lazydfa_stop *stop) {
+    LAZYDFA_STAND(stop);
+    LAZYDFA_NEED(cache);
+    LAZYDFA_NEED_ALL(piece, length);
+    return lazydfa_raw_walk_read(&cache->handle, lazydfa_bytes(piece, length), length, stop);
+}
+
+/* Which patterns match up to the end of the pieces so far, if the byte `ahead` follows, from 0 to 255, or the haystack
+   ends, -1. More pieces may follow. LAZYDFA_NONE if there are none. It writes as lazydfa_walk_read does, and reads no
+   byte of a piece. LAZYDFA_NOT_BEGUN; LAZYDFA_QUIT if `ahead` is a quit byte, and LAZYDFA_GAVE_UP, both with the number
+   of bytes that were read as the offset. */
+static inline lazydfa_status lazydfa_walk_end(lazydfa_cache *cache, int32_t ahead, lazydfa_stop *stop) {
+    LAZYDFA_STAND(stop);
+    LAZYDFA_NEED(cache);
+    return lazydfa_raw_walk_end(&cache->handle, (uint32_t)ahead, stop);
+}
+
+/* One of the patterns where the walk stands: `index` is below `patterns` of the last lazydfa_walk_read or
+   lazydfa_walk_end that had no error, else the code is LAZYDFA_ARGUMENT. LAZYDFA_NOT_BEGUN. */
+static inline lazydfa_status lazydfa_walk_pattern(lazydfa_cache *cache, size_t index, uint32_t *pattern) {
+    LAZYDFA_NEED(cache);
+    LAZYDFA_NEED(pattern);
+    return lazydfa_raw_walk_pattern(&cache->handle, index, pattern);
+}
+
 #undef LAZYDFA_NEED
 #undef LAZYDFA_NEED_ALL
+#undef LAZYDFA_COUNT
+#undef LAZYDFA_STAND
 
 #ifdef __cplusplus
 }

@@ -259,32 +259,36 @@ static void modes(void) {
 static void builders(void) {
     lazydfa_builder b = LAZYDFA_INIT;
     lazydfa_regex re = LAZYDFA_INIT;
-    lazydfa_starts starts = { 0, 0 };
-    uint32_t id = 0, pattern;
+    lazydfa_starts starts = { { 0 }, { 0 } };
+    lazydfa_settings anchored;
+    lazydfa_state_id id = { 0 };
+    uint32_t pattern;
+    memset(&anchored, 0, sizeof anchored);
+    anchored.always_anchored = 1;
     CODE(lazydfa_builder_new(&b), LAZYDFA_OK);
     CODE(lazydfa_add_match(&b, &id), LAZYDFA_NO_PATTERN);
-    CODE(lazydfa_add_capture_start(&b, 0, 0, &id), LAZYDFA_NO_PATTERN);
-    CODE(lazydfa_add_capture_end(&b, 0, 0, &id), LAZYDFA_NO_PATTERN);
-    CODE(lazydfa_finish_pattern(&b, 0, &pattern), LAZYDFA_NO_PATTERN);
-    CODE(lazydfa_patch(&b, 0, 0), LAZYDFA_PATCH_RANGE);
+    CODE(lazydfa_add_capture_start(&b, 0, id, &id), LAZYDFA_NO_PATTERN);
+    CODE(lazydfa_add_capture_end(&b, 0, id, &id), LAZYDFA_NO_PATTERN);
+    CODE(lazydfa_finish_pattern(&b, id, &pattern), LAZYDFA_NO_PATTERN);
+    CODE(lazydfa_patch(&b, id, id), LAZYDFA_PATCH_RANGE);
     CODE(lazydfa_start_pattern(&b, &pattern), LAZYDFA_OK);
     CHECK(pattern == 0);
     CODE(lazydfa_start_pattern(&b, &pattern), LAZYDFA_UNFINISHED);
     CODE(lazydfa_add_sparse(&b, NULL, 0, &id), LAZYDFA_OK);
     CODE(lazydfa_patch(&b, id, id), LAZYDFA_SPARSE_PATCH);
-    CODE(lazydfa_add_capture_start(&b, 0, 0x80000000u, &id), LAZYDFA_TOO_LARGE);
-    CODE(lazydfa_regex_build(&re, &b, starts, NULL, NULL, 0), LAZYDFA_UNFINISHED);
+    CODE(lazydfa_add_capture_start(&b, 0x80000000u, id, &id), LAZYDFA_TOO_LARGE);
+    CODE(lazydfa_regex_build(&re, &b, starts, &anchored, NULL, 0), LAZYDFA_UNFINISHED);
     CODE(lazydfa_builder_clear(&b), LAZYDFA_OK);
-    CODE(lazydfa_regex_build(&re, &b, starts, NULL, NULL, 0), LAZYDFA_START_RANGE);
+    CODE(lazydfa_regex_build(&re, &b, starts, &anchored, NULL, 0), LAZYDFA_START_RANGE);
     CODE(lazydfa_start_pattern(&b, &pattern), LAZYDFA_OK);
-    CODE(lazydfa_add_range(&b, 'z', 'a', 0, &id), LAZYDFA_OK);
+    CODE(lazydfa_add_range(&b, 'z', 'a', lazydfa_state(0), &id), LAZYDFA_OK);
     CODE(lazydfa_finish_pattern(&b, id, &pattern), LAZYDFA_OK);
-    CODE(lazydfa_regex_build(&re, &b, starts, NULL, NULL, 0), LAZYDFA_RANGES);
+    CODE(lazydfa_regex_build(&re, &b, starts, &anchored, NULL, 0), LAZYDFA_RANGES);
     CODE(lazydfa_builder_clear(&b), LAZYDFA_OK);
     CODE(lazydfa_start_pattern(&b, &pattern), LAZYDFA_OK);
-    CODE(lazydfa_add_range(&b, 'a', 'z', 1000, &id), LAZYDFA_OK);
+    CODE(lazydfa_add_range(&b, 'a', 'z', lazydfa_state(1000), &id), LAZYDFA_OK);
     CODE(lazydfa_finish_pattern(&b, id, &pattern), LAZYDFA_OK);
-    CODE(lazydfa_regex_build(&re, &b, starts, NULL, NULL, 0), LAZYDFA_STATE_RANGE);
+    CODE(lazydfa_regex_build(&re, &b, starts, &anchored, NULL, 0), LAZYDFA_STATE_RANGE);
     /* every kind of state, in a pattern that matches: a group round [a-z] at the start of a line */
     CODE(lazydfa_builder_clear(&b), LAZYDFA_OK);
     CODE(lazydfa_set_utf8(&b, 1), LAZYDFA_OK);
@@ -293,20 +297,20 @@ static void builders(void) {
     CODE(lazydfa_set_line_terminator(&b, '\n'), LAZYDFA_OK);
     CODE(lazydfa_start_pattern(&b, &pattern), LAZYDFA_OK);
     CODE(lazydfa_add_match(&b, &id), LAZYDFA_OK);
-    CODE(lazydfa_add_capture_end(&b, id, 0, &id), LAZYDFA_OK);
+    CODE(lazydfa_add_capture_end(&b, 0, id, &id), LAZYDFA_OK);
     CODE(lazydfa_add_range(&b, 'a', 'z', id, &id), LAZYDFA_OK);
-    CODE(lazydfa_add_capture_start(&b, id, 0, &id), LAZYDFA_OK);
-    CODE(lazydfa_add_look(&b, id, LAZYDFA_LOOK_START_LF, &starts.anchored), LAZYDFA_OK);
+    CODE(lazydfa_add_capture_start(&b, 0, id, &id), LAZYDFA_OK);
+    CODE(lazydfa_add_look(&b, LAZYDFA_LOOK_START_LF, id, &starts.anchored), LAZYDFA_OK);
     CODE(lazydfa_add_fail(&b, &id), LAZYDFA_OK);
     CODE(lazydfa_add_empty(&b, &id), LAZYDFA_OK);
     CODE(lazydfa_patch(&b, id, starts.anchored), LAZYDFA_OK);
     CODE(lazydfa_add_union_reverse(&b, &id, 1, &starts.anchored), LAZYDFA_OK);
     CODE(lazydfa_finish_pattern(&b, starts.anchored, &pattern), LAZYDFA_OK);
     starts.unanchored = starts.anchored;
-    CODE(lazydfa_regex_build(&re, &b, starts, NULL, NULL, 0), LAZYDFA_OK);
+    CODE(lazydfa_regex_build(&re, &b, starts, &anchored, NULL, 0), LAZYDFA_OK);
     CODE(lazydfa_regex_close(&re), LAZYDFA_OK);
     /* an unanchored start that is no prefix of the anchored one */
-    starts.unanchored = 0;
+    starts.unanchored = lazydfa_state(0);
     CODE(lazydfa_regex_build(&re, &b, starts, NULL, NULL, 0), LAZYDFA_NOT_LAZY);
     CODE(lazydfa_builder_close(&b), LAZYDFA_OK);
 }
@@ -317,29 +321,31 @@ static void refusals(void) {
     lazydfa_regex re = LAZYDFA_INIT;
     lazydfa_starts starts;
     lazydfa_settings settings;
-    uint32_t look, pattern, end, both[2];
+    lazydfa_state_id look, end, both[2];
+    uint32_t pattern;
     memset(&settings, 0, sizeof settings);
+    settings.always_anchored = 1;
     /* (?:^)* has a cycle through a look, and is no refusal */
     CODE(lazydfa_builder_new(&b), LAZYDFA_OK);
     CODE(lazydfa_start_pattern(&b, &pattern), LAZYDFA_OK);
     CODE(lazydfa_add_match(&b, &end), LAZYDFA_OK);
-    CODE(lazydfa_add_look(&b, 0, LAZYDFA_LOOK_START, &look), LAZYDFA_OK);
+    CODE(lazydfa_add_look(&b, LAZYDFA_LOOK_START, lazydfa_state(0), &look), LAZYDFA_OK);
     both[0] = look;
     both[1] = end;
     CODE(lazydfa_add_union(&b, both, 2, &starts.anchored), LAZYDFA_OK);
     CODE(lazydfa_patch(&b, look, starts.anchored), LAZYDFA_OK);
     CODE(lazydfa_finish_pattern(&b, starts.anchored, &pattern), LAZYDFA_OK);
     starts.unanchored = starts.anchored;
-    CODE(lazydfa_regex_build(&re, &b, starts, NULL, NULL, 0), LAZYDFA_OK);
+    CODE(lazydfa_regex_build(&re, &b, starts, &settings, NULL, 0), LAZYDFA_OK);
     CODE(lazydfa_regex_close(&re), LAZYDFA_OK);
     /* \b by Unicode */
     CODE(lazydfa_builder_clear(&b), LAZYDFA_OK);
     CODE(lazydfa_start_pattern(&b, &pattern), LAZYDFA_OK);
     CODE(lazydfa_add_match(&b, &end), LAZYDFA_OK);
-    CODE(lazydfa_add_look(&b, end, LAZYDFA_LOOK_WORD_UNICODE, &starts.anchored), LAZYDFA_OK);
+    CODE(lazydfa_add_look(&b, LAZYDFA_LOOK_WORD_UNICODE, end, &starts.anchored), LAZYDFA_OK);
     CODE(lazydfa_finish_pattern(&b, starts.anchored, &pattern), LAZYDFA_OK);
     starts.unanchored = starts.anchored;
-    CODE(lazydfa_regex_build(&re, &b, starts, NULL, NULL, 0), LAZYDFA_UNSUPPORTED);
+    CODE(lazydfa_regex_build(&re, &b, starts, &settings, NULL, 0), LAZYDFA_UNSUPPORTED);
     settings.unicode_word_boundary = 1;
     CODE(lazydfa_regex_build(&re, &b, starts, &settings, NULL, 0), LAZYDFA_OK);
     CODE(lazydfa_regex_close(&re), LAZYDFA_OK);
@@ -363,7 +369,8 @@ static void pairs(void) {
     lazydfa_starts starts[2];
     lazydfa_input in = lazydfa_whole(4);
     lazydfa_match m;
-    uint32_t pattern, at;
+    lazydfa_state_id at;
+    uint32_t pattern;
     int i;
     for (i = 0; i < 2; i++) {
         CODE(lazydfa_builder_new(&b[i]), LAZYDFA_OK);
@@ -404,32 +411,113 @@ static void pairs(void) {
     CODE(lazydfa_builder_close(&b[1]), LAZYDFA_OK);
 }
 
+/* Two handles on one regex, closed in both orders, and a cache by each. */
+static void shares(void) {
+    int is_first;
+    for (is_first = 0; is_first < 2; is_first++) {
+        lazydfa_regex re[2] = { LAZYDFA_INIT, LAZYDFA_INIT };
+        lazydfa_cache c[2] = { LAZYDFA_INIT, LAZYDFA_INIT };
+        lazydfa_input in = lazydfa_whole(10);
+        lazydfa_match m;
+        int i;
+        CODE(lazydfa_regex_new(&re[0], "[0-9]+", 6, NULL, NULL, NULL, 0, NULL, NULL, 0), LAZYDFA_OK);
+        CODE(lazydfa_regex_share(&re[0], &re[1]), LAZYDFA_OK);
+        CODE(lazydfa_regex_share(&re[0], &re[1]), LAZYDFA_OPEN);
+        CODE(lazydfa_cache_new(&c[is_first], &re[is_first]), LAZYDFA_OK);
+        CODE(lazydfa_regex_close(&re[is_first]), LAZYDFA_OK);
+        CODE(lazydfa_cache_new(&c[!is_first], &re[!is_first]), LAZYDFA_OK);
+        CODE(lazydfa_regex_close(&re[!is_first]), LAZYDFA_OK);
+        for (i = 0; i < 2; i++) {
+            CODE(lazydfa_find(&c[i], bytes("foo 12 bar"), 10, &in, &m), LAZYDFA_OK);
+            CHECK(m.start == 4 && m.end == 6);
+            CODE(lazydfa_cache_close(&c[i]), LAZYDFA_OK);
+        }
+    }
+}
+
+/* [a-c]{3} with one start: no match begins after the span's start, so this is asked for, or refused. */
+static void one_start(void) {
+    lazydfa_builder b = LAZYDFA_INIT, back = LAZYDFA_INIT;
+    lazydfa_regex re = LAZYDFA_INIT;
+    lazydfa_cache c = LAZYDFA_INIT;
+    lazydfa_starts one, both, end = { { 0 }, { 0 } };
+    lazydfa_settings settings;
+    lazydfa_input in = lazydfa_whole(4);
+    lazydfa_match m;
+    uint32_t pattern;
+    memset(&settings, 0, sizeof settings);
+    CODE(lazydfa_builder_new(&b), LAZYDFA_OK);
+    CODE(lazydfa_start_pattern(&b, &pattern), LAZYDFA_OK);
+    CODE(lazydfa_add_match(&b, &one.anchored), LAZYDFA_OK);
+    CODE(repeat(&b, 'a', 'c', 3, &one.anchored), LAZYDFA_OK);
+    CODE(lazydfa_finish_pattern(&b, one.anchored, &pattern), LAZYDFA_OK);
+    one.unanchored = both.anchored = one.anchored;
+    CODE(lazydfa_add_unanchored_prefix(&b, one.anchored, &both.unanchored), LAZYDFA_OK);
+    CODE(lazydfa_regex_build(&re, &b, one, NULL, NULL, 0), LAZYDFA_ONE_START);
+    settings.match_kind = 2;
+    CODE(lazydfa_regex_build(&re, &b, one, &settings, NULL, 0), LAZYDFA_ONE_START);
+    settings.match_kind = 0;
+    settings.always_anchored = 9;
+    CODE(lazydfa_regex_build(&re, &b, one, &settings, NULL, 0), LAZYDFA_OK);
+    CODE(lazydfa_cache_new(&c, &re), LAZYDFA_OK);
+    CODE(lazydfa_find(&c, bytes("-abc"), 4, &in, &m), LAZYDFA_NONE);
+    CODE(lazydfa_find(&c, bytes("abc-"), 4, &in, &m), LAZYDFA_OK);
+    CHECK(m.start == 0 && m.end == 3);
+    CODE(lazydfa_cache_close(&c), LAZYDFA_OK);
+    CODE(lazydfa_regex_close(&re), LAZYDFA_OK);
+    /* two starts are as good with the setting as without */
+    CODE(lazydfa_regex_build(&re, &b, both, &settings, NULL, 0), LAZYDFA_OK);
+    CODE(lazydfa_cache_new(&c, &re), LAZYDFA_OK);
+    CODE(lazydfa_find(&c, bytes("-abc"), 4, &in, &m), LAZYDFA_OK);
+    CHECK(m.start == 1 && m.end == 4);
+    CODE(lazydfa_cache_close(&c), LAZYDFA_OK);
+    CODE(lazydfa_regex_close(&re), LAZYDFA_OK);
+    /* of a pair it is the first NFA that counts */
+    CODE(lazydfa_builder_new(&back), LAZYDFA_OK);
+    CODE(lazydfa_set_reverse(&back, 1), LAZYDFA_OK);
+    CODE(lazydfa_start_pattern(&back, &pattern), LAZYDFA_OK);
+    CODE(lazydfa_add_match(&back, &end.anchored), LAZYDFA_OK);
+    CODE(repeat(&back, 'a', 'c', 3, &end.anchored), LAZYDFA_OK);
+    CODE(lazydfa_finish_pattern(&back, end.anchored, &pattern), LAZYDFA_OK);
+    end.unanchored = end.anchored;
+    CODE(lazydfa_regex_build_pair(&re, &b, one, &back, end, NULL, NULL, 0), LAZYDFA_ONE_START);
+    CODE(lazydfa_regex_build_pair(&re, &b, both, &back, end, NULL, NULL, 0), LAZYDFA_OK);
+    CODE(lazydfa_cache_new(&c, &re), LAZYDFA_OK);
+    CODE(lazydfa_find(&c, bytes("-abc"), 4, &in, &m), LAZYDFA_OK);
+    CHECK(m.start == 1 && m.end == 4);
+    CODE(lazydfa_cache_close(&c), LAZYDFA_OK);
+    CODE(lazydfa_regex_close(&re), LAZYDFA_OK);
+    CODE(lazydfa_builder_close(&b), LAZYDFA_OK);
+    CODE(lazydfa_builder_close(&back), LAZYDFA_OK);
+}
+
 /* ---- Wrong handles: every call on a null, a closed and an open handle of another kind ---- */
 
 enum { BUILDER_CALLS = 18, CACHE_CALLS = 13 };
 
 static lazydfa_status on_builder(int call, lazydfa_builder *b) {
-    uint32_t id = 0, next = 0;
-    lazydfa_edge edge = { 'a', 'z', 0, 0 };
+    lazydfa_state_id id = { 0 }, next = { 0 };
+    lazydfa_edge edge = { 'a', 'z', 0, { 0 } };
+    uint32_t pattern;
     switch (call) {
     case 0: return lazydfa_builder_clear(b);
-    case 1: return lazydfa_start_pattern(b, &id);
-    case 2: return lazydfa_finish_pattern(b, 0, &id);
-    case 3: return lazydfa_patch(b, 0, 0);
+    case 1: return lazydfa_start_pattern(b, &pattern);
+    case 2: return lazydfa_finish_pattern(b, next, &pattern);
+    case 3: return lazydfa_patch(b, next, next);
     case 4: return lazydfa_set_utf8(b, 1);
     case 5: return lazydfa_set_reverse(b, 1);
     case 6: return lazydfa_set_line_terminator(b, 0);
     case 7: return lazydfa_add_empty(b, &id);
-    case 8: return lazydfa_add_range(b, 'a', 'z', 0, &id);
+    case 8: return lazydfa_add_range(b, 'a', 'z', next, &id);
     case 9: return lazydfa_add_sparse(b, &edge, 1, &id);
-    case 10: return lazydfa_add_look(b, 0, 0, &id);
+    case 10: return lazydfa_add_look(b, 0, next, &id);
     case 11: return lazydfa_add_union(b, &next, 1, &id);
     case 12: return lazydfa_add_union_reverse(b, &next, 1, &id);
-    case 13: return lazydfa_add_capture_start(b, 0, 0, &id);
-    case 14: return lazydfa_add_capture_end(b, 0, 0, &id);
+    case 13: return lazydfa_add_capture_start(b, 0, next, &id);
+    case 14: return lazydfa_add_capture_end(b, 0, next, &id);
     case 15: return lazydfa_add_fail(b, &id);
     case 16: return lazydfa_add_match(b, &id);
-    default: return lazydfa_add_unanchored_prefix(b, 0, &id);
+    default: return lazydfa_add_unanchored_prefix(b, next, &id);
     }
 }
 
@@ -479,6 +567,14 @@ static void handles(void) {
     CODE(lazydfa_cache_new(&no_cache, &no_regex), LAZYDFA_CLOSED);
     CODE(lazydfa_cache_new(&no_cache, (lazydfa_regex *)(void *)&b), LAZYDFA_KIND);
     CODE(lazydfa_cache_new(&no_cache, (lazydfa_regex *)(void *)&c), LAZYDFA_KIND);
+    CODE(lazydfa_regex_share(NULL, &no_regex), LAZYDFA_ARGUMENT);
+    CODE(lazydfa_regex_share(&re, NULL), LAZYDFA_ARGUMENT);
+    CODE(lazydfa_regex_share(&re, &re), LAZYDFA_ARGUMENT);
+    CODE(lazydfa_regex_share(&no_regex, (lazydfa_regex *)(void *)&no_cache), LAZYDFA_CLOSED);
+    CODE(lazydfa_regex_share((lazydfa_regex *)(void *)&b, &no_regex), LAZYDFA_KIND);
+    CODE(lazydfa_regex_share((lazydfa_regex *)(void *)&c, &no_regex), LAZYDFA_KIND);
+    CODE(lazydfa_regex_share(&re, (lazydfa_regex *)(void *)&b), LAZYDFA_OPEN);
+    CODE(lazydfa_regex_share(&no_regex, (lazydfa_regex *)(void *)&b), LAZYDFA_OPEN);
     for (call = 0; call < BUILDER_CALLS; call++) {
         CODE(on_builder(call, NULL), LAZYDFA_ARGUMENT);
         CODE(on_builder(call, &no_builder), LAZYDFA_CLOSED);
@@ -537,38 +633,40 @@ static void numbers(void) {
     static const uint32_t bad[] = { 0x7FFFFFFFu, 0x80000000u, 0xFFFFFFFFu };
     lazydfa_builder b = LAZYDFA_INIT;
     lazydfa_regex re = LAZYDFA_INIT;
-    lazydfa_edge edge = { 'a', 'z', 0, 0 };
-    lazydfa_starts starts = { 0, 0 };
-    uint32_t id = 77, pattern;
+    lazydfa_edge edge = { 'a', 'z', 0, { 0 } };
+    lazydfa_starts starts = { { 0 }, { 0 } };
+    lazydfa_state_id id = { 77 }, none, zero = { 0 };
+    uint32_t pattern;
     size_t i;
     CODE(lazydfa_builder_new(&b), LAZYDFA_OK);
     CODE(lazydfa_start_pattern(&b, &pattern), LAZYDFA_OK);
-    CODE(lazydfa_add_look(&b, 0, 18, &id), LAZYDFA_ARGUMENT);
+    CODE(lazydfa_add_look(&b, 18, zero, &id), LAZYDFA_ARGUMENT);
     for (i = 0; i < sizeof bad / sizeof *bad; i++) {
-        CODE(lazydfa_finish_pattern(&b, bad[i], &pattern), LAZYDFA_ARGUMENT);
-        CODE(lazydfa_patch(&b, bad[i], 0), LAZYDFA_ARGUMENT);
-        CODE(lazydfa_patch(&b, 0, bad[i]), LAZYDFA_ARGUMENT);
-        CODE(lazydfa_add_range(&b, 'a', 'z', bad[i], &id), LAZYDFA_ARGUMENT);
-        edge.next = bad[i];
+        none = lazydfa_state(bad[i]);
+        CODE(lazydfa_finish_pattern(&b, none, &pattern), LAZYDFA_ARGUMENT);
+        CODE(lazydfa_patch(&b, none, zero), LAZYDFA_ARGUMENT);
+        CODE(lazydfa_patch(&b, zero, none), LAZYDFA_ARGUMENT);
+        CODE(lazydfa_add_range(&b, 'a', 'z', none, &id), LAZYDFA_ARGUMENT);
+        edge.next = none;
         CODE(lazydfa_add_sparse(&b, &edge, 1, &id), LAZYDFA_ARGUMENT);
-        CODE(lazydfa_add_look(&b, bad[i], 0, &id), LAZYDFA_ARGUMENT);
-        CODE(lazydfa_add_look(&b, 0, bad[i], &id), LAZYDFA_ARGUMENT);
-        CODE(lazydfa_add_union(&b, &bad[i], 1, &id), LAZYDFA_ARGUMENT);
-        CODE(lazydfa_add_union_reverse(&b, &bad[i], 1, &id), LAZYDFA_ARGUMENT);
-        CODE(lazydfa_add_capture_start(&b, bad[i], 0, &id), LAZYDFA_ARGUMENT);
-        CODE(lazydfa_add_capture_end(&b, bad[i], 0, &id), LAZYDFA_ARGUMENT);
-        CODE(lazydfa_add_unanchored_prefix(&b, bad[i], &id), LAZYDFA_ARGUMENT);
-        starts.anchored = bad[i];
+        CODE(lazydfa_add_look(&b, 0, none, &id), LAZYDFA_ARGUMENT);
+        CODE(lazydfa_add_look(&b, bad[i], zero, &id), LAZYDFA_ARGUMENT);
+        CODE(lazydfa_add_union(&b, &none, 1, &id), LAZYDFA_ARGUMENT);
+        CODE(lazydfa_add_union_reverse(&b, &none, 1, &id), LAZYDFA_ARGUMENT);
+        CODE(lazydfa_add_capture_start(&b, 0, none, &id), LAZYDFA_ARGUMENT);
+        CODE(lazydfa_add_capture_end(&b, 0, none, &id), LAZYDFA_ARGUMENT);
+        CODE(lazydfa_add_unanchored_prefix(&b, none, &id), LAZYDFA_ARGUMENT);
+        starts.anchored = none;
         CODE(lazydfa_regex_build(&re, &b, starts, NULL, NULL, 0), LAZYDFA_ARGUMENT);
-        starts.anchored = 0;
-        starts.unanchored = bad[i];
+        starts.anchored = zero;
+        starts.unanchored = none;
         CODE(lazydfa_regex_build(&re, &b, starts, NULL, NULL, 0), LAZYDFA_ARGUMENT);
-        starts.unanchored = 0;
+        starts.unanchored = zero;
     }
     /* nothing was added, and nothing written */
-    CHECK(id == 77);
+    CHECK(id.number == 77);
     CODE(lazydfa_add_fail(&b, &id), LAZYDFA_OK);
-    CHECK(id == 0);
+    CHECK(id.number == 0);
     CODE(lazydfa_builder_close(&b), LAZYDFA_OK);
 }
 
@@ -577,26 +675,27 @@ static void numbers(void) {
 static void null_of_builders(void) {
     lazydfa_builder b = LAZYDFA_INIT;
     lazydfa_regex re = LAZYDFA_INIT;
-    lazydfa_starts starts = { 0, 0 };
-    uint32_t id, pattern;
+    lazydfa_starts starts = { { 0 }, { 0 } };
+    lazydfa_state_id id, zero = { 0 };
+    uint32_t pattern;
     CODE(lazydfa_builder_new(&b), LAZYDFA_OK);
     CODE(lazydfa_start_pattern(&b, NULL), LAZYDFA_ARGUMENT);
     CODE(lazydfa_start_pattern(&b, &pattern), LAZYDFA_OK);
-    CODE(lazydfa_finish_pattern(&b, 0, NULL), LAZYDFA_ARGUMENT);
+    CODE(lazydfa_finish_pattern(&b, zero, NULL), LAZYDFA_ARGUMENT);
     CODE(lazydfa_add_empty(&b, NULL), LAZYDFA_ARGUMENT);
-    CODE(lazydfa_add_range(&b, 'a', 'z', 0, NULL), LAZYDFA_ARGUMENT);
+    CODE(lazydfa_add_range(&b, 'a', 'z', zero, NULL), LAZYDFA_ARGUMENT);
     CODE(lazydfa_add_sparse(&b, NULL, 0, NULL), LAZYDFA_ARGUMENT);
     CODE(lazydfa_add_sparse(&b, NULL, 1, &id), LAZYDFA_ARGUMENT);
-    CODE(lazydfa_add_look(&b, 0, 0, NULL), LAZYDFA_ARGUMENT);
+    CODE(lazydfa_add_look(&b, 0, zero, NULL), LAZYDFA_ARGUMENT);
     CODE(lazydfa_add_union(&b, NULL, 0, NULL), LAZYDFA_ARGUMENT);
     CODE(lazydfa_add_union(&b, NULL, 1, &id), LAZYDFA_ARGUMENT);
     CODE(lazydfa_add_union_reverse(&b, NULL, 0, NULL), LAZYDFA_ARGUMENT);
     CODE(lazydfa_add_union_reverse(&b, NULL, 1, &id), LAZYDFA_ARGUMENT);
-    CODE(lazydfa_add_capture_start(&b, 0, 0, NULL), LAZYDFA_ARGUMENT);
-    CODE(lazydfa_add_capture_end(&b, 0, 0, NULL), LAZYDFA_ARGUMENT);
+    CODE(lazydfa_add_capture_start(&b, 0, zero, NULL), LAZYDFA_ARGUMENT);
+    CODE(lazydfa_add_capture_end(&b, 0, zero, NULL), LAZYDFA_ARGUMENT);
     CODE(lazydfa_add_fail(&b, NULL), LAZYDFA_ARGUMENT);
     CODE(lazydfa_add_match(&b, NULL), LAZYDFA_ARGUMENT);
-    CODE(lazydfa_add_unanchored_prefix(&b, 0, NULL), LAZYDFA_ARGUMENT);
+    CODE(lazydfa_add_unanchored_prefix(&b, zero, NULL), LAZYDFA_ARGUMENT);
     CODE(lazydfa_regex_build(NULL, &b, starts, NULL, NULL, 0), LAZYDFA_ARGUMENT);
     CODE(lazydfa_regex_build(&re, NULL, starts, NULL, NULL, 0), LAZYDFA_ARGUMENT);
     CODE(lazydfa_regex_build(&re, &b, starts, NULL, NULL, 1), LAZYDFA_ARGUMENT);
@@ -606,7 +705,7 @@ static void null_of_builders(void) {
     CODE(lazydfa_regex_build_pair(&re, &b, starts, &b, starts, NULL, NULL, 0), LAZYDFA_ARGUMENT);
     /* nothing was added: an empty union is the first state */
     CODE(lazydfa_add_union(&b, NULL, 0, &id), LAZYDFA_OK);
-    CHECK(id == 0);
+    CHECK(id.number == 0);
     CODE(lazydfa_builder_close(&b), LAZYDFA_OK);
 }
 
@@ -685,6 +784,8 @@ int main(void) {
     builders();
     refusals();
     pairs();
+    shares();
+    one_start();
     handles();
     inputs();
     numbers();

@@ -77,10 +77,11 @@ static void complain(const char *what, int line) {
 
 /* [a-z]+ and (?m:^)[0-9a-z ] */
 static void build(lazydfa_builder *b, lazydfa_starts *starts) {
-    uint32_t pattern, letter, found, more, one, end, look, alternates[2];
-    lazydfa_edge edges[3] = { { ' ', ' ', 0, 0 }, { '0', '9', 0, 0 }, { 'a', 'z', 0, 0 } };
+    lazydfa_state_id letter, found, more, one, end, look, alternates[2];
+    lazydfa_edge edges[3] = { { ' ', ' ', 0, { 0 } }, { '0', '9', 0, { 0 } }, { 'a', 'z', 0, { 0 } } };
+    uint32_t pattern;
     WANT(lazydfa_start_pattern(b, &pattern), LAZYDFA_OK);
-    WANT(lazydfa_add_range(b, 'a', 'z', 0, &letter), LAZYDFA_OK);
+    WANT(lazydfa_add_range(b, 'a', 'z', lazydfa_state(0), &letter), LAZYDFA_OK);
     WANT(lazydfa_add_match(b, &found), LAZYDFA_OK);
     WANT(lazydfa_add_union(b, &letter, 1, &more), LAZYDFA_OK);
     WANT(lazydfa_patch(b, more, found), LAZYDFA_OK);
@@ -90,14 +91,14 @@ static void build(lazydfa_builder *b, lazydfa_starts *starts) {
     WANT(lazydfa_add_match(b, &end), LAZYDFA_OK);
     edges[0].next = edges[1].next = edges[2].next = end;
     WANT(lazydfa_add_sparse(b, edges, 3, &one), LAZYDFA_OK);
-    WANT(lazydfa_add_look(b, one, LAZYDFA_LOOK_START_LF, &look), LAZYDFA_OK);
-    WANT(lazydfa_add_capture_start(b, look, 0, &look), LAZYDFA_OK);
+    WANT(lazydfa_add_look(b, LAZYDFA_LOOK_START_LF, one, &look), LAZYDFA_OK);
+    WANT(lazydfa_add_capture_start(b, 0, look, &look), LAZYDFA_OK);
     WANT(lazydfa_finish_pattern(b, look, &pattern), LAZYDFA_OK);
     alternates[0] = letter;
     alternates[1] = look;
     WANT(lazydfa_add_union_reverse(b, alternates, 2, &starts->anchored), LAZYDFA_OK);
     WANT(lazydfa_add_unanchored_prefix(b, starts->anchored, &starts->unanchored), LAZYDFA_OK);
-    IS(starts->anchored == 7 && starts->unanchored == 8 && pattern == 1);
+    IS(starts->anchored.number == 7 && starts->unanchored.number == 8 && pattern == 1);
 }
 
 static void iterate(lazydfa_cache *c, const uint8_t *hay, size_t length) {
@@ -189,12 +190,56 @@ static void search(lazydfa_cache *c, lazydfa_cache *every, const uint8_t *hay, s
     IS(count == 0);
 }
 
+/* A search in pieces stands where it stood when the memory for a piece is refused, and other searches may come
+   between. */
+static void search_pieces(lazydfa_cache *c) {
+    lazydfa_input in = lazydfa_whole(2);
+    lazydfa_half h;
+    uint32_t done;
+    WANT(lazydfa_cache_reset(c), LAZYDFA_OK);
+    WANT(lazydfa_pieces_begin(c, LAZYDFA_UNANCHORED, 0, 'x', 0), LAZYDFA_OK);
+    WANT(lazydfa_pieces_read(c, (const uint8_t *)"-!", 2, &done), LAZYDFA_OK);
+    IS(!done);
+    WANT(lazydfa_pieces_read(c, (const uint8_t *)"ab", 2, &done), LAZYDFA_OK);
+    IS(!done);
+    WANT(lazydfa_cache_reset(c), LAZYDFA_OK);
+    WANT(lazydfa_pieces_end(c, '-', &h), LAZYDFA_OK);
+    IS(h.offset == 4 && h.pattern == 0);
+    WANT(lazydfa_find_end(c, (const uint8_t *)"1a", 2, &in, &h), LAZYDFA_OK);
+    IS(h.offset == 1 && h.pattern == 1);
+    WANT(lazydfa_pieces_read(c, (const uint8_t *)"cd--", 4, &done), LAZYDFA_OK);
+    IS(done);
+    WANT(lazydfa_pieces_end(c, -1, &h), LAZYDFA_OK);
+    IS(h.offset == 6 && h.pattern == 0);
+}
+
+/* So does a walk, and it lists what it listed. In "-ab\n5-" [a-z]+ ends at 2 and at 3, and a line begins with 5. */
+static void walk_pieces(lazydfa_cache *c) {
+    lazydfa_stop stop;
+    uint32_t pattern, first = 0;
+    WANT(lazydfa_cache_reset(c), LAZYDFA_OK);
+    WANT(lazydfa_walk_begin(c, LAZYDFA_UNANCHORED, 0, -1), LAZYDFA_OK);
+    WANT(lazydfa_walk_read(c, (const uint8_t *)"-a", 2, &stop), LAZYDFA_NONE);
+    WANT(lazydfa_walk_end(c, -1, &stop), LAZYDFA_OK);
+    IS(stop.read == 0 && stop.offset == 2 && stop.patterns == 1);
+    WANT(lazydfa_walk_read(c, (const uint8_t *)"b\n5-", 4, &stop), LAZYDFA_OK);
+    IS(stop.read == 1 && stop.offset == 2 && stop.patterns == 1);
+    WANT(lazydfa_cache_reset(c), LAZYDFA_OK);
+    WANT(lazydfa_walk_pattern(c, 0, &first), LAZYDFA_OK);
+    WANT(lazydfa_walk_read(c, (const uint8_t *)"\n5-", 3, &stop), LAZYDFA_OK);
+    IS(stop.read == 1 && stop.offset == 3 && stop.patterns == 1 && first == 0);
+    WANT(lazydfa_walk_read(c, (const uint8_t *)"5-", 2, &stop), LAZYDFA_OK);
+    WANT(lazydfa_walk_pattern(c, 0, &pattern), LAZYDFA_OK);
+    IS(stop.read == 2 && stop.offset == 5 && stop.patterns == 1 && pattern == 1);
+}
+
 /* The pair of [a-z]+ with itself: it reads the same backward. */
 static void search_pair(lazydfa_builder *b, lazydfa_regex *re, lazydfa_cache *c) {
     lazydfa_starts starts[2];
     lazydfa_input in = lazydfa_whole(5);
     lazydfa_match m;
-    uint32_t pattern, found, empty, both[2];
+    lazydfa_state_id found, empty, more, both[2];
+    uint32_t pattern;
     int i;
     for (i = 0; i < 2; i++) {
         WANT(lazydfa_builder_new(&b[i]), LAZYDFA_OK);
@@ -203,13 +248,13 @@ static void search_pair(lazydfa_builder *b, lazydfa_regex *re, lazydfa_cache *c)
         WANT(lazydfa_builder_clear(&b[i]), LAZYDFA_OK);
         WANT(lazydfa_start_pattern(&b[i], &pattern), LAZYDFA_OK);
         WANT(lazydfa_add_match(&b[i], &found), LAZYDFA_OK);
-        WANT(lazydfa_add_capture_end(&b[i], found, 0, &found), LAZYDFA_OK);
+        WANT(lazydfa_add_capture_end(&b[i], 0, found, &found), LAZYDFA_OK);
         WANT(lazydfa_add_empty(&b[i], &empty), LAZYDFA_OK);
         WANT(lazydfa_add_range(&b[i], 'a', 'z', empty, &starts[i].anchored), LAZYDFA_OK);
         both[0] = starts[i].anchored;
         both[1] = found;
-        WANT(lazydfa_add_union(&b[i], both, 2, &pattern), LAZYDFA_OK);
-        WANT(lazydfa_patch(&b[i], empty, pattern), LAZYDFA_OK);
+        WANT(lazydfa_add_union(&b[i], both, 2, &more), LAZYDFA_OK);
+        WANT(lazydfa_patch(&b[i], empty, more), LAZYDFA_OK);
         WANT(lazydfa_finish_pattern(&b[i], starts[i].anchored, &pattern), LAZYDFA_OK);
         WANT(lazydfa_add_unanchored_prefix(&b[i], starts[i].anchored, &starts[i].unanchored), LAZYDFA_OK);
     }
@@ -217,6 +262,21 @@ static void search_pair(lazydfa_builder *b, lazydfa_regex *re, lazydfa_cache *c)
     WANT(lazydfa_cache_new(c, re), LAZYDFA_OK);
     WANT(lazydfa_find(c, (const uint8_t *)"-abc-", 5, &in, &m), LAZYDFA_OK);
     IS(m.start == 1 && m.end == 4);
+}
+
+/* Another handle on the regex of the first, and a cache by it, which stay when the first is closed. */
+static void search_shared(lazydfa_regex *re, lazydfa_regex *other, lazydfa_cache *c) {
+    lazydfa_input in = lazydfa_whole(5);
+    lazydfa_match m;
+    WANT(lazydfa_regex_new(re, "[a-z]+", 6, NULL, NULL, NULL, 0, NULL, NULL, 0), LAZYDFA_OK);
+    WANT(lazydfa_regex_share(re, other), LAZYDFA_OK);
+    WANT(lazydfa_regex_close(re), LAZYDFA_OK);
+    WANT(lazydfa_cache_new(c, other), LAZYDFA_OK);
+    WANT(lazydfa_find(c, (const uint8_t *)"-abc-", 5, &in, &m), LAZYDFA_OK);
+    IS(m.start == 1 && m.end == 4);
+    WANT(lazydfa_regex_share(other, re), LAZYDFA_OK);
+    WANT(lazydfa_regex_close(re), LAZYDFA_OK);
+    WANT(lazydfa_regex_reverse(other, re), LAZYDFA_OK);
 }
 
 /* The set of a\pN+ and (?i)b|, from their texts, and the message of a text that is none. */
@@ -253,15 +313,15 @@ static void search_texts(lazydfa_regex *re, lazydfa_cache *c) {
 
 /* The handles of a program. */
 typedef struct {
-    lazydfa_builder builders[4];
-    lazydfa_regex regexes[4];
-    lazydfa_cache caches[4];
+    lazydfa_builder builders[5];
+    lazydfa_regex regexes[5], other;
+    lazydfa_cache caches[5];
 } handles;
 
-/* A builder, two regexes of it and a cache of each, and every search; and a pair. */
+/* A builder, two regexes of it and a cache of each, and every search; a pair, texts, and a regex with two handles. */
 static void run(handles *h) {
     lazydfa_settings settings;
-    lazydfa_starts starts = { 0, 0 };
+    lazydfa_starts starts = { { 0 }, { 0 } };
     memset(&settings, 0, sizeof settings);
     settings.match_kind = LAZYDFA_ALL;
     WANT(lazydfa_builder_new(&h->builders[0]), LAZYDFA_OK);
@@ -271,9 +331,13 @@ static void run(handles *h) {
     WANT(lazydfa_cache_new(&h->caches[0], &h->regexes[0]), LAZYDFA_OK);
     WANT(lazydfa_cache_new(&h->caches[1], &h->regexes[1]), LAZYDFA_OK);
     search(&h->caches[0], &h->caches[1], (const uint8_t *)"ab 1 cde-", 9);
+    search_pieces(&h->caches[0]);
+    walk_pieces(&h->caches[1]);
     search_pair(&h->builders[1], &h->regexes[2], &h->caches[2]);
     WANT(lazydfa_builder_new(&h->builders[3]), LAZYDFA_OK);
     search_texts(&h->regexes[3], &h->caches[3]);
+    WANT(lazydfa_builder_new(&h->builders[4]), LAZYDFA_OK);
+    search_shared(&h->regexes[4], &h->other, &h->caches[4]);
 }
 
 /* Closes all, a regex before its cache or after it, while every allocation would be refused: none is asked for. */
@@ -282,7 +346,8 @@ static void close_all(handles *h) {
     only = 0;
     from = 1;
     calls = 0;
-    for (i = 0; i < 4; i++) {
+    if (lazydfa_regex_close(&h->other).code != LAZYDFA_OK) complain("a handle is not closed", __LINE__);
+    for (i = 0; i < 5; i++) {
         lazydfa_status status[3];
         int k;
         if (i % 2) status[0] = lazydfa_cache_close(&h->caches[i]);
@@ -297,9 +362,10 @@ static void close_all(handles *h) {
 }
 
 static long cycle(long one, long first) {
-    handles h = { { LAZYDFA_INIT, LAZYDFA_INIT, LAZYDFA_INIT, LAZYDFA_INIT },
-                  { LAZYDFA_INIT, LAZYDFA_INIT, LAZYDFA_INIT, LAZYDFA_INIT },
-                  { LAZYDFA_INIT, LAZYDFA_INIT, LAZYDFA_INIT, LAZYDFA_INIT } };
+    handles h = { { LAZYDFA_INIT, LAZYDFA_INIT, LAZYDFA_INIT, LAZYDFA_INIT, LAZYDFA_INIT },
+                  { LAZYDFA_INIT, LAZYDFA_INIT, LAZYDFA_INIT, LAZYDFA_INIT, LAZYDFA_INIT },
+                  LAZYDFA_INIT,
+                  { LAZYDFA_INIT, LAZYDFA_INIT, LAZYDFA_INIT, LAZYDFA_INIT, LAZYDFA_INIT } };
     long before = refused, known = reported, asked;
     calls = blocks = 0;
     only = one;

@@ -13,7 +13,8 @@
 typedef lazydfa_status make_nfa(lazydfa_builder *, lazydfa_starts *);
 
 /* `count` copies of [lo-hi] before the state at *at, which becomes the first of them. */
-static inline lazydfa_status repeat(lazydfa_builder *b, uint8_t lo, uint8_t hi, int count, uint32_t *at) {
+static inline lazydfa_status repeat(lazydfa_builder *b, uint8_t lo, uint8_t hi, int count,
+                                    lazydfa_state_id *at) {
     lazydfa_status ok = { LAZYDFA_OK, 0, 0 };
     int i;
     for (i = 0; i < count; i++) TRY(lazydfa_add_range(b, lo, hi, *at, at));
@@ -22,7 +23,8 @@ static inline lazydfa_status repeat(lazydfa_builder *b, uint8_t lo, uint8_t hi, 
 
 /* [0-9]{4}-[0-9]{2}-[0-9]{2} */
 static inline lazydfa_status date(lazydfa_builder *b, lazydfa_starts *starts) {
-    uint32_t pattern, at;
+    lazydfa_state_id at;
+    uint32_t pattern;
     TRY(lazydfa_start_pattern(b, &pattern));
     TRY(lazydfa_add_match(b, &at));
     TRY(repeat(b, '0', '9', 2, &at));
@@ -37,9 +39,10 @@ static inline lazydfa_status date(lazydfa_builder *b, lazydfa_starts *starts) {
 
 /* [a-z]+ */
 static inline lazydfa_status word(lazydfa_builder *b, lazydfa_starts *starts) {
-    uint32_t pattern, letter, found, more, alternates[2];
+    lazydfa_state_id letter, found, more, alternates[2];
+    uint32_t pattern;
     TRY(lazydfa_start_pattern(b, &pattern));
-    TRY(lazydfa_add_range(b, 'a', 'z', 0, &letter));
+    TRY(lazydfa_add_range(b, 'a', 'z', lazydfa_state(0), &letter));
     TRY(lazydfa_add_match(b, &found));
     alternates[0] = letter;
     alternates[1] = found;
@@ -52,10 +55,11 @@ static inline lazydfa_status word(lazydfa_builder *b, lazydfa_starts *starts) {
 
 /* [a-z]+ and [0-9a-z ] */
 static inline lazydfa_status two(lazydfa_builder *b, lazydfa_starts *starts) {
-    uint32_t pattern, letter, found, more, one, end, alternates[2];
-    lazydfa_edge edges[3] = { { ' ', ' ', 0, 0 }, { '0', '9', 0, 0 }, { 'a', 'z', 0, 0 } };
+    lazydfa_state_id letter, found, more, one, end, alternates[2];
+    lazydfa_edge edges[3] = { { ' ', ' ', 0, { 0 } }, { '0', '9', 0, { 0 } }, { 'a', 'z', 0, { 0 } } };
+    uint32_t pattern;
     TRY(lazydfa_start_pattern(b, &pattern));
-    TRY(lazydfa_add_range(b, 'a', 'z', 0, &letter));
+    TRY(lazydfa_add_range(b, 'a', 'z', lazydfa_state(0), &letter));
     TRY(lazydfa_add_match(b, &found));
     alternates[0] = letter;
     alternates[1] = found;
@@ -75,7 +79,8 @@ static inline lazydfa_status two(lazydfa_builder *b, lazydfa_starts *starts) {
 
 /* a[ab]{8}, whose DFA has 512 states */
 static inline lazydfa_status many(lazydfa_builder *b, lazydfa_starts *starts) {
-    uint32_t pattern, at;
+    lazydfa_state_id at;
+    uint32_t pattern;
     TRY(lazydfa_start_pattern(b, &pattern));
     TRY(lazydfa_add_match(b, &at));
     TRY(repeat(b, 'a', 'b', 8, &at));
@@ -90,7 +95,7 @@ static inline lazydfa_status open_cache(lazydfa_cache *cache, make_nfa *make, co
                                         const uint8_t *quits, size_t length) {
     lazydfa_builder builder = LAZYDFA_INIT;
     lazydfa_regex regex = LAZYDFA_INIT;
-    lazydfa_starts starts = { 0, 0 };
+    lazydfa_starts starts = { { 0 }, { 0 } };
     lazydfa_status status = lazydfa_builder_new(&builder);
     if (status.code == LAZYDFA_OK) status = make(&builder, &starts);
     if (status.code == LAZYDFA_OK)

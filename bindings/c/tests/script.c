@@ -71,6 +71,8 @@ static size_t number(const char *digits) {
     return value;
 }
 
+static lazydfa_state_id state_of(const char *digits) { return lazydfa_state((uint32_t)number(digits)); }
+
 static unsigned digit(char c) {
     if (c >= '0' && c <= '9') return (unsigned)(c - '0');
     if (c >= 'a' && c <= 'f') return (unsigned)(c - 'a') + 10;
@@ -108,7 +110,8 @@ static uint32_t numbers(char *list, uint32_t *found) {
     return count;
 }
 
-/* Ranges and where they lead, and how many there are. Those of a dense state that lead to state 0 are no transitions. */
+/* Ranges and where they lead, and how many there are. Those of a dense state that lead to state 0 are no transitions.
+   */
 static size_t edges_of(char *list, lazydfa_edge *found, int is_dense) {
     size_t count = 0;
     char *part = *list ? strtok(list, ",") : NULL;
@@ -118,8 +121,8 @@ static size_t edges_of(char *list, lazydfa_edge *found, int is_dense) {
         memset(&found[count], 0, sizeof *found);
         found[count].lo = byte(part);
         found[count].hi = byte(part[2] == '-' ? part + 3 : part);
-        found[count].next = (uint32_t)number(colon + 1);
-        count += !is_dense || found[count].next;
+        found[count].next = state_of(colon + 1);
+        count += !is_dense || found[count].next.number;
     }
     return count;
 }
@@ -141,7 +144,7 @@ static lazydfa_status begin_patterns(lazydfa_builder *b, struct outline *o, uint
     lazydfa_status ok = { LAZYDFA_OK, 0, 0 };
     uint32_t pattern;
     for (; o->begun < count; o->begun++) {
-        if (o->begun) TRY(lazydfa_finish_pattern(b, o->patterns[o->begun - 1], &pattern));
+        if (o->begun) TRY(lazydfa_finish_pattern(b, lazydfa_state(o->patterns[o->begun - 1]), &pattern));
         TRY(lazydfa_start_pattern(b, &pattern));
     }
     return ok;
@@ -149,24 +152,27 @@ static lazydfa_status begin_patterns(lazydfa_builder *b, struct outline *o, uint
 
 /* A union; with one alternate it is an empty state that is patched. */
 static lazydfa_status add_union(lazydfa_builder *b, char *list) {
-    uint32_t found[STATES], count = numbers(list, found), id;
-    if (count != 1) return lazydfa_add_union(b, found, count, &id);
+    uint32_t found[STATES], count = numbers(list, found), i;
+    lazydfa_state_id alternates[STATES], id;
+    for (i = 0; i < count; i++) alternates[i] = lazydfa_state(found[i]);
+    if (count != 1) return lazydfa_add_union(b, alternates, count, &id);
     TRY(lazydfa_add_empty(b, &id));
-    return lazydfa_patch(b, id, found[0]);
+    return lazydfa_patch(b, id, alternates[0]);
 }
 
 static lazydfa_status add_look(lazydfa_builder *b, char *rest) {
     char *colon = strchr(rest, ':');
-    uint32_t id;
+    lazydfa_state_id id;
     if (!colon) bad_line();
     *colon = '\0';
-    return lazydfa_add_look(b, (uint32_t)number(colon + 1), look_of(rest), &id);
+    return lazydfa_add_look(b, look_of(rest), state_of(colon + 1), &id);
 }
 
 /* Adds a state that a word writes. */
 static lazydfa_status add_word(lazydfa_builder *b, struct outline *o, char *word) {
     lazydfa_edge found[STATES];
-    uint32_t id, pattern;
+    lazydfa_state_id id;
+    uint32_t pattern;
     char *rest = word + 1;
     switch (*word) {
     case 'B':
@@ -183,7 +189,7 @@ static lazydfa_status add_word(lazydfa_builder *b, struct outline *o, char *word
     case 'C': /* The group is one of a pattern. Without one the state is written as a union of its target. */
         if (!o->pattern_count) return add_union(b, rest);
         if (!o->begun) TRY(begin_patterns(b, o, 1));
-        return lazydfa_add_capture_start(b, (uint32_t)number(rest), 0, &id);
+        return lazydfa_add_capture_start(b, 0, state_of(rest), &id);
     case 'F': return lazydfa_add_fail(b, &id);
     case 'M':
         pattern = (uint32_t)number(rest);
@@ -209,14 +215,15 @@ static const char *skipped_before(const struct outline *o, size_t at, size_t sta
 static lazydfa_status add_words(lazydfa_builder *b, struct outline *o) {
     lazydfa_status ok = { LAZYDFA_OK, 0, 0 };
     size_t at, state = 0;
-    uint32_t pattern, id;
+    lazydfa_state_id id;
+    uint32_t pattern;
     for (at = 1; at < o->word_count; at++) {
         const char *start = skipped_before(o, at, state), *line = after(o->words[at], "line=");
         if (!strcmp(o->words[at], "utf8")) TRY(lazydfa_set_utf8(b, 1));
         else if (!strcmp(o->words[at], "rev")) TRY(lazydfa_set_reverse(b, 1));
         else if (line) TRY(lazydfa_set_line_terminator(b, byte(line)));
         else if (start) {
-            TRY(lazydfa_add_unanchored_prefix(b, (uint32_t)number(start), &id));
+            TRY(lazydfa_add_unanchored_prefix(b, state_of(start), &id));
             at++;
             state += 2;
         } else {
@@ -225,7 +232,7 @@ static lazydfa_status add_words(lazydfa_builder *b, struct outline *o) {
         }
     }
     TRY(begin_patterns(b, o, o->pattern_count));
-    if (o->begun) TRY(lazydfa_finish_pattern(b, o->patterns[o->begun - 1], &pattern));
+    if (o->begun) TRY(lazydfa_finish_pattern(b, lazydfa_state(o->patterns[o->begun - 1]), &pattern));
     return ok;
 }
 
@@ -243,8 +250,8 @@ static lazydfa_status add_nfa(lazydfa_builder *b, size_t at, lazydfa_starts *sta
     *slash = '\0';
     comma = strchr(slash + 1, ',');
     if (comma) *comma = '\0';
-    starts->anchored = (uint32_t)number(o.words[0]);
-    starts->unanchored = (uint32_t)number(slash + 1);
+    starts->anchored = state_of(o.words[0]);
+    starts->unanchored = state_of(slash + 1);
     o.pattern_count = comma ? numbers(comma + 1, o.patterns) : 0;
     status = add_words(b, &o);
     free(o.text);
@@ -291,19 +298,20 @@ static void set_option(struct definition *d, const char *option) {
 }
 
 static lazydfa_status add_state(lazydfa_builder *b, const struct state *state) {
-    lazydfa_edge edges[4] = { { '0', '9', 0, 0 }, { 'A', 'Z', 0, 0 }, { '_', '_', 0, 0 }, { 'a', 'z', 0, 0 } };
-    uint32_t both[2], id;
+    lazydfa_state_id next = lazydfa_state(state->next), both[2], id;
+    lazydfa_edge edges[4] = {
+        { '0', '9', 0, { 0 } }, { 'A', 'Z', 0, { 0 } }, { '_', '_', 0, { 0 } }, { 'a', 'z', 0, { 0 } } };
     int i;
     switch (state->kind) {
-    case RANGE: return lazydfa_add_range(b, state->lo, state->hi, state->next, &id);
+    case RANGE: return lazydfa_add_range(b, state->lo, state->hi, next, &id);
     case WORD:
-        for (i = 0; i < 4; i++) edges[i].next = state->next;
+        for (i = 0; i < 4; i++) edges[i].next = next;
         return lazydfa_add_sparse(b, edges, 4, &id);
     case EITHER:
-        both[0] = state->next;
-        both[1] = state->other;
+        both[0] = next;
+        both[1] = lazydfa_state(state->other);
         return lazydfa_add_union(b, both, 2, &id);
-    case ASSERT: return lazydfa_add_look(b, state->next, state->lo, &id);
+    case ASSERT: return lazydfa_add_look(b, state->lo, next, &id);
     case ACCEPT: return lazydfa_add_match(b, &id);
     default: return lazydfa_add_fail(b, &id);
     }
@@ -318,7 +326,7 @@ static lazydfa_status add_states(lazydfa_builder *b, const struct entry *entry, 
     for (i = 0; i < entry->length; i++) {
         TRY(add_state(b, &states[i]));
         if (states[i].kind != ACCEPT) continue;
-        TRY(lazydfa_finish_pattern(b, entry->starts[states[i].next], &pattern));
+        TRY(lazydfa_finish_pattern(b, lazydfa_state(entry->starts[states[i].next]), &pattern));
         if (states[i].next + 1 < entry->patterns) TRY(lazydfa_start_pattern(b, &pattern));
     }
     return ok;
@@ -328,7 +336,7 @@ static lazydfa_status add_states(lazydfa_builder *b, const struct entry *entry, 
 static lazydfa_status fill(lazydfa_builder *b, const struct definition *d, int is_backward, lazydfa_starts *starts) {
     TRY(lazydfa_builder_new(b));
     if (!d->entry) return add_nfa(b, is_backward ? d->backward : d->forward, starts);
-    starts->unanchored = d->entry->unanchored;
+    starts->unanchored = lazydfa_state(d->entry->unanchored);
     TRY(lazydfa_set_utf8(b, d->entry->utf8));
     TRY(lazydfa_set_reverse(b, (uint32_t)is_backward));
     return add_states(b, d->entry, is_backward ? d->entry->backward : d->entry->forward);
@@ -337,7 +345,7 @@ static lazydfa_status fill(lazydfa_builder *b, const struct definition *d, int i
 static lazydfa_status build(const struct definition *d, lazydfa_cache *cache) {
     lazydfa_builder forward = LAZYDFA_INIT, backward = LAZYDFA_INIT;
     lazydfa_regex regex = LAZYDFA_INIT;
-    lazydfa_starts starts = { 0, 0 }, back_starts = { 0, 0 };
+    lazydfa_starts starts = { { 0 }, { 0 } }, back_starts = { { 0 }, { 0 } };
     lazydfa_status status = fill(&forward, d, 0, &starts);
     if (status.code == LAZYDFA_OK && !d->is_made) status = fill(&backward, d, 1, &back_starts);
     if (status.code == LAZYDFA_OK)
@@ -363,7 +371,9 @@ static void refuse(const struct definition *d, lazydfa_status status) {
         printf("given cache capacity (%lu) is smaller than minimum required (%lu)\n",
                (unsigned long)d->settings.cache_capacity, (unsigned long)status.offset);
         break;
-    case LAZYDFA_NOT_LAZY: puts("the unanchored start does not skip lazily, so an unanchored match may have no start"); break;
+    case LAZYDFA_NOT_LAZY:
+        puts("the unanchored start does not skip lazily, so an unanchored match may have no start");
+        break;
     case LAZYDFA_NOT_UTF8: puts("a match may be invalid UTF-8, so in UTF-8 mode it might split a character"); break;
     case LAZYDFA_STARTS: puts("the starts differ in the empty match, so the reversed NFA would have others"); break;
     default: puts(lazydfa_code_text(status.code));
@@ -389,6 +399,7 @@ static void define(char *line) {
     struct definition d;
     lazydfa_status status;
     memset(&d, 0, sizeof d);
+    d.settings.always_anchored = 1;
     set_source(&d, &line);
     if (regexes == MOST) bad_line();
     while ((option = next_word(&line))) set_option(&d, option);

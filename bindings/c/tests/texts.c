@@ -277,6 +277,37 @@ static void messages(void) {
     }
 }
 
+/* Whether a call wrote that it refused no text, over what stood there. */
+#define WRITES_NONE(call, wanted)                                                             \
+    do {                                                                                      \
+        memset(&refusal, 9, sizeof refusal);                                                  \
+        memset(message, 9, sizeof message);                                                   \
+        CHECK((call).code == (wanted));                                                       \
+        CHECK(!refusal.pattern && !refusal.start && !refusal.end && !refusal.length);         \
+        CHECK(!*message);                                                                     \
+    } while (0)
+
+static void writes(void) {
+    lazydfa_text none = { NULL, 1 }, a = { "a", 1 };
+    lazydfa_regex re = LAZYDFA_INIT;
+    lazydfa_refusal refusal;
+    char message[8];
+    WRITES_NONE(lazydfa_regex_new(NULL, "a", 1, NULL, NULL, NULL, 0, &refusal, message, 8), LAZYDFA_ARGUMENT);
+    WRITES_NONE(lazydfa_regex_new(&re, NULL, 1, NULL, NULL, NULL, 0, &refusal, message, 8), LAZYDFA_ARGUMENT);
+    WRITES_NONE(lazydfa_regex_new(&re, "a", 1, NULL, NULL, NULL, 1, &refusal, message, 8), LAZYDFA_ARGUMENT);
+    WRITES_NONE(lazydfa_regex_any_of(NULL, &a, 1, NULL, NULL, NULL, 0, &refusal, message, 8), LAZYDFA_ARGUMENT);
+    WRITES_NONE(lazydfa_regex_any_of(&re, NULL, 1, NULL, NULL, NULL, 0, &refusal, message, 8), LAZYDFA_ARGUMENT);
+    WRITES_NONE(lazydfa_regex_any_of(&re, &none, 1, NULL, NULL, NULL, 0, &refusal, message, 8), LAZYDFA_ARGUMENT);
+    WRITES_NONE(lazydfa_regex_any_of(&re, &a, 1, NULL, NULL, NULL, 1, &refusal, message, 8), LAZYDFA_ARGUMENT);
+    WRITES_NONE(lazydfa_regex_any_of(&re, &a, 1, NULL, NULL, NULL, 0, &refusal, message, 8), LAZYDFA_OK);
+    WRITES_NONE(lazydfa_regex_any_of(&re, &a, 1, NULL, NULL, NULL, 0, &refusal, message, 8), LAZYDFA_OPEN);
+    WRITES_NONE(lazydfa_regex_new(&re, "a", 1, NULL, NULL, NULL, 0, &refusal, message, 8), LAZYDFA_OPEN);
+    CHECK(lazydfa_regex_close(&re).code == LAZYDFA_OK);
+    memset(&refusal, 9, sizeof refusal);
+    CHECK(lazydfa_regex_new(&re, "a", 1, NULL, NULL, NULL, 0, &refusal, NULL, 1).code == LAZYDFA_ARGUMENT);
+    CHECK(!refusal.pattern && !refusal.start && !refusal.end && !refusal.length);
+}
+
 static void nulls(void) {
     lazydfa_text text = { NULL, 1 };
     lazydfa_regex regex = LAZYDFA_INIT;
@@ -305,6 +336,7 @@ int main(void) {
     sets();
     quit_bytes();
     messages();
+    writes();
     nulls();
     printf("%d checks, %d failed\n", made, failed);
     return failed != 0;

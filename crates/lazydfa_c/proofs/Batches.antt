@@ -7,7 +7,7 @@ use Rattle.std.specs.Prelude.{Ok, Some}
 use Rattle.automata_base.specs.declared.util.search.Direction.{Direction}
 use Rattle.automata_hybrid.specs.Walks.State.{Walk}
 use Rattle.regex_automata.specs.Promises.{CacheView, HalfMatch, Input, Machine}
-use Rattle.lazydfa_c.specs.Batches.{AreCalls, AreSteps, InTurn, IsStep}
+use Rattle.lazydfa_c.specs.Batches.{AreCalls, AreWalkSteps, InTurn, IsWalkStep}
 use Rattle.lazydfa_c.specs.Codes.{number_of}
 use Rattle.lazydfa_c.specs.Statuses.{plain}
 use Rattle.lazydfa_c.specs.declared.code.Code.TheVariants as code
@@ -107,13 +107,13 @@ filled Call was items count i old at s u status far full is = record {
 pub step_more :
     (way : Direction) (m : Machine) (input : Input) (halves : List HalfMatch) (half : HalfMatch)
     (walk w next : Walk) (old c new : CacheView)
-    → AreSteps way m input halves walk w old c → IsStep way m input w next c new (Ok (Some half))
-    → AreSteps way m input (halves ++ half ∷ []) walk next old new
+    → AreWalkSteps way m input halves walk w old c → IsWalkStep way m input w next c new (Ok (Some half))
+    → AreWalkSteps way m input (halves ++ half ∷ []) walk next old new
 step_more way m input [] half walk w next old c new steps step = (
   next,
   new,
-  subst (λ (v : Walk). IsStep way m input v next old new (Ok (Some half))) steps.0
-      (subst (λ (b : CacheView). IsStep way m input w next b new (Ok (Some half))) steps.1 step),
+  subst (λ (v : Walk). IsWalkStep way m input v next old new (Ok (Some half))) steps.0
+      (subst (λ (b : CacheView). IsWalkStep way m input w next b new (Ok (Some half))) steps.1 step),
   (refl, refl),
 )
 step_more way m input (h ∷ halves) half walk w next old c new steps step =

@@ -7,8 +7,8 @@ use Rattle.lazydfa_c.specs.declared.code.Code.TheVariants.{Done, Nothing, Closed
 use Rattle.lazydfa_c.specs.declared.code.Code.TheVariants.{NoPattern, UnfinishedPattern, PatchRange, SparsePatch}
 use Rattle.lazydfa_c.specs.declared.code.Code.TheVariants.{TooLarge, StateRange, StartRange, PatternRange, Ranges}
 use Rattle.lazydfa_c.specs.declared.code.Code.TheVariants.{NotLazy, NotUtf8, Starts, Unsupported, Capacity}
-use Rattle.lazydfa_c.specs.declared.code.Code.TheVariants.{StateIDs, PatternCounts, Quit, GaveUp, Anchored, NotAPair}
-use Rattle.lazydfa_c.specs.declared.code.Code.TheVariants.{NoToken, Syntax, NotText, NotCompiled}
+use Rattle.lazydfa_c.specs.declared.code.Code.TheVariants.{StateIDs, PatternCounts, OneStart, Quit, GaveUp, Anchored}
+use Rattle.lazydfa_c.specs.declared.code.Code.TheVariants.{NotAPair, NoToken, Skips, NotBegun, Syntax, NotText, NotCompiled}
 
 -- the code of a number
 abbrev code_of : ℕ → Option Code
@@ -36,11 +36,14 @@ code_of n =
     if n == 25 then Some Capacity else
     if n == 26 then Some StateIDs else
     if n == 27 then Some PatternCounts else
+    if n == 28 then Some OneStart else
     if n == 30 then Some Quit else
     if n == 31 then Some GaveUp else
     if n == 32 then Some Anchored else
     if n == 33 then Some NotAPair else
     if n == 34 then Some NoToken else
+    if n == 35 then Some Skips else
+    if n == 36 then Some NotBegun else
     if n == 40 then Some Syntax else
     if n == 41 then Some NotText else
     if n == 42 then Some NotCompiled else
@@ -71,11 +74,14 @@ gives_back Unsupported = refl
 gives_back Capacity = refl
 gives_back StateIDs = refl
 gives_back PatternCounts = refl
+gives_back OneStart = refl
 gives_back Quit = refl
 gives_back GaveUp = refl
 gives_back Anchored = refl
 gives_back NotAPair = refl
 gives_back NoToken = refl
+gives_back Skips = refl
+gives_back NotBegun = refl
 gives_back Syntax = refl
 gives_back NotText = refl
 gives_back NotCompiled = refl

@@ -9,13 +9,16 @@ use Rattle.automata_config.specs.declared.error.BuildError.{BuildError}
 use Rattle.automata_config.specs.declared.error.BuildError.TheVariants as dfa
 use Rattle.automata_config.specs.declared.error.SearchError.{SearchError}
 use Rattle.automata_config.specs.declared.error.SearchError.TheVariants.{Match, NotAPair, OutOfMemory}
+use Rattle.automata_config.specs.declared.error.StartError.TheVariants as start
+use Rattle.automata_hybrid.specs.declared.search.pieces.BeginError.{BeginError}
+use Rattle.automata_hybrid.specs.declared.search.pieces.BeginError.TheVariants as begin
 use Rattle.regex_automata.specs.declared.hybrid.regex.build.RegexBuildError.{RegexBuildError}
 use Rattle.regex_automata.specs.declared.hybrid.regex.build.RegexBuildError.TheVariants as regex
 use Rattle.regex_automata.specs.declared.tokens.error.TokenError.{TokenError}
 use Rattle.regex_automata.specs.declared.tokens.error.TokenError.TheVariants.{NoToken, Search}
 use Rattle.lazydfa_c.specs.Codes.{number_of}
-use Rattle.lazydfa_c.specs.Errors.{TellErrors, told_build, told_builder, told_regex, told_search, told_token}
-use Rattle.lazydfa_c.specs.Statuses.{build_status, builder_status, regex_status, search_status, token_status}
+use Rattle.lazydfa_c.specs.Errors.{TellErrors, told_begin, told_build, told_builder, told_regex, told_search, told_token}
+use Rattle.lazydfa_c.specs.Statuses.{begin_status, build_status, builder_status, regex_status, search_status, token_status}
 use Rattle.lazydfa_c.specs.declared.code.Code.TheVariants as code
 use Rattle.lazydfa_c.specs.declared.status.Status.{Status}
 
@@ -57,6 +60,14 @@ search_of s =
     if s.code == 32 then Match (UnsupportedAnchored No) else
     if s.code == 33 then NotAPair else
     OutOfMemory
+
+abbrev begin_of : Status → BeginError
+begin_of s =
+    if s.code == 30 then begin.Start (start.Quit s.byte) else
+    if s.code == 31 then begin.Start (start.Cache (record {})) else
+    if s.code == 32 then begin.Start (start.UnsupportedAnchored No) else
+    if s.code == 35 then begin.Skips else
+    begin.Start start.OutOfMemory
 
 abbrev token_of : Status → TokenError
 token_of s = if s.code == 34 then NoToken s.offset else Search (search_of s)
@@ -100,6 +111,13 @@ search_back (Match (GaveUp offset)) = refl
 search_back (Match (UnsupportedAnchored mode)) = refl
 search_back OutOfMemory = refl
 search_back NotAPair = refl
+
+begin_back : (e : BeginError) → begin_of (begin_status e) ≡ told_begin e
+begin_back begin.Skips = refl
+begin_back (begin.Start (start.Cache err)) = refl
+begin_back (begin.Start (start.Quit byte)) = refl
+begin_back (begin.Start (start.UnsupportedAnchored mode)) = refl
+begin_back (begin.Start start.OutOfMemory) = refl
 
 token_back : (e : TokenError) → token_of (token_status e) ≡ told_token e
 token_back (NoToken offset) = refl
@@ -151,6 +169,13 @@ search_fails (Match (UnsupportedAnchored mode)) = omega arith
 search_fails OutOfMemory = omega arith
 search_fails NotAPair = omega arith
 
+begin_fails : (e : BeginError) → number_of code.Argument < (begin_status e).code
+begin_fails begin.Skips = omega arith
+begin_fails (begin.Start (start.Cache err)) = omega arith
+begin_fails (begin.Start (start.Quit byte)) = omega arith
+begin_fails (begin.Start (start.UnsupportedAnchored mode)) = omega arith
+begin_fails (begin.Start start.OutOfMemory) = omega arith
+
 token_fails : (e : TokenError) → number_of code.Argument < (token_status e).code
 token_fails (NoToken offset) = omega arith
 token_fails (Search e) = search_fails e
@@ -169,3 +194,6 @@ search_told = record { fails = search_fails; differ = differ search_status told_
 
 pub token_told : TellErrors token_status told_token
 token_told = record { fails = token_fails; differ = differ token_status told_token token_of token_back }
+
+pub begin_told : TellErrors begin_status told_begin
+begin_told = record { fails = begin_fails; differ = differ begin_status told_begin begin_of begin_back }

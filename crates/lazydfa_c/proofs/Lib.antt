@@ -3,6 +3,7 @@ mod Codes
 mod Errors
 mod Slots
 mod States
+mod Streams
 mod Values
 mod Written
 mod Opening

@@ -12,7 +12,7 @@ use Rattle.regex_automata.specs.Promises.{CacheView, HalfMatch, Input, Machine}
 use Rattle.lazydfa_c.specs.Caches.{written_over}
 use Rattle.lazydfa_c.specs.Calls.{OfInput, TakesToken, regex_of}
 use Rattle.lazydfa_c.specs.Codes.{number_of}
-use Rattle.lazydfa_c.specs.Requests.{half_from, input_of}
+use Rattle.lazydfa_c.specs.Requests.{found_half, input_of}
 use Rattle.lazydfa_c.specs.Statuses.{plain, search_status}
 use Rattle.lazydfa_c.specs.declared.code.Code.TheVariants as code
 use Rattle.lazydfa_c.specs.declared.input.Found.{Found}
@@ -59,7 +59,7 @@ done_of (Ok half) = Ok tt
 done_of (Err e) = Err e
 
 -- a call of an overlapping search: the result of the library's call, with its promises
-pub record IsStep (way : Direction) (m : Machine) (input : Input) (walk next : Walk) (old new : CacheView)
+pub record IsWalkStep (way : Direction) (m : Machine) (input : Input) (walk next : Walk) (old new : CacheView)
     (result : Result (Option HalfMatch) SearchError) : Type 0 where
   -- if the call does not fail, it returns the match that the walk then has, or none
   pub found : OnOk result (result ≡ Ok next.found)
@@ -69,11 +69,11 @@ pub record IsStep (way : Direction) (m : Machine) (input : Input) (walk next : W
   pub effect : IsWalkRun States way m input walk next old new (result_err result)
 
 -- steps one after another, each of which found one of these matches
-abbrev pub AreSteps : Direction → Machine → Input → List HalfMatch → (walk next : Walk) → (old new : CacheView) → Type 0
-AreSteps way m input [] walk next old new = (next ≡ walk) × (new ≡ old)
-AreSteps way m input (half ∷ halves) walk next old new =
-    (w : Walk) × (c : CacheView) × IsStep way m input walk w old c (Ok (Some half))
-    × AreSteps way m input halves w next c new
+abbrev pub AreWalkSteps : Direction → Machine → Input → List HalfMatch → (walk next : Walk) → (old new : CacheView) → Type 0
+AreWalkSteps way m input [] walk next old new = (next ≡ walk) × (new ≡ old)
+AreWalkSteps way m input (half ∷ halves) walk next old new =
+    (w : Walk) × (c : CacheView) × IsWalkStep way m input walk w old c (Ok (Some half))
+    × AreWalkSteps way m input halves w next c new
 
 -- the status of the step after which there is none
 abbrev pub end_status : Result (Option HalfMatch) SearchError → Option Status
@@ -91,19 +91,19 @@ pub record AreAll (way : Direction) (m : Machine) (input : Input) (was written :
   -- the cache after that step
   pub between : CacheView
   -- the first step is that of a new walk, and each found one of these matches
-  pub steps : AreSteps way m input halves fresh_walk walk old between
+  pub steps : AreWalkSteps way m input halves fresh_walk walk old between
   -- the last step found none, or failed; or there were as many as can be counted
   pub last :
       ((next : Walk) × (result : Result (Option HalfMatch) SearchError)
-      × IsStep way m input walk next between new result × (end_status result ≡ Some status))
+      × IsWalkStep way m input walk next between new result × (end_status result ≡ Some status))
       ⊎ ((count ≡ 2 ^ 64 - 1) × (status ≡ plain code.Done) × (new ≡ between))
   -- the first ones are written, as many as there is room for, and all are counted
-  pub first : written ≡ written_over (map half_from halves) was
+  pub first : written ≡ written_over (map found_half halves) was
   -- the count is of all of them, also of those that there was no room for
   pub counted : count ≡ length halves
 
 -- `lazydfa_all_ends`: all overlapping matches by the forward DFA; the reverse cache stays
-pub record AllEnds (was written : List FoundHalf) (count : ℕ) (input : Input) (s t : Searcher) (status : Status)
+pub record FindsAllEnds (was written : List FoundHalf) (count : ℕ) (input : Input) (s t : Searcher) (status : Status)
     : Type 0 where
   -- the ends of all matches, by steps of the forward DFA over its cache
   pub all :
@@ -112,9 +112,11 @@ pub record AllEnds (was written : List FoundHalf) (count : ℕ) (input : Input) 
   pub reverse : t.cache.reverse ≡ s.cache.reverse
   -- the cache keeps its regex
   pub same : t.shared ≡ s.shared
+  -- its search and its walk in pieces are unchanged
+  pub pieces : t.pieces ≡ s.pieces
 
 -- `lazydfa_all_starts`: all of the reverse DFA; the forward cache stays
-pub record AllStarts (was written : List FoundHalf) (count : ℕ) (input : Input) (s t : Searcher) (status : Status)
+pub record FindsAllStarts (was written : List FoundHalf) (count : ℕ) (input : Input) (s t : Searcher) (status : Status)
     : Type 0 where
   -- the starts of all matches, by steps of the reverse DFA over its cache
   pub all :
@@ -123,6 +125,8 @@ pub record AllStarts (was written : List FoundHalf) (count : ℕ) (input : Input
   pub forward : t.cache.forward ≡ s.cache.forward
   -- the cache keeps its regex
   pub same : t.shared ≡ s.shared
+  -- its search and its walk in pieces are unchanged
+  pub pieces : t.pieces ≡ s.pieces
 
 -- without an input nothing is written, and none is counted
 abbrev pub NoneListed : {A : Type 0} → Option Input → (was written : List A) → (count : ℕ) → Type 0

@@ -14,7 +14,7 @@ use Rattle.regex_automata.specs.Regexes.Caches.{AreFresh}
 use Rattle.regex_automata.specs.Regexes.SoundPairs.{IsSoundPair}
 use Rattle.regex_automata.specs.declared.hybrid.regex.Regex.{Regex}
 use Rattle.regex_automata.specs.declared.hybrid.regex.build.RegexBuildError.{RegexBuildError}
-use Rattle.lazydfa_c.specs.Calls.{Reads, regex_of}
+use Rattle.lazydfa_c.specs.Calls.{ReadsHandle, regex_of}
 use Rattle.lazydfa_c.specs.Drafts.{MakesNfa, is_state}
 use Rattle.lazydfa_c.specs.Handles.{is_open}
 use Rattle.lazydfa_c.specs.Statuses.{build_status, done_status, plain, regex_status}
@@ -30,12 +30,12 @@ use Rattle.lazydfa_c.specs.declared.status.Status.{Status}
 
 -- what `build_from_nfa` returns of an NFA: the regex of it, which then keeps unions if it has a look cycle, and of its
 -- reverse; its two DFAs are a sound pair
-abbrev pub IsRegexOf : Options → Automaton → Regex → Type 0
-IsRegexOf o nfa regex = BuildsOne o nfa regex × IsSoundPair regex
+abbrev pub IsBuiltRegex : Options → Automaton → Regex → Type 0
+IsBuiltRegex o nfa regex = BuildsOne o nfa regex × IsSoundPair regex
 
 -- the status is that of an error of `build_from_nfa`
-abbrev pub IsRegexError : Options → Automaton → Status → Type 0
-IsRegexError o nfa status = (e : RegexBuildError) × IsBuildError o nfa e × (status ≡ regex_status e)
+abbrev pub IsBuildErrorStatus : Options → Automaton → Status → Type 0
+IsBuildErrorStatus o nfa status = (e : RegexBuildError) × IsBuildError o nfa e × (status ≡ regex_status e)
 
 -- what `build_from_nfas` returns of two NFAs
 abbrev pub IsPairOf : Options → (forward reverse : Automaton) → Regex → Type 0
@@ -82,14 +82,14 @@ abbrev pub are_starts : StartStates → Bool
 are_starts starts = is_state starts.anchored && is_state starts.unanchored
 
 -- the NFA that a builder makes with these starts, or why there is none; a start too large for an ID is reported first
-abbrev pub IsNfaOf : StartStates → Draft → Result Automaton Status → Type 0
-IsNfaOf starts draft result =
+abbrev pub IsNfaOfDraft : StartStates → Draft → Result Automaton Status → Type 0
+IsNfaOfDraft starts draft result =
     (IsTrue (are_starts starts) × MakesNfa draft starts.anchored starts.unanchored result)
     ⊎ (IsFalse (are_starts starts) × (result ≡ Err (plain code.Argument)))
 
 -- the NFA of the builder that an object is; if it is no builder, its kind is reported
 abbrev pub IsNfaIn : StartStates → Object → Result Automaton Status → Type 0
-IsNfaIn starts (Builder draft) result = IsNfaOf starts draft result
+IsNfaIn starts (Builder draft) result = IsNfaOfDraft starts draft result
 IsNfaIn starts (RegexObject r) result = result ≡ Err (plain code.Kind)
 IsNfaIn starts (CacheObject s) result = result ≡ Err (plain code.Kind)
 
@@ -106,6 +106,10 @@ number_if has number = if has == 0 then None else Some number
 -- the same of a limit: it is set to the number, or it is not set
 abbrev pub limit_if : (has number : ℕ) → Option (Option ℕ)
 limit_if has number = if has == 0 then None else Some (Some number)
+
+-- whether both starts are one state, so that every search is anchored, and the settings do not allow that
+abbrev pub has_one_start : Settings → StartStates → Bool
+has_one_start s starts = (starts.anchored == starts.unanchored) && (s.always_anchored == 0)
 
 -- the options with these quit bytes as well
 abbrev pub with_quits : Options → List ℕ → Options
@@ -132,6 +136,11 @@ abbrev pub options_of : Settings → (quits : List ℕ) → Result MatchKind Sta
 options_of s quits (Ok kind) = Ok (with_quits (options_in s kind) quits)
 options_of s quits (Err e) = Err e
 
+-- the options for an NFA with these starts; if both are one state, and the settings do not allow that, it is reported
+abbrev pub options_for : Settings → (quits : List ℕ) → StartStates → Result Options Status
+options_for s quits starts =
+    if has_one_start s starts then Err (plain code.OneStart) else options_of s quits (kind_of s.match_kind)
+
 -- a handle is opened on the regex that the library's call returned, or the error of that call is told, or that there is
 -- no memory for the handle's object
 abbrev pub OpensRegex : (Makes : Regex → Type 0) → (Refuses : Status → Type 0)
@@ -141,7 +150,7 @@ OpensRegex Makes Refuses old new (Err e) = (new ≡ old) × (Refuses e ⊎ (e �
 
 -- the same of an NFA, if there is one
 abbrev pub OpensOf : Options → (old new : Handle) → Result Automaton Status → Result (Unit {0}) Status → Type 0
-OpensOf o old new (Ok nfa) done = OpensRegex (IsRegexOf o nfa) (IsRegexError o nfa) old new done
+OpensOf o old new (Ok nfa) done = OpensRegex (IsBuiltRegex o nfa) (IsBuildErrorStatus o nfa) old new done
 OpensOf o old new (Err e) done = (new ≡ old) × (done ≡ Err e)
 
 -- and of two
@@ -154,13 +163,13 @@ OpensPair o old new forward (Err e) done = (new ≡ old) × (done ≡ Err e)
 -- a regex of the NFA of a builder, which is put back
 abbrev pub OpensIn : Options → StartStates → (old new from left : Handle) → Result (Unit {0}) Status → Type 0
 OpensIn o starts old new from left done =
-    (nfa : Result Automaton Status) × Reads (IsNfaIn starts) from left nfa × OpensOf o old new nfa done
+    (nfa : Result Automaton Status) × ReadsHandle (IsNfaIn starts) from left nfa × OpensOf o old new nfa done
 
 -- a regex of the NFAs of two builders, of which the second is read only if the first gave its NFA
 abbrev pub OpensAfter : Options → StartStates → (old new from left : Handle) → Result Automaton Status
     → Result (Unit {0}) Status → Type 0
 OpensAfter o starts old new from left (Ok forward) done =
-    (reverse : Result Automaton Status) × Reads (IsNfaIn starts) from left reverse
+    (reverse : Result Automaton Status) × ReadsHandle (IsNfaIn starts) from left reverse
     × OpensPair o old new forward reverse done
 OpensAfter o starts old new from left (Err e) done = (new ≡ old) × (left ≡ from) × (done ≡ Err e)
 
@@ -169,7 +178,7 @@ OpensAfter o starts old new from left (Err e) done = (new ≡ old) × (left ≡ 
 abbrev pub OpensPairIn : Options → (forward reverse : StartStates) → (old new : Handle)
     → (from left : Handle) → (from_reverse left_reverse : Handle) → Result (Unit {0}) Status → Type 0
 OpensPairIn o forward reverse old new from left from_reverse left_reverse done =
-    (nfa : Result Automaton Status) × Reads (IsNfaIn forward) from left nfa
+    (nfa : Result Automaton Status) × ReadsHandle (IsNfaIn forward) from left nfa
     × OpensAfter o reverse old new from_reverse left_reverse nfa done
 
 -- a regex is asked for with options: over a handle that is open, and without options, nothing is done
@@ -184,17 +193,17 @@ abbrev pub BuildsRegex : Settings → (quits : List ℕ) → StartStates → (ol
 BuildsRegex settings quits starts old new from left status =
     (done : Result (Unit {0}) Status)
     × WithOptions (λ o d. OpensIn o starts old new from left d) ((new ≡ old) × (left ≡ from)) (is_open old.live)
-    (options_of settings quits (kind_of settings.match_kind)) done
+    (options_for settings quits starts) done
     × (status ≡ done_status done)
 
--- `lazydfa_regex_build_pair`
+-- `lazydfa_regex_build_pair`, where one start is reported of the forward NFA alone
 abbrev pub BuildsRegexPair : Settings → (quits : List ℕ) → (forward reverse : StartStates) → (old new : Handle)
     → (from left : Handle) → (from_reverse left_reverse : Handle) → Status → Type 0
 BuildsRegexPair settings quits forward reverse old new from left from_reverse left_reverse status =
     (done : Result (Unit {0}) Status)
     × WithOptions (λ o d. OpensPairIn o forward reverse old new from left from_reverse left_reverse d)
     ((new ≡ old) × (left ≡ from) × (left_reverse ≡ from_reverse)) (is_open old.live)
-    (options_of settings quits (kind_of settings.match_kind)) done
+    (options_for settings quits forward) done
     × (status ≡ done_status done)
 
 -- the regex of an object is shared, if it is one and there is memory
@@ -206,7 +215,27 @@ IsShareOf (CacheObject s) result = result ≡ Err (plain code.Kind)
 
 -- the regex of a handle is shared
 abbrev pub SharesRegex : (old new : Handle) → Result Shared Status → Type 0
-SharesRegex old new result = Reads IsShareOf old new result
+SharesRegex old new result = ReadsHandle IsShareOf old new result
+
+-- the regex that reads backward what another one reads forward, and forward what that one reads backward
+abbrev pub reversed : Regex → Regex
+reversed r = record { forward = r.reverse; reverse = r.forward }
+
+-- the two DFAs of a regex do not have equally many patterns
+abbrev pub HasTwoCounts : Regex → Type 0
+HasTwoCounts r = length r.forward.nfa.start_pattern ≡ length r.reverse.nfa.start_pattern → ⊥
+
+-- the regex of an object is reversed, if it is one, there is memory, and its DFAs have equally many patterns
+abbrev pub IsReverseOf : Object → Result Shared Status → Type 0
+IsReverseOf (RegexObject r) (Ok s) = s.regex.value ≡ reversed r.regex.value
+IsReverseOf (RegexObject r) (Err status) =
+    (status ≡ plain code.Memory) ⊎ (HasTwoCounts r.regex.value × (status ≡ plain code.PatternCounts))
+IsReverseOf (Builder b) result = result ≡ Err (plain code.Kind)
+IsReverseOf (CacheObject s) result = result ≡ Err (plain code.Kind)
+
+-- the regex of a handle is reversed
+abbrev pub ReversesRegex : (old new : Handle) → Result Shared Status → Type 0
+ReversesRegex old new result = ReadsHandle IsReverseOf old new result
 
 -- a fresh cache of a regex, with an empty set for all its patterns
 pub record IsFreshOf (regex : Regex) (s : Searcher) : Type 0 where
@@ -216,6 +245,8 @@ pub record IsFreshOf (regex : Regex) (s : Searcher) : Type 0 where
   pub cache : AreFresh regex s.cache
   -- its set has room for each pattern of the regex, and no pattern in it
   pub patterns : s.patterns ≡ replicate (length regex.forward.nfa.start_pattern) false
+  -- no search and no walk in pieces was begun over it
+  pub pieces : s.pieces ≡ record { search = None; walk = None }
 
 -- the object is a fresh cache of this regex
 abbrev pub IsCacheObject : Regex → Object → Type 0
@@ -230,22 +261,37 @@ pub record IsCacheIn (regex : Regex) (handle : Handle) : Type 0 where
   -- its object is a fresh cache of this regex
   pub object : IsSomeAnd handle.slot.value (IsCacheObject regex)
 
--- a handle is opened on a cache of the regex that was shared; without one, or without memory, it stays
-abbrev pub OpensCache : (old new : Handle) → Result Shared Status → Result (Unit {0}) Status → Type 0
-OpensCache old new (Ok shared) (Ok u) = IsCacheIn shared.regex.value new
-OpensCache old new (Ok shared) (Err status) = (new ≡ old) × (status ≡ plain code.Memory)
-OpensCache old new (Err e) done = (new ≡ old) × (done ≡ Err e)
+-- a handle is opened on the regex that was shared, or on something of it; without one, or without memory, it stays
+abbrev pub OpensOn : (IsIn : Regex → Handle → Type 0) → (old new : Handle) → Result Shared Status
+    → Result (Unit {0}) Status → Type 0
+OpensOn IsIn old new (Ok shared) (Ok u) = IsIn shared.regex.value new
+OpensOn IsIn old new (Ok shared) (Err status) = (new ≡ old) × (status ≡ plain code.Memory)
+OpensOn IsIn old new (Err e) done = (new ≡ old) × (done ≡ Err e)
 
--- a cache is asked for: over a handle that is open nothing is done
-pub record CreatesCache (old new : Handle) (from left : Handle) (done : Result (Unit {0}) Status) : Type 0 where
+-- a handle is to be opened on a regex that another handle gives, or on something of it
+pub record OpensFrom
+    (Gives : (from left : Handle) → Result Shared Status → Type 0) (IsIn : Regex → Handle → Type 0)
+    (old new : Handle) (from left : Handle) (done : Result (Unit {0}) Status)
+    : Type 0 where
   -- if the handle is open already, both handles stay as they are, and that is reported
   pub taken : is_open old.live ≡ true → (new ≡ old) × (left ≡ from) × (done ≡ Err (plain code.Open))
-  -- if not, the regex of the other handle is shared, and this handle is opened on a fresh cache of it, or stays
+  -- if not, the other handle gives a regex, and this handle is opened, or stays
   pub made :
       is_open old.live ≡ false
-      → (shared : Result Shared Status) × SharesRegex from left shared × OpensCache old new shared done
+      → (shared : Result Shared Status) × Gives from left shared × OpensOn IsIn old new shared done
 
--- `lazydfa_cache_new`
+-- `lazydfa_regex_share`: the handle is opened on the regex of the other one
+abbrev pub SharesHandle : (old new : Handle) → (from left : Handle) → Status → Type 0
+SharesHandle old new from left status =
+    (done : Result (Unit {0}) Status) × OpensFrom SharesRegex IsRegexIn old new from left done × (status ≡ done_status done)
+
+-- `lazydfa_regex_reverse`: the handle is opened on the regex of the other one, reversed
+abbrev pub ReversesHandle : (old new : Handle) → (from left : Handle) → Status → Type 0
+ReversesHandle old new from left status =
+    (done : Result (Unit {0}) Status)
+    × OpensFrom ReversesRegex IsRegexIn old new from left done × (status ≡ done_status done)
+
+-- `lazydfa_cache_new`: the handle is opened on a fresh cache of the regex of the other one
 abbrev pub NewsCache : (old new : Handle) → (from left : Handle) → Status → Type 0
 NewsCache old new from left status =
-    (done : Result (Unit {0}) Status) × CreatesCache old new from left done × (status ≡ done_status done)
+    (done : Result (Unit {0}) Status) × OpensFrom SharesRegex IsCacheIn old new from left done × (status ≡ done_status done)

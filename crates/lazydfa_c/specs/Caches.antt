@@ -4,7 +4,7 @@ use Rattle.automata_base.specs.Haystacks.PatternSet.{members}
 use Rattle.automata_hybrid.specs.Cache.Usage.{usage}
 use Rattle.regex_automata.specs.Promises.{Input}
 use Rattle.regex_automata.specs.Regexes.Caches.{AreFresh}
-use Rattle.lazydfa_c.specs.Calls.{Joins, regex_of}
+use Rattle.lazydfa_c.specs.Calls.{JoinsPatterns, regex_of}
 use Rattle.lazydfa_c.specs.Statuses.{plain}
 use Rattle.lazydfa_c.specs.declared.code.Code.TheVariants as code
 use Rattle.lazydfa_c.specs.declared.object.Searcher.{Searcher}
@@ -12,13 +12,15 @@ use Rattle.lazydfa_c.specs.declared.status.Status.{Status}
 use Rattle.lazydfa_c.specs.declared.usage.Usage.{Usage}
 
 -- a cache stays as it is
-pub record IsKept (s t : Searcher) : Type 0 where
+pub record KeepsCaches (s t : Searcher) : Type 0 where
   -- the caches of both DFAs are unchanged
   pub cache : t.cache ≡ s.cache
   -- its set of patterns is unchanged
   pub patterns : t.patterns ≡ s.patterns
   -- it keeps its regex
   pub same : t.shared ≡ s.shared
+  -- its search and its walk in pieces are unchanged
+  pub pieces : t.pieces ≡ s.pieces
 
 -- the elements of a list, as many as there is room for, in place of those of another
 abbrev pub written_over : {A : Type 0} → List A → (old : List A) → List A
@@ -30,9 +32,9 @@ written_over (x ∷ xs) (o ∷ old) = x ∷ written_over xs old
 -- written and counted, also after an error. If there is no memory for the set, all stays, and none is counted
 abbrev pub Lists : (below : ℕ) → (old new : List ℕ) → (count : ℕ) → Input → (s t : Searcher) → Status → Type 0
 Lists below old new count input s t status =
-    (Joins (replicate below false) input s t status
+    (JoinsPatterns (replicate below false) input s t status
     × (new ≡ written_over (members t.patterns) old) × (count ≡ length (members t.patterns)))
-    ⊎ ((status ≡ plain code.Memory) × IsKept s t × (new ≡ old) × (count ≡ 0))
+    ⊎ ((status ≡ plain code.Memory) × KeepsCaches s t × (new ≡ old) × (count ≡ 0))
 
 -- `lazydfa_cache_reset`: the cache is a fresh one of its regex, or memory is out and it stays
 pub record Resets (s t : Searcher) (status : Status) : Type 0 where
@@ -44,6 +46,8 @@ pub record Resets (s t : Searcher) (status : Status) : Type 0 where
   pub patterns : t.patterns ≡ s.patterns
   -- it keeps its regex
   pub same : t.shared ≡ s.shared
+  -- its search and its walk in pieces are unchanged
+  pub pieces : t.pieces ≡ s.pieces
 
 -- what the getters of a cache and of its regex return
 abbrev pub usage_of : Searcher → Usage
@@ -55,5 +59,5 @@ usage_of s = record {
 }
 
 -- `lazydfa_cache_usage`: it changes nothing
-abbrev pub Reports : Usage → (s t : Searcher) → Status → Type 0
-Reports written s t status = (t ≡ s) × (written ≡ usage_of s) × (status ≡ plain code.Done)
+abbrev pub ReportsUsage : Usage → (s t : Searcher) → Status → Type 0
+ReportsUsage written s t status = (t ≡ s) × (written ≡ usage_of s) × (status ≡ plain code.Done)

@@ -14,7 +14,7 @@ use Rattle.regex_automata.specs.declared.hybrid.regex.Regex.{Regex}
 use Rattle.regex_automata.specs.declared.tokens.error.TokenError.{TokenError}
 use Rattle.regex_automata.specs.declared.tokens.token.Token.{Token}
 use Rattle.lazydfa_c.specs.Codes.{number_of}
-use Rattle.lazydfa_c.specs.Requests.{found_from, half_from, input_of}
+use Rattle.lazydfa_c.specs.Requests.{found_from, found_half, input_of}
 use Rattle.lazydfa_c.specs.Statuses.{plain, search_status, token_status}
 use Rattle.lazydfa_c.specs.declared.code.Code.TheVariants as code
 use Rattle.lazydfa_c.specs.declared.handle.Handle.{Handle}
@@ -97,12 +97,12 @@ pub record KeepsUnlessOpen (Stays : Type 0) (handle : Handle) : Type 0 where
   pub closed : (handle.live ≡ 1 → ⊥) → Stays
 
 -- a call that makes this of the object of a handle, which it puts back as it was
-abbrev pub Reads : {A : Type 0} → (Makes : Object → Result A Status → Type 0)
+abbrev pub ReadsHandle : {A : Type 0} → (Makes : Object → Result A Status → Type 0)
     → (old new : Handle) → Result A Status → Type 0
-Reads Makes old new result = OnHandle (λ o p r. (p ≡ o) × Makes o r) (Err (plain code.Closed)) old new result
+ReadsHandle Makes old new result = OnHandle (λ o p r. (p ≡ o) × Makes o r) (Err (plain code.Closed)) old new result
 
 -- `lazydfa_find`: the result of `Regex::find`, with its promises, is told
-pub record Finds (found : Found) (input : Input) (s t : Searcher) (status : Status) : Type 0 where
+pub record ReportsMatch (found : Found) (input : Input) (s t : Searcher) (status : Status) : Type 0 where
   -- what `Regex::find` returns
   pub result : Result (Option Match) SearchError
   -- the status reports the result, and a match is written
@@ -113,6 +113,8 @@ pub record Finds (found : Found) (input : Input) (s t : Searcher) (status : Stat
   pub effect : IsSpanRun (regex_of s) input s.cache t.cache (result_err result)
   -- the cache keeps its regex
   pub same : t.shared ≡ s.shared
+  -- its search and its walk in pieces are unchanged
+  pub pieces : t.pieces ≡ s.pieces
 
 -- `lazydfa_is_match`: the result of `Regex::is_match`
 pub record Tests (input : Input) (s t : Searcher) (status : Status) : Type 0 where
@@ -126,13 +128,15 @@ pub record Tests (input : Input) (s t : Searcher) (status : Status) : Type 0 whe
   pub effect : IsTruthRun (regex_of s) input s.cache t.cache (result_err result)
   -- the cache keeps its regex
   pub same : t.shared ≡ s.shared
+  -- its search and its walk in pieces are unchanged
+  pub pieces : t.pieces ≡ s.pieces
 
 -- `lazydfa_find_end`: the result of a search of the forward DFA; the reverse cache stays
 pub record FindsEnd (found : FoundHalf) (input : Input) (s t : Searcher) (status : Status) : Type 0 where
   -- what `DFA::try_search_fwd` returns: the pattern and the end of a match, or none
   pub result : Result (Option HalfMatch) SearchError
   -- the status reports the result, and a match is written
-  pub told : IsTold half_from found result status
+  pub told : IsTold found_half found result status
   -- what the search promises of its result, whatever the cache
   pub returned : IsHalf Forward (regex_of s).forward input result
   -- what the search made of the forward cache, also if it failed
@@ -141,13 +145,15 @@ pub record FindsEnd (found : FoundHalf) (input : Input) (s t : Searcher) (status
   pub reverse : t.cache.reverse ≡ s.cache.reverse
   -- the cache keeps its regex
   pub same : t.shared ≡ s.shared
+  -- its search and its walk in pieces are unchanged
+  pub pieces : t.pieces ≡ s.pieces
 
 -- `lazydfa_find_start`: the result of a search of the reverse DFA; the forward cache stays
-pub record FindsStart (found : FoundHalf) (input : Input) (s t : Searcher) (status : Status) : Type 0 where
+pub record FindsStartBack (found : FoundHalf) (input : Input) (s t : Searcher) (status : Status) : Type 0 where
   -- what `DFA::try_search_rev` returns: the pattern and the start of a match, or none
   pub result : Result (Option HalfMatch) SearchError
   -- the status reports the result, and a match is written
-  pub told : IsTold half_from found result status
+  pub told : IsTold found_half found result status
   -- what the search promises of its result, whatever the cache
   pub returned : IsHalf Backward (regex_of s).reverse input result
   -- what the search made of the reverse cache, also if it failed
@@ -156,6 +162,8 @@ pub record FindsStart (found : FoundHalf) (input : Input) (s t : Searcher) (stat
   pub forward : t.cache.forward ≡ s.cache.forward
   -- the cache keeps its regex
   pub same : t.shared ≡ s.shared
+  -- its search and its walk in pieces are unchanged
+  pub pieces : t.pieces ≡ s.pieces
 
 -- an iteration after a search from where it stands: a match is passed, and anything else ends it
 abbrev pub iterated : Iteration → Result (Option Match) SearchError → Iteration
@@ -169,7 +177,7 @@ abbrev pub last_of : Iteration → Option ℕ
 last_of at = if at.has_last == 0 then None else Some at.last
 
 -- a search of an iteration that has not ended: the result of `Regex::next_match`
-pub record GoesOn (found : Found) (old new : Iteration) (input : Input) (s t : Searcher) (status : Status)
+pub record FindsNext (found : Found) (old new : Iteration) (input : Input) (s t : Searcher) (status : Status)
     : Type 0 where
   -- what `Regex::next_match` returns
   pub result : Result (Option Match) SearchError
@@ -181,13 +189,15 @@ pub record GoesOn (found : Found) (old new : Iteration) (input : Input) (s t : S
   pub effect : IsNextRun (regex_of s) input (last_of old) s.cache t.cache (result_err result)
   -- the cache keeps its regex
   pub same : t.shared ≡ s.shared
+  -- its search and its walk in pieces are unchanged
+  pub pieces : t.pieces ≡ s.pieces
   -- the iteration is moved past the match, or has ended
   pub iterated : new ≡ iterated old result
 
 -- `lazydfa_next`: an iteration that has ended stays, and so does one without an input
 abbrev pub Iterates : List ℕ → Found → (old new : Iteration) → (s t : Searcher) → Status → Type 0
 Iterates haystack found old new s t status =
-    (old.ended ≡ 0 → OfInput (GoesOn found old new) (input_of haystack old.left) s t status)
+    (old.ended ≡ 0 → OfInput (FindsNext found old new) (input_of haystack old.left) s t status)
     × ((old.ended ≡ 0 → ⊥) → (t ≡ s) × (new ≡ old) × (status ≡ plain code.Nothing))
     × ((old.ended ≡ 0) → input_of haystack old.left ≡ None → new ≡ old)
 
@@ -227,11 +237,13 @@ pub record TakesToken (found : Found) (old new : Request) (input : Input) (s t :
   pub reverse : t.cache.reverse ≡ s.cache.reverse
   -- the cache keeps its regex
   pub same : t.shared ≡ s.shared
+  -- its search and its walk in pieces are unchanged
+  pub pieces : t.pieces ≡ s.pieces
   -- what is left begins where the token ends; without a token it stays
   pub left : new ≡ record old { start = offset_after old.start item }
 
 -- this set is joined with the patterns that match
-pub record Joins (set : List Bool) (input : Input) (s t : Searcher) (status : Status) : Type 0 where
+pub record JoinsPatterns (set : List Bool) (input : Input) (s t : Searcher) (status : Status) : Type 0 where
   -- what `DFA::try_which_overlapping_matches` returns, beside the set
   pub result : Result (Unit {0}) SearchError
   -- the status reports whether it failed, and why
@@ -244,3 +256,5 @@ pub record Joins (set : List Bool) (input : Input) (s t : Searcher) (status : St
   pub reverse : t.cache.reverse ≡ s.cache.reverse
   -- the cache keeps its regex
   pub same : t.shared ≡ s.shared
+  -- its search and its walk in pieces are unchanged
+  pub pieces : t.pieces ≡ s.pieces

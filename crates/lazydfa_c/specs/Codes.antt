@@ -5,8 +5,8 @@ use Rattle.lazydfa_c.specs.declared.code.Code.TheVariants.{Done, Nothing, Closed
 use Rattle.lazydfa_c.specs.declared.code.Code.TheVariants.{NoPattern, UnfinishedPattern, PatchRange, SparsePatch}
 use Rattle.lazydfa_c.specs.declared.code.Code.TheVariants.{TooLarge, StateRange, StartRange, PatternRange, Ranges}
 use Rattle.lazydfa_c.specs.declared.code.Code.TheVariants.{NotLazy, NotUtf8, Starts, Unsupported, Capacity}
-use Rattle.lazydfa_c.specs.declared.code.Code.TheVariants.{StateIDs, PatternCounts, Quit, GaveUp, Anchored, NotAPair}
-use Rattle.lazydfa_c.specs.declared.code.Code.TheVariants.{NoToken, Syntax, NotText, NotCompiled}
+use Rattle.lazydfa_c.specs.declared.code.Code.TheVariants.{StateIDs, PatternCounts, OneStart, Quit, GaveUp, Anchored}
+use Rattle.lazydfa_c.specs.declared.code.Code.TheVariants.{NotAPair, NoToken, Skips, NotBegun, Syntax, NotText, NotCompiled}
 
 -- the number of a code
 abbrev pub number_of : Code → ℕ
@@ -33,11 +33,14 @@ number_of Unsupported = 24
 number_of Capacity = 25
 number_of StateIDs = 26
 number_of PatternCounts = 27
+number_of OneStart = 28
 number_of Quit = 30
 number_of GaveUp = 31
 number_of Anchored = 32
 number_of NotAPair = 33
 number_of NoToken = 34
+number_of Skips = 35
+number_of NotBegun = 36
 number_of Syntax = 40
 number_of NotText = 41
 number_of NotCompiled = 42

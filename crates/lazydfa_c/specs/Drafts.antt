@@ -205,8 +205,8 @@ number_status (Ok n) = plain code.Done
 number_status (Err e) = e
 
 -- the exports that add a state, that change a builder and write a pattern, and that change a builder alone
-abbrev pub Adds : Added → (was written : ℕ) → (old new : Handle) → Status → Type 0
-Adds added was written old new status =
+abbrev pub AddsToHandle : Added → (was written : ℕ) → (old new : Handle) → Status → Type 0
+AddsToHandle added was written old new status =
     (result : Result ℕ Status) × OfDraft (AddsTo added) old new result × IsNumberTold was written result status
 
 -- the exports that start or finish a pattern: the pattern's number is written if they succeed

@@ -9,6 +9,9 @@ use Rattle.automata_config.specs.declared.error.BuildError.{BuildError}
 use Rattle.automata_config.specs.declared.error.BuildError.TheVariants as dfa
 use Rattle.automata_config.specs.declared.error.SearchError.{SearchError}
 use Rattle.automata_config.specs.declared.error.SearchError.TheVariants.{Match, NotAPair, OutOfMemory}
+use Rattle.automata_config.specs.declared.error.StartError.TheVariants as start
+use Rattle.automata_hybrid.specs.declared.search.pieces.BeginError.{BeginError}
+use Rattle.automata_hybrid.specs.declared.search.pieces.BeginError.TheVariants as begin
 use Rattle.regex_automata.specs.declared.hybrid.regex.build.RegexBuildError.{RegexBuildError}
 use Rattle.regex_automata.specs.declared.hybrid.regex.build.RegexBuildError.TheVariants as regex
 use Rattle.regex_automata.specs.declared.tokens.error.TokenError.{TokenError}
@@ -62,6 +65,14 @@ told_search (Match (GaveUp offset)) = Match (GaveUp offset)
 told_search (Match (UnsupportedAnchored mode)) = Match (UnsupportedAnchored No)
 told_search OutOfMemory = OutOfMemory
 told_search NotAPair = NotAPair
+
+-- why a search in pieces does not begin: the anchored mode that is not supported, which C gave, is not told
+abbrev pub told_begin : BeginError → BeginError
+told_begin begin.Skips = begin.Skips
+told_begin (begin.Start (start.Cache err)) = begin.Start (start.Cache err)
+told_begin (begin.Start (start.Quit byte)) = begin.Start (start.Quit byte)
+told_begin (begin.Start (start.UnsupportedAnchored mode)) = begin.Start (start.UnsupportedAnchored No)
+told_begin (begin.Start start.OutOfMemory) = begin.Start start.OutOfMemory
 
 -- why there is no next token
 abbrev pub told_token : TokenError → TokenError

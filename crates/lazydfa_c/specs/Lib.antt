@@ -8,6 +8,10 @@ pub mod Drafts
 pub mod Errors
 pub mod Handles
 pub mod Held
+pub mod Pieces
 pub mod Requests
 pub mod Statuses
+pub mod Stops
+pub mod Streams
 pub mod Texts
+pub mod Walks

@@ -9,6 +9,10 @@ use Rattle.automata_config.specs.declared.error.BuildError.{BuildError}
 use Rattle.automata_config.specs.declared.error.BuildError.TheVariants as dfa
 use Rattle.automata_config.specs.declared.error.SearchError.{SearchError}
 use Rattle.automata_config.specs.declared.error.SearchError.TheVariants.{Match, NotAPair, OutOfMemory}
+use Rattle.automata_config.specs.declared.error.StartError.{StartError}
+use Rattle.automata_config.specs.declared.error.StartError.TheVariants as start
+use Rattle.automata_hybrid.specs.declared.search.pieces.BeginError.{BeginError}
+use Rattle.automata_hybrid.specs.declared.search.pieces.BeginError.TheVariants as begin
 use Rattle.regex_automata.specs.declared.hybrid.regex.build.RegexBuildError.{RegexBuildError}
 use Rattle.regex_automata.specs.declared.hybrid.regex.build.RegexBuildError.TheVariants as regex
 use Rattle.regex_automata.specs.declared.tokens.error.TokenError.{TokenError}
@@ -78,6 +82,18 @@ search_status (Match (GaveUp offset)) = status_at code.GaveUp offset
 search_status (Match (UnsupportedAnchored mode)) = plain code.Anchored
 search_status OutOfMemory = plain code.Memory
 search_status NotAPair = plain code.NotAPair
+
+-- why there is no start state for the first piece; the byte before it has no offset, and the quit byte has none
+abbrev pub start_status : StartError → Status
+start_status (start.Cache err) = status_at code.GaveUp 0
+start_status (start.Quit byte) = record { code = number_of code.Quit; byte = byte; offset = 0 }
+start_status (start.UnsupportedAnchored mode) = plain code.Anchored
+start_status start.OutOfMemory = plain code.Memory
+
+-- why a search in pieces does not begin
+abbrev pub begin_status : BeginError → Status
+begin_status begin.Skips = plain code.Skips
+begin_status (begin.Start e) = start_status e
 
 -- why there is no next token
 abbrev pub token_status : TokenError → Status

@@ -1,7 +1,7 @@
 //! NFAs, state by state.
 ghost use Rattle.std.specs.Prelude.{◌≡◌, ◌⊎◌, ◌==◌, not, IfErr, IfOk, IsFalse, IsTrue, None, map, nat_lt};
 ghost use Rattle.automata_base.specs.Haystacks.LookSets.{nth_look};
-ghost use Rattle.lazydfa_c.specs.Drafts.{Adds, AddsTo, Changes, ChangesDraft, ChangesPattern, CreatesDraft};
+ghost use Rattle.lazydfa_c.specs.Drafts.{AddsToHandle, AddsTo, Changes, ChangesDraft, ChangesPattern, CreatesDraft};
 ghost use Rattle.lazydfa_c.specs.Drafts.{IsNumberTold, NewsDraft, OfBuilder, OfDraft, OpensDraft, are_states};
 ghost use Rattle.lazydfa_c.specs.Drafts.{is_state, lead_on, state_of, told_by, transition_of, zeroed};
 ghost use Rattle.lazydfa_c.specs.Statuses.{plain};
@@ -212,7 +212,7 @@ fn tell(answer: Result<u32, Status>, number: &mut u32) -> Status
 
 /// Adds a state to the builder behind a handle, and writes its ID.
 fn add(alloc: Global, handle: &mut Handle, added: Added<'_>, id: &mut u32) -> Status
-    ensures { Adds added.entry id.old id.new handle.old handle.new result }
+    ensures { AddsToHandle added.entry id.old id.new handle.old handle.new result }
 {
     tell(add_behind(alloc, handle, added), id)
 }
@@ -397,7 +397,7 @@ pub extern "C" fn lazydfa_raw_set_line_terminator(
 /// Adds a state with one epsilon edge.
 #[unsafe(no_mangle)]
 pub extern "C" fn lazydfa_raw_add_empty(alloc: Global, builder: &mut Handle, id: &mut u32) -> Status
-    ensures { Adds add.Empty id.old id.new builder.old builder.new result }
+    ensures { AddsToHandle add.Empty id.old id.new builder.old builder.new result }
 {
     add(alloc, builder, Added::Empty, id)
 }
@@ -412,7 +412,7 @@ pub extern "C" fn lazydfa_raw_add_range(
     next: u32,
     id: &mut u32,
 ) -> Status
-    ensures { Adds (add.Range (record { lo = lo; hi = hi; reserved = 0; next = next })) id.old id.new
+    ensures { AddsToHandle (add.Range (record { lo = lo; hi = hi; reserved = 0; next = next })) id.old id.new
         builder.old builder.new result }
 {
     let edge = Edge {
@@ -432,7 +432,7 @@ pub extern "C" fn lazydfa_raw_add_sparse(
     edges: &[Edge],
     id: &mut u32,
 ) -> Status
-    ensures { Adds (add.Sparse edges.entry) id.old id.new builder.old builder.new result }
+    ensures { AddsToHandle (add.Sparse edges.entry) id.old id.new builder.old builder.new result }
 {
     add(alloc, builder, Added::Sparse(edges), id)
 }
@@ -446,7 +446,7 @@ pub extern "C" fn lazydfa_raw_add_look(
     look: u32,
     id: &mut u32,
 ) -> Status
-    ensures { Adds (add.Look look next) id.old id.new builder.old builder.new result }
+    ensures { AddsToHandle (add.Look look next) id.old id.new builder.old builder.new result }
 {
     add(alloc, builder, Added::Look { look, next }, id)
 }
@@ -459,7 +459,7 @@ pub extern "C" fn lazydfa_raw_add_union(
     alternates: &[u32],
     id: &mut u32,
 ) -> Status
-    ensures { Adds (add.Union alternates.entry) id.old id.new builder.old builder.new result }
+    ensures { AddsToHandle (add.Union alternates.entry) id.old id.new builder.old builder.new result }
 {
     add(alloc, builder, Added::Union(alternates), id)
 }
@@ -472,7 +472,7 @@ pub extern "C" fn lazydfa_raw_add_union_reverse(
     alternates: &[u32],
     id: &mut u32,
 ) -> Status
-    ensures { Adds (add.UnionReverse alternates.entry) id.old id.new builder.old builder.new result }
+    ensures { AddsToHandle (add.UnionReverse alternates.entry) id.old id.new builder.old builder.new result }
 {
     add(alloc, builder, Added::UnionReverse(alternates), id)
 }
@@ -486,7 +486,7 @@ pub extern "C" fn lazydfa_raw_add_capture_start(
     group: u32,
     id: &mut u32,
 ) -> Status
-    ensures { Adds (add.CaptureStart next group) id.old id.new builder.old builder.new result }
+    ensures { AddsToHandle (add.CaptureStart next group) id.old id.new builder.old builder.new result }
 {
     add(alloc, builder, Added::CaptureStart { next, group }, id)
 }
@@ -500,7 +500,7 @@ pub extern "C" fn lazydfa_raw_add_capture_end(
     group: u32,
     id: &mut u32,
 ) -> Status
-    ensures { Adds (add.CaptureEnd next group) id.old id.new builder.old builder.new result }
+    ensures { AddsToHandle (add.CaptureEnd next group) id.old id.new builder.old builder.new result }
 {
     add(alloc, builder, Added::CaptureEnd { next, group }, id)
 }
@@ -508,7 +508,7 @@ pub extern "C" fn lazydfa_raw_add_capture_end(
 /// Adds a state from which nothing matches.
 #[unsafe(no_mangle)]
 pub extern "C" fn lazydfa_raw_add_fail(alloc: Global, builder: &mut Handle, id: &mut u32) -> Status
-    ensures { Adds add.Fail id.old id.new builder.old builder.new result }
+    ensures { AddsToHandle add.Fail id.old id.new builder.old builder.new result }
 {
     add(alloc, builder, Added::Fail, id)
 }
@@ -516,7 +516,7 @@ pub extern "C" fn lazydfa_raw_add_fail(alloc: Global, builder: &mut Handle, id: 
 /// Adds a match state of the pattern that was started.
 #[unsafe(no_mangle)]
 pub extern "C" fn lazydfa_raw_add_match(alloc: Global, builder: &mut Handle, id: &mut u32) -> Status
-    ensures { Adds add.Match id.old id.new builder.old builder.new result }
+    ensures { AddsToHandle add.Match id.old id.new builder.old builder.new result }
 {
     add(alloc, builder, Added::Match, id)
 }
@@ -529,7 +529,7 @@ pub extern "C" fn lazydfa_raw_add_unanchored_prefix(
     start: u32,
     id: &mut u32,
 ) -> Status
-    ensures { Adds (add.UnanchoredPrefix start) id.old id.new builder.old builder.new result }
+    ensures { AddsToHandle (add.UnanchoredPrefix start) id.old id.new builder.old builder.new result }
 {
     add(alloc, builder, Added::UnanchoredPrefix { start }, id)
 }

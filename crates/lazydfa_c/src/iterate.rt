@@ -1,9 +1,9 @@
 //! The matches of an input, one after another.
 ghost use Rattle.std.specs.Prelude.{◌≡◌, Ok, Some};
 ghost use Rattle.lazydfa_c.specs.Batches.{InTurn};
-ghost use Rattle.lazydfa_c.specs.Calls.{GoesOn, Iterates, KeepsUnlessCache, KeepsUnlessOpen, OfHandle, OfObject};
+ghost use Rattle.lazydfa_c.specs.Calls.{FindsNext, Iterates, KeepsUnlessCache, KeepsUnlessOpen, OfHandle, OfObject};
 ghost use Rattle.lazydfa_c.specs.Calls.{WritesIfDone, iterated, last_of};
-ghost use Rattle.lazydfa_c.specs.Requests.{match_of};
+ghost use Rattle.lazydfa_c.specs.Requests.{match_of_found};
 
 use crate::code::Code;
 use crate::handle::Handle;
@@ -27,7 +27,7 @@ pub struct Iteration {
 impl Iteration {
     /// Moves an iteration on to the end of a match.
     fn pass(&mut self, found: &Found)
-        ensures { self.new ≡ iterated self.old (Ok (Some (match_of found.now))) }
+        ensures { self.new ≡ iterated self.old (Ok (Some (match_of_found found.now))) }
     {
         self.left.start = found.end;
         self.last = found.end;
@@ -50,7 +50,7 @@ impl Searcher {
     /// Searches for the next match of an iteration that has not ended, and writes it. If there is none, or the search
     /// fails, the iteration has ended.
     fn go_on(&mut self, input: &Input<'_>, at: &mut Iteration, found: &mut Found) -> Status
-        ensures found { GoesOn found.new at.old at.new input.now self.old self.new result }
+        ensures found { FindsNext found.new at.old at.new input.now self.old self.new result }
         ensures written { WritesIfDone found.old found.new result }
     {
         let shared = &self.shared;

@@ -13,13 +13,18 @@ mod input;
 mod iterate;
 mod loose;
 mod object;
+mod pieces;
 mod regex;
 mod search;
 mod sets;
 mod settings;
 mod status;
+mod stream;
 mod text;
+mod threads;
 mod tokens;
 mod usage;
+mod walk;
+mod walks;
 
 pub use handle::Handle;

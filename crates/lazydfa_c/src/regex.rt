@@ -1,11 +1,12 @@
 //! Regexes and caches.
-ghost use Rattle.std.specs.Prelude.{◌≡◌, IfErr, IfOk, None, Ok, OnErr, OnOk, Some};
+ghost use Rattle.std.specs.Prelude.{◌≡◌, ◌⊎◌, IfErr, IfOk, None, Ok, OnErr, OnOk, Some};
 ghost use Rattle.automata_config.specs.Options.{overwritten, unset};
 ghost use Rattle.lazydfa_c.specs.Builds.{IsFreshOf, IsKeepingPairOf, IsKeepingPairError, IsPairOf, IsPairError};
-ghost use Rattle.lazydfa_c.specs.Builds.{IsRegexIn, IsRegexOf, IsRegexError, BuildsRegex, BuildsRegexPair};
-ghost use Rattle.lazydfa_c.specs.Builds.{CreatesCache, IsNfaIn, IsNfaOf, NewsCache, OpensIn, OpensAfter, OpensPairIn};
-ghost use Rattle.lazydfa_c.specs.Builds.{OpensRegex, SharesRegex, WithOptions, kind_of, options_of};
-ghost use Rattle.lazydfa_c.specs.Calls.{Reads};
+ghost use Rattle.lazydfa_c.specs.Builds.{IsRegexIn, IsBuiltRegex, IsBuildErrorStatus, BuildsRegex, BuildsRegexPair};
+ghost use Rattle.lazydfa_c.specs.Builds.{IsCacheIn, IsNfaIn, IsNfaOfDraft, NewsCache, OpensAfter, OpensFrom, OpensIn};
+ghost use Rattle.lazydfa_c.specs.Builds.{HasTwoCounts, OpensPairIn, OpensRegex, ReversesHandle, ReversesRegex};
+ghost use Rattle.lazydfa_c.specs.Builds.{SharesHandle, SharesRegex, WithOptions, options_for, reversed};
+ghost use Rattle.lazydfa_c.specs.Calls.{ReadsHandle};
 ghost use Rattle.lazydfa_c.specs.Handles.{is_open};
 ghost use Rattle.lazydfa_c.specs.Statuses.{plain};
 ghost use Rattle.lazydfa_c.specs.declared.code.Code.TheVariants as code;
@@ -14,7 +15,7 @@ ghost use Rattle.lazydfa_c.specs.declared.object.Object.TheVariants.{Searcher as
 use crate::builder::state_id;
 use crate::code::Code;
 use crate::handle::Handle;
-use crate::object::{Object, Searcher, Shared};
+use crate::object::{InPieces, Object, Searcher, Shared};
 use crate::settings::Settings;
 use crate::status::Status;
 use regex_automata::PatternSet;
@@ -22,7 +23,7 @@ use regex_automata::hybrid::dfa::Config;
 use regex_automata::hybrid::regex::{self, Regex};
 use regex_automata::nfa::thompson::{Builder, NFA};
 use std::alloc::Global;
-use std::rc::Rc;
+use std::sync::Arc;
 
 /// The states in which searches start.
 #[repr(C)]
@@ -35,7 +36,7 @@ pub struct StartStates {
 /// Builds the NFA of what a builder has, with these start states. It fails with `Code::Argument` if a start is no ID,
 /// and else with the status of the builder's error.
 fn nfa_of(builder: &Builder, starts: StartStates) -> Result<NFA, Status>
-    ensures { IsNfaOf starts builder.now result }
+    ensures { IsNfaOfDraft starts builder.now result }
 {
     let anchored = state_id(starts.anchored)?;
     let unanchored = state_id(starts.unanchored)?;
@@ -56,7 +57,7 @@ fn nfa_of_object(object: &Object, starts: StartStates) -> Result<NFA, Status>
 /// Builds the NFA of the builder behind a handle, which stays as it is. It fails with `Code::Closed` if the handle owns
 /// nothing, and with `Code::Kind` if it owns no builder.
 fn nfa_in(alloc: Global, builder: &mut Handle, starts: StartStates) -> Result<NFA, Status>
-    ensures { Reads (IsNfaIn starts) builder.old builder.new result }
+    ensures { ReadsHandle (IsNfaIn starts) builder.old builder.new result }
 {
     let Some(object) = builder.take(alloc) else {
         return Err(Status::from(Code::Closed));
@@ -78,8 +79,8 @@ fn builder_of(config: Config) -> regex::Builder
 /// Builds the regex of one NFA, whose reverse DFA is that of the reversed NFA. It fails with the status of the error
 /// that building returns.
 fn regex_of(nfa: NFA, config: Config) -> Result<Regex, Status>
-    ensures built { IfOk result (IsRegexOf (overwritten unset config) nfa) }
-    ensures refused { IfErr result (IsRegexError (overwritten unset config) nfa) }
+    ensures built { IfOk result (IsBuiltRegex (overwritten unset config) nfa) }
+    ensures refused { IfErr result (IsBuildErrorStatus (overwritten unset config) nfa) }
 {
     Ok(builder_of(config).build_from_nfa(nfa)?)
 }
@@ -96,7 +97,19 @@ fn pair_of(forward: NFA, reverse: NFA, config: Config) -> Result<Regex, Status>
     }
 }
 
-/// Shares a regex and opens a handle on it.
+/// Opens a handle on a regex that others may share. If the allocation fails, the handle is as it was.
+fn open_shared(alloc: Global, handle: &mut Handle, shared: Shared) -> Result<(), Status>
+    requires { handle.now.slot.value ≡ None }
+    ensures opened { OnOk result (IsRegexIn shared.regex.value handle.new) }
+    ensures same { OnErr result (handle.new ≡ handle.old) }
+    ensures err { IfErr result (λ s. s ≡ plain code.Memory) }
+{
+    let object = Box::new(alloc, Object::Regex(shared))?;
+    handle.put(object);
+    Ok(())
+}
+
+/// Shares a regex and opens a handle on it. If an allocation fails, the handle is as it was.
 fn open(alloc: Global, handle: &mut Handle, regex: Regex) -> Result<(), Status>
     requires { handle.now.slot.value ≡ None }
     ensures opened { OnOk result (IsRegexIn regex handle.new) }
@@ -104,11 +117,9 @@ fn open(alloc: Global, handle: &mut Handle, regex: Regex) -> Result<(), Status>
     ensures err { IfErr result (λ s. s ≡ plain code.Memory) }
 {
     let shared = Shared {
-        regex: Rc::new(alloc, regex)?,
+        regex: Arc::new(alloc, regex)?,
     };
-    let object = Box::new(alloc, Object::Regex(shared))?;
-    handle.put(object);
-    Ok(())
+    open_shared(alloc, handle, shared)
 }
 
 /// Opens a handle on the regex of one NFA.
@@ -119,7 +130,7 @@ pub fn open_sound(
     config: Config,
 ) -> Result<(), Status>
     requires { handle.now.slot.value ≡ None }
-    ensures { OpensRegex (IsRegexOf (overwritten unset config) nfa) (IsRegexError (overwritten unset config) nfa)
+    ensures { OpensRegex (IsBuiltRegex (overwritten unset config) nfa) (IsBuildErrorStatus (overwritten unset config) nfa)
         handle.old handle.new result }
 {
     let regex = regex_of(nfa, config)?;
@@ -162,8 +173,19 @@ fn build_of(
     open_sound(alloc, regex, nfa, config)
 }
 
+/// The configuration for an NFA with these starts, with these quit bytes. It fails with `Code::OneStart` if both are one
+/// state and the settings do not allow that, and with `Code::Argument` if the match kind is none.
+fn config_for(settings: &Settings, quits: &[u8], starts: StartStates) -> Result<Config, Status>
+    ensures { result ≡ options_for settings.now quits.now starts }
+{
+    if starts.anchored == starts.unanchored && settings.always_anchored == 0 {
+        return Err(Status::from(Code::OneStart));
+    }
+    settings.config(quits)
+}
+
 /// Opens a handle on the regex of the NFA in a builder behind another handle, with these settings and quit bytes. It
-/// fails with `Code::Open` if the first handle is open already, and with `Code::Argument` if the match kind is none.
+/// fails with `Code::Open` if the first handle is open already, and as `config_for` does.
 fn build(
     alloc: Global,
     regex: &mut Handle,
@@ -174,12 +196,12 @@ fn build(
 ) -> Result<(), Status>
     ensures { WithOptions (λ o. OpensIn o starts regex.old regex.new builder.old builder.new)
         ((regex.new ≡ regex.old) × (builder.new ≡ builder.old)) (is_open regex.old.live)
-        (options_of settings.now quits.now (kind_of settings.now.match_kind)) result }
+        (options_for settings.now quits.now starts) result }
 {
     if regex.is_open() {
         return Err(Status::from(Code::Open));
     }
-    let config = settings.config(quits)?;
+    let config = config_for(settings, quits, starts)?;
     build_of(alloc, regex, builder, starts, config)
 }
 
@@ -221,7 +243,7 @@ fn build_pair_of(
 }
 
 /// Opens a handle on the regex of what two builders have, the forward one first. It fails with `Code::Open` if the
-/// handle is open already; after an error it is as it was.
+/// handle is open already, and as `config_for` does for the forward starts; after an error it is as it was.
 fn build_pair(
     alloc: Global,
     regex: &mut Handle,
@@ -234,12 +256,12 @@ fn build_pair(
     ensures { WithOptions
         (λ o. OpensPairIn o starts.0 starts.1 regex.old regex.new forward.old forward.new reverse.old reverse.new)
         ((regex.new ≡ regex.old) × (forward.new ≡ forward.old) × (reverse.new ≡ reverse.old)) (is_open regex.old.live)
-        (options_of settings.now quits.now (kind_of settings.now.match_kind)) result }
+        (options_for settings.now quits.now starts.0) result }
 {
     if regex.is_open() {
         return Err(Status::from(Code::Open));
     }
-    let config = settings.config(quits)?;
+    let config = config_for(settings, quits, starts.0)?;
     build_pair_of(alloc, regex, forward, reverse, starts, config)
 }
 
@@ -301,6 +323,89 @@ fn shared_in(alloc: Global, regex: &mut Handle) -> Result<Shared, Status>
     shared
 }
 
+/// Opens a handle on the regex behind another handle, which stays as it is. It fails with `Code::Open` if the first
+/// handle is open already.
+fn share_handle(alloc: Global, out: &mut Handle, regex: &mut Handle) -> Result<(), Status>
+    ensures { OpensFrom SharesRegex IsRegexIn out.old out.new regex.old regex.new result }
+{
+    if out.is_open() {
+        return Err(Status::from(Code::Open));
+    }
+    let shared = shared_in(alloc, regex)?;
+    open_shared(alloc, out, shared)?;
+    Ok(())
+}
+
+/// Opens a handle on the regex behind another handle. The two may be used on two threads, and closed in any order.
+#[unsafe(no_mangle)]
+pub extern "C" fn lazydfa_raw_regex_share(
+    alloc: Global,
+    regex: &mut Handle,
+    out: &mut Handle,
+) -> Status
+    ensures { SharesHandle out.old out.new regex.old regex.new result }
+{
+    Status::of(share_handle(alloc, out, regex))
+}
+
+/// The regex that reads backward what a shared one reads forward: the DFAs of that one, exchanged. It fails with
+/// `Code::PatternCounts` if these do not have equally many patterns.
+fn reversed(alloc: Global, shared: &Shared) -> Result<Shared, Status>
+    ensures ok { IfOk result (λ s. s.regex.value ≡ reversed shared.now.regex.value) }
+    ensures err { IfErr result (λ s. (s ≡ plain code.Memory)
+        ⊎ (HasTwoCounts shared.now.regex.value × (s ≡ plain code.PatternCounts))) }
+{
+    let forward = shared.regex.reverse().clone()?;
+    let reverse = shared.regex.forward().clone()?;
+    if forward.pattern_len() != reverse.pattern_len() {
+        return Err(Status::from(Code::PatternCounts));
+    }
+    let regex = Regex::builder().build_from_dfas(forward, reverse);
+    Ok(Shared {
+        regex: Arc::new(alloc, regex)?,
+    })
+}
+
+/// The regex behind a handle, reversed. It fails if the handle is closed or owns no regex.
+fn reversed_in(alloc: Global, regex: &mut Handle) -> Result<Shared, Status>
+    ensures { ReversesRegex regex.old regex.new result }
+{
+    let Some(object) = regex.take(alloc) else {
+        return Err(Status::from(Code::Closed));
+    };
+    let shared = match object.as_ref() {
+        Object::Regex(shared) => reversed(alloc, shared),
+        Object::Builder(_) | Object::Searcher(_) => Err(Status::from(Code::Kind)),
+    };
+    regex.put(object);
+    shared
+}
+
+/// Opens a handle on the regex behind another handle, which stays as it is, reversed. It fails with `Code::Open` if the
+/// first handle is open already.
+fn reverse_handle(alloc: Global, out: &mut Handle, regex: &mut Handle) -> Result<(), Status>
+    ensures { OpensFrom ReversesRegex IsRegexIn out.old out.new regex.old regex.new result }
+{
+    if out.is_open() {
+        return Err(Status::from(Code::Open));
+    }
+    let shared = reversed_in(alloc, regex)?;
+    open_shared(alloc, out, shared)?;
+    Ok(())
+}
+
+/// Opens a handle on the regex that reads backward what the regex behind another handle reads forward.
+#[unsafe(no_mangle)]
+pub extern "C" fn lazydfa_raw_regex_reverse(
+    alloc: Global,
+    regex: &mut Handle,
+    out: &mut Handle,
+) -> Status
+    ensures { ReversesHandle out.old out.new regex.old regex.new result }
+{
+    Status::of(reverse_handle(alloc, out, regex))
+}
+
 /// Creates a fresh cache of a regex, with room for a set of its patterns.
 fn searcher_of(alloc: Global, shared: Shared) -> Result<Searcher, Status>
     ensures ok { IfOk result (IsFreshOf shared.regex.value) }
@@ -312,6 +417,10 @@ fn searcher_of(alloc: Global, shared: Shared) -> Result<Searcher, Status>
         shared,
         cache,
         patterns,
+        pieces: InPieces {
+            search: None,
+            walk: None,
+        },
     })
 }
 
@@ -331,7 +440,7 @@ fn open_cache(alloc: Global, handle: &mut Handle, searcher: Searcher) -> Result<
 /// Opens a handle on a fresh cache of the regex behind another handle. It fails with `Code::Open` if the first handle
 /// is open already.
 fn create_cache(alloc: Global, cache: &mut Handle, regex: &mut Handle) -> Result<(), Status>
-    ensures { CreatesCache cache.old cache.new regex.old regex.new result }
+    ensures { OpensFrom SharesRegex IsCacheIn cache.old cache.new regex.old regex.new result }
 {
     if cache.is_open() {
         return Err(Status::from(Code::Open));

@@ -1,5 +1,5 @@
 //! Searches over a cache: the first match, whether there is one, and its two ends.
-ghost use Rattle.lazydfa_c.specs.Calls.{Finds, FindsEnd, FindsStart, OfHandle, OfInput, OfObject, Tests, WritesIfDone};
+ghost use Rattle.lazydfa_c.specs.Calls.{ReportsMatch, FindsEnd, FindsStartBack, OfHandle, OfInput, OfObject, Tests, WritesIfDone};
 ghost use Rattle.lazydfa_c.specs.Requests.{input_of};
 
 use crate::code::Code;
@@ -13,7 +13,7 @@ use std::alloc::Global;
 impl Searcher {
     /// Searches for the first match, and writes it. The status is `Code::Nothing` if there is none.
     fn find(&mut self, input: &Input<'_>, found: &mut Found) -> Status
-        ensures found { Finds found.new input.now self.old self.new result }
+        ensures found { ReportsMatch found.new input.now self.old self.new result }
         ensures written { WritesIfDone found.old found.new result }
     {
         let shared = &self.shared;
@@ -61,7 +61,7 @@ impl Searcher {
     /// Searches by the reverse DFA for the start of a match that ends at the span's end, and writes it with its
     /// pattern. The status is `Code::Nothing` if there is none.
     fn find_start(&mut self, input: &Input<'_>, found: &mut FoundHalf) -> Status
-        ensures found { FindsStart found.new input.now self.old self.new result }
+        ensures found { FindsStartBack found.new input.now self.old self.new result }
         ensures written { WritesIfDone found.old found.new result }
     {
         let shared = &self.shared;
@@ -80,7 +80,7 @@ impl Searcher {
 /// Searches for the first match of a request over a cache. The status is `Code::Kind` if the object is no cache, and
 /// `Code::Argument` if the request is no input of the haystack.
 fn find_in(object: &mut Object, haystack: &[u8], request: &Request, found: &mut Found) -> Status
-    ensures found { OfObject (OfInput (Finds found.new) (input_of haystack.now request.now))
+    ensures found { OfObject (OfInput (ReportsMatch found.new) (input_of haystack.now request.now))
         object.old object.new result }
     ensures written { WritesIfDone found.old found.new result }
 {
@@ -136,7 +136,7 @@ fn find_start_in(
     request: &Request,
     found: &mut FoundHalf,
 ) -> Status
-    ensures found { OfObject (OfInput (FindsStart found.new) (input_of haystack.now request.now))
+    ensures found { OfObject (OfInput (FindsStartBack found.new) (input_of haystack.now request.now))
         object.old object.new result }
     ensures written { WritesIfDone found.old found.new result }
 {
@@ -158,7 +158,7 @@ pub extern "C" fn lazydfa_raw_find(
     request: &Request,
     found: &mut Found,
 ) -> Status
-    ensures found { OfHandle (OfInput (Finds found.new) (input_of haystack.now request.now))
+    ensures found { OfHandle (OfInput (ReportsMatch found.new) (input_of haystack.now request.now))
         cache.old cache.new result }
     ensures written { WritesIfDone found.old found.new result }
 {
@@ -220,7 +220,7 @@ pub extern "C" fn lazydfa_raw_find_start(
     request: &Request,
     found: &mut FoundHalf,
 ) -> Status
-    ensures found { OfHandle (OfInput (FindsStart found.new) (input_of haystack.now request.now))
+    ensures found { OfHandle (OfInput (FindsStartBack found.new) (input_of haystack.now request.now))
         cache.old cache.new result }
     ensures written { WritesIfDone found.old found.new result }
 {

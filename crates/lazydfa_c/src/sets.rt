@@ -2,10 +2,10 @@
 ghost use Rattle.std.specs.Prelude.{◌≡◌, ◌+◌, ◌-◌, ◌^◌, ◌++◌, List, [], ◌∷◌, false, length, min, replicate};
 ghost use Rattle.std.specs.Prelude.{IfErr, OnErr, OnOk};
 ghost use Rattle.automata_base.specs.Haystacks.PatternSet.{members};
-ghost use Rattle.lazydfa_c.specs.Batches.{AllEnds, AllStarts, AreAll, IsStep, NoneListed};
-ghost use Rattle.lazydfa_c.specs.Calls.{Joins, KeepsUnlessCache, KeepsUnlessOpen, OfHandle, OfInput, OfObject};
+ghost use Rattle.lazydfa_c.specs.Batches.{FindsAllEnds, FindsAllStarts, AreAll, IsWalkStep, NoneListed};
+ghost use Rattle.lazydfa_c.specs.Calls.{JoinsPatterns, KeepsUnlessCache, KeepsUnlessOpen, OfHandle, OfInput, OfObject};
 ghost use Rattle.lazydfa_c.specs.Caches.{Lists, written_over};
-ghost use Rattle.lazydfa_c.specs.Requests.{half_from, input_of};
+ghost use Rattle.lazydfa_c.specs.Requests.{found_half, input_of};
 ghost use Rattle.lazydfa_c.specs.Statuses.{plain};
 ghost use Rattle.lazydfa_c.specs.declared.code.Code.TheVariants as code;
 ghost use Rattle.regex_automata.specs.Promises.{IsCacheOf, IsWalkOf};
@@ -33,7 +33,7 @@ fn next_half(
     requires walk { IsWalkOf way dfa.now input.now walk.old }
     ensures of { IsCacheOf cache.new dfa.now }
     ensures walk { IsWalkOf way dfa.now input.now walk.new }
-    ensures step { IsStep way dfa.now input.now walk.old walk.new cache.old cache.new result }
+    ensures step { IsWalkStep way dfa.now input.now walk.old walk.new cache.old cache.new result }
 {
     match dfa.try_search_overlapping(cache, input, way, walk) {
         Ok(()) => Ok(walk.get_match()),
@@ -44,7 +44,7 @@ fn next_half(
 /// Writes a match at an index, if there is room, and counts it.
 fn write(out: &mut [FoundHalf], count: &mut usize, half: HalfMatch)
     ensures written { (halves : List FoundHalf) (was : List FoundHalf) → count.old ≡ length halves
-        → out.old ≡ written_over halves was → out.new ≡ written_over (halves ++ half_from half ∷ []) was }
+        → out.old ≡ written_over halves was → out.new ≡ written_over (halves ++ found_half half ∷ []) was }
     ensures count { count.new ≡ min (count.old + 1) (2 ^ 64 - 1) }
 {
     let index = *count;
@@ -98,7 +98,7 @@ fn write_members(set: &PatternSet, out: &mut [u32]) -> usize
 impl Searcher {
     /// Writes the ends of all matches of an input that there is room for, and counts all.
     fn all_ends(&mut self, input: &Input<'_>, out: &mut [FoundHalf], count: &mut usize) -> Status
-        ensures { AllEnds out.old out.new count.new input.now self.old self.new result }
+        ensures { FindsAllEnds out.old out.new count.new input.now self.old self.new result }
     {
         let shared = &self.shared;
         let dfa = shared.regex.forward();
@@ -114,7 +114,7 @@ impl Searcher {
 
     /// Writes the starts of all matches of an input that there is room for, and counts all.
     fn all_starts(&mut self, input: &Input<'_>, out: &mut [FoundHalf], count: &mut usize) -> Status
-        ensures { AllStarts out.old out.new count.new input.now self.old self.new result }
+        ensures { FindsAllStarts out.old out.new count.new input.now self.old self.new result }
     {
         let shared = &self.shared;
         let dfa = shared.regex.reverse();
@@ -135,6 +135,7 @@ impl Searcher {
         ensures patterns { OnErr result (self.new.patterns ≡ self.old.patterns) }
         ensures cache { self.new.cache ≡ self.old.cache }
         ensures same { self.new.shared ≡ self.old.shared }
+        ensures pieces { self.new.pieces ≡ self.old.pieces }
     {
         if self.patterns.capacity() == below {
             self.patterns.clear();
@@ -146,7 +147,7 @@ impl Searcher {
 
     /// Adds the patterns that match to the set of the searcher.
     fn join(&mut self, input: &Input<'_>) -> Status
-        ensures { Joins self.old.patterns input.now self.old self.new result }
+        ensures { JoinsPatterns self.old.patterns input.now self.old self.new result }
     {
         let shared = &self.shared;
         let dfa = shared.regex.forward();
@@ -225,7 +226,7 @@ fn all_ends_in(
     out: &mut [FoundHalf],
     count: &mut usize,
 ) -> Status
-    ensures all { OfObject (OfInput (AllEnds out.old out.new count.new) (input_of haystack.now request.now))
+    ensures all { OfObject (OfInput (FindsAllEnds out.old out.new count.new) (input_of haystack.now request.now))
         object.old object.new result }
     ensures none { OfObject (λ s t status. NoneListed (input_of haystack.now request.now) out.old out.new count.new)
         object.old object.new result }
@@ -252,7 +253,7 @@ fn all_starts_in(
     out: &mut [FoundHalf],
     count: &mut usize,
 ) -> Status
-    ensures all { OfObject (OfInput (AllStarts out.old out.new count.new) (input_of haystack.now request.now))
+    ensures all { OfObject (OfInput (FindsAllStarts out.old out.new count.new) (input_of haystack.now request.now))
         object.old object.new result }
     ensures none { OfObject (λ s t status. NoneListed (input_of haystack.now request.now) out.old out.new count.new)
         object.old object.new result }
@@ -280,7 +281,7 @@ pub extern "C" fn lazydfa_raw_all_ends(
     found: &mut [FoundHalf],
     count: &mut usize,
 ) -> Status
-    ensures all { OfHandle (OfInput (AllEnds found.old found.new count.new) (input_of haystack.now request.now))
+    ensures all { OfHandle (OfInput (FindsAllEnds found.old found.new count.new) (input_of haystack.now request.now))
         cache.old cache.new result }
     ensures none { OfHandle (λ s t status. NoneListed (input_of haystack.now request.now) found.old found.new count.new)
         cache.old cache.new result }
@@ -305,7 +306,7 @@ pub extern "C" fn lazydfa_raw_all_starts(
     found: &mut [FoundHalf],
     count: &mut usize,
 ) -> Status
-    ensures all { OfHandle (OfInput (AllStarts found.old found.new count.new) (input_of haystack.now request.now))
+    ensures all { OfHandle (OfInput (FindsAllStarts found.old found.new count.new) (input_of haystack.now request.now))
         cache.old cache.new result }
     ensures none { OfHandle (λ s t status. NoneListed (input_of haystack.now request.now) found.old found.new count.new)
         cache.old cache.new result }

@@ -24,7 +24,8 @@ pub struct Settings {
     pub unicode_word_boundary: u32,
     pub specialize_start_states: u32,
     pub skip_cache_capacity_check: u32,
-    pub reserved: u32,
+    /// Whether both starts may be one state, so that every search is anchored.
+    pub always_anchored: u32,
 }
 
 /// The configuration with these quit bytes. It fails with `Code::Argument` at a byte that the configuration does not

@@ -1,14 +1,16 @@
 //! What each call returns.
 ghost use Rattle.std.specs.Prelude.{◌≡◌, ◌↔◌, IsTrue};
 ghost use Rattle.lazydfa_c.specs.Codes.{CodesDiffer, number_of};
-ghost use Rattle.lazydfa_c.specs.Errors.{TellErrors, told_build, told_builder, told_regex, told_search, told_token};
-ghost use Rattle.lazydfa_c.specs.Statuses.{build_status, builder_status, done_status, nfa_code, plain};
-ghost use Rattle.lazydfa_c.specs.Statuses.{regex_status, search_status, status_at, token_status};
+ghost use Rattle.lazydfa_c.specs.Errors.{TellErrors, told_begin, told_build, told_builder};
+ghost use Rattle.lazydfa_c.specs.Errors.{told_regex, told_search, told_token};
+ghost use Rattle.lazydfa_c.specs.Statuses.{begin_status, build_status, builder_status, done_status, nfa_code, plain};
+ghost use Rattle.lazydfa_c.specs.Statuses.{regex_status, search_status, start_status, status_at, token_status};
 ghost use Rattle.lazydfa_c.specs.declared.code.Code.TheVariants as code;
 
 use crate::code::Code;
+use regex_automata::hybrid::dfa::BeginError;
 use regex_automata::hybrid::regex::RegexBuildError;
-use regex_automata::hybrid::{BuildError, SearchError};
+use regex_automata::hybrid::{BuildError, SearchError, StartError};
 use regex_automata::nfa::thompson::{BuildError as NfaBuildError, NfaError};
 use regex_automata::tokens::TokenError;
 use regex_automata::{Anchored, MatchErrorKind};
@@ -36,6 +38,7 @@ pub fn errors_differ()
     ensures regex { TellErrors regex_status told_regex }
     ensures search { TellErrors search_status told_search }
     ensures token { TellErrors token_status told_token }
+    ensures begin { TellErrors begin_status told_begin }
 {}
 
 impl Status {
@@ -176,6 +179,34 @@ impl From<SearchError> for Status {
             },
             SearchError::OutOfMemory => Status::from(Code::Memory),
             SearchError::NotAPair => Status::from(Code::NotAPair),
+        }
+    }
+}
+
+impl From<StartError> for Status {
+    ghost from_gives = { λ e s. s ≡ start_status e };
+
+    fn from(error: StartError) -> Status {
+        match error {
+            StartError::Cache { err: _ } => Status::from(Code::GaveUp),
+            StartError::Quit { byte } => Status {
+                code: Code::Quit.number(),
+                byte: u32::from(byte),
+                offset: 0,
+            },
+            StartError::UnsupportedAnchored { mode: _ } => Status::from(Code::Anchored),
+            StartError::OutOfMemory => Status::from(Code::Memory),
+        }
+    }
+}
+
+impl From<BeginError> for Status {
+    ghost from_gives = { λ e s. s ≡ begin_status e };
+
+    fn from(error: BeginError) -> Status {
+        match error {
+            BeginError::Skips => Status::from(Code::Skips),
+            BeginError::Start(error) => Status::from(error),
         }
     }
 }

@@ -122,7 +122,7 @@ fn status_of(error: &PatternError) -> Status
     }
 }
 
-/// Cuts texts that lie behind one another, by their lengths in bytes. It fails with `Code::Argument` if these are not
+/// Cuts texts that lie one after another, by their lengths in bytes. It fails with `Code::Argument` if these are not
 /// the lengths of all of it, and with `Code::NotText` and an offset in the text if one is not UTF-8. How many texts were
 /// cut before is written then.
 fn cut<'t>(
@@ -155,7 +155,7 @@ fn cut<'t>(
     Ok(parts)
 }
 
-/// Writes a message, as many whole characters as there is room for, and a zero behind it.
+/// Writes a message, as many whole characters as there is room for, and a zero after it.
 fn write_message(message: &str, out: &mut [u8]) {
     if out.is_empty() {
         return;
@@ -201,7 +201,7 @@ fn tell(
     };
 }
 
-/// The NFA of the texts that lie behind one another.
+/// The NFA of the texts that lie one after another.
 fn nfa_of_texts(
     alloc: Global,
     texts: &[u8],

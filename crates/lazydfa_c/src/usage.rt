@@ -1,7 +1,7 @@
 //! What a cache accounts for, and making it a fresh one.
 ghost use Rattle.std.specs.Prelude.{◌≡◌};
 ghost use Rattle.lazydfa_c.specs.Calls.{OfHandle, OfObject, WritesIfDone};
-ghost use Rattle.lazydfa_c.specs.Caches.{Reports, Resets, usage_of};
+ghost use Rattle.lazydfa_c.specs.Caches.{ReportsUsage, Resets, usage_of};
 
 use crate::code::Code;
 use crate::handle::Handle;
@@ -58,7 +58,7 @@ fn reset_in(object: &mut Object) -> Status
 
 /// Writes what a cache accounts for. The status is `Code::Kind` if the object is no cache.
 fn usage_in(object: &mut Object, usage: &mut Usage) -> Status
-    ensures reports { OfObject (Reports usage.new) object.old object.new result }
+    ensures reports { OfObject (ReportsUsage usage.new) object.old object.new result }
     ensures written { WritesIfDone usage.old usage.new result }
 {
     match object {
@@ -90,7 +90,7 @@ pub extern "C" fn lazydfa_raw_cache_usage(
     cache: &mut Handle,
     usage: &mut Usage,
 ) -> Status
-    ensures reports { OfHandle (Reports usage.new) cache.old cache.new result }
+    ensures reports { OfHandle (ReportsUsage usage.new) cache.old cache.new result }
     ensures written { WritesIfDone usage.old usage.new result }
 {
     let Some(mut object) = cache.take(alloc) else {

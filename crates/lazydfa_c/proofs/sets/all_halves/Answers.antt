@@ -2,7 +2,7 @@ use Rattle.std.proofs.Common.{ap, ◌≡◌, ◌+◌, ◌++◌, ◌∙◌, List,
 use Rattle.std.proofs.lemmas.List.{length-map, length_push, map-append}
 use Rattle.automata_hybrid.specs.Walks.State.{fresh_walk}
 use Rattle.lazydfa_c.specs.Caches.{written_over}
-use Rattle.lazydfa_c.specs.Requests.{half_from}
+use Rattle.lazydfa_c.specs.Requests.{found_half}
 use Rattle.lazydfa_c.specs.declared.input.FoundHalf.{FoundHalf}
 use Rattle.lazydfa_c.proofs.Batches.{step_more}
 use Rattle.lazydfa_c.proofs.sets.all_halves.Goals as goal
@@ -17,9 +17,9 @@ loop-at-preserved c =
     let steps =
     step_more way m input halves half fresh_walk l.walk c.next_half.new.walk old l.cache c.next_half.new.cache v.3.1
     (search rules) in
-    let written : new ≡ written_over (map half_from halves ++ half_from half ∷ []) out =
-    c.write.ensures.written (map half_from halves) out (listed ∙ sym (length-map halves half_from)) v.3.2 in
+    let written : new ≡ written_over (map found_half halves ++ found_half half ∷ []) out =
+    c.write.ensures.written (map found_half halves) out (listed ∙ sym (length-map halves found_half)) v.3.2 in
     let first =
-    subst (λ (hs : List FoundHalf). new ≡ written_over hs out) (sym (map-append half_from halves (half ∷ []))) written in
+    subst (λ (hs : List FoundHalf). new ≡ written_over hs out) (sym (map-append found_half halves (half ∷ []))) written in
     let length = more ∙ sym (length_push halves half ∙ ap (λ n. n + 1) (sym listed ∙ counted)) in
     (c.next_half.ensures.of, c.next_half.ensures.walk, more, (halves ++ half ∷ [], steps, first, length))

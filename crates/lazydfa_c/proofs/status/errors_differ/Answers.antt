@@ -8,4 +8,5 @@ returns c = record {
   regex = errors.regex_told;
   search = errors.search_told;
   token = errors.token_told;
+  begin = errors.begin_told;
 }

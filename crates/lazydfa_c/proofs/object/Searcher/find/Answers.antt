@@ -11,6 +11,7 @@ returns-in-Ok-Some-clause-found c = record {
   returned = search rules;
   effect = subst (λ (r : Regex). IsSpanRun r c.args.input.now c.args.self.now.cache c.find.new.cache None) c.deref.ensures c.in-Ok-Some.ensures.effect;
   same = search rules;
+  pieces = search rules;
 }
 
 pub returns-in-Ok-None-clause-found : goal.returns-in-Ok-None-clause-found
@@ -20,6 +21,7 @@ returns-in-Ok-None-clause-found c = record {
   returned = search rules;
   effect = subst (λ (r : Regex). IsSpanRun r c.args.input.now c.args.self.now.cache c.find.new.cache None) c.deref.ensures c.in-Ok-None.ensures.effect;
   same = search rules;
+  pieces = search rules;
 }
 
 pub returns-in-Err-clause-found : goal.returns-in-Err-clause-found
@@ -29,4 +31,5 @@ returns-in-Err-clause-found c = record {
   returned = search rules;
   effect = subst (λ (r : Regex). IsSpanRun r c.args.input.now c.args.self.now.cache c.find.new.cache (Some c.in-Err.error)) c.deref.ensures c.in-Err.ensures.effect;
   same = search rules;
+  pieces = search rules;
 }

@@ -17,6 +17,7 @@ returns-in-Ok-Some-clause-found c = record {
       (subst (λ (v : CacheView). IsSearchRun Forward c.forward-dfa.result.now c.args.input.now v c.try_search_fwd.new.cache None) c.forward_mut.ensures.value c.in-Ok-Some.ensures.effect));
   reverse = search rules;
   same = search rules;
+  pieces = search rules;
 }
 
 pub returns-in-Ok-None-clause-found : goal.returns-in-Ok-None-clause-found
@@ -29,6 +30,7 @@ returns-in-Ok-None-clause-found c = record {
       (subst (λ (v : CacheView). IsSearchRun Forward c.forward-dfa.result.now c.args.input.now v c.try_search_fwd.new.cache None) c.forward_mut.ensures.value c.in-Ok-None.ensures.effect));
   reverse = search rules;
   same = search rules;
+  pieces = search rules;
 }
 
 pub returns-in-Err-clause-found : goal.returns-in-Err-clause-found
@@ -41,4 +43,5 @@ returns-in-Err-clause-found c = record {
       (subst (λ (v : CacheView). IsSearchRun Forward c.forward-dfa.result.now c.args.input.now v c.try_search_fwd.new.cache (Some c.in-Err.error)) c.forward_mut.ensures.value c.in-Err.ensures.effect));
   reverse = search rules;
   same = search rules;
+  pieces = search rules;
 }

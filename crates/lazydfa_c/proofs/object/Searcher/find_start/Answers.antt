@@ -17,6 +17,7 @@ returns-in-Ok-Some-clause-found c = record {
       (subst (λ (v : CacheView). IsSearchRun Backward c.reverse-dfa.result.now c.args.input.now v c.try_search_rev.new.cache None) c.reverse_mut.ensures.value c.in-Ok-Some.ensures.effect));
   forward = search rules;
   same = search rules;
+  pieces = search rules;
 }
 
 pub returns-in-Ok-None-clause-found : goal.returns-in-Ok-None-clause-found
@@ -29,6 +30,7 @@ returns-in-Ok-None-clause-found c = record {
       (subst (λ (v : CacheView). IsSearchRun Backward c.reverse-dfa.result.now c.args.input.now v c.try_search_rev.new.cache None) c.reverse_mut.ensures.value c.in-Ok-None.ensures.effect));
   forward = search rules;
   same = search rules;
+  pieces = search rules;
 }
 
 pub returns-in-Err-clause-found : goal.returns-in-Err-clause-found
@@ -41,4 +43,5 @@ returns-in-Err-clause-found c = record {
       (subst (λ (v : CacheView). IsSearchRun Backward c.reverse-dfa.result.now c.args.input.now v c.try_search_rev.new.cache (Some c.in-Err.error)) c.reverse_mut.ensures.value c.in-Err.ensures.effect));
   forward = search rules;
   same = search rules;
+  pieces = search rules;
 }

@@ -18,6 +18,7 @@ returns-in-Err-clause-found c =
           (subst (λ (r : Regex). IsNextRun r input c.last.result old new (Some e)) c.deref.ensures
           c.in-Err.ensures.effect);
       same = search rules;
+      pieces = search rules;
       iterated = search rules;
     }
 
@@ -35,6 +36,7 @@ returns-in-Ok-Some-clause-found c =
           subst (λ (l : Option ℕ). IsNextRun regex input l old new None) c.last.ensures
           (subst (λ (r : Regex). IsNextRun r input c.last.result old new None) c.deref.ensures c.in-Ok-Some.ensures.effect);
       same = search rules;
+      pieces = search rules;
       iterated = search rules;
     }
 
@@ -52,5 +54,6 @@ returns-in-Ok-None-clause-found c =
           subst (λ (l : Option ℕ). IsNextRun regex input l old new None) c.last.ensures
           (subst (λ (r : Regex). IsNextRun r input c.last.result old new None) c.deref.ensures c.in-Ok-None.ensures.effect);
       same = search rules;
+      pieces = search rules;
       iterated = search rules;
     }

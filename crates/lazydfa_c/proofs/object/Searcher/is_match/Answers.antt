@@ -11,6 +11,7 @@ returns-in-Ok-true c = record {
   returned = search rules;
   effect = subst (λ (r : Regex). IsTruthRun r c.args.input.now c.args.self.now.cache c.is_match.new.cache None) c.deref.ensures c.in-Ok-true.ensures.effect;
   same = search rules;
+  pieces = search rules;
 }
 
 pub returns-in-Ok-false : goal.returns-in-Ok-false
@@ -20,6 +21,7 @@ returns-in-Ok-false c = record {
   returned = search rules;
   effect = subst (λ (r : Regex). IsTruthRun r c.args.input.now c.args.self.now.cache c.is_match.new.cache None) c.deref.ensures c.in-Ok-false.ensures.effect;
   same = search rules;
+  pieces = search rules;
 }
 
 pub returns-in-Err : goal.returns-in-Err
@@ -29,4 +31,5 @@ returns-in-Err c = record {
   returned = search rules;
   effect = subst (λ (r : Regex). IsTruthRun r c.args.input.now c.args.self.now.cache c.is_match.new.cache (Some c.in-Err.error)) c.deref.ensures c.in-Err.ensures.effect;
   same = search rules;
+  pieces = search rules;
 }

@@ -8,6 +8,7 @@ returns-in-Ok c = record {
   told = inl (c.from.ensures, subst (λ (r : Regex). AreFresh r c.reset.new.self) c.deref.ensures c.in-Ok.ensures.ok);
   patterns = search rules;
   same = search rules;
+  pieces = search rules;
 }
 
 pub returns-in-Err : goal.returns-in-Err
@@ -15,4 +16,5 @@ returns-in-Err c = record {
   told = inr (c.from-in-Err.ensures, c.in-Err.ensures.err);
   patterns = search rules;
   same = search rules;
+  pieces = search rules;
 }

@@ -1,0 +1,41 @@
+use Rattle.std.proofs.Common.{rules, inl, ap, subst, sym, None, ◌∙◌}
+use Rattle.std.specs.Prelude.{Ok}
+use Rattle.automata_hybrid.specs.Cache.Caches.{CacheView}
+use Rattle.automata_hybrid.specs.Machines.Machine.{Machine}
+use Rattle.automata_hybrid.specs.Pieces.Answers.{HasBegun}
+use Rattle.automata_hybrid.specs.Pieces.Progress.{IsBeginRun}
+use Rattle.automata_hybrid.specs.Pieces.State.{IsPiecesOf}
+use Rattle.regex_automata.specs.declared.hybrid.regex.Regex.{Regex}
+use Rattle.lazydfa_c.proofs.Streams.{stream_is}
+use Rattle.lazydfa_c.proofs.object.Searcher.begin_pieces.Goals as goal
+
+pub of-requires : goal.of-requires
+of-requires c =
+    let p = c.in-Ok.pieces in
+    subst (λ (r : Regex). IsPiecesOf p r.forward) (sym c.in-Ok-clone.ensures.cases)
+    (subst (λ (r : Regex). IsPiecesOf p r.forward) c.deref.ensures
+    (subst (λ (m : Machine). IsPiecesOf p m) c.forward-dfa.ensures c.in-Ok.ensures.pieces))
+
+pub returns-in-Ok-clone : goal.returns-in-Ok-clone
+returns-in-Ok-clone c =
+    let p = c.in-Ok.pieces in let start = c.args.start.now in let early = c.args.earliest in
+    let mode = start.anchored in let behind = start.look_behind in
+    let old = c.args.self.now.cache.forward in let new = c.begin_pieces.new.cache in record {
+      result = Ok p;
+      told =
+          inl (
+            stream_is c.args.self.now.pieces c.of.result c.args.self.now.shared.regex.value.forward p
+                (c.of.ensures.machine ∙ ap (λ (r : Regex). r.forward) c.in-Ok-clone.ensures.cases) c.of.ensures.pieces,
+            c.from.ensures,
+          );
+      begun =
+          subst (λ (r : Regex). HasBegun r.forward mode behind early p) c.deref.ensures
+          (subst (λ (m : Machine). HasBegun m mode behind early p) c.forward-dfa.ensures c.in-Ok.ensures.begun);
+      effect =
+          subst (λ (r : Regex). IsBeginRun r.forward mode behind old new None) c.deref.ensures
+          (subst (λ (m : Machine). IsBeginRun m mode behind old new None) c.forward-dfa.ensures
+          (subst (λ (v : CacheView). IsBeginRun c.forward-dfa.result.now mode behind v new None)
+          c.forward_mut.ensures.value c.in-Ok.ensures.effect));
+      reverse = search rules;
+      same = search rules;
+    }

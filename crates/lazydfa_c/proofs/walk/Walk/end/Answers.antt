@@ -1,0 +1,29 @@
+use Rattle.std.proofs.Common.{subst, sym, Some, None}
+use Rattle.automata_hybrid.specs.Machines.Machine.{Machine}
+use Rattle.automata_hybrid.specs.Pieces.State.{IsPiecesOf}
+use Rattle.automata_hybrid.specs.Pieces.Walks.{IsWalkEndRun}
+use Rattle.regex_automata.specs.declared.hybrid.regex.Regex.{Regex}
+use Rattle.lazydfa_c.specs.Streams.{WalkView}
+use Rattle.lazydfa_c.proofs.walk.Walk.end.Goals as goal
+
+pub end_walk-requires-clause-walk : goal.end_walk-requires-clause-walk
+end_walk-requires-clause-walk c =
+    let p = c.self.inside.walk in
+    subst (λ (m : Machine). IsPiecesOf p m) (sym c.forward.ensures)
+    (subst (λ (r : Regex). IsPiecesOf p r.forward) (sym c.deref.ensures) c.self.invariant)
+
+pub returns-in-Ok-clause-effect : goal.returns-in-Ok-clause-effect
+returns-in-Ok-clause-effect c =
+    let w = c.self.inside.walk in let ahead = c.args.ahead in
+    let old = c.args.cache.now in let new = c.end_walk.new.cache in
+    subst (λ (v : WalkView). IsWalkEndRun v.machine ahead v.walk old new None) c.self.view_is
+    (subst (λ (r : Regex). IsWalkEndRun r.forward ahead w old new None) c.deref.ensures
+    (subst (λ (m : Machine). IsWalkEndRun m ahead w old new None) c.forward.ensures c.in-Ok.ensures.effect))
+
+pub returns-in-Err-clause-effect : goal.returns-in-Err-clause-effect
+returns-in-Err-clause-effect c =
+    let w = c.self.inside.walk in let ahead = c.args.ahead in let e = c.in-Err.error in
+    let old = c.args.cache.now in let new = c.end_walk.new.cache in
+    subst (λ (v : WalkView). IsWalkEndRun v.machine ahead v.walk old new (Some e)) c.self.view_is
+    (subst (λ (r : Regex). IsWalkEndRun r.forward ahead w old new (Some e)) c.deref.ensures
+    (subst (λ (m : Machine). IsWalkEndRun m ahead w old new (Some e)) c.forward.ensures c.in-Err.ensures.effect))

@@ -1,0 +1,109 @@
+-- What the calls of a search in pieces do, each seen by the cache before and after it and by the status that it returns.
+use Rattle.std.specs.Prelude.{ℕ, ◌≡◌, ◌⊎◌, Bool, List, Option, Some, None}
+use Rattle.std.specs.Prelude.{Result, Ok, Err, OnOk, OnErr, IfOk}
+use Rattle.std.specs.Result.{result_err}
+use Rattle.automata_base.specs.Haystacks.StartConfig.{StartConfig}
+use Rattle.automata_config.specs.declared.error.SearchError.{SearchError}
+use Rattle.automata_hybrid.specs.Pieces.Answers.{EndsHere, HasBegun, ReadsOn}
+use Rattle.automata_hybrid.specs.Pieces.Progress.{IsAnswerRun, IsBeginRun, IsPieceRun}
+use Rattle.automata_hybrid.specs.Pieces.State.{PiecesView}
+use Rattle.automata_hybrid.specs.declared.search.pieces.BeginError.{BeginError}
+use Rattle.regex_automata.specs.Promises.{HalfMatch, Machine}
+use Rattle.lazydfa_c.specs.Calls.{IsDoneTold, IsTold, regex_of}
+use Rattle.lazydfa_c.specs.Requests.{found_half}
+use Rattle.lazydfa_c.specs.Statuses.{begin_status, plain}
+use Rattle.lazydfa_c.specs.Streams.{StreamView, done_in}
+use Rattle.lazydfa_c.specs.declared.code.Code.TheVariants as code
+use Rattle.lazydfa_c.specs.declared.input.FoundHalf.{FoundHalf}
+use Rattle.lazydfa_c.specs.declared.object.InPieces.{InPieces}
+use Rattle.lazydfa_c.specs.declared.object.Searcher.{Searcher}
+use Rattle.lazydfa_c.specs.declared.status.Status.{Status}
+
+-- a call for what numbers of C stand for; if they stand for none it changes nothing, and the argument is reported
+abbrev pub OfNumbers :
+    {A : Type 0} → (Does : A → Searcher → Searcher → Status → Type 0)
+    → Option A → Searcher → Searcher → Status → Type 0
+OfNumbers Does None s t status = (t ≡ s) × (status ≡ plain code.Argument)
+OfNumbers Does (Some x) s t status = Does x s t status
+
+-- a call for the search in pieces of a cache, or for its walk; without one it changes nothing, and that is reported
+abbrev pub OfPieces :
+    {V : Type 0} → (Does : V → Searcher → Searcher → Status → Type 0)
+    → Option V → Searcher → Searcher → Status → Type 0
+OfPieces Does None s t status = (t ≡ s) × (status ≡ plain code.NotBegun)
+OfPieces Does (Some v) s t status = Does v s t status
+
+-- a cache has the search that has begun; if it did not begin, or cannot share the regex, the one that it had
+abbrev pub IsBegun : Machine → Result PiecesView BeginError → (old new : InPieces) → Status → Type 0
+IsBegun m (Ok p) old new status =
+    ((new ≡ record old { search = Some (record { machine = m; pieces = p }) }) × (status ≡ plain code.Done))
+    ⊎ ((new ≡ old) × (status ≡ plain code.Memory))
+IsBegun m (Err e) old new status = (new ≡ old) × (status ≡ begin_status e)
+
+-- `lazydfa_pieces_begin`: the result of `DFA::begin_pieces` of the forward DFA; the reverse cache stays
+pub record BeginsPieces (earliest : Bool) (start : StartConfig) (s t : Searcher) (status : Status) : Type 0 where
+  -- what `DFA::begin_pieces` returns
+  pub result : Result PiecesView BeginError
+  -- the status reports the result, and the cache has the search
+  pub told : IsBegun (regex_of s).forward result s.pieces t.pieces status
+  -- what the call promises of the search
+  pub begun : IfOk result (HasBegun (regex_of s).forward start.anchored start.look_behind earliest)
+  -- what it made of the forward cache, also if it failed
+  pub effect :
+      IsBeginRun (regex_of s).forward start.anchored start.look_behind s.cache.forward t.cache.forward (result_err result)
+  -- the reverse cache is unchanged
+  pub reverse : t.cache.reverse ≡ s.cache.reverse
+  -- the cache keeps its regex
+  pub same : t.shared ≡ s.shared
+
+-- `lazydfa_pieces_read`: the result of `DFA::read_piece` of the forward DFA; the reverse cache stays
+pub record ReadsPiece (piece : List ℕ) (stream : StreamView) (s t : Searcher) (status : Status) : Type 0 where
+  -- the search after the call
+  pub next : StreamView
+  -- the cache has it, and its walk is unchanged
+  pub has : t.pieces ≡ record s.pieces { search = Some next }
+  -- what `DFA::read_piece` returns
+  pub result : Result (Unit {0}) SearchError
+  -- the status reports whether it failed, and why
+  pub told : IsDoneTold result status
+  -- if it did not fail, the search was given the bytes of the piece too
+  pub reads : OnOk result (ReadsOn (regex_of s).forward piece stream.pieces next.pieces)
+  -- if it failed, the search stands where it stood
+  pub unchanged : OnErr result (next.pieces ≡ stream.pieces)
+  -- what the call made of the search and of the forward cache, also if it failed
+  pub effect :
+      IsPieceRun (regex_of s).forward piece stream.pieces next.pieces s.cache.forward t.cache.forward (result_err result)
+  -- the reverse cache is unchanged, and the cache keeps its regex
+  pub rest : (t.cache.reverse ≡ s.cache.reverse) × (t.shared ≡ s.shared)
+
+-- `lazydfa_pieces_end`: the result of `DFA::end_pieces` of the forward DFA; the search and the reverse cache stay
+pub record EndsPieces (found : FoundHalf) (ahead : Option ℕ) (stream : StreamView) (s t : Searcher) (status : Status)
+    : Type 0 where
+  -- what `DFA::end_pieces` returns: the pattern and the end of a match, or none
+  pub result : Result (Option HalfMatch) SearchError
+  -- the status reports the result, and a match is written
+  pub told : IsTold found_half found result status
+  -- if it did not fail, it is what a search of the whole haystack returns
+  pub answer : IfOk result (EndsHere (regex_of s).forward stream.pieces ahead)
+  -- what the call made of the forward cache, also if it failed
+  pub effect :
+      IsAnswerRun (regex_of s).forward ahead stream.pieces s.cache.forward t.cache.forward (result_err result)
+  -- the reverse cache is unchanged
+  pub reverse : t.cache.reverse ≡ s.cache.reverse
+  -- the cache keeps its regex
+  pub same : t.shared ≡ s.shared
+  -- its search and its walk in pieces are unchanged
+  pub pieces : t.pieces ≡ s.pieces
+
+-- `lazydfa_pieces_begin` by its numbers
+abbrev pub BeginsBy : (earliest : Bool) → Option StartConfig → (s t : Searcher) → Status → Type 0
+BeginsBy earliest start s t status = OfNumbers (BeginsPieces earliest) start s t status
+
+-- `lazydfa_pieces_read` over a cache, with or without a search in pieces, and whether the answer stands then
+abbrev pub ReadsIn : (piece : List ℕ) → (done : ℕ) → (s t : Searcher) → Status → Type 0
+ReadsIn piece done s t status =
+    OfPieces (ReadsPiece piece) s.pieces.search s t status × (done ≡ done_in t.pieces.search)
+
+-- `lazydfa_pieces_end` over a cache, with or without a search in pieces
+abbrev pub EndsIn : FoundHalf → (ahead : Option ℕ) → (s t : Searcher) → Status → Type 0
+EndsIn found ahead s t status = OfPieces (EndsPieces found ahead) s.pieces.search s t status

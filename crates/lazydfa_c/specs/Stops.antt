@@ -1,0 +1,20 @@
+-- Where a walk in pieces stands, as C reads it.
+use Rattle.std.specs.Prelude.{ℕ, zero, suc, length}
+use Rattle.lazydfa_c.specs.Statuses.{plain}
+use Rattle.lazydfa_c.specs.Streams.{WalkView, listed, offset_of}
+use Rattle.lazydfa_c.specs.declared.code.Code.TheVariants as code
+use Rattle.lazydfa_c.specs.declared.status.Status.{Status}
+use Rattle.lazydfa_c.specs.declared.walk.Stop.{Stop}
+
+-- no byte was read, and no pattern matches
+abbrev pub nowhere : Stop
+nowhere = record { read = 0; offset = 0; patterns = 0 }
+
+-- where a walk stands after a call that has read so many bytes of its piece
+abbrev pub stop_of : (read : ℕ) → WalkView → Stop
+stop_of read walk = record { read = read; offset = offset_of walk; patterns = length (listed walk) }
+
+-- the status of a call of a walk that did not fail, by how many patterns match where it stands
+abbrev pub stop_status : (patterns : ℕ) → Status
+stop_status zero = plain code.Nothing
+stop_status (suc n) = plain code.Done

@@ -1,0 +1,80 @@
+//! A search in pieces, with the regex that it is one of.
+ghost use Rattle.std.specs.Prelude.{◌≡◌, IfOk, None, OnErr, OnOk, false, true};
+ghost use Rattle.std.specs.Result.{result_err};
+ghost use Rattle.automata_hybrid.specs.Pieces.Answers.{EndsHere, ReadsOn};
+ghost use Rattle.automata_hybrid.specs.Pieces.Progress.{IsAnswerRun, IsPieceRun};
+ghost use Rattle.automata_hybrid.specs.Pieces.State.{IsPiecesOf};
+ghost use Rattle.regex_automata.specs.Promises.{IsCacheOf};
+
+use regex_automata::HalfMatch;
+use regex_automata::hybrid::SearchError;
+use regex_automata::hybrid::dfa::{Cache, Pieces};
+use regex_automata::hybrid::regex::Regex;
+use std::marker::Model;
+use std::sync::Arc;
+
+/// A search in pieces by the forward DFA of a regex, which it shares.
+#[derive(Drop)]
+pub struct Stream {
+    regex: Arc<Regex>,
+    pieces: Pieces,
+}
+
+impl Model for Stream {
+    ghost use Rattle.automata_hybrid.specs.Pieces.State.{IsPiecesOf};
+    ghost use Rattle.lazydfa_c.specs.Streams.{StreamView, stream_view};
+
+    ghost Value = { StreamView };
+
+    ghost view = { stream_view };
+
+    ghost invariant = { λ s. IsPiecesOf s.pieces s.regex.value.forward };
+}
+
+impl Stream {
+    /// A search that was begun by the forward DFA of the regex.
+    pub fn of(regex: Arc<Regex>, pieces: Pieces) -> Stream
+        requires { IsPiecesOf pieces regex.value.forward }
+        ensures machine { result.machine ≡ regex.value.forward }
+        ensures pieces { result.pieces ≡ pieces }
+    {
+        Stream { regex, pieces }
+    }
+
+    /// Whether the answer stands, whatever follows.
+    pub fn is_done(&self) -> bool
+        ensures yes { result ≡ true → self.now.pieces.state ≡ None }
+        ensures no { result ≡ false → self.now.pieces.state ≡ None → ⊥ }
+    {
+        self.pieces.is_done()
+    }
+
+    /// Reads the next piece, with a cache of the forward DFA.
+    pub fn read(&mut self, cache: &mut Cache, piece: &[u8]) -> Result<(), SearchError>
+        requires { IsCacheOf cache.old self.old.machine }
+        ensures of { IsCacheOf cache.new self.old.machine }
+        ensures machine { self.new.machine ≡ self.old.machine }
+        ensures reads { OnOk result (ReadsOn self.old.machine piece.now self.old.pieces self.new.pieces) }
+        ensures unchanged { OnErr result (self.new.pieces ≡ self.old.pieces) }
+        ensures effect { IsPieceRun self.old.machine piece.now self.old.pieces self.new.pieces
+            cache.old cache.new (result_err result) }
+    {
+        let regex = &self.regex;
+        regex.forward().read_piece(cache, &mut self.pieces, piece)
+    }
+
+    /// The match in the pieces so far, if this byte follows or none, with a cache of the forward DFA.
+    pub fn end(
+        &self,
+        cache: &mut Cache,
+        ahead: Option<u8>,
+    ) -> Result<Option<HalfMatch>, SearchError>
+        requires { IsCacheOf cache.old self.now.machine }
+        ensures of { IsCacheOf cache.new self.now.machine }
+        ensures answer { IfOk result (EndsHere self.now.machine self.now.pieces ahead) }
+        ensures effect { IsAnswerRun self.now.machine ahead self.now.pieces
+            cache.old cache.new (result_err result) }
+    {
+        self.regex.forward().end_pieces(cache, &self.pieces, ahead)
+    }
+}

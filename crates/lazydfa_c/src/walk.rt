@@ -1,0 +1,185 @@
+//! A walk in pieces, with the regex that it is one of.
+ghost use Rattle.std.specs.Prelude.{◌≡◌, ◌<◌, IfOk, IsSomeAnd, None, OnErr, OnOk, length, slice_get, slice_index};
+ghost use Rattle.std.specs.Result.{result_err};
+ghost use Rattle.automata_hybrid.specs.Pieces.State.{IsPiecesOf};
+ghost use Rattle.automata_hybrid.specs.Pieces.Walks.{EndsWith, IsWalkCallRun, IsWalkEndRun, IsWalked};
+ghost use Rattle.lazydfa_c.specs.Stops.{nowhere, stop_of, stop_status};
+ghost use Rattle.lazydfa_c.specs.Streams.{listed, offset_of};
+ghost use Rattle.regex_automata.specs.Promises.{IsCacheOf};
+
+use crate::code::Code;
+use crate::status::Status;
+use regex_automata::PatternID;
+use regex_automata::hybrid::SearchError;
+use regex_automata::hybrid::dfa::{Cache, PiecesWalk, WalkEnd};
+use regex_automata::hybrid::regex::Regex;
+use std::marker::Model;
+use std::sync::Arc;
+
+/// Where a walk stands: how many bytes of a piece were read, the offset of the match, in bytes, and how many patterns
+/// match there.
+#[repr(C)]
+#[derive(Clone, Copy)]
+pub struct Stop {
+    pub read: usize,
+    pub offset: usize,
+    pub patterns: usize,
+}
+
+impl Stop {
+    /// No byte, and no match.
+    pub fn nowhere() -> Stop
+        ensures { result ≡ nowhere }
+    {
+        Stop {
+            read: 0,
+            offset: 0,
+            patterns: 0,
+        }
+    }
+
+    /// Whether patterns match there, as a status.
+    pub fn status(&self) -> Status
+        ensures { result ≡ stop_status self.now.patterns }
+    {
+        if self.patterns == 0 {
+            Status::from(Code::Nothing)
+        } else {
+            Status::from(Code::Done)
+        }
+    }
+}
+
+/// A walk in pieces by the forward DFA of a regex, which it shares. It lists the patterns at its match, or those at the
+/// end of the haystack once it was asked for them.
+#[derive(Drop)]
+pub struct Walk {
+    regex: Arc<Regex>,
+    walk: PiecesWalk,
+    end: Option<WalkEnd>,
+}
+
+impl Model for Walk {
+    ghost use Rattle.automata_hybrid.specs.Pieces.State.{IsPiecesOf};
+    ghost use Rattle.lazydfa_c.specs.Streams.{WalkView, walk_view};
+
+    ghost Value = { WalkView };
+
+    ghost view = { walk_view };
+
+    ghost invariant = { λ s. IsPiecesOf s.walk s.regex.value.forward };
+}
+
+impl Walk {
+    /// A walk that was begun by the forward DFA of the regex.
+    pub fn of(regex: Arc<Regex>, walk: PiecesWalk) -> Walk
+        requires { IsPiecesOf walk regex.value.forward }
+        ensures machine { result.machine ≡ regex.value.forward }
+        ensures walk { result.walk ≡ walk }
+        ensures end { result.end ≡ None }
+    {
+        Walk {
+            regex,
+            walk,
+            end: None,
+        }
+    }
+
+    /// Reads a piece up to the next match, with a cache of the forward DFA, and returns how many bytes it has read.
+    pub fn read(&mut self, cache: &mut Cache, piece: &[u8]) -> Result<usize, SearchError>
+        requires { IsCacheOf cache.old self.old.machine }
+        ensures of { IsCacheOf cache.new self.old.machine }
+        ensures machine { self.new.machine ≡ self.old.machine }
+        ensures walked { IfOk result (IsWalked self.old.machine piece.now self.old.walk self.new.walk) }
+        ensures listed { OnOk result (self.new.end ≡ None) }
+        ensures unchanged { OnErr result ((self.new.walk ≡ self.old.walk) × (self.new.end ≡ self.old.end)) }
+        ensures effect { IsWalkCallRun self.old.machine piece.now self.old.walk self.new.walk
+            cache.old cache.new (result_err result) }
+    {
+        let regex = &self.regex;
+        match regex.forward().walk_piece(cache, &mut self.walk, piece) {
+            Ok(read) => {
+                self.end = None;
+                Ok(read)
+            }
+            Err(error) => Err(error),
+        }
+    }
+
+    /// Lists the patterns that match up to the end of the pieces so far, if this byte follows or none, with a cache of
+    /// the forward DFA.
+    pub fn end(&mut self, cache: &mut Cache, ahead: Option<u8>) -> Result<(), SearchError>
+        requires { IsCacheOf cache.old self.old.machine }
+        ensures of { IsCacheOf cache.new self.old.machine }
+        ensures machine { self.new.machine ≡ self.old.machine }
+        ensures walk { self.new.walk ≡ self.old.walk }
+        ensures ends { OnOk result (IsSomeAnd self.new.end (EndsWith self.old.machine self.old.walk ahead)) }
+        ensures unchanged { OnErr result (self.new.end ≡ self.old.end) }
+        ensures effect { IsWalkEndRun self.old.machine ahead self.old.walk cache.old cache.new (result_err result) }
+    {
+        let regex = &self.regex;
+        match regex.forward().end_walk(cache, &self.walk, ahead) {
+            Ok(end) => {
+                self.end = Some(end);
+                Ok(())
+            }
+            Err(error) => Err(error),
+        }
+    }
+
+    /// How many patterns it lists.
+    fn len(&self) -> usize
+        ensures { result ≡ length (listed self.now) }
+    {
+        match &self.end {
+            Some(end) => end.match_len(),
+            None => self.walk.match_len(),
+        }
+    }
+
+    /// One of them, by its index.
+    fn at(&self, index: usize) -> PatternID
+        requires { index < length (listed self.now) }
+        ensures { result ≡ slice_index (listed self.now) index }
+    {
+        match &self.end {
+            Some(end) => end.match_pattern(index),
+            None => self.walk.match_pattern(index),
+        }
+    }
+
+    /// One of them, by its index, or none if it lists fewer.
+    pub fn pattern(&self, index: usize) -> Option<PatternID>
+        ensures { result ≡ slice_get (listed self.now) index }
+    {
+        if index < self.len() {
+            Some(self.at(index))
+        } else {
+            None
+        }
+    }
+
+    /// The offset of these patterns.
+    fn offset(&self) -> usize
+        ensures { result ≡ offset_of self.now }
+    {
+        match &self.end {
+            Some(_) => self.walk.bytes_read(),
+            None => match self.walk.get_match() {
+                Some(half) => half.offset(),
+                None => 0,
+            },
+        }
+    }
+
+    /// Where it stands, after so many bytes of a piece.
+    pub fn stop(&self, read: usize) -> Stop
+        ensures { result ≡ stop_of read self.now }
+    {
+        Stop {
+            read,
+            offset: self.offset(),
+            patterns: self.len(),
+        }
+    }
+}
