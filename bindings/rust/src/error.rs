@@ -1,13 +1,61 @@
+//! Why a regex cannot be built, and why a search fails.
 use crate::raw::Status;
+use crate::{Anchored, PatternID};
 use std::fmt;
+use std::ops::Range;
 
-/// Why a call fails.
+/// Why an NFA, a DFA or a regex cannot be built.
+///
+/// For the text of a pattern it prints what is wrong, the pattern, and a caret below the part that this is
+/// about:
+///
+/// ```
+/// use lazydfa::hybrid::regex::Regex;
+///
+/// let error = Regex::new("foo(b").unwrap_err();
+/// assert_eq!(error.to_string(), "unclosed group\n  foo(b\n     ^");
+/// assert_eq!(error.span(), Some(3..4));
+/// ```
+#[derive(Clone, Debug, PartialEq, Eq)]
+pub struct BuildError {
+    kind: BuildErrorKind,
+    text: Option<Box<TextError>>,
+}
+
+/// What a text adds to an error.
+#[derive(Clone, Debug, PartialEq, Eq)]
+struct TextError {
+    pattern: PatternID,
+    span: Range<usize>,
+    message: String,
+}
+
+/// The kind of a [`BuildError`].
 #[derive(Clone, Copy, Debug, PartialEq, Eq)]
 #[non_exhaustive]
-pub enum Error {
+pub enum BuildErrorKind {
     /// An allocation failed.
     OutOfMemory,
-    /// A number is no state, pattern or look-around assertion.
+    /// The text of a pattern is no pattern.
+    Syntax,
+    /// The text of a pattern was read, and could not be compiled.
+    NotCompiled,
+    /// There are too many states, patterns, groups or alternates, or the patterns pass the size limit.
+    TooLarge,
+    /// There is a Unicode word boundary, and
+    /// [`unicode_word_boundary`](crate::hybrid::dfa::Config::unicode_word_boundary) does not enable it.
+    Unsupported,
+    /// The cache capacity is below the minimum of one of the two DFAs.
+    InsufficientCacheCapacity {
+        /// The minimum for both DFAs, in bytes.
+        minimum: usize,
+    },
+    /// The smallest table has more offsets than the ID of a state can hold.
+    InsufficientStateIDCapacity {
+        /// The ID that is too large.
+        attempted: usize,
+    },
+    /// A number is no state or no group, or one NFA was given twice.
     Argument,
     /// No pattern was started, or the last one was finished.
     NoPattern,
@@ -17,8 +65,6 @@ pub enum Error {
     PatchRange,
     /// A sparse state cannot be patched.
     SparsePatch,
-    /// There are too many states, patterns, groups or alternates.
-    TooLarge,
     /// A state leads to a state that does not exist.
     StateRange,
     /// A start state does not exist.
@@ -33,147 +79,227 @@ pub enum Error {
     NotUtf8,
     /// The starts differ in the empty match, so that the NFA cannot be reversed.
     Starts,
-    /// There is a Unicode word boundary, and it is not enabled.
-    Unsupported,
-    /// The cache capacity is below the minimum, in bytes, of one of the two DFAs. The minimum is enough for both.
-    InsufficientCacheCapacity { minimum: usize },
-    /// The smallest table has more offsets than an ID can hold.
-    InsufficientStateIDCapacity { attempted: usize },
     /// The two NFAs of a pair do not have equally many patterns.
     PatternCounts,
-    /// The search met a quit byte at this offset of the haystack, in bytes.
-    Quit { byte: u8, offset: usize },
-    /// The search gave up at this offset, in bytes: the cache is full, and the settings do not allow another clear.
-    GaveUp { offset: usize },
-    /// The regex was not built for the anchored mode.
-    UnsupportedAnchored,
-    /// The second NFA of a pair finds no start for a match of the first.
-    NotAPair,
-    /// At this offset of the haystack, in bytes, no pattern matches, or only the empty string does.
-    NoToken { offset: usize },
-    /// The text of a pattern is no pattern: at this offset of it, in bytes, something is wrong.
-    Syntax { offset: usize },
-    /// A pattern was read, and could not be compiled.
-    NotCompiled,
 }
 
-/// Why there is no regex of the texts of patterns.
-#[derive(Clone, Debug, PartialEq, Eq)]
-pub struct PatternError {
-    pub(crate) error: Error,
-    pub(crate) pattern: usize,
-    pub(crate) span: std::ops::Range<usize>,
-    pub(crate) message: String,
-}
-
-impl PatternError {
-    /// What is wrong.
-    pub fn error(&self) -> Error {
-        self.error
+impl BuildError {
+    /// What kind of error it is.
+    pub fn kind(&self) -> BuildErrorKind {
+        self.kind
     }
 
-    /// The place of the pattern in the list, from 0.
-    pub fn pattern(&self) -> usize {
-        self.pattern
+    /// The pattern whose text is wrong, by its place in the list. An error that is not of a text has none.
+    pub fn pattern(&self) -> Option<PatternID> {
+        self.text.as_ref().map(|text| text.pattern)
     }
 
-    /// The bytes of the pattern's text that this is about. They are none if it is about all of it.
-    pub fn span(&self) -> std::ops::Range<usize> {
-        self.span.clone()
+    /// The bytes of the pattern's text that the error is about. It is `None` if it is about no part of a text.
+    pub fn span(&self) -> Option<Range<usize>> {
+        let span = self.text.as_ref()?.span.clone();
+        (!span.is_empty()).then_some(span)
+    }
+
+    /// The same error, with what the library says of the text that is wrong. The message ends at a zero.
+    pub(crate) fn of_text(self, pattern: usize, span: Range<usize>, message: &[u8]) -> BuildError {
+        let message = message.split(|byte| *byte == 0).next().unwrap_or_default();
+        let message = String::from_utf8_lossy(message).into_owned();
+        let text = PatternID::new(pattern)
+            .filter(|_| !message.is_empty())
+            .map(|pattern| Box::new(TextError { pattern, span, message }));
+        BuildError { text, ..self }
     }
 }
 
-impl fmt::Display for PatternError {
+impl From<BuildErrorKind> for BuildError {
+    fn from(kind: BuildErrorKind) -> BuildError {
+        BuildError { kind, text: None }
+    }
+}
+
+impl fmt::Display for BuildError {
     fn fmt(&self, f: &mut fmt::Formatter<'_>) -> fmt::Result {
-        if self.message.is_empty() {
-            return self.error.fmt(f);
+        match &self.text {
+            Some(text) => f.write_str(&text.message),
+            None => self.kind.fmt(f),
         }
-        f.write_str(&self.message)
     }
 }
 
-impl std::error::Error for PatternError {}
+impl std::error::Error for BuildError {}
 
-impl fmt::Display for Error {
+impl fmt::Display for BuildErrorKind {
     fn fmt(&self, f: &mut fmt::Formatter<'_>) -> fmt::Result {
         let text = match *self {
-            Error::OutOfMemory => "out of memory",
-            Error::Argument => "an argument is not allowed",
-            Error::NoPattern => "no pattern was started",
-            Error::UnfinishedPattern => "a pattern was started and not finished",
-            Error::PatchRange => "the state to be patched is out of range",
-            Error::SparsePatch => "a sparse state cannot be patched",
-            Error::TooLarge => "too many states, patterns, groups or alternates",
-            Error::StateRange => "a state leads to a state that is out of range",
-            Error::StartRange => "a start state is out of range",
-            Error::PatternRange => "the pattern of a match state is out of range",
-            Error::Ranges => "ranges of bytes are not in order",
-            Error::NotLazy => "the unanchored start does not skip lazily",
-            Error::NotUtf8 => "a match may be invalid UTF-8",
-            Error::Starts => "the starts differ in the empty match",
-            Error::Unsupported => "Unicode word boundaries are not enabled",
-            Error::PatternCounts => "the two NFAs do not have equally many patterns",
-            Error::UnsupportedAnchored => "the anchored mode is not supported",
-            Error::NotAPair => "the reverse NFA finds no start",
-            Error::NotCompiled => "the pattern was not compiled",
-            Error::Syntax { offset } => return write!(f, "the text is no pattern, at offset {offset}"),
-            Error::InsufficientCacheCapacity { minimum } => {
+            BuildErrorKind::OutOfMemory => "out of memory",
+            BuildErrorKind::Syntax => "the text is no pattern",
+            BuildErrorKind::NotCompiled => "the pattern was not compiled",
+            BuildErrorKind::TooLarge => "too many states, patterns, groups or alternates",
+            BuildErrorKind::Unsupported => "Unicode word boundaries are not enabled",
+            BuildErrorKind::InsufficientCacheCapacity { minimum } => {
                 return write!(f, "the cache capacity is smaller than the minimum, {minimum}");
             }
-            Error::InsufficientStateIDCapacity { attempted } => {
+            BuildErrorKind::InsufficientStateIDCapacity { attempted } => {
                 return write!(f, "the ID {attempted} is too large");
             }
-            Error::Quit { byte, offset } => {
-                return write!(f, "quit search after observing byte {byte:#04X} at offset {offset}");
-            }
-            Error::GaveUp { offset } => return write!(f, "gave up searching at offset {offset}"),
-            Error::NoToken { offset } => return write!(f, "no token at offset {offset}"),
+            BuildErrorKind::Argument => "an argument is not allowed",
+            BuildErrorKind::NoPattern => "no pattern was started",
+            BuildErrorKind::UnfinishedPattern => "a pattern was started and not finished",
+            BuildErrorKind::PatchRange => "the state to be patched is out of range",
+            BuildErrorKind::SparsePatch => "a sparse state cannot be patched",
+            BuildErrorKind::StateRange => "a state leads to a state that is out of range",
+            BuildErrorKind::StartRange => "a start state is out of range",
+            BuildErrorKind::PatternRange => "the pattern of a match state is out of range",
+            BuildErrorKind::Ranges => "ranges of bytes are not in order",
+            BuildErrorKind::NotLazy => "the unanchored start does not skip lazily",
+            BuildErrorKind::NotUtf8 => "a match may be invalid UTF-8",
+            BuildErrorKind::Starts => "the starts differ in the empty match",
+            BuildErrorKind::PatternCounts => "the two NFAs do not have equally many patterns",
         };
         f.write_str(text)
     }
 }
 
-impl std::error::Error for Error {}
+/// Why a search fails.
+#[derive(Clone, Copy, Debug, PartialEq, Eq)]
+pub struct MatchError(MatchErrorKind);
 
-impl Status {
-    /// Whether a call did what it was asked to, or found something. A call that failed is an error.
-    pub fn found(self) -> Result<bool, Error> {
-        let offset = self.offset;
-        let error = match self.code {
-            0 => return Ok(true),
-            1 => return Ok(false),
-            5 => Error::Argument,
-            6 => Error::OutOfMemory,
-            10 => Error::NoPattern,
-            11 => Error::UnfinishedPattern,
-            12 => Error::PatchRange,
-            13 => Error::SparsePatch,
-            14 => Error::TooLarge,
-            15 => Error::StateRange,
-            16 => Error::StartRange,
-            17 => Error::PatternRange,
-            18 => Error::Ranges,
-            20 => Error::NotLazy,
-            22 => Error::NotUtf8,
-            23 => Error::Starts,
-            24 => Error::Unsupported,
-            25 => Error::InsufficientCacheCapacity { minimum: offset },
-            26 => Error::InsufficientStateIDCapacity { attempted: offset },
-            27 => Error::PatternCounts,
-            30 => Error::Quit { byte: self.byte as u8, offset },
-            31 => Error::GaveUp { offset },
-            32 => Error::UnsupportedAnchored,
-            33 => Error::NotAPair,
-            34 => Error::NoToken { offset },
-            40 => Error::Syntax { offset },
-            42 => Error::NotCompiled,
-            code => unreachable!("code {code}: the types here allow no call that returns it"),
-        };
-        Err(error)
+/// The kind of a [`MatchError`].
+#[derive(Clone, Copy, Debug, PartialEq, Eq)]
+#[non_exhaustive]
+pub enum MatchErrorKind {
+    /// The search met a quit byte.
+    Quit {
+        /// The quit byte.
+        byte: u8,
+        /// Its offset in the haystack, in bytes.
+        offset: usize,
+    },
+    /// The search gave up: the cache is full, and the settings do not allow another clear.
+    GaveUp {
+        /// The offset in the haystack, in bytes, where it gave up.
+        offset: usize,
+    },
+    /// The regex was not built for this anchored mode.
+    UnsupportedAnchored {
+        /// The mode of the input.
+        mode: Anchored,
+    },
+    /// The second NFA of a pair finds no start for a match of the first.
+    NotAPair,
+    /// No pattern matches here, or only the empty string does, so that there is no token.
+    NoToken {
+        /// The offset in the haystack, in bytes, where there is none.
+        offset: usize,
+    },
+    /// The haystack was to come in pieces, and the regex matches the empty string, but not inside a character.
+    /// Such a search would have to read again what is gone. With
+    /// [`utf8`](crate::nfa::thompson::Config::utf8) off there is one.
+    Skips,
+    /// An allocation failed.
+    OutOfMemory,
+}
+
+impl MatchError {
+    /// The error of this kind.
+    pub fn new(kind: MatchErrorKind) -> MatchError {
+        MatchError(kind)
     }
 
-    /// Returns the error of a call that failed. For any other call it returns `Ok`.
-    pub fn done(self) -> Result<(), Error> {
-        self.found().map(|_| ())
+    /// The error of a search that met a quit byte at this offset.
+    pub fn quit(byte: u8, offset: usize) -> MatchError {
+        MatchError(MatchErrorKind::Quit { byte, offset })
+    }
+
+    /// The error of a search that gave up at this offset.
+    pub fn gave_up(offset: usize) -> MatchError {
+        MatchError(MatchErrorKind::GaveUp { offset })
+    }
+
+    /// The error of a search whose anchored mode is not supported.
+    pub fn unsupported_anchored(mode: Anchored) -> MatchError {
+        MatchError(MatchErrorKind::UnsupportedAnchored { mode })
+    }
+
+    /// What kind of error it is.
+    pub fn kind(&self) -> &MatchErrorKind {
+        &self.0
+    }
+}
+
+impl From<MatchErrorKind> for MatchError {
+    fn from(kind: MatchErrorKind) -> MatchError {
+        MatchError(kind)
+    }
+}
+
+impl fmt::Display for MatchError {
+    fn fmt(&self, f: &mut fmt::Formatter<'_>) -> fmt::Result {
+        match self.0 {
+            MatchErrorKind::Quit { byte, offset } => {
+                write!(f, "quit search after observing byte {byte:#04X} at offset {offset}")
+            }
+            MatchErrorKind::GaveUp { offset } => write!(f, "gave up searching at offset {offset}"),
+            MatchErrorKind::UnsupportedAnchored { mode } => {
+                write!(f, "the anchored mode {mode:?} is not supported")
+            }
+            MatchErrorKind::NotAPair => f.write_str("the reverse NFA finds no start"),
+            MatchErrorKind::NoToken { offset } => write!(f, "no token at offset {offset}"),
+            MatchErrorKind::Skips => {
+                f.write_str("a regex that skips empty matches inside characters is not searched in pieces")
+            }
+            MatchErrorKind::OutOfMemory => f.write_str("out of memory"),
+        }
+    }
+}
+
+impl std::error::Error for MatchError {}
+
+impl Status {
+    /// The error of a call that builds something, if it failed.
+    pub fn built(self) -> Result<(), BuildError> {
+        let kind = match self.code {
+            0 => return Ok(()),
+            5 => BuildErrorKind::Argument,
+            6 => BuildErrorKind::OutOfMemory,
+            10 => BuildErrorKind::NoPattern,
+            11 => BuildErrorKind::UnfinishedPattern,
+            12 => BuildErrorKind::PatchRange,
+            13 => BuildErrorKind::SparsePatch,
+            14 => BuildErrorKind::TooLarge,
+            15 => BuildErrorKind::StateRange,
+            16 => BuildErrorKind::StartRange,
+            17 => BuildErrorKind::PatternRange,
+            18 => BuildErrorKind::Ranges,
+            20 => BuildErrorKind::NotLazy,
+            22 => BuildErrorKind::NotUtf8,
+            23 => BuildErrorKind::Starts,
+            24 => BuildErrorKind::Unsupported,
+            25 => BuildErrorKind::InsufficientCacheCapacity { minimum: self.offset },
+            26 => BuildErrorKind::InsufficientStateIDCapacity { attempted: self.offset },
+            27 => BuildErrorKind::PatternCounts,
+            40 => BuildErrorKind::Syntax,
+            42 => BuildErrorKind::NotCompiled,
+            code => unreachable!("code {code}: the types of this crate allow no such call"),
+        };
+        Err(kind.into())
+    }
+
+    /// Whether a search with this anchored mode found something, or its error, if it failed.
+    pub fn found(self, mode: Anchored) -> Result<bool, MatchError> {
+        let offset = self.offset;
+        let kind = match self.code {
+            0 => return Ok(true),
+            1 => return Ok(false),
+            6 => MatchErrorKind::OutOfMemory,
+            30 => MatchErrorKind::Quit { byte: self.byte as u8, offset },
+            31 => MatchErrorKind::GaveUp { offset },
+            32 => MatchErrorKind::UnsupportedAnchored { mode },
+            33 => MatchErrorKind::NotAPair,
+            34 => MatchErrorKind::NoToken { offset },
+            35 => MatchErrorKind::Skips,
+            code => unreachable!("code {code}: the types of this crate allow no such call"),
+        };
+        Err(kind.into())
     }
 }

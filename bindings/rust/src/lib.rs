@@ -1,38 +1,44 @@
-//! A proved lazy DFA for Rust, with the names of regex-automata's `hybrid` module.
+//! A proved lazy DFA, with the names of regex-automata's `hybrid` module.
 //!
-//! What the library's header asks of a C program is kept by the types here: a handle is not copied, is freed once, and
-//! stays on its thread; a cache does not outlive its regex; an iterator borrows its cache and its haystack.
+//! Before the library behind this crate is built, each of its functions is proved to be safe, to return, and to
+//! find what its contract says. This crate is a layer over it, which is tested: its types keep what the library
+//! asks of a program, so that misuse does not compile.
 //!
 //! ```
 //! use lazydfa::hybrid::regex::Regex;
-//! use lazydfa::nfa::thompson::{Builder, Transition};
-//! use lazydfa::util::primitives::StateID;
 //!
-//! // [a-z]+
-//! let mut builder = Builder::new()?;
-//! builder.start_pattern()?;
-//! let letter = builder.add_range(Transition { start: b'a', end: b'z', next: StateID::ZERO })?;
-//! let found = builder.add_match()?;
-//! let more = builder.add_union(vec![letter, found])?;
-//! builder.patch(letter, more)?;
-//! builder.finish_pattern(letter)?;
-//! let prefix = builder.add_unanchored_prefix(letter)?;
-//!
-//! let regex = Regex::builder().build_from_nfa(&builder.build(letter, prefix))?;
-//! let mut cache = regex.create_cache()?;
-//! let spans: Result<Vec<_>, _> = regex.find_iter(&mut cache, "foo 12 bar").map(|m| m.map(|m| m.range())).collect();
-//! assert_eq!(spans?, [0..3, 7..10]);
-//! # Ok::<(), lazydfa::Error>(())
+//! let regex = Regex::new("[a-z]+")?;
+//! let mut cache = regex.create_cache();
+//! let spans: Vec<_> = regex.find_iter(&mut cache, "foo 12 bar").map(|found| found.range()).collect();
+//! assert_eq!(spans, [0..3, 7..10]);
+//! # Ok::<(), lazydfa::BuildError>(())
 //! ```
+//!
+//! - [`hybrid::regex::Regex`] finds matches, and splits a text into tokens;
+//! - [`hybrid::dfa::DFA`] finds one end of a match, and which of many patterns match;
+//! - [`PooledRegex`] is a regex that searches without a cache;
+//! - [`nfa::thompson::Builder`] takes an NFA state by state, from an engine with a parser of its own.
+#![deny(missing_docs, unsafe_op_in_unsafe_fn, clippy::undocumented_unsafe_blocks)]
+
+mod engine;
 mod error;
+mod handle;
 pub mod hybrid;
+mod iter;
 #[cfg(doctest)]
 mod misuse;
 pub mod nfa;
+mod pooled;
 mod raw;
-mod search;
 pub mod util;
 
-pub use error::{Error, PatternError};
-pub use search::{Anchored, HalfMatch, Input, Match, MatchKind, PatternSet};
+pub use engine::Cache;
+pub use error::{BuildError, BuildErrorKind, MatchError, MatchErrorKind};
+pub use pooled::{PooledMatches, PooledRegex};
 pub use util::primitives::PatternID;
+pub use util::search::{Anchored, HalfMatch, Input, Match, MatchKind, PatternSet, Span};
+
+/// The programs of the document on this crate.
+#[cfg(doctest)]
+#[doc = include_str!("../../../docs/RUST.md")]
+struct Document;

@@ -1,26 +1,9 @@
-//! The types and exports of `lazydfa.h`, and the codes.
-use std::ffi::c_void;
-
-/// A handle of the library. It owns an object until it is dropped. The pointer keeps it on one thread.
-#[repr(C)]
-pub struct Handle {
-    at: *mut c_void,
-    live: u64,
-}
-
-impl Handle {
-    /// A handle that owns nothing.
-    pub fn closed() -> Handle {
-        Handle { at: std::ptr::null_mut(), live: 0 }
-    }
-}
-
-impl Drop for Handle {
-    fn drop(&mut self) {
-        // SAFETY: the handle began closed, and only the library has written to it. If it is closed the call says so.
-        unsafe { lazydfa_raw_close(self) };
-    }
-}
+//! The types and exports of `lazydfa.h`.
+//!
+//! An export that takes references alone is safe: the library keeps no pointer past a call, and asks
+//! for nothing but what a reference promises. One that takes a slice takes it as a pointer and a
+//! length, and stands below the exports as a function that takes the slice.
+use crate::handle::Handle;
 
 /// The number of a code, the quit byte if there is one, and an offset or a capacity, in bytes.
 #[repr(C)]
@@ -61,6 +44,16 @@ pub struct Half {
     pub offset: usize,
     pub pattern: u32,
     pub reserved: u32,
+}
+
+/// Where a walk stands: how many bytes of the piece the call has read, and how many patterns match up to the offset,
+/// in bytes, which counts only if there are some.
+#[repr(C)]
+#[derive(Clone, Copy, Debug, Default)]
+pub struct Stop {
+    pub read: usize,
+    pub offset: usize,
+    pub patterns: usize,
 }
 
 /// An iteration: what is left to be searched, the offset, in bytes, where the last match ended if there was one, and
@@ -108,7 +101,7 @@ pub struct Settings {
     pub unicode_word_boundary: u32,
     pub specialize_start_states: u32,
     pub skip_cache_capacity_check: u32,
-    pub reserved: u32,
+    pub always_anchored: u32,
 }
 
 /// How patterns are read. The size limit is in bytes, and counts only if its `has` is not 0. A limit on nesting of 0 is
@@ -151,169 +144,381 @@ pub struct Usage {
     pub patterns: usize,
 }
 
-extern "C" {
-    /// Frees what the handle owns, and closes it.
-    pub fn lazydfa_raw_close(handle: *mut Handle) -> Status;
+unsafe extern "C" {
+    /// Frees what the handle owns, and closes it. If it owns nothing the status says so.
+    pub safe fn lazydfa_raw_close(handle: &mut Handle) -> Status;
     /// Opens a handle on a builder without states.
-    pub fn lazydfa_raw_builder_new(builder: *mut Handle) -> Status;
+    pub safe fn lazydfa_raw_builder_new(builder: &mut Handle) -> Status;
     /// Removes all states and patterns of a builder. The settings stay.
-    pub fn lazydfa_raw_builder_clear(builder: *mut Handle) -> Status;
+    pub safe fn lazydfa_raw_builder_clear(builder: &mut Handle) -> Status;
     /// Starts a pattern, and writes its number.
-    pub fn lazydfa_raw_start_pattern(builder: *mut Handle, pattern: *mut u32) -> Status;
+    pub safe fn lazydfa_raw_start_pattern(builder: &mut Handle, pattern: &mut u32) -> Status;
     /// Finishes the pattern that was started, whose searches start at this state, and writes its number.
-    pub fn lazydfa_raw_finish_pattern(builder: *mut Handle, start: u32, pattern: *mut u32) -> Status;
+    pub safe fn lazydfa_raw_finish_pattern(builder: &mut Handle, start: u32, pattern: &mut u32) -> Status;
     /// Adds an edge from a state, or moves the one that it has.
-    pub fn lazydfa_raw_patch(builder: *mut Handle, from: u32, to: u32) -> Status;
+    pub safe fn lazydfa_raw_patch(builder: &mut Handle, from: u32, to: u32) -> Status;
     /// Sets whether the NFA is in UTF-8 mode: 0 for no.
-    pub fn lazydfa_raw_set_utf8(builder: *mut Handle, yes: u32) -> Status;
+    pub safe fn lazydfa_raw_set_utf8(builder: &mut Handle, yes: u32) -> Status;
     /// Sets whether the NFA reads its haystack backward: 0 for no.
-    pub fn lazydfa_raw_set_reverse(builder: *mut Handle, yes: u32) -> Status;
+    pub safe fn lazydfa_raw_set_reverse(builder: &mut Handle, yes: u32) -> Status;
     /// Sets the byte that ends lines.
-    pub fn lazydfa_raw_set_line_terminator(builder: *mut Handle, byte: u8) -> Status;
+    pub safe fn lazydfa_raw_set_line_terminator(builder: &mut Handle, byte: u8) -> Status;
     /// Adds a state with one edge that reads nothing, and writes its number.
-    pub fn lazydfa_raw_add_empty(builder: *mut Handle, id: *mut u32) -> Status;
+    pub safe fn lazydfa_raw_add_empty(builder: &mut Handle, id: &mut u32) -> Status;
     /// Adds a state that reads a byte from `lo` to `hi`, and writes its number.
-    pub fn lazydfa_raw_add_range(builder: *mut Handle, lo: u8, hi: u8, next: u32, id: *mut u32) -> Status;
-    /// Adds a state that reads a byte of several ranges, and writes its number. `length` counts the ranges.
-    pub fn lazydfa_raw_add_sparse(builder: *mut Handle, edges: *const Edge, length: usize, id: *mut u32) -> Status;
+    pub safe fn lazydfa_raw_add_range(
+        builder: &mut Handle,
+        lo: u8,
+        hi: u8,
+        next: u32,
+        id: &mut u32,
+    ) -> Status;
     /// Adds a look-around assertion, by its number, and writes the state's number.
-    pub fn lazydfa_raw_add_look(builder: *mut Handle, next: u32, look: u32, id: *mut u32) -> Status;
-    /// Adds a union whose first alternate is preferred, and writes its number. `length` counts the alternates.
-    pub fn lazydfa_raw_add_union(builder: *mut Handle, ids: *const u32, length: usize, id: *mut u32) -> Status;
-    /// Adds a union whose last alternate is preferred, and writes its number. `length` counts the alternates.
-    pub fn lazydfa_raw_add_union_reverse(builder: *mut Handle, ids: *const u32, length: usize, id: *mut u32)
-        -> Status;
+    pub safe fn lazydfa_raw_add_look(builder: &mut Handle, next: u32, look: u32, id: &mut u32) -> Status;
     /// Adds a state where a group of the pattern begins, and writes its number.
-    pub fn lazydfa_raw_add_capture_start(builder: *mut Handle, next: u32, group: u32, id: *mut u32) -> Status;
+    pub safe fn lazydfa_raw_add_capture_start(
+        builder: &mut Handle,
+        next: u32,
+        group: u32,
+        id: &mut u32,
+    ) -> Status;
     /// Adds a state where a group of the pattern ends, and writes its number.
-    pub fn lazydfa_raw_add_capture_end(builder: *mut Handle, next: u32, group: u32, id: *mut u32) -> Status;
+    pub safe fn lazydfa_raw_add_capture_end(
+        builder: &mut Handle,
+        next: u32,
+        group: u32,
+        id: &mut u32,
+    ) -> Status;
     /// Adds a state from which nothing matches, and writes its number.
-    pub fn lazydfa_raw_add_fail(builder: *mut Handle, id: *mut u32) -> Status;
+    pub safe fn lazydfa_raw_add_fail(builder: &mut Handle, id: &mut u32) -> Status;
     /// Adds a match state of the pattern that was started, and writes its number.
-    pub fn lazydfa_raw_add_match(builder: *mut Handle, id: *mut u32) -> Status;
+    pub safe fn lazydfa_raw_add_match(builder: &mut Handle, id: &mut u32) -> Status;
     /// Adds the states that skip bytes before a start, and writes the number of the unanchored start.
-    pub fn lazydfa_raw_add_unanchored_prefix(builder: *mut Handle, start: u32, id: *mut u32) -> Status;
-    /// Opens a handle on the regex of what a builder has. `length` counts the quit bytes.
-    pub fn lazydfa_raw_regex_build(
-        regex: *mut Handle,
-        builder: *mut Handle,
-        starts: *const Starts,
-        settings: *const Settings,
+    pub safe fn lazydfa_raw_add_unanchored_prefix(builder: &mut Handle, start: u32, id: &mut u32) -> Status;
+    /// Opens a handle on a fresh cache of a regex.
+    pub safe fn lazydfa_raw_cache_new(cache: &mut Handle, regex: &mut Handle) -> Status;
+    /// Makes a cache a fresh one of its regex.
+    pub safe fn lazydfa_raw_cache_reset(cache: &mut Handle) -> Status;
+    /// Writes what a cache accounts for, in bytes, and how often its two parts were cleared.
+    pub safe fn lazydfa_raw_cache_usage(cache: &mut Handle, usage: &mut Usage) -> Status;
+    /// Begins a search in pieces over a cache, in place of the one that was begun before: in the anchored mode of two
+    /// numbers, after the byte of a third or none.
+    pub safe fn lazydfa_raw_pieces_begin(
+        cache: &mut Handle,
+        anchored: u32,
+        pattern: u32,
+        behind: u32,
+        earliest: u32,
+    ) -> Status;
+    /// Writes the end of the match in the pieces so far, before the byte of a number or none.
+    pub safe fn lazydfa_raw_pieces_end(cache: &mut Handle, ahead: u32, found: &mut Half) -> Status;
+    /// Begins a walk over a cache, in place of the one that was begun before: in the anchored mode of two numbers,
+    /// after the byte of a third or none.
+    pub safe fn lazydfa_raw_walk_begin(
+        cache: &mut Handle,
+        anchored: u32,
+        pattern: u32,
+        behind: u32,
+    ) -> Status;
+    /// Writes how many patterns match up to the end of the pieces so far, before the byte of a number or none.
+    pub safe fn lazydfa_raw_walk_end(cache: &mut Handle, ahead: u32, stop: &mut Stop) -> Status;
+    /// Writes one of the patterns where the walk stands, by its index.
+    pub safe fn lazydfa_raw_walk_pattern(cache: &mut Handle, index: usize, pattern: &mut u32) -> Status;
+
+    fn lazydfa_raw_add_sparse(
+        builder: &mut Handle,
+        edges: *const Edge,
+        length: usize,
+        id: &mut u32,
+    ) -> Status;
+    fn lazydfa_raw_add_union(builder: &mut Handle, ids: *const u32, length: usize, id: &mut u32) -> Status;
+    fn lazydfa_raw_add_union_reverse(
+        builder: &mut Handle,
+        ids: *const u32,
+        length: usize,
+        id: &mut u32,
+    ) -> Status;
+    fn lazydfa_raw_regex_build(
+        regex: &mut Handle,
+        builder: &mut Handle,
+        starts: &Starts,
+        settings: &Settings,
         quits: *const u8,
         length: usize,
     ) -> Status;
-    /// Opens a handle on the regex of what two builders have, the forward one first. `length` counts the quit bytes.
-    pub fn lazydfa_raw_regex_build_pair(
-        regex: *mut Handle,
-        forward: *mut Handle,
-        forward_starts: *const Starts,
-        reverse: *mut Handle,
-        reverse_starts: *const Starts,
-        settings: *const Settings,
+    fn lazydfa_raw_regex_build_pair(
+        regex: &mut Handle,
+        forward: &mut Handle,
+        forward_starts: &Starts,
+        reverse: &mut Handle,
+        reverse_starts: &Starts,
+        settings: &Settings,
         quits: *const u8,
         length: usize,
     ) -> Status;
-    /// Opens a handle on the regex of the texts of patterns, which lie one after another, by their lengths. Writes what is
-    /// wrong with one, and a message.
-    pub fn lazydfa_raw_regex_any_of(
-        regex: *mut Handle,
+    fn lazydfa_raw_regex_any_of(
+        regex: &mut Handle,
         texts: *const u8,
         texts_length: usize,
         lengths: *const usize,
         count: usize,
-        options: *const TextOptions,
-        settings: *const Settings,
+        options: &TextOptions,
+        settings: &Settings,
         quits: *const u8,
         quits_length: usize,
-        refusal: *mut Refusal,
+        refusal: &mut Refusal,
         message: *mut u8,
         room: usize,
     ) -> Status;
-    /// Opens a handle on a fresh cache of a regex.
-    pub fn lazydfa_raw_cache_new(cache: *mut Handle, regex: *mut Handle) -> Status;
-    /// Makes a cache a fresh one of its regex.
-    pub fn lazydfa_raw_cache_reset(cache: *mut Handle) -> Status;
-    /// Writes what a cache accounts for, in bytes, and how often its two parts were cleared.
-    pub fn lazydfa_raw_cache_usage(cache: *mut Handle, usage: *mut Usage) -> Status;
-    /// Searches for the first match, and writes it. `length` is that of the haystack, in bytes.
-    pub fn lazydfa_raw_find(
-        cache: *mut Handle,
+    fn lazydfa_raw_find(
+        cache: &mut Handle,
         haystack: *const u8,
         length: usize,
-        input: *const Input,
-        found: *mut Match,
+        input: &Input,
+        found: &mut Match,
     ) -> Status;
-    /// Tests whether there is a match. `length` is that of the haystack, in bytes.
-    pub fn lazydfa_raw_is_match(cache: *mut Handle, haystack: *const u8, length: usize, input: *const Input)
-        -> Status;
-    /// Searches for the end of the first match, and writes it. `length` is that of the haystack, in bytes.
-    pub fn lazydfa_raw_find_end(
-        cache: *mut Handle,
+    fn lazydfa_raw_is_match(cache: &mut Handle, haystack: *const u8, length: usize, input: &Input) -> Status;
+    fn lazydfa_raw_find_end(
+        cache: &mut Handle,
         haystack: *const u8,
         length: usize,
-        input: *const Input,
-        found: *mut Half,
+        input: &Input,
+        found: &mut Half,
     ) -> Status;
-    /// Searches for the start of a match that ends at the span's end, and writes it. `length` is that of the haystack,
-    /// in bytes.
-    pub fn lazydfa_raw_find_start(
-        cache: *mut Handle,
+    fn lazydfa_raw_find_start(
+        cache: &mut Handle,
         haystack: *const u8,
         length: usize,
-        input: *const Input,
-        found: *mut Half,
+        input: &Input,
+        found: &mut Half,
     ) -> Status;
-    /// Writes the next matches of an iteration, at most `room`, and how many they are. `length` is that of the
-    /// haystack, in bytes.
-    pub fn lazydfa_raw_next_all(
-        cache: *mut Handle,
+    fn lazydfa_raw_next_all(
+        cache: &mut Handle,
         haystack: *const u8,
         length: usize,
-        at: *mut Iteration,
+        at: &mut Iteration,
         found: *mut Match,
         room: usize,
-        count: *mut usize,
+        count: &mut usize,
     ) -> Status;
-    /// Writes the token at the start of what is left. `length` is that of the haystack, in bytes.
-    pub fn lazydfa_raw_token(
-        cache: *mut Handle,
+    fn lazydfa_raw_token(
+        cache: &mut Handle,
         haystack: *const u8,
         length: usize,
-        left: *mut Input,
-        found: *mut Match,
+        left: &mut Input,
+        found: &mut Match,
     ) -> Status;
-    /// Writes the ends of all overlapping matches, at most `room`, and how many there are in all. `length` is that of
-    /// the haystack, in bytes.
-    pub fn lazydfa_raw_all_ends(
-        cache: *mut Handle,
+    fn lazydfa_raw_all_ends(
+        cache: &mut Handle,
         haystack: *const u8,
         length: usize,
-        input: *const Input,
+        input: &Input,
         found: *mut Half,
         room: usize,
-        count: *mut usize,
+        count: &mut usize,
     ) -> Status;
-    /// Writes the starts of all overlapping matches that end at the span's end, at most `room`, and how many there are
-    /// in all. `length` is that of the haystack, in bytes.
-    pub fn lazydfa_raw_all_starts(
-        cache: *mut Handle,
+    fn lazydfa_raw_all_starts(
+        cache: &mut Handle,
         haystack: *const u8,
         length: usize,
-        input: *const Input,
+        input: &Input,
         found: *mut Half,
         room: usize,
-        count: *mut usize,
+        count: &mut usize,
     ) -> Status;
-    /// Writes the patterns below a number that match, at most `room`, and how many there are in all. `length` is that
-    /// of the haystack, in bytes.
-    pub fn lazydfa_raw_which(
-        cache: *mut Handle,
+    fn lazydfa_raw_which(
+        cache: &mut Handle,
         haystack: *const u8,
         length: usize,
-        input: *const Input,
+        input: &Input,
         below: usize,
         patterns: *mut u32,
         room: usize,
-        count: *mut usize,
+        count: &mut usize,
     ) -> Status;
+    fn lazydfa_raw_pieces_read(cache: &mut Handle, piece: *const u8, length: usize, done: &mut u32)
+        -> Status;
+    fn lazydfa_raw_walk_read(cache: &mut Handle, piece: *const u8, length: usize, stop: &mut Stop) -> Status;
+}
+
+/// The number of a byte beside a haystack, or of none.
+pub fn beside(byte: Option<u8>) -> u32 {
+    byte.map_or(u32::MAX, u32::from)
+}
+
+/// Adds a state that reads a byte of several ranges, and writes its number.
+pub fn add_sparse(builder: &mut Handle, edges: &[Edge], id: &mut u32) -> Status {
+    // SAFETY: The pointer and the length are those of one slice.
+    unsafe { lazydfa_raw_add_sparse(builder, edges.as_ptr(), edges.len(), id) }
+}
+
+/// Adds a union whose first alternate is preferred, and writes its number.
+pub fn add_union(builder: &mut Handle, ids: &[u32], id: &mut u32) -> Status {
+    // SAFETY: The pointer and the length are those of one slice.
+    unsafe { lazydfa_raw_add_union(builder, ids.as_ptr(), ids.len(), id) }
+}
+
+/// Adds a union whose last alternate is preferred, and writes its number.
+pub fn add_union_reverse(builder: &mut Handle, ids: &[u32], id: &mut u32) -> Status {
+    // SAFETY: The pointer and the length are those of one slice.
+    unsafe { lazydfa_raw_add_union_reverse(builder, ids.as_ptr(), ids.len(), id) }
+}
+
+/// Opens a handle on the regex of what a builder has.
+pub fn regex_build(
+    regex: &mut Handle,
+    builder: &mut Handle,
+    starts: &Starts,
+    settings: &Settings,
+    quits: &[u8],
+) -> Status {
+    // SAFETY: The pointer and the length are those of one slice.
+    unsafe { lazydfa_raw_regex_build(regex, builder, starts, settings, quits.as_ptr(), quits.len()) }
+}
+
+/// Opens a handle on the regex of what two builders have, each with its starts, the forward one first.
+pub fn regex_build_pair(
+    regex: &mut Handle,
+    forward: (&mut Handle, &Starts),
+    reverse: (&mut Handle, &Starts),
+    settings: &Settings,
+    quits: &[u8],
+) -> Status {
+    let (at, length) = (quits.as_ptr(), quits.len());
+    // SAFETY: The pointer and the length are those of one slice.
+    unsafe {
+        lazydfa_raw_regex_build_pair(regex, forward.0, forward.1, reverse.0, reverse.1, settings, at, length)
+    }
+}
+
+/// The texts of patterns, one after another, and the length of each in bytes.
+pub struct Texts<'t> {
+    pub bytes: &'t str,
+    pub lengths: &'t [usize],
+}
+
+/// Opens a handle on the regex of the texts of patterns. Writes which of them is wrong and where, and
+/// a message, which ends in a zero.
+pub fn regex_any_of(
+    regex: &mut Handle,
+    texts: Texts<'_>,
+    options: &TextOptions,
+    settings: &Settings,
+    quits: &[u8],
+    refusal: &mut Refusal,
+    message: &mut [u8],
+) -> Status {
+    // SAFETY: Each pointer and the length beside it are those of one slice.
+    unsafe {
+        lazydfa_raw_regex_any_of(
+            regex,
+            texts.bytes.as_ptr(),
+            texts.bytes.len(),
+            texts.lengths.as_ptr(),
+            texts.lengths.len(),
+            options,
+            settings,
+            quits.as_ptr(),
+            quits.len(),
+            refusal,
+            message.as_mut_ptr(),
+            message.len(),
+        )
+    }
+}
+
+/// Searches for the first match, and writes it.
+pub fn find(cache: &mut Handle, haystack: &[u8], input: &Input, found: &mut Match) -> Status {
+    // SAFETY: The pointer and the length are those of one slice.
+    unsafe { lazydfa_raw_find(cache, haystack.as_ptr(), haystack.len(), input, found) }
+}
+
+/// Tests whether there is a match.
+pub fn is_match(cache: &mut Handle, haystack: &[u8], input: &Input) -> Status {
+    // SAFETY: The pointer and the length are those of one slice.
+    unsafe { lazydfa_raw_is_match(cache, haystack.as_ptr(), haystack.len(), input) }
+}
+
+/// Searches for the end of the first match, and writes it.
+pub fn find_end(cache: &mut Handle, haystack: &[u8], input: &Input, found: &mut Half) -> Status {
+    // SAFETY: The pointer and the length are those of one slice.
+    unsafe { lazydfa_raw_find_end(cache, haystack.as_ptr(), haystack.len(), input, found) }
+}
+
+/// Searches for the start of a match that ends where the span does, and writes it.
+pub fn find_start(cache: &mut Handle, haystack: &[u8], input: &Input, found: &mut Half) -> Status {
+    // SAFETY: The pointer and the length are those of one slice.
+    unsafe { lazydfa_raw_find_start(cache, haystack.as_ptr(), haystack.len(), input, found) }
+}
+
+/// Writes the next matches of an iteration, as many as there is room for, and how many they are.
+pub fn next_all(
+    cache: &mut Handle,
+    haystack: &[u8],
+    at: &mut Iteration,
+    found: &mut [Match],
+    count: &mut usize,
+) -> Status {
+    let (room, found) = (found.len(), found.as_mut_ptr());
+    // SAFETY: Each pointer and the length beside it are those of one slice.
+    unsafe { lazydfa_raw_next_all(cache, haystack.as_ptr(), haystack.len(), at, found, room, count) }
+}
+
+/// Writes the token at the start of what is left, which then starts where the token ends.
+pub fn token(cache: &mut Handle, haystack: &[u8], left: &mut Input, found: &mut Match) -> Status {
+    // SAFETY: The pointer and the length are those of one slice.
+    unsafe { lazydfa_raw_token(cache, haystack.as_ptr(), haystack.len(), left, found) }
+}
+
+/// Writes the ends of all overlapping matches, as many as there is room for, and how many there are.
+pub fn all_ends(
+    cache: &mut Handle,
+    haystack: &[u8],
+    input: &Input,
+    found: &mut [Half],
+    count: &mut usize,
+) -> Status {
+    let (room, found) = (found.len(), found.as_mut_ptr());
+    // SAFETY: Each pointer and the length beside it are those of one slice.
+    unsafe { lazydfa_raw_all_ends(cache, haystack.as_ptr(), haystack.len(), input, found, room, count) }
+}
+
+/// Writes the starts of all overlapping matches that end where the span does, as many as there is room
+/// for, and how many there are.
+pub fn all_starts(
+    cache: &mut Handle,
+    haystack: &[u8],
+    input: &Input,
+    found: &mut [Half],
+    count: &mut usize,
+) -> Status {
+    let (room, found) = (found.len(), found.as_mut_ptr());
+    // SAFETY: Each pointer and the length beside it are those of one slice.
+    unsafe { lazydfa_raw_all_starts(cache, haystack.as_ptr(), haystack.len(), input, found, room, count) }
+}
+
+/// Writes the patterns that match, of those that there is room for, and how many they are.
+pub fn which(
+    cache: &mut Handle,
+    haystack: &[u8],
+    input: &Input,
+    patterns: &mut [u32],
+    count: &mut usize,
+) -> Status {
+    let (at, length) = (haystack.as_ptr(), haystack.len());
+    let (room, patterns) = (patterns.len(), patterns.as_mut_ptr());
+    // SAFETY: Each pointer and the length beside it are those of one slice.
+    unsafe { lazydfa_raw_which(cache, at, length, input, room, patterns, room, count) }
+}
+
+/// Reads the next piece of the search that was begun over a cache, and writes 1 if the answer stands, or 0.
+pub fn pieces_read(cache: &mut Handle, piece: &[u8], done: &mut u32) -> Status {
+    // SAFETY: The pointer and the length are those of one slice.
+    unsafe { lazydfa_raw_pieces_read(cache, piece.as_ptr(), piece.len(), done) }
+}
+
+/// Reads a piece up to the next offset where patterns match, and writes where the walk over a cache stands.
+pub fn walk_read(cache: &mut Handle, piece: &[u8], stop: &mut Stop) -> Status {
+    // SAFETY: The pointer and the length are those of one slice.
+    unsafe { lazydfa_raw_walk_read(cache, piece.as_ptr(), piece.len(), stop) }
 }

@@ -1,14 +1,23 @@
 //! The types over the library itself.
-use lazydfa::hybrid::dfa::Config;
-use lazydfa::hybrid::regex::Regex;
-use lazydfa::nfa::thompson::{Builder, Transition, NFA};
+#![allow(clippy::single_range_in_vec_init)] // a list of spans may have one
+use lazydfa::hybrid::dfa::{self, DFA};
+use lazydfa::hybrid::regex::{Cache, Regex};
+use lazydfa::nfa::thompson::{self, Builder, Transition, NFA};
 use lazydfa::util::look::Look;
 use lazydfa::util::primitives::StateID;
-use lazydfa::{Anchored, Error, Input, MatchKind, PatternID, PatternSet};
+use lazydfa::util::{start, syntax};
+use lazydfa::{
+    Anchored, BuildError, BuildErrorKind, HalfMatch, Input, Match, MatchError, MatchErrorKind, MatchKind,
+    PatternID, PatternSet, PooledRegex,
+};
+use std::error::Error;
+use std::ops::Range;
+
+type Tested = Result<(), Box<dyn Error>>;
 
 /// The NFA of `[a-z]+`.
-fn word() -> Result<NFA, Error> {
-    let mut builder = Builder::new()?;
+fn word() -> Result<NFA, BuildError> {
+    let mut builder = Builder::new();
     builder.start_pattern()?;
     let letter = builder.add_range(Transition { start: b'a', end: b'z', next: StateID::ZERO })?;
     let found = builder.add_match()?;
@@ -20,8 +29,8 @@ fn word() -> Result<NFA, Error> {
 }
 
 /// The NFA of `[a-z]` and `[a-z0-9]`.
-fn two() -> Result<NFA, Error> {
-    let mut builder = Builder::new()?;
+fn two() -> Result<NFA, BuildError> {
+    let mut builder = Builder::new();
     builder.start_pattern()?;
     let end = builder.add_match()?;
     let letter = builder.add_range(Transition { start: b'a', end: b'z', next: end })?;
@@ -37,99 +46,182 @@ fn two() -> Result<NFA, Error> {
 }
 
 /// Builds the regex of an NFA with these settings.
-fn with(config: Config, nfa: &NFA) -> Result<Regex, Error> {
+fn with(config: dfa::Config, nfa: &NFA) -> Result<Regex, BuildError> {
     Regex::builder().dfa(config).build_from_nfa(nfa)
+}
+
+/// Where the matches of a regex are.
+fn spans<'h>(regex: &Regex, haystack: impl Into<Input<'h>>) -> Vec<Range<usize>> {
+    regex.find_iter(&mut regex.create_cache(), haystack).map(|found| found.range()).collect()
 }
 
 /// A search finds spans, ends and starts, in the span of its input.
 #[test]
-fn finds() -> Result<(), Error> {
-    let regex = with(Config::new(), &word()?)?;
-    let mut cache = regex.create_cache()?;
-    let found = regex.find(&mut cache, Input::new("12 foo").range(1..6))?.unwrap();
-    assert_eq!((found.range(), found.pattern(), found.len()), (3..6, PatternID::ZERO, 3));
-    assert!(regex.is_match(&mut cache, "a")?);
-    assert!(!regex.is_match(&mut cache, "")?);
+fn finds() -> Tested {
+    let regex = with(dfa::Config::new(), &word()?)?;
+    let mut cache = regex.create_cache();
+    let found = regex.find(&mut cache, Input::new("12 foo").range(1..6)).unwrap();
+    assert_eq!((found, found.len()), (Match::must(0, 3..6), 3));
+    assert!(regex.is_match(&mut cache, "a"));
+    assert!(!regex.is_match(&mut cache, ""));
     let half = regex.forward().try_search_fwd(&mut cache, &Input::new("ab-").earliest(true))?;
-    assert_eq!(half.unwrap().offset(), 1);
+    assert_eq!(half, Some(HalfMatch::must(0, 1)));
     let half = regex.reverse().try_search_rev(&mut cache, &Input::new("-ab").anchored(Anchored::Yes))?;
-    assert_eq!(half.unwrap().offset(), 1);
+    assert_eq!(half, Some(HalfMatch::must(0, 1)));
+    Ok(())
+}
+
+/// A haystack is a text, bytes, or a reference to what has them.
+#[test]
+fn haystacks() -> Tested {
+    let regex = Regex::new("b+")?;
+    let owned = (String::from("abb"), b"abb".to_vec());
+    assert_eq!(spans(&regex, "abb"), [1..3]);
+    assert_eq!(spans(&regex, b"abb"), [1..3]);
+    assert_eq!(spans(&regex, &b"abb"[..]), [1..3]);
+    assert_eq!(spans(&regex, &owned.0), [1..3]);
+    assert_eq!(spans(&regex, &owned.1), [1..3]);
+    assert_eq!(spans(&regex, Input::new("abb").range(..=1)), [1..2]);
+    assert_eq!(spans(&regex, Input::new("abb").span(2..3)), [2..3]);
+    let mut input = Input::new("abb");
+    input.set_range(2..);
+    input.set_earliest(true);
+    input.set_anchored(Anchored::Yes);
+    assert_eq!((input.get_range(), input.get_earliest(), input.get_anchored()), (2..3, true, Anchored::Yes));
     Ok(())
 }
 
 /// An iteration returns every match, however many fit its buffer.
 #[test]
-fn iterates_past_the_buffer() -> Result<(), Error> {
-    let regex = with(Config::new(), &word()?)?;
-    let mut cache = regex.create_cache()?;
+fn iterates_past_the_buffer() -> Tested {
+    let regex = with(dfa::Config::new(), &word()?)?;
+    let pooled = PooledRegex::from(regex.clone());
+    let mut cache = regex.create_cache();
     for n in [0, 1, 2, 31, 32, 33, 34, 65, 66, 1000] {
         let text = "a ".repeat(n);
-        let starts: Result<Vec<_>, _> = regex.find_iter(&mut cache, &text).map(|m| m.map(|m| m.start())).collect();
-        assert_eq!(starts?, (0..n).map(|i| 2 * i).collect::<Vec<_>>());
+        let wanted: Vec<_> = (0..n).map(|i| 2 * i).collect();
+        let starts: Vec<_> = regex.find_iter(&mut cache, &text).map(|it| it.start()).collect();
+        assert_eq!(starts, wanted);
+        let starts: Vec<_> = pooled.find_iter(&text).map(|it| it.start()).collect();
+        assert_eq!(starts, wanted);
     }
     assert!(cache.memory_usage() > 0);
-    cache.reset()?;
-    assert_eq!((cache.clear_counts(), cache.pattern_len()), ((0, 0), 1));
+    cache.try_reset()?;
+    assert_eq!((cache.clear_counts(), regex.pattern_len()), ((0, 0), 1));
     Ok(())
 }
 
 /// Tokens follow each other up to the offset where there is none.
 #[test]
-fn tokens() -> Result<(), Error> {
-    let regex = with(Config::new(), &two()?)?;
-    let mut cache = regex.create_cache()?;
-    let patterns: Vec<_> = regex.tokens(&mut cache, "a1-").map(|t| t.map(|t| t.pattern().as_usize())).collect();
-    assert_eq!(patterns, [Ok(0), Ok(1), Err(Error::NoToken { offset: 2 })]);
+fn tokens() -> Tested {
+    let regex = with(dfa::Config::new(), &two()?)?;
+    let mut cache = regex.create_cache();
+    let tokens: Vec<_> = regex.tokens(&mut cache, "a1-").collect();
+    let error = MatchError::new(MatchErrorKind::NoToken { offset: 2 });
+    assert_eq!(tokens, [Ok(Match::must(0, 0..1)), Ok(Match::must(1, 1..2)), Err(error)]);
     Ok(())
 }
 
 /// Sets of patterns and lists of overlapping matches have all that match.
 #[test]
-fn sets() -> Result<(), Error> {
-    let regex = with(Config::new().match_kind(MatchKind::All), &two()?)?;
-    let mut cache = regex.create_cache()?;
-    let mut set = PatternSet::new(2);
+fn sets() -> Tested {
+    let regex = with(dfa::Config::new().match_kind(MatchKind::All), &two()?)?;
+    let mut cache = regex.create_cache();
+    let mut set = PatternSet::new(regex.pattern_len());
     regex.forward().try_which_overlapping_matches(&mut cache, &Input::new("1"), &mut set)?;
     assert_eq!(set.iter().map(PatternID::as_usize).collect::<Vec<_>>(), [1]);
     regex.forward().try_which_overlapping_matches(&mut cache, &Input::new("a"), &mut set)?;
-    assert_eq!((set.len(), set.contains(PatternID::ZERO)), (2, true));
-    let text = "a".repeat(100);
-    let ends = regex.forward().all_ends(&mut cache, &Input::new(&text))?;
+    assert_eq!((set.len(), set.is_full()), (2, true));
+    let mut first = PatternSet::new(1);
+    regex.forward().try_which_overlapping_matches(&mut cache, &Input::new("a"), &mut first)?;
+    assert_eq!((first.len(), first.capacity()), (1, 1));
+    let (text, mut ends, mut starts) = ("a".repeat(100), Vec::new(), Vec::new());
+    regex.forward().try_all_ends(&mut cache, &Input::new(&text), &mut ends)?;
     assert_eq!((ends.len(), ends[199].offset()), (200, 100));
-    assert_eq!(regex.reverse().all_starts(&mut cache, &Input::new("a"))?.len(), 2);
+    regex.reverse().try_all_starts(&mut cache, &Input::new("a"), &mut starts)?;
+    assert_eq!(starts.len(), 2);
     Ok(())
 }
 
-/// Each of these errors is the one that its call returns.
+/// What an overlapping search found before an error stays, also where the room for it had to grow.
 #[test]
-fn errors() -> Result<(), Error> {
-    let regex = with(Config::new().quit(b';', true), &word()?)?;
-    let mut cache = regex.create_cache()?;
-    let error = regex.find(&mut cache, "--;").unwrap_err();
+fn found_before_an_error() -> Tested {
+    let config = dfa::Config::new().match_kind(MatchKind::All).quit(b';', true);
+    let regex = with(config, &two()?)?;
+    let mut cache = regex.create_cache();
+    for n in [1, 40, 1000] {
+        let (mut ends, mut set) = (vec![HalfMatch::must(0, 0)], PatternSet::new(3));
+        let text = format!("{} ;", "a".repeat(n));
+        let quit = Err(MatchError::quit(b';', n + 1));
+        assert_eq!(regex.forward().try_all_ends(&mut cache, &Input::new(&text), &mut ends), quit);
+        assert_eq!((ends.len(), ends[2 * n].offset()), (2 * n + 1, n));
+        let input = Input::new(&text);
+        assert_eq!(regex.forward().try_which_overlapping_matches(&mut cache, &input, &mut set), quit);
+        assert_eq!((set.len(), set.is_full()), (2, false));
+    }
+    Ok(())
+}
+
+/// Each of these errors is the one that its search returns.
+#[test]
+fn errors_of_searches() -> Tested {
+    let regex = with(dfa::Config::new().quit(b';', true), &word()?)?;
+    let mut cache = regex.create_cache();
+    let error = regex.try_search(&mut cache, &Input::new("--;")).unwrap_err();
     assert_eq!(error.to_string(), "quit search after observing byte 0x3B at offset 2");
-    let items: Vec<_> = regex.find_iter(&mut cache, "a b;c").map(|m| m.map(|m| m.start())).collect();
-    assert_eq!(items, [Ok(0), Err(Error::Quit { byte: b';', offset: 3 })]);
-    let input = Input::new("a").anchored(Anchored::Pattern(PatternID::ZERO));
-    assert_eq!(regex.find(&mut cache, input), Err(Error::UnsupportedAnchored));
-    let capacity = |bytes| with(Config::new().cache_capacity(bytes), &word()?).map(|_| ());
-    let Err(Error::InsufficientCacheCapacity { minimum }) = capacity(1) else {
-        panic!("a capacity of one byte is enough");
+    let items: Vec<_> = regex.try_find_iter(&mut cache, "a b;c").collect();
+    assert_eq!(items, [Ok(Match::must(0, 0..1)), Err(MatchError::quit(b';', 3))]);
+    let mode = Anchored::Pattern(PatternID::ZERO);
+    let error = regex.try_search(&mut cache, &Input::new("a").anchored(mode)).unwrap_err();
+    assert_eq!(error, MatchError::unsupported_anchored(mode));
+    let config = dfa::Config::new()
+        .byte_classes(false)
+        .cache_capacity(0)
+        .skip_cache_capacity_check(true)
+        .minimum_cache_clear_count(Some(0));
+    let regex = Regex::builder().dfa(config).build("[a-z]{20}[0-9]")?;
+    let error = regex.try_search(&mut regex.create_cache(), &Input::new("abcdefghijklmnopqrstuvwxyz"));
+    assert!(matches!(error.unwrap_err().kind(), MatchErrorKind::GaveUp { .. }));
+    Ok(())
+}
+
+/// A pattern may be searched for alone, and one that the regex has not finds nothing.
+#[test]
+fn one_pattern_alone() -> Tested {
+    let config = dfa::Config::new().starts_for_each_pattern(true);
+    let regex = Regex::builder().dfa(config).build_many(&["[a-z]", "[a-z0-9]"])?;
+    let mut cache = regex.create_cache();
+    for (pattern, found) in [(0, None), (1, Some(Match::must(1, 0..1))), (2, None), (1 << 30, None)] {
+        let input = Input::new("1").anchored(Anchored::Pattern(PatternID::must(pattern)));
+        assert_eq!(regex.find(&mut cache, input), found);
+    }
+    Ok(())
+}
+
+/// Each of these errors is the one that building returns.
+#[test]
+fn errors_of_building() -> Tested {
+    let capacity = |bytes| with(dfa::Config::new().cache_capacity(bytes), &word()?).map(|_| ());
+    let error = capacity(1).unwrap_err();
+    let BuildErrorKind::InsufficientCacheCapacity { minimum } = error.kind() else {
+        panic!("a capacity of one byte is enough: {error}");
     };
-    assert_eq!(capacity(minimum - 1), Err(Error::InsufficientCacheCapacity { minimum }));
+    assert_eq!(capacity(minimum - 1).unwrap_err().kind(), error.kind());
     assert_eq!(capacity(minimum), Ok(()));
-    let mut builder = Builder::new()?;
-    assert_eq!(builder.add_match(), Err(Error::NoPattern));
+    let mut builder = Builder::new();
+    assert_eq!(builder.add_match().unwrap_err().kind(), BuildErrorKind::NoPattern);
     let look = builder.add_look(StateID::ZERO, Look::Start)?;
     builder.patch(look, look)?;
     let fail = builder.add_fail()?;
-    assert_eq!(with(Config::new(), &builder.build(look, fail)).err(), Some(Error::NotLazy));
+    let error = with(dfa::Config::new(), &builder.build(look, fail)).unwrap_err();
+    assert_eq!((error.kind(), error.pattern(), error.span()), (BuildErrorKind::NotLazy, None, None));
     Ok(())
 }
 
 /// `(?:\b|%)+`, whose cycle passes a look
 #[test]
-fn look_cycles() -> Result<(), Error> {
-    let mut builder = Builder::new()?;
+fn look_cycles() -> Tested {
+    let mut builder = Builder::new();
     builder.start_pattern()?;
     let boundary = builder.add_look(StateID::ZERO, Look::WordAscii)?;
     let percent = builder.add_range(Transition { start: b'%', end: b'%', next: StateID::ZERO })?;
@@ -140,92 +232,180 @@ fn look_cycles() -> Result<(), Error> {
     builder.patch(percent, more)?;
     builder.finish_pattern(either)?;
     let prefix = builder.add_unanchored_prefix(either)?;
-    let regex = with(Config::new(), &builder.build(either, prefix))?;
-    let mut cache = regex.create_cache()?;
-    let found: Result<Vec<_>, _> = regex.find_iter(&mut cache, "z%").map(|m| m.map(|m| m.range())).collect();
-    assert_eq!(found?, [0..0, 1..1]);
+    let regex = with(dfa::Config::new(), &builder.build(either, prefix))?;
+    assert_eq!(spans(&regex, "z%"), [0..0, 1..1]);
     Ok(())
 }
 
-/// A regex is built of two NFAs, but not of one NFA twice.
+/// If both starts are one state, every search is anchored, as in regex-automata.
 #[test]
-fn pairs() -> Result<(), Error> {
+fn one_start() -> Tested {
+    let mut builder = Builder::new();
+    builder.start_pattern()?;
+    let found = builder.add_match()?;
+    let letter = builder.add_range(Transition { start: b'a', end: b'z', next: found })?;
+    builder.finish_pattern(letter)?;
+    let regex = with(dfa::Config::new(), &builder.build(letter, letter))?;
+    assert_eq!((spans(&regex, "ab1c"), spans(&regex, "1a")), (vec![0..1, 1..2], vec![]));
+    Ok(())
+}
+
+/// A regex is built of two NFAs, but not of one NFA twice, nor of it and its clone.
+#[test]
+fn pairs() -> Tested {
     let same = word()?;
-    assert_eq!(Regex::builder().build_from_nfas(&same, &same).err(), Some(Error::Argument));
-    let regex = Regex::builder().build_from_nfas(&two()?, &two()?)?;
-    let mut cache = regex.create_cache()?;
-    assert_eq!(regex.find(&mut cache, "-a")?.unwrap().range(), 1..2);
-    assert_eq!(Regex::builder().build_from_nfas(&two()?, &same).err(), Some(Error::PatternCounts));
+    let pair = |forward: &NFA, reverse: &NFA| Regex::builder().build_from_nfas(forward, reverse);
+    assert_eq!(pair(&same, &same).unwrap_err().kind(), BuildErrorKind::Argument);
+    assert_eq!(pair(&same, &same.clone()).unwrap_err().kind(), BuildErrorKind::Argument);
+    assert_eq!(pair(&two()?, &same).unwrap_err().kind(), BuildErrorKind::PatternCounts);
+    let regex = pair(&two()?, &two()?)?;
+    assert_eq!(spans(&regex, "-a"), [1..2]);
     Ok(())
 }
 
-/// A search over a cache of another regex panics.
+/// A clone of a regex searches with the same caches. A cache of another regex panics.
 #[test]
-#[should_panic(expected = "a cache of another regex")]
+#[should_panic(expected = "the cache is of another regex")]
 fn another_cache() {
-    let (one, two) = (with(Config::new(), &word().unwrap()).unwrap(), with(Config::new(), &two().unwrap()).unwrap());
-    let mut cache = two.create_cache().unwrap();
-    let _ = one.is_match(&mut cache, "a");
+    let (one, two) = (Regex::new("a").unwrap(), Regex::new("b").unwrap());
+    let mut cache = two.create_cache();
+    assert!(two.clone().is_match(&mut cache, "b"));
+    one.is_match(&mut cache, "b");
+}
+
+/// A reset gives a cache to another regex.
+#[test]
+fn a_reset_cache() -> Tested {
+    let (one, two) = (Regex::new("a")?, Regex::new("b")?);
+    let mut cache = two.create_cache();
+    one.reset_cache(&mut cache);
+    assert!(one.is_match(&mut cache, "a"));
+    one.forward().reset_cache(&mut cache);
+    assert!(one.is_match(&mut cache, "a"));
+    cache.reset(&two);
+    assert_eq!(cache.memory_usage(), Cache::new(&two).memory_usage());
+    assert!(two.is_match(&mut cache, "b"));
+    Ok(())
+}
+
+/// The reverse DFA of a regex does not search forward.
+#[test]
+#[should_panic(expected = "a Reverse DFA does not search Forward")]
+fn a_reverse_dfa_forward() {
+    let regex = Regex::new("a").unwrap();
+    let _ = regex.reverse().try_search_fwd(&mut regex.create_cache(), &Input::new("a"));
+}
+
+/// A forward DFA does not search backward.
+#[test]
+#[should_panic(expected = "a Forward DFA does not search Reverse")]
+fn a_forward_dfa_backward() {
+    let dfa = DFA::new("a").unwrap();
+    let _ = dfa.try_search_rev(&mut dfa.create_cache(), &Input::new("a"));
 }
 
 /// A span that does not lie in the haystack panics.
 #[test]
-#[should_panic(expected = "invalid span")]
+#[should_panic(expected = "invalid span 0..2 for haystack of length 1")]
 fn a_bad_span() {
     let _ = Input::new("a").range(0..2);
 }
 
+/// A search that fails panics, if its call returns no error.
 #[test]
-fn texts_of_patterns() {
-    use lazydfa::hybrid::dfa::Config;
-    use lazydfa::{MatchKind, PatternSet};
-    let regex = Regex::new(r"\pL+").unwrap();
-    let mut cache = regex.create_cache().unwrap();
-    let spans: Vec<_> = regex.find_iter(&mut cache, "foo 12 bär").map(|it| it.unwrap().range()).collect();
-    assert_eq!(spans, [0..3, 7..11]);
-    let error = Regex::new_many(&["a", "é(b"]).err().unwrap();
-    assert_eq!((error.pattern(), error.span(), error.error()), (1, 2..3, Error::Syntax { offset: 2 }));
-    assert_eq!(error.to_string(), "unclosed group\n  é(b\n   ^");
-    assert!(Regex::builder().case_insensitive(true).build("É").unwrap().create_cache().is_ok());
-    let all = Regex::builder().dfa(Config::new().match_kind(MatchKind::All)).build_many(&["a", "b", "ab"]).unwrap();
-    let mut cache = all.create_cache().unwrap();
-    let mut set = PatternSet::new(3);
-    all.forward().try_which_overlapping_matches(&mut cache, &Input::new("xab"), &mut set).unwrap();
-    assert_eq!(set.len(), 3);
-    assert_eq!(Regex::builder().size_limit(10).build("abc").err().unwrap().error(), Error::TooLarge);
-    let none: [&str; 0] = [];
-    assert!(Regex::new_many(&none).is_ok());
+#[should_panic(expected = "Quit { byte: 120, offset: 1 }")]
+fn a_failed_search() {
+    let config = dfa::Config::new().quit(b'x', true);
+    let regex = Regex::builder().dfa(config).build("b").unwrap();
+    regex.find(&mut regex.create_cache(), "axb");
 }
 
-/// Where the matches of a pattern's text are.
-fn spans(builder: &lazydfa::hybrid::regex::Builder, pattern: &str, hay: &str) -> Vec<std::ops::Range<usize>> {
-    let regex = builder.build(pattern).unwrap();
-    let mut cache = regex.create_cache().unwrap();
-    regex.find_iter(&mut cache, hay).map(|it| it.unwrap().range()).collect()
+/// A regex of texts, and what is wrong with a text.
+#[test]
+fn texts_of_patterns() -> Tested {
+    assert_eq!(spans(&Regex::new(r"\pL+")?, "foo 12 bär"), [0..3, 7..11]);
+    let error = Regex::new_many(&["a", "é(b"]).unwrap_err();
+    let place = (error.kind(), error.pattern(), error.span());
+    assert_eq!(place, (BuildErrorKind::Syntax, Some(PatternID::must(1)), Some(2..3)));
+    assert_eq!(error.to_string(), "unclosed group\n  é(b\n   ^");
+    let error = DFA::new(r"\bfoo").unwrap_err();
+    assert_eq!(error.kind(), BuildErrorKind::Unsupported);
+    let limit = thompson::Config::new().nfa_size_limit(Some(10));
+    let error = Regex::builder().thompson(limit).build("abc").unwrap_err();
+    assert_eq!(error.kind(), BuildErrorKind::TooLarge);
+    let none: [&str; 0] = [];
+    let regex = Regex::new_many(&none)?;
+    assert_eq!((spans(&regex, "a"), regex.pattern_len()), (vec![], 0));
+    Ok(())
+}
+
+/// The DFA of texts of patterns.
+#[test]
+fn a_dfa_of_texts() -> Tested {
+    let config = DFA::config().match_kind(MatchKind::All);
+    let dfa = DFA::builder().configure(config).build_many(&["a", "b", "ab"])?;
+    let (mut cache, mut set) = (dfa.create_cache(), PatternSet::new(dfa.pattern_len()));
+    dfa.try_which_overlapping_matches(&mut cache, &Input::new("xab"), &mut set)?;
+    assert_eq!(set.len(), 3);
+    let dfa = DFA::builder().syntax(syntax::Config::new().case_insensitive(true)).build("É+")?;
+    assert_eq!(dfa.try_search_fwd(&mut dfa.create_cache(), &Input::new("éÉ"))?, Some(HalfMatch::must(0, 4)));
+    let dfa = DFA::builder().build_from_nfa(&two()?)?;
+    assert_eq!(dfa.pattern_len(), 2);
+    Ok(())
 }
 
 /// Each option of patterns says what it says of Rust's regex crate.
 #[test]
-fn options_of_patterns() {
-    let with = Regex::builder;
-    assert_eq!(spans(with().unicode(false), r"\w", "éa"), [2..3]);
-    assert_eq!(spans(with().case_insensitive(true), "ab", "aB"), [0..2]);
-    assert_eq!(spans(with().multi_line(true), "^b$", "a\nb\nc"), [2..3]);
-    assert_eq!(spans(with().dot_matches_new_line(true), ".", "\r\n"), [0..1, 1..2]);
-    assert_eq!(spans(with().crlf(true), "(?m)^b$", "a\r\nb\r\nc"), [3..4]);
-    assert_eq!(spans(with().swap_greed(true), "a+|b+?", "aabb"), [0..1, 1..2, 2..4]);
-    assert_eq!(spans(with().ignore_whitespace(true), "a b # c", "ab"), [0..2]);
-    assert_eq!(spans(with().octal(true), r"\141", "a"), [0..1]);
-    assert_eq!(spans(with().utf8(false), "", "é"), [0..0, 1..1, 2..2]);
-    let nested = with().nest_limit(2).build("((a))").is_ok();
-    let deeper = with().nest_limit(2).build("(((a)))").err().unwrap().error();
-    assert_eq!((nested, deeper), (true, Error::Syntax { offset: 2 }));
+fn options_of_patterns() -> Tested {
+    let found = |config, pattern, haystack| {
+        Regex::builder().syntax(config).build(pattern).map(|regex| spans(&regex, haystack))
+    };
+    let config = syntax::Config::new;
+    assert_eq!(found(config().unicode(false), r"\w", "éa")?, [2..3]);
+    assert_eq!(found(config().case_insensitive(true), "ab", "aB")?, [0..2]);
+    assert_eq!(found(config().multi_line(true), "^b$", "a\nb\nc")?, [2..3]);
+    assert_eq!(found(config().dot_matches_new_line(true), ".", "\r\n")?, [0..1, 1..2]);
+    assert_eq!(found(config().crlf(true), "(?m)^b$", "a\r\nb\r\nc")?, [3..4]);
+    assert_eq!(found(config().swap_greed(true), "a+|b+?", "aabb")?, [0..1, 1..2, 2..4]);
+    assert_eq!(found(config().ignore_whitespace(true), "a b # c", "ab")?, [0..2]);
+    assert_eq!(found(config().octal(true), r"\141", "a")?, [0..1]);
+    assert_eq!(found(config(), "", "é")?, [0..0, 2..2]);
+    assert_eq!(found(config().utf8(false), "", "é")?, [0..0, 1..1, 2..2]);
+    let bytes = Regex::builder().thompson(thompson::Config::new().utf8(false)).build("")?;
+    assert_eq!(spans(&bytes, "é"), [0..0, 1..1, 2..2]);
+    Ok(())
 }
 
-/// The quit bytes of a configuration are those of a pattern's text too.
+/// Patterns nest 250 levels deep by default, as in regex-automata, or as deep as the limit says.
 #[test]
-fn quit_bytes_of_patterns() {
-    let regex = Regex::builder().dfa(Config::new().quit(b'x', true)).build("b").unwrap();
-    let mut cache = regex.create_cache().unwrap();
-    assert_eq!(regex.find(&mut cache, "axb").err(), Some(Error::Quit { byte: b'x', offset: 1 }));
+fn nesting() -> Tested {
+    let nested = |limit: u32, depth| {
+        let pattern = format!("{}a{}", "(".repeat(depth), ")".repeat(depth));
+        Regex::builder().syntax(syntax::Config::new().nest_limit(limit)).build(&pattern).map(|_| ())
+    };
+    assert_eq!(nested(2, 2), Ok(()));
+    assert_eq!(nested(2, 3).unwrap_err().kind(), BuildErrorKind::Syntax);
+    let deep = |depth| Regex::new(&format!("{}a{}", "(".repeat(depth), ")".repeat(depth))).map(|_| ());
+    assert_eq!(deep(250), Ok(()));
+    assert_eq!(deep(251).unwrap_err().kind(), BuildErrorKind::Syntax);
+    Ok(())
+}
+
+/// What types print says what they are, and not how they stand in memory.
+#[test]
+fn prints() -> Tested {
+    let regex = Regex::new_many(&["a", "b"])?;
+    let dfa = "DFA { direction: Forward, patterns: 2, .. }";
+    assert_eq!(format!("{:?}", regex.forward()), dfa);
+    assert!(format!("{regex:?}").starts_with(&format!("Regex {{ forward: {dfa}, reverse: DFA")));
+    let mut cache = regex.create_cache();
+    assert!(format!("{cache:?}").ends_with("clear_counts: (0, 0), .. }"));
+    assert!(format!("{:?}", regex.find_iter(&mut cache, "ab")).starts_with("FindMatches(TryFindMatches"));
+    assert!(format!("{:?}", regex.tokens(&mut cache, "ab")).starts_with("Tokens"));
+    let pieces = regex.forward().begin_pieces(&mut cache, &start::Config::new(), false)?;
+    assert!(format!("{pieces:?}").starts_with("Pieces { cache: Cache { memory_usage: "));
+    assert_eq!(format!("{:?}", Builder::new()), "Builder { states: 0, patterns: 0, .. }");
+    assert_eq!(format!("{:?}", word()?), "NFA { states: 5, patterns: 1, .. }");
+    assert!(format!("{:?}", PooledRegex::from(regex)).ends_with("caches: 0 }"));
+    Ok(())
 }

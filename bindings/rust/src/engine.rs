@@ -1,0 +1,337 @@
+//! The library's objects behind a regex, its DFAs and its caches.
+use crate::error::{BuildError, MatchError};
+use crate::handle::Handle;
+use crate::hybrid::dfa;
+use crate::hybrid::regex::Regex;
+use crate::nfa::thompson::{self, NFA};
+use crate::raw::{self, Half, Status, Stop};
+use crate::util::{start, syntax};
+use crate::{Anchored, HalfMatch, Input, Match, PatternID, PatternSet};
+use std::fmt;
+use std::sync::{Arc, Mutex, MutexGuard, PoisonError};
+
+/// The two lazy DFAs of a regex. The lock is for calls with its handle, which create caches.
+pub struct Engine {
+    regex: Mutex<Handle>,
+    pattern_len: usize,
+}
+
+impl Engine {
+    /// The DFAs of the texts of patterns.
+    pub fn of_texts<P: AsRef<str>>(
+        patterns: &[P],
+        syntax: &syntax::Config,
+        thompson: &thompson::Config,
+        config: &dfa::Config,
+    ) -> Result<Arc<Engine>, BuildError> {
+        let mut options = syntax.options;
+        options.bytes |= u32::from(thompson.bytes);
+        if let Some(limit) = thompson.size_limit {
+            (options.has_size_limit, options.size_limit) = (1, limit.unwrap_or(usize::MAX));
+        }
+        let patterns: Vec<&str> = patterns.iter().map(AsRef::as_ref).collect();
+        let lengths: Vec<usize> = patterns.iter().map(|pattern| pattern.len()).collect();
+        let bytes = patterns.concat();
+        let texts = raw::Texts { bytes: &bytes, lengths: &lengths };
+        // Room for any message: what is wrong, the text, and as many carets below it.
+        let mut message = vec![0; 256 + 9 * lengths.iter().max().unwrap_or(&0)];
+        let mut refusal = raw::Refusal::default();
+        let mut regex = Handle::closed();
+        let (settings, quits) = (&config.settings, &config.quits);
+        let status =
+            raw::regex_any_of(&mut regex, texts, &options, settings, quits, &mut refusal, &mut message);
+        let span = refusal.start..refusal.end;
+        status.built().map_err(|error| error.of_text(refusal.pattern, span, &message))?;
+        Ok(Engine::new(regex, patterns.len()))
+    }
+
+    /// The DFAs of one NFA, the second by reversing it.
+    pub fn of_nfa(nfa: &NFA, config: &dfa::Config) -> Result<Arc<Engine>, BuildError> {
+        let mut regex = Handle::closed();
+        nfa.open(&mut regex, &config.settings, &config.quits)?;
+        Ok(Engine::new(regex, nfa.pattern_len()))
+    }
+
+    /// The DFAs of two NFAs, of which the second reads backward.
+    pub fn of_nfas(forward: &NFA, reverse: &NFA, config: &dfa::Config) -> Result<Arc<Engine>, BuildError> {
+        let mut regex = Handle::closed();
+        forward.open_pair(reverse, &mut regex, &config.settings, &config.quits)?;
+        Ok(Engine::new(regex, forward.pattern_len()))
+    }
+
+    fn new(regex: Handle, pattern_len: usize) -> Arc<Engine> {
+        Arc::new(Engine { regex: Mutex::new(regex), pattern_len })
+    }
+
+    /// How many patterns there are.
+    pub fn pattern_len(&self) -> usize {
+        self.pattern_len
+    }
+
+    /// The handle of the regex. No call panics while it has the lock, so a poisoned one is as good.
+    fn lock(&self) -> MutexGuard<'_, Handle> {
+        self.regex.lock().unwrap_or_else(PoisonError::into_inner)
+    }
+
+    /// A fresh cache for searches with these DFAs.
+    pub fn create_cache(self: &Arc<Engine>) -> Result<Cache, BuildError> {
+        let mut cache = Handle::closed();
+        raw::lazydfa_raw_cache_new(&mut cache, &mut self.lock()).built()?;
+        Ok(Cache { handle: Mutex::new(cache), engine: Arc::clone(self) })
+    }
+}
+
+/// A cache of a regex: the states of its two DFAs that searches have built so far.
+///
+/// It belongs to the regex that created it and to the clones of that one; a search of another regex with it
+/// panics. A program gives it to each search, so that a struct may own a regex and its cache, and it may go to
+/// another thread. Each thread that searches has a cache of its own.
+///
+/// ```
+/// use lazydfa::hybrid::regex::{Cache, Regex};
+///
+/// struct Words {
+///     regex: Regex,
+///     cache: Cache,
+/// }
+///
+/// let regex = Regex::new(r"\pL+")?;
+/// let mut words = Words { cache: regex.create_cache(), regex };
+/// let count = std::thread::spawn(move || words.regex.find_iter(&mut words.cache, "foo 12 bar").count());
+/// assert_eq!(count.join().unwrap(), 2);
+/// # Ok::<(), lazydfa::BuildError>(())
+/// ```
+pub struct Cache {
+    handle: Mutex<Handle>,
+    engine: Arc<Engine>,
+}
+
+impl Cache {
+    /// A fresh cache for searches with this regex, as [`Regex::create_cache`] makes one.
+    ///
+    /// # Panics
+    ///
+    /// If memory is out.
+    pub fn new(regex: &Regex) -> Cache {
+        regex.create_cache()
+    }
+
+    /// Makes it a fresh cache of this regex, as [`Regex::reset_cache`] does.
+    ///
+    /// # Panics
+    ///
+    /// If memory is out.
+    pub fn reset(&mut self, regex: &Regex) {
+        regex.reset_cache(self);
+    }
+
+    /// How many bytes the cache accounts for, in its two parts together.
+    pub fn memory_usage(&self) -> usize {
+        self.usage().memory
+    }
+
+    /// How often the two parts of the cache were cleared: that of the DFA which searches forward, and that of
+    /// the DFA which searches backward.
+    pub fn clear_counts(&self) -> (usize, usize) {
+        let usage = self.usage();
+        (usage.forward_clears, usage.reverse_clears)
+    }
+
+    /// What the library says of the cache.
+    fn usage(&self) -> raw::Usage {
+        let mut usage = raw::Usage::default();
+        let mut handle = self.handle.lock().unwrap_or_else(PoisonError::into_inner);
+        raw::lazydfa_raw_cache_usage(&mut handle, &mut usage);
+        usage
+    }
+
+    /// Makes it a fresh cache of the same regex. If memory is out it fails, and stays as it is.
+    pub fn try_reset(&mut self) -> Result<(), BuildError> {
+        raw::lazydfa_raw_cache_reset(self.handle()).built()
+    }
+
+    /// Whether the cache is one of these DFAs.
+    pub(crate) fn is_of(&self, engine: &Arc<Engine>) -> bool {
+        Arc::ptr_eq(&self.engine, engine)
+    }
+
+    /// Panics unless the cache is one of these DFAs: with those of another regex it would report their matches.
+    pub(crate) fn check(&self, engine: &Arc<Engine>) {
+        assert!(self.is_of(engine), "the cache is of another regex: create one by this regex");
+    }
+
+    /// The handle. A search has the cache for itself, so it takes no lock.
+    fn handle(&mut self) -> &mut Handle {
+        self.handle.get_mut().unwrap_or_else(PoisonError::into_inner)
+    }
+
+    /// Whether there is a match.
+    pub(crate) fn is_match(&mut self, input: &Input<'_>) -> Result<bool, MatchError> {
+        let status = raw::is_match(self.handle(), input.haystack(), &input.raw());
+        status.found(input.get_anchored())
+    }
+
+    /// The first match.
+    pub(crate) fn find(&mut self, input: &Input<'_>) -> Result<Option<Match>, MatchError> {
+        let mut found = raw::Match::default();
+        let status = raw::find(self.handle(), input.haystack(), &input.raw(), &mut found);
+        Ok(status.found(input.get_anchored())?.then(|| found.into()))
+    }
+
+    /// The end of the first match.
+    pub(crate) fn find_end(&mut self, input: &Input<'_>) -> Result<Option<HalfMatch>, MatchError> {
+        self.half(input, raw::find_end)
+    }
+
+    /// The start of a match that ends where the span does.
+    pub(crate) fn find_start(&mut self, input: &Input<'_>) -> Result<Option<HalfMatch>, MatchError> {
+        self.half(input, raw::find_start)
+    }
+
+    /// Runs a search of the library that writes a half match.
+    fn half(
+        &mut self,
+        input: &Input<'_>,
+        search: fn(&mut Handle, &[u8], &raw::Input, &mut Half) -> Status,
+    ) -> Result<Option<HalfMatch>, MatchError> {
+        let mut found = Half::default();
+        let status = search(self.handle(), input.haystack(), &input.raw(), &mut found);
+        Ok(status.found(input.get_anchored())?.then(|| found.into()))
+    }
+
+    /// Appends the ends of all overlapping matches, before an error those that were found.
+    pub(crate) fn all_ends(
+        &mut self,
+        input: &Input<'_>,
+        ends: &mut Vec<HalfMatch>,
+    ) -> Result<(), MatchError> {
+        self.all(input, ends, raw::all_ends)
+    }
+
+    /// Appends the starts of all overlapping matches that end where the span does, before an error those that
+    /// were found.
+    pub(crate) fn all_starts(
+        &mut self,
+        input: &Input<'_>,
+        starts: &mut Vec<HalfMatch>,
+    ) -> Result<(), MatchError> {
+        self.all(input, starts, raw::all_starts)
+    }
+
+    /// Runs a search of the library that writes all overlapping matches: once more, with room for as many as it
+    /// counted, until there is room for all.
+    fn all(
+        &mut self,
+        input: &Input<'_>,
+        found: &mut Vec<HalfMatch>,
+        search: fn(&mut Handle, &[u8], &raw::Input, &mut [Half], &mut usize) -> Status,
+    ) -> Result<(), MatchError> {
+        let mut halves = vec![Half::default(); 64];
+        loop {
+            let mut count = 0;
+            let status = search(self.handle(), input.haystack(), &input.raw(), &mut halves, &mut count);
+            if count <= halves.len() {
+                found.extend(halves[..count].iter().map(|half| HalfMatch::from(*half)));
+                return status.found(input.get_anchored()).map(|_| ());
+            }
+            halves.resize(count, Half::default());
+        }
+    }
+
+    /// Inserts the patterns that match, before an error those that were found. Patterns past the set's capacity
+    /// are left out.
+    pub(crate) fn which(&mut self, input: &Input<'_>, set: &mut PatternSet) -> Result<(), MatchError> {
+        let mut patterns = vec![0; set.capacity()];
+        let mut count = 0;
+        let status = raw::which(self.handle(), input.haystack(), &input.raw(), &mut patterns, &mut count);
+        for pattern in &patterns[..count] {
+            set.insert(PatternID(*pattern));
+        }
+        status.found(input.get_anchored()).map(|_| ())
+    }
+
+    /// Writes the next matches of an iteration, as many as there is room for, and returns how many these are,
+    /// and what comes after them: more, nothing, or an error.
+    pub(crate) fn next_all(
+        &mut self,
+        haystack: &[u8],
+        mode: Anchored,
+        at: &mut raw::Iteration,
+        room: &mut [raw::Match],
+    ) -> (usize, Result<bool, MatchError>) {
+        let mut count = 0;
+        let status = raw::next_all(self.handle(), haystack, at, room, &mut count);
+        (count, status.found(mode))
+    }
+
+    /// The token at the start of what is left, which then starts where the token ends.
+    pub(crate) fn token(
+        &mut self,
+        haystack: &[u8],
+        left: &mut raw::Input,
+    ) -> Result<Option<Match>, MatchError> {
+        let mut found = raw::Match::default();
+        let status = raw::token(self.handle(), haystack, left, &mut found);
+        Ok(status.found(Anchored::Yes)?.then(|| found.into()))
+    }
+
+    /// Begins a search in pieces, in place of the one that was begun before.
+    pub(crate) fn begin_pieces(&mut self, config: &start::Config, earliest: bool) -> Result<(), MatchError> {
+        let mode = config.get_anchored();
+        let ((anchored, pattern), behind) = (mode.raw(), raw::beside(config.get_look_behind()));
+        let begin = raw::lazydfa_raw_pieces_begin;
+        begin(self.handle(), anchored, pattern, behind, earliest.into()).found(mode).map(|_| ())
+    }
+
+    /// Reads the next piece of the search that was begun, and writes whether its answer stands.
+    pub(crate) fn read_piece(&mut self, piece: &[u8], is_done: &mut bool) -> Result<(), MatchError> {
+        let mut done = 0;
+        let status = raw::pieces_read(self.handle(), piece, &mut done);
+        *is_done = done != 0;
+        status.found(Anchored::No).map(|_| ())
+    }
+
+    /// The end of the match in the pieces so far, if this byte follows them or none.
+    pub(crate) fn end_pieces(&mut self, look_ahead: Option<u8>) -> Result<Option<HalfMatch>, MatchError> {
+        let mut found = Half::default();
+        let status = raw::lazydfa_raw_pieces_end(self.handle(), raw::beside(look_ahead), &mut found);
+        Ok(status.found(Anchored::No)?.then(|| found.into()))
+    }
+
+    /// Begins a walk, in place of the one that was begun before.
+    pub(crate) fn begin_walk(&mut self, config: &start::Config) -> Result<(), MatchError> {
+        let mode = config.get_anchored();
+        let ((anchored, pattern), behind) = (mode.raw(), raw::beside(config.get_look_behind()));
+        raw::lazydfa_raw_walk_begin(self.handle(), anchored, pattern, behind).found(mode).map(|_| ())
+    }
+
+    /// Reads a piece up to the next offset where patterns match, and returns where the walk stands.
+    pub(crate) fn read_walk(&mut self, piece: &[u8]) -> Result<Stop, MatchError> {
+        let mut stop = Stop::default();
+        raw::walk_read(self.handle(), piece, &mut stop).found(Anchored::No).map(|_| stop)
+    }
+
+    /// The end of the pieces so far, as where the walk stands, if this byte follows them or none.
+    pub(crate) fn end_walk(&mut self, look_ahead: Option<u8>) -> Result<Stop, MatchError> {
+        let mut stop = Stop::default();
+        let status = raw::lazydfa_raw_walk_end(self.handle(), raw::beside(look_ahead), &mut stop);
+        status.found(Anchored::No).map(|_| stop)
+    }
+
+    /// One of the matches where the walk stands, which the last call said.
+    pub(crate) fn walk_match(&mut self, stop: &Stop, index: usize) -> HalfMatch {
+        let mut pattern = 0;
+        let status = raw::lazydfa_raw_walk_pattern(self.handle(), index, &mut pattern);
+        debug_assert_eq!(status.code, 0, "the walk has no pattern {index} of {}", stop.patterns);
+        HalfMatch::new(PatternID(pattern), stop.offset)
+    }
+}
+
+impl fmt::Debug for Cache {
+    fn fmt(&self, f: &mut fmt::Formatter<'_>) -> fmt::Result {
+        f.debug_struct("Cache")
+            .field("memory_usage", &self.memory_usage())
+            .field("clear_counts", &self.clear_counts())
+            .finish_non_exhaustive()
+    }
+}

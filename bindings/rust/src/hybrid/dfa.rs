@@ -1,0 +1,420 @@
+//! Lazy DFAs.
+use crate::engine::Engine;
+use crate::nfa::thompson::{self, NFA};
+use crate::util::{start, syntax};
+use crate::{raw, BuildError, HalfMatch, Input, MatchError, MatchKind, PatternSet};
+use std::borrow::BorrowMut;
+use std::fmt;
+use std::sync::Arc;
+
+pub use super::pieces::Pieces;
+pub use super::walk::{Ends, Walk};
+pub use crate::engine::Cache;
+
+/// The settings of a lazy DFA, or of the two of a regex.
+#[derive(Clone, Debug)]
+pub struct Config {
+    pub(crate) settings: raw::Settings,
+    pub(crate) quits: Vec<u8>,
+}
+
+impl Default for Config {
+    fn default() -> Config {
+        // As in the crate, an NFA whose two starts are one state is one whose searches are all anchored.
+        let settings = raw::Settings { always_anchored: 1, ..raw::Settings::default() };
+        Config { settings, quits: Vec::new() }
+    }
+}
+
+impl Config {
+    /// The default settings.
+    pub fn new() -> Config {
+        Config::default()
+    }
+
+    /// Sets which matches a search reports. By default it is `MatchKind::LeftmostFirst`.
+    pub fn match_kind(mut self, kind: MatchKind) -> Config {
+        self.settings.match_kind = (kind == MatchKind::All).into();
+        self
+    }
+
+    /// Sets whether each pattern has start states of its own, so that it can be searched for alone. By default
+    /// it has none.
+    pub fn starts_for_each_pattern(mut self, yes: bool) -> Config {
+        self.settings.starts_for_each_pattern = yes.into();
+        self
+    }
+
+    /// Sets whether bytes that the NFA does not distinguish share a class, which makes rows shorter. By default
+    /// they do.
+    pub fn byte_classes(mut self, yes: bool) -> Config {
+        self.settings.no_byte_classes = (!yes).into();
+        self
+    }
+
+    /// Sets whether a pattern may have a Unicode word boundary, which is decided as an ASCII one, with every
+    /// byte from 0x80 on a quit byte. By default it may not, and is an error.
+    pub fn unicode_word_boundary(mut self, yes: bool) -> Config {
+        self.settings.unicode_word_boundary = yes.into();
+        self
+    }
+
+    /// Makes this byte a quit byte, at which a search fails, or makes it none. By default no byte is one.
+    ///
+    /// # Panics
+    ///
+    /// If the byte is not ASCII, is to be no quit byte, and Unicode word boundaries are enabled, which need it.
+    pub fn quit(mut self, byte: u8, yes: bool) -> Config {
+        let needed = self.settings.unicode_word_boundary != 0 && !byte.is_ascii();
+        assert!(yes || !needed, "Unicode word boundaries need {byte:#04X} to be a quit byte");
+        self.quits.retain(|quit| *quit != byte);
+        if yes {
+            self.quits.push(byte);
+        }
+        self
+    }
+
+    /// Sets whether the IDs of start states are tagged. By default they are not.
+    pub fn specialize_start_states(mut self, yes: bool) -> Config {
+        self.settings.specialize_start_states = yes.into();
+        self
+    }
+
+    /// Sets the most bytes that a cache of each DFA may account for. By default it is 2 MiB.
+    pub fn cache_capacity(mut self, bytes: usize) -> Config {
+        (self.settings.has_cache_capacity, self.settings.cache_capacity) = (1, bytes);
+        self
+    }
+
+    /// Sets whether a capacity below the minimum is raised to it. By default it is an error.
+    pub fn skip_cache_capacity_check(mut self, yes: bool) -> Config {
+        self.settings.skip_cache_capacity_check = yes.into();
+        self
+    }
+
+    /// Sets the number of clears after which a search may give up instead of clearing the cache once more. By
+    /// default, `None`, it never gives up.
+    pub fn minimum_cache_clear_count(mut self, min: Option<usize>) -> Config {
+        self.settings.has_minimum_cache_clear_count = min.is_some().into();
+        self.settings.minimum_cache_clear_count = min.unwrap_or(0);
+        self
+    }
+
+    /// Sets the number of bytes for each state of the cache which keeps a search from giving up, if so many
+    /// were searched since the last clear. By default, `None`, no number does.
+    pub fn minimum_bytes_per_state(mut self, min: Option<usize>) -> Config {
+        self.settings.has_minimum_bytes_per_state = min.is_some().into();
+        self.settings.minimum_bytes_per_state = min.unwrap_or(0);
+        self
+    }
+}
+
+/// A builder of lazy DFAs that search forward.
+#[derive(Clone, Debug, Default)]
+pub struct Builder {
+    config: Config,
+    syntax: syntax::Config,
+    thompson: thompson::Config,
+}
+
+impl Builder {
+    /// A builder with the default settings.
+    pub fn new() -> Builder {
+        Builder::default()
+    }
+
+    /// Sets the settings of the DFA.
+    pub fn configure(&mut self, config: Config) -> &mut Builder {
+        self.config = config;
+        self
+    }
+
+    /// Sets how the texts of patterns are read.
+    pub fn syntax(&mut self, config: syntax::Config) -> &mut Builder {
+        self.syntax = config;
+        self
+    }
+
+    /// Sets how the NFA is made of the texts of patterns.
+    pub fn thompson(&mut self, config: thompson::Config) -> &mut Builder {
+        self.thompson = config;
+        self
+    }
+
+    /// Builds the DFA of the text of a pattern.
+    pub fn build(&self, pattern: &str) -> Result<DFA, BuildError> {
+        self.build_many(&[pattern])
+    }
+
+    /// Builds the DFA of the texts of patterns, each of which has its place in the list as its number.
+    pub fn build_many<P: AsRef<str>>(&self, patterns: &[P]) -> Result<DFA, BuildError> {
+        let engine = Engine::of_texts(patterns, &self.syntax, &self.thompson, &self.config)?;
+        Ok(DFA::new_of(engine, Direction::Forward))
+    }
+
+    /// Builds the DFA of an NFA.
+    pub fn build_from_nfa(&self, nfa: &NFA) -> Result<DFA, BuildError> {
+        Ok(DFA::new_of(Engine::of_nfa(nfa, &self.config)?, Direction::Forward))
+    }
+}
+
+/// The way in which a DFA reads a haystack.
+#[derive(Clone, Copy, Debug, PartialEq, Eq)]
+pub(super) enum Direction {
+    Forward,
+    Reverse,
+}
+
+/// A lazy DFA: it finds one end of a match, and which patterns match.
+///
+/// A clone shares what the DFA has, and threads may share a DFA. The library makes lazy DFAs in pairs: one that
+/// is built alone has a reverse DFA beside it, of whose states a search forward builds none.
+///
+/// ```
+/// use lazydfa::hybrid::dfa::DFA;
+/// use lazydfa::{HalfMatch, Input, MatchKind, PatternSet};
+///
+/// let dfa = DFA::new("foo[0-9]+")?;
+/// let mut cache = dfa.create_cache();
+/// assert_eq!(dfa.try_search_fwd(&mut cache, &Input::new("foo12345"))?, Some(HalfMatch::must(0, 8)));
+///
+/// // Which of many patterns match, in one pass.
+/// let config = DFA::config().match_kind(MatchKind::All);
+/// let dfa = DFA::builder().configure(config).build_many(&["[a-z]+", "[0-9]+", "foo$"])?;
+/// let mut set = PatternSet::new(dfa.pattern_len());
+/// dfa.try_which_overlapping_matches(&mut dfa.create_cache(), &Input::new("12 foo"), &mut set)?;
+/// assert!(set.is_full());
+/// # Ok::<(), Box<dyn std::error::Error>>(())
+/// ```
+#[derive(Clone)]
+pub struct DFA {
+    engine: Arc<Engine>,
+    direction: Direction,
+}
+
+impl DFA {
+    /// The DFA of the text of a pattern, with the default settings.
+    pub fn new(pattern: &str) -> Result<DFA, BuildError> {
+        Builder::new().build(pattern)
+    }
+
+    /// The DFA of the texts of patterns, each of which has its place in the list as its number.
+    pub fn new_many<P: AsRef<str>>(patterns: &[P]) -> Result<DFA, BuildError> {
+        Builder::new().build_many(patterns)
+    }
+
+    /// The default settings of a DFA.
+    pub fn config() -> Config {
+        Config::new()
+    }
+
+    /// A builder of DFAs, with the default settings.
+    pub fn builder() -> Builder {
+        Builder::new()
+    }
+
+    /// One of the two DFAs of an engine.
+    pub(super) fn new_of(engine: Arc<Engine>, direction: Direction) -> DFA {
+        DFA { engine, direction }
+    }
+
+    /// The engine that this DFA is of.
+    pub(super) fn engine(&self) -> &Arc<Engine> {
+        &self.engine
+    }
+
+    /// Creates a fresh cache for searches with this DFA.
+    ///
+    /// # Panics
+    ///
+    /// If memory is out.
+    pub fn create_cache(&self) -> Cache {
+        self.engine.create_cache().expect("a cache of a DFA")
+    }
+
+    /// Makes a cache a fresh one of this DFA, of whatever regex it was.
+    ///
+    /// # Panics
+    ///
+    /// If memory is out.
+    pub fn reset_cache(&self, cache: &mut Cache) {
+        if cache.is_of(&self.engine) {
+            cache.try_reset().expect("a cache of a DFA");
+        } else {
+            *cache = self.create_cache();
+        }
+    }
+
+    /// How many patterns the DFA has.
+    pub fn pattern_len(&self) -> usize {
+        self.engine.pattern_len()
+    }
+
+    /// Where the first match ends.
+    ///
+    /// # Errors
+    ///
+    /// If the search quits or gives up, if the anchored mode is not supported, or if memory is out.
+    ///
+    /// # Panics
+    ///
+    /// If the cache is of another regex, or the DFA is the reverse one of a regex.
+    pub fn try_search_fwd(
+        &self,
+        cache: &mut Cache,
+        input: &Input<'_>,
+    ) -> Result<Option<HalfMatch>, MatchError> {
+        self.check(cache, Direction::Forward);
+        cache.find_end(input)
+    }
+
+    /// Where the longest match starts that ends at the end of the span; of an earliest input the shortest one.
+    ///
+    /// # Errors
+    ///
+    /// As [`DFA::try_search_fwd`].
+    ///
+    /// # Panics
+    ///
+    /// If the cache is of another regex, or the DFA is no reverse one of a regex.
+    pub fn try_search_rev(
+        &self,
+        cache: &mut Cache,
+        input: &Input<'_>,
+    ) -> Result<Option<HalfMatch>, MatchError> {
+        self.check(cache, Direction::Reverse);
+        cache.find_start(input)
+    }
+
+    /// Begins a search for the end of the first match in a haystack that comes in pieces, with a cache or a `&mut`
+    /// to one. An earliest search may stop at the first match that it sees.
+    ///
+    /// # Errors
+    ///
+    /// If the regex matches the empty string, but not inside a character, which is
+    /// [`Skips`](crate::MatchErrorKind::Skips); if the byte before the first piece is a quit byte, which is an error
+    /// at offset 0; if the search gives up, if the anchored mode is not supported, or if memory is out. A cache that
+    /// was given, and not lent, is dropped then.
+    ///
+    /// # Panics
+    ///
+    /// If the cache is of another regex, or the DFA is the reverse one of a regex.
+    pub fn begin_pieces<C: BorrowMut<Cache>>(
+        &self,
+        mut cache: C,
+        config: &start::Config,
+        earliest: bool,
+    ) -> Result<Pieces<C>, MatchError> {
+        let lent = cache.borrow_mut();
+        self.check(lent, Direction::Forward);
+        lent.begin_pieces(config, earliest)?;
+        Pieces::begun(cache)
+    }
+
+    /// Begins a walk over a haystack that comes in pieces, which reports the ends of all overlapping matches, with a
+    /// cache or a `&mut` to one. Build the DFA with `MatchKind::All`.
+    ///
+    /// # Errors
+    ///
+    /// As [`DFA::begin_pieces`].
+    ///
+    /// # Panics
+    ///
+    /// If the cache is of another regex, or the DFA is the reverse one of a regex.
+    pub fn begin_walk<C: BorrowMut<Cache>>(
+        &self,
+        mut cache: C,
+        config: &start::Config,
+    ) -> Result<Walk<C>, MatchError> {
+        let lent = cache.borrow_mut();
+        self.check(lent, Direction::Forward);
+        lent.begin_walk(config)?;
+        Ok(Walk::begun(cache))
+    }
+
+    /// Inserts the patterns that match into a set, overlapping matches included; of an earliest input that of
+    /// the first match alone. Build the DFA with `MatchKind::All`. A pattern that is not below the set's
+    /// capacity is left out.
+    ///
+    /// # Errors
+    ///
+    /// As [`DFA::try_search_fwd`]. The set then has the patterns that were found before the error.
+    ///
+    /// # Panics
+    ///
+    /// If the cache is of another regex, or the DFA is the reverse one of a regex.
+    pub fn try_which_overlapping_matches(
+        &self,
+        cache: &mut Cache,
+        input: &Input<'_>,
+        patset: &mut PatternSet,
+    ) -> Result<(), MatchError> {
+        self.check(cache, Direction::Forward);
+        cache.which(input, patset)
+    }
+
+    /// Appends the ends of all overlapping matches to a list. Build the DFA with `MatchKind::All`.
+    ///
+    /// # Errors
+    ///
+    /// As [`DFA::try_search_fwd`]. The list then has the ends that were found before the error.
+    ///
+    /// # Panics
+    ///
+    /// If the cache is of another regex, or the DFA is the reverse one of a regex.
+    ///
+    /// ```
+    /// use lazydfa::hybrid::dfa::DFA;
+    /// use lazydfa::{HalfMatch, Input, MatchKind};
+    ///
+    /// let config = DFA::config().match_kind(MatchKind::All).quit(b';', true);
+    /// let dfa = DFA::builder().configure(config).build("ab*")?;
+    /// let mut ends = Vec::new();
+    /// let answer = dfa.try_all_ends(&mut dfa.create_cache(), &Input::new("ab c;a"), &mut ends);
+    /// assert_eq!(ends, [HalfMatch::must(0, 1), HalfMatch::must(0, 2)]);
+    /// assert!(answer.is_err());
+    /// # Ok::<(), lazydfa::BuildError>(())
+    /// ```
+    pub fn try_all_ends(
+        &self,
+        cache: &mut Cache,
+        input: &Input<'_>,
+        ends: &mut Vec<HalfMatch>,
+    ) -> Result<(), MatchError> {
+        self.check(cache, Direction::Forward);
+        cache.all_ends(input, ends)
+    }
+
+    /// Appends the starts of all overlapping matches that end at the end of the span to a list.
+    ///
+    /// # Errors
+    ///
+    /// As [`DFA::try_search_fwd`]. The list then has the starts that were found before the error.
+    ///
+    /// # Panics
+    ///
+    /// If the cache is of another regex, or the DFA is no reverse one of a regex.
+    pub fn try_all_starts(
+        &self,
+        cache: &mut Cache,
+        input: &Input<'_>,
+        starts: &mut Vec<HalfMatch>,
+    ) -> Result<(), MatchError> {
+        self.check(cache, Direction::Reverse);
+        cache.all_starts(input, starts)
+    }
+
+    /// Panics unless the cache is one of this DFA, and the DFA reads in this direction.
+    fn check(&self, cache: &Cache, direction: Direction) {
+        cache.check(&self.engine);
+        assert!(self.direction == direction, "a {:?} DFA does not search {:?}", self.direction, direction,);
+    }
+}
+
+impl fmt::Debug for DFA {
+    fn fmt(&self, f: &mut fmt::Formatter<'_>) -> fmt::Result {
+        let mut shown = f.debug_struct("DFA");
+        shown.field("direction", &self.direction).field("patterns", &self.pattern_len());
+        shown.finish_non_exhaustive()
+    }
+}

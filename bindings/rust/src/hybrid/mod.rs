@@ -1,0 +1,7 @@
+//! Lazy DFAs, and regexes of two of them.
+pub mod dfa;
+mod pieces;
+pub mod regex;
+mod walk;
+
+pub use crate::error::{BuildError, BuildErrorKind};

@@ -1,0 +1,2 @@
+//! NFAs.
+pub mod thompson;

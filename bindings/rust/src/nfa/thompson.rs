@@ -1,0 +1,283 @@
+//! NFAs that are built state by state, for an engine that has a parser of its own.
+use crate::handle::Handle;
+use crate::raw::{self, Status};
+use crate::util::look::Look;
+use crate::util::primitives::{PatternID, StateID};
+use crate::{BuildError, BuildErrorKind};
+use std::fmt;
+use std::sync::{Arc, Mutex, MutexGuard, PoisonError};
+
+/// How NFAs are made of the texts of patterns.
+#[derive(Clone, Copy, Debug, Default)]
+pub struct Config {
+    pub(crate) size_limit: Option<Option<usize>>,
+    pub(crate) bytes: bool,
+}
+
+impl Config {
+    /// The default settings.
+    pub fn new() -> Config {
+        Config::default()
+    }
+
+    /// Sets how many bytes the tables of all patterns may take while they are compiled, or with `None` that
+    /// there is no limit. By default they are 10 MiB.
+    pub fn nfa_size_limit(mut self, bytes: Option<usize>) -> Config {
+        self.size_limit = Some(bytes);
+        self
+    }
+
+    /// Sets whether text is searched, so that no match splits a character. By default it is. The library has one
+    /// setting for this and for [`syntax::Config::utf8`](crate::util::syntax::Config::utf8): bytes are searched if
+    /// either of the two is off.
+    pub fn utf8(mut self, yes: bool) -> Config {
+        self.bytes = !yes;
+        self
+    }
+}
+
+/// A range of bytes, both ends included, and the state that it leads to.
+#[derive(Clone, Copy, Debug, PartialEq, Eq, Hash)]
+pub struct Transition {
+    /// The least byte.
+    pub start: u8,
+    /// The greatest byte.
+    pub end: u8,
+    /// The state that the range leads to.
+    pub next: StateID,
+}
+
+/// A builder of an NFA.
+///
+/// States have the numbers 0, 1, 2 and so on, in the order in which they are added, and may lead to states
+/// that do not exist yet. A call that fails changes nothing.
+///
+/// ```
+/// use lazydfa::hybrid::regex::Regex;
+/// use lazydfa::nfa::thompson::{Builder, Transition};
+/// use lazydfa::util::primitives::StateID;
+///
+/// // [a-z]+: a letter, and then more letters or the match.
+/// let mut builder = Builder::new();
+/// builder.start_pattern()?;
+/// let letter = builder.add_range(Transition { start: b'a', end: b'z', next: StateID::ZERO })?;
+/// let found = builder.add_match()?;
+/// let more = builder.add_union(vec![letter, found])?;
+/// builder.patch(letter, more)?;
+/// builder.finish_pattern(letter)?;
+/// let prefix = builder.add_unanchored_prefix(letter)?;
+/// let nfa = builder.build(letter, prefix);
+///
+/// let regex = Regex::builder().build_from_nfa(&nfa)?;
+/// assert_eq!(regex.find(&mut regex.create_cache(), "12 foo").unwrap().range(), 3..6);
+/// # Ok::<(), lazydfa::BuildError>(())
+/// ```
+pub struct Builder {
+    handle: Handle,
+    states: usize,
+    patterns: usize,
+}
+
+impl Builder {
+    /// A builder without states, whose NFA is neither in UTF-8 mode nor reversed, and whose lines end in `\n`.
+    ///
+    /// # Panics
+    ///
+    /// If memory is out.
+    #[allow(clippy::new_without_default)] // as the crate: a builder is no value of its settings
+    pub fn new() -> Builder {
+        let mut handle = Handle::closed();
+        raw::lazydfa_raw_builder_new(&mut handle).built().expect("a builder of an NFA");
+        Builder { handle, states: 0, patterns: 0 }
+    }
+
+    /// Removes all states and patterns. The settings stay.
+    pub fn clear(&mut self) {
+        raw::lazydfa_raw_builder_clear(&mut self.handle);
+        (self.states, self.patterns) = (0, 0);
+    }
+
+    /// Starts the next pattern: match states and groups belong to it until it is finished.
+    pub fn start_pattern(&mut self) -> Result<PatternID, BuildError> {
+        let mut id = 0;
+        raw::lazydfa_raw_start_pattern(&mut self.handle, &mut id).built()?;
+        Ok(PatternID(id))
+    }
+
+    /// Finishes the pattern that was started, whose own searches start at this state.
+    pub fn finish_pattern(&mut self, start: StateID) -> Result<PatternID, BuildError> {
+        let mut id = 0;
+        raw::lazydfa_raw_finish_pattern(&mut self.handle, start.0, &mut id).built()?;
+        self.patterns += 1;
+        Ok(PatternID(id))
+    }
+
+    /// Adds a state by a call of the library that writes its number.
+    fn add(&mut self, add: impl FnOnce(&mut Handle, &mut u32) -> Status) -> Result<StateID, BuildError> {
+        let mut id = 0;
+        add(&mut self.handle, &mut id).built()?;
+        self.states += 1;
+        Ok(StateID(id))
+    }
+
+    /// Adds a state that reads nothing and leads to state 0, until it is patched.
+    pub fn add_empty(&mut self) -> Result<StateID, BuildError> {
+        self.add(|builder, id| raw::lazydfa_raw_add_empty(builder, id))
+    }
+
+    /// Adds a state that reads a byte of a range.
+    pub fn add_range(&mut self, range: Transition) -> Result<StateID, BuildError> {
+        let Transition { start, end, next } = range;
+        self.add(|builder, id| raw::lazydfa_raw_add_range(builder, start, end, next.0, id))
+    }
+
+    /// Adds a state that reads a byte of several ranges, which are in order and do not overlap.
+    pub fn add_sparse(&mut self, ranges: Vec<Transition>) -> Result<StateID, BuildError> {
+        let edge = |it: &Transition| raw::Edge { lo: it.start, hi: it.end, reserved: 0, next: it.next.0 };
+        let edges: Vec<raw::Edge> = ranges.iter().map(edge).collect();
+        self.add(|builder, id| raw::add_sparse(builder, &edges, id))
+    }
+
+    /// Adds a state that is passed only where an assertion holds.
+    pub fn add_look(&mut self, next: StateID, look: Look) -> Result<StateID, BuildError> {
+        self.add(|builder, id| raw::lazydfa_raw_add_look(builder, next.0, look as u32, id))
+    }
+
+    /// Adds a state that leads to several states, of which the first is preferred.
+    pub fn add_union(&mut self, alternates: Vec<StateID>) -> Result<StateID, BuildError> {
+        let ids: Vec<u32> = alternates.iter().map(|id| id.0).collect();
+        self.add(|builder, id| raw::add_union(builder, &ids, id))
+    }
+
+    /// Adds a state that leads to several states, of which the last is preferred.
+    pub fn add_union_reverse(&mut self, alternates: Vec<StateID>) -> Result<StateID, BuildError> {
+        let ids: Vec<u32> = alternates.iter().map(|id| id.0).collect();
+        self.add(|builder, id| raw::add_union_reverse(builder, &ids, id))
+    }
+
+    /// Adds a state where a group of the pattern begins. Searches report no groups.
+    pub fn add_capture_start(&mut self, next: StateID, group_index: u32) -> Result<StateID, BuildError> {
+        self.add(|builder, id| raw::lazydfa_raw_add_capture_start(builder, next.0, group_index, id))
+    }
+
+    /// Adds a state where a group of the pattern ends.
+    pub fn add_capture_end(&mut self, next: StateID, group_index: u32) -> Result<StateID, BuildError> {
+        self.add(|builder, id| raw::lazydfa_raw_add_capture_end(builder, next.0, group_index, id))
+    }
+
+    /// Adds a state from which nothing matches.
+    pub fn add_fail(&mut self) -> Result<StateID, BuildError> {
+        self.add(|builder, id| raw::lazydfa_raw_add_fail(builder, id))
+    }
+
+    /// Adds a match state of the pattern that was started.
+    pub fn add_match(&mut self) -> Result<StateID, BuildError> {
+        self.add(|builder, id| raw::lazydfa_raw_add_match(builder, id))
+    }
+
+    /// Adds states that skip as few bytes as can be before a start, and returns the unanchored start.
+    pub fn add_unanchored_prefix(&mut self, start: StateID) -> Result<StateID, BuildError> {
+        let prefix = self.add(|builder, id| raw::lazydfa_raw_add_unanchored_prefix(builder, start.0, id))?;
+        self.states += 1; // the prefix is two states
+        Ok(prefix)
+    }
+
+    /// Lets a state lead to another one: a union gets one more alternate, any other state is moved.
+    pub fn patch(&mut self, from: StateID, to: StateID) -> Result<(), BuildError> {
+        raw::lazydfa_raw_patch(&mut self.handle, from.0, to.0).built()
+    }
+
+    /// Sets UTF-8 mode, in which no match splits an encoded character.
+    pub fn set_utf8(&mut self, yes: bool) {
+        raw::lazydfa_raw_set_utf8(&mut self.handle, yes.into());
+    }
+
+    /// Says that the NFA reads its haystack backward.
+    pub fn set_reverse(&mut self, yes: bool) {
+        raw::lazydfa_raw_set_reverse(&mut self.handle, yes.into());
+    }
+
+    /// Sets the byte that ends lines.
+    pub fn set_line_terminator(&mut self, byte: u8) {
+        raw::lazydfa_raw_set_line_terminator(&mut self.handle, byte);
+    }
+
+    /// The NFA of the states that were added. If both starts are one state, every search is anchored.
+    ///
+    /// Whether the states make an NFA is tested when a DFA or a regex is built from it.
+    pub fn build(self, start_anchored: StateID, start_unanchored: StateID) -> NFA {
+        let starts = raw::Starts { anchored: start_anchored.0, unanchored: start_unanchored.0 };
+        let Builder { handle, states, patterns } = self;
+        NFA { states: Arc::new(Mutex::new(handle)), starts, state_len: states, pattern_len: patterns }
+    }
+}
+
+impl fmt::Debug for Builder {
+    fn fmt(&self, f: &mut fmt::Formatter<'_>) -> fmt::Result {
+        let mut shown = f.debug_struct("Builder");
+        shown.field("states", &self.states).field("patterns", &self.patterns).finish_non_exhaustive()
+    }
+}
+
+/// An NFA, of which DFAs and regexes are built. A clone shares its states.
+#[derive(Clone)]
+pub struct NFA {
+    states: Arc<Mutex<Handle>>,
+    starts: raw::Starts,
+    state_len: usize,
+    pattern_len: usize,
+}
+
+impl NFA {
+    /// How many patterns were finished.
+    pub fn pattern_len(&self) -> usize {
+        self.pattern_len
+    }
+
+    /// Opens a handle on the regex of this NFA.
+    pub(crate) fn open(
+        &self,
+        regex: &mut Handle,
+        settings: &raw::Settings,
+        quits: &[u8],
+    ) -> Result<(), BuildError> {
+        raw::regex_build(regex, &mut lock(self), &self.starts, settings, quits).built()
+    }
+
+    /// Opens a handle on the regex of this NFA and of one that reads backward.
+    pub(crate) fn open_pair(
+        &self,
+        reverse: &NFA,
+        regex: &mut Handle,
+        settings: &raw::Settings,
+        quits: &[u8],
+    ) -> Result<(), BuildError> {
+        if Arc::ptr_eq(&self.states, &reverse.states) {
+            return Err(BuildErrorKind::Argument.into());
+        }
+        // In one order on every thread, so that no two threads wait for each other.
+        let (mut front, mut back);
+        if Arc::as_ptr(&self.states) < Arc::as_ptr(&reverse.states) {
+            front = lock(self);
+            back = lock(reverse);
+        } else {
+            back = lock(reverse);
+            front = lock(self);
+        }
+        let (front, back) = ((&mut *front, &self.starts), (&mut *back, &reverse.starts));
+        raw::regex_build_pair(regex, front, back, settings, quits).built()
+    }
+}
+
+/// The handle of an NFA's states. No call panics while it has the lock, so a poisoned one is as good.
+fn lock(nfa: &NFA) -> MutexGuard<'_, Handle> {
+    nfa.states.lock().unwrap_or_else(PoisonError::into_inner)
+}
+
+impl fmt::Debug for NFA {
+    fn fmt(&self, f: &mut fmt::Formatter<'_>) -> fmt::Result {
+        let mut shown = f.debug_struct("NFA");
+        shown.field("states", &self.state_len).field("patterns", &self.pattern_len);
+        shown.finish_non_exhaustive()
+    }
+}

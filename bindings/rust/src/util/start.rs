@@ -1,0 +1,44 @@
+//! What a search starts from, if there is no input.
+use crate::Anchored;
+
+/// The byte before the first piece of a haystack, if there is one, and the anchored mode.
+#[derive(Clone, Copy, Debug)]
+pub struct Config {
+    look_behind: Option<u8>,
+    anchored: Anchored,
+}
+
+impl Default for Config {
+    fn default() -> Config {
+        Config { look_behind: None, anchored: Anchored::No }
+    }
+}
+
+impl Config {
+    /// No byte before, and not anchored.
+    pub fn new() -> Config {
+        Config::default()
+    }
+
+    /// Sets the byte before the first piece, which assertions as `^` and `\b` see.
+    pub fn look_behind(mut self, byte: Option<u8>) -> Config {
+        self.look_behind = byte;
+        self
+    }
+
+    /// Sets the anchored mode.
+    pub fn anchored(mut self, mode: Anchored) -> Config {
+        self.anchored = mode;
+        self
+    }
+
+    /// The byte before the first piece, if there is one.
+    pub fn get_look_behind(&self) -> Option<u8> {
+        self.look_behind
+    }
+
+    /// The anchored mode.
+    pub fn get_anchored(&self) -> Anchored {
+        self.anchored
+    }
+}
