@@ -1,0 +1,102 @@
+\echo Use "CREATE EXTENSION lazydfa" to load this file. \quit
+
+-- What the planner asks. A search of a line of a log takes some five times what an operator on numbers does.
+
+CREATE FUNCTION lazydfa_support(internal) RETURNS internal
+    AS 'MODULE_PATHNAME', 'lazydfa_pg_support' LANGUAGE C STRICT;
+CREATE FUNCTION lazydfa_notsel(internal, oid, internal, int) RETURNS float8
+    AS 'MODULE_PATHNAME', 'lazydfa_pg_notsel' LANGUAGE C STABLE STRICT PARALLEL SAFE;
+CREATE FUNCTION lazydfa_notjoinsel(internal, oid, internal, smallint, internal) RETURNS float8
+    AS 'MODULE_PATHNAME', 'lazydfa_pg_notjoinsel' LANGUAGE C STABLE STRICT PARALLEL SAFE;
+
+-- Whether a text has a match of a pattern, or none; with letters in either case.
+
+CREATE FUNCTION lazydfa_match(string text, pattern text) RETURNS bool
+    AS 'MODULE_PATHNAME', 'lazydfa_pg_match' LANGUAGE C IMMUTABLE STRICT PARALLEL SAFE COST 5 SUPPORT lazydfa_support;
+CREATE FUNCTION lazydfa_match_not(string text, pattern text) RETURNS bool
+    AS 'MODULE_PATHNAME', 'lazydfa_pg_match_not' LANGUAGE C IMMUTABLE STRICT PARALLEL SAFE COST 5;
+CREATE FUNCTION lazydfa_imatch(string text, pattern text) RETURNS bool
+    AS 'MODULE_PATHNAME', 'lazydfa_pg_imatch' LANGUAGE C IMMUTABLE STRICT PARALLEL SAFE COST 5;
+CREATE FUNCTION lazydfa_imatch_not(string text, pattern text) RETURNS bool
+    AS 'MODULE_PATHNAME', 'lazydfa_pg_imatch_not' LANGUAGE C IMMUTABLE STRICT PARALLEL SAFE COST 5;
+
+-- Whether any of the patterns of an array has a match, or none of them.
+
+CREATE FUNCTION lazydfa_match_any(string text, patterns text[]) RETURNS bool
+    AS 'MODULE_PATHNAME', 'lazydfa_pg_match_any' LANGUAGE C IMMUTABLE STRICT PARALLEL SAFE COST 5;
+CREATE FUNCTION lazydfa_match_none(string text, patterns text[]) RETURNS bool
+    AS 'MODULE_PATHNAME', 'lazydfa_pg_match_any_not' LANGUAGE C IMMUTABLE STRICT PARALLEL SAFE COST 5;
+
+-- The same of bytes.
+
+CREATE FUNCTION lazydfa_match(bytes bytea, pattern text) RETURNS bool
+    AS 'MODULE_PATHNAME', 'lazydfa_pg_match_bytes' LANGUAGE C IMMUTABLE STRICT PARALLEL SAFE COST 5;
+CREATE FUNCTION lazydfa_match_not(bytes bytea, pattern text) RETURNS bool
+    AS 'MODULE_PATHNAME', 'lazydfa_pg_match_bytes_not' LANGUAGE C IMMUTABLE STRICT PARALLEL SAFE COST 5;
+CREATE FUNCTION lazydfa_imatch(bytes bytea, pattern text) RETURNS bool
+    AS 'MODULE_PATHNAME', 'lazydfa_pg_imatch_bytes' LANGUAGE C IMMUTABLE STRICT PARALLEL SAFE COST 5;
+CREATE FUNCTION lazydfa_imatch_not(bytes bytea, pattern text) RETURNS bool
+    AS 'MODULE_PATHNAME', 'lazydfa_pg_imatch_bytes_not' LANGUAGE C IMMUTABLE STRICT PARALLEL SAFE COST 5;
+CREATE FUNCTION lazydfa_match_any(bytes bytea, patterns text[]) RETURNS bool
+    AS 'MODULE_PATHNAME', 'lazydfa_pg_match_any_bytes' LANGUAGE C IMMUTABLE STRICT PARALLEL SAFE COST 5;
+CREATE FUNCTION lazydfa_match_none(bytes bytea, patterns text[]) RETURNS bool
+    AS 'MODULE_PATHNAME', 'lazydfa_pg_match_any_bytes_not' LANGUAGE C IMMUTABLE STRICT PARALLEL SAFE COST 5;
+
+-- Which of the patterns have a match, by their places in the array, from 1.
+
+CREATE FUNCTION lazydfa_which(string text, patterns text[]) RETURNS int[]
+    AS 'MODULE_PATHNAME', 'lazydfa_pg_which' LANGUAGE C IMMUTABLE STRICT PARALLEL SAFE COST 10;
+
+-- The first match: the place of its first character, from 1, and the place after its last; null if there is none.
+
+CREATE FUNCTION lazydfa_find(string text, pattern text, OUT start_at int, OUT end_at int)
+    AS 'MODULE_PATHNAME', 'lazydfa_pg_find' LANGUAGE C IMMUTABLE STRICT PARALLEL SAFE COST 10;
+CREATE FUNCTION lazydfa_substr(string text, pattern text) RETURNS text
+    AS 'MODULE_PATHNAME', 'lazydfa_pg_substr' LANGUAGE C IMMUTABLE STRICT PARALLEL SAFE COST 10;
+
+-- All matches that do not overlap: their texts, their number, and the text with each of them replaced.
+
+CREATE FUNCTION lazydfa_matches(string text, pattern text) RETURNS SETOF text
+    AS 'MODULE_PATHNAME', 'lazydfa_pg_matches' LANGUAGE C IMMUTABLE STRICT PARALLEL SAFE COST 10 ROWS 10;
+CREATE FUNCTION lazydfa_count(string text, pattern text) RETURNS bigint
+    AS 'MODULE_PATHNAME', 'lazydfa_pg_count' LANGUAGE C IMMUTABLE STRICT PARALLEL SAFE COST 20;
+CREATE FUNCTION lazydfa_replace(string text, pattern text, replacement text) RETURNS text
+    AS 'MODULE_PATHNAME', 'lazydfa_pg_replace' LANGUAGE C IMMUTABLE STRICT PARALLEL SAFE COST 20;
+
+-- The tokens of a text: each is the match of a pattern, by its place in the array, and begins where the last one ended.
+
+CREATE FUNCTION lazydfa_tokens(string text, patterns text[], OUT pattern int, OUT token text)
+    RETURNS SETOF record
+    AS 'MODULE_PATHNAME', 'lazydfa_pg_tokens' LANGUAGE C IMMUTABLE STRICT PARALLEL SAFE COST 10 ROWS 10;
+
+-- Of this backend: how many patterns it keeps, the bytes that their caches account for, how often these were cleared,
+-- and how many patterns were compiled.
+
+CREATE FUNCTION lazydfa_stats(OUT patterns bigint, OUT memory bigint, OUT clears bigint, OUT compiled bigint)
+    AS 'MODULE_PATHNAME', 'lazydfa_pg_stats' LANGUAGE C VOLATILE STRICT PARALLEL RESTRICTED;
+
+CREATE OPERATOR =~ (FUNCTION = lazydfa_match, LEFTARG = text, RIGHTARG = text, NEGATOR = !=~,
+    RESTRICT = matchingsel, JOIN = matchingjoinsel);
+CREATE OPERATOR !=~ (FUNCTION = lazydfa_match_not, LEFTARG = text, RIGHTARG = text, NEGATOR = =~,
+    RESTRICT = lazydfa_notsel, JOIN = lazydfa_notjoinsel);
+CREATE OPERATOR =~* (FUNCTION = lazydfa_imatch, LEFTARG = text, RIGHTARG = text, NEGATOR = !=~*,
+    RESTRICT = matchingsel, JOIN = matchingjoinsel);
+CREATE OPERATOR !=~* (FUNCTION = lazydfa_imatch_not, LEFTARG = text, RIGHTARG = text, NEGATOR = =~*,
+    RESTRICT = lazydfa_notsel, JOIN = lazydfa_notjoinsel);
+CREATE OPERATOR =~| (FUNCTION = lazydfa_match_any, LEFTARG = text, RIGHTARG = text[], NEGATOR = !=~|,
+    RESTRICT = matchingsel, JOIN = matchingjoinsel);
+CREATE OPERATOR !=~| (FUNCTION = lazydfa_match_none, LEFTARG = text, RIGHTARG = text[], NEGATOR = =~|,
+    RESTRICT = lazydfa_notsel, JOIN = lazydfa_notjoinsel);
+
+CREATE OPERATOR =~ (FUNCTION = lazydfa_match, LEFTARG = bytea, RIGHTARG = text, NEGATOR = !=~,
+    RESTRICT = matchingsel, JOIN = matchingjoinsel);
+CREATE OPERATOR !=~ (FUNCTION = lazydfa_match_not, LEFTARG = bytea, RIGHTARG = text, NEGATOR = =~,
+    RESTRICT = lazydfa_notsel, JOIN = lazydfa_notjoinsel);
+CREATE OPERATOR =~* (FUNCTION = lazydfa_imatch, LEFTARG = bytea, RIGHTARG = text, NEGATOR = !=~*,
+    RESTRICT = matchingsel, JOIN = matchingjoinsel);
+CREATE OPERATOR !=~* (FUNCTION = lazydfa_imatch_not, LEFTARG = bytea, RIGHTARG = text, NEGATOR = =~*,
+    RESTRICT = lazydfa_notsel, JOIN = lazydfa_notjoinsel);
+CREATE OPERATOR =~| (FUNCTION = lazydfa_match_any, LEFTARG = bytea, RIGHTARG = text[], NEGATOR = !=~|,
+    RESTRICT = matchingsel, JOIN = matchingjoinsel);
+CREATE OPERATOR !=~| (FUNCTION = lazydfa_match_none, LEFTARG = bytea, RIGHTARG = text[], NEGATOR = =~|,
+    RESTRICT = lazydfa_notsel, JOIN = lazydfa_notjoinsel);

@@ -1,0 +1,196 @@
+/* The functions of the extension. Each compiles the patterns of its argument 1, or has them compiled already, and
+   searches the value of its argument 0. */
+#include "search.h"
+
+#include "catalog/pg_type_d.h"
+#include "funcapi.h"
+#include "lib/stringinfo.h"
+#include "mb/pg_wchar.h"
+#include "utils/array.h"
+#include "utils/builtins.h"
+
+PG_MODULE_MAGIC;
+
+void _PG_init(void);
+
+void _PG_init(void) { kept_define_settings(); }
+
+/* The value of argument 0, to be searched for the patterns of argument 1. */
+static Value value_of(FunctionCallInfo fcinfo, uint32 flags) {
+    Value value;
+    if (!fcinfo->flinfo->fn_extra)
+        fcinfo->flinfo->fn_extra = MemoryContextAllocZero(fcinfo->flinfo->fn_mcxt, sizeof(Site));
+    value.kept = kept_of_call(fcinfo, fcinfo->flinfo->fn_extra, flags);
+    begin_value(&value, PG_GETARG_VARLENA_PP(0));
+    return value;
+}
+
+static bool is_match(FunctionCallInfo fcinfo, uint32 flags) {
+    Value value = value_of(fcinfo, flags);
+    return has_match(&value);
+}
+
+/* The bytes of a match, as a text. */
+static Datum text_of(const Value *value, lazydfa_match match) {
+    const char *at = (const char *)value->bytes + match.start;
+    return PointerGetDatum(cstring_to_text_with_len(at, match.end - match.start));
+}
+
+/* The type of the rows that a function returns. */
+static TupleDesc row_of(FunctionCallInfo fcinfo) {
+    TupleDesc row;
+    if (get_call_result_type(fcinfo, NULL, &row) != TYPEFUNC_COMPOSITE) elog(ERROR, "return type must be a row type");
+    return BlessTupleDesc(row);
+}
+
+/* A function that returns whether there is a match, and one that returns whether there is none. */
+#define MATCH(name, flags)                                                     \
+    PG_FUNCTION_INFO_V1(name);                                                 \
+    Datum name(PG_FUNCTION_ARGS) { PG_RETURN_BOOL(is_match(fcinfo, flags)); } \
+    PG_FUNCTION_INFO_V1(name##_not);                                           \
+    Datum name##_not(PG_FUNCTION_ARGS) { PG_RETURN_BOOL(!is_match(fcinfo, flags)); }
+
+MATCH(lazydfa_pg_match, 0)
+MATCH(lazydfa_pg_imatch, FOLDS_CASE)
+MATCH(lazydfa_pg_match_any, IS_LIST | FINDS_ALL)
+MATCH(lazydfa_pg_match_bytes, READS_BYTES)
+MATCH(lazydfa_pg_imatch_bytes, FOLDS_CASE | READS_BYTES)
+MATCH(lazydfa_pg_match_any_bytes, IS_LIST | FINDS_ALL | READS_BYTES)
+
+PG_FUNCTION_INFO_V1(lazydfa_pg_find);
+
+/* Where the first match begins and ends, in characters. */
+Datum lazydfa_pg_find(PG_FUNCTION_ARGS) {
+    Value value = value_of(fcinfo, 0);
+    const char *bytes = (const char *)value.bytes;
+    bool nulls[2] = {false, false};
+    lazydfa_match match;
+    Datum places[2];
+    int before;
+    if (!find_next(&value, &match)) PG_RETURN_NULL();
+    before = pg_mbstrlen_with_len(bytes, match.start);
+    places[0] = Int32GetDatum(before + 1);
+    places[1] = Int32GetDatum(before + 1 + pg_mbstrlen_with_len(bytes + match.start, match.end - match.start));
+    PG_RETURN_DATUM(HeapTupleGetDatum(heap_form_tuple(row_of(fcinfo), places, nulls)));
+}
+
+PG_FUNCTION_INFO_V1(lazydfa_pg_substr);
+
+Datum lazydfa_pg_substr(PG_FUNCTION_ARGS) {
+    Value value = value_of(fcinfo, 0);
+    lazydfa_match match;
+    if (!find_next(&value, &match)) PG_RETURN_NULL();
+    PG_RETURN_DATUM(text_of(&value, match));
+}
+
+PG_FUNCTION_INFO_V1(lazydfa_pg_count);
+
+Datum lazydfa_pg_count(PG_FUNCTION_ARGS) {
+    Value value = value_of(fcinfo, 0);
+    lazydfa_match match;
+    int64 count = 0;
+    while (find_next(&value, &match)) count++;
+    PG_RETURN_INT64(count);
+}
+
+PG_FUNCTION_INFO_V1(lazydfa_pg_replace);
+
+Datum lazydfa_pg_replace(PG_FUNCTION_ARGS) {
+    Value value = value_of(fcinfo, 0);
+    text *by = PG_GETARG_TEXT_PP(2);
+    const char *bytes = (const char *)value.bytes;
+    size_t copied = 0;
+    StringInfoData out;
+    lazydfa_match match;
+    initStringInfo(&out);
+    while (find_next(&value, &match)) {
+        appendBinaryStringInfo(&out, bytes + copied, match.start - copied);
+        appendBinaryStringInfo(&out, VARDATA_ANY(by), VARSIZE_ANY_EXHDR(by));
+        copied = match.end;
+    }
+    appendBinaryStringInfo(&out, bytes + copied, value.length - copied);
+    PG_RETURN_TEXT_P(cstring_to_text_with_len(out.data, out.len));
+}
+
+/* What a function that returns a row a call has from call to call. */
+typedef struct {
+    Value value;
+    Site site;
+} Walk;
+
+/* The walk of a function, which its first call begins over a copy of the value. Between calls other patterns may be
+   compiled, and these freed, so each call looks for them. */
+static Walk *walk_of(FunctionCallInfo fcinfo, FuncCallContext *context, uint32 flags) {
+    Walk *walk = context->user_fctx;
+    if (!walk) {
+        MemoryContext before = MemoryContextSwitchTo(context->multi_call_memory_ctx);
+        context->user_fctx = walk = palloc0(sizeof *walk);
+        begin_value(&walk->value, PG_GETARG_TEXT_P_COPY(0));
+        MemoryContextSwitchTo(before);
+    }
+    walk->value.kept = kept_of_call(fcinfo, &walk->site, flags);
+    return walk;
+}
+
+PG_FUNCTION_INFO_V1(lazydfa_pg_matches);
+
+Datum lazydfa_pg_matches(PG_FUNCTION_ARGS) {
+    FuncCallContext *context;
+    Walk *walk;
+    lazydfa_match match;
+    if (SRF_IS_FIRSTCALL()) SRF_FIRSTCALL_INIT();
+    context = SRF_PERCALL_SETUP();
+    walk = walk_of(fcinfo, context, 0);
+    if (!find_next(&walk->value, &match)) SRF_RETURN_DONE(context);
+    SRF_RETURN_NEXT(context, text_of(&walk->value, match));
+}
+
+PG_FUNCTION_INFO_V1(lazydfa_pg_tokens);
+
+/* The tokens of a text, one after another, each with the pattern that it is of. */
+Datum lazydfa_pg_tokens(PG_FUNCTION_ARGS) {
+    FuncCallContext *context;
+    bool nulls[2] = {false, false};
+    lazydfa_status status;
+    Datum columns[2];
+    lazydfa_match token;
+    Walk *walk;
+    if (SRF_IS_FIRSTCALL()) SRF_FIRSTCALL_INIT();
+    context = SRF_PERCALL_SETUP();
+    walk = walk_of(fcinfo, context, IS_LIST);
+    status = find_token(&walk->value, &token);
+    if (status.code == LAZYDFA_NONE) SRF_RETURN_DONE(context);
+    if (status.code == LAZYDFA_NO_TOKEN)
+        ereport(ERROR, errcode(ERRCODE_DATA_EXCEPTION),
+                errmsg("no token begins at character %d of the text",
+                       pg_mbstrlen_with_len((const char *)walk->value.bytes, status.offset) + 1));
+    columns[0] = Int32GetDatum((int32)token.pattern + 1);
+    columns[1] = text_of(&walk->value, token);
+    SRF_RETURN_NEXT(context, HeapTupleGetDatum(heap_form_tuple(row_of(fcinfo), columns, nulls)));
+}
+
+PG_FUNCTION_INFO_V1(lazydfa_pg_which);
+
+/* The places in the array, from 1, of the patterns that match. */
+Datum lazydfa_pg_which(PG_FUNCTION_ARGS) {
+    Value value = value_of(fcinfo, IS_LIST | FINDS_ALL);
+    size_t room = Max(value.kept->count, 1), count;
+    uint32_t *patterns = palloc(room * sizeof *patterns);
+    Datum *places = palloc(room * sizeof *places);
+    count = find_all(&value, patterns);
+    for (size_t i = 0; i < count; i++) places[i] = Int32GetDatum((int32)patterns[i] + 1);
+    PG_RETURN_ARRAYTYPE_P(construct_array(places, (int)count, INT4OID, sizeof(int32), true, TYPALIGN_INT));
+}
+
+PG_FUNCTION_INFO_V1(lazydfa_pg_stats);
+
+Datum lazydfa_pg_stats(PG_FUNCTION_ARGS) {
+    KeptStats stats = kept_stats();
+    bool nulls[4] = {false, false, false, false};
+    Datum columns[4];
+    columns[0] = Int64GetDatum(stats.patterns);
+    columns[1] = Int64GetDatum(stats.memory);
+    columns[2] = Int64GetDatum(stats.clears);
+    columns[3] = Int64GetDatum(stats.compiled);
+    PG_RETURN_DATUM(HeapTupleGetDatum(heap_form_tuple(row_of(fcinfo), columns, nulls)));
+}

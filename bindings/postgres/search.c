@@ -1,0 +1,221 @@
+/* Searches values: a short one by one call of the library, and one that is longer than Kept.piece in pieces, between
+   which a query can be cancelled. Such an error leaves a search in the cache, which the next one replaces. */
+#include "search.h"
+
+#include "miscadmin.h"
+
+static const lazydfa_status none = {LAZYDFA_NONE, 0, 0};
+
+void begin_value(Value *value, struct varlena *it) {
+    value->bytes = (const uint8_t *)VARDATA_ANY(it);
+    value->length = VARSIZE_ANY_EXHDR(it);
+    value->tokens = lazydfa_whole(value->length);
+    value->matches = lazydfa_iterate(value->tokens);
+}
+
+/* Whether what is left from an offset on is searched in pieces. */
+static bool is_long(const Value *value, size_t from) { return value->length - from > value->kept->piece; }
+
+/* How much of a value is read next. */
+static size_t piece_at(const Value *value, size_t at) { return Min(value->kept->piece, value->length - at); }
+
+/* Whether a match that ends here is none, since it is empty and inside a character. */
+static bool is_skipped(const Value *value, size_t at) {
+    return value->kept->skips && at < value->length && (value->bytes[at] & 0xC0) == 0x80;
+}
+
+/* What lazydfa_find_end finds, in pieces. */
+static lazydfa_status end_in_pieces(Value *value, const lazydfa_input *left, lazydfa_half *end) {
+    lazydfa_cache *cache = &value->kept->cache;
+    int32_t behind = left->start > 0 ? value->bytes[left->start - 1] : -1;
+    lazydfa_status status = lazydfa_pieces_begin(cache, left->anchored, 0, behind, left->earliest);
+    uint32_t done = 0;
+    for (size_t at = left->start; status.code == LAZYDFA_OK && !done && at < left->end; at += piece_at(value, at)) {
+        CHECK_FOR_INTERRUPTS();
+        status = lazydfa_pieces_read(cache, value->bytes + at, piece_at(value, at), &done);
+    }
+    if (status.code == LAZYDFA_OK) status = lazydfa_pieces_end(cache, -1, end);
+    if (status.code == LAZYDFA_OK) end->offset += left->start;
+    else status.offset += left->start;
+    return status;
+}
+
+/* Where the first match of what is left ends. After a match that is skipped what is left begins behind it: no other
+   match begins before it, and none that begins inside the character is longer. */
+static lazydfa_status find_end(Value *value, lazydfa_input *left, lazydfa_half *end) {
+    while (left->start <= left->end) {
+        lazydfa_status status;
+        CHECK_FOR_INTERRUPTS();
+        if (is_long(value, left->start)) status = end_in_pieces(value, left, end);
+        else status = lazydfa_find_end(&value->kept->cache, value->bytes, value->length, left, end);
+        if (status.code != LAZYDFA_OK || !is_skipped(value, end->offset)) return status;
+        left->start = end->offset + 1;
+    }
+    return none;
+}
+
+/* What lazydfa_find_start finds, in pieces, which are short at first, since a match that is short ends the search. */
+static lazydfa_status start_in_pieces(Value *value, const lazydfa_input *left, lazydfa_half *start) {
+    lazydfa_cache *cache = kept_backward(value->kept);
+    int32_t behind = left->end < value->length ? value->bytes[left->end] : -1;
+    int32_t ahead = left->start > 0 ? value->bytes[left->start - 1] : -1;
+    lazydfa_status status = lazydfa_pieces_begin(cache, LAZYDFA_ANCHORED_YES, 0, behind, 0);
+    uint8_t *piece = palloc(Min(value->kept->piece, left->end - left->start));
+    size_t length = 32;
+    uint32_t done = 0;
+    for (size_t at = left->end; status.code == LAZYDFA_OK && !done && at > left->start; at -= length) {
+        CHECK_FOR_INTERRUPTS();
+        length = Min(Min(2 * length, value->kept->piece), at - left->start);
+        for (size_t i = 0; i < length; i++) piece[i] = value->bytes[at - 1 - i];
+        status = lazydfa_pieces_read(cache, piece, length, &done);
+    }
+    pfree(piece);
+    if (status.code == LAZYDFA_OK) status = lazydfa_pieces_end(cache, ahead, start);
+    if (status.code == LAZYDFA_OK) start->offset = left->end - start->offset;
+    return status;
+}
+
+/* Where the longest match begins that ends where what is left does. */
+static lazydfa_status find_start(Value *value, const lazydfa_input *left, lazydfa_half *start) {
+    if (left->end - left->start > value->kept->piece) return start_in_pieces(value, left, start);
+    return lazydfa_find_start(&value->kept->cache, value->bytes, value->length, left, start);
+}
+
+/* The first match from an offset on: its end, and by a search back from there its start. */
+static lazydfa_status find_from(Value *value, size_t from, lazydfa_match *match) {
+    lazydfa_input left = {from, value->length, LAZYDFA_UNANCHORED, 0, 0, 0};
+    lazydfa_half end, start;
+    lazydfa_status status = find_end(value, &left, &end);
+    if (status.code != LAZYDFA_OK) return status;
+    match->start = match->end = end.offset;
+    match->pattern = end.pattern;
+    if (end.offset == left.start) return status; /* it is empty */
+    left.end = end.offset;
+    left.anchored = LAZYDFA_ANCHORED_YES;
+    status = find_start(value, &left, &start);
+    if (status.code == LAZYDFA_OK) match->start = start.offset;
+    if (status.code == LAZYDFA_NONE) status.code = LAZYDFA_NOT_A_PAIR;
+    return status;
+}
+
+/* What lazydfa_next finds, where it is not enough. */
+static lazydfa_status next_by_parts(Value *value, lazydfa_match *match) {
+    lazydfa_iteration *at = &value->matches;
+    lazydfa_status status = at->ended ? none : find_from(value, at->left.start, match);
+    if (status.code == LAZYDFA_OK && at->has_last && match->start == match->end && match->end == at->last)
+        status = find_from(value, at->last + 1, match);
+    if (status.code == LAZYDFA_OK) {
+        at->has_last = 1;
+        at->left.start = at->last = match->end;
+    } else {
+        at->ended = 1;
+    }
+    return status;
+}
+
+/* What lazydfa_token finds, in pieces. */
+static lazydfa_status token_in_pieces(Value *value, lazydfa_match *token) {
+    lazydfa_input left = value->tokens;
+    lazydfa_half end;
+    lazydfa_status status;
+    left.anchored = LAZYDFA_ANCHORED_YES;
+    status = end_in_pieces(value, &left, &end);
+    if (status.code == LAZYDFA_NONE || (status.code == LAZYDFA_OK && end.offset == left.start))
+        status = (lazydfa_status){LAZYDFA_NO_TOKEN, 0, left.start};
+    if (status.code != LAZYDFA_OK) return status;
+    token->start = left.start;
+    token->end = value->tokens.start = end.offset;
+    token->pattern = end.pattern;
+    return status;
+}
+
+/* Marks patterns that match where a walk stands, and counts them, up to so many. */
+static void mark(Value *value, const lazydfa_stop *stop, size_t most, bool *found, size_t *count) {
+    if (stop->patterns > 0 && is_skipped(value, stop->offset)) return;
+    for (size_t i = 0; i < stop->patterns && *count < most; i++) {
+        uint32_t pattern;
+        if (lazydfa_walk_pattern(&value->kept->cache, i, &pattern).code != LAZYDFA_OK) return;
+        *count += !found[pattern];
+        found[pattern] = true;
+    }
+}
+
+/* What lazydfa_which finds, in pieces, up to so many patterns: those that are met first. */
+static lazydfa_status walk(Value *value, size_t most, uint32_t *patterns, size_t *count) {
+    lazydfa_cache *cache = &value->kept->cache;
+    bool *found = palloc0(Max(value->kept->count, 1));
+    lazydfa_stop stop;
+    lazydfa_status status = lazydfa_walk_begin(cache, LAZYDFA_UNANCHORED, 0, -1);
+    *count = 0;
+    for (size_t at = 0; status.code <= LAZYDFA_NONE && *count < most && at < value->length; at += stop.read) {
+        CHECK_FOR_INTERRUPTS();
+        status = lazydfa_walk_read(cache, value->bytes + at, piece_at(value, at), &stop);
+        mark(value, &stop, most, found, count);
+    }
+    if (status.code <= LAZYDFA_NONE && *count < most) {
+        status = lazydfa_walk_end(cache, -1, &stop);
+        mark(value, &stop, most, found, count);
+    }
+    for (size_t i = 0, listed = 0; listed < *count; i++)
+        if (found[i]) patterns[listed++] = i;
+    pfree(found);
+    if (status.code <= LAZYDFA_NONE) status.code = *count > 0 ? LAZYDFA_OK : LAZYDFA_NONE;
+    return status;
+}
+
+/* Ends a search: what it has added to the cache is counted, and an error is reported. */
+static void end_search(Value *value, lazydfa_status status) {
+    kept_count(value->kept);
+    if (status.code != LAZYDFA_OK && status.code != LAZYDFA_NONE && status.code != LAZYDFA_NO_TOKEN) kept_fail(status);
+}
+
+/* Whether a search of what is left from an offset on takes more than one call of the library. */
+static bool has_parts(const Value *value, size_t from) { return value->kept->skips || is_long(value, from); }
+
+bool has_match(Value *value) {
+    Kept *kept = value->kept;
+    lazydfa_input whole = lazydfa_whole(value->length);
+    lazydfa_status status;
+    lazydfa_half end;
+    uint32_t pattern;
+    size_t count;
+    CHECK_FOR_INTERRUPTS();
+    whole.earliest = !kept->skips; /* a match that is skipped may end before one that is not */
+    if (!has_parts(value, 0)) status = lazydfa_is_match(&kept->cache, value->bytes, value->length, &whole);
+    else if (kept->skips && kept->flags & FINDS_ALL) status = walk(value, 1, &pattern, &count);
+    else status = find_end(value, &whole, &end);
+    end_search(value, status);
+    return status.code == LAZYDFA_OK;
+}
+
+bool find_next(Value *value, lazydfa_match *match) {
+    lazydfa_status status;
+    CHECK_FOR_INTERRUPTS();
+    if (has_parts(value, value->matches.left.start)) status = next_by_parts(value, match);
+    else status = lazydfa_next(&value->kept->cache, value->bytes, value->length, &value->matches, match);
+    end_search(value, status);
+    return status.code == LAZYDFA_OK;
+}
+
+lazydfa_status find_token(Value *value, lazydfa_match *token) {
+    lazydfa_status status;
+    CHECK_FOR_INTERRUPTS();
+    if (is_long(value, value->tokens.start)) status = token_in_pieces(value, token);
+    else status = lazydfa_token(&value->kept->cache, value->bytes, value->length, &value->tokens, token);
+    end_search(value, status);
+    return status;
+}
+
+size_t find_all(Value *value, uint32_t *patterns) {
+    Kept *kept = value->kept;
+    lazydfa_input whole = lazydfa_whole(value->length);
+    lazydfa_status status;
+    size_t count;
+    CHECK_FOR_INTERRUPTS();
+    if (has_parts(value, 0)) status = walk(value, kept->count, patterns, &count);
+    else
+        status = lazydfa_which(&kept->cache, value->bytes, value->length, &whole, kept->count, patterns, kept->count,
+                               &count);
+    end_search(value, status);
+    return count;
+}

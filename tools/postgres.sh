@@ -1,0 +1,289 @@
+#!/bin/sh
+# Builds the extension for PostgreSQL, over the library for C that stands built in bindings/c, and tests it on a server
+# of its own, in a folder of its own, over a socket there:
+#     tools/postgres.sh ['N passed, M failed']
+# The expected answers of `make installcheck`; random patterns beside `~` (tools/postgres/agree.py), and in pieces
+# (tools/postgres/pieces.py); parallel workers; two backends at once; a query that is cancelled, one that takes too
+# long, a backend that is ended, and one that is killed in a search; each search of a long text, cancelled and out of
+# time; a backend without memory; and databases of other encodings.
+#
+# The last line counts these too, beside what the given line counts. It needs a PostgreSQL server with its headers (on
+# Debian, postgresql-15 and postgresql-server-dev-15), make, cc, pkg-config, prlimit and Python 3. Without a server it
+# says so, and tests nothing. PG_CONFIG names another server's pg_config. As root the server runs as the user postgres.
+set -u
+umask 022
+top=$(cd "$(dirname "$0")/.." && pwd)
+config=${PG_CONFIG:-pg_config}
+passed=0
+failed=0
+if [ "$#" -gt 0 ]; then
+    counted=$(echo "$1" | sed -n 's/^\([0-9]*\) passed, \([0-9]*\) failed$/\1 \2/p')
+    passed=${counted% *}
+    failed=${counted#* }
+    [ -n "$counted" ] || { passed=0; failed=1; }
+fi
+
+finish() {
+    echo "$passed passed, $failed failed"
+    [ "$failed" -eq 0 ]
+    exit
+}
+
+# Counts a test, whose fault is empty if it passed.
+count() { # NAME FAULT
+    printf '%s\n' "$1: ${2:-passed}"
+    if [ -z "$2" ]; then passed=$((passed + 1)); else failed=$((failed + 1)); fi
+}
+
+# Counts a test, which has to have written what is wanted.
+same() { # NAME WANTED GOT
+    if [ "$2" = "$3" ]; then count "$1" ""; else count "$1" "$3
+and not: $2"; fi
+}
+
+# Counts a test, which has to have written a part like this.
+has() { # NAME PATTERN GOT
+    if printf '%s\n' "$3" | grep -q "$2"; then count "$1" ""; else count "$1" "$3
+has no $2"; fi
+}
+
+if ! bin=$("$config" --bindir 2>/dev/null) || [ ! -f "$("$config" --pgxs)" ] || [ ! -x "$bin/postgres" ]; then
+    echo "the extension for PostgreSQL: skipped, since no server with its headers is installed"
+    finish
+fi
+room=$(mktemp -d) || exit 2
+server=$room/server
+trap 'stop; rm -rf "$room"' EXIT
+trap 'exit 2' HUP INT TERM
+export PGHOST="$room" PGUSER=lazydfa PGDATABASE=postgres PKG_CONFIG_PATH="$room/library/lib/pkgconfig"
+
+as_server() {
+    if [ "$(id -u)" -eq 0 ]; then runuser -u postgres -- "$@"; else "$@"; fi
+}
+
+# shellcheck disable=SC2317 # by the trap
+stop() {
+    [ ! -f "$room/data/postmaster.pid" ] || as_server "$server$bin/pg_ctl" -D "$room/data" -m immediate stop >/dev/null
+}
+
+# Runs statements, and writes the rows, or the errors.
+sql() {
+    psql -XAtq -v ON_ERROR_STOP=1 "$@" 2>&1
+}
+
+milliseconds() {
+    echo $(($(date +%s%N) / 1000000))
+}
+
+# Installs the library and the extension below folders of their own.
+build() {
+    make -s -C "$top/bindings/c" install PREFIX="$room/library" LIBDIR="$room/library/lib" DESTDIR= &&
+        cp -r "$top/bindings/postgres" "$room/extension" &&
+        make -s -C "$room/extension" PG_CONFIG="$config" COPT=-Werror &&
+        make -s -C "$room/extension" PG_CONFIG="$config" install DESTDIR="$server"
+}
+
+# Copies the server, which finds its files from where it is, so that nothing of the system is written to, and starts it.
+start() {
+    libraries=$("$config" --pkglibdir)
+    shared=$("$config" --sharedir)
+    mkdir -p "$server$bin" "$server$libraries" "$server$shared" "$room/data" &&
+        cp "$bin/postgres" "$bin/initdb" "$bin/pg_ctl" "$server$bin" &&
+        cp -rsn "$libraries/." "$server$libraries" && cp -rsn "$shared/." "$server$shared" &&
+        chmod 711 "$room" && chmod 700 "$room/data" || return
+    [ "$(id -u)" -ne 0 ] || chown postgres "$room" "$room/data" || return
+    as_server "$server$bin/initdb" -D "$room/data" -U lazydfa -E UTF8 --locale=C.UTF-8 -A trust -N >"$room/said" &&
+        as_server "$server$bin/pg_ctl" -D "$room/data" -w -l "$room/data/log" -o \
+            "-c listen_addresses= -c unix_socket_directories=$room -c fsync=off" start >"$room/said"
+}
+
+# Starts statements in another backend, and waits until it runs them. Its process is $backend, and that of psql $client.
+begin() { # STATEMENTS
+    PGAPPNAME=searching sql -c "$1" >"$room/output" 2>&1 &
+    client=$!
+    backend=
+    tries=0
+    while [ -z "$backend" ] && [ "$tries" -lt 100 ]; do
+        sleep 0.1
+        tries=$((tries + 1))
+        backend=$(sql -c "SELECT pid FROM pg_stat_activity WHERE application_name = 'searching' AND state = 'active'
+            AND backend_type = 'client backend'")
+    done
+}
+
+# Counts a test: the statements that begin started ended within a second, with this message.
+ends() { # NAME MESSAGE
+    wait "$client"
+    took=$(($(milliseconds) - started))
+    has "$1" "$2" "$(cat "$room/output")"
+    if [ "$took" -le 1000 ]; then count "$1, within a second" ""; else count "$1, within a second" "it took $took ms"; fi
+}
+
+endless="SELECT count(*) FROM logs, generate_series(1, 100000) n WHERE line =~ ('x[a-z]+' || n)"
+
+test_answers() {
+    if made=$(make -s -C "$room/extension" PG_CONFIG="$config" installcheck 2>&1); then
+        count "make installcheck" ""
+    else
+        count "make installcheck" "$made
+$(cat "$room/extension/regression.diffs")"
+    fi
+    python3 "$top/tools/postgres/lines.py" 100000 1 |
+        sql -c "CREATE EXTENSION lazydfa" -c "CREATE TABLE logs(line text)" -c "COPY logs FROM STDIN" -c "ANALYZE logs"
+    if agreed=$(python3 "$top/tools/postgres/agree.py" 10000 1 2>&1); then
+        count "beside ~: $agreed" ""
+    else
+        count "beside ~" "$agreed"
+    fi
+    if agreed=$(python3 "$top/tools/postgres/pieces.py" 1000 1 2>&1); then
+        count "in pieces: $agreed" ""
+    else
+        count "in pieces" "$agreed"
+    fi
+}
+
+test_workers() {
+    parallel="SET max_parallel_workers_per_gather = 3; SET min_parallel_table_scan_size = 0;
+        SET parallel_setup_cost = 0; SET parallel_tuple_cost = 0; SET parallel_leader_participation = off;"
+    query="SELECT count(*) FROM logs WHERE line"
+    plan=$(sql -c "$parallel" -c "EXPLAIN (ANALYZE, TIMING off, COSTS off) $query =~ '(timeout|refused).*disk'")
+    has "workers are launched" "Workers Launched: [1-3]" "$plan"
+    wanted=$(sql -c "$query ~ '(timeout|refused).*disk'" -c "$query ~ 'ERROR' OR line ~ 'code.*x'")
+    got=$(sql -c "$parallel" -c "$query =~ '(timeout|refused).*disk'" -c "$query =~| array['ERROR', 'code.*x']")
+    same "workers find what ~ finds" "$wanted" "$got"
+}
+
+test_two_backends() {
+    queries() { # OPERATOR
+        for pattern in 'ERROR|WARN' '" 50[0-9] ' '[a-z]+[0-9]*@example[.](com|org)' 'Z(ü|u)rich'; do
+            echo "SELECT count(*) FROM logs WHERE line $1 '$pattern';"
+        done
+    }
+    wanted=$(queries '~' | sql)
+    queries '=~' | sql >"$room/first" &
+    one=$!
+    queries '=~' | sql >"$room/second" &
+    wait "$one" "$!"
+    same "two backends at once find what ~ finds" "$wanted
+$wanted" "$(cat "$room/first" "$room/second")"
+}
+
+test_ends() {
+    begin "$endless"
+    started=$(milliseconds)
+    sql -c "SELECT pg_cancel_backend($backend)" >/dev/null
+    ends "a query that is cancelled" "canceling statement due to user request"
+    begin "$endless"
+    started=$(milliseconds)
+    sql -c "SELECT pg_terminate_backend($backend)" >/dev/null
+    ends "a backend that is ended" "terminating connection due to administrator command"
+    begin "SET statement_timeout = 500; $endless"
+    started=$(($(milliseconds) - 500))
+    wait "$client"
+    has "a query that takes too long" "canceling statement due to statement timeout" "$(cat "$room/output")"
+    begin "$endless"
+    [ -z "$backend" ] || as_server kill -9 "$backend"
+    wait "$client"
+    tries=0
+    until sql -c "SELECT 'it =~ runs' =~ 'runs'" >"$room/output" || [ "$tries" -ge 300 ]; do
+        sleep 0.1
+        tries=$((tries + 1))
+    done
+    same "after a backend that was killed others search" t "$(cat "$room/output")"
+}
+
+# Counts a test: a search of the long text by this expression has ended within a second.
+ended() { # NAME MESSAGE
+    wait "$client"
+    took=$(($(milliseconds) - started))
+    said=$(cat "$room/output")
+    case $said in
+    *"$2"*) [ "$took" -le 1000 ] && said="" || said="it took $took ms" ;;
+    esac
+    count "$1" "$said"
+}
+
+# Each kind of search of 100 MB, and two back over 1 MB, which take minutes: each is cancelled, and its time is up.
+test_long() {
+    sql -c "CREATE TABLE long(value text)" -c "ALTER TABLE long ALTER value SET STORAGE EXTERNAL" \
+        -c "INSERT INTO long SELECT string_agg(md5(n::text), '') FROM generate_series(1, 3125000) n"
+    many='[a-f].{500}x'
+    empty="$many|\$"
+    back='.{500}[a-f].*'
+    for search in "value =~ '$many'" "value =~ '$empty'" "value !=~* '$empty'" "value =~| array['$many', 'y']" \
+        "value =~| array['$empty', 'y']" "convert_to(value, 'UTF8') =~ '$empty'" \
+        "lazydfa_which(value, array['$many', 'y'])" "lazydfa_which(value, array['$empty', 'y'])" \
+        "lazydfa_find(value, '$many')" "lazydfa_find(value, '$empty')" "lazydfa_find(left(value, 1000000), '$back')" \
+        "lazydfa_substr(value, '$many')" "lazydfa_substr(left(value, 1000000), '$back|\$')" \
+        "lazydfa_count(value, 'a')" "lazydfa_count(value, 'x*')" "lazydfa_count(value, '$many')" \
+        "lazydfa_matches(value, '$empty')" "lazydfa_replace(value, '$many', '')" \
+        "lazydfa_tokens(value, array['.*$many', 'y'])" "value =~ '[a-f].{20000}x'"; do
+        begin "SELECT $search FROM long"
+        sleep 0.3
+        started=$(milliseconds)
+        sql -c "SELECT pg_cancel_backend($backend)" >/dev/null
+        ended "$search, cancelled" "canceling statement due to user request"
+        started=$(($(milliseconds) + 500))
+        begin "SET statement_timeout = 500; SELECT $search FROM long"
+        ended "$search, out of time" "canceling statement due to statement timeout"
+    done
+}
+
+# A backend whose memory is limited to some more than it has. Its own user may limit it.
+test_memory() {
+    limit=prlimit
+    [ "$(id -u)" -ne 0 ] || limit="runuser -u postgres -- prlimit"
+    said=$(LIMIT=$limit psql -XAtq 2>&1 <<'END'
+SELECT 'begun' =~ 'g';
+SELECT pg_backend_pid() \gset
+\setenv BACKEND :pg_backend_pid
+\! $LIMIT --as=$(($(awk '/^VmSize/ { print $2 }' "/proc/$BACKEND/status") * 1024 + 3000000)) --pid "$BACKEND"
+\set VERBOSITY sqlstate
+SELECT 'a' =~ '\w{100}';
+SELECT 'still there' =~ 'there$';
+END
+)
+    same "a backend without memory" "t
+ERROR:  53200
+t" "$said"
+}
+
+test_encodings() {
+    for encoding in SQL_ASCII LATIN1; do
+        sql -c "CREATE DATABASE $encoding ENCODING $encoding TEMPLATE template0 LOCALE 'C'"
+    done
+    PGDATABASE=sql_ascii
+    export PGCLIENTENCODING=SQL_ASCII
+    same "bytes that are no text" "t|(4,5)|{2}" "$(sql -c "CREATE EXTENSION lazydfa" -c "SELECT
+        E'\\xff\\xc3\\xa9b' =~ '^(?-u:\\xff)é', lazydfa_find(E'\\xff\\xc3\\xa9b', 'b'),
+        lazydfa_which(E'\\xc3', array['é', '(?-u:.)'])")"
+    has "a pattern that is no text" "the text of a pattern is not UTF-8" "$(sql -c "SELECT 'a' =~ E'\\xff'")"
+    unset PGCLIENTENCODING
+    PGDATABASE=latin1
+    has "a database of another encoding" "needs a database whose encoding is UTF8 or SQL_ASCII" \
+        "$(sql -c "CREATE EXTENSION lazydfa" -c "SELECT 'a' =~ 'a'")"
+    PGDATABASE=postgres
+}
+
+if made=$(build 2>&1); then
+    count "the extension for PostgreSQL" ""
+else
+    count "the extension for PostgreSQL" "it was not built
+$made"
+    finish
+fi
+if made=$(start 2>&1); then
+    count "a server" ""
+else
+    count "a server" "it did not start
+$made$(cat "$room/said" "$room/data/log" 2>/dev/null)"
+    finish
+fi
+test_answers
+test_workers
+test_two_backends
+test_ends
+test_long
+test_memory
+test_encodings
+finish
