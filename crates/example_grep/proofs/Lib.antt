@@ -1,2 +1,5 @@
 mod Numbers
+mod Ends
+mod Listing
 mod Printing
+mod Counting

@@ -1,5 +1,5 @@
 -- What is printed, one match and one line after another.
-use Rattle.std.proofs.Common.{◌≡◌, ◌∙◌, ◌+◌, ◌<◌, ℕ, Bool, true, false, List, [], ◌∷◌, ◌++◌, Option, Some, None, sym, ap, subst, map, take, get_or, length, add-one, arith}
+use Rattle.std.proofs.Common.{◌≡◌, ◌∙◌, ◌+◌, ◌<◌, ℕ, Bool, true, false, List, [], ◌∷◌, ◌++◌, Option, Some, None, refl, sym, ap, subst, map, take, get_or, length, add-one, arith}
 use Rattle.std.specs.Prelude.{OnOk, Result, Ok, Err, slice_range}
 use Rattle.std.proofs.lemmas.List.{append_assoc, append-nil, map-append}
 use Rattle.std.proofs.lemmas.Option.{none-some, same_Some}
@@ -8,22 +8,29 @@ use Rattle.regex_hir.specs.Re.{Re}
 use Rattle.automata_base.specs.Nfas.Nodes.{Automaton}
 use Rattle.regex_automata.specs.Promises.{LeftmostFirst, Machine, Match, match_kind_of}
 use Rattle.regex_automata.specs.declared.hybrid.regex.Regex.{Regex}
-use Rattle.meaning.specs.Patterns.{left_any}
+use Rattle.meaning.specs.Patterns.{is_found, left_any}
 use Rattle.patterns.specs.Iteration.{IsNextMeant}
 use Rattle.patterns.specs.Patterns.{IsFor, IsJoinedNfa, IsRegexOf}
+use Rattle.patterns.specs.Sets.{IsDfaOf}
 use Rattle.patterns.specs.declared.pattern.Pattern.{Pattern}
-use Rattle.example_grep.specs.Lines.{IsSearcherFor, bytewise, counted, found_line, one_more}
-use Rattle.example_grep.specs.Greps.{AreSpansFor, IsGrepFor, KeepsSpans}
-use Rattle.example_grep.specs.Shown.{found_shown, line_shown, lines_shown, part_shown, parts_shown}
-use Rattle.example_grep.specs.declared.grep.Grep.{Grep}
+use Rattle.patterns.specs.declared.set.RegexSet.{RegexSet}
+use Rattle.example_grep.specs.Lines.{IsSearcherFor, bytewise, count_after, found_line, one_more}
+use Rattle.example_grep.specs.Greps.{IsGrepFor, IsViewFor, KeepsView}
+use Rattle.example_grep.specs.Shown.{found_shown, line_shown, lines_shown, part_shown, parts_shown, shown_after, which_shown}
+use Rattle.example_grep.specs.declared.search.Grep.{Grep}
 use Rattle.example_grep.specs.declared.lines.Line.{Line}
 use Rattle.example_grep.specs.declared.lines.LineSearcher.{LineSearcher}
-use Rattle.example_grep.specs.declared.options.Show.{Show}
+use Rattle.example_grep.specs.declared.sets.SetSearcher.{SetSearcher}
+use Rattle.example_grep.specs.declared.show.How.{How}
+use Rattle.example_grep.specs.declared.show.How.TheVariants as how
+use Rattle.example_grep.specs.declared.show.Show.{Show}
 use Rattle.example_grep.specs.declared.spans.SpanSearcher.{SpanSearcher}
+use Rattle.example_grep.specs.declared.view.View.{View}
+use Rattle.example_grep.specs.declared.view.View.TheVariants as view
 use Rattle.example_grep.proofs.Numbers.{counted_push}
 
 -- bytes are searched, whatever they are
-any_bytes : (case_insensitive : Bool) (hay : List ℕ) → IsFor (bytewise case_insensitive) hay
+pub any_bytes : (case_insensitive : Bool) (hay : List ℕ) → IsFor (bytewise case_insensitive) hay
 any_bytes case_insensitive hay = (λ e. absurd (cc), λ e. absurd (cc))
 
 module _ (regex : Regex) (prefix line old : List ℕ) where
@@ -77,44 +84,78 @@ module _ (lines : List Line) (i : ℕ) (d : Line) (inside : i < length lines) wh
       ∙ append_assoc old (lines_shown show res (map found_line (take i lines))) (found_shown show res (found_line (get_or lines i d)))
       ∙ ap (λ v. old ++ v) (sym (ap (lines_shown show res) grown ∙ lines_push show res (map found_line (take i lines)) (found_line (get_or lines i d))))
 
-  count_more : (n was is : ℕ) → was ≡ counted n (map found_line (take i lines)) → is ≡ one_more was →
-      is ≡ counted n (map found_line (take (i + 1) lines))
+  count_more : (n was is : ℕ) → was ≡ count_after n (map found_line (take i lines)) → is ≡ one_more was →
+      is ≡ count_after n (map found_line (take (i + 1) lines))
   count_more n was is so more =
       more ∙ ap one_more so
-      ∙ sym (ap (counted n) grown ∙ counted_push n (map found_line (take i lines)) (found_line (get_or lines i d)))
+      ∙ sym (ap (count_after n) grown ∙ counted_push n (map found_line (take i lines)) (found_line (get_or lines i d)))
 
 pub count_next : (lines : List Line) (i : ℕ) → i < length lines → (n was is : ℕ) →
-    was ≡ counted n (map found_line (take i lines)) → is ≡ one_more was → is ≡ counted n (map found_line (take (i + 1) lines))
+    was ≡ count_after n (map found_line (take i lines)) → is ≡ one_more was → is ≡ count_after n (map found_line (take (i + 1) lines))
 count_next [] i inside n was is so more = absurd (omega (arith, inside))
 count_next (line ∷ lines) i inside n was is so more = count_more (line ∷ lines) i line inside n was is so more
 
--- searchers of spans for the same patterns
-pub spans_kept : (case_insensitive only_matches : Bool) (res : List Re) (old new : Option SpanSearcher) → KeepsSpans old new →
-    AreSpansFor case_insensitive only_matches res old → AreSpansFor case_insensitive only_matches res new
-spans_kept case_insensitive only_matches res None None same is = is
-spans_kept case_insensitive only_matches res None (Some s) same is = absurd (none-some _ (sym same))
-spans_kept case_insensitive only_matches res (Some s) None same is = absurd (none-some _ same)
-spans_kept case_insensitive only_matches res (Some s) (Some t) same is =
-    (is.0, subst (λ (p : Pattern). IsRegexOf (bytewise case_insensitive) res p.regex) (sym (same_Some _ _ same)) is.1)
+-- searches for the same patterns
+pub view_kept : (case_insensitive : Bool) (asked : How) (res : List Re) (old new : View) → KeepsView old new →
+    IsViewFor case_insensitive asked res old → IsViewFor case_insensitive asked res new
+view_kept case_insensitive how.Whole res view.Whole view.Whole same is = tt
+view_kept case_insensitive how.Whole res view.Whole (view.Matches new) same is = absurd same
+view_kept case_insensitive how.Whole res view.Whole (view.Which new) same is = absurd same
+view_kept case_insensitive how.Whole res (view.Matches old) new same is = absurd is
+view_kept case_insensitive how.Whole res (view.Which old) new same is = absurd is
+view_kept case_insensitive how.Matches res view.Whole new same is = absurd is
+view_kept case_insensitive how.Matches res (view.Matches old) view.Whole same is = absurd same
+view_kept case_insensitive how.Matches res (view.Matches old) (view.Matches new) same is =
+    subst (λ (p : Pattern). IsRegexOf (bytewise case_insensitive) res p.regex) (sym same) is
+view_kept case_insensitive how.Matches res (view.Matches old) (view.Which new) same is = absurd same
+view_kept case_insensitive how.Matches res (view.Which old) new same is = absurd is
+view_kept case_insensitive how.Which res view.Whole new same is = absurd is
+view_kept case_insensitive how.Which res (view.Matches old) new same is = absurd is
+view_kept case_insensitive how.Which res (view.Which old) view.Whole same is = absurd same
+view_kept case_insensitive how.Which res (view.Which old) (view.Matches new) same is = absurd same
+view_kept case_insensitive how.Which res (view.Which old) (view.Which new) same is =
+    subst (λ (s : RegexSet). IsDfaOf (bytewise case_insensitive) res s.dfa) (sym same) is
+
+-- a search that nothing has changed
+pub view_same : (old new : View) → new ≡ old → KeepsView old new
+view_same view.Whole new same = subst (λ v. KeepsView view.Whole v) (sym same) tt
+view_same (view.Matches s) new same = subst (λ v. KeepsView (view.Matches s) v) (sym same) refl
+view_same (view.Which s) new same = subst (λ v. KeepsView (view.Which s) v) (sym same) refl
+
+-- one search after another
+pub view_next : (a b c : View) → KeepsView a b → KeepsView b c → KeepsView a c
+view_next view.Whole view.Whole c first second = second
+view_next view.Whole (view.Matches b) c first second = absurd first
+view_next view.Whole (view.Which b) c first second = absurd first
+view_next (view.Matches a) view.Whole c first second = absurd first
+view_next (view.Matches a) (view.Matches b) view.Whole first second = absurd second
+view_next (view.Matches a) (view.Matches b) (view.Matches c) first second = second ∙ first
+view_next (view.Matches a) (view.Matches b) (view.Which c) first second = absurd second
+view_next (view.Matches a) (view.Which b) c first second = absurd first
+view_next (view.Which a) view.Whole c first second = absurd first
+view_next (view.Which a) (view.Matches b) c first second = absurd first
+view_next (view.Which a) (view.Which b) view.Whole first second = absurd second
+view_next (view.Which a) (view.Which b) (view.Matches c) first second = absurd second
+view_next (view.Which a) (view.Which b) (view.Which c) first second = second ∙ first
 
 -- a grep whose parts are the same
 pub grep_kept : (case_insensitive : Bool) (res : List Re) (old new : Grep) → new.lines.dfa ≡ old.lines.dfa → new.show ≡ old.show →
-    KeepsSpans old.spans new.spans → IsGrepFor case_insensitive res old → IsGrepFor case_insensitive res new
-grep_kept case_insensitive res old new dfa show spans is = (
+    KeepsView old.view new.view → IsGrepFor case_insensitive res old → IsGrepFor case_insensitive res new
+grep_kept case_insensitive res old new dfa show kept is = (
   subst (λ (m : Machine). IsSearcherFor case_insensitive res m) (sym dfa) is.0,
-  subst (λ (v : Show). AreSpansFor case_insensitive v.only_matches res new.spans) (sym show)
-      (spans_kept case_insensitive old.show.only_matches res old.spans new.spans spans is.1),
+  subst (λ (v : Show). IsViewFor case_insensitive v.flags.how res new.view) (sym show)
+      (view_kept case_insensitive old.show.flags.how res old.view new.view kept is.1),
 )
 
 -- and one that is made of them
-pub grep_made : (case_insensitive : Bool) (res : List Re) (nfa : Automaton) (show : Show) (lines : LineSearcher) (spans : Option SpanSearcher) (grep : Grep) →
-    grep.show ≡ show → grep.lines ≡ lines → grep.spans ≡ spans → lines.dfa.nfa ≡ nfa → match_kind_of lines.dfa.config ≡ LeftmostFirst →
-    AreSpansFor case_insensitive show.only_matches res spans → IsJoinedNfa (bytewise case_insensitive) res nfa → IsGrepFor case_insensitive res grep
-grep_made case_insensitive res nfa show lines spans grep same_show same_lines same_spans same_nfa kind for is = (
+pub grep_made : (case_insensitive : Bool) (res : List Re) (nfa : Automaton) (show : Show) (lines : LineSearcher) (own : View) (grep : Grep) →
+    grep.show ≡ show → grep.lines ≡ lines → grep.view ≡ own → lines.dfa.nfa ≡ nfa → match_kind_of lines.dfa.config ≡ LeftmostFirst →
+    IsViewFor case_insensitive show.flags.how res own → IsJoinedNfa (bytewise case_insensitive) res nfa → IsGrepFor case_insensitive res grep
+grep_made case_insensitive res nfa show lines own grep same_show same_lines same_view same_nfa kind for is = (
   subst (λ (s : LineSearcher). IsSearcherFor case_insensitive res s.dfa) (sym same_lines)
       (subst (λ (a : Automaton). IsJoinedNfa (bytewise case_insensitive) res a) (sym same_nfa) is, kind),
-  subst (λ (v : Show). AreSpansFor case_insensitive v.only_matches res grep.spans) (sym same_show)
-      (subst (λ (v : Option SpanSearcher). AreSpansFor case_insensitive show.only_matches res v) (sym same_spans) for),
+  subst (λ (v : Show). IsViewFor case_insensitive v.flags.how res grep.view) (sym same_show)
+      (subst (λ (v : View). IsViewFor case_insensitive show.flags.how res v) (sym same_view) for),
 )
 
 -- what is said of a call that returns Ok
@@ -122,12 +163,26 @@ pub on_ok : {U E A B : Type 0} (r : Result U E) → (A → B) → OnOk r A → O
 on_ok (Ok u) f h = f h
 on_ok (Err e) f h = tt
 
--- the matches of a line, by the searcher that is there
-pub matches_shown : (case_insensitive only_matches : Bool) (res : List Re) (spans : Option SpanSearcher) (own : SpanSearcher)
-    (prefix line was is : List ℕ) → spans ≡ Some own →
-    (IsRegexOf (bytewise case_insensitive) res own.pattern.regex → is ≡ was ++ parts_shown prefix line (left_any false res line None)) →
-    AreSpansFor case_insensitive only_matches res spans → is ≡ was ++ line_shown only_matches res prefix line
-matches_shown case_insensitive only_matches res None own prefix line was is same shown for = absurd (none-some _ same)
-matches_shown case_insensitive false res (Some other) own prefix line was is same shown for = let e = for.0 in absurd (cc)
-matches_shown case_insensitive true res (Some other) own prefix line was is same shown for =
-    shown (subst (λ (s : SpanSearcher). IsRegexOf (bytewise case_insensitive) res s.pattern.regex) (same_Some _ _ same) for.1)
+module _ (case_insensitive : Bool) (res : List Re) (prefix line was is : List ℕ) where
+  -- a line that is shown as it is
+  pub line_as_whole : (asked : How) → IsViewFor case_insensitive asked res view.Whole → is ≡ was ++ shown_after prefix line →
+      is ≡ was ++ line_shown asked res prefix line
+  line_as_whole how.Whole for said = said
+  line_as_whole how.Matches for said = absurd for
+  line_as_whole how.Which for said = absurd for
+
+  -- the matches of a line
+  pub line_as_matches : (asked : How) (own : SpanSearcher) → IsViewFor case_insensitive asked res (view.Matches own) →
+      (IsRegexOf (bytewise case_insensitive) res own.pattern.regex → is ≡ was ++ parts_shown prefix line (left_any false res line None)) →
+      is ≡ was ++ line_shown asked res prefix line
+  line_as_matches how.Whole own for said = absurd for
+  line_as_matches how.Matches own for said = said for
+  line_as_matches how.Which own for said = absurd for
+
+  -- a line with the patterns that match it
+  pub line_as_which : (asked : How) (own : SetSearcher) → IsViewFor case_insensitive asked res (view.Which own) →
+      (IsDfaOf (bytewise case_insensitive) res own.set.dfa → is ≡ was ++ which_shown prefix line (map (is_found false line) res)) →
+      is ≡ was ++ line_shown asked res prefix line
+  line_as_which how.Whole own for said = absurd for
+  line_as_which how.Matches own for said = absurd for
+  line_as_which how.Which own for said = said for

@@ -1,36 +1,46 @@
 -- What a grep searches for, and what a search of a text adds to what is printed.
-use Rattle.std.specs.Prelude.{ℕ, ◌≡◌, Bool, true, false, List, ◌++◌, Option, MatchOption, option_map}
+use Rattle.std.specs.Prelude.{ℕ, ◌≡◌, Bool, List, ◌++◌}
 use Rattle.regex_hir.specs.Re.{Re}
 use Rattle.meaning.specs.Patterns.{HasPart}
 use Rattle.patterns.specs.Patterns.{IsRegexOf}
-use Rattle.example_grep.specs.Lines.{AreMatching, IsSearcherFor, bytewise, counted, lines, numbered}
+use Rattle.patterns.specs.Sets.{IsDfaOf}
+use Rattle.example_grep.specs.Lines.{AreMatching, IsSearcherFor, IsWanted, bytewise, count_after, lines, numbered}
 use Rattle.example_grep.specs.Shown.{lines_shown}
-use Rattle.example_grep.specs.declared.grep.Grep.{Grep}
-use Rattle.example_grep.specs.declared.spans.SpanSearcher.{SpanSearcher}
+use Rattle.example_grep.specs.declared.search.Grep.{Grep}
+use Rattle.example_grep.specs.declared.show.How.{How}
+use Rattle.example_grep.specs.declared.show.How.TheVariants as how
+use Rattle.example_grep.specs.declared.view.View.{View}
+use Rattle.example_grep.specs.declared.view.View.TheVariants as view
 
--- there is a searcher of spans if matches alone are printed; it is that of patterns with these meanings
-abbrev pub AreSpansFor : (case_insensitive only_matches : Bool) → List Re → Option SpanSearcher → Type 0
-AreSpansFor case_insensitive only_matches res spans =
-    MatchOption spans (only_matches ≡ false)
-    (λ s. (only_matches ≡ true) × IsRegexOf (bytewise case_insensitive) res s.pattern.regex)
+-- what lines are searched for, to show of them what is asked for: patterns with these meanings
+abbrev pub IsViewFor : (case_insensitive : Bool) → How → List Re → View → Type 0
+IsViewFor case_insensitive how.Whole res view.Whole = Unit {0}
+IsViewFor case_insensitive how.Matches res (view.Matches s) = IsRegexOf (bytewise case_insensitive) res s.pattern.regex
+IsViewFor case_insensitive how.Which res (view.Which s) = IsDfaOf (bytewise case_insensitive) res s.set.dfa
+IsViewFor case_insensitive how res view = ⊥
 
--- it searches for the same patterns as before
-abbrev pub KeepsSpans : Option SpanSearcher → Option SpanSearcher → Type 0
-KeepsSpans old new = option_map (λ s. s.pattern) new ≡ option_map (λ s. s.pattern) old
+-- they are searched for the same patterns as before
+abbrev pub KeepsView : View → View → Type 0
+KeepsView view.Whole view.Whole = Unit {0}
+KeepsView (view.Matches old) (view.Matches new) = new.pattern ≡ old.pattern
+KeepsView (view.Which old) (view.Which new) = new.set ≡ old.set
+KeepsView old new = ⊥
 
--- both searchers are those of patterns with these meanings
+-- all that it searches for are patterns with these meanings
 abbrev pub IsGrepFor : (case_insensitive : Bool) → List Re → Grep → Type 0
 IsGrepFor case_insensitive res grep =
     IsSearcherFor case_insensitive res grep.lines.dfa
-    × AreSpansFor case_insensitive grep.show.only_matches res grep.spans
+    × IsViewFor case_insensitive grep.show.flags.how res grep.view
 
 -- what a search of the lines of a text adds
 pub record ShowsLines (res : List Re) (text : List ℕ) (old new : Grep) : Type 0 where
-  -- the lines of which some part is a match of some pattern, with their numbers
+  -- the lines of which some part is a match of some pattern, or with `-v` the others, with their numbers
   pub found : List (ℕ × List ℕ)
   -- they are all such lines, in their order
-  pub matching : AreMatching (λ line. HasPart res line.1) (numbered old.lines.searched (lines text)) found
+  pub matching :
+      AreMatching (λ line. IsWanted old.show.flags.invert (HasPart res line.1))
+      (numbered old.lines.searched (lines text)) found
   -- they are shown
   pub shown : new.shown.items ≡ old.shown.items ++ lines_shown old.show res found
   -- they are counted
-  pub count : new.count ≡ counted old.count found
+  pub count : new.count ≡ count_after old.count found

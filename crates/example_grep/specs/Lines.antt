@@ -1,8 +1,8 @@
--- Which lines have a match, and their numbers.
+-- Which lines are taken, and their numbers.
 use Rattle.std.specs.Prelude.{ℕ, ◌≡◌, ◌==◌, ◌+◌, ◌-◌, ◌^◌, Bool, true, false, List, [], ◌∷◌, ◌++◌, length, min, Some}
 use Rattle.std.specs.List.{slice_split}
 use Rattle.regex_hir.specs.Re.{Re}
-use Rattle.regex_automata.specs.Promises.{Forward, Half, Input, IsAnswer, LeftmostFirst, Machine, No, engine_of}
+use Rattle.regex_automata.specs.Promises.{Forward, Half, Input, IsAnswer, LeftmostFirst, Machine, No, engine}
 use Rattle.regex_automata.specs.Promises.{match_kind_of}
 use Rattle.patterns.specs.Patterns.{IsJoinedNfa, default_options}
 use Rattle.patterns.specs.declared.compile.Options.{Options}
@@ -17,29 +17,34 @@ abbrev pub one_more : (count : ℕ) → ℕ
 one_more count = min (count + 1) (2 ^ 64 - 1)
 
 -- the count after these, one by one
-abbrev pub counted : {A : Type 0} → (count : ℕ) → List A → ℕ
-counted count [] = count
-counted count (x ∷ xs) = counted (one_more count) xs
+abbrev pub count_after : {A : Type 0} → (count : ℕ) → List A → ℕ
+count_after count [] = count
+count_after count (x ∷ xs) = count_after (one_more count) xs
 
 -- the lines with their numbers, where so many lines came before them
 abbrev pub numbered : (count : ℕ) → List (List ℕ) → List (ℕ × List ℕ)
 numbered count [] = []
 numbered count (line ∷ lines) = (one_more count, line) ∷ numbered (one_more count) lines
 
--- a line that was found, with its number
+-- a line that was taken, with its number
 abbrev pub found_line : Line → ℕ × List ℕ
 found_line line = (line.number, line.bytes.now)
 
 -- a line by itself; the search may stop at the first match that it sees
-abbrev pub whole : List ℕ → Input
-whole line = record { haystack = line; start = 0; end = length line; anchored = No; earliest = true }
+abbrev pub whole_line : List ℕ → Input
+whole_line line = record { haystack = line; start = 0; end = length line; anchored = No; earliest = true }
 
 -- the ordered paths through a line have a match
 pub record HasMatch (m : Machine) (line : List ℕ) : Type 0 where
   -- what the search of the line answers
   pub half : Half
   -- it is the answer of the ordered paths
-  pub answer : IsAnswer Forward (engine_of m.nfa (match_kind_of m.config)) (whole line) (Some half)
+  pub answer : IsAnswer Forward (engine m) (whole_line line) (Some half)
+
+-- what a line that is taken has: a match or, if those without one are taken, none
+abbrev pub IsWanted : (invert : Bool) → (Has : Type 0) → Type 0
+IsWanted false Has = Has
+IsWanted true Has = Has → ⊥
 
 -- these are the lines that have it, and no others, in their order
 pub data AreMatching {A : Type 0} (Has : A → Type 0) : List A → List A → Type 0 where

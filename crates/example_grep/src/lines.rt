@@ -1,10 +1,12 @@
-//! Which lines of a text have a match.
-ghost use Rattle.std.specs.Prelude.{◌≡◌, ◌↔◌, Bool, List, IfOk, IsTrue, OnOk, map};
+//! Which lines of a text are taken: those that have a match, or those that have none.
+ghost use Rattle.std.specs.Prelude.{◌≡◌, ◌↔◌, Bool, List, IfOk, IsTrue, OnOk, cond, map, not};
 ghost use Rattle.regex_hir.specs.Re.{Re};
 ghost use Rattle.regex_automata.specs.Promises.{IsCacheOf, IsLookAcyclic, nfa_of};
 ghost use Rattle.meaning.specs.Patterns.{HasPart};
-ghost use Rattle.example_grep.specs.Lines.{AreMatching, HasMatch, IsSearcherFor, counted, found_line, lines, numbered};
+ghost use Rattle.example_grep.specs.Lines.{AreMatching, HasMatch, IsSearcherFor, IsWanted, count_after};
+ghost use Rattle.example_grep.specs.Lines.{found_line, lines, numbered};
 
+use crate::stats::Usage;
 use anyhow::Result;
 use regex_automata::hybrid::SearchError;
 use regex_automata::hybrid::dfa::{Cache, DFA};
@@ -32,11 +34,18 @@ impl Drop for LineSearcher {
     }
 }
 
-/// A line that has a match, and its number, counted from 1.
+/// A line that is taken, and its number, counted from 1.
 #[derive(Clone, Copy)]
 pub struct Line<'t> {
     pub number: u64,
     pub bytes: &'t [u8],
+}
+
+/// Whether a line is taken.
+fn is_taken(has_match: bool, invert: bool) -> bool
+    ensures { result ≡ cond invert (not has_match) has_match }
+{
+    if invert { !has_match } else { has_match }
 }
 
 impl LineSearcher {
@@ -70,20 +79,57 @@ impl LineSearcher {
         Ok(found.is_some())
     }
 
-    /// The lines of a text that have a match, with their numbers. These go on from one text to the next.
-    pub fn matching<'t>(&mut self, alloc: Global, text: &'t [u8]) -> Result<Vec<Line<'t>>>
+    /// Whether a line is taken: one that has a match or, if `invert`, one that has none.
+    fn is_wanted(&mut self, line: &[u8], invert: bool) -> Result<bool, SearchError>
         ensures same { self.new.dfa ≡ self.old.dfa }
-        ensures searched { OnOk result (self.new.searched ≡ counted self.old.searched (lines text.now)) }
-        ensures lines { IfOk result (λ found. AreMatching (λ line. HasMatch self.old.dfa line.1)
+        ensures searched { self.new.searched ≡ self.old.searched }
+        ensures found { IfOk result (λ truth. IsTrue truth ↔ IsWanted invert (HasMatch self.old.dfa line.now)) }
+        ensures meant { IfOk result (λ truth. (case_insensitive : Bool) (res : List Re)
+            → IsSearcherFor case_insensitive res self.old.dfa → IsTrue truth ↔ IsWanted invert (HasPart res line.now)) }
+    {
+        let has_match = self.has_match(line)?;
+        Ok(is_taken(has_match, invert))
+    }
+
+    /// Begins a text whose lines are numbered from 1.
+    pub fn begin(&mut self)
+        ensures dfa { self.new.dfa ≡ self.old.dfa }
+        ensures searched { self.new.searched ≡ 0 }
+    {
+        self.searched = 0;
+    }
+
+    /// How many lines were searched.
+    pub fn searched(&self) -> u64
+        ensures { result ≡ self.now.searched }
+    {
+        self.searched
+    }
+
+    /// What its cache has made.
+    pub fn usage(&self) -> Usage {
+        Usage::of(&self.cache)
+    }
+
+    /// The lines of a text that are taken, with their numbers. These go on from one text to the next.
+    pub fn matching<'t>(
+        &mut self,
+        alloc: Global,
+        text: &'t [u8],
+        invert: bool,
+    ) -> Result<Vec<Line<'t>>>
+        ensures same { self.new.dfa ≡ self.old.dfa }
+        ensures searched { OnOk result (self.new.searched ≡ count_after self.old.searched (lines text.now)) }
+        ensures lines { IfOk result (λ found. AreMatching (λ line. IsWanted invert (HasMatch self.old.dfa line.1))
             (numbered self.old.searched (lines text.now)) (map found_line found.items)) }
         ensures meant { IfOk result (λ found. (case_insensitive : Bool) (res : List Re)
-            → IsSearcherFor case_insensitive res self.old.dfa → AreMatching (λ line. HasPart res line.1)
+            → IsSearcherFor case_insensitive res self.old.dfa → AreMatching (λ line. IsWanted invert (HasPart res line.1))
             (numbered self.old.searched (lines text.now)) (map found_line found.items)) }
     {
         let mut found = Vec::new(alloc);
         for bytes in text.split(|byte| *byte == b'\n') {
             self.searched = self.searched.saturating_add(1);
-            if self.has_match(bytes)? {
+            if self.is_wanted(bytes, invert)? {
                 let number = self.searched;
                 found.push(Line { number, bytes })?;
             }

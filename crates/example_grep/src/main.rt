@@ -1,143 +1,101 @@
-//! Prints the lines of standard input that a pattern matches:
+//! Prints the lines of files that a pattern matches, as `grep` does:
 //!
-//!     example_grep [-c] [-o] [-n] [-i] PATTERN.. < TEXT
+//!     example_grep [-acHhilnoqrv] [--which] [--stats] [--cache MIB] [-e PATTERN].. [-f FILE].. [PATTERN] [FILE]..
 //!
-//! `-c` prints how many they are, `-o` their matches, `-n` their numbers too, and `-i` ignores case. Several patterns
-//! are searched at once. A pattern is in the syntax of Rust's regex crate; a bad one is shown with a caret below its
-//! place. A line is a run of bytes up to a line feed. It need not be text: a byte that is no part of a character
-//! matches `(?-u:[\x80-\xFF])`, but no `.`. The status is 0 if a line matches, 1 if none does, and 2 after an error.
+//! | Flag | What it does |
+//! |---|---|
+//! | `-e PATTERN`, `-f FILE` | a pattern; a file with a pattern on each line |
+//! | `-i` | ignores case |
+//! | `-v` | takes the lines without a match |
+//! | `-c`, `-l`, `-q` | prints only how many lines are taken; only the names of files that have one; nothing |
+//! | `-o` | prints the matches of the lines alone |
+//! | `--which` | prints before each line which patterns match it |
+//! | `-n`, `-H`, `-h` | prints numbers of lines; names of files; no names of files |
+//! | `-r` | searches the files below a directory, or below the current one if no FILE is named |
+//! | `-a` | takes a file with a NUL for text |
+//! | `--stats` | prints at the end, to standard error, what was read and what the caches have made |
+//! | `--cache MIB` | lets each cache account for so many MiB, in place of 64, but for those of `-o` |
+//!
+//! PATTERN is an argument only if there is neither `-e` nor `-f`. All patterns are searched at once. Without a FILE,
+//! or where it is `-`, standard input is searched. `--` ends the flags.
+//!
+//! A pattern is in the syntax of Rust's regex crate; a bad one is shown with a caret below its place. A line is a run
+//! of bytes up to a line feed. It need not be text: a byte that is no part of a character matches `(?-u:[\x80-\xFF])`,
+//! but no `.`. The status is 0 if a line is taken, 1 if none is, and 2 after an error; a file that cannot be read, or
+//! has a line that does not fit into the memory, is one, and does not keep the others from being searched.
+//!
+//! With `--which` a line begins, after its file and its number, with the numbers of all patterns that match somewhere
+//! in it, in increasing order, with commas between them and a colon after the last. Patterns are numbered from 1 as
+//! they are given, so that those of one `-f FILE` have the numbers of its lines: `2,17:the line`. It excludes `-o` and
+//! `-v`.
+//!
+//! A file with a NUL in a block that is read is binary from there on: of its lines none is printed, but to standard
+//! error that it matches, and a NUL ends a line as a line feed does. `-r` searches the files of a directory in the
+//! order of their names, and follows no link below it. A directory is an error without `-r`.
 //!
 //! It is proved that of the lines of a text exactly those are taken of which some part is a match of some pattern, by
-//! what the patterns' texts mean, and that what is shown of them, and their count, are what the flags say
-//! (`Grep::search`). How arguments are read, how blocks are cut and what is written is safe, and no more is proved.
+//! what the patterns' texts mean, or with `-v` exactly the others; and that what is shown of them, and their count,
+//! are what the flags say (`Grep::search`): with `--which` the numbers of the patterns that match the line, each by
+//! itself. How arguments are read, which files are searched, how blocks are cut and what is written is safe, and no
+//! more is proved.
 #![tactic(auto)]
 
-ghost use Rattle.std.specs.Prelude.{◌≡◌, List, IfOk, map};
-ghost use Rattle.regex_hir.specs.Re.{Re};
-ghost use Rattle.regex_automata.specs.Promises.{LeftmostFirst, match_kind_of};
-ghost use Rattle.patterns.specs.Patterns.{HasNoLookCycle, IsJoinedNfa, IsNfaOf, IsRegexOf};
-ghost use Rattle.example_grep.specs.Lines.{bytewise};
-ghost use Rattle.example_grep.specs.Greps.{AreSpansFor, IsGrepFor};
+ghost use Rattle.patterns.specs.Patterns.{HasNoLookCycle};
 
-mod grep;
+mod args;
+mod blocks;
+mod build;
+mod files;
 mod lines;
-mod options;
+mod paths;
+mod search;
+mod sets;
+mod show;
 mod spans;
+mod stats;
+mod view;
 
-use crate::grep::Grep;
-use crate::lines::LineSearcher;
-use crate::options::{Options, Show};
-use crate::spans::SpanSearcher;
+use crate::args::Args;
+use crate::build::{grep_of, patterns_nfa};
+use crate::files::Search;
+use crate::show::Show;
 use anyhow::Result;
-use patterns::{Options as PatternOptions, Pattern, PatternError, nfa_of};
-use regex_automata::hybrid::dfa::DFA;
+use patterns::PatternError;
 use regex_automata::nfa::thompson::NFA;
 use std::alloc::Global;
+use std::env;
 use std::process::ExitCode;
-use std::{env, io};
-
-/// How patterns are read: they are searched in bytes.
-fn bytewise(case_insensitive: bool) -> PatternOptions
-    ensures { result ≡ bytewise case_insensitive }
-{
-    PatternOptions {
-        unicode: true,
-        case_insensitive,
-        multi_line: false,
-        dot_matches_new_line: false,
-        crlf: false,
-        swap_greed: false,
-        ignore_whitespace: false,
-        octal: false,
-        utf8: false,
-        ascii: false,
-        size_limit: 10 << 20,
-        nest_limit: 250,
-    }
-}
-
-/// The NFA of the patterns.
-fn patterns_nfa(alloc: Global, options: &Options<'_>) -> Result<NFA, PatternError>
-    ensures meant { IfOk result (IsNfaOf (bytewise options.now.case_insensitive)
-        (map (λ text. text.now) options.now.patterns.items)) }
-    ensures acyclic { IfOk result HasNoLookCycle }
-{
-    let how = bytewise(options.case_insensitive);
-    nfa_of(alloc, options.patterns.as_slice(), &how)
-}
+use std::time::Instant;
 
 /// Shows what is wrong with a pattern.
-fn report(rt: &HostRuntime, options: &Options<'_>, error: PatternError) -> Result<ExitCode> {
-    let pattern = options.patterns.get(error.number).copied().unwrap_or("");
+fn report(rt: &HostRuntime, patterns: &[&str], error: PatternError) -> Result<ExitCode> {
+    let pattern = patterns.get(error.number).copied().unwrap_or("");
     let shown = error.show(rt.alloc(), pattern)?;
     eprintln!(rt; "example_grep: {shown}")?;
     Ok(ExitCode::from(2))
 }
 
-/// The searcher of lines for the patterns of an NFA.
-fn line_searcher(nfa: NFA) -> Result<LineSearcher>
+/// Searches the files for the patterns of an NFA.
+fn search_files(rt: &HostRuntime, args: &Args, nfa: NFA) -> Result<ExitCode>
     requires { HasNoLookCycle nfa }
-    ensures nfa { IfOk result (λ s. s.dfa.nfa ≡ nfa) }
-    ensures kind { IfOk result (λ s. match_kind_of s.dfa.config ≡ LeftmostFirst) }
-    ensures searched { IfOk result (λ s. s.searched ≡ 0) }
 {
-    let dfa = DFA::builder().build_from_nfa(nfa)?;
-    LineSearcher::new(dfa)
-}
-
-/// The searcher of matches for the patterns of an NFA.
-fn span_searcher(nfa: NFA, case_insensitive: bool) -> Result<SpanSearcher>
-    ensures { IfOk result (λ s. (res : List Re) → IsJoinedNfa (bytewise case_insensitive) res nfa
-        → IsRegexOf (bytewise case_insensitive) res s.pattern.regex) }
-{
-    let how = bytewise(case_insensitive);
-    let pattern = Pattern::from_nfa(nfa, &how)?;
-    let spans = SpanSearcher::new(pattern)?;
-    Ok(spans)
-}
-
-/// The searcher of matches, if matches alone are to be shown.
-fn spans_of(nfa: &NFA, only_matches: bool, case_insensitive: bool) -> Result<Option<SpanSearcher>>
-    ensures { IfOk result (λ spans. (res : List Re) → IsJoinedNfa (bytewise case_insensitive) res nfa.now
-        → AreSpansFor case_insensitive only_matches res spans) }
-{
-    if !only_matches {
-        return Ok(None);
+    let show = Show {
+        flags: args.flags,
+        name: String::new(rt.alloc()),
+        binary: false,
+    };
+    let since = Instant::now(rt)?;
+    let grep = grep_of(rt.alloc(), show, nfa, args.case_insensitive, args.capacity)?;
+    let mut search = Search::new(rt, grep, args.reading);
+    search.search_all(rt, args.files.as_slice())?;
+    if args.stats {
+        search.print_stats(rt, since)?;
     }
-    let copy = nfa.clone()?;
-    let spans = span_searcher(copy, case_insensitive)?;
-    Ok(Some(spans))
-}
-
-/// A grep for the patterns of an NFA, which has searched nothing.
-fn grep_of(alloc: Global, show: Show, nfa: NFA, case_insensitive: bool) -> Result<Grep>
-    requires { HasNoLookCycle nfa }
-    ensures meant { IfOk result (λ grep. (res : List Re) → IsJoinedNfa (bytewise case_insensitive) res nfa
-        → IsGrepFor case_insensitive res grep) }
-    ensures show { IfOk result (λ grep. grep.show ≡ show) }
-    ensures searched { IfOk result (λ grep. grep.lines.searched ≡ 0) }
-    ensures count { IfOk result (λ grep. grep.count ≡ 0) }
-{
-    let spans = spans_of(&nfa, show.only_matches, case_insensitive)?;
-    let lines = line_searcher(nfa)?;
-    Ok(Grep::new(alloc, show, lines, spans))
-}
-
-/// Searches standard input. The status says whether a line had a match.
-fn search(rt: &HostRuntime, options: &Options<'_>, nfa: NFA) -> Result<ExitCode>
-    requires { HasNoLookCycle nfa }
-{
-    let mut grep = grep_of(rt.alloc(), options.show, nfa, options.case_insensitive)?;
-    grep.run(&mut rt.reader(), &mut io::writer(rt))?;
-    Ok(if grep.count() > 0 {
-        ExitCode::SUCCESS
-    } else {
-        ExitCode::FAILURE
-    })
+    Ok(ExitCode::from(search.status()))
 }
 
 /// The arguments after the program's name.
-fn arguments(rt: &HostRuntime) -> Result<Vec<String>> {
+fn words(rt: &HostRuntime) -> Result<Vec<String>> {
     let mut all = Vec::new(rt.alloc());
     for argument in env::args(rt)?.skip(1) {
         all.push(argument)?;
@@ -145,13 +103,23 @@ fn arguments(rt: &HostRuntime) -> Result<Vec<String>> {
     Ok(all)
 }
 
+/// The texts of the patterns.
+fn texts_of<'t>(alloc: Global, patterns: &'t [String]) -> Result<Vec<&'t str>> {
+    let mut texts = Vec::new(alloc);
+    for pattern in patterns {
+        texts.push(pattern.as_str())?;
+    }
+    Ok(texts)
+}
+
 /// Reads the arguments, and searches. A pattern that cannot be read is shown, and gives the status 2.
 fn run(rt: &HostRuntime) -> Result<ExitCode> {
-    let arguments = arguments(rt)?;
-    let options = Options::read(rt.alloc(), arguments.as_slice())?;
-    match patterns_nfa(rt.alloc(), &options) {
-        Ok(nfa) => search(rt, &options, nfa),
-        Err(error) => report(rt, &options, error),
+    let words = words(rt)?;
+    let args = Args::read(rt, words.as_slice())?;
+    let texts = texts_of(rt.alloc(), args.patterns.as_slice())?;
+    match patterns_nfa(rt.alloc(), texts.as_slice(), args.case_insensitive) {
+        Ok(nfa) => search_files(rt, &args, nfa),
+        Err(error) => report(rt, texts.as_slice(), error),
     }
 }
 

@@ -7,6 +7,7 @@ ghost use Rattle.patterns.specs.Patterns.{IsRegexOf};
 ghost use Rattle.example_grep.specs.Lines.{bytewise};
 ghost use Rattle.example_grep.specs.Shown.{part_shown, parts_shown, shown_after};
 
+use crate::stats::Usage;
 use anyhow::Result;
 use patterns::Pattern;
 use regex_automata::hybrid::regex::Cache;
@@ -68,5 +69,11 @@ impl SpanSearcher {
             push_part(prefix, &line[found.start()..found.end()], shown)?;
         }
         Ok(())
+    }
+
+    /// What its caches have made.
+    pub fn usage(&self) -> Usage {
+        let (ends, starts) = self.caches.as_parts();
+        Usage::of(ends).and(Usage::of(starts))
     }
 }

@@ -1,7 +1,6 @@
 -- The first match of a text.
 use Rattle.std.specs.Prelude.{ℕ, ◌≡◌, List, length, Option, true}
-use Rattle.regex_automata.specs.Promises.{Forward, HalfMatch, Input, IsFound, IsNearestAnswer, Machine, No, WithoutBase}
-use Rattle.regex_automata.specs.Promises.{engine_of, match_kind_of}
+use Rattle.regex_automata.specs.Promises.{Forward, HalfMatch, Input, IsFound, IsNearestAnswer, Machine, No, WithoutBase, engine}
 
 -- a text, searched for its first match
 abbrev pub earliest : List ℕ → Input
@@ -12,4 +11,4 @@ pub record IsEarliest (m : Machine) (text : List ℕ) (found : Option HalfMatch)
   -- Whatever `try_search_fwd` answers, it is this.
   pub same : (answer : Option HalfMatch) → WithoutBase (IsFound Forward m (earliest text)) answer → found ≡ answer
   -- No path ends in a match before it.
-  pub nearest : WithoutBase (IsNearestAnswer Forward (engine_of m.nfa (match_kind_of m.config)) (earliest text)) found
+  pub nearest : WithoutBase (IsNearestAnswer Forward (engine m) (earliest text)) found

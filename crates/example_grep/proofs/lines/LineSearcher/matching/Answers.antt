@@ -7,23 +7,24 @@ use Rattle.std.proofs.lemmas.Iterator.Splits.{YieldsList-from_slice_split}
 use Rattle.regex_hir.specs.Re.{Re}
 use Rattle.regex_automata.specs.Promises.{Machine}
 use Rattle.meaning.specs.Patterns.{HasPart}
-use Rattle.example_grep.specs.Lines.{AreMatching, HasMatch, IsSearcherFor, begins, counted, found_line, numbered, one_more}
+use Rattle.example_grep.specs.Lines.{AreMatching, HasMatch, IsSearcherFor, IsWanted, begins, count_after, found_line, numbered, one_more}
 use Rattle.example_grep.proofs.Numbers.{count_turn, left, taken}
 use Rattle.example_grep.proofs.lines.LineSearcher.matching.Goals as goal
 
 -- whether the line of a turn has a match
 decides :
-    (m now : Machine) (line : List ℕ) (has : Bool)
-    → now ≡ m → (IsTrue has ↔ HasMatch now line) → IsTrue has ↔ HasMatch m line
-decides m now line has same h = subst (λ d. IsTrue has ↔ HasMatch d line) same h
+    (invert : Bool) (m now : Machine) (line : List ℕ) (has : Bool) → now ≡ m
+    → (IsTrue has ↔ IsWanted invert (HasMatch now line)) → IsTrue has ↔ IsWanted invert (HasMatch m line)
+decides invert m now line has same h = subst (λ d. IsTrue has ↔ IsWanted invert (HasMatch d line)) same h
 
 -- and by what the texts mean
 means :
-    (m now : Machine) (line : List ℕ) (has : Bool) → now ≡ m
-    → ((insensitive : Bool) (res : List Re) → IsSearcherFor insensitive res now → IsTrue has ↔ HasPart res line)
-    → (insensitive : Bool) (res : List Re) → IsSearcherFor insensitive res m → IsTrue has ↔ HasPart res line
-means m now line has same h =
-    subst (λ d. (insensitive : Bool) (res : List Re) → IsSearcherFor insensitive res d → IsTrue has ↔ HasPart res line) same h
+    (invert : Bool) (m now : Machine) (line : List ℕ) (has : Bool) → now ≡ m
+    → ((insensitive : Bool) (res : List Re) → IsSearcherFor insensitive res now → IsTrue has ↔ IsWanted invert (HasPart res line))
+    → (insensitive : Bool) (res : List Re) → IsSearcherFor insensitive res m → IsTrue has ↔ IsWanted invert (HasPart res line)
+means invert m now line has same h =
+    subst (λ d. (insensitive : Bool) (res : List Re) → IsSearcherFor insensitive res d → IsTrue has ↔ IsWanted invert (HasPart res line))
+    same h
 
 -- a loop that came to its end has gone through all parts
 gone :
@@ -36,13 +37,13 @@ loop-bytes-preserved c =
     let i = c.loop-bytes.invariant in
     let line = c.in-Some.bytes in
     let n = c.args.self.now.searched in
-    let has = decides c.args.self.now.dfa c.loop-bytes.self.dfa line.now c.in_ok-has_match.field-0 i.same c.in_ok-has_match.ensures.found in
-    let told = means c.args.self.now.dfa c.loop-bytes.self.dfa line.now c.in_ok-has_match.field-0 i.same c.in_ok-has_match.ensures.meant in
+    let has = decides c.args.invert c.args.self.now.dfa c.loop-bytes.self.dfa line.now c.in_ok-is_wanted.field-0 i.same c.in_ok-is_wanted.ensures.found in
+    let told = means c.args.invert c.args.self.now.dfa c.loop-bytes.self.dfa line.now c.in_ok-is_wanted.field-0 i.same c.in_ok-is_wanted.ensures.meant in
     record {
-      same = c.in_ok-has_match.ensures.same ∙ i.same;
-      searched = count_turn n c.loop-bytes.yielded line c.loop-bytes.self.searched _ i.searched (c.in_ok-has_match.ensures.searched ∙ c.saturating_add-self.ensures);
-      found = left n c.loop-bytes.yielded line (HasMatch c.args.self.now.dfa) c.loop-bytes.found.items _ i.found has c.if-branch.false;
-      meant = λ insensitive res is. left n c.loop-bytes.yielded line (HasPart res) c.loop-bytes.found.items _
+      same = c.in_ok-is_wanted.ensures.same ∙ i.same;
+      searched = count_turn n c.loop-bytes.yielded line c.loop-bytes.self.searched _ i.searched (c.in_ok-is_wanted.ensures.searched ∙ c.saturating_add-self.ensures);
+      found = left n c.loop-bytes.yielded line (λ l. IsWanted c.args.invert (HasMatch c.args.self.now.dfa l)) c.loop-bytes.found.items _ i.found has c.if-branch.false;
+      meant = λ insensitive res is. left n c.loop-bytes.yielded line (λ l. IsWanted c.args.invert (HasPart res l)) c.loop-bytes.found.items _
           (i.meant insensitive res is) (told insensitive res is) c.if-branch.false;
     }
 
@@ -51,15 +52,15 @@ loop-bytes-preserved-in-Continue-branch-2 c =
     let i = c.loop-bytes.invariant in
     let line = c.in-Some.bytes in
     let n = c.args.self.now.searched in
-    let has = decides c.args.self.now.dfa c.loop-bytes.self.dfa line.now c.in_ok-has_match.field-0 i.same c.in_ok-has_match.ensures.found in
-    let told = means c.args.self.now.dfa c.loop-bytes.self.dfa line.now c.in_ok-has_match.field-0 i.same c.in_ok-has_match.ensures.meant in
-    let number = c.in_ok-has_match.ensures.searched ∙ c.saturating_add-self.ensures ∙ ap one_more i.searched in
+    let has = decides c.args.invert c.args.self.now.dfa c.loop-bytes.self.dfa line.now c.in_ok-is_wanted.field-0 i.same c.in_ok-is_wanted.ensures.found in
+    let told = means c.args.invert c.args.self.now.dfa c.loop-bytes.self.dfa line.now c.in_ok-is_wanted.field-0 i.same c.in_ok-is_wanted.ensures.meant in
+    let number = c.in_ok-is_wanted.ensures.searched ∙ c.saturating_add-self.ensures ∙ ap one_more i.searched in
     record {
-      same = c.in_ok-has_match.ensures.same ∙ i.same;
-      searched = count_turn n c.loop-bytes.yielded line c.loop-bytes.self.searched _ i.searched (c.in_ok-has_match.ensures.searched ∙ c.saturating_add-self.ensures);
-      found = taken n c.loop-bytes.yielded line (HasMatch c.args.self.now.dfa) c.loop-bytes.found.items _ i.found has _ _ c.if-branch.true
+      same = c.in_ok-is_wanted.ensures.same ∙ i.same;
+      searched = count_turn n c.loop-bytes.yielded line c.loop-bytes.self.searched _ i.searched (c.in_ok-is_wanted.ensures.searched ∙ c.saturating_add-self.ensures);
+      found = taken n c.loop-bytes.yielded line (λ l. IsWanted c.args.invert (HasMatch c.args.self.now.dfa l)) c.loop-bytes.found.items _ i.found has _ _ c.if-branch.true
           c.in_ok-push.ensures.items refl number;
-      meant = λ insensitive res is. taken n c.loop-bytes.yielded line (HasPart res) c.loop-bytes.found.items _
+      meant = λ insensitive res is. taken n c.loop-bytes.yielded line (λ l. IsWanted c.args.invert (HasPart res l)) c.loop-bytes.found.items _
           (i.meant insensitive res is) (told insensitive res is) _ _ c.if-branch.true c.in_ok-push.ensures.items refl number;
     }
 
@@ -76,14 +77,14 @@ returns-clause-searched c =
     let made : c.into_iter-bytes-iterator.result ≡ c.split-bytes-items.result = cc in
     let all = gone _ _ _ c.loop-bytes.yielded (rw made at c.loop-bytes.yielded_by) c.in-None.is c.next.ensures.steps
     (YieldsList-from_slice_split _ (λ byte. byte == 10) c.args.text.now c.split-bytes-items.ensures.rest c.split-bytes-items.ensures.done c.split-bytes-items.ensures.closure (λ x r q k. search (rules, tests))) in
-    c.loop-bytes.invariant.searched ∙ ap (counted c.args.self.now.searched) all
+    c.loop-bytes.invariant.searched ∙ ap (count_after c.args.self.now.searched) all
 
 pub returns-clause-lines : goal.returns-clause-lines
 returns-clause-lines c =
     let made : c.into_iter-bytes-iterator.result ≡ c.split-bytes-items.result = cc in
     let all = gone _ _ _ c.loop-bytes.yielded (rw made at c.loop-bytes.yielded_by) c.in-None.is c.next.ensures.steps
     (YieldsList-from_slice_split _ (λ byte. byte == 10) c.args.text.now c.split-bytes-items.ensures.rest c.split-bytes-items.ensures.done c.split-bytes-items.ensures.closure (λ x r q k. search (rules, tests))) in
-    subst (λ v. AreMatching (λ line. HasMatch c.args.self.now.dfa line.1) (numbered c.args.self.now.searched v) (map found_line c.loop-bytes.found.items)) all
+    subst (λ v. AreMatching (λ line. IsWanted c.args.invert (HasMatch c.args.self.now.dfa line.1)) (numbered c.args.self.now.searched v) (map found_line c.loop-bytes.found.items)) all
     c.loop-bytes.invariant.found
 
 pub returns-clause-meant : goal.returns-clause-meant
@@ -91,5 +92,5 @@ returns-clause-meant c = λ insensitive res is.
     let made : c.into_iter-bytes-iterator.result ≡ c.split-bytes-items.result = cc in
     let all = gone _ _ _ c.loop-bytes.yielded (rw made at c.loop-bytes.yielded_by) c.in-None.is c.next.ensures.steps
     (YieldsList-from_slice_split _ (λ byte. byte == 10) c.args.text.now c.split-bytes-items.ensures.rest c.split-bytes-items.ensures.done c.split-bytes-items.ensures.closure (λ x r q k. search (rules, tests))) in
-    subst (λ v. AreMatching (λ line. HasPart res line.1) (numbered c.args.self.now.searched v) (map found_line c.loop-bytes.found.items)) all
+    subst (λ v. AreMatching (λ line. IsWanted c.args.invert (HasPart res line.1)) (numbered c.args.self.now.searched v) (map found_line c.loop-bytes.found.items)) all
     (c.loop-bytes.invariant.meant insensitive res is)

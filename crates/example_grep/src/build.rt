@@ -1,0 +1,175 @@
+//! What searches for the patterns: their NFA, and what is built of it.
+ghost use Rattle.std.specs.Prelude.{◌≡◌, Bool, List, Some, IfOk, OnOk, map, true};
+ghost use Rattle.regex_hir.specs.Re.{Re};
+ghost use Rattle.automata_base.specs.Answers.TruePairs.{KeepsUtf8};
+ghost use Rattle.automata_config.specs.Options.{overwritten, unset};
+ghost use Rattle.automata_hybrid.specs.Machines.Builds.{Builds};
+ghost use Rattle.regex_automata.specs.Promises.{Forward, KindAll, LeftmostFirst, engine_of, match_kind_of};
+ghost use Rattle.patterns.specs.Patterns.{HasNoLookCycle, IsJoinedNfa, IsNfaOf, IsRegexOf};
+ghost use Rattle.patterns.specs.Sets.{IsDfaOf};
+ghost use Rattle.example_grep.specs.Lines.{bytewise};
+ghost use Rattle.example_grep.specs.Greps.{IsGrepFor, IsViewFor};
+
+use crate::lines::LineSearcher;
+use crate::search::Grep;
+use crate::sets::SetSearcher;
+use crate::show::{How, Show};
+use crate::spans::SpanSearcher;
+use crate::view::View;
+use anyhow::{Result, bail};
+use patterns::{Options, Pattern, PatternError, RegexSet, nfa_of};
+use regex_automata::hybrid::BuildError;
+use regex_automata::hybrid::dfa::{Config, DFA};
+use regex_automata::nfa::thompson::NFA;
+use regex_automata::util::search::MatchKind;
+use std::alloc::Global;
+
+/// How patterns are read: they are searched in bytes.
+fn bytewise(case_insensitive: bool) -> Options
+    ensures { result ≡ bytewise case_insensitive }
+{
+    Options {
+        unicode: true,
+        case_insensitive,
+        multi_line: false,
+        dot_matches_new_line: false,
+        crlf: false,
+        swap_greed: false,
+        ignore_whitespace: false,
+        octal: false,
+        utf8: false,
+        ascii: false,
+        size_limit: 10 << 20,
+        nest_limit: 250,
+    }
+}
+
+/// The NFA of the patterns.
+pub fn patterns_nfa(
+    alloc: Global,
+    patterns: &[&str],
+    case_insensitive: bool,
+) -> Result<NFA, PatternError>
+    ensures meant { IfOk result (IsNfaOf (bytewise case_insensitive) (map (λ text. text.now) patterns.now)) }
+    ensures acyclic { IfOk result HasNoLookCycle }
+{
+    let how = bytewise(case_insensitive);
+    nfa_of(alloc, patterns, &how)
+}
+
+/// The settings of a DFA: which matches it reports, and how many bytes its cache may account for, or the least that it
+/// can do with.
+fn settings(match_kind: MatchKind, capacity: usize) -> Config
+    ensures { result ≡ record unset {
+      match_kind = Some match_kind;
+      cache_capacity = Some capacity;
+      skip_cache_capacity_check = Some true;
+    } }
+{
+    DFA::config()
+        .match_kind(match_kind)
+        .cache_capacity(capacity)
+        .skip_cache_capacity_check(true)
+}
+
+/// The DFA of an NFA by these settings.
+fn built(nfa: NFA, config: Config) -> Result<DFA, BuildError>
+    ensures { IfOk result (Builds (overwritten unset config) nfa) }
+{
+    let mut builder = DFA::builder();
+    builder.configure(config);
+    builder.build_from_nfa(nfa)
+}
+
+/// The DFA of an NFA.
+fn dfa_of(nfa: NFA, match_kind: MatchKind, capacity: usize) -> Result<DFA>
+    ensures nfa { IfOk result (λ dfa. dfa.nfa ≡ nfa) }
+    ensures kind { IfOk result (λ dfa. match_kind_of dfa.config ≡ match_kind) }
+{
+    let config = settings(match_kind, capacity);
+    let dfa = built(nfa, config)?;
+    Ok(dfa)
+}
+
+/// The searcher of lines for the patterns of an NFA.
+fn line_searcher(nfa: NFA, capacity: usize) -> Result<LineSearcher>
+    requires { HasNoLookCycle nfa }
+    ensures nfa { IfOk result (λ s. s.dfa.nfa ≡ nfa) }
+    ensures kind { IfOk result (λ s. match_kind_of s.dfa.config ≡ LeftmostFirst) }
+    ensures searched { IfOk result (λ s. s.searched ≡ 0) }
+{
+    let dfa = dfa_of(nfa, MatchKind::LeftmostFirst, capacity)?;
+    LineSearcher::new(dfa)
+}
+
+/// The searcher of matches for the patterns of an NFA. Its caches have the library's own capacity.
+fn span_searcher(nfa: NFA, case_insensitive: bool) -> Result<SpanSearcher>
+    ensures { IfOk result (λ s. (res : List Re) → IsJoinedNfa (bytewise case_insensitive) res nfa
+        → IsRegexOf (bytewise case_insensitive) res s.pattern.regex) }
+{
+    let how = bytewise(case_insensitive);
+    let pattern = Pattern::from_nfa(nfa, &how)?;
+    let spans = SpanSearcher::new(pattern)?;
+    Ok(spans)
+}
+
+/// Fails if matches might split characters of text. Those of an NFA for bytes never do.
+fn test_utf8(nfa: &NFA) -> Result<()>
+    ensures { OnOk result (KeepsUtf8 Forward (engine_of nfa.now KindAll)) }
+{
+    if !nfa.keeps_utf8()? {
+        bail!("a match might split a character");
+    }
+    Ok(())
+}
+
+/// The searcher of the patterns that match, for those of an NFA.
+fn set_searcher(nfa: NFA, capacity: usize) -> Result<SetSearcher>
+    ensures { IfOk result (λ s. (case_insensitive : Bool) (res : List Re)
+        → IsJoinedNfa (bytewise case_insensitive) res nfa → IsDfaOf (bytewise case_insensitive) res s.set.dfa) }
+{
+    test_utf8(&nfa)?;
+    let dfa = dfa_of(nfa, MatchKind::All, capacity)?;
+    SetSearcher::new(RegexSet { dfa })
+}
+
+/// What searches lines for what is to be shown of them.
+fn view_of(nfa: &NFA, how: How, case_insensitive: bool, capacity: usize) -> Result<View>
+    ensures { IfOk result (λ view. (res : List Re) → IsJoinedNfa (bytewise case_insensitive) res nfa.now
+        → IsViewFor case_insensitive how res view) }
+{
+    match how {
+        How::Whole => Ok(View::Whole),
+        How::Matches => {
+            let copy = nfa.clone()?;
+            let spans = span_searcher(copy, case_insensitive)?;
+            Ok(View::Matches(spans))
+        }
+        How::Which => {
+            let copy = nfa.clone()?;
+            let sets = set_searcher(copy, capacity)?;
+            Ok(View::Which(sets))
+        }
+    }
+}
+
+/// A grep for the patterns of an NFA, which has searched nothing. Each cache that is not for matches alone may account
+/// for so many bytes.
+pub fn grep_of(
+    alloc: Global,
+    show: Show,
+    nfa: NFA,
+    case_insensitive: bool,
+    capacity: usize,
+) -> Result<Grep>
+    requires { HasNoLookCycle nfa }
+    ensures meant { IfOk result (λ grep. (res : List Re) → IsJoinedNfa (bytewise case_insensitive) res nfa
+        → IsGrepFor case_insensitive res grep) }
+    ensures show { IfOk result (λ grep. grep.show ≡ show) }
+    ensures searched { IfOk result (λ grep. grep.lines.searched ≡ 0) }
+    ensures count { IfOk result (λ grep. grep.count ≡ 0) }
+{
+    let view = view_of(&nfa, show.flags.how, case_insensitive, capacity)?;
+    let lines = line_searcher(nfa, capacity)?;
+    Ok(Grep::new(alloc, show, lines, view))
+}
