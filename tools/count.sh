@@ -1,8 +1,8 @@
 #!/bin/sh
 # Counts the instructions of searches by callgrind, here, by the twin and by RE2, in a copy that measure.sh made:
 #     tools/count.sh COPY [WORK..]
-#     tools/count.sh COPY c
-# The second form counts the works of the library for C, by its C program, RE2 and the Rust crate regex.
+#     tools/count.sh COPY c [WORK..]
+# The second form counts the works of the library for C, by its C program, the twin, RE2 and the Rust crate regex.
 # It needs valgrind, and takes half an hour for all works. These leave out haystacks of 1 MB and 64 MB, whose bytes take
 # the instructions of those in 64 KB. Only what the searches run is counted, of a first search its DFA and cache too, and
 # of a whole one also its automaton, or RE2's parse and program. It prints instructions a unit, by measure/works, and a dash
@@ -11,7 +11,7 @@ set -eu
 copy=$1
 shift
 units=$(dirname "$0")/measure/works
-[ "$*" != c ] || units=${units}_c
+[ "${1:-}" != c ] || units=${units}_c
 # shellcheck disable=SC2046
 [ "$#" -gt 0 ] || set -- $(cut -d ' ' -f 1 "$units" | grep -Ev '^(memory|scan|dense)(1|64)M$')
 counted() { # WORK PROGRAM FUNCTION..
@@ -23,18 +23,26 @@ counted() { # WORK PROGRAM FUNCTION..
         set -- "$@" --toggle-collect="$function"
         shift
     done
+    given=$copy/made/$work
+    [ -f "$given" ] || given=$copy/LICENSE-APACHE
     valgrind --tool=callgrind --callgrind-out-file="$copy/$work.$(basename "$program")" "$@" "$program" "$work" \
-        2>&1 < "$copy/LICENSE-APACHE" |
+        2>&1 < "$given" |
         awk -v work="$work" 'FNR == NR { if ($1 == work) units = $2; next } /Collected/ { total = $NF }
             END { each = total / units; print total ? sprintf(each < 100 ? "%.2f" : "%.0f", each) : "-" }' "$units" -
 }
-if [ "$*" = c ]; then
-    printf '%-9s %-6s %12s %12s %12s\n' work a here re2 regex
+if [ "$1" = c ]; then
+    shift
+    printf '%-13s %-6s %12s %12s %12s %12s\n' work a here twin re2 regex
     while read -r work _ unit; do
+        case " $* " in
+        '  ' | *" $work "*) ;;
+        *) continue ;;
+        esac
         here=$(counted "$work" "$copy/from_c" 'count_in*')
+        twin=$(counted "$work" "$copy/twin" 'twin::Searcher::*' twin::count_spans)
         re2=$(counted "$work" "$copy/re2" 're2::RE2::Match(*' 're2::RE2::Set::Match(*ErrorInfo*')
         regex=$(counted "$work" "$copy/regex/target/release/regex_works" 'regex_works::run*')
-        printf '%-9s %-6s %12s %12s %12s\n' "$work" "$unit" "$here" "$re2" "$regex"
+        printf '%-13s %-6s %12s %12s %12s %12s\n' "$work" "$unit" "$here" "$twin" "$re2" "$regex"
     done < "$units"
     exit
 fi

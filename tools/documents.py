@@ -2,23 +2,38 @@
 """Compares the excerpts of README.md, of pages of docs/ and of the docstrings with the files that they are from, and looks
 for definitions without a sentence:
 
-    tools/documents.py ['N passed, M failed']
+    tools/documents.py [--write] ['N passed, M failed']
 
 Each block of Rattle or of antt in a document has to stand in the file that the line before it names, as
 `crates/example_words/src/main.rt`, line for line but for how far it is indented. A block after a line that ends in
 "prints:" has to be what the program writes, the file stdout of the crate that was named last. A block of Rattle in a
 docstring of the settings, the lazy DFA or the regex has to stand in some file of the example crates. Above each definition
-in specs/, and above each field of a record, stands a comment.
+in specs/, and above each field of a record, stands a comment. The pictures docs/nfa.svg and docs/states.svg have the states
+and the edges of the two graphs that `example_picture` prints. The plots docs/words.svg, docs/sets.svg and docs/capacity.svg
+are what tools/plots.py draws of the tables of docs/PERFORMANCE.md.
 
-The last line counts the documents, the docstrings and the definitions too, beside what the given line counts, the last one
-of `rt ci`, which proves and runs the programs themselves. It needs Python 3 alone.
+docs/index has each definition, by crate, and docs/READING.md how many there are in each tier: both have to be what
+tools/index.py finds, and --write writes them. In specs/Private of the lazy DFA stands what no contract of a public call
+reaches, and nothing else. No two crates define one name. READING has each sign that specs/ use, and each name of the
+standard library.
+
+The last line counts each of these, beside what the given line counts, the last one of `rt ci`, which proves and runs the
+programs themselves. It needs Python 3 alone.
 """
+import html
 import os
 import re
 import sys
 
+sys.dont_write_bytecode = True
+
+import index  # of this folder, as plots is
+import plots
+
 TOP = os.path.dirname(os.path.dirname(os.path.abspath(__file__)))
 DOCUMENTS = ["README.md", "docs/CALLING.md", "docs/PATTERNS.md", "docs/READING.md"]
+PICTURES, GRAPHS = ["docs/nfa.svg", "docs/states.svg"], "crates/example_picture/stdout"
+READING, TIERS = "docs/READING.md", re.compile(r"(?<=\|---\|---\|---\|---\|---\|---\|---\|---\|\n)(?:\|.*\n)*")
 DOCSTRINGS = ["automata_config", "automata_hybrid", "regex_automata"]
 # A definition, or a field of a record.
 DEFINITION = re.compile(
@@ -100,12 +115,77 @@ def sentence_faults():
     return faults
 
 
+def drawn(picture):
+    """Returns what a picture has, made by `dot`: the title of each state and edge, and the text at it."""
+    found = re.findall(r'<g id="(?:node|edge)\d.*?<title>([^<]*)</title>(.*?)</g>', picture, re.S)
+    texts = [(title, re.findall(r"<text[^>]*>([^<]*)</text>", rest)) for title, rest in found]
+    return sorted((html.unescape(title), html.unescape("".join(text))) for title, text in texts)
+
+
+def picture_faults(picture, graph):
+    """Returns whether a picture is not that of a graph which `example_picture` prints."""
+    wanted, nodes = [], {}
+    for first, second, label in re.findall(r'^    (\w+)(?: -> (\w+))?(?: \[.*?(?:label="(.*)")?\])?$', graph, re.M):
+        name = f"{first}->{second}" if second else first
+        nodes |= {it: nodes.get(it, it) for it in (first, second) if it}
+        if second:
+            wanted.append((name, label.replace("\\\\", "\\")))
+        elif label:
+            nodes[first] = label
+    nodes.pop("node", None)
+    right = drawn(read(picture)) == sorted([*wanted, *nodes.items()])
+    return [] if right else [f"{picture} is not the picture of its graph in {GRAPHS}"]
+
+
+def index_faults(specs, named, tier, write):
+    """Returns which pages of the index, and which counts of READING, are not those of specs/; or writes them."""
+    pages = {f"docs/index/{it}.md": index.table_of(specs, named, tier, it) for it in index.CRATES}
+    pages[READING] = TIERS.sub("".join(f"{it}\n" for it in index.tier_rows(tier)), read(READING), count=1)
+    faults = []
+    for path, text in pages.items():
+        if not os.path.exists(f"{TOP}/{path}") or read(path) != text:
+            faults.append(f"{path} is not that of specs: tools/documents.py --write")
+            if write:
+                with open(f"{TOP}/{path}", "w", encoding="utf-8") as it:
+                    it.write(text)
+    return [] if write else faults
+
+
+def homonym_faults(specs):
+    """Returns which names two crates define in specs/."""
+    where = {}
+    for module, name in specs.text:
+        where.setdefault(name, set()).add(module.split(".")[0])
+    return [f"{' and '.join(sorted(crates))} define {name}" for name, crates in sorted(where.items()) if len(crates) > 1]
+
+
+def sign_faults():
+    """Returns which signs of specs/ have no row in READING."""
+    rows = " ".join(line for line in read(READING).split("\n") if line.startswith("|"))
+    known = set(re.findall(r"[\w₁]+|[^\w\s]", " ".join(re.findall(r"`([^`]*)`", rows)).replace("\\|", "|")))
+    return [f"{it} has no row in {READING}" for it in sorted(index.signs()) if it != "[]" and it not in known]
+
+
 def main(words):
+    write = "--write" in words
+    words = [it for it in words if it != "--write"]
     counted = re.fullmatch(r"(\d+) passed, (\d+) failed", words[0] if words else "0 passed, 0 failed")
     passed, failed = (int(counted[1]), int(counted[2])) if counted else (0, 1)
-    found = {it: document_faults(it) for it in DOCUMENTS} | {"docstrings": docstring_faults(), "specs": sentence_faults()}
-    for name, faults in found.items():
-        right = "each definition has a sentence" if name == "specs" else "each excerpt stands in its file"
+    excerpts = "each excerpt stands in its file"
+    found = {it: (document_faults(it), excerpts) for it in DOCUMENTS}
+    found["docstrings"] = docstring_faults(), excerpts
+    found["specs"] = sentence_faults(), "each definition has a sentence"
+    specs = index.Specs()
+    named = index.calls(specs)
+    tier = index.tiers(specs, named)
+    found["the index"] = index_faults(specs, named, tier, write), "it is that of specs"
+    found["Private"] = index.misplaced(specs, tier), "it has what no public contract reaches"
+    found["names"] = homonym_faults(specs), "no two crates define one"
+    found["signs"] = sign_faults(), f"each is in {READING}"
+    for picture, graph in zip(PICTURES, read(GRAPHS).split("digraph ")[1:], strict=True):
+        found[picture] = picture_faults(picture, graph), "it is that of example_picture"
+    found["the plots"] = plots.faults(), "they are those of PERFORMANCE"
+    for name, (faults, right) in found.items():
         print(f"{name}: {'; '.join(faults) or right}")
         passed, failed = passed + (not faults), failed + bool(faults)
     print(f"{passed} passed, {failed} failed")

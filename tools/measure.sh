@@ -2,7 +2,7 @@
 # Measures the library beside a lean twin in unchecked Rust, RE2 and the kit's `regex`, and the library for C beside grep,
 # RE2 and the Rust crate regex, in a copy of the repository with two crates more, outside the gate:
 #     tools/measure.sh [ROUNDS [WORK..]]
-# It needs rt, g++, RE2's headers and library, and rustc; without rustc the twin is left out. Seven rounds, as by
+# It needs rt, g++, Python 3, RE2's headers and library, and rustc; without rustc the twin is left out. Seven rounds, as by
 # default, take five minutes, and on a busy machine fifteen. The crates `measure` and `kit_works` are proved before
 # that, in ten minutes more; so are the library's crates, in half an hour more, unless each has its proofs in `out/`
 # (`rt all check`).
@@ -16,9 +16,10 @@
 # MEASURE_COPY names a copy to use again.
 #
 # The works of the library for C stand in measure/from_c.c, and their units in measure/works_c: with all works, and with
-# `c` in place of the works, they are measured after the others, by rounds of their own. grep counts the lines with a date
-# in a file, in the locale C, and its time is that in user mode, to a thousandth of a second; the others have the same lines
-# in memory. The crate regex is built by cargo from the sources that Debian's package librust-regex-dev installs, or those
+# `c` in place of the works, they are measured after the others, by rounds of their own. Those that begin with `spans_` or
+# `which_` read what measure/made.py makes: a pattern, and a text that looks like Russian, Chinese, JSON, source code or
+# English. grep counts the lines with a date in a file, in the locale C, and its time is that in user mode, to a thousandth
+# of a second; the others have the same lines in memory. The crate regex is built by cargo from the sources that Debian's package librust-regex-dev installs, or those
 # in the folder that REGEX_SOURCES names; without cargo or these it is left out.
 set -eu
 rounds=${1:-7}
@@ -34,7 +35,9 @@ done
 g++ -O2 -o "$copy/re2" "$top/tools/measure/re2.cc" -lre2
 
 tell() { # ROUND WHO PROGRAM WORK
-    [ ! -x "$3" ] || "$3" "$4" < "$top/LICENSE-APACHE" | sed "s/^/$1 $2 /" >> "$copy/told"
+    given=$copy/made/$4
+    [ -f "$given" ] || given=$top/LICENSE-APACHE
+    [ ! -x "$3" ] || "$3" "$4" < "$given" | sed "s/^/$1 $2 /" >> "$copy/told"
 }
 
 grep_dates() { # ROUND
@@ -55,25 +58,39 @@ make_regex() {
     (cd "$copy/regex" && cargo build --release --offline) > "$copy/built_regex" 2>&1 || { cat "$copy/built_regex"; exit 1; }
 }
 
+make_twin() {
+    rm -f "$copy/twin"
+    if command -v rustc > /dev/null; then
+        rustc --edition 2021 --crate-name twin -O -C codegen-units=1 -C target-cpu=x86-64-v2 -C panic=abort \
+            -o "$copy/twin" "$top/tools/measure/twin/main.rs"
+    else
+        echo 'without rustc there is no twin'
+    fi
+}
+
 measure_c() {
     make -C "$copy/bindings/c" > "$copy/proved_c" 2>&1 || { cat "$copy/proved_c"; exit 1; }
     cc -O2 -I"$copy/bindings/c/include" -o "$copy/from_c" "$top/tools/measure/from_c.c" "$copy/bindings/c/out/liblazydfa.a"
     "$copy/from_c" text > "$copy/dates.txt"
+    mkdir -p "$copy/made"
+    "$top/tools/measure/made.py" "$copy/made"
     make_regex
     : > "$copy/told"
     round=1
     while [ "$round" -le "$rounds" ]; do
         for work in $(cut -d ' ' -f 1 "$top/tools/measure/works_c"); do
             tell "$round" here "$copy/from_c" "$work"
+            tell "$round" twin "$copy/twin" "$work"
             tell "$round" re2 "$copy/re2" "$work"
             tell "$round" regex "$copy/regex/target/release/regex_works" "$work"
         done
         grep_dates "$round"
         round=$((round + 1))
     done
-    awk -v others='grep re2 regex' -f "$top/tools/measure/table.awk" "$top/tools/measure/works_c" "$copy/told" | tee "$copy/table_c"
+    awk -v others='grep twin re2 regex' -f "$top/tools/measure/table.awk" "$top/tools/measure/works_c" "$copy/told" | tee "$copy/table_c"
 }
 
+make_twin
 if [ "$*" = c ]; then
     measure_c
     echo "the copy, with the programs and all rounds: $copy"
@@ -92,13 +109,6 @@ for crate in measure kit_works; do
     (cd "$copy/crates/$crate" && rt run --jobs 2 -- first) > "$copy/proved" 2>&1 || { cat "$copy/proved"; exit 1; }
 done
 here=$copy/crates/measure/out/measure
-rm -f "$copy/twin"
-if command -v rustc > /dev/null; then
-    rustc --edition 2021 --crate-name twin -O -C codegen-units=1 -C target-cpu=x86-64-v2 -C panic=abort \
-        -o "$copy/twin" "$top/tools/measure/twin/main.rs"
-else
-    echo 'without rustc there is no twin'
-fi
 
 all=$(cut -d ' ' -f 1 "$top/tools/measure/works")
 works=${*:-$all}

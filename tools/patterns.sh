@@ -1,10 +1,11 @@
 #!/bin/sh
-# Compares what `Pattern` of `patterns` finds with what the kit's regex crate finds, in a copy of the repository
-# with one crate more, outside the gate:
+# Compares what `Pattern` and `RegexSet` of `patterns` find with what the kit's regex crate finds, in a copy of the
+# repository with one crate more, outside the gate:
 #     tools/patterns.sh
 # It begins with the rows of the kit's own tests. Then ten thousand patterns, alone and two at once, are searched in random
-# bytes and in texts that are not ASCII: for a match and for its end alone, from every offset, and for all matches. It
-# prints what differs, and how many searches there were. Nothing is proved: the program runs under a sanitizer.
+# bytes and in texts that are not ASCII: for a match and for its end alone, from every offset, for all matches, and for
+# which of them match. It prints what differs, and how many searches there were. Nothing is proved: the program runs
+# under a sanitizer.
 set -eu
 tools=$(cd "$(dirname "$0")" && pwd)
 copy=$(mktemp -d)

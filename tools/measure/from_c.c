@@ -1,6 +1,6 @@
 /* Works by the library for C: for each name of a work what was counted, and the microseconds of the processor, as
-   measure.in prints them. `batch` is `dense` with 1,024 matches a call. The work `text` writes the lines of `dates`
-   instead, for other programs. */
+   measure.in prints them. `batch` is `dense` with 1,024 matches a call. Works that begin with `spans_` or `which_` have
+   what made.py writes on standard input. The work `text` writes the lines of `dates` instead, for other programs. */
 #define _POSIX_C_SOURCE 200809L
 #include <lazydfa.h>
 #include <stdio.h>
@@ -15,6 +15,7 @@
     } while (0)
 
 enum { SIZE = 1 << 24, DATES = 100 << 20, SEARCHES = 1 << 20, LINES = 200000, WORDS = 20, BATCH = 1024 };
+enum { READ = 1 << 23, MANY = 1000, MEMORY = 1 << 26 };
 
 static const char LINE[] = "aorax then some other text eoreX and more eorex of it, then gorgx and more morm";
 
@@ -59,7 +60,7 @@ static long now(void) {
 }
 
 /* So many bytes of a range, before a state that stands already. */
-static lazydfa_status add_bytes(lazydfa_builder *builder, char lo, char hi, int count, uint32_t *at) {
+static lazydfa_status add_bytes(lazydfa_builder *builder, char lo, char hi, int count, lazydfa_state_id *at) {
     lazydfa_status status = { LAZYDFA_OK, 0, 0 };
     for (; count > 0 && status.code == LAZYDFA_OK; count--)
         status = lazydfa_add_range(builder, (uint8_t)lo, (uint8_t)hi, *at, at);
@@ -67,7 +68,7 @@ static lazydfa_status add_bytes(lazydfa_builder *builder, char lo, char hi, int 
 }
 
 /* A pattern of as many digits as the text has, and of its other bytes. */
-static lazydfa_status add_text(lazydfa_builder *builder, const char *text, uint32_t *start) {
+static lazydfa_status add_text(lazydfa_builder *builder, const char *text, lazydfa_state_id *start) {
     uint32_t pattern;
     TRY(lazydfa_start_pattern(builder, &pattern));
     TRY(lazydfa_add_match(builder, start));
@@ -79,10 +80,11 @@ static lazydfa_status add_text(lazydfa_builder *builder, const char *text, uint3
 }
 
 /* [a-z]+ */
-static lazydfa_status add_word(lazydfa_builder *builder, uint32_t *start) {
-    uint32_t pattern, found, more, alternates[2];
+static lazydfa_status add_word(lazydfa_builder *builder, lazydfa_state_id *start) {
+    lazydfa_state_id found, more, alternates[2];
+    uint32_t pattern;
     TRY(lazydfa_start_pattern(builder, &pattern));
-    TRY(lazydfa_add_range(builder, 'a', 'z', 0, start));
+    TRY(lazydfa_add_range(builder, 'a', 'z', lazydfa_state(0), start));
     TRY(lazydfa_add_match(builder, &found));
     alternates[0] = *start;
     alternates[1] = found;
@@ -92,8 +94,8 @@ static lazydfa_status add_word(lazydfa_builder *builder, uint32_t *start) {
 }
 
 /* Twenty words of five letters, a pattern each. */
-static lazydfa_status add_words(lazydfa_builder *builder, uint32_t *start) {
-    uint32_t starts[WORDS];
+static lazydfa_status add_words(lazydfa_builder *builder, lazydfa_state_id *start) {
+    lazydfa_state_id starts[WORDS];
     for (int word = 0; word < WORDS; word++) {
         char first = (char)('a' + word), text[6] = { first, 'o', 'r', first, 'x', '\0' };
         TRY(add_text(builder, text, &starts[word]));
@@ -101,7 +103,7 @@ static lazydfa_status add_words(lazydfa_builder *builder, uint32_t *start) {
     return lazydfa_add_union(builder, starts, WORDS, start);
 }
 
-static lazydfa_status add_of(lazydfa_builder *builder, const char *work, uint32_t *start) {
+static lazydfa_status add_of(lazydfa_builder *builder, const char *work, lazydfa_state_id *start) {
     if (!strcmp(work, "dates")) return add_text(builder, "0000-00-00", start);
     if (!strcmp(work, "short")) return add_text(builder, "0000", start);
     return strcmp(work, "sets") ? add_word(builder, start) : add_words(builder, start);
@@ -119,6 +121,41 @@ static lazydfa_status open_cache(lazydfa_cache *cache, const char *work) {
     TRY(lazydfa_regex_build(&regex, &builder, starts, &settings, NULL, 0));
     TRY(lazydfa_cache_new(cache, &regex));
     lazydfa_builder_close(&builder);
+    return lazydfa_regex_close(&regex);
+}
+
+static int is_spans(const char *work) { return !strncmp(work, "spans_", 6); }
+
+static int is_which(const char *work) { return !strncmp(work, "which_", 6); }
+
+/* What standard input has after its first line, which is given too. */
+static char *read_text(char **line) {
+    size_t length;
+    char *text;
+    *line = calloc(READ + 1, 1);
+    if (!*line) return NULL;
+    length = fread(*line, 1, READ, stdin);
+    text = memchr(*line, '\n', length);
+    if (text) *text++ = '\0';
+    return text;
+}
+
+/* By the pattern of a line, or by its words, a pattern each. */
+static lazydfa_status open_read(lazydfa_cache *cache, const char *work, const char *line) {
+    static lazydfa_text words[MANY];
+    lazydfa_regex regex = LAZYDFA_INIT;
+    lazydfa_settings settings = { MEMORY, 0, 0, 1, 0, 0, LAZYDFA_LEFTMOST_FIRST, 0, 0, 0, 0, 0, 0 };
+    size_t count = 0;
+    if (is_which(work)) {
+        settings.match_kind = LAZYDFA_ALL;
+        for (const char *bar = line; bar && count < MANY; line = bar ? bar + 1 : line) {
+            bar = strchr(line, '|');
+            words[count].text = line;
+            words[count++].length = bar ? (size_t)(bar - line) : strlen(line);
+        }
+        TRY(lazydfa_regex_any_of(&regex, words, count, NULL, &settings, NULL, 0, NULL, NULL, 0));
+    } else TRY(lazydfa_regex_new(&regex, line, strlen(line), NULL, &settings, NULL, 0, NULL, NULL, 0));
+    TRY(lazydfa_cache_new(cache, &regex));
     return lazydfa_regex_close(&regex);
 }
 
@@ -173,12 +210,29 @@ static lazydfa_status count_sets(lazydfa_cache *cache, const uint8_t *text, size
     return status;
 }
 
+/* How many of the words the lines have, line by line. */
+static lazydfa_status count_which(lazydfa_cache *cache, const uint8_t *text, size_t length, size_t *count) {
+    lazydfa_status status = { LAZYDFA_OK, 0, 0 };
+    while (length > 0 && status.code == LAZYDFA_OK) {
+        static uint32_t patterns[MANY];
+        const uint8_t *end = memchr(text, '\n', length);
+        size_t found = 0, line = end ? (size_t)(end - text) : length, read = end ? line + 1 : line;
+        lazydfa_input whole = lazydfa_whole(line);
+        status = lazydfa_which(cache, text, line, &whole, MANY, patterns, MANY, &found);
+        *count += found;
+        text += read;
+        length -= read;
+    }
+    return status;
+}
+
 /* Not inlined, so that its instructions can be counted by themselves. */
 __attribute__((noinline)) static lazydfa_status count_in(lazydfa_cache *cache, const char *work, const char *text,
                                                          size_t length, size_t *count) {
     const uint8_t *bytes = (const uint8_t *)text;
     if (!strcmp(work, "dates")) return count_lines(cache, bytes, length, count);
-    if (!strcmp(work, "dense")) return count_spans(cache, bytes, length, count);
+    if (is_which(work)) return count_which(cache, bytes, length, count);
+    if (!strcmp(work, "dense") || is_spans(work)) return count_spans(cache, bytes, length, count);
     if (!strcmp(work, "batch")) return count_batches(cache, bytes, length, count);
     if (!strcmp(work, "short")) return count_searches(cache, bytes, length, count);
     return count_sets(cache, bytes, length, count);
@@ -192,7 +246,8 @@ static char *text_for(const char *work) {
 
 int main(int argc, char **argv) {
     for (int n = 1; n < argc; n++) {
-        char *text = text_for(argv[n]);
+        int is_read = is_spans(argv[n]) || is_which(argv[n]);
+        char *line = NULL, *text = is_read ? read_text(&line) : text_for(argv[n]);
         lazydfa_cache cache = LAZYDFA_INIT;
         lazydfa_status status;
         size_t count = 0, length;
@@ -204,7 +259,7 @@ int main(int argc, char **argv) {
             free(text);
             continue;
         }
-        status = open_cache(&cache, argv[n]);
+        status = is_read ? open_read(&cache, argv[n], line) : open_cache(&cache, argv[n]);
         start = now();
         if (status.code == LAZYDFA_OK) status = count_in(&cache, argv[n], text, length, &count);
         if (status.code > LAZYDFA_NONE) {
@@ -213,7 +268,7 @@ int main(int argc, char **argv) {
         }
         printf("%s %zu %ld\n", argv[n], count, now() - start);
         lazydfa_cache_close(&cache);
-        free(text);
+        free(is_read ? line : text);
     }
     return 0;
 }

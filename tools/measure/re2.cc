@@ -99,10 +99,15 @@ static std::string log_text() {
   return text;
 }
 
+static std::string given_text() {
+  std::string given;
+  for (int byte; (byte = getchar()) != EOF;) given += byte;
+  return given;
+}
+
 // The lines of standard input, in one order after another.
 static std::string running_text() {
-  std::string given, text;
-  for (int byte; (byte = getchar()) != EOF;) given += byte;
+  std::string given = given_text(), text;
   std::vector<std::string> lines(1);
   for (char byte : given)
     if (byte == '\n') lines.emplace_back();
@@ -158,8 +163,9 @@ static void tell(const char* work, long count, long start) {
 
 
 // RE2 has no search for an end alone: it is asked for spans here too.
-static void matches_in(const char* work, const char* pattern, const std::string& text, size_t size = kSize) {
-  RE2 re(pattern, latin());
+static void matches_in(const char* work, const std::string& pattern, const std::string& text, size_t size = kSize,
+                       const RE2::Options& options = latin()) {
+  RE2 re(pattern, options);
   long start = now(), count = 0;
   for (size_t turn = turns(size); turn > 0; turn--) {
     size_t at = 0;
@@ -183,6 +189,40 @@ static void dates(const char* work) {
     count++;
     at = text.find('\n', m.data() + m.size() - text.data());
     at = at == std::string::npos ? text.size() : at + 1;
+  }
+  tell(work, count, start);
+}
+
+// Text is in UTF-8, and RE2 has as much memory as the others.
+static RE2::Options with_memory() {
+  RE2::Options options;
+  options.set_max_mem(1 << 26);
+  return options;
+}
+
+// What made.py writes: a line with a pattern, and a text.
+static void spans_read(const char* work) {
+  std::string given = given_text();
+  size_t line = given.find('\n');
+  matches_in(work, given.substr(0, line), given.substr(line + 1), kSize, with_memory());
+}
+
+// The same after words between bars: which of them the lines have, line by line.
+static void which_read(const char* work) {
+  std::string given = given_text();
+  size_t at = 0, line = given.find('\n');
+  RE2::Set set(with_memory(), RE2::UNANCHORED);
+  for (size_t bar; at <= line; at = bar + 1) {
+    bar = std::min(given.find('|', at), line);
+    set.Add(given.substr(at, bar - at), nullptr);
+  }
+  set.Compile();
+  std::vector<int> v;
+  long start = now(), count = 0;
+  for (size_t end; at < given.size(); at = end + 1) {
+    end = std::min(given.find('\n', at), given.size());
+    set.Match(StringPiece(given.data() + at, end - at), &v);
+    count += v.size();
   }
   tell(work, count, start);
 }
@@ -296,6 +336,15 @@ static std::string twenty() {
   return p;
 }
 
+// The works whose pattern and text are on standard input.
+static bool is_read(const char* work) {
+  std::string kind(work, strcspn(work, "_"));
+  if (kind == "spans") spans_read(work);
+  else if (kind == "which") which_read(work);
+  else return false;
+  return true;
+}
+
 // The works whose names end in a number, with K or M for 1,024 or 1,048,576 of them.
 static bool grow(const char* work) {
   size_t letters = strcspn(work, "0123456789");
@@ -336,6 +385,6 @@ int main(int n, char** words) {
     else if (w == "date") matches_in(name, "[0-9]{4}-[0-9]{2}-[0-9]{2}", log_text());
     else if (w == "numbers") matches_in(name, "\\b[0-9]+\\b", log_text());
     else if (w == "prose") matches_in(name, "[a-z]+", running_text());
-    else if (!grow(name)) printf("%s -\n", name);
+    else if (!is_read(name) && !grow(name)) printf("%s -\n", name);
   }
 }

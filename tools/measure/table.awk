@@ -51,14 +51,14 @@ function ratio(who, work,    list, n, round) {
 }
 
 END {
-    printf "%-9s %-6s %22s", "work", "ns a", "here"
+    printf "%-13s %-6s %22s", "work", "ns a", "here"
     for (o = 1; o <= most; o++) printf " %22s", other[o]
     for (o = 1; o <= most; o++) printf " %18s", other[o] "/here"
     print ""
     for (k = 1; k <= last; k++) {
         work = works[k]
         if (!(work in met)) continue
-        printf "%-9s %-6s %22s", work, unit[work], time("here", work)
+        printf "%-13s %-6s %22s", work, unit[work], time("here", work)
         for (o = 1; o <= most; o++) printf " %22s", time(other[o], work)
         for (o = 1; o <= most; o++) printf " %18s", ratio(other[o], work)
         print ""

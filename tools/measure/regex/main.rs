@@ -3,11 +3,13 @@
 
 use regex::bytes::{Regex, RegexBuilder, RegexSet};
 use std::env;
+use std::io::{self, Read};
 
 const SIZE: usize = 1 << 24;
 const DATES: usize = 100 << 20;
 const SEARCHES: usize = 1 << 20;
 const LINES: usize = 200_000;
+const MEMORY: usize = 1 << 26;
 const LINE: &str = "aorax then some other text eoreX and more eorex of it, then gorgx and more morm";
 
 unsafe extern "C" {
@@ -66,6 +68,14 @@ fn words() -> RegexSet {
     RegexSet::new(words).expect("the words are right")
 }
 
+/// What made.py writes is on standard input: a pattern in the first line, and a text.
+fn given() -> (String, String) {
+    let mut all = String::new();
+    io::stdin().read_to_string(&mut all).expect("standard input is text");
+    let (line, text) = all.split_once('\n').expect("the text has a line before it");
+    (line.into(), text.into())
+}
+
 /// Not inlined, so that its instructions can be counted by themselves.
 #[inline(never)]
 fn run(count: impl FnOnce() -> usize) -> usize {
@@ -96,6 +106,12 @@ fn main() {
             "sets" => {
                 let set = words();
                 tell(&work, || (0..LINES).map(|_| set.matches(LINE.as_bytes()).iter().count()).sum());
+            }
+            name if name.starts_with("spans_") => {
+                let (pattern, text) = given();
+                let built = RegexBuilder::new(&pattern).size_limit(MEMORY).dfa_size_limit(MEMORY).build();
+                let found = built.expect("the pattern is right");
+                tell(&work, || found.find_iter(text.as_bytes()).count());
             }
             _ => println!("{work} -"),
         }

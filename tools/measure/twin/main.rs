@@ -6,6 +6,7 @@
 
 mod cache;
 mod dfa;
+mod given;
 mod mixed;
 mod nfa;
 mod search;
@@ -328,7 +329,7 @@ fn measure(work: &str) -> Option<Told> {
         "first20" => first(words, SHORT, 20_000, false),
         "whole" => first(digits, SHORT, 20_000, true),
         "whole20" => first(words, SHORT, 20_000, true),
-        _ => return mixed::measure(work).or_else(|| grow(work)),
+        _ => return mixed::measure(work).or_else(|| given::measure(work)).or_else(|| grow(work)),
     })
 }
 

@@ -56,6 +56,11 @@ impl Draft {
         self.nodes.push(Node::Union(vec![from, self.len() + 1]));
     }
 
+    /// Goes on at one of these nodes, the first ones preferred.
+    pub(crate) fn go_to(&mut self, nodes: Vec<u32>) {
+        self.nodes.push(Node::Union(nodes));
+    }
+
     /// The match of the next pattern, which begins at a node.
     pub(crate) fn accept(&mut self, start: u32) {
         self.nodes.push(Node::Match(self.starts.len() as u32));

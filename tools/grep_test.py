@@ -1,0 +1,213 @@
+#!/usr/bin/env python3
+"""Compares what `example_grep` prints, and its status, with what `grep -E` does:
+
+    tools/grep_test.py [--program FILE] ['N passed, M failed']
+
+The program is the one that `rt ci` or `rt run` left in the crate's out/, unless another is named. The texts are
+documents of this repository, and short ones: with an empty line and no line feed at the end, binary ones, and a folder
+with files, folders, links and a pipe. What `--which` prints is compared with what one `grep -nE` for each pattern finds,
+and the counts of `--stats` with those of `grep -c`. A line that is too long is searched in little memory, where `grep`
+ends. Without the program `grep` nothing is compared. The last line counts these too, beside what the given line counts.
+"""
+import argparse
+import os
+import re
+import resource
+import shutil
+import subprocess
+import sys
+import tempfile
+
+TOP = os.path.dirname(os.path.dirname(os.path.abspath(__file__)))
+PATTERNS = ["lazy", "[0-9]{3,}", "^a", "no such", "e", "in .* the"]
+TEXTS = {
+    "short": b"one\ntwo lazy\n\nthe last line is lazy 77",
+    "patterns": b"lazy\n[0-9]{3,}\n",
+    "six": "".join(f"{it}\n" for it in PATTERNS).encode(),
+    "binary": b"a lazy\0lazy b\nxx\n\0lazy\n",
+    "ends": b"xx\0\0lazy\0",
+    "late": b"lazy first\n" + 9999 * (b"x" * 79 + b"\n") + b"lazy\0lazy\nlazy\n",
+    "tree/b": b"a lazy file\n",
+    "tree/b.txt": b"lazy too\n",
+    "tree/a/z": b"below lazy\n",
+    "tree/a/.hidden": b"hidden lazy\n",
+    "tree/a/0": b"lazy\0\n",
+    "tree/other": b"nothing\n",
+}
+LINKS = {"tree/link": "../short", "tree/loop": "a", "linked": "tree"}
+INPUT = "a lazy line\nanother\n"
+# The arguments of each call. README.md and LICENSE-MIT are of this repository.
+CALLS = [
+    ["lazy"],
+    ["-c", "lazy"],
+    ["-c", "nothing such"],
+    ["-n", "lazy", "README.md"],
+    ["-n", "lazy", "README.md", "LICENSE-MIT", "short"],
+    ["-c", "-e", "lazy", "-e", "[0-9]{2,}", "README.md", "short"],
+    ["-v", "-c", "e", "README.md", "LICENSE-MIT", "short"],
+    ["-vn", "e", "short"],
+    ["-ov", "lazy", "short"],
+    ["-n", "^$", "short"],
+    ["-l", "lazy", "README.md", "LICENSE-MIT", "short"],
+    ["-lv", "lazy", "short", "LICENSE-MIT"],
+    ["-lc", "lazy", "README.md", "short"],
+    ["-l", "lazy"],
+    ["-on", "[0-9]+", "README.md"],
+    ["-io", "LAZY|[a-z]+zer", "README.md", "short"],
+    ["-f", "patterns", "README.md", "short"],
+    ["-fpatterns", "-cv", "README.md", "short"],
+    ["-nelazy", "short", "-"],
+    ["-c", "lazy", "-", "short"],
+    ["--", "-[a-z]", "README.md"],
+    ["lazy", "no such file", "short"],
+    ["-e"],
+    ["--no-such-flag", "lazy"],
+    # Names of files, and nothing at all.
+    ["-H", "lazy", "short"],
+    ["-hn", "lazy", "short", "README.md"],
+    ["-q", "lazy", "short"],
+    ["-q", "no such", "short"],
+    ["-q", "lazy", "no such file", "short"],
+    ["-q", "no such", "no such file", "short"],
+    ["-qc", "lazy", "short", "README.md"],
+    # Binary files.
+    ["lazy", "binary"],
+    ["-n", "lazy", "binary", "short", "ends"],
+    ["lazy", "-", "binary"],
+    ["-c", "lazy", "binary", "short"],
+    ["-c", "^lazy$", "binary"],
+    ["-c", "^$", "ends"],
+    ["-cv", "lazy", "ends", "binary"],
+    ["-v", "lazy", "binary"],
+    ["-v", "[a-z]|^$", "binary"],
+    ["-o", "la", "binary"],
+    ["-l", "lazy", "binary", "ends", "short"],
+    ["-q", "lazy", "binary"],
+    ["no such", "binary"],
+    ["-n", "lazy", "late"],
+    ["-c", "lazy", "late"],
+    ["-a", "lazy", "binary", "late"],
+    ["-ac", "x", "ends", "binary"],
+    # Folders.
+    ["lazy", "tree"],
+    ["-n", "lazy", "tree", "short"],
+    ["-c", "lazy", "tree", "short"],
+    ["-l", "lazy", "tree"],
+    ["-q", "lazy", "tree", "short"],
+    ["-q", "no such", "tree", "short"],
+    ["-r", "lazy", "tree"],
+    ["-rn", "lazy", "tree/"],
+    ["-rl", "lazy", "tree", "short"],
+    ["-rc", "lazy", "tree"],
+    ["-rh", "lazy", "tree"],
+    ["-ro", "l[a-z]+", "tree", "no such file"],
+    ["-rv", "lazy", "tree/a", "short"],
+    ["-r", "lazy", "tree/b"],
+    ["-rH", "lazy", "tree/b"],
+    ["-r", "lazy", "linked"],
+    ["-r", "lazy", "tree/loop", "tree/link"],
+    ["-rc", "lazy", "."],
+    ["-rc", "lazy"],
+    ["-r", "lazy", "-"],
+    ["-rq", "lazy", "tree"],
+    ["-rq", "no such", "tree"],
+]
+# The files below `tree` that have a match, in the order of names that `example_grep` searches them in.
+ORDER = b"tree/a/.hidden\ntree/a/0\ntree/a/z\ntree/b\ntree/b.txt\n"
+LONG = 100 << 20
+
+
+def write_texts(room):
+    """Writes the texts, the links and the pipe."""
+    os.makedirs(f"{room}/tree/a")
+    for name, text in TEXTS.items():
+        with open(f"{room}/{name}", "wb") as it:
+            it.write(text)
+    for name, to in LINKS.items():
+        os.symlink(to, f"{room}/{name}")
+    os.mkfifo(f"{room}/tree/pipe")
+    for name in ("README.md", "LICENSE-MIT"):
+        shutil.copy(f"{TOP}/{name}", room)
+
+
+def run(words, folder, limit=None):
+    """Runs a program, in so many bytes of memory if there is a limit, and returns its status and what it wrote."""
+    with tempfile.TemporaryFile() as given:
+        given.write(INPUT.encode())
+        given.seek(0)
+        in_limit = (lambda: resource.setrlimit(resource.RLIMIT_AS, (limit, limit))) if limit else None
+        ran = subprocess.run(words, cwd=folder, stdin=given, capture_output=True, preexec_fn=in_limit,
+                             env={**os.environ, "LC_ALL": "C.UTF-8"})
+    return ran.returncode, ran.stdout, ran.stderr
+
+
+def compared(found, call):
+    """What of a run is compared: its status, what it printed, and which files it said to be binary or folders. Below a
+    folder `grep` has no order, and neither have these lines."""
+    status, printed, said = found
+    told = sorted(it for it in re.findall(rb"^[a-z_]+: (.*: (?:binary file matches|Is a directory))$", said, re.M))
+    unordered = call[0].startswith("-r")
+    return status, sorted(printed.splitlines()) if unordered else printed, told
+
+
+def which(room, name):
+    """What `--which -Hnf six` has to print of a file: the lines that `grep` finds by each pattern alone."""
+    numbers, lines = {}, {}
+    for number, pattern in enumerate(PATTERNS, 1):
+        for line in run(["grep", "-nE", "-e", pattern, name], room)[1].splitlines():
+            at, text = line.split(b":", 1)
+            numbers.setdefault(int(at), []).append(str(number))
+            lines[int(at)] = text
+    shown = {at: f"{name}:{at}:{','.join(numbers[at])}:".encode() for at in lines}
+    return b"".join(shown[at] + lines[at] + b"\n" for at in sorted(lines))
+
+
+def own(program, room):
+    """What has no flag in `grep`: for each call its name, what was found, and what is wanted."""
+    yield "-rl lazy tree, in order", run([program, "-rl", "lazy", "tree"], room)[1], ORDER
+    files = ["README.md", "short", "LICENSE-MIT"]
+    found = run([program, "-nf", "six", "--which", *files], room)
+    yield "--which", found[:2], (0, b"".join(which(room, name) for name in files))
+    found = run([program, "--which", "-e", "two", "-e", "lazy", "short"], room)
+    yield "--which of two", found[1], b"1,2:two lazy\n2:the last line is lazy 77\n"
+    found = run([program, "-cf", "six", "--which", "short"], room)
+    yield "--which -c", found[:2], run(["grep", "-cEf", "six", "short"], room)[:2]
+    for other in ("-o", "-v"):
+        yield f"--which {other}", run([program, other, "--which", "lazy", "short"], room)[:2], (2, b"")
+    status, printed, said = run([program, "-c", "--stats", "lazy", "README.md", "short"], room)
+    sizes = sum(os.path.getsize(f"{room}/{name}") for name in ("README.md", "short"))
+    counts = [run(["grep", "-chE", one, "README.md", "short"], room)[1].split() for one in ("", "lazy")]
+    lines, taken = (sum(int(it) for it in count) for count in counts)
+    wanted = (rf"bytes read: {sizes}\nlines: {lines}\nlines taken: {taken}\n"
+              r"clears: 0\nstates of caches: [1-9]\d*\nbytes of caches: [1-9]\d*\nMB/s: \d+\.\d\n")
+    yield "--stats", (status, bool(re.fullmatch(wanted, said.decode()))), (0, True)
+    with open(f"{room}/long", "wb") as it:
+        it.write(b"lazy\n" + b"x" * LONG)
+    status, printed, said = run([program, "-c", "lazy", "long", "short"], room, 64 << 20)
+    is_told = b"long: a line does not fit into the memory" in said
+    yield "a line too long", (status, printed, is_told), (2, b"short:2\n", True)
+
+
+def main(words):
+    parser = argparse.ArgumentParser()
+    parser.add_argument("--program", default=f"{TOP}/crates/example_grep/out/example_grep")
+    parser.add_argument("counted", nargs="?", default="0 passed, 0 failed")
+    given = parser.parse_args(words)
+    counted = re.fullmatch(r"(\d+) passed, (\d+) failed", given.counted)
+    passed, failed = (int(counted[1]), int(counted[2])) if counted else (0, 1)
+    program = os.path.abspath(given.program)
+    with tempfile.TemporaryDirectory(prefix="grep-") as room:
+        write_texts(room)
+        rows = []
+        for call in CALLS if shutil.which("grep") else []:
+            found, wanted = (compared(run([*it, *call], room), call) for it in ([program], ["grep", "-E"]))
+            rows.append((" ".join(call), found, wanted))
+        for call, found, wanted in [*rows, *(own(program, room) if rows else [])]:
+            print(f"example_grep {call}: {'passed' if found == wanted else f'{found}, and not {wanted}'}")
+            passed, failed = passed + (found == wanted), failed + (found != wanted)
+    print(f"{passed} passed, {failed} failed")
+    return 1 if failed else 0
+
+
+if __name__ == "__main__":
+    sys.exit(main(sys.argv[1:]))

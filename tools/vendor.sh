@@ -1,0 +1,27 @@
+#!/bin/sh
+# Copies the library into a repository of your own, and begins a program there:
+#     tools/vendor.sh FOLDER [PROGRAM]
+# FOLDER gets the library's crates and their lines of crates.txt, in place of those that it has by these names: called again
+# from a later state of this repository, it brings that. PROGRAM is a copy of example_words, if FOLDER has no such crate.
+set -eu
+[ "$#" -ge 1 ] || { echo 'usage: tools/vendor.sh FOLDER [PROGRAM]' >&2; exit 2; }
+top=$(cd "$(dirname "$0")/.." && pwd -P)
+mkdir -p "$1/crates"
+cd "$1"
+[ "$(pwd -P)" != "$top" ] || { echo 'tools/vendor.sh: FOLDER is this repository' >&2; exit 2; }
+touch crates.txt
+for crate in automata_base automata_config automata_hybrid regex_automata meaning patterns; do
+    mkdir -p "crates/$crate"
+    for part in src specs proofs; do
+        rm -rf "crates/$crate/$part"
+        [ ! -d "$top/crates/$crate/$part" ] || cp -R "$top/crates/$crate/$part" "crates/$crate/"
+    done
+    cp "$top"/LICENSE-* "crates/$crate/"
+    { grep -v "^$crate:" crates.txt || :; grep "^$crate:" "$top/crates.txt"; } > crates.txt.new
+    mv crates.txt.new crates.txt
+done
+[ -e .gitignore ] || echo out/ > .gitignore
+[ "$#" -ge 2 ] && [ ! -e "crates/$2" ] || exit 0
+mkdir "crates/$2"
+cp -R "$top/crates/example_words/src" "$top/crates/example_words/stdout" "crates/$2/"
+sed -n "s/^example_words:/$2:/p" "$top/crates.txt" >> crates.txt
