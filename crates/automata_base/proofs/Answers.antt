@@ -2,11 +2,13 @@ pub mod Within
 pub mod Alike
 pub mod Backs
 pub mod Bytes
+pub mod Carried
 pub mod Chosen
 pub mod Empties
 pub mod KeptUnions
 pub mod Loops
 pub mod Answered
+pub mod Merged
 pub mod Once
 pub mod Right
 pub mod Rising

@@ -15,7 +15,7 @@ pub mod Leaves
 pub mod Made
 pub mod Making
 pub mod Sound
-pub mod StartClosures
+pub mod KeptClosures
 pub mod Sparsely
 pub mod Stepping
 pub mod PassReports

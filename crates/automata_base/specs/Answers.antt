@@ -3,3 +3,4 @@ pub mod OfPasses
 pub mod Within
 pub mod Spans
 pub mod TruePairs
+pub mod Alike

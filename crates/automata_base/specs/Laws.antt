@@ -3,3 +3,4 @@ pub mod LateIsRight
 pub mod StartIsRight
 pub mod Steps
 pub mod Walks
+pub mod MergedUnions

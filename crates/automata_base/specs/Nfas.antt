@@ -1,7 +1,7 @@
 pub mod Nfa
 pub mod Nodes
 pub mod Automata
-pub mod StartClosure
+pub mod KeptClosure
 pub mod Engines
 pub mod Getters
 pub mod Shapes
@@ -11,5 +11,7 @@ pub mod Accepted
 pub mod Drafts
 pub mod Unions
 pub mod Utf8
+pub mod Merges
+pub mod MergedNfas
 pub mod Mirrors
 pub mod ReversedSizes

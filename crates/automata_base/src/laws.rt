@@ -14,6 +14,9 @@ ghost use Rattle.automata_base.specs.Answers.OfPasses.{ReportedEndsAreRight, Rep
 ghost use Rattle.automata_base.specs.Laws.Walks.{AllPairsAreReported, OverlappingIsReported, WalkIsRight, WalksAreOne};
 ghost use Rattle.automata_base.specs.Laws.Walks.{WalksAreReported};
 ghost use Rattle.automata_base.specs.Answers.Within.{StatesReportOwn, ReportedLiesWithin, WalkLiesWithin};
+ghost use Rattle.automata_base.specs.Laws.MergedUnions.{MergedAcceptAlike, MergedAnswerAlike, MergedBeginAlike};
+ghost use Rattle.automata_base.specs.Laws.MergedUnions.{MergedKeepUtf8, MergedReadUtf8, MergedStayAcyclic};
+ghost use Rattle.automata_base.specs.Laws.MergedUnions.{MergedPairsAlike, MergedStayPaired};
 
 use crate::nfa::thompson::NFA;
 
@@ -118,4 +121,18 @@ pub fn prefixes_skip_lazily()
 pub fn reversed_is_true()
     ensures pair { ReversedIsTrue }
     ensures patterns { PatternsAreReversed }
+{}
+
+/// Merged unions change no answer: the paths of an NFA and those of the merged one correspond, in one order. What else
+/// a search or a regex asks of an NFA holds of the merged one as well: that no cycle of epsilon edges passes a look,
+/// that it keeps the UTF-8 promise, that the empty match begins alike, and that it is the reverse NFA of a true pair.
+pub fn merged_answers_alike()
+    ensures answers { MergedAnswerAlike }
+    ensures accepts { MergedAcceptAlike }
+    ensures pairs { MergedPairsAlike }
+    ensures acyclic { MergedStayAcyclic }
+    ensures utf8 { MergedKeepUtf8 }
+    ensures reads { MergedReadUtf8 }
+    ensures begins { MergedBeginAlike }
+    ensures pair { MergedStayPaired }
 {}

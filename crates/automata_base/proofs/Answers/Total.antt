@@ -42,7 +42,7 @@ next_unit [] after i b a = a
 next_unit (x ∷ xs) after zero b a = b zero x refl
 next_unit (x ∷ xs) after (suc i) b a = next_unit xs after i (λ o u e. b (suc o) u e) a
 
-reverse_bytes : (xs : List ℕ) → IsHaystack xs → IsHaystack (reverse xs)
+pub reverse_bytes : (xs : List ℕ) → IsHaystack xs → IsHaystack (reverse xs)
 reverse_bytes xs b o u e =
     let l = nth_inside (reverse xs) o u e in
     let k = reverse_length xs in

@@ -1,17 +1,16 @@
--- Lists that end with what is kept of the closure of the unanchored start: their bytes, and where they lead.
-use Rattle.std.proofs.Common.{ℕ, Bool, true, false, true≢false, ◌≡◌, ◌<◌, ◌≤◌, ◌+◌, List, [], ◌∷◌, ◌++◌, length, get_or}
-use Rattle.std.proofs.Common.{take, drop, Option, Some, None, is_some, ◌||◌, refl, sym, ap, ◌∙◌, subst, arith}
-use Rattle.std.proofs.Common.{append_assoc, append-nil, length-append, if◌then◌else◌, is_ok, Result, Ok, Err, OnOk, option_to_list}
+-- Lists in which what is kept of a closure stands: their bytes, and where they lead.
+use Rattle.std.proofs.Common.{ℕ, Bool, true, false, true≢false, ◌≡◌, ◌<◌, ◌≤◌, ◌+◌, ◌-◌, zero, suc, List, [], ◌∷◌, ◌++◌, length, get_or}
+use Rattle.std.proofs.Common.{take, drop, drop-drop, Option, Some, None, is_some, ◌||◌, refl, sym, ap, ◌∙◌, subst, arith}
+use Rattle.std.proofs.Common.{append_assoc, append-nil, if◌then◌else◌, is_ok, Result, Ok, Err, OnOk, option_to_list}
 use Rattle.std.specs.declared.alloc.AllocError.{AllocError}
 use Rattle.std.specs.List.{All}
-use Rattle.std.proofs.Math.Seq.{take-append-add}
-use Rattle.std.proofs.lemmas.List.{drop_all, take-append-drop}
+use Rattle.std.proofs.lemmas.List.{drop_all, take-append-drop, take_rest, get_or-take, get_or-drop}
 use Rattle.std.proofs.lemmas.List.Elements.{All-append}
 use Rattle.automata_base.specs.Lists.{In, pick, cons_some}
 use Rattle.automata_base.specs.Nfas.Accepted.{IsChecked}
 use Rattle.automata_base.specs.Haystacks.Looks.{Look}
 use Rattle.automata_base.specs.Nfas.Nfa.{Nfa, Truth, accepts, takes, keep, node, looks_at}
-use Rattle.automata_base.specs.Nfas.StartClosure.{AreTargets, IsRestCode}
+use Rattle.automata_base.specs.Nfas.KeptClosure.{AreTargets, IsPartAt, IsRestCode}
 use Rattle.automata_base.specs.Retraced.Computed.{any_state}
 use Rattle.automata_base.specs.Nfas.Nodes.{Automaton, nfa_of}
 use Rattle.automata_base.specs.Paths.Paths.{IsClosure}
@@ -22,8 +21,19 @@ use Rattle.automata_base.specs.Powersets.Powerset.{IsId}
 use Rattle.automata_base.specs.Powersets.Results.{AreMatched}
 use Rattle.automata_base.proofs.Paths.Loops.{under_way_done, under_way_start}
 use Rattle.automata_base.proofs.Paths.Sift.{in_picked}
-use Rattle.automata_base.proofs.Powersets.Keeping.{next_drop}
+use Rattle.automata_base.proofs.Powersets.Keeping.{any_kept, next_drop}
 use Rattle.automata_base.proofs.Powersets.Walking.{nodes_length}
+
+-- A list is what stands before a part, the part, and what stands after it.
+pub part_split :
+    (list part : List ℕ) (start : ℕ) → IsPartAt list part start
+    → list ≡ take start list ++ (part ++ take (length list - (start + length part)) (drop (start + length part) list))
+part_split list part start at =
+    sym (take-append-drop start list)
+    ∙ ap (λ z. take start list ++ z)
+    (sym (take-append-drop (length part) (drop start list))
+    ∙ (ap (λ z. z ++ drop (length part) (drop start list)) at.same
+    ∙ ap (λ z. part ++ z) (drop-drop (length part) start list ∙ sym (take_rest list (start + length part)))))
 
 -- The last of a list, or this number if the list is empty.
 abbrev last_of : ℕ → List ℕ → ℕ
@@ -50,35 +60,109 @@ rest_code kept rest code first whole is ids =
       ids = ids;
     })
 
--- The bytes of a front, the first of an end, and then the others of the end.
-code_of_end :
-    (front kept code : List ℕ) → IsRestCode kept code → ids_code 0 (front ++ kept) ≡ ids_code 0 (front ++ take 1 kept) ++ code
-code_of_end front kept code is =
-    code_of_both 0 front kept ∙ ap (λ z. ids_code 0 front ++ z) (is.joined (last_of 0 front))
-    ∙ sym (append_assoc (ids_code 0 front) (ids_code (last_of 0 front) (take 1 kept)) code)
-    ∙ ap (λ z. z ++ code) (sym (code_of_both 0 front (take 1 kept)))
+-- The last of two lists in a row, the second of which is not empty.
+last_of_end : (before : ℕ) (xs ys : List ℕ) (d : ℕ) → 0 < length ys → last_of before (xs ++ ys) ≡ get_or ys (length ys - 1) d
+last_of_end before [] [] d l = absurd (omega (arith, l))
+last_of_end before [] (y ∷ ys) d l =
+    let one : length (y ∷ ys) - 1 ≡ length ys = omega arith in
+    last_is y ys d ∙ ap (λ z. get_or (y ∷ ys) z d) (sym one)
+  where
+    last_is : (y : ℕ) (ys : List ℕ) (d : ℕ) → last_of y ys ≡ get_or (y ∷ ys) (length ys) d
+    last_is y [] d = refl
+    last_is y (z ∷ ys) d = last_is z ys d
+last_of_end before (x ∷ xs) ys d l = last_of_end x xs ys d l
 
--- Those bytes, if they were appended one after the other.
-pub pushed_end :
-    (ids front begin kept code out more new : List ℕ) {X : Type 0} (r : Result X AllocError)
-    → IsRestCode kept code → ids ≡ front ++ kept → begin ≡ front ++ take 1 kept → more ≡ out ++ ids_code 0 begin
-    → new ≡ (if is_ok r then more ++ code else more) → OnOk r (new ≡ out ++ ids_code 0 ids)
-pushed_end ids front begin kept code out more new (Ok x) is joined first next last =
-    last ∙ ap (λ z. z ++ code) (next ∙ ap (λ z. out ++ ids_code 0 z) first)
-    ∙ append_assoc out (ids_code 0 (front ++ take 1 kept)) code
-    ∙ ap (λ z. out ++ z) (sym (code_of_end front kept code is))
-    ∙ ap (λ z. out ++ ids_code 0 z) (sym joined)
-pushed_end ids front begin kept code out more new (Err x) is joined first next last = tt
+-- The bytes of a front, of the first of a part, of the others of the part, and of what comes after its last.
+pub code_of_parts :
+    (front part back code : List ℕ) (last : ℕ) → IsRestCode part code → 0 < length part → last ≡ get_or part (length part - 1) last
+    → ids_code 0 (front ++ (part ++ back)) ≡ (ids_code 0 (front ++ take 1 part) ++ code) ++ ids_code last back
+code_of_parts front part back code last is some at =
+    ap (ids_code 0) (sym (append_assoc front part back))
+    ∙ (code_of_both 0 (front ++ part) back
+    ∙ (ap (λ z. z ++ ids_code (last_of 0 (front ++ part)) back) joined
+    ∙ ap (λ z. (ids_code 0 (front ++ take 1 part) ++ code) ++ ids_code z back) (last_of_end 0 front part last some ∙ sym at)))
+  where
+    joined : ids_code 0 (front ++ part) ≡ ids_code 0 (front ++ take 1 part) ++ code
+    joined =
+        code_of_both 0 front part ∙ (ap (λ z. ids_code 0 front ++ z) (is.joined (last_of 0 front))
+        ∙ (sym (append_assoc (ids_code 0 front) (ids_code (last_of 0 front) (take 1 part)) code)
+        ∙ ap (λ z. z ++ code) (sym (code_of_both 0 front (take 1 part)))))
 
-pub ids_of_end :
-    (ids front begin kept code : List ℕ) {X : Type 0} (r : Result X AllocError)
-    → IsRestCode kept code → ids ≡ front ++ kept → begin ≡ front ++ take 1 kept → All IsId begin → OnOk r (All IsId ids)
-ids_of_end ids front begin kept code (Ok x) is joined first all =
+-- They have numbers that IDs may have, if those of the front, of the first of the part and of the back have.
+pub ids_of_parts :
+    (front part back code : List ℕ) → IsRestCode part code → All IsId (front ++ take 1 part) → All IsId back → All IsId (front ++ (part ++ back))
+ids_of_parts front part back code is begin end =
     subst (All IsId)
-    (ap (λ z. z ++ drop 1 kept) first ∙ append_assoc front (take 1 kept) (drop 1 kept)
-    ∙ ap (λ z. front ++ z) (take-append-drop 1 kept) ∙ sym joined)
-    (All-append IsId begin (drop 1 kept) all is.ids)
-ids_of_end ids front begin kept code (Err x) is joined first all = tt
+    (append_assoc (front ++ take 1 part) (drop 1 part) back
+    ∙ (append_assoc front (take 1 part) (drop 1 part ++ back)
+    ∙ ap (λ z. front ++ z) (sym (append_assoc (take 1 part) (drop 1 part) back) ∙ ap (λ z. z ++ back) (take-append-drop 1 part))))
+    (All-append IsId ((front ++ take 1 part) ++ drop 1 part) back (All-append IsId (front ++ take 1 part) (drop 1 part) begin is.ids) end)
+
+-- What stands before a part, and the first of the part after it.
+pub begin_of : (list part : List ℕ) (start : ℕ) → IsPartAt list part start → 0 < length part → take (start + 1) list ≡ take start list ++ take 1 part
+begin_of list part start at some =
+    one_more start list ∙ ap (λ z. take start list ++ z) (sym (first (length part) some (drop start list)) ∙ ap (take 1) at.same)
+  where
+    next : (n : ℕ) (xs : List ℕ) → take (suc n) xs ≡ take n xs ++ take 1 (drop n xs)
+    next zero xs = refl
+    next (suc n) [] = refl
+    next (suc n) (x ∷ xs) = ap (λ z. x ∷ z) (next n xs)
+
+    one_more : (n : ℕ) (xs : List ℕ) → take (n + 1) xs ≡ take n xs ++ take 1 (drop n xs)
+    one_more n xs = let e : n + 1 ≡ suc n = omega arith in ap (λ z. take z xs) e ∙ next n xs
+
+    first : (n : ℕ) → 0 < n → (xs : List ℕ) → take 1 (take n xs) ≡ take 1 xs
+    first zero l xs = absurd (omega (arith, l))
+    first (suc n) l [] = refl
+    first (suc n) l (x ∷ xs) = refl
+
+-- The last of a part.
+pub last_at :
+    (list part : List ℕ) (start d : ℕ) → IsPartAt list part start → 0 < length part
+    → get_or list (start + length part - 1) d ≡ get_or part (length part - 1) d
+last_at list part start d at some =
+    let n : ℕ = length part in
+    let below : n - 1 < n = omega (arith, some) in
+    let place : start + n - 1 ≡ start + (n - 1) = omega (arith, some) in
+    ap (λ z. get_or list z d) place
+    ∙ (sym (get_or-drop start list (n - 1) d)
+    ∙ (sym (get_or-take n (drop start list) (n - 1) d below) ∙ ap (λ z. get_or z (n - 1) d) at.same))
+
+-- The bytes of a list in which a part stands, if they were appended so: those up to the first of the part, the others of
+-- the part, and those after its last.
+pub pushed_parts :
+    (ids part code out more next new : List ℕ) (start last here : ℕ) {X : Type 0} (r : Result X AllocError)
+    → IsRestCode part code → IsPartAt ids part start → 0 < length part
+    → last ≡ get_or ids (start + length part - 1) last → here ≡ last
+    → more ≡ out ++ ids_code 0 (take (start + 1) ids) → next ≡ more ++ code
+    → OnOk r (new ≡ next ++ ids_code here (take (length ids - (start + length part)) (drop (start + length part) ids)))
+    → OnOk r (new ≡ out ++ ids_code 0 ids)
+pushed_parts ids part code out more next new start last here (Ok x) is at some is_last is_here first second third =
+    third
+    ∙ (ap (λ z. z ++ ids_code here back) (second ∙ ap (λ z. z ++ code) (first ∙ ap (λ z. out ++ ids_code 0 z) (begin_of ids part start at some)))
+    ∙ (ap (λ z. z ++ ids_code here back) (append_assoc out begin code)
+    ∙ (append_assoc out (begin ++ code) (ids_code here back)
+    ∙ ap (λ z. out ++ z)
+    (ap (λ z. (begin ++ code) ++ ids_code z back) is_here
+    ∙ (sym (code_of_parts (take start ids) part back code last is some (is_last ∙ last_at ids part start last at some))
+    ∙ ap (ids_code 0) (sym (part_split ids part start at)))))))
+  where
+    back : List ℕ
+    back = take (length ids - (start + length part)) (drop (start + length part) ids)
+
+    begin : List ℕ
+    begin = ids_code 0 (take start ids ++ take 1 part)
+pushed_parts ids part code out more next new start last here (Err x) is at some is_last is_here first second third = tt
+
+pub ids_of_pushed :
+    (ids part code : List ℕ) (start : ℕ) {X : Type 0} (r : Result X AllocError)
+    → IsRestCode part code → IsPartAt ids part start → 0 < length part → All IsId (take (start + 1) ids)
+    → OnOk r (All IsId (take (length ids - (start + length part)) (drop (start + length part) ids))) → OnOk r (All IsId ids)
+ids_of_pushed ids part code start (Ok x) is at some first last =
+    subst (All IsId) (sym (part_split ids part start at))
+    (ids_of_parts (take start ids) part (take (length ids - (start + length part)) (drop (start + length part) ids)) code is
+    (subst (All IsId) (begin_of ids part start at some) first) last)
+ids_of_pushed ids part code start (Err x) is at some first last = tt
 
 -- ---- what a list leads to
 
@@ -235,16 +319,39 @@ picks_done g xs out front i l h = sym (ap (λ z. out ++ pick g z) (drop_all i xs
 
 -- ---- what is kept of a closure
 
-pub kept_of_both :
-    (n : Nfa) (states front closure first kept : List ℕ)
-    → states ≡ front ++ closure → first ≡ pick (keep n) front → kept ≡ pick (keep n) closure → first ++ kept ≡ pick (keep n) states
-kept_of_both n states front closure first kept joined a b =
-    ap (λ z. z ++ kept) a ∙ ap (λ z. pick (keep n) front ++ z) b ∙ sym (pick_of_both (keep n) front closure) ∙ ap (pick (keep n)) (sym joined)
+pub kept_of_parts :
+    (n : Nfa) (states front middle back first kept whole : List ℕ)
+    → states ≡ front ++ (middle ++ back) → first ≡ pick (keep n) front → kept ≡ pick (keep n) middle
+    → whole ≡ (first ++ kept) ++ pick (keep n) back → whole ≡ pick (keep n) states
+kept_of_parts n states front middle back first kept whole joined a b put =
+    put ∙ (append_assoc first kept (pick (keep n) back)
+    ∙ (ap (λ z. z ++ (kept ++ pick (keep n) back)) a
+    ∙ (ap (λ z. pick (keep n) front ++ (z ++ pick (keep n) back)) b
+    ∙ (ap (λ z. pick (keep n) front ++ z) (sym (pick_of_both (keep n) middle back))
+    ∙ (sym (pick_of_both (keep n) front (middle ++ back)) ∙ ap (pick (keep n)) (sym joined))))))
 
-pub looks_of_both :
-    (f : Look → Bool) (n : Nfa) (first kept : List ℕ) → any_state f n kept ≡ false → any_state f n first ≡ any_state f n (first ++ kept)
-looks_of_both f n [] kept e = sym e
-looks_of_both f n (q ∷ first) kept e = ap (λ z. looks_at f (node n q) || z) (looks_of_both f n first kept e)
+any_of_both : (f : Look → Bool) (n : Nfa) (xs ys : List ℕ) → any_state f n (xs ++ ys) ≡ (any_state f n xs || any_state f n ys)
+any_of_both f n [] ys = refl
+any_of_both f n (x ∷ xs) ys =
+    ap (λ z. looks_at f (node n x) || z) (any_of_both f n xs ys) ∙ joined (looks_at f (node n x)) (any_state f n xs) (any_state f n ys)
+  where
+    joined : (a b c : Bool) → a || (b || c) ≡ (a || b) || c
+    joined true b c = refl
+    joined false b c = refl
+
+pub looks_of_parts :
+    (f : Look → Bool) (n : Nfa) (states front middle back first kept whole : List ℕ) (t r : Bool)
+    → states ≡ front ++ (middle ++ back) → first ≡ pick (keep n) front → kept ≡ pick (keep n) middle → any_state f n kept ≡ false
+    → t ≡ any_state f n first → r ≡ (t || any_state f n back) → whole ≡ pick (keep n) states → r ≡ any_state f n whole
+looks_of_parts f n states front middle back first kept whole t r joined a b none is_t is_r all =
+    is_r ∙ (ap (λ z. z || any_state f n back) (is_t ∙ (ap (any_state f n) a ∙ any_kept f n front))
+    ∙ (ap (λ z. any_state f n front || (z || any_state f n back)) (sym plain)
+    ∙ (ap (λ z. any_state f n front || z) (sym (any_of_both f n middle back))
+    ∙ (sym (any_of_both f n front (middle ++ back))
+    ∙ (ap (any_state f n) (sym joined) ∙ (sym (any_kept f n states) ∙ ap (any_state f n) (sym all)))))))
+  where
+    plain : any_state f n middle ≡ false
+    plain = sym (any_kept f n middle) ∙ (ap (any_state f n) (sym b) ∙ none)
 
 -- A list was appended, where that did not fail.
 pub appended :

@@ -34,19 +34,19 @@ put_cond true x rest = refl
 put_cond false x rest = refl
 
 pub keep_next :
-    (n : Nfa) (xs kept more : List ℕ) (i x : ℕ) (b : Bool)
+    (n : Nfa) (xs kept more whole : List ℕ) (i x : ℕ) (b : Bool)
     → i < length xs → x ≡ get_or xs i x → b ≡ keeps n x → more ≡ kept ++ cond b (x ∷ []) []
-    → kept ++ pick (keep n) (drop i xs) ≡ pick (keep n) xs → more ++ pick (keep n) (drop (i + 1) xs) ≡ pick (keep n) xs
-keep_next n xs kept more i x b l e s m h =
+    → kept ++ pick (keep n) (drop i xs) ≡ whole → more ++ pick (keep n) (drop (i + 1) xs) ≡ whole
+keep_next n xs kept more whole i x b l e s m h =
     ap (λ z. z ++ pick (keep n) (drop (i + 1) xs)) m
     ∙ (append_assoc kept (cond b (x ∷ []) []) (pick (keep n) (drop (i + 1) xs))
     ∙ (ap (λ z. kept ++ z) (sym (put_cond b x (pick (keep n) (drop (i + 1) xs)))
     ∙ ap (λ z. cons_some (cond z (Some x) None) (pick (keep n) (drop (i + 1) xs))) s)
     ∙ (ap (λ z. kept ++ pick (keep n) z) (sym (next_drop xs i x l e)) ∙ h)))
 
-pub room_next : (kept more : List ℕ) (i x : ℕ) (b : Bool) → more ≡ kept ++ cond b (x ∷ []) [] → length kept ≤ i → length more ≤ i + 1
-room_next kept more i x true m l = let a = ap length m in let c = length-append kept (x ∷ []) in omega (arith, a, c, l)
-room_next kept more i x false m l = let a = ap length m in let c = length-append kept [] in omega (arith, a, c, l)
+pub room_next : (kept more : List ℕ) (k i x : ℕ) (b : Bool) → more ≡ kept ++ cond b (x ∷ []) [] → length kept ≤ k + i → length more ≤ k + (i + 1)
+room_next kept more k i x true m l = let a = ap length m in let c = length-append kept (x ∷ []) in omega (arith, a, c, l)
+room_next kept more k i x false m l = let a = ap length m in let c = length-append kept [] in omega (arith, a, c, l)
 
 pub looks_next :
     (n : Nfa) (f : Look → Bool) (xs : List ℕ) (i x : ℕ) (t more w : Bool)
@@ -74,14 +74,22 @@ any_kept f n (x ∷ xs) = go (node n x) refl (any_kept f n xs)
     go (Accept p) e h = ap (λ z. looks_at f (node n x) || z) h
 
 pub looks_done :
-    (n : Nfa) (f : Look → Bool) (xs kept : List ℕ) (i : ℕ) (t : Bool)
-    → length xs ≤ i → kept ≡ pick (keep n) xs → (t || any_state f n (drop i xs)) ≡ any_state f n xs → t ≡ any_state f n kept
-looks_done n f xs kept i t l k h =
-    sym (ap (λ z. t || any_state f n z) (drop_all i xs l) ∙ or-false t) ∙ (h ∙ (sym (any_kept f n xs) ∙ ap (any_state f n) (sym k)))
+    (n : Nfa) (f : Look → Bool) (xs : List ℕ) (i : ℕ) (t w : Bool)
+    → length xs ≤ i → (t || any_state f n (drop i xs)) ≡ w → t ≡ w
+looks_done n f xs i t w l h = sym (ap (λ z. t || any_state f n z) (drop_all i xs l) ∙ or-false t) ∙ h
 
 pub kept_done :
-    (n : Nfa) (xs kept : List ℕ) (i : ℕ) → length xs ≤ i → kept ++ pick (keep n) (drop i xs) ≡ pick (keep n) xs → kept ≡ pick (keep n) xs
-kept_done n xs kept i l h = sym (ap (λ z. kept ++ pick (keep n) z) (drop_all i xs l) ∙ append-nil kept) ∙ h
+    (n : Nfa) (xs kept whole : List ℕ) (i : ℕ) → length xs ≤ i → kept ++ pick (keep n) (drop i xs) ≡ whole → kept ≡ whole
+kept_done n xs kept whole i l h = sym (ap (λ z. kept ++ pick (keep n) z) (drop_all i xs l) ∙ append-nil kept) ∙ h
+
+-- No more states are kept than there are.
+pub kept_few : (n : Nfa) (xs : List ℕ) → length (pick (keep n) xs) ≤ length xs
+kept_few n [] = omega arith
+kept_few n (x ∷ xs) = go (keeps n x) (kept_few n xs)
+  where
+    go : (b : Bool) → length (pick (keep n) xs) ≤ length xs → length (cons_some (cond b (Some x) None) (pick (keep n) xs)) ≤ length (x ∷ xs)
+    go true l = omega (arith, l)
+    go false l = omega (arith, l)
 
 pub cut_next :
     (n : Nfa) (xs : List ℕ) (i x : ℕ) → i < length xs → x ≡ get_or xs i x → accepts n x ≡ None

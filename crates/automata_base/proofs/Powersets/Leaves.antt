@@ -10,8 +10,8 @@ use Rattle.automata_base.specs.Nfas.Nfa.{Nfa, Truth}
 use Rattle.automata_base.specs.Nfas.Nodes.{Automaton, nfa_of, node_of}
 use Rattle.automata_base.specs.Haystacks.LookSets.{truth_of}
 use Rattle.automata_base.specs.Powersets.Closure.{children, children_at, IsUnderWay}
-use Rattle.automata_base.specs.Retraced.Expanding.{IsExpanded, Extends}
-use Rattle.automata_base.proofs.Paths.Loops.{under_way_skip, under_way_visit}
+use Rattle.automata_base.specs.Retraced.Expanding.{IsAddedApart, IsExpanded, Extends}
+use Rattle.automata_base.proofs.Paths.Loops.{under_way_apart, under_way_skip, under_way_visit}
 use Rattle.automata_base.proofs.Paths.FirstVisits.{in_right}
 use Rattle.automata_base.proofs.Paths.Walks.{in_either, in_left}
 use Rattle.automata_base.proofs.Powersets.Distinct.{among, among-In, In-among, unvisited}
@@ -100,6 +100,37 @@ expanded_step a looks old start order seen after stack waiting q state checked i
     let one = new_step a looks old start order seen stack (kids ++ stack) q state checked is new grown refl w in
     let two = waiting_on a looks old start seen after stack waiting kids x one.0 in
     (two.0, omega (arith, one.1, two.1))
+
+-- a state on top from which nothing is left to visit
+pub passed_step : (a : Automaton) (looks : ℕ) (old : List ℕ) (start : ℕ) (order after stack : List ℕ) (q : ℕ)
+    → ((roots tail : List ℕ) → IsUnderWay (nfa_of a) (truth_of looks) roots (q ∷ tail) order → IsUnderWay (nfa_of a) (truth_of looks) roots tail after)
+    → Extends order after → Walking a looks old start order (q ∷ stack)
+    → Walking a looks old start after stack × (work a after stack < work a order (q ∷ stack))
+unfolding work
+passed_step a looks old start order after stack q way grown w = (
+  record {
+    way = λ roots tail u. way roots (stack ++ tail) (w.way roots tail u);
+    room =
+        (let less = unvisited_extends (extra_at a.states) order after (length a.states) grown in
+        omega (arith, less, w.room));
+    below = λ p i. w.below p (inr i);
+  },
+  (let less = unvisited_extends (λ p. suc (extra_at a.states p)) order after (length a.states) grown in
+      omega (arith, less)),
+)
+
+-- what is visited from a state was added at once
+pub added_way : (n : Nfa) (A : Truth) (order after : List ℕ) (q : ℕ) → IsAddedApart n A q order after
+    → (roots tail : List ℕ) → IsUnderWay n A roots (q ∷ tail) order → IsUnderWay n A roots tail after
+added_way n A order after q x roots tail u =
+    subst (λ z. IsUnderWay n A roots tail z) (sym x.after_before)
+    (under_way_apart n n A A roots tail order x.added q x.apart (λ y i. refl) x.visited u)
+
+-- it was visited before
+pub had_way : (n : Nfa) (A : Truth) (order after : List ℕ) (q : ℕ) → In q order → after ≡ order
+    → (roots tail : List ℕ) → IsUnderWay n A roots (q ∷ tail) order → IsUnderWay n A roots tail after
+had_way n A order after q had same roots tail u =
+    subst (λ z. IsUnderWay n A roots tail z) (sym same) (under_way_skip n A roots q tail order had u)
 
 -- the children of a new state are states
 pub children_below : (a : Automaton) (looks : ℕ) (old : List ℕ) (start : ℕ) (order seen stack : List ℕ) (q : ℕ) (state : State)

@@ -1,7 +1,8 @@
 -- How a closure goes on from a state to its epsilon edges.
-use Rattle.std.specs.Prelude.{ℕ, ◌≡◌, List, ◌++◌, drop}
+use Rattle.std.specs.Prelude.{ℕ, ◌≡◌, List, [], ◌∷◌, ◌++◌, drop}
 use Rattle.automata_base.specs.Nfas.Nfa.{Nfa, Truth}
-use Rattle.automata_base.specs.Powersets.Closure.{IsUnderWay}
+use Rattle.automata_base.specs.Lists.{In}
+use Rattle.automata_base.specs.Powersets.Closure.{IsUnderWay, Visits}
 
 -- some come after those of a list
 abbrev pub Extends : List ℕ → List ℕ → Type 0
@@ -17,3 +18,14 @@ pub record IsExpanded (n : Nfa) (A : Truth) (children before after waited waitin
   pub grown : Extends before after
   -- so many of the children were visited; the others wait first
   pub left : (visited : ℕ) × (waiting ≡ drop visited children ++ waited)
+
+-- What is visited from a root was added to the states visited before, none of which is among it.
+pub record IsAddedApart (n : Nfa) (A : Truth) (root : ℕ) (before after : List ℕ) : Type 0 where
+  -- the states that were added
+  pub added : List ℕ
+  -- they come after those visited before
+  pub after_before : after ≡ before ++ added
+  -- they are what is visited from the root, where nothing was visited before
+  pub visited : Visits n A (root ∷ []) [] added
+  -- none of them was visited before
+  pub apart : (q : ℕ) → In q added → In q before → ⊥

@@ -8,10 +8,12 @@ mod copies;
 mod cycles;
 mod debug;
 mod finishing;
+pub(crate) mod kept_closure;
+mod merging;
 mod reach;
 pub(crate) mod reading;
 mod reverse;
-pub(crate) mod start_closure;
+mod standing;
 mod turn;
 mod utf8;
 
@@ -19,9 +21,9 @@ pub use crate::nfa::thompson::builder::Builder;
 pub use crate::nfa::thompson::building::BuildError;
 use crate::nfa::thompson::checks::{Totals, test, totals_of};
 use crate::nfa::thompson::cycles::are_looks_acyclic;
+use crate::nfa::thompson::kept_closure::{KeptClosure, kept_closure_of};
 use crate::nfa::thompson::reach::{reaches_match, reaches_match_in, set_for, skips_lazily};
 use crate::nfa::thompson::reverse::{Mirror, reverse_error, reverse_states};
-use crate::nfa::thompson::start_closure::{StartClosure, start_closure_of};
 use crate::nfa::thompson::utf8::{Class, FORWARD, ends_at_boundaries};
 use crate::util::look::{Look, LookSet};
 use crate::util::primitives::{PatternID, StateID};
@@ -253,7 +255,7 @@ pub struct NFA {
     data: Arc<Data>,
     alloc: Global,
     keeps_unions: bool,
-    start_closure: Option<Arc<StartClosure>>,
+    kept_closure: Option<Arc<KeptClosure>>,
 }
 
 // One call for an owner, whose proof then has no step for each part.
@@ -263,7 +265,7 @@ impl Drop for NFA {
             data: _data,
             alloc: _alloc,
             keeps_unions: _keeps_unions,
-            start_closure: _start_closure,
+            kept_closure: _kept_closure,
         } = self;
     }
 }
@@ -273,14 +275,14 @@ impl Model for NFA {
     ghost use Rattle.automata_base.specs.Nfas.Nodes.{Automaton, stack_room};
     ghost use Rattle.automata_base.specs.Nfas.Accepted.{IsChecked, IsLooks};
     ghost use Rattle.automata_base.specs.Nfas.Automata.{automaton_of, IsConsistent};
-    ghost use Rattle.automata_base.specs.Nfas.StartClosure.{IsStartClosure};
+    ghost use Rattle.automata_base.specs.Nfas.KeptClosure.{IsKeptClosure};
 
     ghost Value = { Automaton };
 
     ghost view = { λ a. automaton_of a.data.value a.keeps_unions };
 
     ghost invariant = { λ a. IsConsistent a.data.value a.keeps_unions
-        × IfSome a.start_closure (λ kept. IsStartClosure (automaton_of a.data.value a.keeps_unions) kept.value) };
+        × IfSome a.kept_closure (λ kept. IsKeptClosure (automaton_of a.data.value a.keeps_unions) kept.value) };
 }
 
 impl Clone for NFA {
@@ -290,7 +292,7 @@ impl Clone for NFA {
 
     fn clone(&self) -> Result<NFA, AllocError> {
         let data = self.data.clone()?;
-        let start_closure = match &self.start_closure {
+        let kept_closure = match &self.kept_closure {
             Some(kept) => Some(kept.clone()?),
             None => None,
         };
@@ -298,7 +300,7 @@ impl Clone for NFA {
             data,
             alloc: self.alloc,
             keeps_unions: self.keeps_unions,
-            start_closure,
+            kept_closure,
         })
     }
 }
@@ -326,7 +328,7 @@ impl NFA {
     ghost use Rattle.automata_base.specs.Haystacks.Tapes.{Forward};
     ghost use Rattle.automata_base.specs.Answers.TruePairs.{IsTruePair, KeepsUtf8};
     ghost use Rattle.automata_base.specs.Haystacks.LookSets.{truth_of};
-    ghost use Rattle.automata_base.specs.Nfas.StartClosure.{IsStartClosure};
+    ghost use Rattle.automata_base.specs.Nfas.KeptClosure.{IsKeptClosure};
     ghost use Rattle.automata_base.specs.Nfas.Unions.{IsKeepingUnions};
     ghost use Rattle.automata_base.specs.Nfas.Utf8.{HasNoLook, ReadsUtf8};
 
@@ -394,32 +396,31 @@ impl NFA {
             flags,
             totals,
         )?;
-        let nfa = nfa.keeping_start_closure()?;
+        let nfa = nfa.keeping_closure()?;
         Ok(nfa)
     }
 
-    /// This NFA, which keeps the closure of its unanchored start if that has many states and no look.
-    fn keeping_start_closure(self) -> Result<NFA, AllocError>
+    /// This NFA, which keeps the closure of one state if that has many states and no look.
+    fn keeping_closure(self) -> Result<NFA, AllocError>
         ensures { IfOk result (λ nfa. nfa ≡ self) }
     {
-        let start_closure = start_closure_of(&self)?;
+        let kept_closure = kept_closure_of(&self)?;
         let NFA {
             data,
             alloc,
             keeps_unions,
-            start_closure: _none,
+            kept_closure: _none,
         } = self;
         Ok(NFA {
             data,
             alloc,
             keeps_unions,
-            start_closure,
+            kept_closure,
         })
     }
 
-    /// Makes the NFA of lists that have passed the tests of `from_states`, and computes what it says of itself. It does
-    /// not keep the closure of its unanchored start. The totals are those of the states. The only error is out of
-    /// memory.
+    /// Makes the NFA of lists that have passed the tests of `from_states`, and computes what it says of itself. It
+    /// keeps no closure yet. The totals are those of the states. The only error is out of memory.
     fn plain(
         alloc: Global,
         states: Vec<State>,
@@ -462,7 +463,7 @@ impl NFA {
                 data,
                 alloc,
                 keeps_unions: false,
-                start_closure: None,
+                kept_closure: None,
             }),
             Err(_) => Err(NfaError::OutOfMemory),
         }
@@ -511,12 +512,12 @@ impl NFA {
         self.data.start_unanchored
     }
 
-    /// The closure of the unanchored start, with what powerset states have of it, if the NFA keeps it.
+    /// The closure that the NFA keeps, with what powerset states have of it, if it keeps one.
     #[inline(always)]
-    pub(crate) fn start_closure(&self) -> Option<&StartClosure>
-        ensures { IfSome result (λ kept. IsStartClosure self.now kept.now) }
+    pub(crate) fn kept_closure(&self) -> Option<&KeptClosure>
+        ensures { IfSome result (λ kept. IsKeptClosure self.now kept.now) }
     {
-        match &self.start_closure {
+        match &self.kept_closure {
             Some(kept) => Some(kept.as_ref()),
             None => None,
         }
@@ -556,10 +557,10 @@ impl NFA {
             data,
             alloc,
             keeps_unions,
-            start_closure,
+            kept_closure,
         } = self;
-        let start_closure = if has_look_cycle == keeps_unions {
-            start_closure
+        let kept_closure = if has_look_cycle == keeps_unions {
+            kept_closure
         } else {
             None
         };
@@ -567,7 +568,7 @@ impl NFA {
             data,
             alloc,
             keeps_unions: has_look_cycle,
-            start_closure,
+            kept_closure,
         }
     }
 

@@ -1,8 +1,9 @@
 //! Closures: what epsilon edges reach, in the order of preference.
 ghost use Rattle.std.specs.Prelude.{◌≡◌, ◌+◌, ◌<◌, ◌≤◌, ◌∷◌, ◌++◌, List, ℕ, length, reverse, All, vec_len};
-ghost use Rattle.std.specs.Prelude.{vec_capacity, option_to_list, IsTrue, [], drop};
+ghost use Rattle.std.specs.Prelude.{vec_capacity, option_to_list, IfSome, IsTrue, IsFalse, [], drop};
 ghost use Rattle.automata_base.specs.Lists.{In};
-ghost use Rattle.automata_base.specs.Retraced.Expanding.{IsExpanded, Extends};
+ghost use Rattle.automata_base.specs.Retraced.Expanding.{IsAddedApart, IsExpanded, Extends};
+ghost use Rattle.automata_base.specs.Nfas.KeptClosure.{IsKeptClosure};
 ghost use Rattle.automata_base.specs.Nfas.Nfa.{Truth};
 ghost use Rattle.automata_base.specs.Paths.Paths.{IsClosure};
 ghost use Rattle.automata_base.specs.Powersets.Closure.{children_at, IsUnderWay};
@@ -10,6 +11,7 @@ ghost use Rattle.automata_base.specs.Nfas.Nodes.{node_of, nfa_of};
 ghost use Rattle.automata_base.specs.Powersets.Rooms.{IsClosureRoom};
 ghost use Rattle.automata_base.specs.Haystacks.LookSets.{truth_of};
 
+use crate::nfa::thompson::kept_closure::KeptClosure;
 use crate::nfa::thompson::reading::state_at;
 use crate::nfa::thompson::{NFA, State};
 use crate::util::determinize::sparse_set::SparseSet;
@@ -65,6 +67,7 @@ fn visit_leaves(nfa: &NFA, list: &[StateID], set: &mut SparseSet) -> usize
 
 /// Returns the first state that an epsilon edge of this one leads to, and puts the others on the stack. States at the
 /// front that no epsilon edge leaves are visited at once. A look leads on if it is among `looks`.
+#[inline(always)]
 fn expand(
     nfa: &NFA,
     state: &State,
@@ -111,8 +114,117 @@ fn expand(
     }
 }
 
+/// Whether no state of the set is in the closure. Of a set with more states than the closure it is not tried.
+fn is_apart(set: &SparseSet, closure: &SparseSet) -> bool
+    requires { closure.now.capacity ≡ set.now.capacity }
+    ensures { IsTrue result → (q : ℕ) → In q closure.now.items → In q set.now.items → ⊥ }
+{
+    let visited = set.as_slice();
+    if visited.len() > closure.as_slice().len() {
+        return false;
+    }
+    for i in 0..visited.len() {
+        if closure.contains(visited[i]) {
+            return false;
+        }
+    }
+    true
+}
+
+/// Adds a closure to the set if the set has none of its states, and returns whether it did. No edge is followed.
+#[inline(never)]
+fn append_apart(closure: &SparseSet, set: &mut SparseSet) -> bool
+    requires { closure.now.capacity ≡ set.old.capacity }
+    ensures apart { IsTrue result → (q : ℕ) → In q closure.now.items → In q set.old.items → ⊥ }
+    ensures added { IsTrue result → set.new.items ≡ set.old.items ++ closure.now.items }
+    ensures same { IsFalse result → set.new.items ≡ set.old.items }
+    ensures capacity { set.new.capacity ≡ set.old.capacity }
+{
+    if is_apart(set, closure) {
+        set.append(closure.as_slice());
+        return true;
+    }
+    false
+}
+
+/// Adds the closure that the NFA keeps to the set, if there is one, the state is its root, and the set has none of its
+/// states. Returns whether it did.
+#[inline(always)]
+fn append_at_root(
+    nfa: &NFA,
+    closure: Option<&KeptClosure>,
+    id: StateID,
+    set: &mut SparseSet,
+) -> bool
+    requires closure { IfSome closure (λ c. IsKeptClosure nfa.now c.now) }
+    requires whole { set.old.capacity ≡ length nfa.now.states }
+    ensures added { IsTrue result → (looks : ℕ)
+        → IsAddedApart (nfa_of nfa.now) (truth_of looks) id set.old.items set.new.items }
+    ensures same { IsFalse result → set.new.items ≡ set.old.items }
+    ensures capacity { set.new.capacity ≡ set.old.capacity }
+{
+    match closure {
+        Some(closure) => id == closure.root && append_apart(&closure.set, set),
+        None => false,
+    }
+}
+
+/// Adds a state to the set, and returns whether its edges are to be followed: whether it is new and not the root of the
+/// kept closure, which is added whole then.
+#[inline(always)]
+fn discover(nfa: &NFA, closure: Option<&KeptClosure>, id: StateID, set: &mut SparseSet) -> bool
+    requires closure { IfSome closure (λ c. IsKeptClosure nfa.now c.now) }
+    requires whole { set.old.capacity ≡ length nfa.now.states }
+    requires below { id < length nfa.now.states }
+    ensures new { IsTrue result → In id set.old.items → ⊥ }
+    ensures added { IsTrue result → set.new.items ≡ set.old.items ++ id ∷ [] }
+    ensures passed { IsFalse result → (looks : ℕ) (roots tail : List ℕ)
+        → IsUnderWay (nfa_of nfa.now) (truth_of looks) roots (id ∷ tail) set.old.items
+        → IsUnderWay (nfa_of nfa.now) (truth_of looks) roots tail set.new.items }
+    ensures grown { Extends set.old.items set.new.items }
+    ensures capacity { set.new.capacity ≡ set.old.capacity }
+{
+    !append_at_root(nfa, closure, id, set) && set.insert(id)
+}
+
+/// Adds what epsilon edges reach from `start` to the set, by the stack, in the order of preference. A look leads on if
+/// it is among `looks`. There may be the closure that the NFA keeps, of whose root no edge is followed.
+#[inline(always)]
+fn close_by(
+    nfa: &NFA,
+    closure: Option<&KeptClosure>,
+    start: StateID,
+    looks: LookSet,
+    stack: &mut Vec<StateID>,
+    set: &mut SparseSet,
+)
+    requires closure { IfSome closure (λ c. IsKeptClosure nfa.now c.now) }
+    requires start { start < length nfa.now.states }
+    requires room { IsClosureRoom nfa.now stack.old set.old }
+    ensures way { (roots tail : List ℕ)
+        → IsUnderWay (nfa_of nfa.now) (truth_of looks) roots (start ∷ tail) set.old.items
+        → IsUnderWay (nfa_of nfa.now) (truth_of looks) roots tail set.new.items }
+    ensures room { IsClosureRoom nfa.now stack.new set.new }
+{
+    let states = nfa.states();
+    let mut id = start;
+    'visit: loop {
+        if discover(nfa, closure, id, set) {
+            if let Some(next) = expand(nfa, state_at(nfa, states, id), looks, stack, set) {
+                id = next;
+                continue;
+            }
+        }
+        match stack.pop() {
+            Some(top) => id = top,
+            None => break,
+        }
+    }
+}
+
 /// Adds what epsilon edges reach from `start` to the set, by the stack, in the order of preference. A look leads on if
 /// it is among `looks`.
+#[inline(never)]
 pub fn close_from(
     nfa: &NFA,
     start: StateID,
@@ -127,20 +239,29 @@ pub fn close_from(
         → IsUnderWay (nfa_of nfa.now) (truth_of looks) roots tail set.new.items }
     ensures room { IsClosureRoom nfa.now stack.new set.new }
 {
-    let states = nfa.states();
-    let mut id = start;
-    'visit: loop {
-        if set.insert(id) {
-            if let Some(next) = expand(nfa, state_at(nfa, states, id), looks, stack, set) {
-                id = next;
-                continue;
-            }
-        }
-        match stack.pop() {
-            Some(top) => id = top,
-            None => break,
-        }
-    }
+    close_by(nfa, None, start, looks, stack, set);
+}
+
+/// Adds what epsilon edges reach from `start` to the set, as `close_from` does. At the root of the kept closure that is
+/// added whole if the set has none of it.
+#[inline(never)]
+fn close_with(
+    nfa: &NFA,
+    closure: &KeptClosure,
+    start: StateID,
+    looks: LookSet,
+    stack: &mut Vec<StateID>,
+    set: &mut SparseSet,
+)
+    requires closure { IsKeptClosure nfa.now closure.now }
+    requires start { start < length nfa.now.states }
+    requires room { IsClosureRoom nfa.now stack.old set.old }
+    ensures way { (roots tail : List ℕ)
+        → IsUnderWay (nfa_of nfa.now) (truth_of looks) roots (start ∷ tail) set.old.items
+        → IsUnderWay (nfa_of nfa.now) (truth_of looks) roots tail set.new.items }
+    ensures room { IsClosureRoom nfa.now stack.new set.new }
+{
+    close_by(nfa, Some(closure), start, looks, stack, set);
 }
 
 /// Adds what epsilon edges reach from `start` to the set. The stack's room is made beforehand, so the call allocates
@@ -164,56 +285,8 @@ pub fn close_one(
         let _added = set.insert(start);
         return;
     }
-    if start == nfa.start_unanchored() {
-        close_start(nfa, start, looks, stack, set);
-        return;
-    }
-    close_from(nfa, start, looks, stack, set);
-}
-
-/// Whether no state of the set is in the closure. Of a set with more states than the closure it is not tried.
-fn is_apart(set: &SparseSet, closure: &SparseSet) -> bool
-    requires { closure.now.capacity ≡ set.now.capacity }
-    ensures { IsTrue result → (q : ℕ) → In q closure.now.items → In q set.now.items → ⊥ }
-{
-    let visited = set.as_slice();
-    if visited.len() > closure.as_slice().len() {
-        return false;
-    }
-    for i in 0..visited.len() {
-        if closure.contains(visited[i]) {
-            return false;
-        }
-    }
-    true
-}
-
-/// Adds what epsilon edges reach from the unanchored start to the set. If the NFA keeps that, and the set has none of
-/// it, it is added as it was kept, and no edge is followed.
-#[inline(never)]
-fn close_start(
-    nfa: &NFA,
-    start: StateID,
-    looks: LookSet,
-    stack: &mut Vec<StateID>,
-    set: &mut SparseSet,
-)
-    requires start { start ≡ nfa.now.start_unanchored }
-    requires below { start < length nfa.now.states }
-    requires room { IsClosureRoom nfa.now stack.old set.old }
-    ensures way { (roots tail : List ℕ)
-        → IsUnderWay (nfa_of nfa.now) (truth_of looks) roots (start ∷ tail) set.old.items
-        → IsUnderWay (nfa_of nfa.now) (truth_of looks) roots tail set.new.items }
-    ensures room { IsClosureRoom nfa.now stack.new set.new }
-{
-    match nfa.start_closure() {
-        Some(closure) => {
-            if is_apart(set, &closure.set) {
-                set.append(closure.set.as_slice());
-                return;
-            }
-            close_from(nfa, start, looks, stack, set)
-        }
+    match nfa.kept_closure() {
+        Some(closure) => close_with(nfa, closure, start, looks, stack, set),
         None => close_from(nfa, start, looks, stack, set),
     }
 }

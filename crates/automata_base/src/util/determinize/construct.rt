@@ -7,7 +7,7 @@ ghost use Rattle.automata_base.specs.Powersets.Cuts.{cut, cut_for, has_match, is
 ghost use Rattle.automata_base.specs.Nfas.Accepted.{IsChecked};
 ghost use Rattle.automata_base.specs.Lists.{In, cons_some, pick, Distinct};
 ghost use Rattle.automata_base.specs.Haystacks.Looks.{Look, look_index, is_word, is_byte, first_half};
-ghost use Rattle.automata_base.specs.Nfas.StartClosure.{IsStartClosure};
+ghost use Rattle.automata_base.specs.Nfas.KeptClosure.{IsKeptClosure};
 ghost use Rattle.automata_base.specs.Powersets.Results.{AreMatched, IsClosureMade, IsStartMade, IsStepMade};
 ghost use Rattle.automata_base.specs.Nfas.Nodes.{nfa_of};
 ghost use Rattle.automata_base.specs.Powersets.Parts.{powerset_of};
@@ -19,8 +19,8 @@ ghost use Rattle.automata_base.specs.Haystacks.LookSets.{truth_of};
 ghost use Rattle.automata_base.specs.Powersets.Closure.{IsUnderWay};
 
 use crate::nfa::thompson::NFA;
+use crate::nfa::thompson::kept_closure::KeptClosure;
 use crate::nfa::thompson::reading::{pattern_of, state_at, target};
-use crate::nfa::thompson::start_closure::StartClosure;
 use crate::util::determinize::closure::{close, close_all, close_one};
 use crate::util::determinize::deciding::{
     first_of, has_news, is_unit, is_word_unit, known_behind, news,
@@ -84,17 +84,17 @@ fn has_any(list: &[StateID]) -> bool
     !list.is_empty()
 }
 
-/// Puts the kept states of a list into another, and returns the looks among them. There may be the closure of the
-/// unanchored start, what is kept of which is copied if the list ends with it.
+/// Puts the kept states of a list into another, and returns the looks among them. There may be the closure that the NFA
+/// keeps, what is kept of which is copied where the list has it.
 #[inline(always)]
 fn keep_set(
     nfa: &NFA,
-    closure: Option<&StartClosure>,
+    closure: Option<&KeptClosure>,
     states: &[StateID],
     kept: &mut Vec<StateID>,
 ) -> LookSet
     requires below { (q : ℕ) → In q states.now → q < length nfa.now.states }
-    requires closure { IfSome closure (λ c. IsStartClosure nfa.now c.now) }
+    requires closure { IfSome closure (λ c. IsKeptClosure nfa.now c.now) }
     requires room { length states.now ≤ vec_capacity kept.old }
     ensures kept { kept.new.items ≡ pick (keep (nfa_of nfa.now)) states.now }
     ensures few { length kept.new.items ≤ length states.now }
@@ -112,13 +112,13 @@ fn keep_set(
 #[inline(always)]
 fn fill(
     nfa: &NFA,
-    closure: Option<&StartClosure>,
+    closure: Option<&KeptClosure>,
     set: &SparseSet,
     known: LookSet,
     prev: Option<u8>,
     parts: &mut Parts,
 )
-    requires closure { IfSome closure (λ c. IsStartClosure nfa.now c.now) }
+    requires closure { IfSome closure (λ c. IsKeptClosure nfa.now c.now) }
     requires whole { set.now.capacity ≡ length nfa.now.states }
     requires parts { IsPartsRoom nfa.now parts.old }
     requires known { (look : Look) → truth_of known look ≡ known_looks (nfa_of nfa.now) prev look }
@@ -307,13 +307,13 @@ fn read_kind(
     }
 }
 
-/// Reads what of a list counts under the match kind, as `read_kind` does. If it ends with what is kept of the closure of
-/// the unanchored start, and it is known where that leads on the byte, no state of that end is read.
+/// Reads what of a list counts under the match kind, as `read_kind` does. If it ends with what is kept of the
+/// closure that the NFA keeps, and it is known where that leads on the byte, no state of that end is read.
 #[inline(never)]
 fn read_with(
     kind: MatchKind,
     nfa: &NFA,
-    closure: &StartClosure,
+    closure: &KeptClosure,
     list: &[StateID],
     u: u8,
     known: LookSet,
@@ -322,7 +322,7 @@ fn read_with(
     patterns: &mut Vec<PatternID>,
 )
     requires below { (q : ℕ) → In q list.now → q < length nfa.now.states }
-    requires closure { IsStartClosure nfa.now closure.now }
+    requires closure { IsKeptClosure nfa.now closure.now }
     requires empty { set.old.items ≡ [] }
     requires room { IsClosureRoom nfa.now stack.old set.old }
     requires patterns { length nfa.now.start_pattern ≤ vec_capacity patterns.old }
@@ -345,13 +345,13 @@ fn read_with(
     let _cut = read_kind(kind, nfa, list, u, known, stack, set, patterns);
 }
 
-/// Reads what of a list counts under the match kind, with the closure of the unanchored start if it is there: adds the
+/// Reads what of a list counts under the match kind, with the closure that the NFA keeps if it is there: adds the
 /// closure of what the list leads to on the byte to the set, and makes its patterns the only ones.
 #[inline(always)]
 fn read_byte(
     kind: MatchKind,
     nfa: &NFA,
-    closure: Option<&StartClosure>,
+    closure: Option<&KeptClosure>,
     list: &[StateID],
     u: u8,
     known: LookSet,
@@ -360,7 +360,7 @@ fn read_byte(
     patterns: &mut Vec<PatternID>,
 )
     requires below { (q : ℕ) → In q list.now → q < length nfa.now.states }
-    requires closure { IfSome closure (λ c. IsStartClosure nfa.now c.now) }
+    requires closure { IfSome closure (λ c. IsKeptClosure nfa.now c.now) }
     requires empty { set.old.items ≡ [] }
     requires room { IsClosureRoom nfa.now stack.old set.old }
     requires patterns { length nfa.now.start_pattern ≤ vec_capacity patterns.old }
@@ -409,7 +409,7 @@ fn read_end(
 fn read_list(
     kind: MatchKind,
     nfa: &NFA,
-    closure: Option<&StartClosure>,
+    closure: Option<&KeptClosure>,
     list: &[StateID],
     unit: Option<u8>,
     known: LookSet,
@@ -418,7 +418,7 @@ fn read_list(
     patterns: &mut Vec<PatternID>,
 )
     requires below { (q : ℕ) → In q list.now → q < length nfa.now.states }
-    requires closure { IfSome closure (λ c. IsStartClosure nfa.now c.now) }
+    requires closure { IfSome closure (λ c. IsKeptClosure nfa.now c.now) }
     requires room { IsClosureRoom nfa.now stack.old set.old }
     requires patterns { length nfa.now.start_pattern ≤ vec_capacity patterns.old }
     ensures matched { AreMatched nfa.now (cut_for kind (nfa_of nfa.now) list.now) patterns.new.items }
@@ -440,7 +440,7 @@ fn read_list(
 fn advance(
     nfa: &NFA,
     kind: MatchKind,
-    closure: Option<&StartClosure>,
+    closure: Option<&KeptClosure>,
     list: &[StateID],
     unit: Option<u8>,
     stack: &mut Vec<StateID>,
@@ -448,7 +448,7 @@ fn advance(
     parts: &mut Parts,
 )
     requires below { (q : ℕ) → In q list.now → q < length nfa.now.states }
-    requires closure { IfSome closure (λ c. IsStartClosure nfa.now c.now) }
+    requires closure { IfSome closure (λ c. IsKeptClosure nfa.now c.now) }
     requires room { IsClosureRoom nfa.now stack.old set.old }
     requires parts { IsPartsRoom nfa.now parts.old }
     ensures matched { AreMatched nfa.now (cut_for kind (nfa_of nfa.now) list.now) parts.new.patterns.items }
@@ -477,7 +477,7 @@ fn advance(
 pub(crate) fn next_into(
     nfa: &NFA,
     kind: MatchKind,
-    closure: Option<&StartClosure>,
+    closure: Option<&KeptClosure>,
     from: &State,
     list: &[StateID],
     unit: Option<u8>,
@@ -489,7 +489,7 @@ pub(crate) fn next_into(
     requires checked { IsChecked nfa.now }
     requires is_of { IsOf nfa.now from.now }
     requires list { list.now ≡ from.now.nfa }
-    requires closure { IfSome closure (λ c. IsStartClosure nfa.now c.now) }
+    requires closure { IfSome closure (λ c. IsKeptClosure nfa.now c.now) }
     requires room { IsStepRoom nfa.now stack.old one.old two.old parts.old }
     ensures made { IsStepMade nfa.now kind from.now unit (powerset_of parts.new) }
     ensures distinct { Distinct parts.new.patterns.items }

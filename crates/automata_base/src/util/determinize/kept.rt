@@ -1,18 +1,47 @@
-//! Lists of NFA states that end with what is kept of the closure of the unanchored start.
-ghost use Rattle.std.specs.Prelude.{◌≡◌, ◌++◌, ◌<◌, ◌≤◌, List, ℕ, length, take, eqb, IfSome, vec_capacity};
+//! Lists of NFA states in which the closure stands that the NFA keeps, or what is kept of it.
+ghost use Rattle.std.specs.Prelude.{◌≡◌, ◌+◌, ◌++◌, ◌<◌, ◌≤◌, ℕ, length, eqb, IfSome, IsTrue, vec_capacity};
 ghost use Rattle.automata_base.specs.Haystacks.LookSets.{truth_of};
 ghost use Rattle.automata_base.specs.Haystacks.Looks.{Look, look_index};
 ghost use Rattle.automata_base.specs.Lists.{In, pick};
 ghost use Rattle.automata_base.specs.Nfas.Nfa.{keep};
 ghost use Rattle.automata_base.specs.Nfas.Nodes.{nfa_of};
-ghost use Rattle.automata_base.specs.Nfas.StartClosure.{IsStartClosure};
+ghost use Rattle.automata_base.specs.Nfas.KeptClosure.{IsKeptClosure, IsPartAt};
 ghost use Rattle.automata_base.specs.Retraced.Computed.{any_state};
 
 use crate::nfa::thompson::NFA;
-use crate::nfa::thompson::start_closure::StartClosure;
-use crate::util::determinize::lists::keep_states;
+use crate::nfa::thompson::kept_closure::KeptClosure;
+use crate::util::determinize::lists::{append_kept, keep_states};
 use crate::util::look::LookSet;
 use crate::util::primitives::StateID;
+
+/// Whether a part stands in a list of NFA states from an index on.
+#[inline(always)]
+fn stands_at(list: &[StateID], part: &[StateID], start: usize) -> bool
+    requires { start + length part.now ≤ length list.now }
+    ensures { IsTrue result → IsPartAt list.now part.now start }
+{
+    &list[start..start + part.len()] == part
+}
+
+/// Where a part stands in a list of NFA states, if it does and has a state: at the end of the list, or else at the
+/// first such place.
+pub(crate) fn place_of(list: &[StateID], part: &[StateID]) -> Option<usize>
+    ensures { IfSome result (λ start. IsPartAt list.now part.now start × (0 < length part.now)) }
+{
+    if part.is_empty() || list.len() < part.len() {
+        return None;
+    }
+    let last = list.len() - part.len();
+    if stands_at(list, part, last) {
+        return Some(last);
+    }
+    for start in 0..last {
+        if stands_at(list, part, start) {
+            return Some(start);
+        }
+    }
+    None
+}
 
 /// What stands before an end in a list of NFA states, or none if the list does not end so.
 pub(crate) fn front_of<'a>(list: &'a [StateID], end: &[StateID]) -> Option<&'a [StateID]>
@@ -28,34 +57,17 @@ pub(crate) fn front_of<'a>(list: &'a [StateID], end: &[StateID]) -> Option<&'a [
     None
 }
 
-/// What stands before an end in a list of NFA states, and the first state of the end after it, or none if the list does
-/// not end so or the end has no state.
-pub(crate) fn front_with_first<'a>(list: &'a [StateID], end: &[StateID]) -> Option<&'a [StateID]>
-    ensures { IfSome result (λ begin. (front : List ℕ)
-        × (list.now ≡ front ++ end.now) × (begin.now ≡ front ++ take 1 end.now)) }
-{
-    match front_of(list, end) {
-        Some(front) => {
-            if front.len() < list.len() {
-                return Some(&list[..front.len() + 1]);
-            }
-            None
-        }
-        None => None,
-    }
-}
-
-/// Puts the kept states of a list into another, and returns the looks among them. If the list ends with the closure of
-/// the unanchored start, what is kept of that is copied.
+/// Puts the kept states of a list into another, and returns the looks among them. Where the list has the closure that
+/// the NFA keeps, what is kept of that is copied.
 #[inline(never)]
 pub(crate) fn keep_with(
     nfa: &NFA,
-    closure: &StartClosure,
+    closure: &KeptClosure,
     states: &[StateID],
     kept: &mut Vec<StateID>,
 ) -> LookSet
     requires below { (q : ℕ) → In q states.now → q < length nfa.now.states }
-    requires closure { IsStartClosure nfa.now closure.now }
+    requires closure { IsKeptClosure nfa.now closure.now }
     requires room { length states.now ≤ vec_capacity kept.old }
     ensures kept { kept.new.items ≡ pick (keep (nfa_of nfa.now)) states.now }
     ensures few { length kept.new.items ≤ length states.now }
@@ -63,11 +75,12 @@ pub(crate) fn keep_with(
         ≡ any_state (λ look. eqb (look_index look) (look_index other)) (nfa_of nfa.now) kept.new.items }
     ensures capacity { vec_capacity kept.old ≤ vec_capacity kept.new }
 {
-    match front_of(states, closure.set.as_slice()) {
-        Some(front) => {
-            let looks = keep_states(nfa, front, kept);
+    let part = closure.set.as_slice();
+    match place_of(states, part) {
+        Some(start) => {
+            let looks = keep_states(nfa, &states[..start], kept);
             kept.extend_from_slice(closure.kept.as_slice()).unwrap();
-            looks
+            append_kept(nfa, &states[start + part.len()..], looks, kept)
         }
         None => keep_states(nfa, states, kept),
     }

@@ -1,6 +1,6 @@
 //! Lists of NFA states: what a powerset state keeps of them, and the patterns that they match.
 ghost use Rattle.std.specs.Prelude.{◌≡◌, ◌+◌, ◌<◌, ◌≤◌, [], ◌∷◌, ◌++◌, ℕ, length, take, eqb, Some};
-ghost use Rattle.std.specs.Prelude.{None, false, not};
+ghost use Rattle.std.specs.Prelude.{None, false, not, ◌||◌};
 ghost use Rattle.automata_base.specs.Lists.{In, pick};
 ghost use Rattle.automata_base.specs.Nfas.Nfa.{keep};
 ghost use Rattle.automata_base.specs.Retraced.Computed.{any_state};
@@ -31,6 +31,33 @@ fn push_if(kept: &mut Vec<StateID>, id: StateID, passes: bool)
     }
 }
 
+/// Puts the kept states of a list after those of another, and returns the looks among them and those given.
+#[inline(always)]
+pub fn append_kept(
+    nfa: &NFA,
+    states: &[StateID],
+    looks: LookSet,
+    kept: &mut Vec<StateID>,
+) -> LookSet
+    requires below { (q : ℕ) → In q states.now → q < length nfa.now.states }
+    requires room { length kept.old.items + length states.now ≤ vec_capacity kept.old }
+    ensures kept { kept.new.items ≡ kept.old.items ++ pick (keep (nfa_of nfa.now)) states.now }
+    ensures looks { (other : Look) → truth_of result other ≡ (truth_of looks other
+        || any_state (λ look. eqb (look_index look) (look_index other)) (nfa_of nfa.now) states.now) }
+    ensures capacity { vec_capacity kept.old ≤ vec_capacity kept.new }
+{
+    let mut all = looks;
+    let nodes = nfa.states();
+    let keeps_unions = nfa.keeps_unions();
+    for i in 0..states.len() {
+        let id = states[i];
+        let state = state_at(nfa, nodes, id);
+        all = add_look(all, state);
+        push_if(kept, id, is_kept(state, keeps_unions));
+    }
+    all
+}
+
 /// Puts the kept states of a list into another, and returns the looks among them.
 #[inline(always)]
 pub fn keep_states(nfa: &NFA, states: &[StateID], kept: &mut Vec<StateID>) -> LookSet
@@ -43,16 +70,7 @@ pub fn keep_states(nfa: &NFA, states: &[StateID], kept: &mut Vec<StateID>) -> Lo
     ensures capacity { vec_capacity kept.old ≤ vec_capacity kept.new }
 {
     kept.clear();
-    let mut looks = LookSet::empty();
-    let nodes = nfa.states();
-    let keeps_unions = nfa.keeps_unions();
-    for i in 0..states.len() {
-        let id = states[i];
-        let state = state_at(nfa, nodes, id);
-        looks = add_look(looks, state);
-        push_if(kept, id, is_kept(state, keeps_unions));
-    }
-    looks
+    append_kept(nfa, states, LookSet::empty(), kept)
 }
 
 /// The patterns of the match states of a list, each once. The set marks those that were found: it is empty before, and

@@ -2,11 +2,11 @@
 ghost use Rattle.std.specs.Prelude.{◌≡◌, ◌≤◌, IfOk, IfSome, OnOk, vec_capacity};
 ghost use Rattle.automata_base.specs.Lists.{Distinct};
 ghost use Rattle.automata_base.specs.Powersets.Code.{decoded, IsCode};
-ghost use Rattle.automata_base.specs.Nfas.StartClosure.{IsRestCode};
+ghost use Rattle.automata_base.specs.Nfas.KeptClosure.{IsRestCode};
 ghost use Rattle.automata_base.specs.Powersets.Key.{ListsItsStates};
 ghost use Rattle.automata_base.specs.Powersets.Parts.{powerset_of};
 
-use crate::nfa::thompson::start_closure::StartClosure;
+use crate::nfa::thompson::kept_closure::KeptClosure;
 use crate::util::determinize::ids::list_ids;
 use crate::util::determinize::state::{Parts, State};
 use crate::util::primitives::StateID;
@@ -50,12 +50,12 @@ impl MadeState {
     }
 
     /// Makes it the state of these parts, of an NFA with so many states. It takes their list of NFA states, and leaves
-    /// its own there, with room for as many. There may be the closure of the unanchored start, whose bytes are copied.
+    /// its own there, with room for as many. There may be the closure that the NFA keeps, whose bytes are copied.
     /// After an error it stands for no state.
     #[inline(always)]
     pub fn set(
         &mut self,
-        closure: Option<&StartClosure>,
+        closure: Option<&KeptClosure>,
         parts: &mut Parts,
         len: usize,
     ) -> Result<(), AllocError>

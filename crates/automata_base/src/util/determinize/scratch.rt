@@ -2,13 +2,13 @@
 ghost use Rattle.std.specs.Prelude.{◌≡◌, ◌+◌, ◌≤◌, IfOk, IfSome, None, vec_capacity};
 ghost use Rattle.automata_base.specs.Powersets.Results.{IsStartMade, IsStepMade};
 ghost use Rattle.automata_base.specs.Lists.{Distinct};
-ghost use Rattle.automata_base.specs.Nfas.StartClosure.{IsRestCode, IsStartClosure};
+ghost use Rattle.automata_base.specs.Nfas.KeptClosure.{IsRestCode, IsKeptClosure};
 ghost use Rattle.automata_base.specs.Powersets.Key.{ListsItsStates};
 ghost use Rattle.automata_base.specs.Powersets.Parts.{powerset_of};
 ghost use Rattle.automata_base.specs.Paths.Starts.{IsOf};
 
 use crate::nfa::thompson::NFA;
-use crate::nfa::thompson::start_closure::StartClosure;
+use crate::nfa::thompson::kept_closure::KeptClosure;
 use crate::util::determinize::construct::{next_into, start_into};
 use crate::util::determinize::count::Count;
 use crate::util::determinize::key::Key;
@@ -142,7 +142,7 @@ fn take_made(
 #[inline(always)]
 fn key_of(
     made: Box<MadeState>,
-    closure: Option<&StartClosure>,
+    closure: Option<&KeptClosure>,
     parts: &mut Parts,
     len: usize,
 ) -> Result<Key, AllocError>
@@ -185,12 +185,12 @@ pub fn start_key(
     Ok(key)
 }
 
-/// The successor of a powerset state on a unit, as `next_key` returns it. There may be the closure of the unanchored
-/// start, with what the step needs of it.
+/// The successor of a powerset state on a unit, as `next_key` returns it. There may be the closure that the NFA keeps,
+/// with what the step needs of it.
 #[inline(always)]
 fn next_key_of(
     nfa: &NFA,
-    closure: Option<&StartClosure>,
+    closure: Option<&KeptClosure>,
     scratch: &mut Scratch,
     kind: MatchKind,
     from: &State,
@@ -198,7 +198,7 @@ fn next_key_of(
 ) -> Result<Key, AllocError>
     requires of { scratch.old.of ≡ nfa.now }
     requires is_of { IsOf nfa.now from.now }
-    requires closure { IfSome closure (λ c. IsStartClosure nfa.now c.now) }
+    requires closure { IfSome closure (λ c. IsKeptClosure nfa.now c.now) }
     ensures made { IfOk result (IsStepMade nfa.now kind from.now unit) }
     ensures of { scratch.new.of ≡ scratch.old.of }
     ensures count { scratch.new.count ≡ scratch.old.count + 1 }
@@ -223,12 +223,11 @@ fn next_key_of(
     Ok(key)
 }
 
-/// The successor of a powerset state on a unit, as `next_key` returns it, of an NFA that keeps the closure of its
-/// unanchored start.
+/// The successor of a powerset state on a unit, as `next_key` returns it, of an NFA that keeps a closure.
 #[inline(never)]
 fn next_key_with(
     nfa: &NFA,
-    closure: &StartClosure,
+    closure: &KeptClosure,
     scratch: &mut Scratch,
     kind: MatchKind,
     from: &State,
@@ -236,7 +235,7 @@ fn next_key_with(
 ) -> Result<Key, AllocError>
     requires of { scratch.old.of ≡ nfa.now }
     requires is_of { IsOf nfa.now from.now }
-    requires closure { IsStartClosure nfa.now closure.now }
+    requires closure { IsKeptClosure nfa.now closure.now }
     ensures made { IfOk result (IsStepMade nfa.now kind from.now unit) }
     ensures of { scratch.new.of ≡ scratch.old.of }
     ensures count { scratch.new.count ≡ scratch.old.count + 1 }
@@ -258,7 +257,7 @@ pub fn next_key(
     ensures of { scratch.new.of ≡ scratch.old.of }
     ensures count { scratch.new.count ≡ scratch.old.count + 1 }
 {
-    match nfa.start_closure() {
+    match nfa.kept_closure() {
         Some(closure) => next_key_with(nfa, closure, scratch, kind, from, unit),
         None => next_key_of(nfa, None, scratch, kind, from, unit),
     }

@@ -4,12 +4,12 @@ ghost use Rattle.std.specs.Prelude.{vec_capacity, IfSome};
 ghost use Rattle.automata_base.specs.Lists.{Distinct};
 ghost use Rattle.automata_base.specs.Powersets.Code.{code, decoded, IsCode};
 ghost use Rattle.automata_base.specs.Powersets.Powerset.{Powerset, IsPowerset, cost};
-ghost use Rattle.automata_base.specs.Nfas.StartClosure.{IsRestCode};
+ghost use Rattle.automata_base.specs.Nfas.KeptClosure.{IsRestCode};
 ghost use Rattle.automata_base.specs.Powersets.Parts.{powerset_of};
 ghost use Rattle.automata_base.specs.Paths.Starts.{IsOf};
 
 use crate::nfa::thompson::NFA;
-use crate::nfa::thompson::start_closure::StartClosure;
+use crate::nfa::thompson::kept_closure::KeptClosure;
 use crate::util::determinize::ids::{Ids, are_below, read_ids};
 use crate::util::determinize::key::Key;
 use crate::util::determinize::read::{
@@ -88,12 +88,12 @@ impl Parts {
         self.write_with(None, out)
     }
 
-    /// Sets the bytes to those of the state of these parts. There may be the closure of the unanchored start, whose bytes
-    /// are copied if the NFA states end so.
+    /// Sets the bytes to those of the state of these parts. There may be the closure that the NFA keeps, whose bytes
+    /// are copied where the NFA states have it.
     #[inline(always)]
     pub(crate) fn write_with(
         &self,
-        closure: Option<&StartClosure>,
+        closure: Option<&KeptClosure>,
         out: &mut Vec<u8>,
     ) -> Result<(), AllocError>
         requires distinct { Distinct self.now.patterns.items }

@@ -5,10 +5,10 @@ ghost use Rattle.automata_base.specs.Powersets.Code.{four_bytes, varint, ids_cod
 ghost use Rattle.automata_base.specs.Powersets.Code.{patterns_code};
 ghost use Rattle.automata_base.specs.Powersets.Code.{flag_byte, has_any};
 ghost use Rattle.automata_base.specs.Powersets.Powerset.{IsId};
-ghost use Rattle.automata_base.specs.Nfas.StartClosure.{IsRestCode};
+ghost use Rattle.automata_base.specs.Nfas.KeptClosure.{IsRestCode};
 
-use crate::nfa::thompson::start_closure::StartClosure;
-use crate::util::determinize::kept::front_with_first;
+use crate::nfa::thompson::kept_closure::KeptClosure;
+use crate::util::determinize::kept::place_of;
 use crate::util::primitives::{PatternID, StateID};
 use std::alloc::AllocError;
 
@@ -92,29 +92,32 @@ pub(crate) fn push_ids(out: &mut Vec<u8>, before: u32, ids: &[StateID]) -> Resul
     Ok(())
 }
 
-/// Appends NFA states, none being before them. If they end with what is kept of the closure, the bytes of all but the
+/// Appends NFA states, none being before them. Where they have what is kept of the closure, the bytes of all but the
 /// first of these are copied.
 #[inline(never)]
-fn push_with(out: &mut Vec<u8>, closure: &StartClosure, ids: &[StateID]) -> Result<(), AllocError>
+fn push_with(out: &mut Vec<u8>, closure: &KeptClosure, ids: &[StateID]) -> Result<(), AllocError>
     requires { IsRestCode closure.now.kept.items closure.now.code.items }
     ensures ok { OnOk result (out.new.items ≡ out.old.items ++ ids_code 0 ids.now) }
     ensures ids { OnOk result (All IsId ids.now) }
 {
-    match front_with_first(ids, closure.kept.as_slice()) {
-        Some(begin) => {
-            push_ids(out, 0, begin)?;
-            out.extend_from_slice(closure.code.as_slice())
+    let part = closure.kept.as_slice();
+    match place_of(ids, part) {
+        Some(start) => {
+            let end = start + part.len();
+            push_ids(out, 0, &ids[..start + 1])?;
+            out.extend_from_slice(closure.code.as_slice())?;
+            push_ids(out, ids[end - 1].as_u32(), &ids[end..])
         }
         None => push_ids(out, 0, ids),
     }
 }
 
-/// Appends NFA states, none being before them. There may be the closure of the unanchored start, whose bytes are copied
-/// if they end so.
+/// Appends NFA states, none being before them. There may be the closure that the NFA keeps, whose bytes are copied
+/// where they have it.
 #[inline(always)]
 fn push_list(
     out: &mut Vec<u8>,
-    closure: Option<&StartClosure>,
+    closure: Option<&KeptClosure>,
     ids: &[StateID],
 ) -> Result<(), AllocError>
     requires { IfSome closure (λ c. IsRestCode c.now.kept.items c.now.code.items) }
@@ -159,12 +162,12 @@ fn flags_of(patterns: &[PatternID], word: bool, half: bool) -> u8
     u8::from(!patterns.is_empty()) + 2 * u8::from(listed) + 4 * u8::from(word) + 8 * u8::from(half)
 }
 
-/// Appends the bytes of a state. There may be the closure of the unanchored start, whose bytes are copied if its NFA
-/// states end so.
+/// Appends the bytes of a state. There may be the closure that the NFA keeps, whose bytes are copied where its NFA
+/// states have it.
 #[inline(always)]
 pub(crate) fn push_state(
     out: &mut Vec<u8>,
-    closure: Option<&StartClosure>,
+    closure: Option<&KeptClosure>,
     nfa: &[StateID],
     patterns: &[PatternID],
     known: u32,

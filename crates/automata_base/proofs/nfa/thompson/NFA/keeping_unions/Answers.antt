@@ -5,7 +5,7 @@ use Rattle.automata_base.specs.Nfas.Nodes.{Automaton, nfa_of}
 use Rattle.automata_base.specs.Paths.Paths.{IsLookAcyclic}
 use Rattle.automata_base.proofs.Powersets.KeepingUnions.{asked, consistent_with, kept_with}
 use Rattle.automata_base.specs.Nfas.Automata.{automaton_of}
-use Rattle.automata_base.specs.Nfas.StartClosure.{IsStartClosure}
+use Rattle.automata_base.specs.Nfas.KeptClosure.{IsKeptClosure}
 use Rattle.automata_base.proofs.nfa.thompson.NFA.keeping_unions.Goals.{then-has_look_cycle-keeps_unions}
 use Rattle.automata_base.proofs.nfa.thompson.NFA.keeping_unions.Goals.{else-has_look_cycle-keeps_unions+in-Some-1, else-has_look_cycle-keeps_unions+in-None-1}
 use Rattle.automata_base.proofs.nfa.thompson.NFA.keeping_unions.Goals as goal
@@ -18,11 +18,11 @@ invariant_of-result c =
       consistent_with d v w c.self.invariant.0,
       elim c.if-has_look_cycle-keeps_unions.branch [
         | then-has_look_cycle-keeps_unions k ↦ (
-            subst (λ o. IfSome o (λ kept. IsStartClosure (automaton_of d w) kept.value)) (sym k.start_closure-is)
-            (subst (λ b. IfSome c.self.inside.start_closure (λ kept. IsStartClosure (automaton_of d b) kept.value))
+            subst (λ o. IfSome o (λ kept. IsKeptClosure (automaton_of d w) kept.value)) (sym k.kept_closure-is)
+            (subst (λ b. IfSome c.self.inside.kept_closure (λ kept. IsKeptClosure (automaton_of d b) kept.value))
             (sym ((booleans_Decides w v).0 k.if-has_look_cycle-keeps_unions.true)) c.self.invariant.1))
-        | else-has_look_cycle-keeps_unions+in-Some-1 k ↦ subst (λ o. IfSome o (λ kept. IsStartClosure (automaton_of d w) kept.value)) (sym k.start_closure-is) tt
-        | else-has_look_cycle-keeps_unions+in-None-1 k ↦ subst (λ o. IfSome o (λ kept. IsStartClosure (automaton_of d w) kept.value)) (sym k.start_closure-is) tt
+        | else-has_look_cycle-keeps_unions+in-Some-1 k ↦ subst (λ o. IfSome o (λ kept. IsKeptClosure (automaton_of d w) kept.value)) (sym k.kept_closure-is) tt
+        | else-has_look_cycle-keeps_unions+in-None-1 k ↦ subst (λ o. IfSome o (λ kept. IsKeptClosure (automaton_of d w) kept.value)) (sym k.kept_closure-is) tt
       ],
     )
 

@@ -1,7 +1,7 @@
 use Rattle.std.proofs.Common.{arith, sym, subst, refl}
 use Rattle.automata_base.specs.Lists.{In}
 use Rattle.automata_base.proofs.Powersets.Keeping.{below_at}
-use Rattle.automata_base.proofs.Powersets.StartClosures.{tested_next, tested_all}
+use Rattle.automata_base.proofs.Powersets.KeptClosures.{tested_next, tested_all}
 use Rattle.automata_base.proofs.util.determinize.closure.is_apart.Goals as goal
 
 pub contains-requires : goal.contains-requires

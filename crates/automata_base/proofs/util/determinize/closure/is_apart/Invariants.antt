@@ -1,5 +1,5 @@
 use Rattle.automata_base.specs.Lists.{In}
-use Rattle.automata_base.proofs.Powersets.StartClosures.{Tested}
+use Rattle.automata_base.proofs.Powersets.KeptClosures.{Tested}
 use Rattle.automata_base.proofs.util.determinize.closure.is_apart.Given as goal
 
 abbrev pub invariant-loop-i : goal.invariant-loop-i

@@ -1,0 +1,42 @@
+-- Bytes that ranges, and the states of a list, do not read.
+use Rattle.std.proofs.Common.{ℕ, ◌≡◌, ◌<◌, ◌≤◌, ◌+◌, ◌⊎◌, ◌&&◌, Bool, true, false, cond, leb, List, [], ◌∷◌, ◌++◌, Option, Some, None}
+use Rattle.std.proofs.Common.{length, get_or, drop, refl, sym, ap, ◌∙◌, subst, arith}
+use Rattle.std.proofs.lemmas.Bool.Decides.{nat_tests}
+use Rattle.std.proofs.lemmas.List.{at_drop_more, drop_all}
+use Rattle.automata_base.specs.Haystacks.Looks.{within}
+use Rattle.automata_base.specs.Lists.{In, cons_some, pick}
+use Rattle.automata_base.specs.Nfas.Nfa.{Nfa, Node, node, takes, takes_at, takes_in}
+use Rattle.automata_base.specs.Nfas.Nodes.{ranges_of}
+use Rattle.automata_base.specs.Powersets.Cuts.{targets}
+use Rattle.automata_base.specs.declared.nfa.thompson.Transition.{Transition}
+use Rattle.automata_base.proofs.Powersets.Keeping.{next_drop, pick_next}
+
+-- Ranges do not read a byte if those from an index on do not.
+abbrev pub Skips : List Transition → (i u : ℕ) → Type 0
+Skips ts i u = takes_in (ranges_of (drop i ts)) u ≡ None → takes_in (ranges_of ts) u ≡ None
+
+-- The states of a list lead nowhere on a byte if those from an index on do not.
+abbrev pub Ends : Nfa → List ℕ → (i u : ℕ) → Type 0
+Ends n xs i u = targets n (Some u) (drop i xs) ≡ [] → targets n (Some u) xs ≡ []
+
+pub ends_next :
+    (n : Nfa) (xs : List ℕ) (i u x : ℕ) (m : Node)
+    → i < length xs → x ≡ get_or xs i x → node n x ≡ m → takes_at m u ≡ None → Ends n xs i u → Ends n xs (i + 1) u
+ends_next n xs i u x m l e at none ends rest =
+    ends
+    (pick_next (λ b. takes n b u) xs i x l e
+    ∙ (ap (λ o. cons_some o (targets n (Some u) (drop (i + 1) xs))) (ap (λ z. takes_at z u) at ∙ none) ∙ rest))
+
+-- What is expected of a list are its targets if what is left of it are those from an index on.
+abbrev pub Expects : Nfa → (list expected : List ℕ) → (u i : ℕ) → (rest : List ℕ) → Type 0
+Expects n list expected u i rest = rest ≡ targets n (Some u) (drop i list) → expected ≡ targets n (Some u) list
+
+pub expects_next :
+    (n : Nfa) (list expected : List ℕ) (u i x : ℕ) (m : Node) (rest next : List ℕ)
+    → i < length list → x ≡ get_or list i x → node n x ≡ m → rest ≡ cons_some (takes_at m u) next
+    → Expects n list expected u i rest → Expects n list expected u (i + 1) next
+expects_next n list expected u i x m rest next l e at parts expects same =
+    expects
+    (parts
+    ∙ (ap (λ z. cons_some (takes_at z u) next) (sym at)
+    ∙ (ap (cons_some (takes n x u)) same ∙ sym (pick_next (λ b. takes n b u) list i x l e))))

@@ -1,0 +1,96 @@
+-- Where the accepting paths of two NFAs correspond in their order, both select and report the same.
+use Rattle.std.proofs.Common.{ℕ, zero, suc, ◌≡◌, Bool, true, false, List, [], ◌∷◌, length, Option, Some, None}
+use Rattle.std.proofs.Common.{inl, inr}
+use Rattle.automata_base.specs.Lists.{Sorted}
+use Rattle.automata_base.specs.Nfas.Nfa.{Nfa}
+use Rattle.automata_base.specs.Paths.Order.{Before, Upto}
+use Rattle.automata_base.specs.Paths.Paths.{Tape}
+use Rattle.automata_base.specs.Paths.Selections.{Accepts, IsAllAt, IsFirstAt, ArePatternsAt, Pair, Pairs, IsOverlappingOn}
+use Rattle.automata_base.specs.Paths.Selections.{IsChosen, Selects}
+use Rattle.automata_base.specs.Powersets.Cuts.{MatchKind, All, LeftmostFirst}
+
+module _ (n m : Nfa) (t : Tape) (q : ℕ) (R : List ℕ → List ℕ → Type 0)
+    (there : (i p : ℕ) (a : List ℕ) → Accepts n t q i p a → (b : List ℕ) × R a b × Accepts m t q i p b)
+    (back : (i p : ℕ) (b : List ℕ) → Accepts m t q i p b → (a : List ℕ) × R a b × Accepts n t q i p a)
+    (same : (a b c d : List ℕ) → R a b → R c d → a ≡ c → b ≡ d)
+    (order : (a b c d : List ℕ) → R a b → R c d → Before a c → Before b d) where
+  upto_carried : (a b c d : List ℕ) → R a b → R c d → Upto a c → Upto b d
+  upto_carried a b c d r s (inl e) = inl (same a b c d r s e)
+  upto_carried a b c d r s (inr h) = inr (order a b c d r s h)
+
+  pub chosen_carried :
+      (kind : MatchKind) (earliest : Bool) (i j : ℕ) (a b c d : List ℕ) → R a b → R c d
+      → IsChosen kind earliest i a j c → IsChosen kind earliest i b j d
+  chosen_carried All true i j a b c d r s (inl h) = inl h
+  chosen_carried All true i j a b c d r s (inr h) = inr (h.0, upto_carried a b c d r s h.1)
+  chosen_carried LeftmostFirst true i j a b c d r s (inl h) = inl h
+  chosen_carried LeftmostFirst true i j a b c d r s (inr h) = inr (h.0, upto_carried a b c d r s h.1)
+  chosen_carried LeftmostFirst false i j a b c d r s h = upto_carried a b c d r s h
+  chosen_carried All false i j a b c d r s (inl h) = inl h
+  chosen_carried All false i j a b c d r s (inr h) = inr (h.0, upto_carried a b c d r s h.1)
+
+  pub selects_carried :
+      (kind : MatchKind) (earliest : Bool) (answer : Option Pair) → Selects kind earliest n t q answer
+      → Selects kind earliest m t q answer
+  selects_carried kind earliest None h = λ i p b acc. let c = back i p b acc in h i p c.0 c.2
+  selects_carried kind earliest (Some pair) h =
+      let c = there pair.place pair.pattern h.0 h.1 in (
+        c.0,
+        c.2,
+        λ j p other acc.
+            let d = back j p other acc in
+            chosen_carried kind earliest pair.place j h.0 c.0 d.0 other c.1 d.1 (h.2 j p d.0 d.2),
+      )
+
+  sorted_carried :
+      (i : ℕ) (ps : List ℕ) → Sorted (λ p path. Accepts n t q i p path) ps → Sorted (λ p path. Accepts m t q i p path) ps
+  sorted_carried i [] h = tt
+  sorted_carried i (p ∷ ps) h =
+      let c = there i p h.0 h.1 in (
+        c.0,
+        c.2,
+        (λ other acc. let d = back i p other acc in upto_carried h.0 c.0 d.0 other c.1 d.1 (h.2 d.0 d.2)),
+        (λ later other is acc.
+            let d = back i later other acc in order h.0 c.0 d.0 other c.1 d.1 (h.3 later d.0 is d.2)),
+        sorted_carried i ps h.4,
+      )
+
+  all_carried : (i : ℕ) (ps : List ℕ) → IsAllAt n t q i ps → IsAllAt m t q i ps
+  all_carried i ps h = ((λ p path acc. let c = back i p path acc in h.0 p c.0 c.2), sorted_carried i ps h.1)
+
+  first_carried : (i : ℕ) (ps : List ℕ) → IsFirstAt n t q i ps → IsFirstAt m t q i ps
+  first_carried i ps (inl h) = inl (
+    h.0,
+    λ p path acc.
+        let c = back i p path acc in
+        let less = h.1 p c.0 c.2 in
+        let d = there less.0 less.1 less.2 less.4 in
+        (less.0, less.1, d.0, less.3, d.2, order less.2 d.0 c.0 path d.1 c.1 less.5),
+  )
+  first_carried i ps (inr h) =
+      let c = there i h.0 h.1 h.3 in
+      inr (
+        h.0,
+        c.0,
+        h.2,
+        c.2,
+        (λ other more acc.
+            let d = back i other more acc in upto_carried h.1 c.0 d.0 more c.1 d.1 (h.4 other d.0 d.2)),
+        (λ j other more l acc.
+            let d = back j other more acc in order h.1 c.0 d.0 more c.1 d.1 (h.5 j other d.0 l d.2)),
+      )
+
+  patterns_carried : (kind : MatchKind) (i : ℕ) (ps : List ℕ) → ArePatternsAt kind n t q i ps → ArePatternsAt kind m t q i ps
+  patterns_carried All i ps h = all_carried i ps h
+  patterns_carried LeftmostFirst i ps h = first_carried i ps h
+
+  pairs_carried :
+      (kind : MatchKind) (k : ℕ) (pairs : List Pair) → Pairs (ArePatternsAt kind n t q) k pairs
+      → Pairs (ArePatternsAt kind m t q) k pairs
+  pairs_carried kind zero pairs h = h
+  pairs_carried kind (suc k) pairs h =
+      (h.0, h.1, pairs_carried kind k h.0 h.2, patterns_carried kind k h.1 h.3, h.4)
+
+  pub overlapping_carried :
+      (kind : MatchKind) (pairs : List Pair) → IsOverlappingOn kind n t q pairs → IsOverlappingOn kind m t q pairs
+  overlapping_carried kind pairs h = pairs_carried kind (suc (length t.bytes)) pairs h

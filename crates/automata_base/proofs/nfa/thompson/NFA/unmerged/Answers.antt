@@ -1,0 +1,12 @@
+use Rattle.std.proofs.Common.{sym, subst}
+use Rattle.automata_base.specs.Nfas.MergedNfas.{IsMergedNfa, KeepsBounds}
+use Rattle.automata_base.proofs.Nfas.Standing.{bounds_self, merged_self, ok_of}
+use Rattle.automata_base.proofs.nfa.thompson.NFA.unmerged.Goals as goal
+
+pub returns-clause-merged : goal.returns-clause-merged
+returns-clause-merged c =
+    ok_of _ _ _ c.clone.result (λ m e. subst (IsMergedNfa c.args.self.now) (sym e) (merged_self c.args.self.now)) c.clone.ensures.cases
+
+pub returns-clause-bounds : goal.returns-clause-bounds
+returns-clause-bounds c =
+    ok_of _ _ _ c.clone.result (λ m e. subst (KeepsBounds c.args.self.now) (sym e) (bounds_self c.args.self.now)) c.clone.ensures.cases

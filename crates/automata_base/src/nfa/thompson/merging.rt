@@ -1,0 +1,483 @@
+//! The same NFA with fewer states to follow at once.
+//!
+//! The alternates of a wide union that read bytes, one after another, become one state that reads. Where several of them
+//! read one byte, it leads to a further state, which stands for the list of their targets and is merged likewise. So a
+//! union of many words becomes a trie. An alternate that reads no byte stays, and the order stays as it is.
+//!
+//! Nothing is promised of the states that are made: `standing` tests them.
+ghost use Rattle.std.specs.Prelude.{◌≡◌, IfOk, IfSome, IsTrue, false};
+ghost use Rattle.automata_base.specs.Answers.Alike.{AnswerAlike};
+ghost use Rattle.automata_base.specs.Nfas.Engines.{engine_of};
+ghost use Rattle.automata_base.specs.Nfas.MergedNfas.{BeginsAs, IsMergedNfa, KeepsBounds};
+ghost use Rattle.automata_base.specs.Powersets.Cuts.{MatchKind};
+
+use crate::laws::merged_answers_alike;
+use crate::nfa::thompson::standing::{is_merged, is_plain, stands_for};
+use crate::nfa::thompson::turn::no_lists;
+use crate::nfa::thompson::{NFA, NfaError, State, Transition};
+use crate::util::primitives::StateID;
+use std::alloc::{AllocError, Global};
+use std::mem;
+
+/// How many alternates a union has at least if they are merged.
+const FEWEST: usize = 8;
+
+/// How many targets may be listed for each state of the NFA, and how many more.
+const EACH: usize = 8;
+
+const MORE: usize = 4096;
+
+/// The states of a merged NFA: those of the NFA, of which some are replaced, and after them further ones.
+#[derive(Drop)]
+pub struct Merged {
+    /// The states.
+    pub states: Vec<State>,
+    /// For each further state the states of the NFA for which it stands.
+    pub lists: Vec<Vec<StateID>>,
+}
+
+/// What is kept while states are merged.
+#[derive(Drop)]
+struct Merging {
+    /// How many states the NFA has.
+    count: usize,
+    /// The lists for which further states stand.
+    lists: Vec<Vec<StateID>>,
+    /// For each byte the targets of a row of states, while it is merged.
+    targets: Vec<Vec<StateID>>,
+    /// The least byte that has targets, or 255.
+    first: u8,
+    /// The greatest byte that has targets, or 0.
+    last: u8,
+    /// How many targets may still be listed.
+    left: usize,
+    /// Whether more were asked for, so that nothing is merged.
+    is_short: bool,
+}
+
+/// A copy of a dense state.
+fn copy_dense(alloc: Global, targets: &[StateID; 256]) -> Result<State, AllocError> {
+    let targets = Box::new(alloc, *targets).map_err(AllocError::from)?;
+    Ok(State::Dense(targets))
+}
+
+/// A copy of a state.
+fn copy_of(alloc: Global, state: &State) -> Result<State, AllocError> {
+    match state {
+        State::ByteRange { lo, hi, next } => Ok(State::ByteRange {
+            lo: *lo,
+            hi: *hi,
+            next: *next,
+        }),
+        State::Sparse(ranges) => Ok(State::Sparse(Vec::from_slice(alloc, ranges)?)),
+        State::Dense(targets) => copy_dense(alloc, targets),
+        State::Look { look, next } => Ok(State::Look {
+            look: *look,
+            next: *next,
+        }),
+        State::Union { alternates } => Ok(State::Union {
+            alternates: Vec::from_slice(alloc, alternates)?,
+        }),
+        State::BinaryUnion { alt1, alt2 } => Ok(State::BinaryUnion {
+            alt1: *alt1,
+            alt2: *alt2,
+        }),
+        State::Capture {
+            next,
+            pattern_id,
+            group_index,
+            slot,
+        } => Ok(State::Capture {
+            next: *next,
+            pattern_id: *pattern_id,
+            group_index: *group_index,
+            slot: *slot,
+        }),
+        State::Fail => Ok(State::Fail),
+        State::Match { pattern } => Ok(State::Match { pattern: *pattern }),
+    }
+}
+
+/// The alternates of a union that is wide enough, and none of another state.
+fn wide(state: &State) -> Option<&[StateID]> {
+    match state {
+        State::Union { alternates } => {
+            if alternates.len() >= FEWEST {
+                Some(alternates.as_slice())
+            } else {
+                None
+            }
+        }
+        _ => None,
+    }
+}
+
+/// Whether there is a union that is wide enough.
+pub fn has_wide(states: &[State]) -> bool {
+    for state in states {
+        if wide(state).is_some() {
+            return true;
+        }
+    }
+    false
+}
+
+/// Adds a target for each byte of a range.
+fn push_range(
+    targets: &mut Vec<Vec<StateID>>,
+    lo: u8,
+    hi: u8,
+    next: StateID,
+) -> Result<(), AllocError> {
+    for byte in lo..=hi {
+        if let Some(own) = targets.get_mut(usize::from(byte)) {
+            own.push(next)?;
+        }
+    }
+    Ok(())
+}
+
+impl Merging {
+    /// Takes so many targets of those that may be listed. Whether there are so many.
+    fn take(&mut self, targets: usize) -> bool {
+        if targets > self.left {
+            self.is_short = true;
+            return false;
+        }
+        self.left -= targets;
+        true
+    }
+
+    /// Lists where a range of bytes leads.
+    fn list_range(&mut self, lo: u8, hi: u8, next: StateID) -> Result<(), AllocError> {
+        let bytes = (usize::from(hi) + 1).saturating_sub(usize::from(lo));
+        if self.take(bytes) {
+            self.first = self.first.min(lo);
+            self.last = self.last.max(hi);
+            push_range(&mut self.targets, lo, hi, next)?;
+        }
+        Ok(())
+    }
+
+    /// Lists where ranges of bytes lead.
+    fn list_ranges(&mut self, ranges: &[Transition]) -> Result<(), AllocError> {
+        for range in ranges {
+            self.list_range(range.lo, range.hi, range.next)?;
+        }
+        Ok(())
+    }
+
+    /// Lists where a dense state leads.
+    fn list_dense(&mut self, targets: &[StateID; 256]) -> Result<(), AllocError> {
+        for byte in 0..=255u8 {
+            let next = targets[usize::from(byte)];
+            if next.as_usize() != 0 {
+                self.list_range(byte, byte, next)?;
+            }
+        }
+        Ok(())
+    }
+
+    /// Lists where a state leads on each byte.
+    fn list(&mut self, state: &State) -> Result<(), AllocError> {
+        match state {
+            State::ByteRange { lo, hi, next } => self.list_range(*lo, *hi, *next),
+            State::Sparse(ranges) => self.list_ranges(ranges.as_slice()),
+            State::Dense(targets) => self.list_dense(targets),
+            _ => Ok(()),
+        }
+    }
+
+    /// The state that stands for these: the only one of them, or a further state.
+    fn standing(&mut self, list: Vec<StateID>) -> Result<StateID, AllocError> {
+        if let [only] = list.as_slice() {
+            return Ok(*only);
+        }
+        let number = self.count.saturating_add(self.lists.len());
+        let Some(id) = StateID::new(number) else {
+            self.is_short = true;
+            return Ok(StateID::ZERO);
+        };
+        self.lists.push(list)?;
+        Ok(id)
+    }
+
+    /// Whether a range ends before a byte and leads to what stands for these targets.
+    fn goes_on(&self, last: &Transition, byte: u8, targets: &[StateID]) -> bool {
+        usize::from(last.hi) + 1 == usize::from(byte)
+            && stands_for(self.lists.as_slice(), self.count, last.next, targets)
+    }
+
+    /// Adds to the ranges of a state that a byte leads to these targets.
+    fn push_byte(
+        &mut self,
+        ranges: &mut Vec<Transition>,
+        byte: u8,
+        targets: Vec<StateID>,
+    ) -> Result<(), AllocError> {
+        if targets.is_empty() {
+            return Ok(());
+        }
+        if let Some(last) = ranges.last_mut() {
+            if self.goes_on(last, byte, targets.as_slice()) {
+                last.hi = byte;
+                return Ok(());
+            }
+        }
+        let next = self.standing(targets)?;
+        let (lo, hi) = (byte, byte);
+        ranges.push(Transition { lo, hi, next })?;
+        Ok(())
+    }
+
+    /// Makes the ranges of a state of what was listed for each byte, of which nothing is left.
+    fn ranges(&mut self, alloc: Global) -> Result<Vec<Transition>, AllocError> {
+        let mut ranges = Vec::new(alloc);
+        for byte in self.first..=self.last {
+            if let Some(own) = self.targets.get_mut(usize::from(byte)) {
+                let targets = mem::replace(own, Vec::new(alloc));
+                self.push_byte(&mut ranges, byte, targets)?;
+            }
+        }
+        self.first = 255;
+        self.last = 0;
+        Ok(ranges)
+    }
+
+    /// The state that leads on each byte to what stands for the targets of these states, which read bytes.
+    fn row(&mut self, nfa: &NFA, list: &[StateID]) -> Result<State, AllocError> {
+        let states = nfa.states();
+        for id in list {
+            if let Some(state) = states.get(id.as_usize()) {
+                self.list(state)?;
+            }
+        }
+        let ranges = self.ranges(nfa.alloc())?;
+        Ok(State::Sparse(ranges))
+    }
+
+    /// Ends a row of states that read bytes: one alternate stands for them, if there are any.
+    fn close(
+        &mut self,
+        alloc: Global,
+        row: &mut Vec<StateID>,
+        alternates: &mut Vec<StateID>,
+    ) -> Result<(), AllocError> {
+        let whole = mem::replace(row, Vec::new(alloc));
+        if whole.is_empty() {
+            return Ok(());
+        }
+        let id = self.standing(whole)?;
+        alternates.push(id)?;
+        Ok(())
+    }
+
+    /// The union in which one alternate stands for each row of states that read bytes.
+    fn rows(&mut self, nfa: &NFA, list: &[StateID]) -> Result<State, AllocError> {
+        let alloc = nfa.alloc();
+        let mut alternates = Vec::new(alloc);
+        let mut row = Vec::new(alloc);
+        for id in list {
+            if is_plain(nfa, *id) {
+                row.push(*id)?;
+            } else {
+                self.close(alloc, &mut row, &mut alternates)?;
+                alternates.push(*id)?;
+            }
+        }
+        self.close(alloc, &mut row, &mut alternates)?;
+        Ok(State::Union { alternates })
+    }
+
+    /// The state that stands for these: one that reads if all of them do, and else a union.
+    fn merge_list(&mut self, nfa: &NFA, list: &[StateID]) -> Result<State, AllocError> {
+        for id in list {
+            if !is_plain(nfa, *id) {
+                return self.rows(nfa, list);
+            }
+        }
+        self.row(nfa, list)
+    }
+
+    /// What becomes of a state of the NFA.
+    fn merge_state(&mut self, nfa: &NFA, state: &State) -> Result<State, AllocError> {
+        match wide(state) {
+            Some(alternates) => {
+                if self.take(alternates.len()) {
+                    self.merge_list(nfa, alternates)
+                } else {
+                    Ok(State::Fail)
+                }
+            }
+            None => copy_of(nfa.alloc(), state),
+        }
+    }
+
+    /// Adds what becomes of the states of the NFA.
+    fn merge_states(&mut self, nfa: &NFA, states: &mut Vec<State>) -> Result<(), AllocError> {
+        for state in nfa.states() {
+            let merged = self.merge_state(nfa, state)?;
+            states.push(merged)?;
+        }
+        Ok(())
+    }
+
+    /// The further state of this number.
+    fn merge_further(&mut self, nfa: &NFA, at: usize) -> Result<State, AllocError> {
+        let alloc = nfa.alloc();
+        let Some(own) = self.lists.get_mut(at) else {
+            return Ok(State::Fail);
+        };
+        let list = mem::replace(own, Vec::new(alloc));
+        let state = self.merge_list(nfa, list.as_slice())?;
+        if let Some(own) = self.lists.get_mut(at) {
+            *own = list;
+        }
+        Ok(state)
+    }
+
+    /// Adds the further states, one after another. There are less than so many.
+    fn merge_lists(
+        &mut self,
+        nfa: &NFA,
+        states: &mut Vec<State>,
+        most: usize,
+    ) -> Result<(), AllocError> {
+        for at in 0..most {
+            if at >= self.lists.len() || self.is_short {
+                return Ok(());
+            }
+            let merged = self.merge_further(nfa, at)?;
+            states.push(merged)?;
+        }
+        Ok(())
+    }
+}
+
+/// The states of the merged NFA, or none if they would be too many.
+pub fn merge(nfa: &NFA) -> Result<Option<Merged>, AllocError> {
+    let alloc = nfa.alloc();
+    let count = nfa.states().len();
+    let most = count.saturating_mul(EACH).saturating_add(MORE);
+    let mut merging = Merging {
+        count,
+        lists: Vec::new(alloc),
+        targets: no_lists(alloc, 256)?,
+        first: 255,
+        last: 0,
+        left: most,
+        is_short: false,
+    };
+    let mut states = Vec::with_capacity(alloc, count)?;
+    merging.merge_states(nfa, &mut states)?;
+    merging.merge_lists(nfa, &mut states, most)?;
+    let Merging {
+        lists,
+        is_short,
+        ..
+    } = merging;
+    if is_short {
+        return Ok(None);
+    }
+    Ok(Some(Merged { states, lists }))
+}
+
+impl NFA {
+    /// This NFA with its wide unions merged: each row of their alternates that read bytes is one state, which leads on
+    /// each byte to the targets of the row, in order. So a lazy DFA of it has smaller states, which are made faster; a
+    /// set of 1,000 words takes a twentieth of the time and the memory until its states are cached.
+    ///
+    /// Its searches, walks, spans and sets answer as those of this NFA do, and it is made with the same starts and flags.
+    /// The states keep their IDs, and further ones come after them. It is this NFA itself if no union has eight
+    /// alternates, if it keeps unions (`NFA::keeping_unions`), if the targets to be listed are too many, more than eight
+    /// for each state and some thousands, or if a closure would need more room or searches no longer skip lazily. The
+    /// only error is out of memory. It takes time linear in the states, their edges and what is listed.
+    pub fn merged(&self) -> Result<NFA, AllocError>
+        ensures alike { IfOk result (λ nfa. (kind : MatchKind)
+            → AnswerAlike (engine_of self.now kind) (engine_of nfa kind)) }
+        ensures merged { IfOk result (λ nfa. IsMergedNfa self.now nfa) }
+        ensures bounds { IfOk result (λ nfa. KeepsBounds self.now nfa) }
+    {
+        let _states = self.states();
+        merged_answers_alike();
+        self.merged_if_wide()
+    }
+
+    /// This NFA with its unions merged, if one of them is wide.
+    fn merged_if_wide(&self) -> Result<NFA, AllocError>
+        ensures merged { IfOk result (λ nfa. IsMergedNfa self.now nfa) }
+        ensures bounds { IfOk result (λ nfa. KeepsBounds self.now nfa) }
+    {
+        if self.keeps_unions() || !has_wide(self.states()) {
+            return self.unmerged();
+        }
+        match merge(self)? {
+            Some(merged) => self.merged_as(merged),
+            None => self.unmerged(),
+        }
+    }
+
+    /// This NFA, of which nothing is merged.
+    fn unmerged(&self) -> Result<NFA, AllocError>
+        ensures merged { IfOk result (λ nfa. IsMergedNfa self.now nfa) }
+        ensures bounds { IfOk result (λ nfa. KeepsBounds self.now nfa) }
+    {
+        self.clone()
+    }
+
+    /// The NFA of these states if it is this one, merged, and otherwise this one.
+    fn merged_as(&self, merged: Merged) -> Result<NFA, AllocError>
+        requires { self.now.keeps_unions ≡ false }
+        ensures merged { IfOk result (λ nfa. IsMergedNfa self.now nfa) }
+        ensures bounds { IfOk result (λ nfa. KeepsBounds self.now nfa) }
+    {
+        let Merged { states, lists } = merged;
+        match self.with_states(states)? {
+            Some(nfa) => self.if_merged(nfa, lists.as_slice()),
+            None => self.unmerged(),
+        }
+    }
+
+    /// The NFA of these states with the starts and flags of this one, if they are states of an NFA.
+    fn with_states(&self, states: Vec<State>) -> Result<Option<NFA>, AllocError>
+        requires { self.now.keeps_unions ≡ false }
+        ensures { IfOk result (λ made. IfSome made (λ nfa. BeginsAs self.now nfa)) }
+    {
+        let starts = Vec::from_slice(self.alloc(), self.pattern_starts())?;
+        let (anchored, unanchored) = (self.start_anchored(), self.start_unanchored());
+        match NFA::from_states(
+            self.alloc(),
+            states,
+            anchored,
+            unanchored,
+            starts,
+            self.flags(),
+        ) {
+            Ok(nfa) => Ok(Some(nfa)),
+            Err(NfaError::OutOfMemory) => Err(AllocError),
+            Err(_) => Ok(None),
+        }
+    }
+
+    /// The NFA if it is this one, merged, and keeps its bounds, and otherwise this one.
+    fn if_merged(&self, nfa: NFA, lists: &[Vec<StateID>]) -> Result<NFA, AllocError>
+        requires { BeginsAs self.now nfa }
+        ensures merged { IfOk result (λ m. IsMergedNfa self.now m) }
+        ensures bounds { IfOk result (λ m. KeepsBounds self.now m) }
+    {
+        if self.bounds(&nfa) && is_merged(self, &nfa, lists)? {
+            return Ok(nfa);
+        }
+        self.unmerged()
+    }
+
+    /// Whether a closure in the other NFA needs no more room than in this one, no cycle of epsilon transitions passes a
+    /// look there if none does here, and its unanchored searches start lazily if those of this one do.
+    fn bounds(&self, other: &NFA) -> bool
+        ensures { IsTrue result → KeepsBounds self.now other.now }
+    {
+        other.room() <= self.room()
+            && (!self.is_look_acyclic() || other.is_look_acyclic())
+            && (!self.skips_lazily() || other.skips_lazily())
+    }
+}
