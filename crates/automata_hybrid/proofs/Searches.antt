@@ -10,6 +10,7 @@ pub mod Costs
 pub mod Cached
 pub mod Directions
 pub mod Runs
+pub mod Mixed
 pub mod Bounds
 pub mod Contracts
 pub mod SpanRuns

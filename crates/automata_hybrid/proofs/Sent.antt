@@ -8,13 +8,13 @@ use denote.Param.SendFields.{FieldsHave, as_row_send, declared_send}
 use Rattle.automata_base.specs.contracts.util.determinize.key.Key.{the_row as key_row}
 use Rattle.automata_base.specs.contracts.util.determinize.scratch.Scratch.{the_row as scratch_row}
 use Rattle.automata_base.specs.contracts.util.determinize.scratch.Scratch.TheInside as scratch
-use Rattle.automata_hybrid.specs.contracts.dfa.cache.Cache.{the_row as cache_row}
-use Rattle.automata_hybrid.specs.contracts.dfa.cache.Cache.TheInside as cache
-use Rattle.automata_hybrid.specs.contracts.dfa.row.Row.{the_row as row_row}
-use Rattle.automata_hybrid.specs.contracts.dfa.store.Store.{the_row as store_row}
-use Rattle.automata_hybrid.specs.contracts.dfa.store.Store.TheInside as store
-use Rattle.automata_hybrid.specs.contracts.dfa.table.Table.{the_row as table_row}
-use Rattle.automata_hybrid.specs.contracts.dfa.table.Table.TheInside as table
+use Rattle.automata_hybrid.specs.contracts.cache.Cache.{the_row as cache_row}
+use Rattle.automata_hybrid.specs.contracts.cache.Cache.TheInside as cache
+use Rattle.automata_hybrid.specs.contracts.cache.row.Row.{the_row as row_row}
+use Rattle.automata_hybrid.specs.contracts.cache.store.Store.{the_row as store_row}
+use Rattle.automata_hybrid.specs.contracts.cache.store.Store.TheInside as store
+use Rattle.automata_hybrid.specs.contracts.cache.table.Table.{the_row as table_row}
+use Rattle.automata_hybrid.specs.contracts.cache.table.Table.TheInside as table
 
 -- each of these fields may move
 abbrev pub MayMove : List Field → Type 0

@@ -1,5 +1,5 @@
 //! The ID of a state of a lazy DFA.
-ghost use Rattle.std.specs.Prelude.{◌≡◌, ◌+◌, ◌*◌, ◌%◌, ◌-◌, ◌<◌, ◌≤◌, ◌↔◌, IsTrue, IsBitSet};
+ghost use Rattle.std.specs.Prelude.{◌≡◌, ◌+◌, ◌*◌, ◌%◌, ◌-◌, ◌^◌, ◌<◌, ◌≤◌, ◌↔◌, IsTrue, IsBitSet};
 ghost use Rattle.automata_hybrid.specs.Cache.Ids.{tags, unknown_id, dead_id, quit_id, fixed_from, offset_limit};
 ghost use Rattle.automata_hybrid.specs.Cache.Ids.{HasDeadTag, HasMatchTag, HasQuitTag, HasStartTag};
 ghost use Rattle.automata_hybrid.specs.Private.Cache.Ids.{HasOnly};
@@ -130,6 +130,14 @@ impl LazyStateID {
         ensures { IsTrue result ↔ HasMatchTag self }
     {
         self.id & (1 << 27) != 0
+    }
+
+    /// Whether it has no tag, or the match tag alone.
+    #[inline(always)]
+    pub(crate) fn is_plain(self) -> bool
+        ensures { IsTrue result ↔ (self < 2 ^ 28) }
+    {
+        self.id < 1 << 28
     }
 
     /// Whether it is unknown, dead or quit.

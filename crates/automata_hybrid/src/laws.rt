@@ -12,8 +12,8 @@ ghost use Rattle.automata_hybrid.specs.Searches.Follows.{PassesCost, SearchesFol
 ghost use Rattle.automata_hybrid.specs.Searches.Cached.{KnownStays};
 ghost use Rattle.automata_hybrid.specs.Steps.BySteps.{FirstMatchIsFound};
 
+use crate::cache::Cache;
 use crate::dfa::DFA;
-use crate::dfa::cache::Cache;
 use automata_base::laws::{passes_report_paths, reported_is_right, walk_is_right};
 
 /// What was searched before, and how large the cache is, shows in no answer: two searches of one automaton, match kind

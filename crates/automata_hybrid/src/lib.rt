@@ -2,6 +2,7 @@
 //! capacity.
 #![tactic(auto)]
 
+pub mod cache;
 pub mod dfa;
 pub mod id;
 pub mod laws;

@@ -7,24 +7,26 @@ use Rattle.automata_base.specs.Retraced.Steps.{successor, start_state_of}
 use Rattle.automata_base.specs.declared.util.search.Anchored.{Anchored}
 use Rattle.automata_base.proofs.Paths.Orders.{none_some}
 use Rattle.automata_config.specs.Options.{match_kind_of, specialize_start_states_of}
-use Rattle.automata_hybrid.specs.declared.dfa.row.Row.{Row}
+use Rattle.automata_hybrid.specs.declared.cache.row.Row.{Row}
 use Rattle.automata_hybrid.specs.Cache.Caches.{CacheView, IsStoreOf, with_store}
-use Rattle.automata_hybrid.specs.Cache.Changes.{IsComputed, IsStarted, IsStateAdded, cleared_saving}
+use Rattle.automata_hybrid.specs.Cache.Changes.{ByStart, ByStep, ClearsFirst, IsComputed, IsStarted, IsStateAdded}
+use Rattle.automata_hybrid.specs.Cache.Changes.{JustGrows, StartsAdded, StartsKnown, WritesAdded, WritesKnown, cleared_saving}
 use Rattle.automata_hybrid.specs.Cache.Growth.{ClearedNothing, IsGrown, Keeps}
 use Rattle.automata_hybrid.specs.Cache.Ids.{unknown_id}
 use Rattle.automata_hybrid.specs.Cache.Stores.{IsKnownTransition, IsSoundStore, Stored, with_searched, IsKnownStart}
 use Rattle.automata_hybrid.specs.Cache.Table.{RowsFitCells, HasRowIds, IsKnownState, Lacks, Leads, Names, Rows, TagsNewStates, id_of, row_id}
 use Rattle.automata_hybrid.specs.Cache.Usage.{cleared}
-use Rattle.automata_hybrid.specs.Calls.Events.{Does, Event, Fails, IsCached, IsStepLeft, MakesStart, MakesStep, Start, Step}
-use Rattle.automata_hybrid.specs.declared.dfa.progress.Searched.{Searched}
+use Rattle.automata_hybrid.specs.Calls.Events.{Does, EndsAtQuit, Event, Fails, FailsToStep, FindsCached, IsCached}
+use Rattle.automata_hybrid.specs.Calls.Events.{IsStepLeft, MakesAnew, MakesStart, MakesStep, Start, Step}
+use Rattle.automata_hybrid.specs.declared.cache.progress.Searched.{Searched}
 use Rattle.automata_hybrid.specs.Machines.Machine.{Machine}
 use Rattle.automata_hybrid.specs.Machines.StartSlots.{slot_behind}
 use Rattle.automata_hybrid.specs.Steps.Starts.{start_row}
 use Rattle.automata_hybrid.specs.Steps.Steps.{KnowsStep}
 use Rattle.automata_hybrid.specs.Machines.Machine.{quits_on, unit_class}
-use Rattle.automata_hybrid.proofs.Cache.Growth.{grown_counted, grown_moved, grown_one, grown_same, grown_trans}
-use Rattle.automata_hybrid.proofs.Cache.Places.{Found, Names-Placed, Names-alive, Names-own, Names-tagged, Placed, Placed-cell}
-use Rattle.automata_hybrid.proofs.Cache.Usage.{Leads-known}
+use Rattle.automata_hybrid.proofs.Caches.Growth.{grown_counted, grown_moved, grown_one, grown_same, grown_trans}
+use Rattle.automata_hybrid.proofs.Caches.Places.{Found, Names-Placed, Names-alive, Names-own, Names-tagged, Placed, Placed-cell}
+use Rattle.automata_hybrid.proofs.Caches.Usage.{Leads-known}
 use Rattle.automata_hybrid.proofs.Steps.Effects.{Keeps-computed, Keeps-started, only-grown, roomy-computed, roomy-started}
 use Rattle.automata_hybrid.proofs.Steps.Effects.{written-computed}
 use Rattle.automata_hybrid.proofs.Steps.StartTags.{AllFrom, computed_adds, computed_keeps, from_cleared, from_saving, row_named, started_adds}
@@ -63,10 +65,10 @@ absent_from old t ids all q none = go (id_of t q) refl where
 added_only :
     (old emptied new : Stored) (r : Row) → HasRowIds old.table → AllFrom old.table emptied.table → IsStateAdded old emptied r new
     → (q : Powerset) → IsKnownState new.table q → IsKnownState old.table q ⊎ (q ≡ r.state)
-added_only old emptied new r ids all (inl (fits, g)) q known =
+added_only old emptied new r ids all (JustGrows fits g) q known =
     let here = subst (λ (s : Stored). IsKnownState s.table q) g known in
     only-grown old.table old.table r (λ p none. none) q (record { id = here.id; named = here.named })
-added_only old emptied new r ids all (inr (full, may, g)) q known =
+added_only old emptied new r ids all (ClearsFirst full may g) q known =
     let here = subst (λ (s : Stored). IsKnownState s.table q) g known in
     only-grown old.table emptied.table r (absent_from old.table emptied.table ids all) q (record { id = here.id; named = here.named })
 
@@ -74,9 +76,9 @@ added_only old emptied new r ids all (inr (full, may, g)) q known =
 pub started_only :
     (old new : Stored) (slot id : ℕ) (r : Row) → HasRowIds old.table → IsStarted old slot r new id → (q : Powerset) → IsKnownState new.table q
     → IsKnownState old.table q ⊎ (q ≡ r.state)
-started_only old new slot id r ids (inl (leads, e)) q known =
+started_only old new slot id r ids (StartsKnown leads e) q known =
     let here = subst (λ (s : Stored). IsKnownState s.table q) e known in inl (record { id = here.id; named = here.named })
-started_only old new slot id r ids (inr (lacks, between, added, n, e)) q known =
+started_only old new slot id r ids (StartsAdded lacks between added n e) q known =
     let here = subst (λ (s : Stored). IsKnownState s.table q) e known in
     added_only old (cleared old) between r ids (from_cleared old) added q (record { id = here.id; named = here.named })
 
@@ -84,17 +86,17 @@ started_only old new slot id r ids (inr (lacks, between, added, n, e)) q known =
 pub computed_only :
     (old new : Stored) (id class next : ℕ) (q target : Powerset) → HasRowIds old.table → IsComputed old id class q target new next
     → (p : Powerset) → IsKnownState new.table p → IsKnownState old.table p ⊎ (p ≡ target)
-computed_only old new id class next q target ids (inl (leads, e)) p known =
+computed_only old new id class next q target ids (WritesKnown leads e) p known =
     let here = subst (λ (s : Stored). IsKnownState s.table p) e known in inl (record { id = here.id; named = here.named })
-computed_only old new id class next q target ids (inr (lacks, from, between, added, n, to, e)) p known =
+computed_only old new id class next q target ids (WritesAdded lacks from between added n to e) p known =
     let here = subst (λ (s : Stored). IsKnownState s.table p) e known in
     added_only old (cleared_saving old id) between (record { state = target; started = false }) ids (from_saving old id) added p
     (record { id = here.id; named = here.named })
 
 -- a start that was computed leads to its state
 pub started_leads : (old new : Stored) (slot id : ℕ) (r : Row) → IsStarted old slot r new id → Leads new.table id r.state
-started_leads old new slot id r (inl (leads, e)) = subst (λ (c : Stored). Leads c.table id r.state) (sym e) leads
-started_leads old new slot id r (inr (none, between, added, named, e)) = subst (λ (c : Stored). Leads c.table id r.state) (sym e) (inr named)
+started_leads old new slot id r (StartsKnown leads e) = subst (λ (c : Stored). Leads c.table id r.state) (sym e) leads
+started_leads old new slot id r (StartsAdded none between added named e) = subst (λ (c : Stored). Leads c.table id r.state) (sym e) (inr named)
 
 -- what is true of each cache
 pub store_sound : (c : Stored) (m : Machine) → IsStoreOf c m → IsSoundStore c
@@ -129,7 +131,7 @@ module _ (m : Machine) (old new : CacheView) (of : old.store.table.of ≡ m) (so
   follows_step q unit has not made = record {
     grown =
         grown_one old new same made.counted (computed_clears old.store new.store made.id (unit_class m unit) made.next q to sound.clears made.computed)
-        (inr (inl (record {
+        (ByStep (record {
           id = made.id;
           unit = unit;
           below = subst (λ (d : Machine). unit_class d unit < d.stride) (sym of) has;
@@ -141,7 +143,7 @@ module _ (m : Machine) (old new : CacheView) (of : old.store.table.of ≡ m) (so
               subst
               (λ (d : Machine). IsComputed old.store made.id (unit_class d unit) q (successor d.nfa (match_kind_of d.config) q unit) new.store made.next)
               (sym of) made.computed;
-        })))
+        }))
         made.starts
         (λ p tagged. inl (tagged_none old.store.table new.store.table
         (computed_keeps old.store new.store made.id (unit_class m unit) made.next q to sound.ids after.rows.ids made.computed)
@@ -190,14 +192,14 @@ module _ (m : Machine) (old new : CacheView) (of : old.store.table.of ≡ m) (so
     go (inr past) = absurd (not (λ l. absurd (omega (arith, l, past))))
     go (inl within) =
         grown_one old new same made.counted (started_clears old.store new.store (slot_behind m mode behind) made.id (start_row m mode behind) sound.clears made.started)
-        (inr (inr (inl (record {
+        (ByStart (record {
           mode = mode;
           behind = behind;
           within = subst (λ (d : Machine). slot_behind d mode behind < d.slots) (sym of) within;
           unknown = subst (λ (d : Machine). IsKnownStart old.store (slot_behind d mode behind) → ⊥) (sym of) (λ k. not (λ l. k));
           id = made.id;
           started = subst (λ (d : Machine). IsStarted old.store (slot_behind d mode behind) (start_row d mode behind) new.store made.id) (sym of) made.started;
-        }))))
+        }))
         made.starts
         (tagged_start old.store new.store mode behind (start_state_of m.nfa mode behind)
         (started_keeps old.store new.store (slot_behind m mode behind) made.id (start_row m mode behind) sound.ids after.rows.ids made.started)
@@ -242,7 +244,7 @@ module _ (m : Machine) (old : CacheView) (s : Searched) (new : CacheView) (sound
   }
 
   pub follows_one : (e : Event) → Does m e old come new → Follows m e old new
-  follows_one e (asked, after, inl (cached, same)) = record {
+  follows_one e (FindsCached asked after cached same) = record {
     grown = grown_same old new same;
     counted = omega (arith, count);
     known = λ cached. count;
@@ -251,9 +253,9 @@ module _ (m : Machine) (old : CacheView) (s : Searched) (new : CacheView) (sound
   } where
     count : new.count ≡ old.count
     count = ap (λ (v : CacheView). v.count) same
-  follows_one (Start mode behind) (asked, after, inr (not, made)) =
+  follows_one (Start mode behind) (MakesAnew asked after not made) =
       from_here (Start mode behind) not (follows_start m come new sound.of there after mode behind not made)
-  follows_one (Step q unit) (asked, after, inr (not, made)) =
+  follows_one (Step q unit) (MakesAnew asked after not made) =
       from_here (Step q unit) not (follows_step m come new sound.of there after q unit asked.1 not made)
 
 -- what fails changes nothing but the count
@@ -273,14 +275,14 @@ pub left_follows :
     (m : Machine) (q : Powerset) (unit : Option ℕ) (old new : CacheView) (s t : Searched)
     → IsStepLeft m q unit (with_store old (with_searched old.store s)) (with_store old (with_searched old.store t)) new
     → LeftFollows m q unit old new
-left_follows m q unit old new s t (inl (quits, same)) = record {
+left_follows m q unit old new s t (EndsAtQuit quits same) = record {
   grown = grown_moved old new same;
   counted = omega (arith, count);
   known = λ cached. (quits, count);
 } where
   count : new.count ≡ old.count
   count = ap (λ (v : CacheView). v.count) same
-left_follows m q unit old new s t (inr (clean, fails)) = record {
+left_follows m q unit old new s t (FailsToStep clean fails) = record {
   grown = grown_trans old come new (grown_moved old come refl) (failed_grown m (Step q unit) come new fails);
   counted = failed_count m (Step q unit) come new fails;
   known = λ cached. absurd (fails.unknown cached);

@@ -10,19 +10,19 @@ use Rattle.automata_config.specs.declared.error.StepError.{StepError}
 use Rattle.automata_config.specs.Options.{match_kind_of, specialize_start_states_of}
 use Rattle.automata_hybrid.specs.Cache.Caches.{CacheView, HoldsRow, IsStoreOf, counted}
 use Rattle.automata_hybrid.specs.Cache.Changes.{IsComputed, IsStarted}
-use Rattle.automata_hybrid.specs.Cache.Growth.{ClearedNothing}
+use Rattle.automata_hybrid.specs.Cache.Growth.{ClearedNothing, IsUncleared}
 use Rattle.automata_hybrid.specs.Cache.Ids.{fixed_from, unknown_id}
 use Rattle.automata_hybrid.specs.Cache.Stores.{IsSoundStore}
 use Rattle.automata_hybrid.specs.Cache.Table.{IsKnownState, IsRowId, Leads, Names, Rows}
 use Rattle.automata_hybrid.specs.Cache.Usage.{GivesUp}
-use Rattle.automata_hybrid.specs.Calls.Events.{Does, IsCached, MakesStep, Start, Step}
+use Rattle.automata_hybrid.specs.Calls.Events.{Does, FindsCached, IsCached, MakesAnew, MakesStep, Start, Step}
 use Rattle.automata_hybrid.specs.Calls.Steps.{FailedStartFollows, FailedStepFollows, IsStartEffect, IsStepEffect}
 use Rattle.automata_hybrid.specs.Calls.Steps.{IsStepRun, StartFails, StartFollows, StartsFollow, StepFails, StepFollows, StepsFollow}
 use Rattle.automata_hybrid.specs.Machines.Machine.{Machine, quits_on, unit_class}
 use Rattle.automata_hybrid.specs.Machines.StartSlots.{slot_behind}
 use Rattle.automata_hybrid.specs.Steps.Starts.{HasSlot, IsStartAnswer, KnowsStart, MayStart, known_start, start_row}
 use Rattle.automata_hybrid.specs.Steps.Steps.{IsStepAnswer, KnowsStep, known_step}
-use Rattle.automata_hybrid.proofs.Cache.Growth.{grown_counted, grown_same}
+use Rattle.automata_hybrid.proofs.Caches.Growth.{grown_counted, grown_same}
 use Rattle.automata_hybrid.proofs.Calls.Laws.{computed_only, follows_one, started_leads, started_only, store_sound}
 use Rattle.automata_hybrid.proofs.Searches.PassState.{false_true}
 use Rattle.automata_hybrid.proofs.Searches.Progress.{computed_progress, started_progress}
@@ -67,7 +67,7 @@ module _ (m : Machine) (id : ℕ) (unit : Option ℕ) (old new : CacheView) (sou
     fixed = λ _. same;
     quit = λ _. same;
     known = λ _. same;
-    progress = inl (ap (λ (v : CacheView). v.store.clears) same, ap (λ (v : CacheView). v.store.searched) same);
+    progress = IsUncleared (ap (λ (v : CacheView). v.store.clears) same) (ap (λ (v : CacheView). v.store.searched) same);
     start_tags = same_keeps old.store.table new.store.table (ap (λ (v : CacheView). v.store.table) same);
     added = same_adds old.store.table new.store.table false (ap (λ (v : CacheView). v.store.table) same);
     only = λ q n p. same_only old new (ap (λ (v : CacheView). v.store.table) same) _ p;
@@ -83,7 +83,7 @@ module _ (m : Machine) (id : ℕ) (unit : Option ℕ) (old new : CacheView) (sou
       fixed = λ high. (let low = fails.low in absurd (omega (arith, low, high)));
       quit = λ q. absurd (false_true (sym fails.clean ∙ q));
       known = λ k. absurd (unknown k);
-      progress = inl (ap (λ (v : CacheView). v.store.clears) same, ap (λ (v : CacheView). v.store.searched) same);
+      progress = IsUncleared (ap (λ (v : CacheView). v.store.clears) same) (ap (λ (v : CacheView). v.store.searched) same);
       start_tags = same_keeps old.store.table new.store.table (ap (λ (v : CacheView). v.store.table) same);
       added = same_adds old.store.table new.store.table false (ap (λ (v : CacheView). v.store.table) same);
       only = λ q n p. same_only old new (ap (λ (v : CacheView). v.store.table) same) _ p;
@@ -125,7 +125,7 @@ module _ (m : Machine) (id : ℕ) (unit : Option ℕ) (old new : CacheView) (sou
         ((p : Powerset) → Names old.store.table id p → (x : Powerset) → IsKnownState new.store.table x → IsKnownState old.store.table x ⊎ (x ≡ to p))
         → IsStepEffect m id unit old new
     made_effect only = record {
-      grown = (follows_one m old old.store.searched new sound (Step q unit) ((clean, class), after, inr (not, made))).grown;
+      grown = (follows_one m old old.store.searched new sound (Step q unit) (MakesAnew (clean, class) after not made)).grown;
       counted = omega (arith, made.counted);
       computed = λ _ _. made.counted;
       fixed = λ high. absurd (omega (arith, low, high));
@@ -169,8 +169,8 @@ module _ (m : Machine) (id : ℕ) (unit : Option ℕ) (old new : CacheView) (sou
     took : (q : Powerset) → Names old.store.table id q → Took q
     took q named = go (quits_on m unit) refl where
       events : quits_on m unit ≡ false → Does m (Step q unit) old old new → Took q
-      events clean (may, after, inl (cached, same)) = inl same
-      events clean (may, after, inr (not, made)) = inr (clean, may.1, not, made, after)
+      events clean (FindsCached may after cached same) = inl same
+      events clean (MakesAnew may after not made) = inr (clean, may.1, not, made, after)
 
       go : (b : Bool) → quits_on m unit ≡ b → Took q
       go true on = inl (run.quit on)
@@ -243,7 +243,7 @@ module _ (m : Machine) (mode : Anchored) (behind : Option ℕ) (old new : CacheV
     known = λ _. same;
     past = λ _ _. same;
     start_tags = same_keeps old.store.table new.store.table (ap (λ (v : CacheView). v.store.table) same);
-    progress = inl (ap (λ (v : CacheView). v.store.clears) same, ap (λ (v : CacheView). v.store.searched) same);
+    progress = IsUncleared (ap (λ (v : CacheView). v.store.clears) same) (ap (λ (v : CacheView). v.store.searched) same);
     added = same_adds old.store.table new.store.table (specialize_start_states_of m.config) (ap (λ (v : CacheView). v.store.table) same);
     only = λ q. same_only old new (ap (λ (v : CacheView). v.store.table) same) _ q;
   }
@@ -284,7 +284,7 @@ module _ (m : Machine) (mode : Anchored) (behind : Option ℕ) (old new : CacheV
           known = λ k. absurd (unknown k);
           past = λ _ l. absurd (omega (arith, within, l));
           start_tags = same_keeps old.store.table new.store.table table;
-          progress = inl (ap (λ (v : CacheView). v.store.clears) same, ap (λ (v : CacheView). v.store.searched) same);
+          progress = IsUncleared (ap (λ (v : CacheView). v.store.clears) same) (ap (λ (v : CacheView). v.store.searched) same);
           added = same_adds old.store.table new.store.table (specialize_start_states_of m.config) table;
           only = λ q. same_only old new table _ q;
         }
@@ -295,7 +295,7 @@ module _ (m : Machine) (mode : Anchored) (behind : Option ℕ) (old new : CacheV
     knows_start cached within = (a.may, (omega (arith, within, sound.slots), cached within))
 
     answered_start : Does m (Start mode behind) old old new → StartFollows m mode behind old new id
-    answered_start (may, after, inl (cached, same)) = record {
+    answered_start (FindsCached may after cached same) = record {
       effect = start_still same (λ _ within. knows_start cached within);
       known = λ k. subst (λ (v : CacheView). id ≡ known_start m v.store mode behind) same (sym (a.cached (omega (arith, k.1.0, sound.slots))));
       computed = λ within unknown. absurd (unknown (knows_start cached within));
@@ -316,9 +316,9 @@ module _ (m : Machine) (mode : Anchored) (behind : Option ℕ) (old new : CacheV
           → GivesUp old.store (start_state_of m.nfa mode behind) → ⊥
       room (inl within) unknown gives = unknown (knows_start cached within)
       room (inr past) unknown gives = gives.0.1 (dies past a.named)
-    answered_start (may, after, inr (not, made)) = record {
+    answered_start (MakesAnew may after not made) = record {
       effect = record {
-        grown = (follows_one m old old.store.searched new sound (Start mode behind) (may, after, inr (not, made))).grown;
+        grown = (follows_one m old old.store.searched new sound (Start mode behind) (MakesAnew may after not made)).grown;
         counted = omega (arith, made.counted);
         computed = λ _ _ _. made.counted;
         barred = λ never. absurd (never may);

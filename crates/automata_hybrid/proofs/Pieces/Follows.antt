@@ -1,5 +1,5 @@
 -- What follows of what the calls of a search in pieces make of their cache.
-use Rattle.std.proofs.Common.{ℕ, zero, suc, ◌≡◌, ◌<◌, ◌≤◌, ◌+◌, ◌-◌, inl, inr, Bool, false, List, length}
+use Rattle.std.proofs.Common.{ℕ, zero, suc, ◌≡◌, ◌<◌, ◌≤◌, ◌+◌, ◌-◌, Bool, false, List, length}
 use Rattle.std.proofs.Common.{Option, Some, None, refl, sym, ap, ◌∙◌, subst, arith}
 use Rattle.std.specs.Prelude.{slice_get}
 use Rattle.automata_base.specs.ByteClasses.Classes.{is_quit}
@@ -29,8 +29,9 @@ use Rattle.automata_hybrid.specs.Searches.Passes.{IsStepError, tape_in}
 use Rattle.automata_hybrid.specs.Searches.PieceRuns.{GoesAndEnds, GoesFromStart, IsStoppedAlong, piece_input, piece_trace}
 use Rattle.automata_hybrid.specs.Searches.Progress.{GoesAlong}
 use Rattle.automata_hybrid.specs.Searches.Traces.{Trace}
-use Rattle.automata_hybrid.specs.Walks.Answers.{IsPutBackError}
-use Rattle.automata_hybrid.proofs.Cache.Growth.{clears_none_back, grown_after, grown_less, grown_moved, grown_same, grown_trans}
+use Rattle.automata_hybrid.specs.Walks.Answers.{HasNoRoom, IsPutBackError, RunsOut}
+use Rattle.automata_hybrid.specs.Walks.Progress.{IsPutBack, WasThere}
+use Rattle.automata_hybrid.proofs.Caches.Growth.{clears_none_back, grown_after, grown_less, grown_moved, grown_same, grown_trans}
 use Rattle.automata_hybrid.proofs.Calls.Laws.{follows_one, left_follows, searched_sound}
 use Rattle.automata_hybrid.proofs.Searches.PassState.{false_true}
 use Rattle.automata_hybrid.proofs.Searches.Reach.{no_limit}
@@ -91,7 +92,7 @@ from_row :
     (m : Machine) (p : PiecesView) (q : Powerset) (units : ℕ) (old row new : CacheView)
     → IsStoreOf old.store m → IsPiecesOf p m → GoesOnFrom m p q old row
     → IsGrown row new → new.count ≤ row.count + units → IsCostOfUnits units p old new
-from_row m p q units old row new sound of (stood, (after, inl (known, same))) grown cost =
+from_row m p q units old row new sound of (stood, WasThere after known same) grown cost =
     let g : IsGrown old new = subst (λ (v : CacheView). IsGrown v new) same grown in
     let e = same_count old row same in
     let few : new.count ≤ old.count + units = omega (arith, cost, e) in
@@ -101,7 +102,7 @@ from_row m p q units old row new sound of (stood, (after, inl (known, same))) gr
       there = λ has. g;
       roomy = clears_none_back old new units (grown_less old new g) few;
     }
-from_row m p q units old row new sound of (stood, (after, inr (lacks, back))) grown cost =
+from_row m p q units old row new sound of (stood, IsPutBack after lacks back) grown cost =
     let g = grown_after old row new (back_grown m q old row sound after (of q stood) lacks back) grown in
     let e = back.counted in
     let few : new.count ≤ old.count + units = omega (arith, cost, e) in
@@ -127,7 +128,8 @@ unchanged p units old new same =
 
 -- a row is there
 row_sound : (m : Machine) (p : PiecesView) (q : Powerset) (old row : CacheView) → GoesOnFrom m p q old row → IsStoreOf row.store m
-row_sound m p q old row on = on.1.0
+row_sound m p q old row (stood, WasThere after known same) = after
+row_sound m p q old row (stood, IsPutBack after lacks back) = after
 
 -- a step on a unit that is no quit byte fails with out of memory alone
 step_memory :
@@ -147,8 +149,8 @@ back_memory :
     → IsStoreOf old.store m → minimum_cache_clear_count_of m.config ≡ None → IsNotPutBack p q old new e → IsMemory e
 back_memory m p q old new e sound free (stood, why, same) = go why where
   go : IsPutBackError new.store q p.read e → IsMemory e
-  go (inl (lacks, room, memory)) = memory
-  go (inr (gives, reported)) =
+  go (RunsOut lacks room memory) = memory
+  go (HasNoRoom gives reported) =
       absurd (no_limit m new.store q (ap (λ (v : CacheView). v.store.table.of) same ∙ sound.of) free gives)
 
 -- the units of a piece are its bytes

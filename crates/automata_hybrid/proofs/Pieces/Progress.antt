@@ -1,5 +1,5 @@
 -- What the calls of a search in pieces make of their cache, from what their parts do.
-use Rattle.std.proofs.Common.{ℕ, suc, ◌≡◌, inl, inr, sym, subst}
+use Rattle.std.proofs.Common.{ℕ, suc, ◌≡◌, sym, subst}
 use Rattle.std.proofs.Common.{Bool, List, Option, Some}
 use Rattle.std.specs.Prelude.{Err, Ok}
 use Rattle.automata_base.specs.Haystacks.Matches.{HalfMatch}
@@ -22,7 +22,7 @@ use Rattle.automata_hybrid.specs.Searches.Passes.{IsStepError}
 use Rattle.automata_hybrid.specs.Searches.PieceRuns.{piece_input, piece_state, piece_trace}
 use Rattle.automata_hybrid.specs.Private.Searches.PieceRuns.{IsEndAlong, IsPieceEnd, IsPieceStopped}
 use Rattle.automata_hybrid.specs.Private.Searches.Units.{IsReadEffect, ReadFails}
-use Rattle.automata_hybrid.specs.Walks.Answers.{IsPutBackError}
+use Rattle.automata_hybrid.specs.Walks.Answers.{HasNoRoom, IsPutBackError, RunsOut}
 use Rattle.automata_hybrid.specs.declared.search.pieces.PieceEnd.{PieceEnd}
 use Rattle.automata_hybrid.specs.declared.search.pieces.PieceEnd.TheVariants.{Over, At}
 
@@ -32,13 +32,10 @@ put_back_error :
     → AddFails old new q error → (IsKnownState old.store.table q → ⊥) → e ≡ step_error error at
     → IsPutBackError new.store q at e
 put_back_error q old new (step.Cache err) at e refused lacks reported =
-    inr (subst (λ (v : CacheView). GivesUp v.store q) (sym refused.kept) (refused.gives_up.0 tt), reported)
+    HasNoRoom (subst (λ (v : CacheView). GivesUp v.store q) (sym refused.kept) (refused.gives_up.0 tt)) reported
 put_back_error q old new step.OutOfMemory at e refused lacks reported =
-    inl (
-      λ has. lacks (subst (λ (v : CacheView). IsKnownState v.store.table q) refused.kept has),
-      λ gives. refused.gives_up.1 (subst (λ (v : CacheView). GivesUp v.store q) refused.kept gives),
-      reported,
-    )
+    RunsOut (λ has. lacks (subst (λ (v : CacheView). IsKnownState v.store.table q) refused.kept has))
+    (λ gives. refused.gives_up.1 (subst (λ (v : CacheView). GivesUp v.store q) refused.kept gives)) reported
 
 pub not_put_back :
     (p : PiecesView) (q : Powerset) (old new : CacheView) (error : StepError) (e : SearchError)

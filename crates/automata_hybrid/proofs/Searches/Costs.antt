@@ -14,7 +14,7 @@ use Rattle.automata_hybrid.specs.Cache.Growth.{IsGrown}
 use Rattle.automata_hybrid.specs.Searches.Cached.{KnowsItsStart}
 use Rattle.automata_hybrid.specs.Machines.Machine.{Machine}
 use Rattle.automata_hybrid.specs.Searches.Passes.{Skips}
-use Rattle.automata_hybrid.proofs.Cache.Growth.{clears_none}
+use Rattle.automata_hybrid.proofs.Caches.Growth.{clears_none}
 
 -- one pass more
 pub most_more :

@@ -30,13 +30,14 @@ use Rattle.automata_hybrid.specs.Private.Searches.PassState.{HasLearnedUnit}
 use Rattle.automata_hybrid.specs.Searches.Passes.{Finds, IsPassError, IsSearchError, IsUnitError, Reads, Skips, given_up_offset, state_in, tape_in}
 use Rattle.automata_hybrid.specs.Searches.Progress.{Goes, HasItsStart, IsStoppedAt, IsUnitRead, PassEnds, HasNoStart, PassesEnd, HaveTried, PassFails}
 use Rattle.automata_hybrid.specs.Searches.Progress.{IsSearchRun, SearchEnds, SearchFails, TriesSpan, TriesSpans}
+use Rattle.automata_hybrid.specs.Calls.Events.{MayAsk}
 use Rattle.automata_hybrid.specs.Searches.Progress.{start_event, unit_event, with_search_begun}
 use Rattle.automata_hybrid.specs.Searches.Traces.{pass_trace}
 use Rattle.automata_hybrid.specs.Cache.Progress.{progress_finished, progress_updated}
 use Rattle.automata_hybrid.specs.Steps.Starts.{IsStartError, IsStartErrorAt, MayStart, start_search_error}
 use Rattle.automata_hybrid.specs.Machines.Machine.{quits_on, unit_class}
-use Rattle.automata_hybrid.proofs.Steps.Starts.{may_or_not}
-use Rattle.automata_hybrid.proofs.Cache.Growth.{clears_none, grown_moved, grown_same, grown_trans, nothing_first, nothing_second}
+use Rattle.automata_hybrid.proofs.Steps.Starts.{does_ask, may_or_not}
+use Rattle.automata_hybrid.proofs.Caches.Growth.{clears_none, grown_moved, grown_same, grown_trans, nothing_first, nothing_second}
 use Rattle.automata_hybrid.proofs.Calls.Laws.{Follows, LeftFollows, failed_count, failed_grown, follows_one, left_follows}
 use Rattle.automata_hybrid.proofs.Calls.Laws.{searched_sound}
 use Rattle.automata_hybrid.proofs.Searches.Cached.{HasLearnedAll, LearnedSpans, search_still, spans_all, spans_more, spans_still}
@@ -82,6 +83,9 @@ module _ (way : Direction) (m : Machine) (input : Input) (from n : ℕ) (old mid
       follows_one m mid (progress_updated mid.store.searched (given_up_offset way input (from + n))) new f.sound
       (unit_event (pass_trace way m input) way input (from + n)) here
 
+  asked : MayAsk m (unit_event (pass_trace way m input) way input (from + n))
+  asked = does_ask m (unit_event (pass_trace way m input) way input (from + n)) mid _ new here
+
   -- the last one or one before it
   at : (j : ℕ) → from ≤ j → j < from + suc n → (P : ℕ → Type 0) → (j < from + n → P j) → P (from + n) → P j
   at j more less P earlier last = go (cases_lt j (from + n)) where
@@ -101,9 +105,9 @@ module _ (way : Direction) (m : Machine) (input : Input) (from n : ℕ) (old mid
         let second = nothing_second old mid new f.grown g.grown nothing in
         at j more less (HasLearnedUnit way m new.store input)
         (λ within. unit_still way m mid.store new.store input g.grown.of (g.grown.kept second) j (f.learned first j more within))
-        (g.learned second, subst (λ (d : Machine). unit_class m (next (tape_in way input) (from + n)) < d.stride) (sym g.sound.of) here.0.1));
+        (g.learned second, subst (λ (d : Machine). unit_class m (next (tape_in way input) (from + n)) < d.stride) (sym g.sound.of) asked.1));
     clean = λ j more less.
-        at j more less (λ i. quits_on m (next (tape_in way input) i) ≡ false) (λ within. f.clean j more within) here.0.0;
+        at j more less (λ i. quits_on m (next (tape_in way input) i) ≡ false) (λ within. f.clean j more within) asked.0;
     sound = g.sound;
   }
 
@@ -143,10 +147,10 @@ module _ (way : Direction) (m : Machine) (input : Input) (old new : CacheView) (
     started = λ begins. (let idle = s.known begins in omega (arith, idle, g.counted, same, few));
     grown = grown_trans old mid new s.grown rest;
     known = λ knows. (
-        let idle = s.known (knows starts.0).0 in
+        let idle = s.known (knows (does_ask m (start_event way input) old old mid starts)).0 in
         let all : last.count ≡ mid.count =
         g.known (λ j more less. unit_idle way m input old mid s.grown idle j
-        ((knows starts.0).1 j (reads.0 j (omega (arith, less))) (λ i byte l unit. no_quit_unit m _ (g.clean i (omega arith) (omega (arith, l, less))) byte unit))) in
+        ((knows (does_ask m (start_event way input) old old mid starts)).1 j (reads.0 j (omega (arith, less))) (λ i byte l unit. no_quit_unit m _ (g.clean i (omega arith) (omega (arith, l, less))) byte unit))) in
         ((grown_trans old mid new s.grown rest).idle (same ∙ (all ∙ idle)), tt));
     learned = λ nothing. (
         let first = nothing_first old mid new s.grown rest nothing in
@@ -216,10 +220,10 @@ module _ (way : Direction) (m : Machine) (input : Input) (old new : CacheView) (
     started = λ begins. (let idle = s.known begins in omega (arith, idle, g.counted, l.counted, reads.0, tape_few way input));
     grown = whole;
     known = λ knows. (
-        let idle = s.known (knows starts.0).0 in
+        let idle = s.known (knows (does_ask m (start_event way input) old old mid starts)).0 in
         let unit : (j : ℕ) → j ≤ k → KnowsUnit way m mid.store input j =
         λ j less. unit_idle way m input old mid s.grown idle j
-        ((knows starts.0).1 j (reads_before way m input j k less reads) (λ i byte l unit. clean i byte (omega (arith, l, less)) unit)) in
+        ((knows (does_ask m (start_event way input) old old mid starts)).1 j (reads_before way m input j k less reads) (λ i byte l unit. clean i byte (omega (arith, l, less)) unit)) in
         let all : last.count ≡ mid.count = g.known (λ j more less. unit j (omega (arith, less))) in
         let quit = l.known (unit_idle way m input begun last g.grown all k (unit k (omega arith))) in
         (whole.idle (quit.1 ∙ (all ∙ idle)), quit_of_input way m new.store input k e refused quit.0));
@@ -288,7 +292,7 @@ left_refused :
     → PassFails way m input old new e → IsPassError way m new.store input e
 left_refused way m input old new e (inl (why, none)) = inl why
 left_refused way m input old new e (inr (mid, starts, (k, last, reads, clean, refused, goes, left))) =
-    inr (k, starts.0.0, reads, clean, refused)
+    inr (k, (does_ask m (start_event way input) old old mid starts).0, reads, clean, refused)
 
 -- and why a search failed
 fails_refused :

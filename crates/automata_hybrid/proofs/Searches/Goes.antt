@@ -10,15 +10,17 @@ use Rattle.automata_hybrid.specs.Cache.Caches.{CacheView, IsStoreOf, with_store}
 use Rattle.automata_hybrid.specs.Cache.Progress.{progress_finished}
 use Rattle.automata_hybrid.specs.Cache.Stores.{with_searched}
 use Rattle.automata_hybrid.specs.Cache.Table.{Names}
-use Rattle.automata_hybrid.specs.Calls.Events.{Does, IsStepLeft, Step, ended, moved}
+use Rattle.automata_hybrid.specs.Calls.Events.{Does, FindsCached, IsStepLeft, Step, ended, moved}
 use Rattle.automata_hybrid.specs.Calls.Steps.{StartFailsAt}
 use Rattle.automata_hybrid.specs.Machines.Machine.{Machine, unit_class}
 use Rattle.automata_hybrid.specs.Private.Searches.PassState.{HasLearnedAlong}
 use Rattle.automata_hybrid.specs.Searches.Progress.{EndsAtLast, Goes, GoesAlong, HasNoStart, IsLeftAlong, IsLeftAt}
-use Rattle.automata_hybrid.specs.Searches.Progress.{IsReadAlong, IsStoppedAt, IsUnitRead, with_search_ended}
+use Rattle.automata_hybrid.specs.Searches.Progress.{IsReadAlong, IsStoppedAt, IsUnitRead, unit_event, with_search_ended}
+use Rattle.automata_hybrid.specs.Searches.Progress.{with_search_moved}
 use Rattle.automata_hybrid.specs.Searches.Traces.{Trace, pass_trace}
 use Rattle.automata_hybrid.specs.Searches.Passes.{HasReadNoQuit, IsUnitError, Reads, given_up_offset, state_in, tape_in}
 use Rattle.automata_hybrid.proofs.Searches.PassState.{reads_before}
+use Rattle.automata_hybrid.proofs.Steps.Starts.{does_keep}
 use Rattle.automata_hybrid.proofs.Steps.Steps.{unit_no_quit}
 
 -- the units from one place to another were read
@@ -36,7 +38,8 @@ pub goes_sound :
     (s : Trace) (way : Direction) (m : Machine) (input : Input) (from : ℕ) (old : CacheView) (n : ℕ) (new : CacheView)
     → IsStoreOf old.store m → GoesAlong s way m input from n old new → IsStoreOf new.store m
 goes_sound s way m input from old zero new sound same = subst (λ (v : CacheView). IsStoreOf v.store m) (sym same) sound
-goes_sound s way m input from old (suc n) new sound (mid, before, here) = here.1
+goes_sound s way m input from old (suc n) new sound (mid, before, here) =
+    does_keep m (unit_event s way input (from + n)) mid (with_search_moved way input (from + n) mid) new here
 
 module _ {s : Trace} (way : Direction) (m : Machine) (input : Input) (from : ℕ) (old : CacheView) where
   pub goes_none : GoesToAlong s way m input from from old old
@@ -67,14 +70,12 @@ module _ {s : Trace} (way : Direction) (m : Machine) (input : Input) (from : ℕ
       (λ j byte below unit. clean j byte (omega (arith, below)) unit) (λ j from below. known j from (omega (arith, below))))
     where
       here : HasLearnedAlong s way m c.store input to → IsReadAlong s way m input to c c
-      here learned = (
-        (
-          unit_no_quit m (next (tape_in way input) to) (λ byte unit. clean to byte (omega arith) unit),
-          subst (λ (d : Machine). unit_class m (next (tape_in way input) to) < d.stride) sound.of learned.1,
-        ),
-        sound,
-        inl (learned.0, refl),
-      )
+      here learned =
+          FindsCached (
+            unit_no_quit m (next (tape_in way input) to) (λ byte unit. clean to byte (omega arith) unit),
+            subst (λ (d : Machine). unit_class m (next (tape_in way input) to) < d.stride) sound.of learned.1,
+          )
+          sound learned.0 refl
 
       go : (k ≡ suc to) ⊎ (k < suc to) → (k ≤ to → GoesToAlong s way m input from to old c) → GoesToAlong s way m input from (suc to) old c
       go (inl same) upto = subst (λ n. GoesToAlong s way m input from n old c) same before

@@ -15,6 +15,7 @@ use Rattle.automata_hybrid.specs.Cache.Ids.{quit_id, tags, unknown_id}
 use Rattle.automata_hybrid.specs.Private.Cache.Ids.{HasOnly}
 use Rattle.automata_hybrid.specs.Private.Cache.Leaps.{AreLeaps, LeadsToRow, LeapsTo, ReachesRow, mark}
 use Rattle.automata_hybrid.specs.Cache.Stores.{Stored, cell_of}
+use Rattle.automata_hybrid.specs.Cache.Table.{CellLeads, CellQuits, CellUnknown}
 use Rattle.automata_hybrid.specs.Cache.Table.{RowsFitCells, IsCell, Leads, Names, Rows, has_patterns, id_of, row_id}
 use Rattle.automata_hybrid.specs.Private.Cache.Table.{HasState}
 use Rattle.automata_hybrid.specs.Machines.Machine.{Machine}
@@ -24,10 +25,10 @@ use Rattle.automata_hybrid.specs.Private.Searches.PassState.{IsRun, IsTagAt}
 use Rattle.automata_hybrid.specs.Searches.Passes.{tape_in}
 use Rattle.automata_hybrid.specs.Searches.Traces.{Trace}
 use Rattle.automata_hybrid.specs.Private.Searches.SelfLoops.{byte_in}
-use Rattle.automata_hybrid.specs.declared.dfa.leaps.Leaps.{Leaps}
+use Rattle.automata_hybrid.specs.declared.cache.leaps.Leaps.{Leaps}
 use Rattle.automata_base.proofs.Paths.Orders.{some_inj}
-use Rattle.automata_hybrid.proofs.Cache.Leaps.{place_below, power_small}
-use Rattle.automata_hybrid.proofs.Cache.Places.{Names-Placed, Placed-IsCell}
+use Rattle.automata_hybrid.proofs.Caches.Leaps.{place_below, power_small}
+use Rattle.automata_hybrid.proofs.Caches.Places.{Names-Placed, Placed-IsCell}
 use Rattle.automata_hybrid.proofs.Searches.PassState.{false_true}
 use Rattle.automata_hybrid.proofs.Searches.Runs.{followed_one, run_at, run_id, run_none, run_on, run_to}
 
@@ -96,18 +97,23 @@ cell_leads m c q to byte machine of plain few cell = (go (is_quit m.quits byte) 
   class : ℕ
   class = class_in m.classes byte
 
+  -- a class that is not one of quit bytes has no quit byte
+  marked_not : is_quit m.quits byte ≡ true → slice_index c.table.of.template class ≡ unknown_id → ⊥
+  marked_not e unmarked =
+      let quit : slice_index m.template class ≡ quit_id m.stride = machine.quit byte few e in
+      let free : slice_index m.template class ≡ unknown_id = subst (λ (k : Machine). slice_index k.template class ≡ unknown_id) of unmarked in
+      omega (arith, quit, free, machine.template.small)
+
   go : (b : Bool) → is_quit m.quits byte ≡ b → IsCell c.table q class to → is_quit m.quits byte ≡ false
   go false e is = e
-  go true e (inl quits) = let h : to ≡ quit_id c.table.of.stride = quits.1 in absurd (omega (arith, h, plain))
-  go true e (inr unmarked) =
-      let quit : slice_index m.template class ≡ quit_id m.stride = machine.quit byte few e in
-      let free : slice_index m.template class ≡ unknown_id = subst (λ (k : Machine). slice_index k.template class ≡ unknown_id) of unmarked.0 in
-      absurd (omega (arith, quit, free, machine.template.small))
+  go true e (CellQuits marked quits) = absurd (omega (arith, quits, plain))
+  go true e (CellUnknown unmarked unknown) = absurd (marked_not e unmarked)
+  go true e (CellLeads unmarked leads) = absurd (marked_not e unmarked)
 
   lead : IsCell c.table q class to → Leads c.table to (successor m.nfa (match_kind_of m.config) q (Some byte))
-  lead (inl quits) = let h : to ≡ quit_id c.table.of.stride = quits.1 in absurd (omega (arith, h, plain))
-  lead (inr (free, inl unknown)) = absurd (omega (arith, unknown, plain))
-  lead (inr (free, inr leads)) =
+  lead (CellQuits marked quits) = absurd (omega (arith, quits, plain))
+  lead (CellUnknown free unknown) = absurd (omega (arith, unknown, plain))
+  lead (CellLeads free leads) =
       subst (λ (k : Machine). Leads c.table to (successor k.nfa (match_kind_of k.config) q (Some byte))) of
       (leads (Some byte) few (ap (λ (k : Machine). class_in k.classes byte) of))
 

@@ -26,8 +26,8 @@ use Rattle.automata_hybrid.specs.Searches.Progress.{IsLeftAlong, IsReadAlong, wi
 use Rattle.automata_hybrid.specs.Searches.Traces.{Trace}
 use Rattle.automata_hybrid.specs.Private.Searches.Traces.{IsTrace}
 use Rattle.automata_hybrid.specs.Private.Searches.Units.{IsReadAnswer}
-use Rattle.automata_hybrid.specs.declared.dfa.row.Row.{Row}
-use Rattle.automata_hybrid.proofs.Cache.Places.{Names-Placed, Placed-HasState}
+use Rattle.automata_hybrid.specs.declared.cache.row.Row.{Row}
+use Rattle.automata_hybrid.proofs.Caches.Places.{Names-Placed, Placed-HasState}
 use Rattle.automata_hybrid.proofs.Searches.Directions.{quit_free}
 use Rattle.automata_hybrid.proofs.Searches.Goes.{GoesToAlong, goes_all, goes_more}
 use Rattle.automata_hybrid.proofs.Searches.Traces.{clean_along, half_none, leads_along, more_along, quiet_along}

@@ -1,12 +1,12 @@
 -- Units that a search reads from an ID, from what the step on each answers and changes.
-use Rattle.std.proofs.Common.{ℕ, ◌≡◌, ◌∙◌, ◌<◌, ◌≤◌, ◌^◌, true, false, inl, inr, Option, Some, sym, ap, subst}
+use Rattle.std.proofs.Common.{ℕ, ◌≡◌, ◌∙◌, ◌<◌, ◌≤◌, ◌^◌, true, false, Option, Some, sym, ap, subst}
 use Rattle.std.specs.Prelude.{Result, Ok, Err}
 use Rattle.std.specs.Result.{IsErrAnd}
 use Rattle.automata_base.specs.Powersets.Powerset.{Powerset, dead}
 use Rattle.automata_config.specs.declared.error.SearchError.{SearchError}
 use Rattle.automata_hybrid.specs.Cache.Caches.{CacheView}
 use Rattle.automata_hybrid.specs.Cache.Table.{Leads, Names}
-use Rattle.automata_hybrid.specs.Calls.Events.{ended, moved}
+use Rattle.automata_hybrid.specs.Calls.Events.{EndsAtQuit, FailsToStep, ended, moved}
 use Rattle.automata_base.specs.ByteClasses.Classes.{is_quit}
 use Rattle.automata_base.specs.Retraced.Steps.{successor}
 use Rattle.automata_config.specs.Options.{match_kind_of}
@@ -59,7 +59,7 @@ module _ (m : Machine) (id : ℕ) (unit : Option ℕ) (at : ℕ) (old : CacheVie
   unit_left new e r = record {
     alive = alive;
     taken = tt;
-    left = λ q named. inr (r.refused.clean, r.refused.fails q named);
+    left = λ q named. FailsToStep r.refused.clean (r.refused.fails q named);
   }
 
   -- or it met a quit byte, and has ended there
@@ -69,5 +69,5 @@ module _ (m : Machine) (id : ℕ) (unit : Option ℕ) (at : ℕ) (old : CacheVie
   unit_quits next new e on step last = record {
     alive = alive;
     taken = tt;
-    left = λ q named. inl (on, last ∙ ap (λ (v : CacheView). ended at v) (step.quit on));
+    left = λ q named. EndsAtQuit on (last ∙ ap (λ (v : CacheView). ended at v) (step.quit on));
   }

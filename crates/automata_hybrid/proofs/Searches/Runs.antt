@@ -23,13 +23,13 @@ use Rattle.automata_hybrid.specs.Private.Searches.PassState.{IsNextCell, IsOnTra
 use Rattle.automata_hybrid.specs.Private.Searches.PassContracts.{FollowsAlong, RunsAlong}
 use Rattle.automata_hybrid.specs.Searches.Traces.{Trace}
 use Rattle.automata_hybrid.specs.Private.Searches.Traces.{IsTrace}
-use Rattle.automata_hybrid.specs.declared.search.follow.Stop.{Stop}
-use Rattle.automata_hybrid.specs.declared.search.pass.Place.{Place}
+use Rattle.automata_hybrid.specs.declared.search.fast.follow.Stop.{Stop}
+use Rattle.automata_hybrid.specs.declared.search.plain.pass.Place.{Place}
 use Rattle.automata_hybrid.specs.Searches.Passes.{HasReadNoQuit, tape_in}
 use Rattle.automata_hybrid.specs.Cache.Table.{Leads, Names}
 use Rattle.automata_hybrid.specs.Walks.Answers.{IsSilent}
 use Rattle.automata_hybrid.proofs.Steps.Steps.{cell_read}
-use Rattle.automata_hybrid.proofs.Cache.Places.{Names-silent}
+use Rattle.automata_hybrid.proofs.Caches.Places.{Names-silent}
 use Rattle.automata_base.proofs.Paths.Orders.{some_inj}
 use Rattle.automata_hybrid.proofs.Searches.PassState.{false_true}
 use Rattle.automata_hybrid.proofs.Searches.Traces.{found_along, quiet_along}
@@ -197,7 +197,7 @@ module _ {s : Trace} {way : Direction} {m : Machine} {c : Stored} {input : Input
       let leads = (f.taken k more less).leads in
       Names-silent c.table leads.0 (s.state (suc k)) leads.1 (omega (arith, leads.2.below))
 
-  reported_upto : IsTrace way m input s → (n : ℕ) → from ≤ n → n ≤ to → s.reported n ≡ s.reported from
+  pub reported_upto : IsTrace way m input s → (n : ℕ) → from ≤ n → n ≤ to → s.reported n ≡ s.reported from
   reported_upto trace zero l h = let z : 0 ≡ from = omega (arith, l) in ap s.reported z
   reported_upto trace (suc n) l h = go (λ more. reported_upto trace n more (omega (arith, h))) (eq-or-lt_of_le l) where
     go :

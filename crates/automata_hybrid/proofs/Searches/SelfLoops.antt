@@ -1,6 +1,6 @@
 -- What is learned of the bytes on which a row leads back to itself, and what follows for a pass that stands at it.
 use Rattle.std.proofs.Common.{ℕ, zero, suc, ◌≡◌, ◌∙◌, ◌+◌, ◌-◌, ◌<◌, ◌≤◌, ◌^◌, Bool, true, false, List, Some, refl, sym}
-use Rattle.std.proofs.Common.{ap, subst, arith, get_or, length, slice_index, inl, inr, ⊎_elim}
+use Rattle.std.proofs.Common.{ap, subst, arith, get_or, length, slice_index, ⊎_elim}
 use Rattle.std.proofs.lemmas.Bool.{cases_lt}
 use Rattle.automata_base.specs.ByteClasses.Classes.{AreClasses, class_in, is_quit}
 use Rattle.automata_base.specs.Haystacks.Input.{Input}
@@ -20,9 +20,9 @@ use Rattle.automata_hybrid.specs.Private.Searches.PassState.{IsFollowedAlong, Is
 use Rattle.automata_hybrid.specs.Searches.Passes.{tape_in}
 use Rattle.automata_hybrid.specs.Searches.Traces.{Trace}
 use Rattle.automata_hybrid.specs.Cache.Stores.{Stored, cell_of}
-use Rattle.automata_hybrid.specs.Cache.Table.{IsCell, IsRowId, Leads, Names}
-use Rattle.automata_hybrid.specs.declared.dfa.self_loops.LoopRange.{LoopRange}
-use Rattle.automata_hybrid.specs.declared.dfa.self_loops.KnownLoop.{KnownLoop}
+use Rattle.automata_hybrid.specs.Cache.Table.{CellLeads, CellQuits, CellUnknown, IsCell, IsRowId, Leads, Names}
+use Rattle.automata_hybrid.specs.declared.cache.self_loops.LoopRange.{LoopRange}
+use Rattle.automata_hybrid.specs.declared.cache.self_loops.KnownLoop.{KnownLoop}
 use Rattle.automata_hybrid.proofs.Searches.Runs.{followed_none, followed_on, followed_one}
 use Rattle.automata_hybrid.proofs.Searches.PassState.{false_true}
 
@@ -64,20 +64,25 @@ loops_in m c id byte machine are of valid plain few loops = record {
   class : ℕ
   class = class_in m.classes byte
 
+  -- a class that is not one of quit bytes has no quit byte
+  marked_not : is_quit m.quits byte ≡ true → slice_index c.table.of.template class ≡ unknown_id → ⊥
+  marked_not e unmarked =
+      let quit : slice_index m.template class ≡ quit_id m.stride = machine.quit byte few e in
+      let free : slice_index m.template class ≡ unknown_id = subst (λ (k : Machine). slice_index k.template class ≡ unknown_id) of unmarked in
+      omega (arith, quit, free, machine.template.small)
+
   go : (b : Bool) → is_quit m.quits byte ≡ b → IsCell c.table valid.0 class id → is_quit m.quits byte ≡ false
   go false e is = e
-  go true e (inl quits) = let h : id ≡ quit_id c.table.of.stride = quits.1 in absurd (omega (arith, h, plain))
-  go true e (inr unmarked) =
-      let quit : slice_index m.template class ≡ quit_id m.stride = machine.quit byte few e in
-      let free : slice_index m.template class ≡ unknown_id = subst (λ (k : Machine). slice_index k.template class ≡ unknown_id) of unmarked.0 in
-      absurd (omega (arith, quit, free, machine.template.small))
+  go true e (CellQuits marked quits) = absurd (omega (arith, quits, plain))
+  go true e (CellUnknown unmarked unknown) = absurd (marked_not e unmarked)
+  go true e (CellLeads unmarked leads) = absurd (marked_not e unmarked)
 
   lead :
       (q : Powerset) → Names c.table id q → IsCell c.table q class id
       → Leads c.table id (successor m.nfa (match_kind_of m.config) q (Some byte))
-  lead q n (inl quits) = let h : id ≡ quit_id c.table.of.stride = quits.1 in absurd (omega (arith, h, plain))
-  lead q n (inr (free, inl unknown)) = absurd (omega (arith, unknown, plain))
-  lead q n (inr (free, inr leads)) =
+  lead q n (CellQuits marked quits) = absurd (omega (arith, quits, plain))
+  lead q n (CellUnknown free unknown) = absurd (omega (arith, unknown, plain))
+  lead q n (CellLeads free leads) =
       subst (λ (k : Machine). Leads c.table id (successor k.nfa (match_kind_of k.config) q (Some byte))) of
       (leads (Some byte) few (ap (λ (k : Machine). class_in k.classes byte) of))
 

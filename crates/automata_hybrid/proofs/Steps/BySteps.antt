@@ -25,7 +25,7 @@ use Rattle.automata_hybrid.specs.Steps.Starts.{IsStartAnswer}
 use Rattle.automata_hybrid.specs.Steps.Steps.{IsStepAnswer}
 use Rattle.automata_hybrid.specs.Machines.Machine.{quits_on}
 use Rattle.automata_hybrid.specs.Cache.Table.{Leads, Names, Rows}
-use Rattle.automata_hybrid.proofs.Cache.Places.{bit_of, zero_one}
+use Rattle.automata_hybrid.proofs.Caches.Places.{bit_of, zero_one}
 use Rattle.automata_hybrid.proofs.Searches.PassState.{clean_dead, clean_ends, clean_last, clean_start, more_at, more_dead}
 use Rattle.automata_hybrid.proofs.Searches.PassState.{more_ends, more_last, starts_at, starts_dead, state_first, state_more}
 use Rattle.automata_hybrid.proofs.Searches.Skips.{finds_none, finds_some, found_reported}

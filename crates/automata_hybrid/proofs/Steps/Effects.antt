@@ -6,18 +6,19 @@ use Rattle.std.specs.List.{sum_by}
 use Rattle.std.proofs.lemmas.List.{get_or-set_same, get_or-set_other, get_or_append_left}
 use Rattle.std.proofs.lemmas.List.Sums.{sum_by_push}
 use Rattle.automata_base.specs.Powersets.Powerset.{Powerset, cost}
-use Rattle.automata_hybrid.specs.declared.dfa.row.Row.{Row}
+use Rattle.automata_hybrid.specs.declared.cache.row.Row.{Row}
 use Rattle.automata_hybrid.specs.Machines.Machine.{Machine}
 use Rattle.automata_hybrid.specs.Cache.Table.{id_of, Rows, Lacks, Names, HasCells, row_cost, cell_at, with_row, IsKnownState}
 use Rattle.automata_hybrid.specs.Cache.Stores.{Stored, cell_of, with_next, with_start, IsKnownTransition, IsKnownStart}
 use Rattle.automata_hybrid.specs.Cache.Usage.{row_usage, usage, Fits}
-use Rattle.automata_hybrid.specs.Cache.Changes.{grown, IsComputed, IsStarted}
+use Rattle.automata_hybrid.specs.Cache.Changes.{grown, ClearsFirst, IsComputed, IsStarted, JustGrows}
+use Rattle.automata_hybrid.specs.Cache.Changes.{StartsAdded, StartsKnown, WritesAdded, WritesKnown}
 use Rattle.automata_hybrid.specs.Cache.Growth.{Keeps, ClearedNothing, HasRoom}
 use Rattle.automata_hybrid.specs.Cache.Progress.{saturated}
 use Rattle.automata_base.specs.Powersets.Equal.{powerset_eq, powerset_eq-Decides}
 use Rattle.automata_base.proofs.Paths.Orders.{none_some}
 use Rattle.std.proofs.lemmas.Bool.{cases_Bool}
-use Rattle.automata_hybrid.proofs.Cache.Rows.{Names-more, find_id-push_other}
+use Rattle.automata_hybrid.proofs.Caches.Rows.{Names-more, find_id-push_other}
 use Rattle.automata_base.proofs.Powersets.ListTests.{some_same}
 
 pub one_id : (t : Rows) (a b : ℕ) (q : Powerset) → Names t a q → Names t b q → a ≡ b
@@ -62,8 +63,8 @@ module _ (old new : Stored) (id class next : ℕ) (q target : Powerset) (has : H
   pub Keeps-computed : ClearedNothing old new → Keeps old new
   Keeps-computed nothing = go done where
     go : IsComputed old id class q target new next → Keeps old new
-    go (inl (leads, e)) = subst (λ (s : Stored). Keeps old s) (sym e) (Keeps-next old id class next free)
-    go (inr (lacks, from, between, inl (fits, g), n, to, e)) =
+    go (WritesKnown leads e) = subst (λ (s : Stored). Keeps old s) (sym e) (Keeps-next old id class next free)
+    go (WritesAdded lacks from between (JustGrows fits g) n to e) =
         let r : Row = record { state = target; started = false } in
         let at : from ≡ id = one_id (grown old r).table from id q (subst (λ (s : Stored). Names s.table from q) g n) (Names-more old.table r id q named) in
         let read : cell_of (grown old r) id class ≡ cell_of old id class = get_or_append_left old.table.cells old.table.of.template 0 (cell_at id class) (has id class (q, named) below) in
@@ -71,21 +72,21 @@ module _ (old new : Stored) (id class next : ℕ) (q target : Powerset) (has : H
         let k : Keeps old (with_next (grown old r) id class next) = Keeps-trans old (grown old r) (with_next (grown old r) id class next) refl (Keeps-grown old r has) (Keeps-next (grown old r) id class next still) in
         let same : new ≡ with_next (grown old r) id class next = e ∙ (λ i. with_next (g i) (at i) class next) in
         subst (λ (s : Stored). Keeps old s) (sym same) k
-    go (inr (lacks, from, between, inr (full, may, g), n, to, e)) =
+    go (WritesAdded lacks from between (ClearsFirst full may g) n to e) =
         let count : new.clears ≡ saturated (old.clears + 1) = ap (λ (s : Stored). s.clears) e ∙ ap (λ (s : Stored). s.clears) g in
         absurd (counts_up old.clears new.clears count nothing.0 nothing.1)
 
   pub written-computed : ClearedNothing old new → cell_of new id class ≡ next
   written-computed nothing = go done where
     go : IsComputed old id class q target new next → cell_of new id class ≡ next
-    go (inl (leads, e)) = ap (λ (s : Stored). cell_of s id class) e ∙ get_or-set_same old.table.cells (cell_at id class) next 0 (has id class (q, named) below)
-    go (inr (lacks, from, between, inl (fits, g), n, to, e)) =
+    go (WritesKnown leads e) = ap (λ (s : Stored). cell_of s id class) e ∙ get_or-set_same old.table.cells (cell_at id class) next 0 (has id class (q, named) below)
+    go (WritesAdded lacks from between (JustGrows fits g) n to e) =
         let r : Row = record { state = target; started = false } in
         let at : from ≡ id = one_id (grown old r).table from id q (subst (λ (s : Stored). Names s.table from q) g n) (Names-more old.table r id q named) in
         let within : cell_at id class < length (old.table.cells ++ old.table.of.template) = omega (arith, length-append old.table.cells old.table.of.template, has id class (q, named) below) in
         let same : new ≡ with_next (grown old r) id class next = e ∙ (λ i. with_next (g i) (at i) class next) in
         ap (λ (s : Stored). cell_of s id class) same ∙ get_or-set_same (old.table.cells ++ old.table.of.template) (cell_at id class) next 0 within
-    go (inr (lacks, from, between, inr (full, may, g), n, to, e)) =
+    go (WritesAdded lacks from between (ClearsFirst full may g) n to e) =
         let count : new.clears ≡ saturated (old.clears + 1) = ap (λ (s : Stored). s.clears) e ∙ ap (λ (s : Stored). s.clears) g in
         absurd (counts_up old.clears new.clears count nothing.0 nothing.1)
 
@@ -103,8 +104,8 @@ cached-computed old new id class next q target named done has below = go done wh
       (from, here, ap (λ (s : Stored). cell_of s from class) e ∙ get_or-set_same between.table.cells (cell_at from class) next 0 (omega (arith, long, has from class (q, here) below)))
 
   go : IsComputed old id class q target new next → (now : ℕ) × Names new.table now q × (cell_of new now class ≡ next)
-  go (inl (leads, e)) = at old id e named
-  go (inr (lacks, from, between, added, n, to, e)) = at between from e n
+  go (WritesKnown leads e) = at old id e named
+  go (WritesAdded lacks from between added n to e) = at between from e n
 
 -- room for one more is room for so many
 more_room : (used n each capacity : ℕ) → used + (n + 1) * each ≤ capacity → used + n * each ≤ capacity
@@ -152,23 +153,23 @@ pub roomy-computed :
     (old new : Stored) (id class next : ℕ) (q target : Powerset) (states : ℕ) → length old.table.of.template ≡ old.table.of.stride
     → (Lacks old.table target → cost target ≤ old.table.of.greatest)
     → IsComputed old id class q target new next → HasRoom old (states + 1) → HasRoom new states × (new.clears ≡ old.clears)
-roomy-computed old new id class next q target states wide little (inl (leads, e)) room =
+roomy-computed old new id class next q target states wide little (WritesKnown leads e) room =
     (subst (λ (s : Stored). HasRoom s states) (sym e) (HasRoom-next old id class next states (HasRoom-less old states room)), ap (λ (s : Stored). s.clears) e)
-roomy-computed old new id class next q target states wide little (inr (lacks, from, between, inl (fits, g), n, to, e)) room =
+roomy-computed old new id class next q target states wide little (WritesAdded lacks from between (JustGrows fits g) n to e) room =
     let r : Row = record { state = target; started = false } in
     let same : new ≡ with_next (grown old r) from class next = e ∙ ap (λ (s : Stored). with_next s from class next) g in
     (subst (λ (s : Stored). HasRoom s states) (sym same) (HasRoom-next (grown old r) from class next states (HasRoom-grown old r states wide (little lacks) room)), ap (λ (s : Stored). s.clears) same)
-roomy-computed old new id class next q target states wide little (inr (lacks, from, between, inr (full, may, g), n, to, e)) room = absurd (full (HasRoom-Fits old states (cost target) (little lacks) room))
+roomy-computed old new id class next q target states wide little (WritesAdded lacks from between (ClearsFirst full may g) n to e) room = absurd (full (HasRoom-Fits old states (cost target) (little lacks) room))
 
 module _ (old new : Stored) (slot id : ℕ) (r : Row) (done : IsStarted old slot r new id) where
   pub Keeps-started : HasCells old.table → (IsKnownStart old slot → ⊥) → ClearedNothing old new → Keeps old new
   Keeps-started has free nothing = go done where
     go : IsStarted old slot r new id → Keeps old new
-    go (inl (leads, e)) = subst (λ (s : Stored). Keeps old s) (sym e) (Keeps-start old slot id free)
-    go (inr (lacks, between, inl (fits, g), to, e)) =
+    go (StartsKnown leads e) = subst (λ (s : Stored). Keeps old s) (sym e) (Keeps-start old slot id free)
+    go (StartsAdded lacks between (JustGrows fits g) to e) =
         let k : Keeps old (with_start (grown old r) slot id) = Keeps-trans old (grown old r) (with_start (grown old r) slot id) refl (Keeps-grown old r has) (Keeps-start (grown old r) slot id free) in
         subst (λ (s : Stored). Keeps old s) (sym (e ∙ ap (λ (s : Stored). with_start s slot id) g)) k
-    go (inr (lacks, between, inr (full, may, g), to, e)) =
+    go (StartsAdded lacks between (ClearsFirst full may g) to e) =
         let count : new.clears ≡ saturated (old.clears + 1) = ap (λ (s : Stored). s.clears) e ∙ ap (λ (s : Stored). s.clears) g in
         absurd (counts_up old.clears new.clears count nothing.0 nothing.1)
 
@@ -178,12 +179,12 @@ module _ (old new : Stored) (slot id : ℕ) (r : Row) (done : IsStarted old slot
       → HasRoom old (states + 1) → HasRoom new states × (new.clears ≡ old.clears)
   roomy-started states wide little room = go done where
     go : IsStarted old slot r new id → HasRoom new states × (new.clears ≡ old.clears)
-    go (inl (leads, e)) =
+    go (StartsKnown leads e) =
         (subst (λ (s : Stored). HasRoom s states) (sym e) (HasRoom-start old slot id states (HasRoom-less old states room)), ap (λ (s : Stored). s.clears) e)
-    go (inr (lacks, between, inl (fits, g), to, e)) =
+    go (StartsAdded lacks between (JustGrows fits g) to e) =
         let same : new ≡ with_start (grown old r) slot id = e ∙ ap (λ (s : Stored). with_start s slot id) g in
         (subst (λ (s : Stored). HasRoom s states) (sym same) (HasRoom-start (grown old r) slot id states (HasRoom-grown old r states wide (little lacks) room)), ap (λ (s : Stored). s.clears) same)
-    go (inr (lacks, between, inr (full, may, g), to, e)) = absurd (full (HasRoom-Fits old states (cost r.state) (little lacks) room))
+    go (StartsAdded lacks between (ClearsFirst full may g) to e) = absurd (full (HasRoom-Fits old states (cost r.state) (little lacks) room))
 
 -- the rows of a table that another has, and one more
 pub only-grown :

@@ -14,7 +14,7 @@ use Rattle.automata_hybrid.specs.Machines.Machine.{quits_on}
 use Rattle.automata_config.specs.declared.error.StepError.{StepError}
 use Rattle.automata_config.specs.declared.error.StepError.TheVariants.{Cache, OutOfMemory}
 use Rattle.std.specs.Prelude.{IsBitSet, ◌↔◌}
-use Rattle.automata_hybrid.proofs.Cache.Places.{no_patterns, bit_of, zero_one}
+use Rattle.automata_hybrid.proofs.Caches.Places.{no_patterns, bit_of, zero_one}
 use Rattle.automata_base.specs.ByteClasses.Classes.{is_quit}
 use Rattle.automata_base.specs.Retraced.Steps.{successor}
 use Rattle.automata_config.specs.Options.{match_kind_of}

@@ -7,7 +7,7 @@ use Rattle.automata_base.proofs.Paths.Orders.{none_some}
 use Rattle.automata_base.specs.Retraced.Steps.{start_state_of}
 use Rattle.automata_base.specs.declared.util.search.Anchored.{Anchored}
 use Rattle.automata_hybrid.specs.Machines.StartSlots.{slot_behind}
-use Rattle.automata_hybrid.specs.declared.dfa.row.Row.{Row}
+use Rattle.automata_hybrid.specs.declared.cache.row.Row.{Row}
 use Rattle.automata_hybrid.specs.Cache.Ids.{tags}
 use Rattle.automata_hybrid.specs.Cache.Growth.{IsStartTagged, MayHaveStartTag}
 use Rattle.automata_hybrid.specs.Cache.Table.{IsKnownState, Rows, fresh, id_of, has_patterns, Names, HasRowIds, KeepsStartTags}
@@ -15,9 +15,10 @@ use Rattle.automata_hybrid.specs.Cache.Table.{TagsNewStates, row_id, with_row}
 use Rattle.automata_hybrid.specs.Cache.Clears.{with_row_once, row_of, Kept, keep_found, keep_slot, keep_slots}
 use Rattle.automata_hybrid.specs.Cache.Stores.{Stored, IsKnownStart}
 use Rattle.automata_hybrid.specs.Cache.Usage.{cleared}
-use Rattle.automata_hybrid.specs.Cache.Changes.{cleared_saving, put_found, IsStateAdded, IsComputed, IsStarted}
-use Rattle.automata_hybrid.proofs.Cache.Rows.{at_push}
-use Rattle.automata_hybrid.proofs.Cache.Places.{Found, find_id-Found, bit_of, zero_one}
+use Rattle.automata_hybrid.specs.Cache.Changes.{cleared_saving, put_found, ClearsFirst, IsStateAdded, IsComputed, IsStarted}
+use Rattle.automata_hybrid.specs.Cache.Changes.{JustGrows, StartsAdded, StartsKnown, WritesAdded, WritesKnown}
+use Rattle.automata_hybrid.proofs.Caches.Rows.{at_push}
+use Rattle.automata_hybrid.proofs.Caches.Places.{Found, find_id-Found, bit_of, zero_one}
 use Rattle.automata_hybrid.proofs.Steps.Effects.{one_id}
 use Rattle.automata_config.specs.Options.{specialize_start_states_of}
 use Rattle.std.specs.Option.{is_some}
@@ -132,19 +133,19 @@ from_grown old t r none all k x h = go (at_push t.rows r k x h) where
   go (inr (e, f)) = inr (subst (λ (y : Row). id_of old y.state ≡ None) f none, ap (λ (y : Row). y.started) (sym f))
 
 from_added : (old emptied new : Stored) (r : Row) → id_of old.table r.state ≡ None → AllFrom old.table emptied.table → IsStateAdded old emptied r new → AllFromOr old.table new.table r.started
-from_added old emptied new r none all (inl (fits, e)) = subst (λ (s : Stored). AllFromOr old.table s.table r.started) (sym e) (from_grown old.table old.table r none (λ k x h. (k, h)))
-from_added old emptied new r none all (inr (full, may, e)) = subst (λ (s : Stored). AllFromOr old.table s.table r.started) (sym e) (from_grown old.table emptied.table r none all)
+from_added old emptied new r none all (JustGrows fits e) = subst (λ (s : Stored). AllFromOr old.table s.table r.started) (sym e) (from_grown old.table old.table r none (λ k x h. (k, h)))
+from_added old emptied new r none all (ClearsFirst full may e) = subst (λ (s : Stored). AllFromOr old.table s.table r.started) (sym e) (from_grown old.table emptied.table r none all)
 
 from_computed : (old new : Stored) (id class next : ℕ) (q target : Powerset) → IsComputed old id class q target new next → AllFromOr old.table new.table false
-from_computed old new id class next q target (inl (leads, e)) = subst (λ (s : Stored). AllFromOr old.table s.table false) (sym e) (λ k x h. inl (k, h))
-from_computed old new id class next q target (inr (lacks, from, between, added, n, to, e)) =
+from_computed old new id class next q target (WritesKnown leads e) = subst (λ (s : Stored). AllFromOr old.table s.table false) (sym e) (λ k x h. inl (k, h))
+from_computed old new id class next q target (WritesAdded lacks from between added n to e) =
     let r : Row = record { state = target; started = false } in
     let all : AllFromOr old.table between.table false = from_added old (cleared_saving old id) between r lacks.0 (from_saving old id) added in
     subst (λ (s : Stored). AllFromOr old.table s.table false) (sym e) (λ k x h. all k x h)
 
 from_started : (old new : Stored) (slot id : ℕ) (r : Row) → IsStarted old slot r new id → AllFromOr old.table new.table r.started
-from_started old new slot id r (inl (leads, e)) = subst (λ (s : Stored). AllFromOr old.table s.table r.started) (sym e) (λ k x h. inl (k, h))
-from_started old new slot id r (inr (lacks, between, added, to, e)) =
+from_started old new slot id r (StartsKnown leads e) = subst (λ (s : Stored). AllFromOr old.table s.table r.started) (sym e) (λ k x h. inl (k, h))
+from_started old new slot id r (StartsAdded lacks between added to e) =
     let all : AllFromOr old.table between.table r.started = from_added old (cleared old) between r lacks.0 (from_cleared old) added in
     subst (λ (s : Stored). AllFromOr old.table s.table r.started) (sym e) (λ k x h. all k x h)
 
@@ -194,4 +195,11 @@ tagged_start old new mode behind start keeps adds only within known same q (id, 
   go None none = here (only q (record { id = id; named = named })) where
     here : IsKnownState old.table q ⊎ (q ≡ start) → IsStartTagged old.table q ⊎ MayHaveStartTag new q
     here (inl has) = absurd (none_some (sym none ∙ has.named))
-    here (inr e) = inr ((adds q id none named).0 tag, (mode, behind, within, known, e ∙ same))
+    here (inr e) = inr (record {
+      specialized = (adds q id none named).0 tag;
+      mode = mode;
+      behind = behind;
+      within = within;
+      known = known;
+      start = e ∙ same;
+    })

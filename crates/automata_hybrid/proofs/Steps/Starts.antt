@@ -10,19 +10,19 @@ use Rattle.automata_base.specs.Retraced.Steps.{start_state_of}
 use Rattle.automata_base.specs.declared.util.search.Anchored.{Anchored}
 use Rattle.automata_base.proofs.Paths.Orders.{none_some}
 use Rattle.automata_config.specs.declared.error.SearchError.{SearchError}
-use Rattle.automata_hybrid.specs.declared.dfa.row.Row.{Row}
+use Rattle.automata_hybrid.specs.declared.cache.row.Row.{Row}
 use Rattle.automata_hybrid.specs.Cache.Ids.{unknown_id}
 use Rattle.automata_hybrid.specs.Machines.Machine.{Machine}
 use Rattle.automata_hybrid.specs.Cache.Table.{HasItsMatchTag, Lacks, Leads, Names}
 use Rattle.automata_hybrid.specs.Cache.Table.{Rows}
 use Rattle.automata_hybrid.specs.Cache.Stores.{Stored, IsKnownStart, KeepsStarts, with_start}
 use Rattle.automata_hybrid.specs.Cache.Usage.{GivesUp, cleared}
-use Rattle.automata_hybrid.specs.Cache.Changes.{IsStarted}
+use Rattle.automata_hybrid.specs.Cache.Changes.{ClearsFirst, IsStarted, JustGrows, StartsAdded, StartsKnown}
 use Rattle.automata_hybrid.specs.Private.Cache.Changes.{AddsRow}
 use Rattle.automata_hybrid.specs.Cache.Caches.{CacheView, HoldsRow, IsCacheOf, IsStoreOf, counted, with_store}
 use Rattle.automata_hybrid.specs.Cache.Progress.{saturated}
 use Rattle.automata_config.specs.declared.error.StartError.{StartError}
-use Rattle.automata_hybrid.specs.Calls.Events.{Does, Start}
+use Rattle.automata_hybrid.specs.Calls.Events.{Does, Event, FindsCached, MakesAnew, MayAsk, Start}
 use Rattle.automata_hybrid.specs.Calls.Steps.{StartFails, StartFailsAt}
 use Rattle.automata_hybrid.specs.Steps.Starts.{IsStartAnswer, IsStartError, IsStartErrorAt, MayStart, quit_behind}
 use Rattle.automata_hybrid.specs.Steps.Starts.{KnowsStart, known_start, start_row}
@@ -57,11 +57,21 @@ pub leads_row : (c : CacheView) (id : ℕ) (q : Powerset) → Leads c.store.tabl
 leads_row c id q (inl dies) = inl dies.0
 leads_row c id q (inr names) = inr (inr (q, names))
 
+-- what is done may be asked for
+pub does_ask : (m : Machine) (e : Event) (old come new : CacheView) → Does m e old come new → MayAsk m e
+does_ask m e old come new (FindsCached asked after cached still) = asked
+does_ask m e old come new (MakesAnew asked after not made) = asked
+
+-- and leaves a cache of the DFA
+pub does_keep : (m : Machine) (e : Event) (old come new : CacheView) → Does m e old come new → IsStoreOf new.store m
+does_keep m e old come new (FindsCached asked after cached still) = after
+does_keep m e old come new (MakesAnew asked after not made) = after
+
 -- a start state that is cached changes nothing
 pub known_run :
     (m : Machine) (mode : Anchored) (behind : Option ℕ) (c : CacheView)
     → IsStoreOf c.store m → KnowsStart m c.store mode behind → Does m (Start mode behind) c c c
-known_run m mode behind c sound knows = (knows.0, sound, inl (λ _. knows.1.1, refl))
+known_run m mode behind c sound knows = FindsCached knows.0 sound (λ _. knows.1.1) refl
 
 -- and is answered as it stands
 pub known_answer :
@@ -116,7 +126,7 @@ pub computes_known :
     → slice_index new.store.starts slot ≡ id → slice_index new.store.starts slot < unknown_id
     → ComputesStart m mode behind old new slot id
 computes_known m mode behind old mid new slot id key was e leads same written found = record {
-  done = inl (there, stored);
+  done = StartsKnown there stored;
   leads = subst (λ (s : Stored). Leads s.table id (start_state_of m.nfa mode behind)) (sym stored) there;
   starts =
       subst (λ (s : Stored). KeepsStarts old.store.starts s.starts) (sym stored)
@@ -145,7 +155,7 @@ pub computes_new :
     → slice_index new.store.starts slot ≡ id → slice_index new.store.starts slot < unknown_id
     → ComputesStart m mode behind old new slot id
 computes_new m mode behind old mid between new slot id state key started was adds count e is lacks same tags written found = record {
-  done = inr (none, between.store, added.effect, added.named, stored);
+  done = StartsAdded none between.store added.effect added.named stored;
   leads = inr (subst (λ (s : Stored). Names s.table id (start_state_of m.nfa mode behind)) (sym stored) added.named);
   starts =
       subst (λ (s : Stored). KeepsStarts old.store.starts s.starts) (sym stored)
@@ -175,21 +185,21 @@ computes_new m mode behind old mid between new slot id state key started was add
 
 pub started_clears :
     (old new : Stored) (slot id : ℕ) (r : Row) → old.clears < 2 ^ 64 → IsStarted old slot r new id → old.clears ≤ new.clears
-started_clears old new slot id r small (inl (leads, e)) =
+started_clears old new slot id r small (StartsKnown leads e) =
     let c : new.clears ≡ old.clears = ap (λ (s : Stored). s.clears) e in omega (arith, c)
-started_clears old new slot id r small (inr (lacks, between, inl (fits, g), to, e)) =
+started_clears old new slot id r small (StartsAdded lacks between (JustGrows fits g) to e) =
     let c : new.clears ≡ old.clears = ap (λ (s : Stored). s.clears) e ∙ ap (λ (s : Stored). s.clears) g in omega (arith, c)
-started_clears old new slot id r small (inr (lacks, between, inr (full, may, g), to, e)) =
+started_clears old new slot id r small (StartsAdded lacks between (ClearsFirst full may g) to e) =
     let c : new.clears ≡ saturated (old.clears + 1) = ap (λ (s : Stored). s.clears) e ∙ ap (λ (s : Stored). s.clears) g in
     omega (arith, c, small)
 
 -- what was started had room, or the cache could be cleared
 pub started_room :
     (old new : Stored) (slot id : ℕ) (r : Row) → IsStarted old slot r new id → GivesUp old r.state → ⊥
-started_room old new slot id r (inl (inl (e, d), s)) g = g.0.1 d
-started_room old new slot id r (inl (inr n, s)) g = none_some (sym g.0.0 ∙ n)
-started_room old new slot id r (inr (lacks, between, inl (fits, s), to, e)) g = g.1 fits
-started_room old new slot id r (inr (lacks, between, inr (full, may, s), to, e)) g = false_true (sym may ∙ g.2)
+started_room old new slot id r (StartsKnown (inl (e, d)) s) g = g.0.1 d
+started_room old new slot id r (StartsKnown (inr n) s) g = none_some (sym g.0.0 ∙ n)
+started_room old new slot id r (StartsAdded lacks between (JustGrows fits s) to e) g = g.1 fits
+started_room old new slot id r (StartsAdded lacks between (ClearsFirst full may s) to e) g = false_true (sym may ∙ g.2)
 
 -- what a computed start answers, and what it makes of the cache
 module _ (m : Machine) (mode : Anchored) (behind : Option ℕ) (old new : CacheView) (slot id : ℕ) (made : ComputesStart m mode behind old new slot id)
@@ -207,22 +217,19 @@ module _ (m : Machine) (mode : Anchored) (behind : Option ℕ) (old new : CacheV
   pub computed_run :
       IsStoreOf new.store m → (KnowsStart m old.store mode behind → ⊥) → length old.store.starts ≡ m.slots
       → Does m (Start mode behind) old old new
-  computed_run sound unknown slots = (
-    at.may,
-    sound,
-    inr (
-      λ cached. unknown (at.may, (omega (arith, at.at, at.within, slots), cached within)),
-      record {
+  computed_run sound unknown slots =
+      MakesAnew at.may sound
+      (λ cached. unknown (at.may, (omega (arith, at.at, at.within, slots), cached within)))
+      (record {
         id = id;
         started = subst (λ s. IsStarted old.store s (start_row m mode behind) new.store id) at.at made.done;
         cached = subst (IsKnownStart new.store) at.at made.found;
         starts = made.starts;
         counted = made.counted;
-      },
-    ),
-  ) where
-    within : slot_behind m mode behind < m.slots
-    within = omega (arith, at.at, at.within)
+      })
+    where
+      within : slot_behind m mode behind < m.slots
+      within = omega (arith, at.at, at.within)
 
 -- a search may start, or it may not
 pub may_or_not : (m : Machine) (mode : Anchored) (behind : Option ℕ) → MayStart m mode behind ⊎ (MayStart m mode behind → ⊥)

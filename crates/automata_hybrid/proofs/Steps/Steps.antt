@@ -9,18 +9,19 @@ use Rattle.automata_base.proofs.Paths.Orders.{none_some, some_inj}
 use Rattle.automata_base.specs.Powersets.Passes.{IsUnit}
 use Rattle.automata_hybrid.specs.Cache.Stores.{IsKnownTransition, KeepsStarts, Stored, cell_of, with_next}
 use Rattle.automata_hybrid.specs.Cache.Usage.{GivesUp}
-use Rattle.automata_hybrid.specs.Cache.Changes.{IsStateAdded, IsComputed, cleared_saving}
+use Rattle.automata_hybrid.specs.Cache.Changes.{ClearsFirst, IsComputed, IsStateAdded, JustGrows, WritesAdded, WritesKnown, cleared_saving}
 use Rattle.automata_hybrid.specs.Private.Cache.Changes.{AddsNext}
 use Rattle.automata_hybrid.specs.Cache.Caches.{CacheView, HoldsRow, IsCacheOf, IsStoreOf, counted, with_store}
 use Rattle.automata_hybrid.specs.Cache.Ids.{fixed_from, quit_id, unknown_id}
 use Rattle.automata_hybrid.specs.Machines.Machine.{Machine}
 use Rattle.automata_hybrid.specs.Cache.Progress.{saturated}
-use Rattle.automata_hybrid.specs.Calls.Events.{Does, IsCached, Step, moved}
+use Rattle.automata_hybrid.specs.Calls.Events.{Does, FindsCached, IsCached, MakesAnew, Step, moved}
 use Rattle.automata_hybrid.specs.Calls.Steps.{IsStepRun}
 use Rattle.automata_hybrid.specs.Private.Searches.Units.{IsStepTaken}
 use Rattle.automata_hybrid.specs.Steps.Steps.{IsStepAnswer, KnowsStep, known_step}
 use Rattle.automata_hybrid.specs.Private.Steps.Steps.{IsCellRead}
 use Rattle.automata_hybrid.specs.Machines.Machine.{quits_on, unit_class}
+use Rattle.automata_hybrid.specs.Cache.Table.{CellLeads, CellQuits, CellUnknown}
 use Rattle.automata_hybrid.specs.Cache.Table.{HasCells, HasItsMatchTag, IsCell, IsRowId, Lacks, Leads, LeadsByClass}
 use Rattle.automata_hybrid.specs.Cache.Table.{Names, Rows}
 use Rattle.automata_hybrid.proofs.Steps.Effects.{cached-computed, one_id}
@@ -36,7 +37,7 @@ pub same_run :
 same_run m id unit c known = record {
   fixed = λ h. refl;
   quit = λ h. refl;
-  does = λ clean q n. (let k = known q n in ((clean, k.0), k.1, inl ((id, n, k.2), refl)));
+  does = λ clean q n. (let k = known q n in FindsCached (clean, k.0) k.1 (id, n, k.2) refl);
 }
 
 -- a step that is not cached from an ID is not cached from its state
@@ -68,8 +69,8 @@ module _ (m : Machine) (id : ℕ) (unit : Option ℕ) (at : ℕ) (old new : Cach
     go :
         (q : Powerset) → Names old.store.table id q → Does m (Step q unit) (moved at old) (moved at old) new
         → Does m (Step q unit) old (moved at old) new
-    go q named (asked, after, inl (cached, same)) = absurd (step_unknown m id unit old unknown q named cached)
-    go q named (asked, after, inr (not, made)) = (asked, after, inr (not, made))
+    go q named (FindsCached asked after cached same) = absurd (step_unknown m id unit old unknown q named cached)
+    go q named (MakesAnew asked after not made) = MakesAnew asked after not made
 
 -- what stands in a cell was read there
 pub cell_read :
@@ -114,10 +115,11 @@ module _ (m : Machine) (id : ℕ) (unit : Option ℕ) (c : CacheView) (class nex
   unknown_clean l = go (quits_on m unit) refl (cell valid.0 valid.1) where
     go : (b : Bool) → quits_on m unit ≡ b → IsCell c.store.table valid.0 class next → quits_on m unit ≡ false
     go false e h = e
-    go true e (inl (a, is)) =
+    go true e (CellQuits a is) =
         let s : c.store.table.of.stride ≡ m.stride = ap (λ (d : Machine). d.stride) of in
         absurd (omega (arith, is, s, small, l))
-    go true e (inr (a, h)) = absurd (clash (quit e) (stands_free a))
+    go true e (CellUnknown a h) = absurd (clash (quit e) (stands_free a))
+    go true e (CellLeads a h) = absurd (clash (quit e) (stands_free a))
 
   pub unknown_free : unknown_id ≤ next → KnowsStep m c.store id unit → ⊥
   unknown_free l k = let here : cell_of c.store id class < unknown_id = subst (IsKnownTransition c.store id) (sym at) k in absurd (omega (arith, here, value, l))
@@ -134,8 +136,9 @@ module _ (m : Machine) (id : ℕ) (unit : Option ℕ) (c : CacheView) (class nex
   pub cell_quits : quits_on m unit ≡ true → next ≡ quit_id m.stride
   cell_quits q = go (cell valid.0 valid.1) where
     go : IsCell c.store.table valid.0 class next → next ≡ quit_id m.stride
-    go (inl (a, is)) = is ∙ ap (λ (d : Machine). quit_id d.stride) of
-    go (inr (a, h)) = absurd (clash (quit q) (stands_free a))
+    go (CellQuits a is) = is ∙ ap (λ (d : Machine). quit_id d.stride) of
+    go (CellUnknown a h) = absurd (clash (quit q) (stands_free a))
+    go (CellLeads a h) = absurd (clash (quit q) (stands_free a))
 
   -- and any other unit, if that is cached, to the successor
   pub cell_leads :
@@ -143,9 +146,9 @@ module _ (m : Machine) (id : ℕ) (unit : Option ℕ) (c : CacheView) (class nex
       → Leads c.store.table next (successor m.nfa (match_kind_of m.config) q unit)
   cell_leads is clean low q n = go (cell q n) where
     go : IsCell c.store.table q class next → Leads c.store.table next (successor m.nfa (match_kind_of m.config) q unit)
-    go (inl (a, e)) = absurd (clash (stands_quit a) (free clean))
-    go (inr (a, inl e)) = absurd (omega (arith, e, low))
-    go (inr (a, inr h)) =
+    go (CellQuits a e) = absurd (clash (stands_quit a) (free clean))
+    go (CellUnknown a e) = absurd (omega (arith, e, low))
+    go (CellLeads a h) =
         subst (λ (d : Machine). Leads c.store.table next (successor d.nfa (match_kind_of d.config) q unit)) of (here is q h)
 
   -- a cached cell is the answer
@@ -162,17 +165,17 @@ module _ (m : Machine) (id : ℕ) (unit : Option ℕ) (c : CacheView) (class nex
     cached = λ q n. (id, n, sym (value ∙ ap (cell_of c.store id) at));
   } where
     rowed : IsCell c.store.table valid.0 class next → HoldsRow c next
-    rowed (inl (a, is)) = inr (inl is)
-    rowed (inr (a, inl is)) = absurd (omega (arith, is, low))
-    rowed (inr (a, inr h)) = leads_row c next _ (here is valid.0 h)
+    rowed (CellQuits a is) = inr (inl is)
+    rowed (CellUnknown a is) = absurd (omega (arith, is, low))
+    rowed (CellLeads a h) = leads_row c next _ (here is valid.0 h)
 
 -- a cell that is cached has the ID of a row
 pub cell_row :
     (c : CacheView) (q : Powerset) (class id : ℕ) (unit : Option ℕ) → IsUnit unit → unit_class c.store.table.of unit ≡ class
     → IsCell c.store.table q class id → id < unknown_id → HoldsRow c id
-cell_row c q class id unit is at (inl (a, e)) low = inr (inl e)
-cell_row c q class id unit is at (inr (a, inl e)) low = absurd (omega (arith, e, low))
-cell_row c q class id unit is at (inr (a, inr leads)) low = leads_row c id _ (leads unit is at)
+cell_row c q class id unit is at (CellQuits a e) low = inr (inl e)
+cell_row c q class id unit is at (CellUnknown a e) low = absurd (omega (arith, e, low))
+cell_row c q class id unit is at (CellLeads a leads) low = leads_row c id _ (leads unit is at)
 
 -- where the key of a step is cached, a cell leads where each unit of the class does
 pub key_leads :
@@ -204,7 +207,7 @@ pub computes_known :
 computes_known m id unit old mid new class next key was e leads same =
     subst (λ (v : CacheView). ComputesStep m id unit old v class next) (sym (e ∙ ap (λ (v : CacheView). with_store v (with_next v.store id class next)) was))
     (record {
-      done = λ q n. inl (there q n, refl);
+      done = λ q n. WritesKnown (there q n) refl;
       leads = there;
       starts = λ slot k. k;
       counted = refl;
@@ -231,7 +234,7 @@ computes_new m id unit old mid between new class from next state key was adds co
           subst (λ (s : Stored). Lacks s.table (successor m.nfa (match_kind_of m.config) q unit)) before (subst (λ (p : Powerset). Lacks mid.store.table p) to lacks) in
           let grew : IsStateAdded old.store (cleared_saving old.store id) (record { state = successor m.nfa (match_kind_of m.config) q unit; started = false }) between.store =
           subst (λ (p : Powerset). IsStateAdded old.store (cleared_saving old.store id) (record { state = p; started = false }) between.store) (is ∙ to) added.row.effect in
-          inr (none, from, between.store, grew, added.saved q n, subst (λ (p : Powerset). Names between.store.table next p) (is ∙ to) added.row.named, refl));
+          WritesAdded none from between.store grew (added.saved q n) (subst (λ (p : Powerset). Names between.store.table next p) (is ∙ to) added.row.named) refl);
       leads = λ q n. inr (subst (λ (p : Powerset). Names between.store.table next p) (is ∙ same q n) added.row.named);
       starts = added.row.starts;
       counted = count ∙ ap (λ (v : CacheView). v.count) was;
@@ -246,21 +249,21 @@ computes_new m id unit old mid between new class from next state key was adds co
 pub computed_clears :
     (old new : Stored) (id class next : ℕ) (q target : Powerset)
     → old.clears < 2 ^ 64 → IsComputed old id class q target new next → old.clears ≤ new.clears
-computed_clears old new id class next q target small (inl (leads, e)) =
+computed_clears old new id class next q target small (WritesKnown leads e) =
     let c : new.clears ≡ old.clears = ap (λ (s : Stored). s.clears) e in omega (arith, c)
-computed_clears old new id class next q target small (inr (lacks, from, between, inl (fits, g), n, to, e)) =
+computed_clears old new id class next q target small (WritesAdded lacks from between (JustGrows fits g) n to e) =
     let c : new.clears ≡ old.clears = ap (λ (s : Stored). s.clears) e ∙ ap (λ (s : Stored). s.clears) g in omega (arith, c)
-computed_clears old new id class next q target small (inr (lacks, from, between, inr (full, may, g), n, to, e)) =
+computed_clears old new id class next q target small (WritesAdded lacks from between (ClearsFirst full may g) n to e) =
     let c : new.clears ≡ saturated (old.clears + 1) = ap (λ (s : Stored). s.clears) e ∙ ap (λ (s : Stored). s.clears) g in
     omega (arith, c, small)
 
 -- what was computed had room, or the cache could be cleared
 pub computed_room :
     (old new : Stored) (id class next : ℕ) (q target : Powerset) → IsComputed old id class q target new next → GivesUp old target → ⊥
-computed_room old new id class next q target (inl (inl (e, d), s)) g = g.0.1 d
-computed_room old new id class next q target (inl (inr n, s)) g = none_some (sym g.0.0 ∙ n)
-computed_room old new id class next q target (inr (lacks, from, between, inl (fits, s), n, to, e)) g = g.1 fits
-computed_room old new id class next q target (inr (lacks, from, between, inr (full, may, s), n, to, e)) g = false_true (sym may ∙ g.2)
+computed_room old new id class next q target (WritesKnown (inl (e, d)) s) g = g.0.1 d
+computed_room old new id class next q target (WritesKnown (inr n) s) g = none_some (sym g.0.0 ∙ n)
+computed_room old new id class next q target (WritesAdded lacks from between (JustGrows fits s) n to e) g = g.1 fits
+computed_room old new id class next q target (WritesAdded lacks from between (ClearsFirst full may s) n to e) g = false_true (sym may ∙ g.2)
 
 -- what a computed step answers, and what it makes of the cache
 module _ (m : Machine) (id : ℕ) (unit : Option ℕ) (old new : CacheView) (class next : ℕ) (step : ComputesStep m id unit old new class next)
@@ -284,12 +287,9 @@ module _ (m : Machine) (id : ℕ) (unit : Option ℕ) (old new : CacheView) (cla
   computed_run sound = record {
     fixed = λ high. absurd (omega (arith, low, high));
     quit = λ q. absurd (false_true (sym clean ∙ q));
-    does = λ _ q n. (
-      (clean, subst (λ k. k < m.stride) at below),
-      sound,
-      inr (
-        step_unknown m id unit old unknown q n,
-        record {
+    does = λ _ q n.
+        MakesAnew (clean, subst (λ k. k < m.stride) at below) sound (step_unknown m id unit old unknown q n)
+        (record {
           id = id;
           named = n;
           next = next;
@@ -297,9 +297,7 @@ module _ (m : Machine) (id : ℕ) (unit : Option ℕ) (old new : CacheView) (cla
           leads = step.leads q n;
           starts = step.starts;
           counted = step.counted;
-        },
-      ),
-    );
+        });
   }
 
 -- a unit that is not a quit byte, either way it is said

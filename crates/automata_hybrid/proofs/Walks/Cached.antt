@@ -12,7 +12,7 @@ use Rattle.automata_hybrid.specs.Searches.Passes.{HasReadNoQuit}
 use Rattle.automata_hybrid.specs.Private.Searches.PassState.{HasLearnedUnit}
 use Rattle.automata_hybrid.specs.Walks.Answers.{HasItsState, HasReportedBy, WalkReads}
 use Rattle.automata_hybrid.specs.Walks.State.{At, Ended, Fresh, Stage}
-use Rattle.automata_hybrid.proofs.Cache.Growth.{grown_both, grown_same, nothing_second}
+use Rattle.automata_hybrid.proofs.Caches.Growth.{grown_both, grown_same, nothing_second}
 use Rattle.automata_hybrid.proofs.Searches.Cached.{begin_still}
 
 -- the transitions on the units from one place of a pass to another are cached, at classes that rows have

@@ -10,7 +10,7 @@ use Rattle.automata_hybrid.specs.Cache.Stores.{Stored}
 use Rattle.automata_hybrid.specs.Cache.Caches.{CacheView}
 use Rattle.automata_hybrid.specs.Cache.Growth.{ClearedNothing, IsGrown}
 use Rattle.automata_hybrid.specs.Searches.Cached.{KnowsItsStart, KnowsUnit}
-use Rattle.automata_hybrid.specs.Walks.Cached.{IsOpen, IsToRead, KnowsItsState, KnowsWalk}
+use Rattle.automata_hybrid.specs.Walks.Cached.{IsOpen, IsToRead, KnowsItsState, KnowsWalk, LacksOne, NoPair}
 use Rattle.automata_hybrid.specs.Machines.Machine.{Machine}
 use Rattle.automata_hybrid.specs.Private.Searches.PassState.{HasLearnedUnit}
 use Rattle.automata_hybrid.specs.Searches.Passes.{HasReadNoQuit, Skips, tape_in}
@@ -72,7 +72,7 @@ pub closed_stops :
     → (j : ℕ) (pairs : List Pair)
     → v.units ≤ j → WalkReads Forward m input j → AreUnsplit (Skips m) Forward input (pairs_reported_in Forward m input j) pairs
     → IsOpen input set pairs → ⊥
-closed_stops m input v zero set list reported on s walked closed j pairs l reads unsplit is_open = closed (inl refl)
+closed_stops m input v zero set list reported on s walked closed j pairs l reads unsplit is_open = closed (NoPair refl)
 closed_stops m input v (suc k) set list reported on s walked closed j pairs l reads unsplit is_open = closed (go is_open) where
   least : suc k ≤ length pairs
   least = reported_least Forward m input v k reported on j (length pairs) l (record { pairs = pairs; unsplit = unsplit; count = refl })
@@ -81,9 +81,10 @@ closed_stops m input v (suc k) set list reported on s walked closed j pairs l re
   begins = walked_begin Forward m input j pairs list s (let few : j ≤ length (tape_in Forward input).bytes = reads.0 in omega (arith, few)) unsplit walked
 
   go : IsOpen input set pairs → IsOpen input set (take (suc k) list)
-  go (inl none) = absurd (let z : length pairs ≡ 0 = ap (λ (ps : List Pair). length ps) none in omega (arith, least, z))
-  go (inr (e, (p, below, absent, other))) =
-      inr (e, (p, below, absent, λ h. other (taken_front pairs begins.rest (suc k) p least (subst (λ (ps : List Pair). HasPattern p (take (suc k) ps)) begins.joined h))))
+  go (NoPair none) = absurd (let z : length pairs ≡ 0 = ap (λ (ps : List Pair). length ps) none in omega (arith, least, z))
+  go (LacksOne e p below absent other) =
+      LacksOne e p below absent
+      (λ h. other (taken_front pairs begins.rest (suc k) p least (subst (λ (ps : List Pair). HasPattern p (take (suc k) ps)) begins.joined h)))
 
 -- a set that stops has cached all that it took
 pub set_knows :

@@ -23,7 +23,7 @@ use Rattle.automata_hybrid.specs.Walks.Answers.{HasReportedAt, HasReportedBy, St
 use Rattle.automata_hybrid.specs.Walks.Answers.{half_nth, start_count}
 use Rattle.automata_hybrid.specs.Walks.State.{At, Ended, Fresh, Stage, Walk, without_match}
 use Rattle.automata_hybrid.specs.Private.Walks.State.{ended_walk, with_match}
-use Rattle.automata_hybrid.proofs.Cache.Growth.{clears_none, clears_none_back}
+use Rattle.automata_hybrid.proofs.Caches.Growth.{clears_none, clears_none_back}
 use Rattle.automata_hybrid.proofs.Searches.PassState.{false_true}
 use Rattle.automata_hybrid.proofs.Walks.Reports.{Begins, finish_all, half_at_place, half_after, half_past, place_length}
 use Rattle.automata_hybrid.proofs.Walks.Reports.{reported_more, reported_rises, walked_all, walked_begin}

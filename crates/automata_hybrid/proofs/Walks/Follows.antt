@@ -17,25 +17,27 @@ use Rattle.automata_hybrid.specs.Machines.Machine.{Machine, quits_on, unit_class
 use Rattle.automata_hybrid.specs.Searches.Cached.{IsOfInput, KnowsItsStart, KnowsUnit}
 use Rattle.automata_hybrid.specs.Searches.Passes.{HasReadNoQuit, IsUnitError, Skips, given_up_offset, state_in, tape_in}
 use Rattle.automata_hybrid.specs.Searches.Progress.{Goes, GoesToEnd, HasItsStart, IsLeftAt, IsUnitRead, start_event}
+use Rattle.automata_hybrid.specs.Calls.Events.{FindsCached, MakesAnew}
 use Rattle.automata_hybrid.specs.Searches.Progress.{with_search_begun}
 use Rattle.automata_hybrid.specs.Private.Searches.PassState.{HasLearnedUnit}
 use Rattle.automata_hybrid.specs.Cache.Progress.{progress_finished, progress_updated}
 use Rattle.automata_hybrid.specs.Steps.Starts.{MayStart}
 use Rattle.automata_hybrid.specs.Walks.Answers.{HasItsState, HasReported, HasReportedAt, HasReportedBy, IsWalkErrorAt, IsResumeError, IsSilent, IsWalkError}
-use Rattle.automata_hybrid.specs.Walks.Answers.{ReportsNext, WalkReads, start_count}
+use Rattle.automata_hybrid.specs.Walks.Answers.{AtItsState, AtItsUnit, HasNoRoom, ReportsNext, RunsOut, WalkReads, start_count}
 use Rattle.automata_hybrid.specs.Walks.Cached.{IsToRead, KnowsItsState, KnowsUnits, KnowsWalk}
 use Rattle.automata_hybrid.specs.Walks.Follows.{CallFollows, CallsFollow, IsKnownError}
 use Rattle.automata_hybrid.specs.Walks.Progress.{EndsCall, IsCallLeftAt, IsNotResumed, IsResumed, LeavesCall, ReadsItsUnits}
-use Rattle.automata_hybrid.specs.Walks.Progress.{ReadsNoUnit}
+use Rattle.automata_hybrid.specs.Walks.Progress.{FailsAfterUnit, FailsAtUnit, FailsOnItsWay, FailsToGoOn, HasEnded, HasMore}
+use Rattle.automata_hybrid.specs.Walks.Progress.{HasNoneLeft, IsPutBack, ReadsNoUnit, ReadsNone, ReadsSome, WasThere}
 use Rattle.automata_hybrid.specs.Walks.State.{At, Ended, Fresh, Ids, Keeping, Stage, States, Walk}
-use Rattle.automata_hybrid.specs.declared.dfa.row.Row.{Row}
-use Rattle.automata_hybrid.proofs.Cache.Additions.{new_state}
-use Rattle.automata_hybrid.proofs.Cache.Growth.{grown_after, grown_again, grown_less, grown_moved, grown_same, grown_trans}
-use Rattle.automata_hybrid.proofs.Cache.Growth.{nothing_first, nothing_second}
+use Rattle.automata_hybrid.specs.declared.cache.row.Row.{Row}
+use Rattle.automata_hybrid.proofs.Caches.Additions.{new_state}
+use Rattle.automata_hybrid.proofs.Caches.Growth.{grown_after, grown_again, grown_less, grown_moved, grown_same, grown_trans}
+use Rattle.automata_hybrid.proofs.Caches.Growth.{nothing_first, nothing_second}
 use Rattle.automata_hybrid.proofs.Calls.Laws.{Follows, LeftFollows, failed_count, failed_grown, follows_one, left_follows}
 use Rattle.automata_hybrid.proofs.Calls.Laws.{searched_sound, store_sound}
 use Rattle.automata_hybrid.proofs.Searches.Follows.{GoesFollow, barred_of_input, goes_follow, quit_of_input, tape_few}
-use Rattle.automata_hybrid.proofs.Steps.Starts.{may_or_not}
+use Rattle.automata_hybrid.proofs.Steps.Starts.{does_ask, may_or_not}
 use Rattle.automata_hybrid.proofs.Steps.StartTags.{again_adds, again_keeps, tagged_none}
 use Rattle.automata_hybrid.proofs.Steps.Steps.{no_quit_unit}
 use Rattle.automata_hybrid.proofs.Walks.Cached.{HasLearnedUnits, has_state, nothing_after, state_after, still_same, unit_knows}
@@ -74,16 +76,16 @@ module _ (way : Direction) (m : Machine) (input : Input) (skips : Skips m ⊎ (S
   pub to_read : (ReadsNoUnit input w → ⊥) → IsToRead input w.stage w.units w.reported
   to_read reads = record {
     undone = omega (arith, within (cases_lt input.end (input.start + w.units)));
-    on = λ ended. reads (inl ended);
+    on = λ ended. reads (HasEnded ended);
     all_reported = λ q at. few q at (cases_lt w.reported (length q.patterns));
     left = omega (arith, within (cases_lt input.end (input.start + w.units)));
   } where
     within : (input.end < input.start + w.units) ⊎ (input.start + w.units ≤ input.end) → input.start + w.units ≤ input.end
-    within (inl past) = absurd (reads (inr (inr past)))
+    within (inl past) = absurd (reads (HasNoneLeft past))
     within (inr fits) = fits
 
     few : (q : Powerset) → w.stage ≡ At q → (w.reported < length q.patterns) ⊎ (length q.patterns ≤ w.reported) → length q.patterns ≤ w.reported
-    few q at (inl less) = absurd (reads (inr (inl (q, at, less))))
+    few q at (inl less) = absurd (reads (HasMore q at less))
     few q at (inr all) = all
 
   -- a walk has what it goes on from
@@ -108,8 +110,8 @@ module _ (way : Direction) (m : Machine) (input : Input) (skips : Skips m ⊎ (S
   module _ (old begun : CacheView) (sound : IsStoreOf old.store m) where
     pub has_resumed : (s : Stage) → HasReportedAt way m input s w.units w.reported k → IsResumed way m input s old begun → Resumed s old begun
     has_resumed Fresh at starts = record {
-      may = starts.0;
-      sound = starts.1;
+      may = does_ask m (start_event way input) old old begun starts;
+      sound = f.sound;
       cost = (let c : begun.count ≤ old.count + 1 = f.counted in omega (arith, c));
       grown = grown_less old begun f.grown;
       there = λ _. f.grown;
@@ -121,13 +123,13 @@ module _ (way : Direction) (m : Machine) (input : Input) (skips : Skips m ⊎ (S
       f = follows_one m old old.store.searched begun sound (start_event way input) starts
 
       still : HasItsStart way m input old begun → KnowsItsStart way m old.store input → begun ≡ old
-      still (asked, after, inl (known, same)) knows = same
-      still (asked, after, inr (not, made)) knows = absurd (not knows)
+      still (FindsCached asked after known same) knows = same
+      still (MakesAnew asked after not made) knows = absurd (not knows)
 
       cached : HasItsStart way m input old begun → KnowsItsStart way m begun.store input
-      cached (asked, after, inl (known, same)) = subst (λ (v : CacheView). KnowsItsStart way m v.store input) (sym same) known
-      cached (asked, after, inr (not, made)) = λ within. made.cached
-    has_resumed (At q) at (after, inl (known, same)) =
+      cached (FindsCached asked after known same) = subst (λ (v : CacheView). KnowsItsStart way m v.store input) (sym same) known
+      cached (MakesAnew asked after not made) = λ within. made.cached
+    has_resumed (At q) at (WasThere after known same) =
         let count : begun.count ≡ old.count = ap (λ (v : CacheView). v.count) same in
         record {
           may = at.may;
@@ -139,7 +141,7 @@ module _ (way : Direction) (m : Machine) (input : Input) (skips : Skips m ⊎ (S
           back = λ p is lacks. absurd (lacks (subst (IsKnownState old.store.table) (ap (at_state q) is) known));
           learned = subst (λ (v : CacheView). IsKnownState v.store.table q) (sym same) known;
         }
-    has_resumed (At q) at (after, inr (lacks, made)) =
+    has_resumed (At q) at (IsPutBack after lacks made) =
         let count : begun.count ≡ old.count = made.counted in
         record {
           may = at.may;
@@ -191,8 +193,8 @@ module _ (way : Direction) (m : Machine) (input : Input) (skips : Skips m ⊎ (S
           known = λ knows. absurd (lacks why (subst (λ (v : CacheView). IsKnownState v.store.table q) (sym same) (knows at.may)));
         } where
           lacks : IsResumeError way m new.store input (At q) w.units e → IsKnownState new.store.table q → ⊥
-          lacks (inl (none, gives, memory)) has = none has
-          lacks (inr (gives, reported_at)) has = none_some (sym gives.0.0 ∙ has.named)
+          lacks (RunsOut none gives memory) has = none has
+          lacks (HasNoRoom gives reported_at) has = none_some (sym gives.0.0 ∙ has.named)
     not_resumed Ended at why none = absurd none
 
   -- a call that went on from there, and stepped over so many units at most
@@ -356,10 +358,17 @@ module _ (way : Direction) (m : Machine) (input : Input) (skips : Skips m ⊎ (S
       clean_before j less i byte l unit = clean i byte (omega (arith, l, less)) unit
 
       why : IsWalkErrorAt keeping way m new.store input (w.units + n) e → (i : ℕ) → HasReported way m input w i → IsWalkError keeping way m new.store input w i e
-      why refused i t = (
-        reads.undone,
-        inr (r.may, (w.units + n, omega arith, walks, clean, silent i (reported_here way m input w i skips t reads.on reads.all_reported), refused)),
-      )
+      why refused i t =
+          AtItsUnit reads.undone
+          (record {
+            may = r.may;
+            place = w.units + n;
+            later = omega arith;
+            reads = walks;
+            clean = clean;
+            before = silent i (reported_here way m input w i skips t reads.on reads.all_reported);
+            why = refused;
+          })
 
       -- at the next one
       call_stops :
@@ -398,7 +407,7 @@ module _ (way : Direction) (m : Machine) (input : Input) (skips : Skips m ⊎ (S
   pub call_ended :
       (keeping : Keeping) (next : Walk) (old new : CacheView) → IsStoreOf old.store m → ReportsNext way m input w next
       → EndsCall way m input w next old new → CallFollows keeping way m input w next old new None
-  call_ended keeping next old new sound reports (over, inl (none, same, still)) =
+  call_ended keeping next old new sound reports (ReadsNone over none same still) =
       let count : new.count ≡ old.count = ap (λ (v : CacheView). v.count) still in
       record {
         rises = omega (arith, same);
@@ -414,9 +423,9 @@ module _ (way : Direction) (m : Machine) (input : Input) (skips : Skips m ⊎ (S
         refused = λ i t. tt;
         ready = λ _. still;
       }
-  call_ended keeping next old new sound reports (over, inr (reads, begun, n, resumed, count, its, all)) =
-      let r = to_read reads in
-      call_reads old begun (has_resumed old begun sound w.stage reported resumed) r keeping next new n reports count its all
+  call_ended keeping next old new sound reports (ReadsSome over c) =
+      let r = to_read c.some in
+      call_reads old c.begun (has_resumed old c.begun sound w.stage reported c.resumed) r keeping next new c.units reports c.counted c.its c.read
 
   -- it leaves a cache of the DFA, and has cached each unit that it read; and those lie in the span
   pub record Leaves (next : Walk) (old new : CacheView) : Type 0 where
@@ -426,40 +435,44 @@ module _ (way : Direction) (m : Machine) (input : Input) (skips : Skips m ⊎ (S
 
   pub call_leaves_units :
       (next : Walk) (old new : CacheView) → IsStoreOf old.store m → EndsCall way m input w next old new → Leaves next old new
-  call_leaves_units next old new sound (over, inl (none, same, still)) = record {
+  call_leaves_units next old new sound (ReadsNone over none same still) = record {
     sound = subst (λ (v : CacheView). IsStoreOf v.store m) (sym still) sound;
     few = λ l. omega (arith, l, same);
     learned = λ there nothing j more less. absurd (omega (arith, more, less, same));
   }
-  call_leaves_units next old new sound (over, inr (reads, begun, n, resumed, count, its, (mid, all, ended))) = record {
-    sound = subst (λ (v : CacheView). IsStoreOf v.store m) (sym ended) (searched_sound m mid.store _ g.sound);
-    few = within n refl;
+  call_leaves_units next old new sound (ReadsSome over c) = record {
+    sound = subst (λ (v : CacheView). IsStoreOf v.store m) (sym c.read.2) (searched_sound m c.read.0.store _ g.sound);
+    few = within c.units refl;
     learned = λ there nothing j more less. (
-        let inside : j < w.units + n = omega (arith, less, count) in
-        let first = nothing_second old begun new (r.there there) rest nothing in
-        subst (λ (v : CacheView). HasLearnedUnit way m v.store input j) (sym ended)
-        (g.learned (nothing_first (with_search_begun way input w.units begun) mid new g.grown (grown_moved mid new ended) first) j more inside));
+        let inside : j < w.units + c.units = omega (arith, less, c.counted) in
+        let first = nothing_second old c.begun new (r.there there) rest nothing in
+        subst (λ (v : CacheView). HasLearnedUnit way m v.store input j) (sym c.read.2)
+        (g.learned
+        (nothing_first (with_search_begun way input w.units c.begun) c.read.0 new g.grown (grown_moved c.read.0 new c.read.2) first)
+        j more inside));
   } where
-    r : Resumed w.stage old begun
-    r = has_resumed old begun sound w.stage reported resumed
+    r : Resumed w.stage old c.begun
+    r = has_resumed old c.begun sound w.stage reported c.resumed
 
-    g : GoesFollow way m input w.units n (with_search_begun way input w.units begun) mid
-    g = goes old begun r (to_read reads) n mid all
+    g : GoesFollow way m input w.units c.units (with_search_begun way input w.units c.begun) c.read.0
+    g = goes old c.begun r (to_read c.some) c.units c.read.0 c.read.1
 
-    rest : IsGrown begun new
-    rest = grown_trans begun mid new (grows old begun r (to_read reads) mid g.grown) (grown_moved mid new ended)
+    rest : IsGrown c.begun new
+    rest =
+        grown_trans c.begun c.read.0 new (grows old c.begun r (to_read c.some) c.read.0 g.grown)
+        (grown_moved c.read.0 new c.read.2)
 
-    within : (i : ℕ) → i ≡ n → w.units ≤ input.end - input.start + 1 → next.units ≤ input.end - input.start + 1
-    within zero is l = omega (arith, is, count, l)
+    within : (i : ℕ) → i ≡ c.units → w.units ≤ input.end - input.start + 1 → next.units ≤ input.end - input.start + 1
+    within zero is l = omega (arith, is, c.counted, l)
     within (suc i) is l =
-        let one : w.units + i ≤ length (tape_in way input).bytes = (its.0 (w.units + i) (omega arith) (omega (arith, is, count))).0.0 in
-        omega (arith, is, count, one, tape_few way input)
+        let one : w.units + i ≤ length (tape_in way input).bytes = (c.its.0 (w.units + i) (omega arith) (omega (arith, is, c.counted))).0.0 in
+        omega (arith, is, c.counted, one, tape_few way input)
 
   -- a call that failed
   pub call_left :
       (keeping : Keeping) (next : Walk) (old new : CacheView) (e : SearchError) → IsStoreOf old.store m
       → LeavesCall keeping way m input w old new e → CallFollows keeping way m input w next old new (Some e)
-  call_left keeping next old new e sound (reads, inl (why, none)) =
+  call_left keeping next old new e sound (FailsToGoOn reads why none) =
       let r = to_read reads in
       let u = not_resumed old new e w.stage reported why none in
       record {
@@ -473,20 +486,20 @@ module _ (way : Direction) (m : Machine) (input : Input) (skips : Skips m ⊎ (S
         put_back = λ q at lacks. inl (u.back q at);
         learned = λ nothing. tt;
         known = λ knows. (let x = u.known (λ may. (knows k reported r may).0) in (u.grown.idle x.0, known_refusal keeping way m input w e x.1));
-        refused = λ i t. (r.undone, inl (reported_here way m input w i skips t r.on r.all_reported, why));
+        refused = λ i t. AtItsState r.undone (reported_here way m input w i skips t r.on r.all_reported) why;
         ready = λ none. absurd (reads none);
       }
-  call_left keeping next old new e sound (reads, inr (begun, resumed, (n, mid, walks, clean, silent, all, left))) = go keeping left where
+  call_left keeping next old new e sound (FailsOnItsWay reads begun resumed s) = go keeping s.left where
     r : IsToRead input w.stage w.units w.reported
     r = to_read reads
 
     has : Resumed w.stage old begun
     has = has_resumed old begun sound w.stage reported resumed
 
-    go : (keeping : Keeping) → IsCallLeftAt keeping way m input (w.units + n) mid new e → CallFollows keeping way m input w next old new (Some e)
-    go Ids (refused, left) = call_stops old begun has r Ids next new mid e n walks clean silent all refused left
-    go States (inl (refused, left)) = call_stops old begun has r States next new mid e n walks clean silent all refused left
-    go States (inr (unheld, read)) = call_unheld old begun has r States next new mid e n walks clean silent all read (inr unheld) (inr (w.units + n, omega arith, unheld))
+    go : (keeping : Keeping) → IsCallLeftAt keeping way m input (w.units + s.units) s.mid new e → CallFollows keeping way m input w next old new (Some e)
+    go keeping (FailsAtUnit refused left) = call_stops old begun has r keeping next new s.mid e s.units s.reads s.clean s.silent s.goes refused left
+    go Ids (FailsAfterUnit kept unheld read) = absurd (let is : Ids ≡ States = kept in cc)
+    go States (FailsAfterUnit kept unheld read) = call_unheld old begun has r States next new s.mid e s.units s.reads s.clean s.silent s.goes read (inr unheld) (inr (w.units + s.units, omega arith, unheld))
 
 -- each call
 pub calls_follow : (m : Machine) → Skips m ⊎ (Skips m → ⊥) → CallsFollow m

@@ -1,5 +1,5 @@
 -- Going on with a walk: what the functions under its calls answer, and what they make of their cache.
-use Rattle.automata_hybrid.specs.declared.dfa.handle.Handle.{Handle}
+use Rattle.automata_hybrid.specs.declared.cache.handle.Handle.{Handle}
 use Rattle.std.proofs.Common.{ℕ, suc, ◌≡◌, ◌∙◌, inl, inr, false, Option, None, Some, refl, sym, ap, subst, arith}
 use Rattle.std.specs.Prelude.{IfErr, IfOk, OnErr, OnOk, Result}
 use Rattle.std.proofs.lemmas.Result.{IfErr-weaker, IfOk-weaker}
@@ -26,14 +26,16 @@ use Rattle.automata_hybrid.specs.Machines.StartSlots.{supports}
 use Rattle.automata_hybrid.specs.Searches.Contracts.{IsUnsupported, unsupported_error}
 use Rattle.automata_hybrid.specs.Searches.Passes.{behind_offset, given_up_offset, state_in, tape_in}
 use Rattle.automata_hybrid.specs.Private.Searches.PassState.{step_error}
-use Rattle.automata_hybrid.specs.Searches.Progress.{HasItsStart}
+use Rattle.automata_hybrid.specs.Searches.Progress.{HasItsStart, start_event}
 use Rattle.automata_hybrid.specs.Calls.Steps.{StartFailsAt}
 use Rattle.automata_hybrid.specs.Steps.Starts.{IsStartAnswer, IsStartError, IsStartErrorAt, quit_behind}
 use Rattle.automata_hybrid.specs.Steps.Starts.{start_search_error}
-use Rattle.automata_hybrid.specs.Walks.Answers.{HasItsState, HasReportedAt, IsPutBackError, IsResumeError, IsWalkOf}
-use Rattle.automata_hybrid.specs.Walks.Answers.{ReportsNext}
+use Rattle.automata_hybrid.specs.Walks.Answers.{HasItsState, HasNoRoom, HasReportedAt, IsPutBackError, IsResumeError}
+use Rattle.automata_hybrid.specs.Walks.Answers.{IsWalkOf, ReportsNext, RunsOut}
 use Rattle.automata_hybrid.specs.Private.Walks.Parts.{IsCallAnswer, IsResumeAnswer}
-use Rattle.automata_hybrid.specs.Walks.Progress.{HasItsRow, IsNotResumed, IsResumed, IsWalkRun, LeavesCall, ReadsNoUnit}
+use Rattle.automata_hybrid.specs.Walks.Progress.{CallReads, EndsCall, FailsOnItsWay, FailsToGoOn, HasEnded, HasItsRow}
+use Rattle.automata_hybrid.specs.Walks.Progress.{HasMore, HasNoneLeft, IsNotResumed, IsResumed, IsWalkRun, LeavesCall}
+use Rattle.automata_hybrid.specs.Walks.Progress.{ReadsNoUnit, ReadsNone, ReadsSome, WasThere}
 use Rattle.automata_hybrid.specs.Walks.State.{At, Ended, Fresh, Ids, Keeping, Stage}
 use Rattle.automata_hybrid.specs.Private.Walks.State.{Holds, HoldsNone, IsHeldAt, IsHeldItself}
 use Rattle.automata_hybrid.specs.Walks.State.{States, Walk, without_match}
@@ -42,7 +44,7 @@ use Rattle.automata_hybrid.specs.declared.search.walk.Held.{Held}
 use Rattle.automata_hybrid.specs.declared.search.walk.Held.TheVariants as held
 use Rattle.automata_hybrid.proofs.Searches.PassState.{false_true, state_first}
 use Rattle.automata_hybrid.proofs.Searches.Goes.{unstarted}
-use Rattle.automata_hybrid.proofs.Steps.Starts.{refusal_at}
+use Rattle.automata_hybrid.proofs.Steps.Starts.{does_ask, refusal_at}
 
 -- a start in a mode that is not supported fails for that, after no quit byte
 unsupported_start :
@@ -60,12 +62,12 @@ unsupported_start m c mode behind behind_at start_at e (error, why, reported, un
 pub unsupported_call :
     (keeping : Keeping) (way : Direction) (m : Machine) (input : Input) (w : Walk) (old new : CacheView) (e : SearchError)
     → w.stage ≡ Fresh → IsUnsupported way m input → LeavesCall keeping way m input w old new e → e ≡ unsupported_error input
-unsupported_call keeping way m input w old new e fresh u (reads, inl (why, none)) =
+unsupported_call keeping way m input w old new e fresh u (FailsToGoOn reads why none) =
     unsupported_start m new.store input.anchored (tape_in way input).before _ _ e
     (subst (λ (s : Stage). IsResumeError way m new.store input s w.units e) fresh why) u.behind u.mode
-unsupported_call keeping way m input w old new e fresh u (reads, inr (begun, resumed, stopped)) =
+unsupported_call keeping way m input w old new e fresh u (FailsOnItsWay reads begun resumed stopped) =
     let starts : HasItsStart way m input old begun = subst (λ (s : Stage). IsResumed way m input s old begun) fresh resumed in
-    absurd (false_true (sym u.mode ∙ starts.0.1))
+    absurd (false_true (sym u.mode ∙ (does_ask m (start_event way input) old old begun starts).1))
 
 -- and it is not answered
 pub supported_call :
@@ -85,10 +87,43 @@ module _ (way : Direction) (m : Machine) (input : Input) (w next : Walk) where
   pub answer_matched : IsCallAnswer way m input (without_match w) next → IsCallAnswer way m input w next
   answer_matched a = record { reports = a.reports; goes_on = a.goes_on }
 
+  none_matched : ReadsNoUnit input (without_match w) → ReadsNoUnit input w
+  none_matched (HasEnded over) = HasEnded over
+  none_matched (HasMore q at few) = HasMore q at few
+  none_matched (HasNoneLeft past) = HasNoneLeft past
+
+  some_matched : (ReadsNoUnit input (without_match w) → ⊥) → ReadsNoUnit input w → ⊥
+  some_matched reads (HasEnded over) = reads (HasEnded over)
+  some_matched reads (HasMore q at few) = reads (HasMore q at few)
+  some_matched reads (HasNoneLeft past) = reads (HasNoneLeft past)
+
+  reads_matched : (old new : CacheView) → CallReads way m input (without_match w) next old new → CallReads way m input w next old new
+  reads_matched old new c = record {
+    some = some_matched c.some;
+    begun = c.begun;
+    resumed = c.resumed;
+    units = c.units;
+    counted = c.counted;
+    its = c.its;
+    read = c.read;
+  }
+
+  ends_matched : (old new : CacheView) → EndsCall way m input (without_match w) next old new → EndsCall way m input w next old new
+  ends_matched old new (ReadsNone over none same still) = ReadsNone over (none_matched none) same still
+  ends_matched old new (ReadsSome over c) = ReadsSome over (reads_matched old new c)
+
+  leaves_matched :
+      (keeping : Keeping) (old new : CacheView) (e : SearchError)
+      → LeavesCall keeping way m input (without_match w) old new e → LeavesCall keeping way m input w old new e
+  leaves_matched keeping old new e (FailsToGoOn reads why none) = FailsToGoOn (some_matched reads) why none
+  leaves_matched keeping old new e (FailsOnItsWay reads begun resumed stopped) =
+      FailsOnItsWay (some_matched reads) begun resumed stopped
+
   pub run_matched :
       (keeping : Keeping) (old new : CacheView) (error : Option SearchError)
       → IsWalkRun keeping way m input (without_match w) next old new error → IsWalkRun keeping way m input w next old new error
-  run_matched keeping old new error e = record { of = e.of; run = e.run }
+  run_matched keeping old new None e = record { of = e.of; run = ends_matched old new e.run }
+  run_matched keeping old new (Some error) e = record { of = e.of; run = leaves_matched keeping old new error e.run }
 
 -- how a call failed, by what is kept
 pub left_by :
@@ -135,7 +170,7 @@ pub run_none :
     (keeping : Keeping) (way : Direction) (m : Machine) (input : Input) (w next : Walk) (c : CacheView)
     → IsStoreOf c.store m → ReadsNoUnit input w → next.units ≡ w.units → (next.stage ≡ Ended → next.found ≡ None)
     → IsWalkRun keeping way m input w next c c None
-run_none keeping way m input w next c sound none same over = record { of = sound; run = (over, inl (none, same, refl)) }
+run_none keeping way m input w next c sound none same over = record { of = sound; run = ReadsNone over none same refl }
 
 -- a walk that has not begun goes on from its start
 module _ (way : Direction) (m : Machine) (input : Input) (w : Walk) (old new : CacheView) (r : Result ℕ SearchError)
@@ -203,17 +238,15 @@ module _ (way : Direction) (m : Machine) (input : Input) (t : Rows) (w : Walk) (
 
       why : (e : StepError) → AddFails old new handle.state e → r ≡ step_error e (given_up_offset way input w.units) → IsPutBackError new.store q (given_up_offset way input w.units) r
       why (step.Cache err) refused reported =
-          inr (
-            subst (GivesUp new.store) same (subst (λ (v : CacheView). GivesUp v.store handle.state) (sym refused.kept) (refused.gives_up.0 tt)),
-            reported,
-          )
+          HasNoRoom
+          (subst (GivesUp new.store) same (subst (λ (v : CacheView). GivesUp v.store handle.state) (sym refused.kept) (refused.gives_up.0 tt)))
+          reported
       why step.OutOfMemory refused reported =
-          inl (
-            λ has. lacks (subst (λ (v : CacheView). IsKnownState v.store.table handle.state) refused.kept (subst (IsKnownState new.store.table) (sym same) has)),
-            λ gives. refused.gives_up.1
-                (subst (λ (v : CacheView). GivesUp v.store handle.state) refused.kept (subst (GivesUp new.store) (sym same) gives)),
-            reported,
-          )
+          RunsOut
+          (λ has. lacks (subst (λ (v : CacheView). IsKnownState v.store.table handle.state) refused.kept (subst (IsKnownState new.store.table) (sym same) has)))
+          (λ gives. refused.gives_up.1
+          (subst (λ (v : CacheView). GivesUp v.store handle.state) refused.kept (subst (GivesUp new.store) (sym same) gives)))
+          reported
 
 -- one of a set goes on from the ID of its row
 pub row_resumed :
@@ -224,4 +257,4 @@ row_resumed way m input c w h id sound fresh on holds row = go w.stage fresh on 
   go : (s : Stage) → (s ≡ Fresh → ⊥) → (s ≡ Ended → ⊥) → IsHeldAt c.store.table s h → IsResumed way m input s c c
   go Fresh fresh on holds = absurd (fresh refl)
   go Ended fresh on holds = absurd (on refl)
-  go (At q) fresh on holds = (sound, inl (record { id = id; named = subst (λ (x : Held). Holds c.store.table x q) row holds }, refl))
+  go (At q) fresh on holds = WasThere sound (record { id = id; named = subst (λ (x : Held). Holds c.store.table x q) row holds }) refl

@@ -9,7 +9,8 @@ use Rattle.automata_hybrid.specs.Cache.Stores.{Stored}
 use Rattle.automata_hybrid.specs.Walks.Cached.{IsToRead}
 use Rattle.automata_hybrid.specs.Machines.Machine.{Machine}
 use Rattle.automata_hybrid.specs.Searches.Progress.{Goes, IsLeftAt}
-use Rattle.automata_hybrid.specs.Walks.Progress.{IsCallLeftAt, IsCallStopped, ReadsNoUnit}
+use Rattle.automata_hybrid.specs.Walks.Progress.{FailsAfterUnit, FailsAtUnit, FailsOnItsWay, FailsToGoOn, HasEnded, HasMore}
+use Rattle.automata_hybrid.specs.Walks.Progress.{HasNoneLeft, IsCallLeftAt, IsCallStopped, LeavesCall, ReadsNoUnit}
 use Rattle.automata_hybrid.specs.Searches.Cached.{IsOfInput}
 use Rattle.automata_hybrid.specs.Searches.Passes.{HasReadNoQuit, IsUnitError, Skips}
 use Rattle.automata_hybrid.specs.Walks.Answers.{HasReportedBy, IsWalkErrorAt, IsSilent, WalkReads, pairs_reported_in}
@@ -73,22 +74,29 @@ pub call_stopped :
     → IsUnitError way m new.store input k e
     → (run : CacheView) → GoesTo way m input from k old run → IsLeftAt way m input k run new
     → IsCallStopped Ids way m input from old new e
-call_stopped way m input from k old new e reads clean silent refused run all left = (
-  all.units,
-  run,
-  subst (WalkReads way m input) (sym all.upto) reads,
-  subst (HasReadNoQuit way m input) (sym all.upto) clean,
-  subst (IsSilent way m input from) (sym all.upto) silent,
-  all.goes,
-  subst (λ j. IsUnitError way m new.store input j e × IsLeftAt way m input j run new) (sym all.upto) (refused, left),
-)
+call_stopped way m input from k old new e reads clean silent refused run all left = record {
+  units = all.units;
+  reads = subst (WalkReads way m input) (sym all.upto) reads;
+  clean = subst (HasReadNoQuit way m input) (sym all.upto) clean;
+  silent = subst (IsSilent way m input from) (sym all.upto) silent;
+  mid = run;
+  goes = all.goes;
+  left = subst (λ j. IsCallLeftAt Ids way m input j run new e) (sym all.upto) (FailsAtUnit refused left);
+}
 
 -- a call that is to read units reads some
 pub reads_some : (input : Input) (w : Walk) → IsToRead input w.stage w.units w.reported → ReadsNoUnit input w → ⊥
-reads_some input w r (inl ended) = r.on ended
-reads_some input w r (inr (inl (q, at, few))) =
+reads_some input w r (HasEnded ended) = r.on ended
+reads_some input w r (HasMore q at few) =
     (let all : length q.patterns ≤ w.reported = r.all_reported q at in omega (arith, all, few))
-reads_some input w r (inr (inr past)) = omega (arith, r.undone, r.left, past)
+reads_some input w r (HasNoneLeft past) = omega (arith, r.undone, r.left, past)
+
+-- a call that fails is to read units
+pub left_reads :
+    (keeping : Keeping) (way : Direction) (m : Machine) (input : Input) (w : Walk) (old new : CacheView) (e : SearchError)
+    → LeavesCall keeping way m input w old new e → ReadsNoUnit input w → ⊥
+left_reads keeping way m input w old new e (FailsToGoOn reads why none) = reads
+left_reads keeping way m input w old new e (FailsOnItsWay reads begun resumed stopped) = reads
 
 -- a failed step is a refusal at its unit, whatever is kept
 pub step_refuses :
@@ -99,15 +107,22 @@ step_refuses States way m c input j e r = inl r
 
 step_leaves :
     (keeping : Keeping) (way : Direction) (m : Machine) (input : Input) (k : ℕ) (old new : CacheView) (e : SearchError)
-    → IsUnitError way m new.store input k e × IsLeftAt way m input k old new → IsCallLeftAt keeping way m input k old new e
-step_leaves Ids way m input k old new e left = left
-step_leaves States way m input k old new e left = inl left
+    → IsCallLeftAt Ids way m input k old new e → IsCallLeftAt keeping way m input k old new e
+step_leaves keeping way m input k old new e (FailsAtUnit refused left) = FailsAtUnit refused left
+step_leaves keeping way m input k old new e (FailsAfterUnit kept unheld read) = absurd (let is : Ids ≡ States = kept in cc)
 
 pub call_leaves :
     (keeping : Keeping) (way : Direction) (m : Machine) (input : Input) (from : ℕ) (old new : CacheView) (e : SearchError)
     → IsCallStopped Ids way m input from old new e → IsCallStopped keeping way m input from old new e
-call_leaves keeping way m input from old new e (n, mid, reads, clean, silent, all, left) =
-    (n, mid, reads, clean, silent, all, step_leaves keeping way m input (from + n) mid new e left)
+call_leaves keeping way m input from old new e stopped = record {
+  units = stopped.units;
+  reads = stopped.reads;
+  clean = stopped.clean;
+  silent = stopped.silent;
+  mid = stopped.mid;
+  goes = stopped.goes;
+  left = step_leaves keeping way m input (from + stopped.units) stopped.mid new e stopped.left;
+}
 
 -- a refusal for what was given is one of a call that has cached all
 pub known_refusal :

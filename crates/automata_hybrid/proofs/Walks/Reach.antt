@@ -14,9 +14,10 @@ use Rattle.automata_hybrid.specs.Machines.Machine.{Machine}
 use Rattle.automata_hybrid.specs.Searches.Passes.{NoQuitInReach, tape_in}
 use Rattle.automata_hybrid.specs.Machines.StartSlots.{supports}
 use Rattle.automata_hybrid.specs.Searches.Contracts.{IsMemory, IsUnhindered}
-use Rattle.automata_hybrid.specs.Walks.Answers.{IsResumeError}
+use Rattle.automata_hybrid.specs.Walks.Answers.{HasNoRoom, IsResumeError, RunsOut}
+use Rattle.automata_hybrid.specs.Walks.Progress.{FailsAfterUnit, FailsAtUnit, FailsOnItsWay, FailsToGoOn, HasNoneLeft}
 use Rattle.automata_hybrid.specs.Walks.Progress.{IsCallLeftAt, IsSetRun, LeavesCall, LeavesSet, ReadsNoUnit}
-use Rattle.automata_hybrid.specs.Walks.State.{At, Ended, Fresh, Ids, Keeping, Stage, States, Walk}
+use Rattle.automata_hybrid.specs.Walks.State.{At, Ended, Fresh, Ids, Keeping, Stage, Walk}
 use Rattle.automata_hybrid.proofs.Searches.Reach.{InReach, no_limit, start_memory, step_memory}
 use Rattle.automata_config.specs.Options.{minimum_cache_clear_count_of}
 
@@ -24,7 +25,7 @@ use Rattle.automata_config.specs.Options.{minimum_cache_clear_count_of}
 reads_undone : (input : Input) (w : Walk) → (ReadsNoUnit input w → ⊥) → input.start ≤ input.end
 reads_undone input w reads = go (cases_lt input.end input.start) where
   go : (input.end < input.start) ⊎ (input.start ≤ input.end) → input.start ≤ input.end
-  go (inl past) = absurd (reads (inr (inr (omega (arith, past)))))
+  go (inl past) = absurd (reads (HasNoneLeft (omega (arith, past))))
   go (inr undone) = undone
 
 module _ (way : Direction) (m : Machine) (new : CacheView) (input : Input)
@@ -36,21 +37,20 @@ module _ (way : Direction) (m : Machine) (new : CacheView) (input : Input)
   resume_memory :
       (s : Stage) (units : ℕ) (e : SearchError) → input.start ≤ input.end → IsResumeError way m new.store input s units e → e ≡ search.OutOfMemory
   resume_memory Fresh units e l r = start_memory way m new.store input l few same clean mode free _ _ e r
-  resume_memory (At q) units e l (inl r) = r.2
-  resume_memory (At q) units e l (inr r) = absurd (no_limit m new.store q same free r.0)
+  resume_memory (At q) units e l (RunsOut lacks room memory) = memory
+  resume_memory (At q) units e l (HasNoRoom gives reported) = absurd (no_limit m new.store q same free gives)
   resume_memory Ended units e l r = absurd r
 
   at_memory :
       (keeping : Keeping) (j : ℕ) (mid : CacheView) (e : SearchError)
       → input.start ≤ input.end → j ≤ length (tape_in way input).bytes → IsCallLeftAt keeping way m input j mid new e → e ≡ search.OutOfMemory
-  at_memory Ids j mid e s l (r, left) = step_memory way m new.store input s few same clean mode free j _ _ _ e l r
-  at_memory States j mid e s l (inl (r, left)) = step_memory way m new.store input s few same clean mode free j _ _ _ e l r
-  at_memory States j mid e s l (inr (r, read)) = r.memory
+  at_memory keeping j mid e s l (FailsAtUnit r left) = step_memory way m new.store input s few same clean mode free j _ _ _ e l r
+  at_memory keeping j mid e s l (FailsAfterUnit kept r read) = r.memory
 
   pub call_memory : (keeping : Keeping) (w : Walk) (old : CacheView) (e : SearchError) → LeavesCall keeping way m input w old new e → e ≡ search.OutOfMemory
-  call_memory keeping w old e (reads, inl (why, none)) = resume_memory w.stage w.units e (reads_undone input w reads) why
-  call_memory keeping w old e (reads, inr (begun, resumed, (n, mid, walks, clean, silent, all, left))) =
-      at_memory keeping (w.units + n) mid e (reads_undone input w reads) walks.0 left
+  call_memory keeping w old e (FailsToGoOn reads why none) = resume_memory w.stage w.units e (reads_undone input w reads) why
+  call_memory keeping w old e (FailsOnItsWay reads begun resumed s) =
+      at_memory keeping (w.units + s.units) s.mid e (reads_undone input w reads) s.reads.0 s.left
 
 -- so does the search for a set
 pub set_memory :
@@ -60,5 +60,4 @@ pub set_memory :
 set_memory m new input set joined old (Ok t) few same f run = tt
 set_memory m new input set joined old (Err e) few same f run = go run.run where
   go : LeavesSet m input set joined old new e → IsMemory e
-  go (calls, walk, mid, called, is_open, joins, there, left) =
-      call_memory Forward m new input few same f.reach f.supported f.clears Ids walk mid e left
+  go s = call_memory Forward m new input few same f.reach f.supported f.clears Ids s.walk s.mid e s.left

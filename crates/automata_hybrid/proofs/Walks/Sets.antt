@@ -20,10 +20,10 @@ use Rattle.automata_hybrid.specs.Cache.Stores.{Stored}
 use Rattle.automata_hybrid.specs.Cache.Caches.{CacheView}
 use Rattle.automata_hybrid.specs.Cache.Growth.{IsGrown}
 use Rattle.automata_hybrid.specs.Searches.Cached.{KnowsItsStart}
-use Rattle.automata_hybrid.specs.Walks.Cached.{IsOpen, KnowsItsState, KnowsWalk, KnowsWhich}
+use Rattle.automata_hybrid.specs.Walks.Cached.{IsOpen, KnowsItsState, KnowsWalk, KnowsWhich, LacksOne, NoPair}
 use Rattle.automata_hybrid.specs.Machines.Machine.{Machine, engine}
 use Rattle.automata_base.specs.Powersets.Powerset.{Powerset, cost}
-use Rattle.automata_hybrid.specs.Walks.Progress.{HaveCalled, IsJoined, IsJoinedAfter, IsOpenAfter}
+use Rattle.automata_hybrid.specs.Walks.Progress.{HaveCalled, IsJoined, IsJoinedAfter, IsOpenAfter, NoCall}
 use Rattle.automata_hybrid.specs.Searches.Passes.{tape_in}
 use Rattle.automata_hybrid.specs.Walks.Answers.{AreWalked, HasItsState, HasReported, HasReportedAt, HasReportedBy}
 use Rattle.automata_hybrid.specs.Private.Walks.Answers.{GoesOn}
@@ -291,14 +291,14 @@ module _ (m : Machine) (input : Input) (old : List Bool) where
       -- by one call more
       pub calls_more :
           (e : input.earliest ≡ false) (lacks : IsLacking (set new half.pattern true)) (cache last : CacheView)
-          → HaveCalled m input old (suc j.k) cache next last → HaveCalled m input old (joins_more e lacks).k cache next last
+          → HaveCalled m input old cache (suc j.k) next last → HaveCalled m input old cache (joins_more e lacks).k next last
       unfolding joins_more
       calls_more e lacks cache last called = called
 
 -- a walk that has not begun has made no call
 pub joins_begin :
     (m : Machine) (input : Input) (walk : Walk) (set : List Bool) (c : CacheView) → walk ≡ fresh_walk
-    → (j : Joins m input walk set set) × HaveCalled m input set j.k c walk c
+    → (j : Joins m input walk set set) × HaveCalled m input set c j.k walk c
 joins_begin m input walk set c fresh = (
   record {
     k = 0;
@@ -308,7 +308,7 @@ joins_begin m input walk set c fresh = (
     capacity = refl;
     open_at = inl refl;
   },
-  (fresh, refl),
+  NoCall walk c fresh refl,
 )
 
 -- how many steps a walk has left, at most: for each unit as many as a state has patterns, and one more
@@ -439,7 +439,7 @@ pub open_after :
     (pairs : List Pair) → AreWalked Forward m input pairs → IsOpen input old (take j.k pairs)
 open_after m input walk old new j pairs walked = go j.open_at input.earliest refl where
   none : j.k ≡ 0 → IsOpen input old (take j.k pairs)
-  none z = inl (ap (λ n. take n pairs) z)
+  none z = NoPair (ap (λ n. take n pairs) z)
 
   go : (j.k ≡ 0) ⊎ IsLacking new → (b : Bool) → input.earliest ≡ b → IsOpen input old (take j.k pairs)
   go (inl z) b e = none z
@@ -447,15 +447,9 @@ open_after m input walk old new j pairs walked = go j.open_at input.earliest ref
   go (inr lacks) false e =
       let absent : In lacks.pattern (members new) → ⊥ = (λ i. false_true (sym lacks.absent ∙ in_flag new lacks.pattern i)) in
       let below : lacks.pattern < length old = omega (arith, lacks.below, j.capacity) in
-      inr (
-        e,
-        (
-          lacks.pattern,
-          below,
-          λ i. absent ((j.joined pairs walked lacks.pattern).1 (inl i)),
-          λ h. absent ((j.joined pairs walked lacks.pattern).1 (inr (below, h))),
-        ),
-      )
+      LacksOne e lacks.pattern below
+      (λ i. absent ((j.joined pairs walked lacks.pattern).1 (inl i)))
+      (λ h. absent ((j.joined pairs walked lacks.pattern).1 (inr (below, h))))
 
 -- an earliest set or a full one is not gone on with
 pub closes :
@@ -468,9 +462,9 @@ closes input old new pairs k half found capacity joined stop is_open = go is_ope
   taken (x ∷ xs) n f e = absurd (cc)
 
   go : IsOpen input old (take (suc k) pairs) → (input.earliest ≡ true) ⊎ (length (members new) ≡ length new) → ⊥
-  go (inl none) s = taken pairs k found none
-  go (inr (e, rest)) (inl early) = false_true (sym e ∙ early)
-  go (inr (e, (p, below, absent, other))) (inr full) =
+  go (NoPair none) s = taken pairs k found none
+  go (LacksOne e p below absent other) (inl early) = false_true (sym e ∙ early)
+  go (LacksOne e p below absent other) (inr full) =
       among ((joined p).0 (flag_in new p (full_at new 0 p full (omega (arith, below, capacity))))) where
         among : In p (members old) ⊎ ((p < length old) × HasPattern p (take (suc k) pairs)) → ⊥
         among (inl i) = absent i

@@ -17,16 +17,17 @@ use Rattle.automata_hybrid.specs.Searches.Passes.{HasReadNoQuit, Skips, state_in
 use Rattle.automata_hybrid.specs.Steps.Starts.{MayStart}
 use Rattle.automata_hybrid.specs.Walks.Answers.{AreWalked, HasItsState, HasReported, HasReportedAt, ReportsNext, WalkReads}
 use Rattle.automata_hybrid.specs.Walks.Answers.{half_nth, pairs_reported_in, start_count}
-use Rattle.automata_hybrid.specs.Walks.Cached.{IsOpen, KnowsWhich}
+use Rattle.automata_hybrid.specs.Walks.Cached.{IsOpen, KnowsWhich, NoPair}
 use Rattle.automata_hybrid.specs.Walks.Follows.{CallFollows, SetFollows, SetsFollow}
-use Rattle.automata_hybrid.specs.Walks.Progress.{EndsCall, EndsSet, HaveCalled, IsOpenAfter, LeavesSet, ReadsNoUnit}
+use Rattle.automata_hybrid.specs.Walks.Progress.{EndsCall, EndsSet, HasEnded, HasMore, HasNoneLeft, HaveCalled, IsClosedAfter}
+use Rattle.automata_hybrid.specs.Walks.Progress.{IsOpenAfter, LeavesSet, NoCall, OneMore, ReadsNoUnit, ReadsNone, ReadsSome}
 use Rattle.automata_hybrid.specs.Walks.State.{At, Ended, Fresh, Ids, Stage, Walk}
-use Rattle.automata_hybrid.proofs.Cache.Growth.{clears_none, grown_same, grown_trans, nothing_first, nothing_second}
+use Rattle.automata_hybrid.proofs.Caches.Growth.{clears_none, grown_same, grown_trans, nothing_first, nothing_second}
 use Rattle.automata_hybrid.proofs.Searches.Follows.{tape_few}
 use Rattle.automata_hybrid.proofs.Walks.CachedSets.{HasLearnedWalk, closed_stops, half_none, learned_call, set_knows}
 use Rattle.automata_hybrid.proofs.Walks.Calls.{ended_at, fresh_at, place_pair}
 use Rattle.automata_hybrid.proofs.Walks.Follows.{Leaves, at_state, call_ended, call_leaves_units, call_left}
-use Rattle.automata_hybrid.proofs.Walks.Progress.{walk_reads_before}
+use Rattle.automata_hybrid.proofs.Walks.Progress.{left_reads, walk_reads_before}
 use Rattle.automata_hybrid.proofs.Walks.Sets.{begun_state, which_still, which_walk}
 
 module _ (m : Machine) (skips : Skips m ⊎ (Skips m → ⊥)) (input : Input) (set : List Bool)
@@ -69,8 +70,8 @@ module _ (m : Machine) (skips : Skips m ⊎ (Skips m → ⊥)) (input : Input) (
     stops_more : walk.stage ≡ Ended → input.start ≤ input.end → (j : ℕ) → walk.units ≤ j → WalkReads Forward m input j → ⊥
     stops_more over undone j more reads = go ended where
       last : ReadsNoUnit input before → walk.units ≡ before.units → walk.found ≡ half_nth list.0 k → walk.found ≡ None → ⊥
-      last (inl was) same found none = made.stops was undone j (omega (arith, same, more)) reads
-      last (inr (inl (q, at, few))) same found none = state before.stage at made.reported where
+      last (HasEnded was) same found none = made.stops was undone j (omega (arith, same, more)) reads
+      last (HasMore q at few) same found none = state before.stage at made.reported where
         state : (s : Stage) → s ≡ At q → HasReportedAt Forward m input s before.units before.reported k → ⊥
         state Fresh is t = fresh_at q is
         state Ended is t = ended_at q is
@@ -79,13 +80,13 @@ module _ (m : Machine) (skips : Skips m ⊎ (Skips m → ⊥)) (input : Input) (
             let one = place_pair Forward m input t.place t.earlier before.reported list.0 undone t.within t.unskipped t.before (subst (λ (x : Powerset). before.reported < length x.patterns) here few) list.1 in
             let all : length list.0 ≤ k = half_none list.0 k (sym found ∙ none) in
             omega (arith, one.1, all, t.count)
-      last (inr (inr past)) same found none =
+      last (HasNoneLeft past) same found none =
           let few : j ≤ length (tape_in Forward input).bytes = reads.0 in
           omega (arith, few, tape_few Forward input, past, same, more, undone)
 
       go : EndsCall Forward m input before walk mid new → ⊥
-      go (none, inl (reads_none, same, still)) = last reads_none same ((reports k made.reported).1 list.0 list.1).0 (none over)
-      go (none, inr (some, from, n, resumed, count, its, all)) = its.1 over (walk_reads_before Forward m input walk.units j more reads)
+      go (ReadsNone none reads_none same still) = last reads_none same ((reports k made.reported).1 list.0 list.1).0 (none over)
+      go (ReadsSome none c) = c.its.1 over (walk_reads_before Forward m input walk.units j more reads)
 
     calls_more : CallsMade (suc k) walk new
     calls_more = record {
@@ -108,11 +109,11 @@ module _ (m : Machine) (skips : Skips m ⊎ (Skips m → ⊥)) (input : Input) (
       done = λ past. kept ended past ∙ made.done past;
     } where
       kept : EndsCall Forward m input before walk mid new → input.end < input.start → new ≡ mid
-      kept (none, inl (reads_none, same, still)) past = still
-      kept (none, inr (some, from, n, resumed, count, its, all)) past = absurd (some (inr (inr (omega (arith, past)))))
+      kept (ReadsNone none reads_none same still) past = still
+      kept (ReadsSome none c) past = absurd (c.some (HasNoneLeft (omega (arith, past))))
 
-  calls_made : (calls : ℕ) (walk : Walk) (new : CacheView) → HaveCalled m input set calls old walk new → CallsMade calls walk new
-  calls_made zero walk new (fresh, same) = record {
+  calls_made : (calls : ℕ) (walk : Walk) (new : CacheView) → HaveCalled m input set old calls walk new → CallsMade calls walk new
+  calls_made zero walk new (NoCall walk1 new1 fresh same) = record {
     reported = subst (λ (w : Walk). HasReported Forward m input w 0) (sym fresh) (refl, refl);
     of = subst (λ (v : CacheView). IsStoreOf v.store m) (sym same) sound;
     grown = grown_same old new same;
@@ -129,16 +130,14 @@ module _ (m : Machine) (skips : Skips m ⊎ (Skips m → ⊥)) (input : Input) (
 
     none : walk.units ≡ 0
     none = ap (λ (w : Walk). w.units) fresh
-  calls_made (suc calls) walk new (before, mid, called, is_open, there, reports, ended) =
+  calls_made (suc calls) walk new (OneMore calls1 before walk1 mid new1 called is_open there reports ended) =
       calls_more calls before walk mid new (calls_made calls before mid called) is_open there reports ended
 
-  -- the set is closed after so many pairs
-  abbrev Closed : ℕ → Type 0
-  Closed calls = (pairs : List Pair) → AreWalked Forward m input pairs → IsOpen input set (take calls pairs) → ⊥
-
-  -- a set that answered
-  set_ended : (joined : List Bool) (new : CacheView) → EndsSet m input set old new → SetFollows m input set joined old new None
-  set_ended joined new (calls, walk, called, last) = record {
+  -- a set that answered, by the calls of its walk
+  set_called :
+      (joined : List Bool) (new : CacheView) (calls : ℕ) (walk : Walk) → HaveCalled m input set old calls walk new
+      → (walk.stage ≡ Ended) ⊎ IsClosedAfter m input set calls → SetFollows m input set joined old new None
+  set_called joined new calls walk called last = record {
     cost = cost;
     roomy = λ room. clears_none old new _ made.grown cost room;
     started = λ knows. omega (arith, made.started knows, made.few);
@@ -158,7 +157,7 @@ module _ (m : Machine) (skips : Skips m ⊎ (Skips m → ⊥)) (input : Input) (
         input.start ≤ input.end → (j : ℕ) (pairs : List Pair) → walk.units ≤ j → WalkReads Forward m input j
         → AreUnsplit (Skips m) Forward input (pairs_reported_in Forward m input j) pairs → IsOpen input set pairs → ⊥
     stops undone j pairs more reads unsplit is_open = go last walk.stage refl where
-      go : (walk.stage ≡ Ended) ⊎ Closed calls → (s : Stage) → walk.stage ≡ s → ⊥
+      go : (walk.stage ≡ Ended) ⊎ IsClosedAfter m input set calls → (s : Stage) → walk.stage ≡ s → ⊥
       go (inl over) s is = made.stops over undone j more reads
       go (inr closed) Ended is = made.stops is undone j more reads
       go (inr closed) Fresh is =
@@ -167,11 +166,11 @@ module _ (m : Machine) (skips : Skips m ⊎ (Skips m → ⊥)) (input : Input) (
           closed_stops m input walk calls set list.0 made.reported (λ over. ended_at q (sym over ∙ is)) undone list.1 (closed list.0 list.1) j pairs more reads unsplit is_open
 
     -- one that has not begun has not closed
-    fresh : walk.stage ≡ Fresh → (walk.stage ≡ Ended) ⊎ Closed calls → ⊥
+    fresh : walk.stage ≡ Fresh → (walk.stage ≡ Ended) ⊎ IsClosedAfter m input set calls → ⊥
     fresh is (inl over) = (let e : Fresh ≡ Ended = sym is ∙ over in cc)
     fresh is (inr closed) =
         let none : calls ≡ 0 = (subst (λ (s : Stage). HasReportedAt Forward m input s walk.units walk.reported calls) is made.reported).0 in
-        closed list.0 list.1 (inl (ap (λ n. take n list.0) none))
+        closed list.0 list.1 (NoPair (ap (λ n. take n list.0) none))
 
     all :
         (undone : input.start ≤ input.end) → MayStart m input.anchored (tape_in Forward input).before → HasLearnedWalk m new.store input walk
@@ -182,31 +181,41 @@ module _ (m : Machine) (skips : Skips m ⊎ (Skips m → ⊥)) (input : Input) (
     all undone may (inl unbegun) = absurd (fresh unbegun.0 last)
     all undone may (inr known) = set_knows m new.store input set walk known (stops undone)
 
+  set_ended : (joined : List Bool) (new : CacheView) → EndsSet m input set old new → SetFollows m input set joined old new None
+  set_ended joined new s = set_called joined new s.calls s.walk s.called s.last
+
   -- a set that failed
   set_left : (joined : List Bool) (new : CacheView) (e : SearchError) → LeavesSet m input set joined old new e → SetFollows m input set joined old new (Some e)
-  set_left joined new e (calls, walk, mid, called, is_open, joins, there, left) = record {
+  set_left joined new e s = record {
     cost = cost;
     roomy = λ room. clears_none old new _ grown cost room;
     started = λ knows. (
-        let less = (c.started (begun_state m input walk.stage old mid made.grown there knows)).0 in
+        let less = (c.started (begun_state m input s.walk.stage old s.mid made.grown s.there knows)).0 in
         omega (arith, less, made.started knows, made.few));
     grown = grown;
     learned = λ nothing. tt;
     known = λ knows. (
-        let count : mid.count ≡ old.count = made.idle knows in
-        let here = c.known (which_walk m mid.store input walk set calls made.reported is_open list there (which_still m input set old mid made.grown count knows)) in
+        let count : s.mid.count ≡ old.count = made.idle knows in
+        let here = c.known (which_walk m s.mid.store input s.walk set s.calls made.reported s.still_open list s.there (which_still m input set old s.mid made.grown count knows)) in
         (grown.idle (here.0.0 ∙ count), here.1));
-    refused = (walk, calls, made.reported, c.refused calls made.reported, joins, is_open);
-    done = λ past. absurd (left.0 (inr (inr (omega (arith, past)))));
+    refused = record {
+      walk = s.walk;
+      reported = s.calls;
+      has = made.reported;
+      error = c.refused s.calls made.reported;
+      joins = s.joins;
+      still_open = s.still_open;
+    };
+    done = λ past. absurd (left_reads Ids Forward m input s.walk s.mid new e s.left (HasNoneLeft (omega (arith, past))));
   } where
-    made : CallsMade calls walk mid
-    made = calls_made calls walk mid called
+    made : CallsMade s.calls s.walk s.mid
+    made = calls_made s.calls s.walk s.mid s.called
 
-    c : CallFollows Ids Forward m input walk walk mid new (Some e)
-    c = call_left Forward m input skips walk calls made.reported Ids walk mid new e made.of left
+    c : CallFollows Ids Forward m input s.walk s.walk s.mid new (Some e)
+    c = call_left Forward m input skips s.walk s.calls made.reported Ids s.walk s.mid new e made.of s.left
 
     grown : IsGrown old new
-    grown = grown_trans old mid new made.grown (c.there there)
+    grown = grown_trans old s.mid new made.grown (c.there s.there)
 
     cost : new.count ≤ old.count + (input.end - input.start + 2)
     cost = omega (arith, c.most, made.counted, made.few)

@@ -1,5 +1,5 @@
 -- One call of a walk that reads units: what it makes of its cache.
-use Rattle.std.proofs.Common.{ℕ, suc, ◌≡◌, ◌∙◌, ◌+◌, ◌-◌, ◌≤◌, ◌<◌, inr, false, length, Option, None, Some, refl, sym, ap}
+use Rattle.std.proofs.Common.{ℕ, suc, ◌≡◌, ◌∙◌, ◌+◌, ◌-◌, ◌≤◌, ◌<◌, false, length, Option, None, Some, refl, sym, ap}
 use Rattle.std.proofs.Common.{subst, arith}
 use Rattle.std.specs.Prelude.{Ok}
 use Rattle.automata_base.specs.Answers.Answers.{offset_in}
@@ -19,9 +19,9 @@ use Rattle.automata_hybrid.specs.Walks.Answers.{IsSilent, IsUnheld, WalkReads}
 use Rattle.automata_hybrid.specs.Private.Walks.Answers.{Arrives, IsArrival}
 use Rattle.automata_hybrid.specs.Walks.Cached.{IsToRead}
 use Rattle.automata_hybrid.specs.Private.Walks.Parts.{IsAdvanceEffect}
-use Rattle.automata_hybrid.specs.Walks.Progress.{IsCallStopped, IsResumed, IsWalkRun}
+use Rattle.automata_hybrid.specs.Walks.Progress.{FailsAfterUnit, FailsOnItsWay, IsCallStopped, IsResumed, IsWalkRun, ReadsSome}
 use Rattle.automata_hybrid.specs.Walks.State.{Ended, Keeping, States, Walk}
-use Rattle.automata_hybrid.specs.declared.search.advance.Arrival.{Arrival}
+use Rattle.automata_hybrid.specs.declared.search.walk.advance.Arrival.{Arrival}
 use Rattle.automata_hybrid.proofs.Searches.Goes.{ended_here}
 use Rattle.automata_hybrid.proofs.Steps.Steps.{unit_no_quit}
 use Rattle.automata_hybrid.proofs.Walks.Progress.{reads_some, silent_before, walk_reads_before}
@@ -64,23 +64,22 @@ module _ (way : Direction) (m : Machine) (input : Input) (w : Walk) (old between
     pub run_on : IsWalkRun keeping way m input w next old new None
     run_on = record {
       of = first;
-      run = (
-        λ over. (stops over).0,
-        inr (
-          reads_some input w r,
-          between,
-          suc last.0,
-          resumed,
-          omega (arith, units, last.1),
-          (
-            λ k more less. (
-                let read : WalkReads way m input k = walk_reads_before way m input k (w.units + last.0) (omega (arith, less, units, last.1)) last.2 in
-                (read, arrival_silent way m mid.store.table input w.units arrival.id arrival.units k arrives more (omega (arith, less, units)) read.0)),
-            λ over reads. (stops over).1 (subst (WalkReads way m input) units reads),
-          ),
-          ends_at,
-        ),
-      );
+      run =
+          ReadsSome (λ over. (stops over).0)
+          (record {
+            some = reads_some input w r;
+            begun = between;
+            resumed = resumed;
+            units = suc last.0;
+            counted = omega (arith, units, last.1);
+            its = (
+              λ k more less. (
+                  let read : WalkReads way m input k = walk_reads_before way m input k (w.units + last.0) (omega (arith, less, units, last.1)) last.2 in
+                  (read, arrival_silent way m mid.store.table input w.units arrival.id arrival.units k arrives more (omega (arith, less, units)) read.0)),
+              λ over reads. (stops over).1 (subst (WalkReads way m input) units reads),
+            );
+            read = ends_at;
+          });
     }
 
   -- or the state there cannot be held
@@ -105,15 +104,15 @@ module _ (way : Direction) (m : Machine) (input : Input) (w : Walk) (old between
         (go last.3)
       where
         go : Goes way m input w.units (suc last.0) begun mid → IsCallStopped States way m input w.units begun mid search.OutOfMemory
-        go (before, reads, unit) = (
-          last.0,
-          before,
-          last.2,
-          clean_before,
-          subst (IsSilent way m input w.units) same_place arrived.silent,
-          reads,
-          inr (unheld_on, unit),
-        )
+        go (before, reads, unit) = record {
+          units = last.0;
+          reads = last.2;
+          clean = clean_before;
+          silent = subst (IsSilent way m input w.units) same_place arrived.silent;
+          mid = before;
+          goes = reads;
+          left = FailsAfterUnit refl unheld_on unit;
+        }
 
     pub run_unheld : (next : Walk) → IsWalkRun States way m input w next old mid (Some search.OutOfMemory)
-    run_unheld next = record { of = first; run = (reads_some input w r, inr (between, resumed, left_unheld)) }
+    run_unheld next = record { of = first; run = FailsOnItsWay (reads_some input w r) between resumed left_unheld }

@@ -1,7 +1,7 @@
 -- What adding a state, a transition or a start does to a cache.
-use Rattle.std.specs.Prelude.{◌≡◌, ℕ, zero, suc, ◌<◌, ◌⊎◌, false, Option, None, Some}
+use Rattle.std.specs.Prelude.{◌≡◌, ℕ, zero, suc, ◌<◌, false, Option, None, Some}
 use Rattle.automata_base.specs.Powersets.Powerset.{Powerset, cost}
-use Rattle.automata_hybrid.specs.declared.dfa.row.Row.{Row}
+use Rattle.automata_hybrid.specs.declared.cache.row.Row.{Row}
 use Rattle.automata_hybrid.specs.Cache.Table.{Rows, Leads, Lacks, with_row, Names}
 use Rattle.automata_hybrid.specs.Cache.Clears.{with_row_once, row_of}
 use Rattle.automata_hybrid.specs.Cache.Stores.{Stored, IsKnownStart, IsKnownTransition}
@@ -27,29 +27,35 @@ grown c r = with_table c (with_row c.table r)
 abbrev pub cleared_saving : Stored → ℕ → Stored
 cleared_saving c id = with_table (cleared c) (put_found (cleared c).table (row_of c.table id))
 
--- what adding a state that is absent does: the cache grows if the state fits, and else it is cleared first, if the
--- clear rule allows that; this is what the clear leaves
-abbrev pub IsStateAdded : (old emptied : Stored) → Row → Stored → Type 0
-IsStateAdded old emptied r new =
-    (Fits old (cost r.state) × (new ≡ grown old r))
-    ⊎ ((Fits old (cost r.state) → ⊥) × (refuses_to_clear old ≡ false) × (new ≡ grown emptied r))
+-- what adding a state that is absent does to a cache, of which a clear leaves `emptied`
+pub data IsStateAdded (old emptied : Stored) (r : Row) (new : Stored) : Type 0 where
+  -- the state fits, and the cache grows
+  JustGrows : Fits old (cost r.state) → new ≡ grown old r → IsStateAdded old emptied r new
+  -- it does not fit, and the cache is cleared first, which the clear rule allows
+  ClearsFirst :
+      (Fits old (cost r.state) → ⊥) → refuses_to_clear old ≡ false → new ≡ grown emptied r
+      → IsStateAdded old emptied r new
 
--- the whole effect of computing a transition from a state to a target: the ID of the target is written, at the row as
--- it is after the target was added, if no row had it
-abbrev pub IsComputed : Stored → (id class : ℕ) → (q target : Powerset) → Stored → ℕ → Type 0
-IsComputed old id class q target new next =
-    (Leads old.table next target × (new ≡ with_next old id class next))
-    ⊎ (Lacks old.table target × (from : ℕ) × (between : Stored)
-    × IsStateAdded old (cleared_saving old id) (record { state = target; started = false }) between
-    × Names between.table from q × Names between.table next target
-    × (new ≡ with_next between from class next))
+-- the whole effect of computing a transition from a state to a target, whose ID is written in the state's row
+pub data IsComputed (old : Stored) (id class : ℕ) (q target : Powerset) (new : Stored) (next : ℕ) : Type 0 where
+  -- an ID leads to the target
+  WritesKnown :
+      Leads old.table next target → new ≡ with_next old id class next → IsComputed old id class q target new next
+  -- none does: the target is added, and its ID is written at the row of the state as it is then
+  WritesAdded :
+      Lacks old.table target → (from : ℕ) (between : Stored)
+      → IsStateAdded old (cleared_saving old id) (record { state = target; started = false }) between
+      → Names between.table from q → Names between.table next target → new ≡ with_next between from class next
+      → IsComputed old id class q target new next
 
--- the whole effect of computing a start: its ID is written, after its row was added, if no row had the state
-abbrev pub IsStarted : Stored → (slot : ℕ) → Row → Stored → ℕ → Type 0
-IsStarted old slot r new id =
-    (Leads old.table id r.state × (new ≡ with_start old slot id))
-    ⊎ (Lacks old.table r.state × (between : Stored) × IsStateAdded old (cleared old) r between
-    × Names between.table id r.state × (new ≡ with_start between slot id))
+-- the whole effect of computing a start, whose ID is written in its slot
+pub data IsStarted (old : Stored) (slot : ℕ) (r : Row) (new : Stored) (id : ℕ) : Type 0 where
+  -- an ID leads to its state
+  StartsKnown : Leads old.table id r.state → new ≡ with_start old slot id → IsStarted old slot r new id
+  -- none does: its row is added
+  StartsAdded :
+      Lacks old.table r.state → (between : Stored) → IsStateAdded old (cleared old) r between
+      → Names between.table id r.state → new ≡ with_start between slot id → IsStarted old slot r new id
 
 -- a transition that was not cached is computed
 pub record IsStepChange (old new : Stored) : Type 0 where
@@ -103,13 +109,22 @@ pub record IsBackChange (old new : Stored) : Type 0 where
   -- It was added, without the start tag.
   pub added : IsStateAdded old (cleared old) (record { state = state; started = false }) new
 
--- a step, a start state, or a state that is put back; one that fails changes nothing
-abbrev pub IsOneChange : Stored → Stored → Type 0
-IsOneChange old new = (new ≡ old) ⊎ (IsStepChange old new ⊎ (IsStartChange old new ⊎ IsBackChange old new))
+-- what one determinization, or one state that is put back, changes
+pub data IsOneChange (old new : Stored) : Type 0 where
+  -- nothing, since it fails
+  Unchanged : new ≡ old → IsOneChange old new
+  -- a step
+  ByStep : IsStepChange old new → IsOneChange old new
+  -- a start state
+  ByStart : IsStartChange old new → IsOneChange old new
+  -- a state that is put back
+  ByPutBack : IsBackChange old new → IsOneChange old new
 
 -- so many of these, one after another, and nothing else but the progress of searches
-abbrev pub AreChanges : ℕ → Stored → Stored → Type 0
-AreChanges zero old new = new ≡ with_searched old new.searched
-AreChanges (suc n) old new =
-    (before : Stored) × (after : Stored) × AreChanges n old before × IsOneChange before after
-    × (new ≡ with_searched after new.searched)
+pub data AreChanges : ℕ → (old new : Stored) → Type 0 where
+  -- none
+  NoChange : (old new : Stored) → new ≡ with_searched old new.searched → AreChanges zero old new
+  -- one more
+  OneChange :
+      (n : ℕ) (old before after new : Stored) → AreChanges n old before → IsOneChange before after
+      → new ≡ with_searched after new.searched → AreChanges (suc n) old new

@@ -30,12 +30,13 @@ pub record Keeps (old new : Stored) : Type 0 where
 abbrev pub ClearedNothing : Stored → Stored → Type 0
 ClearedNothing old new = (new.clears ≡ old.clears) × (old.clears < 2 ^ 64 - 1)
 
--- a step or a start moves no progress: it is as it was, and so is the count of clears; or, if something was
--- cleared, it is as a clear makes it
-abbrev pub KeepsProgress : Stored → Stored → Type 0
-KeepsProgress old new =
-    ((new.clears ≡ old.clears) × (new.searched ≡ old.searched))
-    ⊎ ((ClearedNothing old new → ⊥) × (new.searched ≡ progress_cleared old.searched))
+-- a step or a start moves no progress
+pub data KeepsProgress (old new : Stored) : Type 0 where
+  -- the count of clears is as it was, and so is the progress
+  IsUncleared : new.clears ≡ old.clears → new.searched ≡ old.searched → KeepsProgress old new
+  -- something was cleared, and the progress is as a clear makes it
+  WasCleared :
+      (ClearedNothing old new → ⊥) → new.searched ≡ progress_cleared old.searched → KeepsProgress old new
 
 -- there is room for so many more states, whatever they cost
 pub record HasRoom (c : Stored) (states : ℕ) : Type 0 where
@@ -48,12 +49,20 @@ pub record HasRoom (c : Stored) (states : ℕ) : Type 0 where
 abbrev pub IsStartTagged : Rows → Powerset → Type 0
 IsStartTagged t q = (id : ℕ) × Names t id q × HasStartTag id
 
--- a state may get the start tag: start states are specialized, and it is one of a slot which is cached
-abbrev pub MayHaveStartTag : Stored → Powerset → Type 0
-MayHaveStartTag c q =
-    (specialize_start_states_of c.table.of.config ≡ true)
-    × ((mode : Anchored) × (behind : Option ℕ) × (slot_behind c.table.of mode behind < c.table.of.slots)
-    × IsKnownStart c (slot_behind c.table.of mode behind) × (q ≡ start_state_of c.table.of.nfa mode behind))
+-- a state may get the start tag: it is a start state that is cached
+pub record MayHaveStartTag (c : Stored) (q : Powerset) : Type 0 where
+  -- start states are specialized
+  pub specialized : specialize_start_states_of c.table.of.config ≡ true
+  -- the anchored mode
+  pub mode : Anchored
+  -- the look-behind byte, if there is one
+  pub behind : Option ℕ
+  -- they have a start slot
+  pub within : slot_behind c.table.of mode behind < c.table.of.slots
+  -- it is cached
+  pub known : IsKnownStart c (slot_behind c.table.of mode behind)
+  -- the state is their start state
+  pub start : q ≡ start_state_of c.table.of.nfa mode behind
 
 -- nothing has changed but the progress of searches
 abbrev pub IsStill : CacheView → CacheView → Type 0

@@ -1,7 +1,7 @@
 -- The bytes searched, and the search in progress.
 use Rattle.std.specs.Prelude.{ℕ, ◌+◌, ◌-◌, ◌^◌, Option, None, Some, min, option_map}
-use Rattle.automata_hybrid.specs.declared.dfa.progress.Progress.{Progress}
-use Rattle.automata_hybrid.specs.declared.dfa.progress.Searched.{Searched}
+use Rattle.automata_hybrid.specs.declared.cache.progress.Progress.{Progress}
+use Rattle.automata_hybrid.specs.declared.cache.progress.Searched.{Searched}
 
 -- how many bytes an open search has come, to either side
 abbrev pub distance : Progress → ℕ

@@ -1,7 +1,7 @@
 -- The states that a cache holds, one by one: what a picture of it is made of.
 use Rattle.std.specs.Prelude.{ℕ, ◌≡◌, ◌+◌, ◌*◌, ◌<◌, List, [], ◌∷◌, take, drop, slice_index}
 use Rattle.automata_base.specs.Powersets.Powerset.{Powerset}
-use Rattle.automata_hybrid.specs.declared.dfa.row.Row.{Row}
+use Rattle.automata_hybrid.specs.declared.cache.row.Row.{Row}
 use Rattle.automata_hybrid.specs.Cache.Stores.{Stored, cell_of}
 use Rattle.automata_hybrid.specs.Cache.Table.{Names, Rows, row_id}
 

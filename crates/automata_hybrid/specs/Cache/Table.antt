@@ -5,7 +5,7 @@ use Rattle.std.specs.Prelude.{take}
 use Rattle.automata_base.specs.Powersets.Powerset.{Powerset, cost}
 use Rattle.automata_base.specs.Powersets.Equal.{powerset_eq}
 use Rattle.automata_base.specs.Powersets.Passes.{IsUnit}
-use Rattle.automata_hybrid.specs.declared.dfa.row.Row.{Row}
+use Rattle.automata_hybrid.specs.declared.cache.row.Row.{Row}
 use Rattle.automata_base.specs.Powersets.Powerset.{dead}
 use Rattle.automata_hybrid.specs.Cache.Ids.{tags, dead_id, quit_id, unknown_id, fixed_from, offset_limit}
 use Rattle.automata_hybrid.specs.Cache.Ids.{HasMatchTag, HasStartTag}
@@ -84,11 +84,14 @@ LeadsByClass t id q class =
     (unit : Option ℕ) → IsUnit unit → unit_class t.of unit ≡ class
     → Leads t id (successor t.of.nfa (match_kind_of t.of.config) q unit)
 
--- what stands in a cell of a state's row: quit at quit classes, and else what names the next state or nothing yet
-abbrev pub IsCell : Rows → Powerset → ℕ → ℕ → Type 0
-IsCell t q class id =
-    ((slice_index t.of.template class ≡ quit_id t.of.stride) × (id ≡ quit_id t.of.stride))
-    ⊎ ((slice_index t.of.template class ≡ unknown_id) × ((id ≡ unknown_id) ⊎ LeadsByClass t id q class))
+-- what stands in a cell of a state's row: the template says which classes are quit classes
+pub data IsCell (t : Rows) (q : Powerset) (class id : ℕ) : Type 0 where
+  -- At a quit class it is the quit ID.
+  CellQuits : slice_index t.of.template class ≡ quit_id t.of.stride → id ≡ quit_id t.of.stride → IsCell t q class id
+  -- At another class it may be unknown yet.
+  CellUnknown : slice_index t.of.template class ≡ unknown_id → id ≡ unknown_id → IsCell t q class id
+  -- Else it leads to the next state.
+  CellLeads : slice_index t.of.template class ≡ unknown_id → LeadsByClass t id q class → IsCell t q class id
 
 -- the three fixed rows
 abbrev pub fixed_rows : ℕ → List ℕ

@@ -1,5 +1,5 @@
 -- What calls ask of a cache, one event after another, and what each of these does to it.
-use Rattle.std.specs.Prelude.{ℕ, ◌≡◌, ◌+◌, ◌<◌, ◌⊎◌, true, false, Option}
+use Rattle.std.specs.Prelude.{ℕ, ◌≡◌, ◌+◌, ◌<◌, true, false, Option}
 use Rattle.automata_base.specs.Powersets.Powerset.{Powerset}
 use Rattle.automata_base.specs.Retraced.Steps.{successor}
 use Rattle.automata_base.specs.declared.util.search.Anchored.{Anchored}
@@ -14,9 +14,11 @@ use Rattle.automata_hybrid.specs.Machines.StartSlots.{slot_behind}
 use Rattle.automata_hybrid.specs.Steps.Starts.{MayStart, start_row}
 use Rattle.automata_hybrid.specs.Steps.Steps.{KnowsStep}
 
--- the start state of an anchored mode is asked for, after a look-behind byte; or the state after another one, over a unit
+-- what is asked of a cache
 pub data Event : Type 0 where
+  -- the start state of an anchored mode, after a look-behind byte or none
   Start : Anchored → Option ℕ → Event
+  -- the state after another one, over a unit
   Step : Powerset → Option ℕ → Event
 
 -- what it asks for is cached: a mode of a pattern past the last asks for nothing
@@ -78,12 +80,13 @@ abbrev pub Makes : Machine → Event → (old new : CacheView) → Type 0
 Makes m (Start mode behind) old new = MakesStart m mode behind old new
 Makes m (Step q unit) old new = MakesStep m q unit old new
 
--- what an event does to a cache of the DFA: if what it asks for is cached, nothing; and if not, it is made, once the search
--- has come to it
-abbrev pub Does : Machine → Event → (old come new : CacheView) → Type 0
-Does m e old come new =
-    MayAsk m e × IsStoreOf new.store m
-    × ((IsCached m old.store e × (new ≡ old)) ⊎ ((IsCached m old.store e → ⊥) × Makes m e come new))
+-- what an event that may be asked for does to a cache of the DFA, which is `come` once the search has come to it
+pub data Does (m : Machine) (e : Event) (old come new : CacheView) : Type 0 where
+  -- what it asks for is cached, and nothing changes
+  FindsCached : MayAsk m e → IsStoreOf new.store m → IsCached m old.store e → new ≡ old → Does m e old come new
+  -- it is not cached, and is made
+  MakesAnew :
+      MayAsk m e → IsStoreOf new.store m → (IsCached m old.store e → ⊥) → Makes m e come new → Does m e old come new
 
 -- an event fails: what it asks for is not cached, and nothing changes but the count of determinizations
 pub record Fails (m : Machine) (e : Event) (old new : CacheView) : Type 0 where
@@ -92,7 +95,9 @@ pub record Fails (m : Machine) (e : Event) (old new : CacheView) : Type 0 where
   -- nothing changes but the count of determinizations
   pub unchanged : new ≡ counted old
 
--- a step over a unit, to which a search came, fails; but at a quit byte it is not tried, and the search has ended
-abbrev pub IsStepLeft : Machine → Powerset → (unit : Option ℕ) → (come ended new : CacheView) → Type 0
-IsStepLeft m q unit come ended new =
-    ((quits_on m unit ≡ true) × (new ≡ ended)) ⊎ ((quits_on m unit ≡ false) × Fails m (Step q unit) come new)
+-- what a step over a unit, to which a search has come, makes of the cache if it fails
+pub data IsStepLeft (m : Machine) (q : Powerset) (unit : Option ℕ) (come ended new : CacheView) : Type 0 where
+  -- at a quit byte it is not tried, and the search has ended
+  EndsAtQuit : quits_on m unit ≡ true → new ≡ ended → IsStepLeft m q unit come ended new
+  -- at another unit it is tried
+  FailsToStep : quits_on m unit ≡ false → Fails m (Step q unit) come new → IsStepLeft m q unit come ended new

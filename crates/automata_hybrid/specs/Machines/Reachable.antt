@@ -9,13 +9,15 @@ use Rattle.automata_hybrid.specs.Machines.OwnStates.{IsOwn}
 use Rattle.automata_hybrid.specs.Machines.StartSlots.{slot_behind}
 
 -- so many units, none a quit byte, lead to a state from the start state of some mode that has a slot
-abbrev pub IsReachableBy : Machine → ℕ → Powerset → Type 0
-IsReachableBy m zero q =
-    (mode : Anchored) × (behind : Option ℕ) × (slot_behind m mode behind < m.slots)
-    × (q ≡ start_state_of m.nfa mode behind)
-IsReachableBy m (suc units) q =
-    (before : Powerset) × (unit : Option ℕ) × IsReachableBy m units before × (quits_on m unit ≡ false)
-    × (q ≡ successor m.nfa (match_kind_of m.config) before unit)
+pub data IsReachableBy (m : Machine) : (units : ℕ) → Powerset → Type 0 where
+  -- it is this start state
+  AtStart :
+      (mode : Anchored) (behind : Option ℕ) → slot_behind m mode behind < m.slots
+      → IsReachableBy m zero (start_state_of m.nfa mode behind)
+  -- the last of them leads to it
+  OverUnit :
+      (units : ℕ) (before : Powerset) (unit : Option ℕ) → IsReachableBy m units before → quits_on m unit ≡ false
+      → IsReachableBy m (suc units) (successor m.nfa (match_kind_of m.config) before unit)
 
 -- a search can come to a state
 abbrev pub IsReachable : Machine → Powerset → Type 0

@@ -10,7 +10,7 @@ use Rattle.automata_config.specs.declared.error.StartError.{StartError}
 use Rattle.automata_config.specs.declared.error.StartError.TheVariants as start
 use Rattle.automata_config.specs.declared.error.SearchError.{SearchError}
 use Rattle.automata_config.specs.declared.error.SearchError.TheVariants as search
-use Rattle.automata_hybrid.specs.declared.dfa.row.Row.{Row}
+use Rattle.automata_hybrid.specs.declared.cache.row.Row.{Row}
 use Rattle.automata_hybrid.specs.Cache.Ids.{dead_id}
 use Rattle.automata_hybrid.specs.Machines.Machine.{Machine}
 use Rattle.automata_hybrid.specs.Cache.Table.{HasItsMatchTag, Leads}

@@ -126,12 +126,13 @@ ReportsNext way m input old new =
     × ((pairs : List Pair) → AreWalked way m input pairs
     → (new.found ≡ half_nth pairs k) × (length pairs ≤ k → new.stage ≡ Ended))
 
--- why its state is not put back, which the cache does not have: there is no room for it and the cache may not be
--- cleared; or that is not so, and memory runs out
-abbrev pub IsPutBackError : Stored → Powerset → (given_up_at : ℕ) → SearchError → Type 0
-IsPutBackError c q at e =
-    ((IsKnownState c.table q → ⊥) × (GivesUp c q → ⊥) × (e ≡ search.OutOfMemory))
-    ⊎ (GivesUp c q × (e ≡ search.Match (GaveUp at)))
+-- why the state of a walk is not put back, which the cache does not have
+pub data IsPutBackError (c : Stored) (q : Powerset) (given_up_at : ℕ) (e : SearchError) : Type 0 where
+  -- there is room for it, or the cache may be cleared, and memory runs out
+  RunsOut :
+      (IsKnownState c.table q → ⊥) → (GivesUp c q → ⊥) → e ≡ search.OutOfMemory → IsPutBackError c q given_up_at e
+  -- there is no room for it, and the cache may not be cleared
+  HasNoRoom : GivesUp c q → e ≡ search.Match (GaveUp given_up_at) → IsPutBackError c q given_up_at e
 
 -- why a walk cannot go on: it has not begun and its start state fails, or it has and its state is not put back
 abbrev pub IsResumeError : Direction → Machine → Stored → Input → Stage → (units : ℕ) → SearchError → Type 0
@@ -158,15 +159,35 @@ abbrev pub IsWalkErrorAt : Keeping → Direction → Machine → Stored → Inpu
 IsWalkErrorAt Ids way m c input j e = IsUnitError way m c input j e
 IsWalkErrorAt States way m c input j e = IsUnitError way m c input j e ⊎ IsUnheld way m input j e
 
--- why a call fails that was to report the pair after the first `k`: the walk cannot go on, or it fails at a unit that
--- it reads, and no quit byte was met before; the units before report these `k` pairs
-abbrev pub IsWalkError : Keeping → Direction → Machine → Stored → Input → Walk → ℕ → SearchError → Type 0
-IsWalkError keeping way m c input w k e =
-    (input.start ≤ input.end)
-    × ((HasReportedBy way m input w.units k × IsResumeError way m c input w.stage w.units e)
-    ⊎ (MayStart m input.anchored (tape_in way input).before
-    × ((j : ℕ) × (w.units ≤ j) × WalkReads way m input j × HasReadNoQuit way m input j × HasReportedBy way m input j k
-    × IsWalkErrorAt keeping way m c input j e)))
+-- why a call that reads units from a place on, to report the pair after the first `k`, fails at one of them
+pub record IsUnitFailure (keeping : Keeping) (way : Direction) (m : Machine) (c : Stored) (input : Input) (from k : ℕ)
+    (e : SearchError) : Type 0 where
+  -- the search may start
+  pub may : MayStart m input.anchored (tape_in way input).before
+  -- the place of the unit
+  pub place : ℕ
+  -- it is read by this call
+  pub later : from ≤ place
+  -- the walk reads it
+  pub reads : WalkReads way m input place
+  -- no unit before it is a quit byte
+  pub clean : HasReadNoQuit way m input place
+  -- the units before it report these `k` pairs
+  pub before : HasReportedBy way m input place k
+  -- the step on it fails, or the state after it cannot be held
+  pub why : IsWalkErrorAt keeping way m c input place e
+
+-- why a call fails that was to report the pair after the first `k`
+pub data IsWalkError (keeping : Keeping) (way : Direction) (m : Machine) (c : Stored) (input : Input) (w : Walk)
+    (k : ℕ) (e : SearchError) : Type 0 where
+  -- the span is not done, its units report these `k` pairs, and the walk cannot go on from where it is
+  AtItsState :
+      input.start ≤ input.end → HasReportedBy way m input w.units k → IsResumeError way m c input w.stage w.units e
+      → IsWalkError keeping way m c input w k e
+  -- the span is not done, and it fails at a unit
+  AtItsUnit :
+      input.start ≤ input.end → IsUnitFailure keeping way m c input w.units k e
+      → IsWalkError keeping way m c input w k e
 
 -- the units from one place of a pass to another report nothing to a walk
 abbrev pub IsSilent : Direction → Machine → Input → (from to : ℕ) → Type 0

@@ -1,5 +1,5 @@
 -- Walk calls whose start or held state, and whose transitions, are all cached.
-use Rattle.std.specs.Prelude.{ℕ, ◌≡◌, ◌<◌, ◌≤◌, ◌-◌, ◌⊎◌, List, [], length, Bool, false}
+use Rattle.std.specs.Prelude.{ℕ, ◌≡◌, ◌<◌, ◌≤◌, ◌-◌, List, [], length, Bool, false}
 use Rattle.automata_base.specs.Answers.Answers.{AreUnsplit, HasPattern}
 use Rattle.automata_base.specs.Haystacks.Input.{Input}
 use Rattle.automata_base.specs.Lists.{In}
@@ -48,12 +48,14 @@ KnowsWalk way m c input w =
     → MayStart m input.anchored (tape_in way input).before
     → KnowsItsState way m c input w.stage × KnowsUnits way m c input w.units k
 
--- a set is still open once its walk has reported these pairs: there are none, or the input is not earliest and some
--- pattern below the set's capacity is neither in it nor among them
-abbrev pub IsOpen : Input → List Bool → List Pair → Type 0
-IsOpen input set pairs =
-    (pairs ≡ [])
-    ⊎ ((input.earliest ≡ false) × ((p : ℕ) × (p < length set) × (In p (members set) → ⊥) × (HasPattern p pairs → ⊥)))
+-- why a set is still open once its walk has reported these pairs
+pub data IsOpen (input : Input) (set : List Bool) (pairs : List Pair) : Type 0 where
+  -- there are none
+  NoPair : pairs ≡ [] → IsOpen input set pairs
+  -- the input is not earliest, and some pattern below the set's capacity is neither in it nor among them
+  LacksOne :
+      input.earliest ≡ false → (p : ℕ) → p < length set → (In p (members set) → ⊥) → (HasPattern p pairs → ⊥)
+      → IsOpen input set pairs
 
 -- all that the search for a set of patterns uses is cached: the start state of its walk, and the transition on each
 -- unit that is read before it stops

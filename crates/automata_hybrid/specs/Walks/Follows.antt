@@ -23,13 +23,21 @@ abbrev pub IsKnownError : Keeping → Direction → Machine → Input → Walk �
 IsKnownError Ids way m input walk e = IsOfInput e
 IsKnownError States way m input walk e = IsOfInput e ⊎ ((j : ℕ) × (walk.units ≤ j) × IsUnheld way m input j e)
 
--- why the search for a set fails: a call failed that was to report the pair after the first `k`; the set has the
--- patterns of these, and was still open with them
-abbrev pub IsSetError : Machine → Stored → Input → (set joined : List Bool) → SearchError → Type 0
-IsSetError m c input set joined e =
-    (walk : Walk) × (k : ℕ) × HasReported Forward m input walk k
-    × IsWalkError Ids Forward m c input walk k e
-    × IsJoinedAfter m input set joined k × IsOpenAfter m input set k
+-- why the search for a set fails: a call of its walk does
+pub record IsSetError (m : Machine) (c : Stored) (input : Input) (set joined : List Bool) (e : SearchError) :
+    Type 0 where
+  -- the walk before this call
+  pub walk : Walk
+  -- how many pairs it has reported
+  pub reported : ℕ
+  -- it has reported so many
+  pub has : HasReported Forward m input walk reported
+  -- the call that was to report the next one fails for this
+  pub error : IsWalkError Ids Forward m c input walk reported e
+  -- the set has the patterns of the pairs that were reported
+  pub joins : IsJoinedAfter m input set joined reported
+  -- it was still open with them
+  pub still_open : IsOpenAfter m input set reported
 
 -- what follows of a call of a walk that returns this error, or none
 pub record CallFollows (keeping : Keeping) (way : Direction) (m : Machine) (input : Input) (walk next : Walk)

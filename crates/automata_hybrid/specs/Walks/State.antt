@@ -3,10 +3,13 @@ use Rattle.std.specs.Prelude.{ℕ, Option, None}
 use Rattle.automata_base.specs.Haystacks.Matches.{HalfMatch}
 use Rattle.automata_base.specs.Powersets.Powerset.{Powerset}
 
--- a walk has not begun, stands at a powerset state, or has ended
+-- where a walk stands
 pub data Stage : Type 0 where
+  -- it has not begun
   Fresh : Stage
+  -- it stands at this powerset state
   At : Powerset → Stage
+  -- it has ended
   Ended : Stage
 
 -- how many units it has read, how many patterns of its state it has reported, and its match
@@ -28,8 +31,9 @@ fresh_walk = record { stage = Fresh; units = 0; reported = 0; found = None }
 abbrev pub without_match : Walk → Walk
 without_match w = record { stage = w.stage; units = w.units; reported = w.reported; found = None }
 
--- what a walk keeps of the state where it stands: the state itself, over whatever caches; or, in the walk of a set,
--- which is over with its call, the ID of the state's row alone
+-- what a walk keeps of the state where it stands
 pub data Keeping : Type 0 where
+  -- the state itself, over whatever caches
   States : Keeping
+  -- the ID of the state's row alone: in the walk of a set, which is over with its call
   Ids : Keeping

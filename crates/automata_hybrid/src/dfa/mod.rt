@@ -1,9 +1,6 @@
 //! The lazy DFA itself: its NFA, settings, byte classes and quit bytes. It has no states of its own: they are in a
-//! `Cache` (`cache`), which holds a `Store` (`store`), and that the `Table` of their rows (`table`, `row`), the start
-//! slots and the progress of searches (`progress`). `start` and `step` find an ID in the cache, or determinize its
-//! state and add a row; where the row does not fit, `clears` says what a clear keeps. Searches have from a cache what it
-//! keeps of a row's self-loop (`self_loops`), leaps (`leaps`), and a state that a walk holds (`handle`). `states` are what
-//! a cache holds, to look at. `builder` makes DFAs, with the limits of their caches (`settings`).
+//! `Cache`. `start` and `step` find an ID in the cache, or determinize its state and add a row. `builder` makes DFAs, with
+//! the limits of their caches.
 ghost use Rattle.std.specs.Prelude.{ℕ, ◌≡◌, ◌<◌, ◌≤◌, ◌^◌, IfOk, OnOk, OnErr, Some, None, true, false, slice_index};
 ghost use Rattle.std.specs.Prelude.{length};
 ghost use Rattle.automata_base.specs.ByteClasses.Classes.{AreClasses, class_in, eoi_class, is_quit};
@@ -21,25 +18,14 @@ ghost use Rattle.automata_config.specs.Options.{starts_for_each_pattern_of};
 ghost use Rattle.automata_hybrid.specs.Machines.Machine.{quits_on, unit_class};
 
 pub mod builder;
-pub mod cache;
-pub(crate) mod clears;
-pub(crate) mod handle;
-pub(crate) mod leaps;
-pub(crate) mod progress;
-pub(crate) mod row;
-pub(crate) mod self_loops;
-pub(crate) mod settings;
 pub(crate) mod start;
-pub mod states;
 pub(crate) mod step;
-pub(crate) mod store;
-pub(crate) mod table;
 
+use crate::cache::Cache;
+use crate::cache::settings::Settings;
+use crate::cache::store::Store;
+use crate::cache::table::new_row;
 use crate::dfa::builder::Builder;
-use crate::dfa::cache::Cache;
-use crate::dfa::settings::Settings;
-use crate::dfa::store::Store;
-use crate::dfa::table::new_row;
 use automata_base::nfa::thompson::NFA;
 use automata_base::util::alphabet::ByteClasses;
 use automata_base::util::byte_set::ByteSet;

@@ -18,8 +18,8 @@ ghost use Rattle.automata_hybrid.specs.Steps.BySteps.{StartsAt};
 ghost use Rattle.automata_hybrid.specs.Cache.Caches.{IsCacheOf};
 ghost use Rattle.automata_hybrid.specs.Cache.Ids.{unknown_id};
 
+use crate::cache::{Cache, Found};
 use crate::dfa::DFA;
-use crate::dfa::cache::{Cache, Found};
 use crate::id::LazyStateID;
 use automata_base::util::search::{Anchored, Input, MatchError};
 use automata_base::util::start;

@@ -15,8 +15,8 @@ ghost use Rattle.automata_hybrid.specs.Steps.Steps.{IsStepAnswer, KnowsStep};
 ghost use Rattle.automata_hybrid.specs.Machines.Machine.{quits_on};
 ghost use Rattle.automata_config.specs.Options.{match_kind_of};
 
+use crate::cache::{Cache, Found};
 use crate::dfa::DFA;
-use crate::dfa::cache::{Cache, Found};
 use crate::id::LazyStateID;
 use automata_base::util::primitives::PatternID;
 use automata_config::error::StepError;

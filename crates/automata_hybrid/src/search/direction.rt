@@ -11,8 +11,8 @@ ghost use Rattle.automata_hybrid.specs.Calls.Steps.{StartFailsAt};
 ghost use Rattle.automata_hybrid.specs.Steps.Starts.{IsStartAnswer};
 ghost use Rattle.automata_hybrid.specs.Private.Searches.SelfLoops.{byte_in};
 
+use crate::cache::Cache;
 use crate::dfa::DFA;
-use crate::dfa::cache::Cache;
 use crate::id::LazyStateID;
 use automata_base::util::search::{Direction, Input};
 use automata_base::util::start;

@@ -1,10 +1,6 @@
-//! Searches. Here is what one unit does to the state of a search. `follow` runs over cached transitions, and
-//! `self_loop` over a row that leads back to itself, by the ranges of bytes that `loop_range` finds and `lanes`
-//! compares; far in a run `leap` takes a few bytes at once. `known` is a pass over a span that only reads the cache,
-//! `pass` one that determinizes, and `half` one pass after another: the public searches for one end of a match.
-//! `pieces` is a search whose haystack comes in pieces, and `pieces_walk` one that stops at each match. A `walk` is an
-//! overlapping search between its calls; `advance` takes it to the next match, `overlapping` is one call, and `which`
-//! collects the patterns of all. `direction` has all in which the two directions differ.
+//! Searches. Here is what one unit does to the state of a search, and `direction` has all in which the two directions
+//! differ. `plain` has the searches for one end of a match, `walk` overlapping searches, and `pieces` those whose haystack
+//! comes in pieces. `fast` follows cached transitions for all of them.
 ghost use Rattle.std.specs.Prelude.{◌≡◌, slice_index, ◌<◌, IfOk, IfErr, OnOk};
 ghost use Rattle.std.specs.Prelude.{Some, None, true, false};
 ghost use Rattle.automata_base.specs.Powersets.Powerset.{Powerset};
@@ -22,24 +18,14 @@ ghost use Rattle.automata_hybrid.specs.Steps.Steps.{IsStepAnswer, known_step};
 ghost use Rattle.automata_hybrid.specs.Private.Steps.Steps.{IsCellRead};
 ghost use Rattle.automata_hybrid.specs.Cache.Table.{IsRowId, Leads, Names};
 
-mod advance;
 mod direction;
-mod follow;
-mod half;
-mod known;
-mod lanes;
-mod leap;
-mod loop_range;
-mod overlapping;
-mod pass;
+mod fast;
 pub mod pieces;
-pub mod pieces_walk;
-mod self_loop;
+mod plain;
 pub mod walk;
-mod which;
 
+use crate::cache::Cache;
 use crate::dfa::DFA;
-use crate::dfa::cache::Cache;
 use crate::id::LazyStateID;
 use automata_base::util::primitives::PatternID;
 use automata_base::util::search::{HalfMatch, Input, MatchError};

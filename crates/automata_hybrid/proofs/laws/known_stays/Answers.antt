@@ -1,4 +1,4 @@
-use Rattle.automata_hybrid.proofs.Cache.Transitions.{known_stays}
+use Rattle.automata_hybrid.proofs.Caches.Transitions.{known_stays}
 use Rattle.automata_hybrid.proofs.laws.known_stays.Goals as goal
 
 pub returns : goal.returns

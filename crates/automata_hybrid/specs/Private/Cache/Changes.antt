@@ -1,7 +1,7 @@
 -- What private functions and proofs need beside `Cache/Changes`; no contract of a public call reaches it.
 use Rattle.std.specs.Prelude.{◌≡◌, ℕ, ◌⊎◌, false, length}
 use Rattle.automata_base.specs.Powersets.Powerset.{Powerset}
-use Rattle.automata_hybrid.specs.declared.dfa.row.Row.{Row}
+use Rattle.automata_hybrid.specs.declared.cache.row.Row.{Row}
 use Rattle.automata_hybrid.specs.Cache.Table.{IsKnownState, Names}
 use Rattle.automata_hybrid.specs.Cache.Stores.{Stored, KeepsStarts}
 use Rattle.automata_hybrid.specs.Cache.Changes.{IsStateAdded, cleared_saving}

@@ -2,7 +2,7 @@
 use Rattle.std.specs.Prelude.{◌≡◌, ℕ, ◌+◌, ◌<◌, ◌≤◌, List, length}
 use Rattle.std.specs.Prelude.{None, Some, slice_index}
 use Rattle.automata_base.specs.Powersets.Powerset.{Powerset}
-use Rattle.automata_hybrid.specs.declared.dfa.row.Row.{Row}
+use Rattle.automata_hybrid.specs.declared.cache.row.Row.{Row}
 use Rattle.automata_hybrid.specs.Cache.Table.{Names, Rows, id_of}
 use Rattle.automata_hybrid.specs.Cache.Stores.{KeepsStarts}
 use Rattle.automata_hybrid.specs.Cache.Ids.{unknown_id}

@@ -8,8 +8,8 @@ use Rattle.automata_hybrid.specs.Cache.Ids.{offset_limit}
 use Rattle.automata_hybrid.specs.Cache.Stores.{Stored}
 use Rattle.automata_hybrid.specs.Cache.Table.{Rows}
 use Rattle.automata_hybrid.specs.Cache.Usage.{usage}
-use Rattle.automata_hybrid.specs.declared.dfa.leaps.Leaps.{Leaps}
-use Rattle.automata_hybrid.specs.declared.dfa.leaps.Shape.{Shape}
+use Rattle.automata_hybrid.specs.declared.cache.leaps.Leaps.{Leaps}
+use Rattle.automata_hybrid.specs.declared.cache.leaps.Shape.{Shape}
 
 -- what stands in a cell of leaps whose bytes are to be followed one by one
 abbrev pub mark : ℕ

@@ -2,8 +2,8 @@
 use Rattle.std.specs.Prelude.{◌≡◌}
 use Rattle.automata_base.specs.Powersets.Powerset.{Powerset}
 use Rattle.automata_hybrid.specs.Cache.Table.{Rows, Leads, Lacks}
-use Rattle.automata_hybrid.specs.declared.dfa.cache.Found.{Found}
-use Rattle.automata_hybrid.specs.declared.dfa.cache.Found.TheVariants.{Known, New}
+use Rattle.automata_hybrid.specs.declared.cache.Found.{Found}
+use Rattle.automata_hybrid.specs.declared.cache.Found.TheVariants.{Known, New}
 
 -- what a look-up of a state returns: an ID that leads to it, or the state itself, which no row has
 abbrev pub IsLookedUp : Rows → Powerset → Found → Type 0

@@ -1,6 +1,6 @@
 -- What private functions and proofs need beside `Cache/States`; no contract of a public call reaches it.
 use Rattle.std.specs.Prelude.{ℕ, ◌≡◌, ◌+◌, ◌*◌, ◌<◌, ◌≤◌, List, length}
-use Rattle.automata_hybrid.specs.declared.dfa.row.Row.{Row}
+use Rattle.automata_hybrid.specs.declared.cache.row.Row.{Row}
 use Rattle.automata_hybrid.specs.Cache.Ids.{offset_limit}
 
 -- rows that are left, with their cells: there are as many cells as they have, and their offsets are below the limit

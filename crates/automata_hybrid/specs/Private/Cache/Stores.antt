@@ -1,5 +1,5 @@
 -- What private functions and proofs need beside `Cache/Stores`; no contract of a public call reaches it.
-use Rattle.automata_hybrid.specs.declared.dfa.settings.Settings.{Settings}
+use Rattle.automata_hybrid.specs.declared.cache.settings.Settings.{Settings}
 use Rattle.automata_hybrid.specs.Machines.Machine.{Machine}
 use Rattle.automata_config.specs.Options.{minimum_cache_clear_count_of, minimum_bytes_per_state_of}
 

@@ -1,7 +1,7 @@
 -- What private functions and proofs need beside `Cache/Usage`; no contract of a public call reaches it.
 use Rattle.std.specs.Prelude.{◌≡◌, ℕ, ◌+◌, ◌*◌, ◌^◌, ◌<◌, ◌≤◌, length, false}
 use Rattle.automata_base.specs.Powersets.Accounting.{minimum_capacity}
-use Rattle.automata_hybrid.specs.declared.dfa.settings.Settings.{Settings}
+use Rattle.automata_hybrid.specs.declared.cache.settings.Settings.{Settings}
 use Rattle.automata_hybrid.specs.Cache.Ids.{offset_limit}
 use Rattle.automata_hybrid.specs.Cache.Clears.{AllStarts}
 use Rattle.automata_hybrid.specs.Private.Cache.Clears.{KeepsAllStarts}

@@ -2,7 +2,7 @@
 use Rattle.std.specs.Prelude.{Option, Some, None}
 use Rattle.automata_base.specs.Powersets.Powerset.{Powerset}
 use Rattle.automata_hybrid.specs.Private.Walks.State.{IsHandle}
-use Rattle.automata_hybrid.specs.declared.dfa.handle.Handle.{Handle}
+use Rattle.automata_hybrid.specs.declared.cache.handle.Handle.{Handle}
 use Rattle.automata_hybrid.specs.declared.search.pieces.Pieces.TheInside.{Inside}
 use Rattle.automata_hybrid.specs.Pieces.State.{PiecesView}
 

@@ -4,7 +4,7 @@ use Rattle.automata_base.specs.Haystacks.Matches.{HalfMatch}
 use Rattle.automata_base.specs.Powersets.Powerset.{Powerset}
 use Rattle.automata_hybrid.specs.Cache.Table.{Names, Rows}
 use Rattle.automata_hybrid.specs.Pieces.State.{PiecesView}
-use Rattle.automata_hybrid.specs.declared.dfa.handle.Handle.{Handle}
+use Rattle.automata_hybrid.specs.declared.cache.handle.Handle.{Handle}
 
 -- a walk is a search in pieces that stops at each match, and goes on from there
 pub record IsPiecesWalk (w : PiecesView) : Type 0 where

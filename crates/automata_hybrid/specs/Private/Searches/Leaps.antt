@@ -5,7 +5,7 @@ use Rattle.automata_base.specs.declared.util.search.Direction.{Direction}
 use Rattle.automata_hybrid.specs.Private.Cache.Leaps.{LeadsToRow}
 use Rattle.automata_hybrid.specs.Cache.Table.{Rows}
 use Rattle.automata_hybrid.specs.Private.Searches.SelfLoops.{byte_in}
-use Rattle.automata_hybrid.specs.declared.dfa.leaps.Shape.{Shape}
+use Rattle.automata_hybrid.specs.declared.cache.leaps.Shape.{Shape}
 
 -- so many bytes from a place on lead from a row to another one, by the cells of their classes
 abbrev pub LeadsOver : Rows → Direction → List ℕ → (from count row to : ℕ) → Type 0

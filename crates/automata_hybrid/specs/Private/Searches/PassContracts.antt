@@ -11,8 +11,8 @@ use Rattle.automata_hybrid.specs.Searches.PassState.{IsAtAlong}
 use Rattle.automata_hybrid.specs.Private.Searches.PassState.{HasLearnedUnit, HasRun, IsFollowedAlong}
 use Rattle.automata_hybrid.specs.Private.Searches.PassState.{IsMetAlong}
 use Rattle.automata_hybrid.specs.Searches.Traces.{Trace, pass_trace}
-use Rattle.automata_hybrid.specs.declared.search.follow.Stop.{Stop}
-use Rattle.automata_hybrid.specs.declared.search.pass.Place.{Place}
+use Rattle.automata_hybrid.specs.declared.search.fast.follow.Stop.{Stop}
+use Rattle.automata_hybrid.specs.declared.search.plain.pass.Place.{Place}
 use Rattle.automata_hybrid.specs.Cache.Stores.{Stored}
 use Rattle.automata_hybrid.specs.Searches.Passes.{Reads}
 use Rattle.automata_hybrid.specs.Searches.PassContracts.{IsPassAnswer, IsUnderway}

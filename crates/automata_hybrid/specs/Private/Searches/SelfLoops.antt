@@ -12,8 +12,8 @@ use Rattle.automata_hybrid.specs.Machines.Machine.{Machine}
 use Rattle.automata_hybrid.specs.Searches.Passes.{tape_in}
 use Rattle.automata_hybrid.specs.Cache.Stores.{IsKnownTransition, Stored}
 use Rattle.automata_hybrid.specs.Cache.Table.{Leads, Names}
-use Rattle.automata_hybrid.specs.declared.dfa.self_loops.LoopRange.{LoopRange}
-use Rattle.automata_hybrid.specs.declared.dfa.self_loops.KnownLoop.{KnownLoop}
+use Rattle.automata_hybrid.specs.declared.cache.self_loops.LoopRange.{LoopRange}
+use Rattle.automata_hybrid.specs.declared.cache.self_loops.KnownLoop.{KnownLoop}
 
 -- how far a byte is above another, where 0 follows 255
 abbrev pub above : ℕ → ℕ → ℕ

@@ -3,7 +3,7 @@ use Rattle.std.specs.Prelude.{Result}
 use Rattle.automata_base.specs.Powersets.Powerset.{dead}
 use Rattle.automata_base.specs.declared.util.search.Direction.{Direction}
 use Rattle.automata_config.specs.declared.error.SearchError.{SearchError}
-use Rattle.automata_hybrid.specs.declared.search.advance.Arrival.{Arrival}
+use Rattle.automata_hybrid.specs.declared.search.walk.advance.Arrival.{Arrival}
 use Rattle.automata_hybrid.specs.Cache.Caches.{CacheView}
 use Rattle.automata_hybrid.specs.Private.Searches.PassState.{IsFollowed}
 use Rattle.automata_hybrid.specs.Private.Walks.Parts.{IsAdvanceEffect}

@@ -10,6 +10,7 @@ use Rattle.automata_hybrid.specs.Private.Walks.State.{IsHeldItself, keeping_of}
 use Rattle.automata_hybrid.specs.Walks.Progress.{IsWalkRun}
 use Rattle.automata_hybrid.specs.declared.search.walk.Held.{Held}
 use Rattle.automata_hybrid.proofs.Walks.Parts.{held_itself, itself_held, left_by, supported_call, unsupported_call}
+use Rattle.automata_hybrid.proofs.Walks.Progress.{left_reads}
 use Rattle.automata_hybrid.proofs.Walks.Reach.{call_memory}
 use Rattle.automata_hybrid.proofs.Walks.Calls.{still_walk}
 use Rattle.automata_hybrid.proofs.Walks.Bounds.{reported_lies}
@@ -97,5 +98,6 @@ returns-in-Err-clause-call c =
       free = λ f.
           call_memory d m c.go_on.new.cache input haystack.within.1 c.in-Err.ensures.of f.reach f.supported f.clears States c.args.walk.now
           c.args.cache.now c.in-Err.error left;
-      ready = left.0;
+      ready =
+          left_reads States d m input c.args.walk.now c.args.cache.now c.go_on.new.cache c.in-Err.error left;
     }

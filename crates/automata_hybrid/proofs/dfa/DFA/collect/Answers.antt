@@ -12,7 +12,7 @@ use Rattle.automata_config.specs.declared.error.SearchError.{SearchError}
 use Rattle.automata_hybrid.specs.Cache.Caches.{CacheView}
 use Rattle.automata_hybrid.specs.Machines.Machine.{Machine}
 use Rattle.automata_hybrid.specs.Private.Walks.Contracts.{IsSetReported}
-use Rattle.automata_hybrid.specs.Walks.Progress.{HaveCalled, IsSetRun}
+use Rattle.automata_hybrid.specs.Walks.Progress.{HasNoneLeft, HaveCalled, IsSetRun, OneMore}
 use Rattle.automata_hybrid.specs.Walks.Answers.{AreWalked}
 use Rattle.automata_hybrid.specs.Walks.State.{Ended, Ids, Walk}
 use Rattle.automata_hybrid.specs.Private.Walks.State.{keeping_of}
@@ -20,6 +20,7 @@ use Rattle.automata_hybrid.proofs.Searches.Contracts.{is_store}
 use Rattle.automata_hybrid.proofs.Walks.CachedSets.{half_none}
 use Rattle.automata_hybrid.proofs.Searches.Reads.{at_err}
 use Rattle.automata_hybrid.proofs.Walks.Parts.{held_there, left_by, supported_call, unsupported_call}
+use Rattle.automata_hybrid.proofs.Walks.Progress.{left_reads}
 use Rattle.automata_hybrid.proofs.Searches.PassState.{false_true}
 use Rattle.automata_hybrid.proofs.Walks.Sets.{IsLacking, Joins, calls_more, closes, joins_all}
 use Rattle.automata_hybrid.proofs.Walks.Sets.{joins_begin, joins_first, joins_full, joined_more, joins_more, lacking}
@@ -40,7 +41,7 @@ returns-in_err-go_on-clause-reported c =
       paths = λ free. tt;
       capacity = v.joins.0.capacity;
       unsupported = λ u. (ap Err (unsupported_call Ids Forward m input walk c.walk.cache c.go_on.new.cache c.in_err-go_on.field-0.0 (v.begins u).0 u left), (v.begins u).1);
-      done = λ past. absurd (left.0 (inr (inr (omega (arith, past)))));
+      done = λ past. absurd (left_reads Ids Forward m input walk c.walk.cache c.go_on.new.cache c.in_err-go_on.field-0.0 left (HasNoneLeft (omega (arith, past))));
     })
 
 pub returns-in_err-go_on-clause-effect : goal.returns-in_err-go_on-clause-effect
@@ -56,7 +57,16 @@ returns-in_err-go_on-clause-effect c =
     at_err c.from_residual.result _ (λ (r : Result (Unit {0}) SearchError). IsSetRun m input c.args.patset.now c.walk.patset c.args.cache.now new (result_err r)) c.from_residual.ensures.1
     (record {
       of = (is_store c.args.cache.now.store c.args.self.now c.requires c.see_bounds.ensures.bounds);
-      run = (j.k, walk, mid, v.joins.1, open_after m input walk c.args.patset.now c.walk.patset j, j.joined, v.there, left);
+      run = record {
+        calls = j.k;
+        walk = walk;
+        mid = mid;
+        called = v.joins.1;
+        still_open = open_after m input walk c.args.patset.now c.walk.patset j;
+        joins = j.joined;
+        there = v.there;
+        left = left;
+      };
     })
 
 pub returns-in_default-clause-reported : goal.returns-in_default-clause-reported
@@ -97,12 +107,14 @@ returns-in_default-clause-effect c =
     let last : next.stage ≡ Ended = after.1 (half_none list.0 j.k (sym after.0 ∙ (sym c.get_match.ensures ∙ c.in_default.«is»))) in
     record {
       of = (is_store c.args.cache.now.store c.args.self.now c.requires c.see_bounds.ensures.bounds);
-      run = (
-        suc j.k,
-        next,
-        (walk, mid, v.joins.1, open_after m input walk c.args.patset.now c.walk.patset j, v.there, a.reports, c.in_ok-go_on.ensures.effect.run),
-        inl last,
-      );
+      run = record {
+        calls = suc j.k;
+        walk = next;
+        called =
+            OneMore j.k walk next mid new v.joins.1 (open_after m input walk c.args.patset.now c.walk.patset j) v.there a.reports
+            c.in_ok-go_on.ensures.effect.run;
+        last = inl last;
+      };
     }
 
 pub returns-then-is_full-clause-reported : goal.returns-then-is_full-clause-reported
@@ -148,16 +160,18 @@ returns-then-is_full-clause-effect c =
     let found : next.found ≡ Some c.in-Some.half = sym c.get_match.ensures ∙ c.in-Some.«is» in
     record {
       of = (is_store c.args.cache.now.store c.args.self.now c.requires c.see_bounds.ensures.bounds);
-      run = (
-        suc j.k,
-        next,
-        (walk, mid, v.joins.1, open_after m input walk c.args.patset.now c.walk.patset j, v.there, a.reports, c.in_ok-go_on.ensures.effect.run),
-        inr (λ pairs walked.
+      run = record {
+        calls = suc j.k;
+        walk = next;
+        called =
+            OneMore j.k walk next mid new v.joins.1 (open_after m input walk c.args.patset.now c.walk.patset j) v.there a.reports
+            c.in_ok-go_on.ensures.effect.run;
+        last = inr (λ pairs walked.
             closes input c.args.patset.now (set c.walk.patset c.in-Some.half.pattern true) pairs j.k c.in-Some.half
             (sym ((a.reports j.k j.reported).1 pairs walked).0 ∙ found) (length-set c.walk.patset c.in-Some.half.pattern true ∙ j.capacity)
             (joined_more m input c.args.patset.now walk next c.walk.patset j a.reports (pairs, walked) c.in-Some.half found)
-            (inr (subst (λ (s : List Bool). length (members s) ≡ length s) (c.try_insert.ensures.inserted ∙ ap (λ n. set c.walk.patset n true) c.pattern.ensures) (c.is_full.ensures.0 c.if-is_full.true)))),
-      );
+            (inr (subst (λ (s : List Bool). length (members s) ≡ length s) (c.try_insert.ensures.inserted ∙ ap (λ n. set c.walk.patset n true) c.pattern.ensures) (c.is_full.ensures.0 c.if-is_full.true))));
+      };
     }
 
 pub returns-then-get_earliest-clause-reported : goal.returns-then-get_earliest-clause-reported
@@ -202,16 +216,18 @@ returns-then-get_earliest-clause-effect c =
     let found : next.found ≡ Some c.in-Some.half = sym c.get_match.ensures ∙ c.in-Some.«is» in
     record {
       of = (is_store c.args.cache.now.store c.args.self.now c.requires c.see_bounds.ensures.bounds);
-      run = (
-        suc j.k,
-        next,
-        (walk, mid, v.joins.1, open_after m input walk c.args.patset.now c.walk.patset j, v.there, a.reports, c.in_ok-go_on.ensures.effect.run),
-        inr (λ pairs walked.
+      run = record {
+        calls = suc j.k;
+        walk = next;
+        called =
+            OneMore j.k walk next mid new v.joins.1 (open_after m input walk c.args.patset.now c.walk.patset j) v.there a.reports
+            c.in_ok-go_on.ensures.effect.run;
+        last = inr (λ pairs walked.
             closes input c.args.patset.now (set c.walk.patset c.in-Some.half.pattern true) pairs j.k c.in-Some.half
             (sym ((a.reports j.k j.reported).1 pairs walked).0 ∙ found) (length-set c.walk.patset c.in-Some.half.pattern true ∙ j.capacity)
             (joined_more m input c.args.patset.now walk next c.walk.patset j a.reports (pairs, walked) c.in-Some.half found)
-            (inl (sym c.get_earliest.ensures ∙ c.if-get_earliest.true))),
-      );
+            (inl (sym c.get_earliest.ensures ∙ c.if-get_earliest.true)));
+      };
     }
 
 pub walk-smaller : goal.walk-smaller
@@ -259,9 +275,11 @@ walk-preserved c =
           absurd (omega (arith, past, undone)));
       begins = λ u. absurd (supported_call Forward c.args.self.now c.args.input.now c.walk.walk c.go_on.new.walk (j.k, j.reported) c.in_ok-go_on.ensures.answer.reports u);
       joins =
-          subst (λ (s : List Bool). (i : Joins c.args.self.now c.args.input.now c.go_on.new.walk c.args.patset.now s) × HaveCalled c.args.self.now c.args.input.now c.args.patset.now i.k c.args.cache.now c.go_on.new.walk c.go_on.new.cache) (sym put) (
+          subst (λ (s : List Bool). (i : Joins c.args.self.now c.args.input.now c.go_on.new.walk c.args.patset.now s) × HaveCalled c.args.self.now c.args.input.now c.args.patset.now c.args.cache.now i.k c.go_on.new.walk c.go_on.new.cache) (sym put) (
             joins_more c.args.self.now c.args.input.now c.args.patset.now c.walk.walk c.go_on.new.walk c.walk.patset c.walk.invariant.joins.0 c.in_ok-go_on.ensures.answer.reports list c.in-Some.half found (sym c.get_earliest.ensures ∙ c.if-get_earliest.false) lacks,
             calls_more c.args.self.now c.args.input.now c.args.patset.now c.walk.walk c.go_on.new.walk c.walk.patset c.walk.invariant.joins.0 c.in_ok-go_on.ensures.answer.reports list c.in-Some.half found (sym c.get_earliest.ensures ∙ c.if-get_earliest.false) lacks c.args.cache.now c.go_on.new.cache
-                (c.walk.walk, c.walk.cache, c.walk.invariant.joins.1, open_after c.args.self.now c.args.input.now c.walk.walk c.args.patset.now c.walk.patset j, c.walk.invariant.there, c.in_ok-go_on.ensures.answer.reports, c.in_ok-go_on.ensures.effect.run),
+                (OneMore j.k c.walk.walk c.go_on.new.walk c.walk.cache c.go_on.new.cache c.walk.invariant.joins.1
+                (open_after c.args.self.now c.args.input.now c.walk.walk c.args.patset.now c.walk.patset j)
+                c.walk.invariant.there c.in_ok-go_on.ensures.answer.reports c.in_ok-go_on.ensures.effect.run),
           );
     }

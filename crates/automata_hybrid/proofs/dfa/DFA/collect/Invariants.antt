@@ -18,7 +18,7 @@ invariant-walk l = record {
   on : l.walk.stage ≡ Ended → ⊥;
   holds : IsHeldAt l.cache.store.table l.walk.stage l.held;
   keeping : keeping_of l.held ≡ Ids;
-  joins : (j : Joins l.self l.input l.walk l.fn.patset l.patset) × HaveCalled l.self l.input l.fn.patset j.k l.fn.cache l.walk l.cache;
+  joins : (j : Joins l.self l.input l.walk l.fn.patset l.patset) × HaveCalled l.self l.input l.fn.patset l.fn.cache j.k l.walk l.cache;
 }
 
 abbrev pub decreases-walk : goal.decreases-walk

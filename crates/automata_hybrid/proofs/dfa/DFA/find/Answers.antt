@@ -9,7 +9,7 @@ use Rattle.automata_hybrid.specs.Private.Steps.Steps.{IsCellRead}
 use Rattle.automata_hybrid.specs.Searches.Passes.{Reads, given_up_offset, tape_in}
 use Rattle.std.proofs.lemmas.Result.{IfOk-weaker}
 use Rattle.automata_hybrid.proofs.Searches.PassContracts.{dead_answer, first_answer}
-use Rattle.automata_hybrid.proofs.Searches.Goes.{GoesTo, ended_here, goes_known, goes_more, goes_none, left_here, pass_last}
+use Rattle.automata_hybrid.proofs.Searches.Goes.{GoesTo, ended_here, goes_known, goes_more, goes_none, goes_on, left_here, pass_last}
 use Rattle.automata_hybrid.proofs.Searches.Goes.{pass_stopped, taken_here}
 use Rattle.automata_hybrid.proofs.Searches.PassState.{at_reads, stops_dead, stops_ends, stops_last, more_leads, more_at}
 use Rattle.automata_hybrid.proofs.Searches.PassState.{unit_refuses, if_both, false_true}
@@ -39,8 +39,8 @@ loop-run-init c =
 
 pub read_met-requires-clause-cell : goal.read_met-requires-clause-cell
 read_met-requires-clause-cell c =
-    subst (λ (u : Option ℕ). IsCellRead c.args.self.now c.loop-run.cache.store c.loop-run.run.id u c.loop-run.run.next) c.byte_at-byte.ensures
-    (c.loop-run.invariant.read (omega (arith, c.loop-run-test.true, c.last_place-last.ensures.place)))
+    subst (λ (u : Option ℕ). IsCellRead c.args.self.now c.loop-run.cache.store c.run_on-met.result.id u c.run_on-met.result.next) c.byte_at-byte.ensures
+    c.run_on-met.ensures.next
 
 pub find_end-requires-clause-at : goal.find_end-requires-clause-at
 find_end-requires-clause-at c =
@@ -55,47 +55,47 @@ find_end-requires-clause-at c =
 pub returns-then-is_dead-clause-answer : goal.returns-then-is_dead-clause-answer
 returns-then-is_dead-clause-answer c =
     let d : Direction = c.args.way in
-    let k : ℕ = c.loop-run.run.at in
-    let inside : k < c.args.input.now.end - c.args.input.now.start = omega (arith, c.loop-run-test.true, c.last_place-last.ensures.place) in
-    let at : IsAt d c.args.self.now c.loop-run.cache.store.table c.args.input.now k c.loop-run.run.id c.loop-run.run.found = c.loop-run.invariant.at in
+    let k : ℕ = c.run_on-met.result.at in
+    let inside : k < c.args.input.now.end - c.args.input.now.start = omega (arith, c.run_on-met.ensures.within) in
+    let at : IsAt d c.args.self.now c.loop-run.cache.store.table c.args.input.now k c.run_on-met.result.id c.run_on-met.result.found = c.run_on-met.ensures.at in
     let read : next (tape_in d c.args.input.now) k ≡ Some c.byte_at-byte.result = c.byte_at-byte.ensures in
     let few : k ≤ length (tape_in d c.args.input.now).bytes = (let u = units_in d c.args.input.now c.requires.at.at.undone c.last_place-last.ensures.inside in omega (arith, u, inside)) in
-    dead_answer d c.args.self.now c.args.input.now k c.loop-run.run.id _ c.loop-run.run.found c.loop-run.cache c.read_met.new.cache (record { undone = c.requires.at.at.undone; may = c.requires.at.at.may; at = at }) read c.in-Ok.next None c.in-Ok.ensures.answer (λ l. (dead_tagged c.read_met.new.cache.store.table c.in-Ok.next (c.see_bounds-in-loop-run.ensures.sound.low c.in-Ok.next) c.see_bounds-in-loop-run.ensures.sound.small _ l).0 (c.if-is_dead.ensures.0 refl)) few
+    dead_answer d c.args.self.now c.args.input.now k c.run_on-met.result.id _ c.run_on-met.result.found c.loop-run.cache c.read_met.new.cache (record { undone = c.requires.at.at.undone; may = c.requires.at.at.may; at = at }) read c.in-Ok.next None c.in-Ok.ensures.answer (λ l. (dead_tagged c.read_met.new.cache.store.table c.in-Ok.next (c.see_bounds-in-loop-run.ensures.sound.low c.in-Ok.next) c.see_bounds-in-loop-run.ensures.sound.small _ l).0 (c.if-is_dead.ensures.0 refl)) few
 
 pub found_at-found-requires-clause-leads : goal.found_at-found-requires-clause-leads
 found_at-found-requires-clause-leads c =
     let d : Direction = c.args.way in
-    let k : ℕ = c.loop-run.run.at in
-    let inside : k < c.args.input.now.end - c.args.input.now.start = omega (arith, c.loop-run-test.true, c.last_place-last.ensures.place) in
-    let at : IsAt d c.args.self.now c.loop-run.cache.store.table c.args.input.now k c.loop-run.run.id c.loop-run.run.found = c.loop-run.invariant.at in
+    let k : ℕ = c.run_on-met.result.at in
+    let inside : k < c.args.input.now.end - c.args.input.now.start = omega (arith, c.run_on-met.ensures.within) in
+    let at : IsAt d c.args.self.now c.loop-run.cache.store.table c.args.input.now k c.run_on-met.result.id c.run_on-met.result.found = c.run_on-met.ensures.at in
     let read : next (tape_in d c.args.input.now) k ≡ Some c.byte_at-byte.result = c.byte_at-byte.ensures in
     let few : k ≤ length (tape_in d c.args.input.now).bytes = (let u = units_in d c.args.input.now c.requires.at.at.undone c.last_place-last.ensures.inside in omega (arith, u, inside)) in
-    (_, more_leads d c.args.self.now c.loop-run.cache.store.table c.read_met.new.cache.store.table c.args.input.now k c.loop-run.run.id c.in-Ok.next _ c.loop-run.run.found None at read c.in-Ok.ensures.answer.named (quit_free c.args.self.now _ c.in-Ok.ensures.answer.clean))
+    (_, more_leads d c.args.self.now c.loop-run.cache.store.table c.read_met.new.cache.store.table c.args.input.now k c.run_on-met.result.id c.in-Ok.next _ c.run_on-met.result.found None at read c.in-Ok.ensures.answer.named (quit_free c.args.self.now _ c.in-Ok.ensures.answer.clean))
 
 pub returns-then-is_some-clause-answer : goal.returns-then-is_some-clause-answer
 returns-then-is_some-clause-answer c =
     let d : Direction = c.args.way in
-    let k : ℕ = c.loop-run.run.at in
-    let inside : k < c.args.input.now.end - c.args.input.now.start = omega (arith, c.loop-run-test.true, c.last_place-last.ensures.place) in
-    let at : IsAt d c.args.self.now c.loop-run.cache.store.table c.args.input.now k c.loop-run.run.id c.loop-run.run.found = c.loop-run.invariant.at in
+    let k : ℕ = c.run_on-met.result.at in
+    let inside : k < c.args.input.now.end - c.args.input.now.start = omega (arith, c.run_on-met.ensures.within) in
+    let at : IsAt d c.args.self.now c.loop-run.cache.store.table c.args.input.now k c.run_on-met.result.id c.run_on-met.result.found = c.run_on-met.ensures.at in
     let read : next (tape_in d c.args.input.now) k ≡ Some c.byte_at-byte.result = c.byte_at-byte.ensures in
     let few : k ≤ length (tape_in d c.args.input.now).bytes = (let u = units_in d c.args.input.now c.requires.at.at.undone c.last_place-last.ensures.inside in omega (arith, u, inside)) in
-    first_answer d c.args.self.now c.args.input.now k c.loop-run.run.id _ c.loop-run.run.found c.loop-run.cache c.read_met.new.cache (record { undone = c.requires.at.at.undone; may = c.requires.at.at.may; at = at }) read c.in-Ok.next c.found_at-found.result c.in-Ok.ensures.answer c.place_offset.result c.place_offset.ensures.value c.found_at-found.ensures (sym c.get_earliest.ensures ∙ c.if-get_earliest.true) (some_is c.found_at-found.result c.if-is_some.ensures) few
+    first_answer d c.args.self.now c.args.input.now k c.run_on-met.result.id _ c.run_on-met.result.found c.loop-run.cache c.read_met.new.cache (record { undone = c.requires.at.at.undone; may = c.requires.at.at.may; at = at }) read c.in-Ok.next c.found_at-found.result c.in-Ok.ensures.answer c.place_offset.result c.place_offset.ensures.value c.found_at-found.ensures (sym c.get_earliest.ensures ∙ c.if-get_earliest.true) (some_is c.found_at-found.result c.if-is_some.ensures) few
 
 pub run-near-requires : goal.run-near-requires
 run-near-requires c =
     let d : Direction = c.args.way in
-    let k : ℕ = c.loop-run.run.at in
-    let at : IsAt d c.args.self.now c.loop-run.cache.store.table c.args.input.now k c.loop-run.run.id c.loop-run.run.found = c.loop-run.invariant.at in
+    let k : ℕ = c.run_on-met.result.at in
+    let at : IsAt d c.args.self.now c.loop-run.cache.store.table c.args.input.now k c.run_on-met.result.id c.run_on-met.result.found = c.run_on-met.ensures.at in
     let read : next (tape_in d c.args.input.now) k ≡ Some c.byte_at-byte.result = c.byte_at-byte.ensures in
     let first : c.args.input.now.earliest ≡ true → c.found_at-found.result ≡ None =
     elim c.else-get_earliest.branch [
       | else-get_earliest-via-then-get_earliest+else-is_some w ↦ λ e. none_is c.found_at-found.result (sym w.is_some.ensures ∙ w.if-is_some.false)
       | else-get_earliest-via-else-get_earliest w ↦ λ e. absurd (false_true (sym w.if-get_earliest.false ∙ (c.get_earliest.ensures ∙ e)))
     ] in
-    let more : suc k ≡ c.loop-run.run.at + 1 = omega arith in
+    let more : suc k ≡ c.run_on-met.result.at + 1 = omega arith in
     let at = subst (λ n. IsAt d c.args.self.now c.read_met.new.cache.store.table c.args.input.now n c.in-Ok.next c.found_at-found.result) more
-    (more_at d c.args.self.now c.loop-run.cache.store.table c.read_met.new.cache.store.table c.args.input.now k c.loop-run.run.id c.in-Ok.next _ c.loop-run.run.found c.found_at-found.result at read
+    (more_at d c.args.self.now c.loop-run.cache.store.table c.read_met.new.cache.store.table c.args.input.now k c.run_on-met.result.id c.in-Ok.next _ c.run_on-met.result.found c.found_at-found.result at read
     c.in-Ok.ensures.answer.named (quit_free c.args.self.now _ c.in-Ok.ensures.answer.clean) (c.place_offset.result, c.place_offset.ensures.value, c.found_at-found.ensures) first
     (λ l. (dead_tagged c.read_met.new.cache.store.table c.in-Ok.next (c.see_bounds-in-loop-run.ensures.sound.low c.in-Ok.next) c.see_bounds-in-loop-run.ensures.sound.small _ l).1
     (λ b. false_true (c.if-is_dead.ensures.1 b)))) in (
@@ -104,7 +104,7 @@ run-near-requires c =
         record {
           on = record { trace = pass_is_trace d c.args.self.now c.args.input.now; named = at.named };
           undone = c.requires.at.at.undone;
-          within = omega (arith, c.loop-run-test.true, c.last_place-last.ensures.place);
+          within = omega (arith, c.run_on-met.ensures.within);
           upto = c.loop-run.invariant.upto;
         },
         at,
@@ -130,17 +130,20 @@ go_far-far-requires c =
 pub loop-run-preserved : goal.loop-run-preserved
 loop-run-preserved c =
     let d : Direction = c.args.way in
-    let k : ℕ = c.loop-run.run.at in
-    let inside : k < c.args.input.now.end - c.args.input.now.start = omega (arith, c.loop-run-test.true, c.last_place-last.ensures.place) in
-    let at : IsAt d c.args.self.now c.loop-run.cache.store.table c.args.input.now k c.loop-run.run.id c.loop-run.run.found = c.loop-run.invariant.at in
+    let k : ℕ = c.run_on-met.result.at in
+    let inside : k < c.args.input.now.end - c.args.input.now.start = omega (arith, c.run_on-met.ensures.within) in
+    let at : IsAt d c.args.self.now c.loop-run.cache.store.table c.args.input.now k c.run_on-met.result.id c.run_on-met.result.found = c.run_on-met.ensures.at in
     let given : given_up_offset d c.args.input.now k ≡ c.byte_offset-offset.result = span_unit d c.args.input.now k inside ∙ sym c.byte_offset-offset.ensures.unit in
+    let before : GoesTo d c.args.self.now c.args.input.now 0 k c.args.cache.now c.loop-run.cache =
+    goes_on d c.args.self.now c.args.input.now 0 c.args.cache.now (is_store c.args.cache.now.store c.args.self.now c.requires.of c.see_bounds.ensures.bounds)
+    c.loop-run.run.at k c.loop-run.cache c.loop-run.invariant.progress c.run_on-met.ensures.run.more at.clean c.run_on-met.ensures.run.known in
     let read : next (tape_in d c.args.input.now) k ≡ Some c.byte_at-byte.result = c.byte_at-byte.ensures in
-    let more : suc k ≡ c.loop-run.run.at + 1 = omega arith in
+    let more : suc k ≡ c.run_on-met.result.at + 1 = omega arith in
     let sound = is_store c.read_met.new.cache.store c.args.self.now c.in-Ok.ensures.of c.see_bounds-in-loop-run.ensures.bounds in
-    let behind : GoesTo d c.args.self.now c.args.input.now 0 (c.loop-run.run.at + 1) c.args.cache.now c.read_met.new.cache =
-    subst (λ n. GoesTo d c.args.self.now c.args.input.now 0 n c.args.cache.now c.read_met.new.cache) more (goes_more d c.args.self.now c.args.input.now 0 c.args.cache.now k c.loop-run.cache c.read_met.new.cache c.loop-run.invariant.progress
-    (taken_here d c.args.self.now c.args.input.now k c.loop-run.run.id c.byte_offset-offset.result (Some _) c.loop-run.cache c.read_met.new.cache read given at.named c.in-Ok.ensures.effect.taken)) in
-    let far = c.go_far-far.ensures.runs (c.loop-run.run.at + 1) c.run-near.ensures.runs in
+    let behind : GoesTo d c.args.self.now c.args.input.now 0 (c.run_on-met.result.at + 1) c.args.cache.now c.read_met.new.cache =
+    subst (λ n. GoesTo d c.args.self.now c.args.input.now 0 n c.args.cache.now c.read_met.new.cache) more (goes_more d c.args.self.now c.args.input.now 0 c.args.cache.now k c.loop-run.cache c.read_met.new.cache before
+    (taken_here d c.args.self.now c.args.input.now k c.run_on-met.result.id c.byte_offset-offset.result (Some _) c.loop-run.cache c.read_met.new.cache read given at.named c.in-Ok.ensures.effect.taken)) in
+    let far = c.go_far-far.ensures.runs (c.run_on-met.result.at + 1) c.run-near.ensures.runs in
     let of : IsCacheOf c.go_far-far.new.cache c.args.self.now = subst (λ (v : CacheView). IsCacheOf v c.args.self.now) (sym c.go_far-far.ensures.same) c.in-Ok.ensures.of in
     record {
       of = of;
@@ -149,64 +152,73 @@ loop-run-preserved c =
       at = far.at;
       read = c.go_far-far.ensures.read;
       progress =
-          goes_known d c.args.self.now c.args.input.now 0 c.args.cache.now (c.loop-run.run.at + 1) c.go_far-far.result.0.at c.go_far-far.new.cache
+          goes_known d c.args.self.now c.args.input.now 0 c.args.cache.now (c.run_on-met.result.at + 1) c.go_far-far.result.0.at c.go_far-far.new.cache
           (subst (λ (v : CacheView). IsStoreOf v.store c.args.self.now) (sym c.go_far-far.ensures.same) sound)
-          (subst (λ (v : CacheView). GoesTo d c.args.self.now c.args.input.now 0 (c.loop-run.run.at + 1) c.args.cache.now v) (sym c.go_far-far.ensures.same) behind)
+          (subst (λ (v : CacheView). GoesTo d c.args.self.now c.args.input.now 0 (c.run_on-met.result.at + 1) c.args.cache.now v) (sym c.go_far-far.ensures.same) behind)
           far.run.more far.at.clean far.run.known;
     }
 
 pub read_met-requires-clause-valid : goal.read_met-requires-clause-valid
 read_met-requires-clause-valid c =
     let d : Direction = c.args.way in
-    let at : IsAt d c.args.self.now c.loop-run.cache.store.table c.args.input.now c.loop-run.run.at c.loop-run.run.id c.loop-run.run.found = c.loop-run.invariant.at in
+    let at : IsAt d c.args.self.now c.loop-run.cache.store.table c.args.input.now c.run_on-met.result.at c.run_on-met.result.id c.run_on-met.result.found = c.run_on-met.ensures.at in
     (_, at.named)
 
 pub returns-in-Err-clause-left : goal.returns-in-Err-clause-left
 returns-in-Err-clause-left c =
     let d : Direction = c.args.way in
-    let k : ℕ = c.loop-run.run.at in
-    let inside : k < c.args.input.now.end - c.args.input.now.start = omega (arith, c.loop-run-test.true, c.last_place-last.ensures.place) in
-    let at : IsAt d c.args.self.now c.loop-run.cache.store.table c.args.input.now k c.loop-run.run.id c.loop-run.run.found = c.loop-run.invariant.at in
+    let k : ℕ = c.run_on-met.result.at in
+    let inside : k < c.args.input.now.end - c.args.input.now.start = omega (arith, c.run_on-met.ensures.within) in
+    let at : IsAt d c.args.self.now c.loop-run.cache.store.table c.args.input.now k c.run_on-met.result.id c.run_on-met.result.found = c.run_on-met.ensures.at in
     let given : given_up_offset d c.args.input.now k ≡ c.byte_offset-offset.result = span_unit d c.args.input.now k inside ∙ sym c.byte_offset-offset.ensures.unit in
+    let before : GoesTo d c.args.self.now c.args.input.now 0 k c.args.cache.now c.loop-run.cache =
+    goes_on d c.args.self.now c.args.input.now 0 c.args.cache.now (is_store c.args.cache.now.store c.args.self.now c.requires.of c.see_bounds.ensures.bounds)
+    c.loop-run.run.at k c.loop-run.cache c.loop-run.invariant.progress c.run_on-met.ensures.run.more at.clean c.run_on-met.ensures.run.known in
     let read : next (tape_in d c.args.input.now) k ≡ Some c.byte_at-byte.result = c.byte_at-byte.ensures in
     let few : k ≤ length (tape_in d c.args.input.now).bytes = (let u = units_in d c.args.input.now c.requires.at.at.undone c.last_place-last.ensures.inside in omega (arith, u, inside)) in
     pass_stopped d c.args.self.now c.args.input.now k c.args.cache.now c.loop-run.cache c.read_met.new.cache c.in-Err.error
-    (at_reads d c.args.self.now c.loop-run.cache.store.table c.args.input.now k c.loop-run.run.id c.loop-run.run.found at few c.in-Err.ensures.effect.alive) at.clean
-    (unit_refuses d c.args.self.now c.loop-run.cache.store.table c.read_met.new.cache.store c.args.input.now k c.loop-run.run.id c.byte_offset-offset.result c.byte_offset-offset.result _ c.loop-run.run.found c.in-Err.error
+    (at_reads d c.args.self.now c.loop-run.cache.store.table c.args.input.now k c.run_on-met.result.id c.run_on-met.result.found at few c.in-Err.ensures.effect.alive) at.clean
+    (unit_refuses d c.args.self.now c.loop-run.cache.store.table c.read_met.new.cache.store c.args.input.now k c.run_on-met.result.id c.byte_offset-offset.result c.byte_offset-offset.result _ c.run_on-met.result.found c.in-Err.error
     at read (sym c.byte_offset-offset.ensures.unit) given c.in-Err.ensures.refusal)
-    c.loop-run.invariant.progress
-    (left_here d c.args.self.now c.args.input.now k c.loop-run.run.id c.byte_offset-offset.result (Some _) c.loop-run.cache c.read_met.new.cache read given at.named c.in-Err.ensures.effect.left)
+    before
+    (left_here d c.args.self.now c.args.input.now k c.run_on-met.result.id c.byte_offset-offset.result (Some _) c.loop-run.cache c.read_met.new.cache read given at.named c.in-Err.ensures.effect.left)
 
 pub returns-then-is_dead-clause-ended : goal.returns-then-is_dead-clause-ended
 returns-then-is_dead-clause-ended c =
     let d : Direction = c.args.way in
-    let k : ℕ = c.loop-run.run.at in
-    let inside : k < c.args.input.now.end - c.args.input.now.start = omega (arith, c.loop-run-test.true, c.last_place-last.ensures.place) in
-    let at : IsAt d c.args.self.now c.loop-run.cache.store.table c.args.input.now k c.loop-run.run.id c.loop-run.run.found = c.loop-run.invariant.at in
+    let k : ℕ = c.run_on-met.result.at in
+    let inside : k < c.args.input.now.end - c.args.input.now.start = omega (arith, c.run_on-met.ensures.within) in
+    let at : IsAt d c.args.self.now c.loop-run.cache.store.table c.args.input.now k c.run_on-met.result.id c.run_on-met.result.found = c.run_on-met.ensures.at in
     let given : given_up_offset d c.args.input.now k ≡ c.byte_offset-offset.result = span_unit d c.args.input.now k inside ∙ sym c.byte_offset-offset.ensures.unit in
+    let before : GoesTo d c.args.self.now c.args.input.now 0 k c.args.cache.now c.loop-run.cache =
+    goes_on d c.args.self.now c.args.input.now 0 c.args.cache.now (is_store c.args.cache.now.store c.args.self.now c.requires.of c.see_bounds.ensures.bounds)
+    c.loop-run.run.at k c.loop-run.cache c.loop-run.invariant.progress c.run_on-met.ensures.run.more at.clean c.run_on-met.ensures.run.known in
     let read : next (tape_in d c.args.input.now) k ≡ Some c.byte_at-byte.result = c.byte_at-byte.ensures in
     let few : k ≤ length (tape_in d c.args.input.now).bytes = (let u = units_in d c.args.input.now c.requires.at.at.undone c.last_place-last.ensures.inside in omega (arith, u, inside)) in
-    let stops : Reads d c.args.self.now c.args.input.now (suc k) → ⊥ = stops_dead d c.args.self.now c.loop-run.cache.store.table c.read_met.new.cache.store.table c.args.input.now k c.loop-run.run.id c.in-Ok.next _ c.loop-run.run.found None at read c.in-Ok.ensures.answer.named (quit_free c.args.self.now _ c.in-Ok.ensures.answer.clean) (λ l. (dead_tagged c.read_met.new.cache.store.table c.in-Ok.next (c.see_bounds-in-loop-run.ensures.sound.low c.in-Ok.next) c.see_bounds-in-loop-run.ensures.sound.small _ l).0 (c.if-is_dead.ensures.0 refl)) (suc k) (omega arith) in
+    let stops : Reads d c.args.self.now c.args.input.now (suc k) → ⊥ = stops_dead d c.args.self.now c.loop-run.cache.store.table c.read_met.new.cache.store.table c.args.input.now k c.run_on-met.result.id c.in-Ok.next _ c.run_on-met.result.found None at read c.in-Ok.ensures.answer.named (quit_free c.args.self.now _ c.in-Ok.ensures.answer.clean) (λ l. (dead_tagged c.read_met.new.cache.store.table c.in-Ok.next (c.see_bounds-in-loop-run.ensures.sound.low c.in-Ok.next) c.see_bounds-in-loop-run.ensures.sound.small _ l).0 (c.if-is_dead.ensures.0 refl)) (suc k) (omega arith) in
     pass_last d c.args.self.now c.args.input.now k c.args.cache.now c.read_met.new.cache c.end_search.new.self
-    (at_reads d c.args.self.now c.loop-run.cache.store.table c.args.input.now k c.loop-run.run.id c.loop-run.run.found at few c.in-Ok.ensures.effect.alive) stops
-    (goes_more d c.args.self.now c.args.input.now 0 c.args.cache.now k c.loop-run.cache c.read_met.new.cache c.loop-run.invariant.progress
-    (taken_here d c.args.self.now c.args.input.now k c.loop-run.run.id c.byte_offset-offset.result (Some _) c.loop-run.cache c.read_met.new.cache read given at.named c.in-Ok.ensures.effect.taken))
+    (at_reads d c.args.self.now c.loop-run.cache.store.table c.args.input.now k c.run_on-met.result.id c.run_on-met.result.found at few c.in-Ok.ensures.effect.alive) stops
+    (goes_more d c.args.self.now c.args.input.now 0 c.args.cache.now k c.loop-run.cache c.read_met.new.cache before
+    (taken_here d c.args.self.now c.args.input.now k c.run_on-met.result.id c.byte_offset-offset.result (Some _) c.loop-run.cache c.read_met.new.cache read given at.named c.in-Ok.ensures.effect.taken))
     (ended_here d c.args.input.now k c.byte_offset-offset.result c.read_met.new.cache c.end_search.new.self given c.end_search.ensures.value)
 
 pub returns-then-is_some-clause-ended : goal.returns-then-is_some-clause-ended
 returns-then-is_some-clause-ended c =
     let d : Direction = c.args.way in
-    let k : ℕ = c.loop-run.run.at in
-    let inside : k < c.args.input.now.end - c.args.input.now.start = omega (arith, c.loop-run-test.true, c.last_place-last.ensures.place) in
-    let at : IsAt d c.args.self.now c.loop-run.cache.store.table c.args.input.now k c.loop-run.run.id c.loop-run.run.found = c.loop-run.invariant.at in
+    let k : ℕ = c.run_on-met.result.at in
+    let inside : k < c.args.input.now.end - c.args.input.now.start = omega (arith, c.run_on-met.ensures.within) in
+    let at : IsAt d c.args.self.now c.loop-run.cache.store.table c.args.input.now k c.run_on-met.result.id c.run_on-met.result.found = c.run_on-met.ensures.at in
     let given : given_up_offset d c.args.input.now k ≡ c.byte_offset-offset.result = span_unit d c.args.input.now k inside ∙ sym c.byte_offset-offset.ensures.unit in
+    let before : GoesTo d c.args.self.now c.args.input.now 0 k c.args.cache.now c.loop-run.cache =
+    goes_on d c.args.self.now c.args.input.now 0 c.args.cache.now (is_store c.args.cache.now.store c.args.self.now c.requires.of c.see_bounds.ensures.bounds)
+    c.loop-run.run.at k c.loop-run.cache c.loop-run.invariant.progress c.run_on-met.ensures.run.more at.clean c.run_on-met.ensures.run.known in
     let read : next (tape_in d c.args.input.now) k ≡ Some c.byte_at-byte.result = c.byte_at-byte.ensures in
     let few : k ≤ length (tape_in d c.args.input.now).bytes = (let u = units_in d c.args.input.now c.requires.at.at.undone c.last_place-last.ensures.inside in omega (arith, u, inside)) in
-    let stops : Reads d c.args.self.now c.args.input.now (suc k) → ⊥ = stops_ends d c.args.self.now c.loop-run.cache.store.table c.read_met.new.cache.store.table c.args.input.now k c.loop-run.run.id c.in-Ok.next _ c.loop-run.run.found c.found_at-found.result at read c.in-Ok.ensures.answer.named (quit_free c.args.self.now _ c.in-Ok.ensures.answer.clean) (c.place_offset.result, c.place_offset.ensures.value, c.found_at-found.ensures) (sym c.get_earliest.ensures ∙ c.if-get_earliest.true) (some_is c.found_at-found.result c.if-is_some.ensures) (suc k) (omega arith) in
+    let stops : Reads d c.args.self.now c.args.input.now (suc k) → ⊥ = stops_ends d c.args.self.now c.loop-run.cache.store.table c.read_met.new.cache.store.table c.args.input.now k c.run_on-met.result.id c.in-Ok.next _ c.run_on-met.result.found c.found_at-found.result at read c.in-Ok.ensures.answer.named (quit_free c.args.self.now _ c.in-Ok.ensures.answer.clean) (c.place_offset.result, c.place_offset.ensures.value, c.found_at-found.ensures) (sym c.get_earliest.ensures ∙ c.if-get_earliest.true) (some_is c.found_at-found.result c.if-is_some.ensures) (suc k) (omega arith) in
     pass_last d c.args.self.now c.args.input.now k c.args.cache.now c.read_met.new.cache c.end_search-then-is_some.new.self
-    (at_reads d c.args.self.now c.loop-run.cache.store.table c.args.input.now k c.loop-run.run.id c.loop-run.run.found at few c.in-Ok.ensures.effect.alive) stops
-    (goes_more d c.args.self.now c.args.input.now 0 c.args.cache.now k c.loop-run.cache c.read_met.new.cache c.loop-run.invariant.progress
-    (taken_here d c.args.self.now c.args.input.now k c.loop-run.run.id c.byte_offset-offset.result (Some _) c.loop-run.cache c.read_met.new.cache read given at.named c.in-Ok.ensures.effect.taken))
+    (at_reads d c.args.self.now c.loop-run.cache.store.table c.args.input.now k c.run_on-met.result.id c.run_on-met.result.found at few c.in-Ok.ensures.effect.alive) stops
+    (goes_more d c.args.self.now c.args.input.now 0 c.args.cache.now k c.loop-run.cache c.read_met.new.cache before
+    (taken_here d c.args.self.now c.args.input.now k c.run_on-met.result.id c.byte_offset-offset.result (Some _) c.loop-run.cache c.read_met.new.cache read given at.named c.in-Ok.ensures.effect.taken))
     (ended_here d c.args.input.now k c.byte_offset-offset.result c.read_met.new.cache c.end_search-then-is_some.new.self given c.end_search-then-is_some.ensures.value)
 
 pub returns-clause-ended : goal.returns-clause-ended
@@ -240,5 +252,16 @@ returns-clause-left c =
 
 pub loop-run-smaller : goal.loop-run-smaller
 loop-run-smaller c =
-    let more = (c.go_far-far.ensures.runs (c.loop-run.run.at + 1) c.run-near.ensures.runs).run.more in
-    omega (arith, more, c.loop-run-test.true)
+    let more = (c.go_far-far.ensures.runs (c.run_on-met.result.at + 1) c.run-near.ensures.runs).run.more in
+    omega (arith, more, c.run_on-met.ensures.run.more, c.loop-run-test.true)
+
+pub run_on-met-requires : goal.run_on-met-requires
+run_on-met-requires c =
+    let inside : c.loop-run.run.at < c.args.input.now.end - c.args.input.now.start =
+    omega (arith, c.loop-run-test.true, c.last_place-last.ensures.place) in (
+      c.loop-run.invariant.of,
+      (
+        pass_is_trace c.args.way c.args.self.now c.args.input.now,
+        (c.loop-run.invariant.at, (inside, c.loop-run.invariant.read inside)),
+      ),
+    )

@@ -26,3 +26,6 @@ ghost-run a = pass_trace a.way a.self.now a.input.now
 
 abbrev pub ghost-go_far : goal.ghost-go_far
 ghost-go_far a = pass_trace a.way a.self.now a.input.now
+
+abbrev pub ghost-run_on : goal.ghost-run_on
+ghost-run_on a = pass_trace a.way a.self.now a.input.now

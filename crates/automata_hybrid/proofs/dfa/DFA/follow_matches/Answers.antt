@@ -1,7 +1,7 @@
 use Rattle.std.proofs.Common.{◌^◌, refl, arith}
 use Rattle.automata_hybrid.specs.Private.Cache.Ids.{IsRunTag}
 use Rattle.automata_hybrid.proofs.Searches.Runs.{followed_on}
-use Rattle.automata_hybrid.proofs.Cache.Places.{match_tagged}
+use Rattle.automata_hybrid.proofs.Caches.Places.{match_tagged}
 use Rattle.automata_hybrid.proofs.dfa.DFA.follow_matches.Goals as goal
 
 match_tag : IsRunTag (2 ^ 27)

@@ -4,7 +4,7 @@ use Rattle.automata_hybrid.specs.Private.Cache.Ids.{IsRunTag}
 use Rattle.automata_hybrid.specs.Private.Searches.PassContracts.{FollowsTo}
 use Rattle.automata_hybrid.specs.Private.Searches.PassState.{IsOnTrace}
 use Rattle.automata_hybrid.specs.Searches.Traces.{pass_trace}
-use Rattle.automata_hybrid.specs.declared.search.follow.Stop.{Stop}
+use Rattle.automata_hybrid.specs.declared.search.fast.follow.Stop.{Stop}
 use Rattle.automata_hybrid.proofs.Searches.Runs.{follows_on}
 use Rattle.automata_hybrid.proofs.Searches.Traces.{pass_is_trace}
 use Rattle.automata_hybrid.proofs.dfa.DFA.follow_walk.Goals as goal

@@ -5,7 +5,7 @@ use Rattle.automata_hybrid.specs.Private.Machines.Fields.{machine_of}
 use Rattle.automata_hybrid.specs.Cache.Ids.{offset_limit}
 use Rattle.automata_hybrid.specs.Machines.Machine.{Machine, marked}
 use Rattle.automata_hybrid.specs.Private.Machines.Machine.{IsTemplate}
-use Rattle.automata_hybrid.specs.declared.dfa.settings.Settings.{Settings}
+use Rattle.automata_hybrid.specs.declared.cache.settings.Settings.{Settings}
 use Rattle.automata_hybrid.proofs.dfa.DFA.fresh_store.Goals as goal
 
 stride_is : (c : goal.After-settings) → c.stride-stride.result ≡ c.args.self.now.stride

@@ -6,7 +6,7 @@ use Rattle.automata_base.specs.Haystacks.Input.{Input}
 use Rattle.automata_base.specs.Haystacks.Matches.{HalfMatch}
 use Rattle.automata_base.specs.declared.util.search.Direction.{Direction}
 use Rattle.automata_hybrid.specs.Machines.Machine.{Machine}
-use Rattle.automata_hybrid.specs.Walks.Progress.{IsWalkRun}
+use Rattle.automata_hybrid.specs.Walks.Progress.{HasEnded, HasMore, HasNoneLeft, IsWalkRun}
 use Rattle.automata_hybrid.specs.Private.Walks.Parts.{IsCallAnswer}
 use Rattle.automata_hybrid.specs.Searches.Passes.{tape_in}
 use Rattle.automata_hybrid.specs.Walks.Answers.{ReportsNext}
@@ -35,7 +35,7 @@ pub returns-then-has_ended-clause-effect : goal.returns-then-has_ended-clause-ef
 returns-then-has_ended-clause-effect c =
     run_none (keeping_of c.args.held.now) c.args.way c.args.self.now c.args.input.now c.args.walk.now c.forget_match.new.self c.args.cache.now
     (is_store c.args.cache.now.store c.args.self.now c.requires.of c.see_bounds.ensures.bounds)
-    (inl (subst (λ (v : Walk). v.stage ≡ Ended) c.forget_match.ensures (c.has_ended.ensures.yes c.if-has_ended.true)))
+    (HasEnded (subst (λ (v : Walk). v.stage ≡ Ended) c.forget_match.ensures (c.has_ended.ensures.yes c.if-has_ended.true)))
     (ap (λ (v : Walk). v.units) c.forget_match.ensures) (λ over. ap (λ (v : Walk). v.found) c.forget_match.ensures)
 
 pub returns-then-is_done-clause-answer : goal.returns-then-is_done-clause-answer
@@ -57,7 +57,7 @@ returns-then-is_done-clause-effect c =
     let done : c.args.input.now.end < c.args.input.now.start = c.is_done.ensures.done.0 c.if-is_done.true in
     run_none (keeping_of c.args.held.now) c.args.way c.args.self.now c.args.input.now c.args.walk.now c.end.new.self c.args.cache.now
     (is_store c.args.cache.now.store c.args.self.now c.requires.of c.see_bounds.ensures.bounds)
-    (inr (inr (omega (arith, done))))
+    (HasNoneLeft (omega (arith, done)))
     (ap (λ (v : Walk). v.units) c.end.ensures ∙ (c.units.ensures ∙ ap (λ (v : Walk). v.units) c.forget_match.ensures)) (λ over. ap (λ (v : Walk). v.found) c.end.ensures)
 
 pub returns-in-Some-clause-answer : goal.returns-in-Some-clause-answer
@@ -84,11 +84,8 @@ returns-in-Some-clause-effect c =
     let left = c.in-Some.ensures.left in
     run_none (keeping_of c.args.held.now) c.args.way c.args.self.now c.args.input.now c.args.walk.now c.report.new.self c.args.cache.now
     (is_store c.args.cache.now.store c.args.self.now c.requires.of c.see_bounds.ensures.bounds)
-    (inr (inl (
-      left.0,
-      subst (λ (v : Walk). v.stage ≡ At left.0) c.forget_match.ensures left.1,
-      subst (λ (v : Walk). v.reported < length left.0.patterns) c.forget_match.ensures left.2,
-    )))
+    (HasMore left.0 (subst (λ (v : Walk). v.stage ≡ At left.0) c.forget_match.ensures left.1)
+    (subst (λ (v : Walk). v.reported < length left.0.patterns) c.forget_match.ensures left.2))
     (ap (λ (v : Walk). v.units) c.report.ensures ∙ ap (λ (v : Walk). v.units) c.forget_match.ensures)
     (λ over. absurd (ended_at left.0 (sym over ∙ (ap (λ (v : Walk). v.stage) c.report.ensures ∙ left.1))))
 
@@ -116,7 +113,7 @@ returns-then-units-last_place-clause-effect c =
     let units : c.units-2.result ≡ c.args.walk.now.units = c.units-2.ensures ∙ ap (λ (v : Walk). v.units) c.forget_match.ensures in
     run_none (keeping_of c.args.held.now) c.args.way c.args.self.now c.args.input.now c.args.walk.now c.end-then-units-last_place.new.self c.args.cache.now
     (is_store c.args.cache.now.store c.args.self.now c.requires.of c.see_bounds.ensures.bounds)
-    (inr (inr (omega (arith, units, c.last_place.ensures.place, c.if-units-last_place.true))))
+    (HasNoneLeft (omega (arith, units, c.last_place.ensures.place, c.if-units-last_place.true)))
     (ap (λ (v : Walk). v.units) c.end-then-units-last_place.ensures ∙ (c.units-then-units-last_place.ensures ∙ ap (λ (v : Walk). v.units) c.forget_match.ensures))
     (λ over. ap (λ (v : Walk). v.found) c.end-then-units-last_place.ensures)
 

@@ -3,12 +3,12 @@ use Rattle.std.proofs.lemmas.Grind.{common_steps}
 use Rattle.automata_base.specs.declared.util.search.Direction.{Direction}
 use Rattle.automata_hybrid.specs.Private.Searches.PassContracts.{IsKnownEnd, IsKnownUpto}
 use Rattle.automata_hybrid.specs.Searches.Passes.{tape_in}
-use Rattle.automata_hybrid.specs.declared.search.known.Known.{Known}
+use Rattle.automata_hybrid.specs.declared.search.plain.known.Known.{Known}
 use Rattle.automata_hybrid.proofs.Searches.Directions.{units_in}
 use Rattle.automata_hybrid.proofs.Searches.KnownPasses.{known_dead, known_first, known_last, known_leads, known_more}
 use Rattle.automata_hybrid.proofs.Searches.PassState.{false_true, none_is, some_is}
 use Rattle.automata_hybrid.proofs.Steps.Ids.{dead_clear}
-use Rattle.automata_hybrid.specs.declared.search.known.KnownStop.TheVariants.{Ended}
+use Rattle.automata_hybrid.specs.declared.search.plain.known.KnownStop.TheVariants.{Ended}
 use Rattle.automata_hybrid.proofs.Searches.Traces.{pass_is_trace}
 use Rattle.automata_hybrid.proofs.dfa.DFA.known_pass.Goals as goal
 use Rattle.automata_hybrid.proofs.dfa.DFA.known_pass.Goals.{else-get_earliest-via-then-get_earliest+else-is_some}

@@ -4,7 +4,7 @@ use Rattle.automata_base.specs.Haystacks.Input.{Input, IsAllowed}
 use Rattle.automata_hybrid.specs.Cache.Caches.{CacheView}
 use Rattle.automata_hybrid.specs.Private.Searches.PassContracts.{FollowsAlong}
 use Rattle.automata_hybrid.specs.Private.Searches.PassState.{IsNextCell, IsOnTrace}
-use Rattle.automata_hybrid.specs.declared.search.follow.Stop.{Stop}
+use Rattle.automata_hybrid.specs.declared.search.fast.follow.Stop.{Stop}
 use Rattle.automata_hybrid.proofs.Searches.PassContracts.{same_input}
 use Rattle.automata_hybrid.proofs.dfa.DFA.leap_on.Goals as goal
 

@@ -1,9 +1,10 @@
-use Rattle.std.proofs.Common.{ℕ, ◌≡◌, ◌∙◌, None, Some, inl, inr, refl, subst, sym}
+use Rattle.std.proofs.Common.{ℕ, ◌≡◌, ◌∙◌, None, Some, refl, subst, sym}
 use Rattle.std.specs.Prelude.{OnErr, Result}
 use Rattle.automata_base.proofs.Paths.Orders.{none_some}
 use Rattle.automata_config.specs.declared.error.StepError.{StepError}
 use Rattle.automata_hybrid.specs.Cache.Table.{IsKnownState, id_of}
-use Rattle.automata_hybrid.proofs.Cache.Additions.{new_state}
+use Rattle.automata_hybrid.specs.Walks.Progress.{IsPutBack, WasThere}
+use Rattle.automata_hybrid.proofs.Caches.Additions.{new_state}
 use Rattle.automata_hybrid.proofs.Searches.Contracts.{is_store}
 use Rattle.automata_hybrid.proofs.Searches.Reads.{at_err}
 use Rattle.automata_hybrid.proofs.dfa.DFA.put_back.Goals as goal
@@ -11,10 +12,9 @@ use Rattle.automata_hybrid.proofs.dfa.DFA.put_back.Goals as goal
 pub returns-in-Some-clause-row : goal.returns-in-Some-clause-row
 returns-in-Some-clause-row c =
     let named : id_of c.args.cache.now.store.table c.args.handle.now.state ≡ Some c.in-Some.id =
-    subst (λ q. id_of c.args.cache.now.store.table q ≡ Some c.in-Some.id) c.requires.key (sym c.in-Some.ensures) in (
-      (is_store c.args.cache.now.store c.args.self.now c.requires.of c.see_bounds.ensures.bounds),
-      inl (record { id = c.in-Some.id; named = named }, refl),
-    )
+    subst (λ q. id_of c.args.cache.now.store.table q ≡ Some c.in-Some.id) c.requires.key (sym c.in-Some.ensures) in
+    WasThere (is_store c.args.cache.now.store c.args.self.now c.requires.of c.see_bounds.ensures.bounds)
+    (record { id = c.in-Some.id; named = named }) refl
 
 pub add_again-requires-clause-new : goal.add_again-requires-clause-new
 add_again-requires-clause-new c =
@@ -26,10 +26,9 @@ add_again-requires-clause-new c =
 pub returns-clause-row : goal.returns-clause-row
 returns-clause-row c =
     let none : id_of c.args.cache.now.store.table c.args.handle.now.state ≡ None =
-    subst (λ q. id_of c.args.cache.now.store.table q ≡ None) c.requires.key (sym c.find.ensures ∙ c.in_default.is) in (
-      (is_store c.add_again.new.self.store c.args.self.now c.add_again.ensures.of c.see_bounds-2.ensures.bounds),
-      inr (λ has. none_some (sym none ∙ has.named), c.in_ok-id.ensures.back),
-    )
+    subst (λ q. id_of c.args.cache.now.store.table q ≡ None) c.requires.key (sym c.find.ensures ∙ c.in_default.is) in
+    IsPutBack (is_store c.add_again.new.self.store c.args.self.now c.add_again.ensures.of c.see_bounds-2.ensures.bounds)
+    (λ has. none_some (sym none ∙ has.named)) c.in_ok-id.ensures.back
 
 pub returns-in_err-id-clause-lacks : goal.returns-in_err-id-clause-lacks
 returns-in_err-id-clause-lacks c =

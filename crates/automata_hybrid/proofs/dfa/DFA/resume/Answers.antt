@@ -4,7 +4,7 @@ use Rattle.automata_hybrid.proofs.Walks.Parts.{back_left, back_refusal, back_res
 use Rattle.automata_hybrid.proofs.Walks.Parts.{start_resumed}
 use Rattle.automata_hybrid.specs.Searches.Passes.{given_up_offset}
 use Rattle.automata_hybrid.specs.Private.Searches.PassState.{step_error}
-use Rattle.automata_hybrid.specs.declared.dfa.handle.Handle.{Handle}
+use Rattle.automata_hybrid.specs.declared.cache.handle.Handle.{Handle}
 use Rattle.automata_hybrid.specs.declared.search.walk.Held.TheVariants as held
 use Rattle.automata_hybrid.proofs.dfa.DFA.resume.Goals as goal
 

@@ -6,6 +6,7 @@ use Rattle.std.proofs.lemmas.Grind.{common_steps}
 use Rattle.automata_hybrid.specs.Steps.Steps.{IsStepAnswer, KnowsStep, known_step}
 use Rattle.automata_hybrid.specs.Cache.Stores.{cell_of}
 use Rattle.automata_hybrid.specs.Cache.Table.{IsRowId, Rows}
+use Rattle.automata_hybrid.specs.Calls.Events.{FindsCached}
 use Rattle.automata_hybrid.specs.Calls.Steps.{IsStepRun, StepFails}
 use Rattle.automata_hybrid.proofs.Steps.Steps.{known_answer, moved_answer, moved_run, unknown_clean}
 use Rattle.automata_hybrid.proofs.Searches.Contracts.{is_store}
@@ -36,11 +37,10 @@ returns-then-not-is_unknown-clause-run c =
     let known : c.args.cell < 2 ^ 31 = grind (arith, common_steps, c.if-not-is_unknown.ensures.size) in
     record {
       quit = λ on. refl;
-      taken = λ clean q n. (
-        (clean, subst (λ k. k < c.args.self.now.stride) c.unit_class.ensures.value c.unit_class.ensures.below),
-        is_store c.args.cache.now.store c.args.self.now c.requires.of c.see_bounds.ensures.bounds,
-        inl ((c.args.id, n, subst (λ n. n < 2 ^ 31) (c.requires.cell.0 known) known), refl),
-      );
+      taken = λ clean q n.
+          FindsCached (clean, subst (λ k. k < c.args.self.now.stride) c.unit_class.ensures.value c.unit_class.ensures.below)
+          (is_store c.args.cache.now.store c.args.self.now c.requires.of c.see_bounds.ensures.bounds)
+          (c.args.id, n, subst (λ n. n < 2 ^ 31) (c.requires.cell.0 known) known) refl;
     }
 
 pub compute_next-requires-clause-unknown : goal.compute_next-requires-clause-unknown

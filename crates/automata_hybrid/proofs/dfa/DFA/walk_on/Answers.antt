@@ -13,14 +13,14 @@ use Rattle.automata_hybrid.specs.Private.Walks.Parts.{IsAdvanceEffect, IsCallAns
 use Rattle.automata_hybrid.specs.Searches.Progress.{GoesToEnd, with_search_begun}
 use Rattle.automata_hybrid.specs.Calls.Events.{begun as began}
 use Rattle.automata_hybrid.proofs.Searches.Contracts.{is_store}
-use Rattle.automata_hybrid.specs.Walks.Progress.{IsCallStopped, IsWalkRun}
+use Rattle.automata_hybrid.specs.Walks.Progress.{FailsOnItsWay, FailsToGoOn, IsCallStopped, IsWalkRun, ReadsSome}
 use Rattle.automata_hybrid.specs.Searches.Passes.{HasReadNoQuit, given_up_offset, state_in, tape_in}
 use Rattle.automata_hybrid.specs.Cache.Stores.{with_searched}
 use Rattle.automata_hybrid.specs.Cache.Table.{Rows, Leads, Names}
 use Rattle.automata_hybrid.specs.Private.Walks.Answers.{Arrives, Finishes, IsArrival}
 use Rattle.automata_hybrid.specs.Walks.State.{Ids, Stage, Walk}
 use Rattle.automata_hybrid.specs.Private.Walks.State.{Holds, IsHeldAt, ended_walk, keeping_of}
-use Rattle.automata_hybrid.specs.declared.search.advance.Arrival.{Arrival}
+use Rattle.automata_hybrid.specs.declared.search.walk.advance.Arrival.{Arrival}
 use Rattle.automata_hybrid.proofs.Searches.Reads.{at_err}
 use Rattle.automata_hybrid.proofs.Searches.Skips.{skips_or_not}
 use Rattle.automata_hybrid.proofs.Walks.Progress.{call_leaves, reads_some}
@@ -40,7 +40,7 @@ returns-in_err-from-clause-effect c =
     let w : Walk = c.args.walk.now in
     let r = c.requires.walk.reads in
     at_err c.from_residual.result _ (λ (x : Result (Unit {0}) SearchError). IsWalkRun (keeping_of c.args.held.now) d m input w w c.args.cache.now c.resume.new.cache (result_err x)) c.from_residual.ensures.1
-    (record { of = (is_store c.args.cache.now.store c.args.self.now c.requires.of c.see_bounds.ensures.bounds); run = (reads_some input w r, inl (c.in_err-from.ensures.refusal, c.in_err-from.ensures.left)) })
+    (record { of = (is_store c.args.cache.now.store c.args.self.now c.requires.of c.see_bounds.ensures.bounds); run = FailsToGoOn (reads_some input w r) c.in_err-from.ensures.refusal c.in_err-from.ensures.left })
 
 pub returns-then-is_dead-clause-answer : goal.returns-then-is_dead-clause-answer
 returns-then-is_dead-clause-answer c =
@@ -79,23 +79,23 @@ returns-then-is_dead-clause-effect c =
     subst (λ (x : Walk). IsWalkRun (keeping_of c.args.held.now) d m input w x c.args.cache.now new None) (sym same)
     (record {
       of = (is_store c.args.cache.now.store c.args.self.now c.requires.of c.see_bounds.ensures.bounds);
-      run = (
-        λ over. refl,
-        inr (
-          reads_some input w r,
-          between,
-          0,
-          c.in_ok-from.ensures.resumed,
-          omega arith,
-          (λ k more less. absurd (omega (arith, more, less)), λ over reads. reads.1 dies),
-          subst (λ (v : CacheView). GoesToEnd d m input w.units 0 v new) begins (
-            c.search_start.new.self,
-            refl,
-            ended_here d input (w.units + (0 - 1)) c.span_offset-place.result c.search_start.new.self new
-                (ap (given_up_offset d input) (omega arith) ∙ sym first) c.end_search.ensures.value,
-          ),
-        ),
-      );
+      run =
+          ReadsSome (λ over. refl)
+          (record {
+            some = reads_some input w r;
+            begun = between;
+            resumed = c.in_ok-from.ensures.resumed;
+            units = 0;
+            counted = omega arith;
+            its = (λ k more less. absurd (omega (arith, more, less)), λ over reads. reads.1 dies);
+            read =
+                subst (λ (v : CacheView). GoesToEnd d m input w.units 0 v new) begins (
+                  c.search_start.new.self,
+                  refl,
+                  ended_here d input (w.units + (0 - 1)) c.span_offset-place.result c.search_start.new.self new
+                      (ap (given_up_offset d input) (omega arith) ∙ sym first) c.end_search.ensures.value,
+                );
+          });
     })
 
 pub returns-in_err-arrival-clause-effect : goal.returns-in_err-arrival-clause-effect
@@ -117,14 +117,9 @@ returns-in_err-arrival-clause-effect c =
     at_err c.from_residual-in_err-arrival.result _ (λ (x : Result (Unit {0}) SearchError). IsWalkRun (keeping_of c.args.held.now) d m input w w c.args.cache.now new (result_err x)) c.from_residual-in_err-arrival.ensures.1
     (record {
       of = (is_store c.args.cache.now.store c.args.self.now c.requires.of c.see_bounds.ensures.bounds);
-      run = (
-        reads_some input w r,
-        inr (
-          between,
-          c.in_ok-from.ensures.resumed,
-          call_leaves (keeping_of c.args.held.now) d m input w.units (with_search_begun d input w.units between) new c.in_err-arrival.field-0.0 left,
-        ),
-      );
+      run =
+          FailsOnItsWay (reads_some input w r) between c.in_ok-from.ensures.resumed
+          (call_leaves (keeping_of c.args.held.now) d m input w.units (with_search_begun d input w.units between) new c.in_err-arrival.field-0.0 left);
     })
 
 pub returns-in_default-clause-answer : goal.returns-in_default-clause-answer

@@ -1,0 +1,136 @@
+-- What a look-up of a state finds, and what adding one gives, where it fits and where the cache was cleared first.
+use Rattle.std.proofs.Common.{◌≡◌, ◌∙◌, ◌≤◌, ◌⊎◌, ℕ, length, None, false, ap, subst, sym}
+use Rattle.automata_base.specs.Powersets.Powerset.{Powerset, cost}
+use Rattle.automata_hybrid.specs.Machines.Reachable.{IsStateOf}
+use Rattle.automata_hybrid.specs.declared.cache.Found.{Found}
+use Rattle.automata_hybrid.specs.declared.cache.row.Row.{Row}
+use Rattle.automata_hybrid.specs.Cache.Caches.{CacheView}
+use Rattle.automata_hybrid.specs.Cache.Clears.{row_of}
+use Rattle.automata_hybrid.specs.Cache.Changes.{ClearsFirst, JustGrows, cleared_saving, grown, put_found}
+use Rattle.automata_hybrid.specs.Private.Cache.Changes.{AddsNext, AddsRow}
+use Rattle.automata_hybrid.specs.Private.Cache.LookUps.{IsLookedUp}
+use Rattle.automata_hybrid.specs.Machines.Machine.{Machine}
+use Rattle.automata_hybrid.specs.Cache.Stores.{KeepsStarts, Stored, with_table}
+use Rattle.automata_hybrid.specs.Cache.Table.{IsKnownState, Lacks, Names, Rows, id_of}
+use Rattle.automata_hybrid.specs.Private.Cache.Table.{IsNewState}
+use Rattle.automata_hybrid.specs.Cache.Usage.{Fits, cleared, refuses_to_clear}
+use Rattle.automata_hybrid.specs.Private.Cache.Usage.{IsCleared}
+use Rattle.automata_hybrid.proofs.Steps.Effects.{only-grown}
+
+-- a state to be added, by the machine that a table is of
+pub new_state :
+    (m : Machine) (t : Rows) (q : Powerset) → t.of ≡ m → Lacks t q → cost q ≤ m.greatest → IsStateOf m q → IsNewState t q
+new_state m t q of lacks cheap own = record {
+  lacks = lacks;
+  cheap = subst (λ (n : Machine). cost q ≤ n.greatest) (sym of) cheap;
+  own = subst (λ (n : Machine). IsStateOf n q) (sym of) own;
+}
+
+-- and to be added to another table of that machine
+pub new_there : (t u : Rows) (q : Powerset) → u.of ≡ t.of → id_of u q ≡ None → IsNewState t q → IsNewState u q
+new_there t u q of none n = new_state t.of u q of (none, n.lacks.1) n.cheap n.own
+
+-- what the look-up found, of the cache as it is after it
+pub looked_up :
+    (before after : CacheView) (key : Powerset) (found at : Found)
+    → after ≡ before → found ≡ at → IsLookedUp before.store.table key found → IsLookedUp after.store.table key at
+looked_up before after key found at same is h =
+    subst (λ (v : CacheView). IsLookedUp v.store.table key at) (sym same) (subst (λ (f : Found). IsLookedUp before.store.table key f) is h)
+
+-- a key's state costs no more than a state may
+pub cheap :
+    (m n : Machine) (key target : Powerset)
+    → n ≡ m → key ≡ target → cost key ≤ m.greatest → cost target ≤ n.greatest
+cheap m n key target of is h = subst (λ (d : Machine). cost target ≤ d.greatest) (sym of) (subst (λ (q : Powerset). cost q ≤ m.greatest) is h)
+
+only_row :
+    (old between new : Stored) (r : Row)
+    → ((p : Powerset) → id_of old.table p ≡ None → id_of between.table p ≡ None) → new ≡ grown between r
+    → (p : Powerset) → IsKnownState new.table p → IsKnownState old.table p ⊎ (p ≡ r.state)
+only_row old between new r absent e =
+    subst (λ (s : Stored). (p : Powerset) → IsKnownState s.table p → IsKnownState old.table p ⊎ (p ≡ r.state)) (sym e)
+    (only-grown old.table between.table r absent)
+
+still_starts :
+    (old between new : Stored) (r : Row) → KeepsStarts old.starts between.starts → new ≡ grown between r
+    → KeepsStarts old.starts new.starts
+still_starts old between new r keeps e = subst (λ (s : Stored). KeepsStarts old.starts s.starts) (sym e) keeps
+
+-- a state that fits
+adds_fits :
+    (old emptied new : Stored) (r : Row) (id : ℕ)
+    → Fits old (cost r.state) → new ≡ grown old r → Names new.table id r.state → AddsRow old emptied new r id
+adds_fits old emptied new r id fits e named = record {
+  effect = JustGrows fits e;
+  named = named;
+  only = only_row old old new r (λ p none. none) e;
+  slots = ap (λ (s : Stored). length s.starts) e;
+  starts = still_starts old old new r (λ slot k. k) e;
+  of = ap (λ (s : Stored). s.table.of) e;
+}
+
+-- a state that does not fit: the cache was cleared
+adds_clears :
+    (old emptied new : Stored) (r : Row) (id : ℕ)
+    → (Fits old (cost r.state) → ⊥) → refuses_to_clear old ≡ false
+    → ((p : Powerset) → id_of old.table p ≡ None → id_of emptied.table p ≡ None) → KeepsStarts old.starts emptied.starts
+    → length emptied.starts ≡ length old.starts → emptied.table.of ≡ old.table.of
+    → new ≡ grown emptied r → Names new.table id r.state → AddsRow old emptied new r id
+adds_clears old emptied new r id full may absent keeps slots of e named = record {
+  effect = ClearsFirst full may e;
+  named = named;
+  only = only_row old emptied new r absent e;
+  slots = ap (λ (s : Stored). length s.starts) e ∙ slots;
+  starts = still_starts old emptied new r keeps e;
+  of = ap (λ (s : Stored). s.table.of) e ∙ of;
+}
+
+-- a state stepped to that fits
+pub next_fits :
+    (old new : Stored) (from next : ℕ) (q : Powerset)
+    → Fits old (cost q) → new ≡ grown old (record { state = q; started = false })
+    → ((id : ℕ) (p : Powerset) → Names old.table id p → Names new.table id p) → Names new.table next q
+    → AddsNext old new from q from next
+next_fits old new from next q fits e kept named =
+    record { row = adds_fits old (cleared_saving old from) new (record { state = q; started = false }) next fits e named; saved = kept from }
+
+-- a state stepped to that does not fit: the row stepped from was put back
+pub next_clears :
+    (old fresh between new : Stored) (from now next : ℕ) (q : Powerset)
+    → (Fits old (cost q) → ⊥) → IsCleared old fresh
+    → between ≡ with_table fresh (put_found fresh.table (row_of old.table from)) → between.table.of ≡ fresh.table.of
+    → ((p : Powerset) → Names old.table from p → Names between.table now p)
+    → ((p : Powerset) → id_of old.table p ≡ None → id_of fresh.table p ≡ None → id_of between.table p ≡ None)
+    → new ≡ grown between (record { state = q; started = false })
+    → ((id : ℕ) (p : Powerset) → Names between.table id p → Names new.table id p) → Names new.table next q
+    → AddsNext old new from q now next
+next_clears old fresh between new from now next q full clear put of saved absent e kept named = record {
+  row =
+      subst (λ (s : Stored). AddsRow old s new r next) all
+      (adds_clears old between new r next full clear.allowed (λ p none. absent p none (clear.kept.absent p none))
+      (subst (KeepsStarts old.starts) (sym slots) clear.kept.known) (ap (λ xs. length xs) slots ∙ clear.kept.slots) (of ∙ clear.kept.of) e named);
+  saved = λ p n. kept now p (saved p n);
+} where
+  r : Row
+  r = record { state = q; started = false }
+
+  all : between ≡ cleared_saving old from
+  all = put ∙ (λ i. with_table (clear.value i) (put_found (clear.value i).table (row_of old.table from)))
+
+  slots : between.starts ≡ fresh.starts
+  slots = ap (λ (s : Stored). s.starts) put
+
+-- a start state that fits
+pub start_fits :
+    (old new : Stored) (r : Row) (id : ℕ)
+    → Fits old (cost r.state) → new ≡ grown old r → Names new.table id r.state → AddsRow old (cleared old) new r id
+start_fits old new r id fits e named = adds_fits old (cleared old) new r id fits e named
+
+-- a start state that does not fit
+pub start_clears :
+    (old fresh new : Stored) (r : Row) (id : ℕ)
+    → (Fits old (cost r.state) → ⊥) → IsCleared old fresh → new ≡ grown fresh r → Names new.table id r.state
+    → AddsRow old (cleared old) new r id
+start_clears old fresh new r id full clear e named =
+    subst (λ (s : Stored). AddsRow old s new r id) clear.value
+    (adds_clears old fresh new r id full clear.allowed clear.kept.absent clear.kept.known clear.kept.slots clear.kept.of e named)

@@ -1,5 +1,0 @@
-use Rattle.automata_base.specs.Powersets.Powerset.{cost}
-use Rattle.automata_hybrid.proofs.dfa.store.Store.replace.Goals as goal
-
-pub add_row-requires-clause-fits : goal.add_row-requires-clause-fits
-add_row-requires-clause-fits c = c.requires.room (cost c.args.state) c.requires.new.cheap

@@ -1,8 +1,0 @@
-use Rattle.std.proofs.Common.{subst}
-use Rattle.automata_hybrid.proofs.Cache.Places.{RowsFitCells-costs}
-use Rattle.automata_hybrid.specs.Cache.Table.{RowsFitCells}
-use Rattle.automata_hybrid.proofs.dfa.table.Table.costs.Goals as goal
-
-pub returns-clause-most : goal.returns-clause-most
-returns-clause-most c =
-    RowsFitCells-costs c.args.self.now (subst RowsFitCells c.self.view_is c.self.invariant.rows)

@@ -1,0 +1,301 @@
+//! Leaps: where cached transitions lead from a row on a few bytes, looked up at once. They are made of the table for
+//! all rows that it has, and by the classes of bytes. A cell says which row comes after so many bytes, if each
+//! transition on the way is cached and leads to an ID without a tag, and else that these bytes are to be followed one
+//! by one. So they say nothing that the table does not say, and no contract of a search speaks of them.
+ghost use Rattle.std.specs.Prelude.{ℕ, suc, ◌≡◌, true, false, ◌+◌, ◌*◌, ◌^◌, ◌<◌, ◌≤◌, IfOk, IfSome, None, OnOk};
+ghost use Rattle.std.specs.Prelude.{length, slice_index};
+ghost use Rattle.automata_hybrid.specs.Private.Cache.Leaps.{AreLeaps, AreLeapSteps, IsLevel, IsShape, IsShapeOf, first_cell};
+ghost use Rattle.automata_hybrid.specs.Private.Cache.Leaps.{leaps_bytes, making_bytes};
+
+use crate::cache::progress::Searched;
+use crate::cache::table::Table;
+use std::alloc::{AllocError, Global};
+
+/// What stands in a cell whose bytes are to be followed one by one.
+pub(crate) const MARK: u32 = u32::MAX;
+
+/// At most so many rows have leaps.
+const MOST: usize = 1 << 18;
+
+/// How many bytes leaps take beside their cells.
+const SIZE: usize = 64;
+
+/// How many bytes are searched at least before leaps are made.
+const FIRST: usize = 4096;
+
+/// How many bytes are searched for each cell before leaps are made.
+const PRICE: usize = 16;
+
+/// How many bytes a leap takes, and how many cells there are.
+#[derive(Clone, Copy)]
+pub(crate) struct Shape {
+    /// How many bytes a leap takes.
+    pub(crate) reach: usize,
+    /// How many classes of bytes there are.
+    pub(crate) classes: usize,
+    /// How many rows have leaps.
+    pub(crate) rows: usize,
+    /// How many cells a row has: one for each sequence of so many classes.
+    pub(crate) width: usize,
+}
+
+/// The leaps of the rows that a table had when they were made.
+#[derive(Drop)]
+pub(crate) struct Leaps {
+    pub(crate) shape: Shape,
+    /// The place of the first cell of the row that comes next, or a mark.
+    pub(crate) cells: Vec<u32>,
+}
+
+/// The leaps of a cache, if there are some, and when it looks whether to make them.
+#[derive(Drop)]
+pub(crate) struct Leaping {
+    pub(crate) leaps: Option<Box<Leaps>>,
+    /// How many bytes were searched since the last clear when it looks next.
+    pub(crate) due: usize,
+}
+
+impl Leaping {
+    /// No leaps yet, as in a new cache and after a clear.
+    pub(crate) fn new() -> Leaping
+        ensures { result.leaps ≡ None }
+    {
+        Leaping {
+            leaps: None,
+            due: FIRST,
+        }
+    }
+
+    /// No leaps until the next clear.
+    pub(crate) fn none() -> Leaping
+        ensures { result.leaps ≡ None }
+    {
+        Leaping {
+            leaps: None,
+            due: usize::MAX,
+        }
+    }
+
+    /// Drops leaps, if there are some, since the rows will be others.
+    #[inline(always)]
+    pub(crate) fn drop_leaps(&mut self, searched: &Searched)
+        ensures { self.new.leaps ≡ None }
+    {
+        if self.leaps.is_some() {
+            self.end(searched.total_len());
+        }
+    }
+
+    /// Drops leaps, if a cell is written that was cached.
+    pub(crate) fn keep_if(&mut self, unknown: bool, searched: &Searched)
+        ensures kept { unknown ≡ true → self.new.leaps ≡ self.old.leaps }
+        ensures dropped { unknown ≡ false → self.new.leaps ≡ None }
+    {
+        if !unknown {
+            self.drop_leaps(searched);
+        }
+    }
+
+    /// Drops leaps. As many bytes as before are searched before they are made anew.
+    #[inline(never)]
+    fn end(&mut self, searched: usize)
+        ensures { self.new.leaps ≡ None }
+    {
+        let price = match &self.leaps {
+            Some(leaps) => leaps.shape.price(),
+            None => 0,
+        };
+        self.leaps = None;
+        self.due = searched.saturating_add(price);
+    }
+}
+
+/// How many bytes a leap takes, by the number of classes: none if these are many.
+fn reach_for(classes: usize) -> usize
+    ensures short { result ≤ 4 }
+    ensures narrow { 0 < result → classes ^ result ≤ 2 ^ 10 }
+    ensures few { 0 < result → classes ≤ 32 }
+{
+    if classes <= 5 {
+        4
+    } else if classes <= 10 {
+        3
+    } else if classes <= 32 {
+        2
+    } else {
+        0
+    }
+}
+
+impl Shape {
+    /// The shape of leaps for so many classes and rows, if these are not too many.
+    pub(crate) fn of(classes: usize, rows: usize) -> Option<Shape>
+        ensures shape { IfSome result IsShape }
+        ensures classes { IfSome result (λ s. s.classes ≡ classes) }
+        ensures rows { IfSome result (λ s. s.rows ≡ rows) }
+    {
+        let reach = reach_for(classes);
+        if reach == 0 || rows > MOST {
+            return None;
+        }
+        let width = classes.pow(reach as u32);
+        Some(Shape {
+            reach,
+            classes,
+            rows,
+            width,
+        })
+    }
+
+    /// How many bytes these leaps take.
+    pub(crate) fn bytes(self) -> usize
+        requires { IsShape self }
+        ensures { result ≡ leaps_bytes (self.rows * self.width) }
+    {
+        SIZE + 4 * (self.rows * self.width)
+    }
+
+    /// How many bytes are taken while these leaps are made: by them, by the rows after one byte, and by those after one
+    /// byte less than a leap takes.
+    pub(crate) fn making(self) -> usize
+        requires { IsShape self }
+        ensures { result ≡ making_bytes self }
+    {
+        let steps = (self.rows + 1) * self.classes;
+        let level = self.rows * (self.width / self.classes.max(1));
+        self.bytes() + 4 * (steps + level)
+    }
+
+    /// How many bytes are searched before these leaps are made.
+    pub(crate) fn price(self) -> usize {
+        PRICE.saturating_mul(self.rows.saturating_mul(self.width))
+    }
+}
+
+/// Adds the rows to which the transitions of a row lead, class by class. The number of rows stands for none.
+fn add_steps(
+    steps: &mut Vec<u32>,
+    table: &Table,
+    classes: usize,
+    row: usize,
+) -> Result<(), AllocError>
+    requires row { row < length table.now.rows }
+    requires rows { length table.now.rows ≤ 2 ^ 18 }
+    requires classes { classes ≤ table.now.of.stride }
+    requires place { length steps.old.items ≡ row * classes }
+    requires steps { AreLeapSteps table.now classes steps.old.items }
+    ensures place { OnOk result (length steps.new.items ≡ (row + 1) * classes) }
+    ensures steps { OnOk result (AreLeapSteps table.now classes steps.new.items) }
+{
+    for class in 0..classes {
+        steps.push(table.row_after(row, class) as u32)?;
+    }
+    Ok(())
+}
+
+/// The rows after one byte, for each row and class. From none, which comes last, each class leads to none.
+fn steps_of(alloc: Global, table: &Table, classes: usize) -> Result<Vec<u32>, AllocError>
+    requires rows { length table.now.rows ≤ 2 ^ 18 }
+    requires classes { classes ≤ table.now.of.stride }
+    requires few { classes ≤ 32 }
+    ensures long { IfOk result (λ v. length v.items ≡ (length table.now.rows + 1) * classes) }
+    ensures steps { IfOk result (λ v. AreLeapSteps table.now classes v.items) }
+{
+    let rows = table.len();
+    let mut steps = Vec::with_capacity(alloc, (rows + 1) * classes)?;
+    for row in 0..rows {
+        add_steps(&mut steps, table, classes, row)?;
+    }
+    steps.resize((rows + 1) * classes, rows as u32)?;
+    Ok(steps)
+}
+
+/// The rows after one more byte: those that come after each. The table is there for the contract alone.
+fn next_level(
+    alloc: Global,
+    _table: &Table,
+    steps: &[u32],
+    classes: usize,
+    level: &[u32],
+) -> Result<Vec<u32>, AllocError>
+    requires long { length steps.now ≡ (length _table.now.rows + 1) * classes }
+    requires steps { AreLeapSteps _table.now classes steps.now }
+    requires room { length level.now * classes < 2 ^ 64 }
+    requires level { (count : ℕ) × IsLevel _table.now classes count level.now }
+    ensures long { IfOk result (λ v. length v.items ≡ length level.now * classes) }
+    ensures level { IfOk result (λ v. (count : ℕ) → IsLevel _table.now classes count level.now
+        → IsLevel _table.now classes (suc count) v.items) }
+{
+    let mut next = Vec::with_capacity(alloc, level.len() * classes)?;
+    for row in level {
+        let from = *row as usize * classes;
+        next.extend_from_slice(&steps[from..from + classes])?;
+    }
+    Ok(next)
+}
+
+/// The rows after so many bytes, for each row and sequence of classes.
+fn last_level(
+    alloc: Global,
+    table: &Table,
+    steps: &[u32],
+    shape: Shape,
+) -> Result<Vec<u32>, AllocError>
+    requires shape { IsShape shape }
+    requires rows { shape.rows ≡ length table.now.rows }
+    requires long { length steps.now ≡ (length table.now.rows + 1) * shape.classes }
+    requires steps { AreLeapSteps table.now shape.classes steps.now }
+    ensures long { IfOk result (λ v. length v.items ≡ shape.rows * shape.width) }
+    ensures level { IfOk result (λ v. IsLevel table.now shape.classes shape.reach v.items) }
+{
+    let mut level = Vec::from_slice(alloc, &steps[..shape.rows * shape.classes])?;
+    for _ in 1..shape.reach {
+        level = next_level(alloc, table, steps, shape.classes, level.as_slice())?;
+    }
+    Ok(level)
+}
+
+/// Puts the place of a row's first cell in place of its index, and the mark in place of none.
+fn scale(cells: &mut Vec<u32>, rows: usize, width: usize)
+    requires rows { rows ≤ 2 ^ 18 }
+    requires width { width ≤ 2 ^ 10 }
+    ensures long { length cells.new.items ≡ length cells.old.items }
+    ensures cells { (k : ℕ) → k < length cells.old.items
+        → slice_index cells.new.items k ≡ first_cell rows width (slice_index cells.old.items k) }
+{
+    for k in 0..cells.len() {
+        let row = cells[k] as usize;
+        cells[k] = if row < rows {
+            (row * width) as u32
+        } else {
+            MARK
+        };
+    }
+}
+
+impl Leaps {
+    /// The leaps of all rows of a table.
+    pub(crate) fn of_table(alloc: Global, table: &Table, shape: Shape) -> Result<Leaps, AllocError>
+        requires of { IsShapeOf table.now shape }
+        requires rows { shape.rows ≡ length table.now.rows }
+        requires stride { shape.classes ≤ table.now.of.stride }
+        ensures leaps { IfOk result (AreLeaps table.now) }
+        ensures shape { IfOk result (λ l. l.shape ≡ shape) }
+    {
+        let steps = steps_of(alloc, table, shape.classes)?;
+        let mut cells = last_level(alloc, table, steps.as_slice(), shape)?;
+        scale(&mut cells, shape.rows, shape.width);
+        Ok(Leaps { shape, cells })
+    }
+
+    /// The cell at a column of a row whose first cell is at a place. The column is found first, so that from one row to
+    /// the next there is one load alone.
+    #[inline(always)]
+    pub(crate) fn cell(&self, row: u32, column: usize) -> u32
+        requires { row + column < length self.now.cells.items }
+        ensures { result ≡ slice_index self.now.cells.items (row + column) }
+    {
+        let cells = &self.cells.as_slice()[column..];
+        cells[row as usize]
+    }
+}

@@ -1,0 +1,253 @@
+//! What a clear replaces: the table of states, the start slots, the count of clears and the progress of searches. The
+//! rules of the settings are here: what a state costs, whether it fits, and whether a search gives up in place of a
+//! clear.
+ghost use Rattle.std.specs.Prelude.{ℕ, ◌≡◌, ◌+◌, ◌*◌, ◌<◌, ◌≤◌, ◌↔◌, None, IfOk, IfErr, OnOk, OnErr, length, IsTrue};
+ghost use Rattle.std.specs.Prelude.{true};
+ghost use Rattle.automata_base.specs.Powersets.Powerset.{Powerset, cost};
+ghost use Rattle.automata_base.specs.Powersets.Accounting.{minimum_capacity};
+ghost use Rattle.automata_hybrid.specs.Cache.Ids.{offset_limit};
+ghost use Rattle.automata_hybrid.specs.Private.Machines.Machine.{IsTemplate};
+ghost use Rattle.automata_hybrid.specs.Cache.Table.{id_of, Names, IsRowId};
+ghost use Rattle.automata_hybrid.specs.Private.Cache.Table.{IsNewState};
+ghost use Rattle.automata_hybrid.specs.Cache.Clears.{row_of};
+ghost use Rattle.automata_hybrid.specs.Cache.Stores.{with_table, IsCacheError, fresh_store};
+ghost use Rattle.automata_hybrid.specs.Private.Cache.Stores.{cache_settings};
+ghost use Rattle.automata_hybrid.specs.Cache.Usage.{usage, Fits, refuses_to_clear};
+ghost use Rattle.automata_hybrid.specs.Private.Cache.Usage.{FitsAny, IsCleared};
+ghost use Rattle.automata_hybrid.specs.Cache.Changes.{grown, put_found};
+
+use crate::cache::clears::{keep_row, keep_starts};
+use crate::cache::progress::Searched;
+use crate::cache::row;
+use crate::cache::settings::Settings;
+use crate::cache::table::Table;
+use crate::dfa::DFA;
+use crate::id::LazyStateID;
+use automata_base::util::determinize::State;
+use automata_config::accounting::{CELL_SIZE, ENTRY_SIZE, FIXED_ROWS_COST, ROW_SIZE};
+use automata_config::error::{CacheError, StepError};
+use std::alloc::AllocError;
+use std::marker::Model;
+
+/// How many rows a new cache has room for, so that a short search does not move them.
+const FIRST_ROWS: usize = 8;
+
+/// A lazy DFA's cache, whose accounted bytes never pass its capacity.
+#[derive(Drop)]
+pub struct Store {
+    pub(super) table: Table,
+    pub(super) starts: Vec<LazyStateID>,
+    settings: Settings,
+    pub(super) clears: usize,
+    pub(super) searched: Searched,
+}
+
+impl Model for Store {
+    ghost use Rattle.automata_hybrid.specs.Cache.Stores.{Stored};
+    ghost use Rattle.automata_hybrid.specs.Private.Cache.Usage.{IsCache};
+
+    ghost Value = { Stored };
+
+    ghost view = { λ c. record { table = c.table; starts = c.starts.items; clears = c.clears; searched = c.searched } };
+
+    ghost invariant = { λ c. IsCache
+        (record { table = c.table; starts = c.starts.items; clears = c.clears; searched = c.searched }) c.settings };
+}
+
+impl Clone for Store {
+    ghost is_clone = { λ a b. b ≡ a };
+
+    fn clone(&self) -> Result<Store, AllocError> {
+        Ok(Store {
+            table: self.table.clone()?,
+            starts: self.starts.clone()?,
+            settings: self.settings,
+            clears: self.clears,
+            searched: self.searched,
+        })
+    }
+}
+
+impl Store {
+    /// The fixed rows alone, and no start.
+    pub fn new(
+        dfa: &DFA,
+        stride: usize,
+        template: Vec<LazyStateID>,
+        slots: usize,
+        settings: Settings,
+    ) -> Result<Store, AllocError>
+        requires whole { IsTemplate stride template.items }
+        requires stride { stride ≡ dfa.now.stride }
+        requires template { template.items ≡ dfa.now.template }
+        requires slots { slots ≡ dfa.now.slots }
+        requires settings { settings ≡ cache_settings dfa.now }
+        requires enough { minimum_capacity stride slots dfa.now.greatest settings.fixed ≤ settings.capacity }
+        requires offsets { (slots + 4) * stride < offset_limit }
+        ensures { IfOk result (λ c. c ≡ fresh_store dfa.now) }
+    {
+        let _capacity = settings.capacity;
+        let table = Table::fresh(dfa, stride, template, FIRST_ROWS)?;
+        let mut starts = Vec::with_capacity(dfa.get_nfa().alloc(), slots)?;
+        starts.resize(slots, LazyStateID::UNKNOWN)?;
+        Ok(Store {
+            table,
+            starts,
+            settings,
+            clears: 0,
+            searched: Searched {
+                bytes: 0,
+                running: None,
+            },
+        })
+    }
+
+    /// The accounted bytes.
+    pub fn memory_usage(&self) -> usize
+        ensures usage { result ≡ usage self.now }
+        ensures within { result ≤ self.now.table.of.capacity }
+    {
+        let states = self.table.len();
+        CELL_SIZE * self.table.cell_count()
+            + CELL_SIZE * self.starts.len()
+            + ROW_SIZE * (states + 3)
+            + ENTRY_SIZE * (states + 1)
+            + FIXED_ROWS_COST
+            + self.table.costs()
+            + self.settings.fixed
+    }
+
+    /// The accounted bytes of a new state. They are counted once, for all calls that need them.
+    pub fn cost_of(&self, state: &State) -> usize
+        requires { cost state.now ≤ self.now.table.of.greatest }
+        ensures { result ≡ cost state.now }
+    {
+        let _capacity = self.settings.capacity;
+        row::cost(state)
+    }
+
+    /// Whether a new state of so many bytes fits.
+    pub fn fits(&self, bytes: usize) -> bool
+        requires { bytes ≤ self.now.table.of.greatest }
+        ensures { IsTrue result ↔ Fits self.now bytes }
+    {
+        let used = self.memory_usage();
+        let room = self.settings.capacity - used;
+        let row = CELL_SIZE * self.table.stride() + ROW_SIZE + ENTRY_SIZE;
+        row + bytes <= room && self.table.cell_count() < LazyStateID::OFFSET_LIMIT
+    }
+
+    /// The bytes of the capacity that are not taken.
+    pub fn room(&self) -> usize
+        ensures { usage self.now + result ≤ self.now.table.of.capacity }
+    {
+        self.settings.capacity - self.memory_usage()
+    }
+
+    /// Whether a search gives up in place of a clear.
+    pub fn refuses(&self) -> bool
+        ensures { result ≡ refuses_to_clear self.now }
+    {
+        let Some(limit) = self.settings.minimum_clear_count else {
+            return false;
+        };
+        if self.clears < limit {
+            return false;
+        }
+        let Some(bytes) = self.settings.minimum_bytes_per_state else {
+            return true;
+        };
+        self.searched.total_len() < bytes.saturating_mul(self.table.len() + 3)
+    }
+
+    /// Whether a search gives up at a state that no row has: it does not fit, and no clear is allowed for it.
+    pub fn gives_up(&self, state: &State) -> bool
+        requires { cost state.now ≤ self.now.table.of.greatest }
+        ensures { IsTrue result ↔ ((Fits self.now (cost state.now) → ⊥) × (refuses_to_clear self.now ≡ true)) }
+    {
+        !self.fits(self.cost_of(state)) && self.refuses()
+    }
+
+    /// What a clear leaves of the cache, unless the search gives up. It changes nothing here.
+    pub fn cleared(&self, dfa: &DFA) -> Result<Store, StepError>
+        requires { dfa.now ≡ self.now.table.of }
+        ensures cleared { IfOk result (IsCleared self.now) }
+        ensures room { IfOk result FitsAny }
+        ensures gives_up { IfErr result (λ e. IsCacheError e ↔ (refuses_to_clear self.now ≡ true)) }
+    {
+        if self.refuses() {
+            return Err(StepError::Cache(CacheError));
+        }
+        let (table, starts) = keep_starts(dfa, &self.table, self.starts.as_slice())?;
+        table.see_rows();
+        Ok(Store {
+            table,
+            starts,
+            settings: self.settings,
+            clears: self.clears.saturating_add(1),
+            searched: self.searched.cleared(),
+        })
+    }
+
+    /// Adds a row for a state that fits, whose accounted bytes these are.
+    #[inline(always)]
+    pub fn add_row(
+        &mut self,
+        state: State,
+        started: bool,
+        bytes: usize,
+    ) -> Result<LazyStateID, AllocError>
+        requires new { IsNewState self.old.table state }
+        requires bytes { bytes ≡ cost state }
+        requires fits { Fits self.old (cost state) }
+        ensures ok { OnOk result (self.new ≡ grown self.old (record { state = state; started = started })) }
+        ensures named { IfOk result (λ id. Names self.new.table id state) }
+        ensures kept { OnOk result ((id : ℕ) (q : Powerset) → Names self.old.table id q → Names self.new.table id q) }
+        ensures of { OnOk result (self.new.table.of ≡ self.old.table.of) }
+        ensures err { OnErr result (self.new ≡ self.old) }
+    {
+        self.table.see_rows();
+        let added = self.table.add(state, started, bytes)?;
+        Ok(added)
+    }
+
+    /// Takes the row of another table over, where few rows are here.
+    pub fn keep_saved(&mut self, old: &Table, id: LazyStateID) -> Result<LazyStateID, AllocError>
+        requires valid { IsRowId old.now id }
+        requires of { self.old.table.of ≡ old.now.of }
+        requires few { length self.old.table.rows ≤ length self.old.starts }
+        ensures row { OnOk result (self.new ≡ with_table self.old (put_found self.old.table (row_of old.now id))) }
+        ensures named { IfOk result (λ n. (q : Powerset) → Names old.now id q → Names self.new.table n q) }
+        ensures room { OnOk result (FitsAny self.new) }
+        ensures absent { OnOk result ((q : Powerset) → id_of old.now q ≡ None → id_of self.old.table q ≡ None
+            → id_of self.new.table q ≡ None) }
+        ensures of { OnOk result (self.new.table.of ≡ self.old.table.of) }
+    {
+        self.table.see_rows();
+        let kept = keep_row(&mut self.table, old, id)?;
+        self.table.see_rows();
+        Ok(kept)
+    }
+
+    /// Puts what a clear left in place of the cache, with a row for a state. An error changes nothing.
+    pub fn replace(
+        &mut self,
+        mut fresh: Store,
+        state: State,
+        started: bool,
+        bytes: usize,
+    ) -> Result<LazyStateID, AllocError>
+        requires room { FitsAny fresh }
+        requires bytes { bytes ≡ cost state }
+        requires new { IsNewState fresh.table state }
+        ensures ok { OnOk result (self.new ≡ grown fresh (record { state = state; started = started })) }
+        ensures named { IfOk result (λ id. Names self.new.table id state) }
+        ensures kept { OnOk result ((id : ℕ) (q : Powerset) → Names fresh.table id q → Names self.new.table id q) }
+        ensures of { OnOk result (self.new.table.of ≡ fresh.table.of) }
+        ensures err { OnErr result (self.new ≡ self.old) }
+    {
+        let id = fresh.add_row(state, started, bytes)?;
+        *self = fresh;
+        Ok(id)
+    }
+}

@@ -1,0 +1,357 @@
+//! The transition table: a row of cells for each state, after the three fixed rows (unknown, dead and quit), and the
+//! map from states to the IDs of their rows. An ID has the offset of its row, so that a step adds a class and loads
+//! one cell. The cell is unknown until the step has been taken once.
+ghost use Rattle.std.specs.Prelude.{ℕ, ◌≡◌, ◌+◌, ◌-◌, ◌*◌, ◌/◌, ◌%◌, ◌^◌, ◌<◌, ◌≤◌, None, Some, IfOk, IsTrue};
+ghost use Rattle.std.specs.Prelude.{◌↔◌, OnOk, OnErr, length, slice_index, slice_set, slice_get, sum_by, false, cond};
+ghost use Rattle.automata_base.specs.Powersets.Powerset.{Powerset, cost};
+ghost use Rattle.automata_base.specs.ByteClasses.Classes.{eoi_class, stride_for};
+ghost use Rattle.automata_base.specs.Powersets.Powerset.{dead};
+ghost use Rattle.automata_hybrid.specs.Machines.Reachable.{IsStateOf};
+ghost use Rattle.automata_hybrid.specs.Cache.Ids.{unknown_id, offset_limit};
+ghost use Rattle.automata_hybrid.specs.Machines.Machine.{marked};
+ghost use Rattle.automata_hybrid.specs.Private.Machines.Machine.{IsTemplate};
+ghost use Rattle.automata_hybrid.specs.Cache.Table.{id_of, with_row, fresh, Names, row_cost, IsRowId, LeadsByClass};
+ghost use Rattle.automata_hybrid.specs.Private.Cache.Table.{HasState};
+ghost use Rattle.automata_hybrid.specs.Private.Cache.Table.{IsNewState, IsSoundTable};
+ghost use Rattle.automata_hybrid.specs.Cache.Table.{IsCell, cell_at, with_cell};
+ghost use Rattle.automata_hybrid.specs.Private.Cache.Leaps.{LeadsToRow};
+ghost use Rattle.automata_hybrid.specs.Cache.States.{held_states};
+
+use crate::cache::row;
+use crate::cache::row::Row;
+use crate::cache::states::States;
+use crate::dfa::DFA;
+use crate::id::LazyStateID;
+use automata_base::util::alphabet::ByteClasses;
+use automata_base::util::byte_set::ByteSet;
+use automata_base::util::determinize::{Key, State};
+use automata_base::util::subject::Subject;
+use std::alloc::{AllocError, AllocFailed, Global};
+use std::collections::HashMap;
+use std::marker::Model;
+
+/// The rows of a lazy DFA, and the map from states to them.
+#[derive(Drop)]
+pub struct Table {
+    of: Subject<DFA>,
+    stride: usize,
+    template: Vec<LazyStateID>,
+    cells: Vec<LazyStateID>,
+    rows: Vec<Row>,
+    map: HashMap<Key, LazyStateID>,
+    costs: usize,
+}
+
+impl Model for Table {
+    ghost use Rattle.automata_hybrid.specs.Cache.Table.{Rows};
+    ghost use Rattle.automata_hybrid.specs.Private.Cache.Table.{IsHeld};
+
+    ghost Value = { Rows };
+
+    ghost view = { λ t. record { of = t.of.value; cells = t.cells.items; rows = t.rows.items } };
+
+    ghost invariant = { λ t. IsHeld (record { of = t.of.value; cells = t.cells.items; rows = t.rows.items }) t.stride
+        t.template.items t.map t.costs };
+}
+
+impl Clone for Table {
+    ghost is_clone = { λ a b. b ≡ a };
+
+    fn clone(&self) -> Result<Table, AllocError> {
+        let template = self.template.clone()?;
+        let cells = self.cells.clone()?;
+        let rows = self.rows.clone()?;
+        let map = self.map.clone()?;
+        Ok(Table {
+            of: self.of.again(),
+            stride: self.stride,
+            template,
+            cells,
+            rows,
+            map,
+            costs: self.costs,
+        })
+    }
+}
+
+/// The number of rows before an offset. The stride is a power of two, and a shift is far faster than a division.
+fn rows_before(offset: usize, stride: usize) -> usize
+    requires positive { 0 < stride }
+    requires power { (len : ℕ) × (stride ≡ stride_for len) }
+    ensures { result ≡ offset / stride }
+{
+    offset >> stride.ilog2()
+}
+
+impl Table {
+    /// The ID of a state, where the table has it.
+    #[inline(always)]
+    pub fn get(&self, state: &Key) -> Option<LazyStateID>
+        ensures { result ≡ id_of self.now state.now }
+    {
+        self.map.get(state).copied()
+    }
+
+    /// The number of rows.
+    pub fn len(&self) -> usize
+        ensures value { result ≡ length self.now.rows }
+        ensures whole { length self.now.cells ≡ (length self.now.rows + 3) * self.now.of.stride }
+    {
+        self.rows.len()
+    }
+
+    /// What is true of the rows of each table. It does nothing.
+    pub fn see_rows(&self)
+        ensures { IsSoundTable self.now }
+    {
+        let _rows = &self.rows;
+    }
+
+    /// How many cells a row has.
+    pub fn stride(&self) -> usize
+        ensures value { result ≡ self.now.of.stride }
+        ensures template { IsTemplate self.now.of.stride self.now.of.template }
+    {
+        self.stride
+    }
+
+    /// The number of cells of all rows.
+    pub fn cell_count(&self) -> usize
+        ensures { result ≡ length self.now.cells }
+    {
+        self.cells.len()
+    }
+
+    /// The states of all rows.
+    pub fn states(&self) -> States<'_>
+        ensures { result ≡ held_states self.now }
+    {
+        let fixed = 3 * self.stride;
+        States::new(&self.rows, &self.cells[fixed..], self.stride, fixed)
+    }
+
+    /// The state that an ID names.
+    pub fn state(&self, id: LazyStateID) -> &State
+        requires { IsRowId self.now id }
+        ensures named { (q : Powerset) → Names self.now id q → result.now ≡ q }
+        ensures of { IsStateOf self.now.of result.now }
+        ensures cost { cost result.now ≤ self.now.of.greatest }
+    {
+        let index = self.row_index(id);
+        let row = &self.rows[index];
+        &row.state
+    }
+
+    /// The accounted bytes of all rows' states.
+    pub fn costs(&self) -> usize
+        ensures value { result ≡ sum_by row_cost self.now.rows }
+        ensures most { sum_by row_cost self.now.rows ≤ length self.now.rows * self.now.of.greatest }
+    {
+        self.costs
+    }
+
+    /// Adds a row for a state that the table lacks, whose accounted bytes these are. An error changes nothing.
+    #[inline(always)]
+    pub fn add(
+        &mut self,
+        state: State,
+        started: bool,
+        bytes: usize,
+    ) -> Result<LazyStateID, AllocError>
+        requires new { IsNewState self.old state }
+        requires bytes { bytes ≡ cost state }
+        requires fits { length self.old.cells < offset_limit }
+        requires costs { sum_by row_cost self.old.rows + cost state < 2 ^ 64 }
+        ensures ok { OnOk result (self.new ≡ with_row self.old (record { state = state; started = started })) }
+        ensures named { IfOk result (λ id. Names self.new id state) }
+        ensures kept { OnOk result ((id : ℕ) (q : Powerset) → Names self.old id q → Names self.new id q) }
+        ensures err { OnErr result (self.new ≡ self.old) }
+    {
+        self.cells.reserve(self.stride)?;
+        self.rows.reserve(1)?;
+        self.map.reserve(1)?;
+        let key = state.key()?;
+        let matches = row::has_patterns(&state);
+        let offset = self.cells.len();
+        let id = LazyStateID::of_row(offset as u32, started, matches);
+        let grown: Result<(), AllocError> = self.cells.extend_from_slice(&self.template);
+        grown.unwrap();
+        let pushed: Result<(), AllocFailed<Row>> = self.rows.push(Row { state, started });
+        pushed.unwrap();
+        let inserted: Result<Option<LazyStateID>, AllocFailed<(Key, LazyStateID)>> = self
+            .map
+            .insert(key, id);
+        let _ = inserted.unwrap();
+        self.costs += bytes;
+        Ok(id)
+    }
+
+    /// The fixed rows alone, with room for so many rows more.
+    #[inline(always)]
+    pub fn fresh(
+        dfa: &DFA,
+        stride: usize,
+        template: Vec<LazyStateID>,
+        room: usize,
+    ) -> Result<Table, AllocError>
+        requires whole { IsTemplate stride template.items }
+        requires stride { stride ≡ dfa.now.stride }
+        requires template { template.items ≡ dfa.now.template }
+        requires room { (room + 3) * stride < 2 ^ 64 }
+        ensures { IfOk result (λ t. t ≡ fresh dfa.now) }
+    {
+        let alloc = dfa.get_nfa().alloc();
+        let mut cells = Vec::with_capacity(alloc, (room + 3) * stride)?;
+        cells.resize(stride, LazyStateID::UNKNOWN)?;
+        cells.resize(2 * stride, LazyStateID::dead(stride as u32))?;
+        cells.resize(3 * stride, LazyStateID::quit(stride as u32))?;
+        let mut map = HashMap::new(alloc);
+        map.reserve(room)?;
+        Ok(Table {
+            of: Subject::of(dfa),
+            stride,
+            template,
+            cells,
+            rows: Vec::with_capacity(alloc, room)?,
+            map,
+            costs: 0,
+        })
+    }
+
+    /// A table of the same shape, with the fixed rows alone, and with room for as many rows as are here: a cache that
+    /// clears often does not grow again each time.
+    pub fn emptied(&self, dfa: &DFA) -> Result<Table, AllocError>
+        requires { dfa.now ≡ self.now.of }
+        ensures { IfOk result (λ t. t ≡ fresh self.now.of) }
+    {
+        let template = Vec::from_slice(dfa.get_nfa().alloc(), &self.template)?;
+        Table::fresh(dfa, self.stride, template, self.rows.len())
+    }
+
+    /// The index of the row that has this ID.
+    pub fn row_index(&self, id: LazyStateID) -> usize
+        requires { IsRowId self.now id }
+        ensures value { result ≡ (id % offset_limit) / self.now.of.stride - 3 }
+        ensures row { (q : Powerset) → Names self.now id q → HasState self.now result q }
+        ensures within { result < length self.now.rows }
+    {
+        rows_before(id.offset() as usize, self.stride) - 3
+    }
+
+    /// Whether a row after the fixed ones has exactly this ID, tags included.
+    pub fn has_row(&self, id: LazyStateID) -> bool
+        ensures { IsTrue result ↔ IsRowId self.now id }
+    {
+        let offset = id.offset();
+        let index = rows_before(offset as usize, self.stride);
+        if index < 3 || self.rows.len() + 3 <= index {
+            return false;
+        }
+        let row = &self.rows[index - 3];
+        if index * self.stride != offset as usize {
+            return false;
+        }
+        id == row.id(offset)
+    }
+
+    /// The cell of a row at a class. The row's offset is known: no tag has to be taken off. The column is found first, so
+    /// that from one row to the next there is one load alone.
+    #[inline(always)]
+    pub fn cell_in_row(&self, id: LazyStateID, row: usize, class: usize) -> LazyStateID
+        requires row { IsRowId self.now id }
+        requires class { class < self.now.of.stride }
+        requires offset { row ≡ id % offset_limit }
+        ensures value { result ≡ slice_index self.now.cells (cell_at id class) }
+        ensures named { (q : Powerset) → Names self.now id q → IsCell self.now q class result }
+        ensures stride { self.now.of.stride ≤ 512 }
+    {
+        let cells = self.cells.as_slice();
+        let column = &cells[class..];
+        column[row]
+    }
+
+    /// Writes a transition.
+    pub fn set_cell(&mut self, id: LazyStateID, class: usize, next: LazyStateID)
+        requires row { IsRowId self.old id }
+        requires class { class < self.old.of.stride }
+        requires free { slice_index self.old.of.template class ≡ unknown_id }
+        requires next { (q : Powerset) × Names self.old id q × LeadsByClass self.old next q class }
+        ensures { self.new ≡ with_cell self.old id class next }
+    {
+        self.cells[id.offset() as usize + class] = next;
+    }
+
+    /// The index of the row to which a cached transition leads, if its ID has no tag, and else the number of rows.
+    pub fn row_after(&self, row: usize, class: usize) -> usize
+        requires row { row < length self.now.rows }
+        requires class { class < self.now.of.stride }
+        ensures upto { result ≤ length self.now.rows }
+        ensures leads { result < length self.now.rows → LeadsToRow self.now row class result }
+    {
+        let rows = self.rows.len();
+        let offset = self.cells[(row + 3) * self.stride + class].offset_by(0);
+        let index = rows_before(offset, self.stride);
+        if index < 3 || rows + 3 <= index || index * self.stride != offset {
+            return rows;
+        }
+        index - 3
+    }
+
+    /// The ID of a row without tags.
+    pub fn row_at(&self, index: usize) -> LazyStateID
+        requires { index < length self.now.rows }
+        ensures { result ≡ (index + 3) * self.now.of.stride }
+    {
+        self.see_rows();
+        LazyStateID::at_offset((index + 3) * self.stride, 0)
+    }
+
+    /// A copy of a row: its state, and whether its ID has the start tag.
+    pub fn copied_row(&self, row: usize) -> Result<Row, AllocError>
+        requires { row < length self.now.rows }
+        ensures value { IfOk result (λ r. slice_get self.now.rows row ≡ Some r) }
+        ensures alive { IfOk result (λ r. r.state ≡ dead → ⊥) }
+        ensures had { IfOk result (λ r. id_of self.now r.state ≡ None → ⊥) }
+        ensures cost { IfOk result (λ r. cost r.state ≤ self.now.of.greatest) }
+        ensures of { IfOk result (λ r. IsStateOf self.now.of r.state) }
+    {
+        let row = &self.rows[row];
+        let copy = row.clone()?;
+        Ok(copy)
+    }
+}
+
+/// Sets the cell of a class, where the byte is a quit byte.
+fn mark(cells: &mut Vec<LazyStateID>, class: usize, quit: LazyStateID, quits: bool)
+    requires { class < length cells.old.items }
+    ensures { cells.new.items ≡ cond quits (slice_set cells.old.items class quit) cells.old.items }
+{
+    if quits {
+        cells[class] = quit;
+    }
+}
+
+/// The cells of a new row: quit at the classes of quit bytes, and else unknown.
+pub fn new_row(
+    alloc: Global,
+    classes: &ByteClasses,
+    quits: &ByteSet,
+    stride: usize,
+) -> Result<Vec<LazyStateID>, AllocError>
+    requires classes { eoi_class classes.now < stride }
+    requires stride { stride ≤ 512 }
+    ensures { IfOk result (λ v. v.items ≡ marked classes.now quits.now stride 256) }
+{
+    let mut cells = Vec::with_capacity(alloc, stride)?;
+    cells.resize(stride, LazyStateID::UNKNOWN)?;
+    if quits.is_empty() {
+        return Ok(cells);
+    }
+    let quit = LazyStateID::quit(stride as u32);
+    for byte in 0..256usize {
+        let class = classes.get(byte as u8);
+        let quits_at = quits.contains(byte as u8);
+        mark(&mut cells, usize::from(class), quit, quits_at);
+    }
+    Ok(cells)
+}

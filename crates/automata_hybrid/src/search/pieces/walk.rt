@@ -1,0 +1,324 @@
+//! A walk over a haystack in pieces: it stops at each offset where patterns match, and goes on from there.
+ghost use Rattle.std.specs.Prelude.{◌≡◌, ◌<◌, IfOk, IfErr, OnOk, OnErr, length, None, Some, slice_index, true, false};
+ghost use Rattle.std.specs.Result.{result_err};
+ghost use Rattle.automata_hybrid.specs.Cache.Caches.{IsCacheOf};
+ghost use Rattle.automata_base.specs.Powersets.Powerset.{Powerset};
+ghost use Rattle.automata_hybrid.specs.Cache.Table.{IsRowId, Leads};
+ghost use Rattle.automata_hybrid.specs.Pieces.Progress.{IsBeginRun};
+ghost use Rattle.automata_hybrid.specs.Pieces.State.{IsPiecesOf};
+ghost use Rattle.automata_hybrid.specs.Pieces.Walks.{HasBegunWalk, IsWalkCallRun, IsWalked};
+ghost use Rattle.automata_hybrid.specs.Private.Pieces.Walks.{IsPiecesWalk, StandsInRow};
+ghost use Rattle.automata_hybrid.specs.Pieces.Walks.{EndsWith, IsWalkEndRun, patterns_here};
+
+use crate::cache::Cache;
+use crate::cache::handle::Handle;
+use crate::dfa::DFA;
+use crate::id::LazyStateID;
+use crate::search::pieces::{BeginError, PieceEnd, Pieces, found_in};
+use automata_base::util::primitives::PatternID;
+use automata_base::util::search::{HalfMatch, MatchError};
+use automata_base::util::start;
+use automata_config::error::SearchError;
+use std::fmt;
+use std::marker::Model;
+
+/// How far a walk over a haystack in pieces is. It reports each offset at which patterns match, once, with all patterns
+/// that its DFA reports there: build the DFA with `MatchKind::All` for all that match. As `Pieces`, it belongs to one
+/// DFA, and goes on with any cache of that DFA.
+///
+/// A piece may have several such offsets, so that several calls read it, each from where the one before has stopped:
+///
+/// 1. `DFA::begin_walk` makes it, for an anchored mode and the byte before the first piece.
+/// 2. `DFA::walk_piece` reads the rest of a piece up to the next match. Take the patterns at which the walk stands,
+///    `match_pattern(0)` to `match_pattern(match_len() - 1)`, and call it again, until no rest is left.
+/// 3. `DFA::end_walk` returns the patterns that match up to the end of the pieces so far, given the byte that follows.
+pub struct PiecesWalk {
+    /// It ends at its first match, which is where the walk stands.
+    pieces: Pieces,
+}
+
+// One call for an owner, whose proof then has no step for each part.
+impl Drop for PiecesWalk {
+    fn drop(self) {
+        let Self { pieces: _pieces } = self;
+    }
+}
+
+impl Model for PiecesWalk {
+    ghost use Rattle.automata_hybrid.specs.Pieces.State.{PiecesView};
+    ghost use Rattle.automata_hybrid.specs.Private.Pieces.Walks.{IsPiecesWalk};
+
+    ghost Value = { PiecesView };
+
+    ghost view = { λ s. s.pieces };
+
+    ghost invariant = { λ s. IsPiecesWalk s.pieces };
+}
+
+impl PiecesWalk {
+    /// The match at which it stands: the first pattern that matches there, and the offset where it ends, counted from
+    /// the first byte of the first piece. It is none unless the last call has come to it.
+    pub fn get_match(&self) -> Option<HalfMatch>
+        ensures { result ≡ self.now.found }
+    {
+        self.pieces.get_match()
+    }
+
+    /// How many patterns match up to the offset of `get_match`: none if there is no match.
+    pub fn match_len(&self) -> usize
+        ensures { result ≡ length (patterns_here self.now) }
+    {
+        self.pieces.match_len()
+    }
+
+    /// One of these patterns, by its index.
+    pub fn match_pattern(&self, index: usize) -> PatternID
+        requires { index < length (patterns_here self.now) }
+        ensures { result ≡ slice_index (patterns_here self.now) index }
+    {
+        self.pieces.match_pattern(index)
+    }
+
+    /// Whether nothing that follows can match: no further piece is read.
+    pub fn is_done(&self) -> bool
+        ensures yes { result ≡ true → self.now.state ≡ None }
+        ensures no { result ≡ false → self.now.state ≡ None → ⊥ }
+    {
+        self.pieces.is_done()
+    }
+
+    /// How many bytes were read: all that came, or those up to the one after which nothing can match.
+    pub fn bytes_read(&self) -> usize
+        ensures { result ≡ self.now.read }
+    {
+        self.pieces.bytes_read()
+    }
+}
+
+/// How many bytes it has read and the match at which it stands, and not its state.
+impl fmt::Debug for PiecesWalk {
+    fn fmt<W: fmt::Write>(&self, f: &mut fmt::Formatter<W>) -> fmt::Result {
+        f.debug_struct("PiecesWalk")
+            .field("read", &self.bytes_read())
+            .field("match", &self.get_match())
+            .finish_non_exhaustive()
+    }
+}
+
+/// The patterns that match up to the end of a walk's haystack.
+pub struct WalkEnd {
+    /// The state after the end; none if nothing matches there.
+    held: Option<Handle>,
+}
+
+// One call for an owner, whose proof then has no step for each part.
+impl Drop for WalkEnd {
+    fn drop(self) {
+        let Self { held: _held } = self;
+    }
+}
+
+impl Model for WalkEnd {
+    ghost use Rattle.std.specs.Prelude.{ℕ, List};
+    ghost use Rattle.automata_hybrid.specs.Private.Pieces.Walks.{patterns_held};
+
+    ghost Value = { List ℕ };
+
+    ghost view = { λ s. patterns_held s.held };
+}
+
+impl WalkEnd {
+    /// How many patterns match there.
+    pub fn match_len(&self) -> usize
+        ensures { result ≡ length self.now }
+    {
+        match &self.held {
+            Some(handle) => handle.state.match_len(),
+            None => 0,
+        }
+    }
+
+    /// One of them, by its index.
+    pub fn match_pattern(&self, index: usize) -> PatternID
+        requires { index < length self.now }
+        ensures { result ≡ slice_index self.now index }
+    {
+        match &self.held {
+            Some(handle) => handle.state.match_pattern(index),
+            None => unreachable!(),
+        }
+    }
+}
+
+impl DFA {
+    /// Begins a walk whose haystack comes in pieces, for an anchored mode and after the byte before the first piece, as
+    /// `begin_pieces` begins a search. It fails for the same reasons.
+    pub fn begin_walk(
+        &self,
+        cache: &mut Cache,
+        config: &start::Config,
+    ) -> Result<PiecesWalk, BeginError>
+        requires { IsCacheOf cache.old self.now }
+        ensures of { IsCacheOf cache.new self.now }
+        ensures walk { IfOk result (λ w. IsPiecesOf w self.now) }
+        ensures begun { IfOk result (HasBegunWalk self.now config.now.anchored config.now.look_behind) }
+        ensures effect { IsBeginRun self.now config.now.anchored config.now.look_behind
+            cache.old cache.new (result_err result) }
+    {
+        match self.start_pieces(cache, config, true) {
+            Ok(pieces) => Ok(PiecesWalk { pieces }),
+            Err(error) => Err(error),
+        }
+    }
+
+    /// Reads a piece up to the next offset at which patterns match, or to its end, and returns how many bytes it has
+    /// read: give the rest of the piece to the next call.
+    ///
+    /// Matches are delayed by one byte. So an offset is reported once the byte after it is read, and it is the number of
+    /// bytes read less one; `end_walk` reports the end of the haystack itself. Once nothing can match
+    /// (`PiecesWalk::is_done`) the rest is passed over unread.
+    ///
+    /// It fails as `read_piece` does, and the walk stands then where it stood before the call, at the same match.
+    pub fn walk_piece(
+        &self,
+        cache: &mut Cache,
+        walk: &mut PiecesWalk,
+        piece: &[u8],
+    ) -> Result<usize, SearchError>
+        requires of { IsCacheOf cache.old self.now }
+        requires walk { IsPiecesOf walk.old self.now }
+        ensures of { IsCacheOf cache.new self.now }
+        ensures walk { IsPiecesOf walk.new self.now }
+        ensures walked { IfOk result (IsWalked self.now piece.now walk.old walk.new) }
+        ensures unchanged { OnErr result (walk.new ≡ walk.old) }
+        ensures effect { IsWalkCallRun self.now piece.now walk.old walk.new
+            cache.old cache.new (result_err result) }
+    {
+        self.walk_pieces(cache, &mut walk.pieces, piece)
+    }
+
+    /// One call of a walk, by the search that it holds.
+    fn walk_pieces(
+        &self,
+        cache: &mut Cache,
+        pieces: &mut Pieces,
+        piece: &[u8],
+    ) -> Result<usize, SearchError>
+        requires of { IsCacheOf cache.old self.now }
+        requires pieces { IsPiecesOf pieces.old self.now }
+        requires walk { IsPiecesWalk pieces.old }
+        ensures of { IsCacheOf cache.new self.now }
+        ensures walk { IsPiecesOf pieces.new self.now × IsPiecesWalk pieces.new }
+        ensures walked { IfOk result (IsWalked self.now piece.now pieces.old pieces.new) }
+        ensures unchanged { OnErr result (pieces.new ≡ pieces.old) }
+        ensures effect { IsWalkCallRun self.now piece.now pieces.old pieces.new
+            cache.old cache.new (result_err result) }
+    {
+        let Some(from) = self.resume_pieces(cache, pieces)? else {
+            return Ok(piece.len());
+        };
+        let base = pieces.bytes_read();
+        let Some(after) = base.checked_add(piece.len()) else {
+            return Err(SearchError::Match(MatchError::gave_up(base)));
+        };
+        match self.run_piece(cache, piece, true, from, base)? {
+            PieceEnd::Over(at, id, found) => {
+                if found.is_none() {
+                    pieces.end(base + at + 1, None);
+                    return Ok(piece.len());
+                }
+                let found = found_in(found, base, None);
+                self.stand_in_row(cache, pieces, id, base + at + 1, found)?;
+                Ok(at + 1)
+            }
+            PieceEnd::At(id, _) => {
+                self.stand_in_row(cache, pieces, id, after, None)?;
+                Ok(piece.len())
+            }
+        }
+    }
+
+    /// The patterns that match up to the end of the pieces so far, if the haystack ends here, or if this byte follows,
+    /// which no match has. The walk stands where it stood: more pieces may follow.
+    ///
+    /// A quit byte that follows is an error at its offset.
+    pub fn end_walk(
+        &self,
+        cache: &mut Cache,
+        walk: &PiecesWalk,
+        look_ahead: Option<u8>,
+    ) -> Result<WalkEnd, SearchError>
+        requires of { IsCacheOf cache.old self.now }
+        requires walk { IsPiecesOf walk.now self.now }
+        ensures of { IsCacheOf cache.new self.now }
+        ensures ends { IfOk result (EndsWith self.now walk.now look_ahead) }
+        ensures effect { IsWalkEndRun self.now look_ahead walk.now cache.old cache.new (result_err result) }
+    {
+        self.end_pieces_walk(cache, &walk.pieces, look_ahead)
+    }
+
+    /// The end of a walk, by the search that it holds.
+    fn end_pieces_walk(
+        &self,
+        cache: &mut Cache,
+        pieces: &Pieces,
+        look_ahead: Option<u8>,
+    ) -> Result<WalkEnd, SearchError>
+        requires of { IsCacheOf cache.old self.now }
+        requires pieces { IsPiecesOf pieces.now self.now }
+        ensures of { IsCacheOf cache.new self.now }
+        ensures ends { IfOk result (EndsWith self.now pieces.now look_ahead) }
+        ensures effect { IsWalkEndRun self.now look_ahead pieces.now cache.old cache.new (result_err result) }
+    {
+        let Some(from) = self.resume_pieces(cache, pieces)? else {
+            return Ok(WalkEnd { held: None });
+        };
+        let at = pieces.bytes_read();
+        cache.search_start(at);
+        cache.see_bounds();
+        let next = self.read(cache, from, LazyStateID::UNKNOWN, look_ahead, at, at)?;
+        cache.end_search(at);
+        match self.end_at(cache, next) {
+            Ok(end) => Ok(end),
+            Err(error) => Err(error),
+        }
+    }
+
+    /// The patterns of the state to which an ID leads.
+    fn end_at(&self, cache: &Cache, id: LazyStateID) -> Result<WalkEnd, SearchError>
+        requires of { IsCacheOf cache.now self.now }
+        requires leads { (q : Powerset) × Leads cache.now.store.table id q }
+        ensures patterns { IfOk result (λ end. (q : Powerset) → Leads cache.now.store.table id q → end ≡ q.patterns) }
+        ensures error { IfErr result (λ e. e ≡ SearchError.OutOfMemory) }
+    {
+        cache.see_bounds();
+        if id.is_dead() {
+            return Ok(WalkEnd { held: None });
+        }
+        let handle = cache.handle(id)?;
+        Ok(WalkEnd { held: Some(handle) })
+    }
+
+    /// Holds the state of a row, and stands there after so many bytes.
+    fn stand_in_row(
+        &self,
+        cache: &Cache,
+        pieces: &mut Pieces,
+        id: LazyStateID,
+        read: usize,
+        found: Option<HalfMatch>,
+    ) -> Result<(), SearchError>
+        requires of { IsCacheOf cache.now self.now }
+        requires valid { IsRowId cache.now.store.table id }
+        ensures pieces { OnOk result (IsPiecesOf pieces.new self.now) }
+        ensures stands { OnOk result (StandsInRow cache.now.store.table id read found pieces.old pieces.new) }
+        ensures unchanged { OnErr result (pieces.new ≡ pieces.old) }
+        ensures error { IfErr result (λ e. e ≡ SearchError.OutOfMemory) }
+    {
+        cache.see_bounds();
+        let _state = cache.snapshot(id);
+        let handle = cache.handle(id)?;
+        pieces.stand(handle, id, read, found);
+        Ok(())
+    }
+}

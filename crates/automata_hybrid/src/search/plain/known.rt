@@ -1,0 +1,192 @@
+//! A run over cached transitions alone: it only reads the cache.
+ghost use Rattle.std.specs.Prelude.{◌≡◌, ◌-◌, ◌<◌, ◌≤◌, None, true, false};
+ghost use Rattle.automata_base.specs.Paths.Paths.{next};
+ghost use Rattle.automata_hybrid.specs.Cache.Caches.{IsCacheOf};
+ghost use Rattle.automata_hybrid.specs.Cache.Ids.{unknown_id};
+ghost use Rattle.automata_hybrid.specs.Cache.Table.{IsRowId, Names};
+ghost use Rattle.automata_hybrid.specs.Searches.PassContracts.{IsUnderway};
+ghost use Rattle.automata_hybrid.specs.Private.Searches.PassContracts.{IsKnownEnd, IsKnownUpto};
+ghost use Rattle.automata_hybrid.specs.Private.Searches.PassState.{IsMet, IsNextCell};
+ghost use Rattle.automata_hybrid.specs.Searches.Passes.{state_in, tape_in};
+ghost use Rattle.automata_hybrid.specs.Searches.Progress.{HasItsStart};
+ghost use Rattle.automata_hybrid.specs.Steps.Starts.{IsStartAnswer};
+ghost use Rattle.automata_hybrid.specs.Steps.Steps.{IsStepAnswer, known_step};
+ghost use Rattle.automata_hybrid.specs.Machines.Machine.{unit_class};
+
+use crate::cache::Cache;
+use crate::dfa::DFA;
+use crate::id::LazyStateID;
+use crate::search::direction::{byte_at, byte_behind, last_place, place_offset, unit_at};
+use automata_base::util::search::{Direction, HalfMatch, Input};
+
+/// How many bytes a pass follows before it leaves the others to its rest, which looks for leaps. A self-loop is followed
+/// beyond them.
+const FIRST_RUN: usize = 1024;
+
+/// Why a pass over cached transitions stopped.
+#[derive(Clone, Copy)]
+pub(crate) enum KnownStop {
+    /// The pass has ended with the unit at the place.
+    Ended,
+    /// The transition on the byte at the place is not cached.
+    Missing,
+    /// It is left to the rest of the pass.
+    Left,
+}
+
+/// How far cached transitions led a pass.
+#[derive(Drop)]
+pub(crate) struct Known {
+    pub(crate) stop: KnownStop,
+    pub(crate) at: usize,
+    /// The ID of the state at the place.
+    pub(crate) id: LazyStateID,
+    /// What the pass finds, where it has ended, and else what it has found before the place.
+    pub(crate) found: Option<HalfMatch>,
+}
+
+impl Known {
+    /// A pass stopped so at a place.
+    fn new(stop: KnownStop, at: usize, id: LazyStateID, found: Option<HalfMatch>) -> Known
+        ensures { result ≡ record { stop = stop; at = at; id = id; found = found } }
+    {
+        Known {
+            stop,
+            at,
+            id,
+            found,
+        }
+    }
+
+    /// Whether the pass has ended.
+    pub(crate) fn has_ended(&self) -> bool
+        ensures yes { result ≡ true → self.now.stop ≡ KnownStop.Ended }
+        ensures no { result ≡ false → self.now.stop ≡ KnownStop.Ended → ⊥ }
+    {
+        match self.stop {
+            KnownStop::Ended => true,
+            KnownStop::Missing | KnownStop::Left => false,
+        }
+    }
+
+    /// Whether it stopped at a transition that is not cached.
+    pub(crate) fn is_missing(&self) -> bool
+        ensures { result ≡ true → self.now.stop ≡ KnownStop.Missing }
+    {
+        match self.stop {
+            KnownStop::Missing => true,
+            KnownStop::Ended | KnownStop::Left => false,
+        }
+    }
+}
+
+impl DFA {
+    /// The start state of a search, if it may start and that is cached, and else the unknown ID.
+    #[inline(always)]
+    pub(crate) fn known_start(
+        &self,
+        cache: &Cache,
+        input: &Input<'_>,
+        way: Direction,
+    ) -> LazyStateID
+        requires { IsCacheOf cache.now self.now }
+        ensures answer { result < unknown_id → IsStartAnswer self.now input.now.anchored
+            (tape_in way input.now).before cache.now cache.now result }
+        ensures run { result < unknown_id → HasItsStart way self.now input.now cache.now cache.now }
+    {
+        self.start_state_known(cache, input.get_anchored(), byte_behind(input, way))
+    }
+
+    /// The ID after a unit: the unknown one if it is not cached.
+    #[inline(always)]
+    pub(crate) fn known_step(&self, cache: &Cache, id: LazyStateID, unit: Option<u8>) -> LazyStateID
+        requires of { IsCacheOf cache.now self.now }
+        requires valid { IsRowId cache.now.store.table id }
+        ensures value { result ≡ known_step self.now cache.now.store id unit }
+        ensures answer { result < unknown_id → IsStepAnswer self.now id unit cache.now cache.now result }
+        ensures below { unit_class self.now unit < self.now.stride }
+    {
+        cache.see_bounds();
+        cache.cell(id, self.unit_class(unit))
+    }
+
+    /// The ID after the unit at a place: the one that was met there. At the last place it is looked up, and
+    /// unknown if it is not cached.
+    #[inline(always)]
+    fn known_next(
+        &self,
+        cache: &Cache,
+        input: &Input<'_>,
+        way: Direction,
+        at: usize,
+        id: LazyStateID,
+        met: LazyStateID,
+    ) -> LazyStateID
+        requires of { IsCacheOf cache.now self.now }
+        requires open { input.now.start ≤ input.now.end }
+        requires within { at ≤ input.now.end - input.now.start }
+        requires named { Names cache.now.store.table id (state_in way self.now input.now at) }
+        requires met { IsMet way self.now cache.now.store input.now at id met }
+        ensures value { result < unknown_id
+            → result ≡ known_step self.now cache.now.store id (next (tape_in way input.now) at) }
+        ensures answer { result < unknown_id → IsStepAnswer self.now id
+            (next (tape_in way input.now) at) cache.now cache.now result }
+        ensures below { result < unknown_id
+            → unit_class self.now (next (tape_in way input.now) at) < self.now.stride }
+        ensures met { unknown_id ≤ result → unknown_id ≤ met }
+    {
+        if met.is_unknown() {
+            if at < last_place(input) {
+                return LazyStateID::UNKNOWN;
+            }
+            return self.known_step(cache, id, unit_at(input, way, at));
+        }
+        let _next = self.known_step(cache, id, Some(byte_at(input, way, at)));
+        met
+    }
+
+    /// A pass over cached transitions from its start state, as far as these lead.
+    #[inline(always)]
+    pub(crate) fn known_pass(
+        &self,
+        cache: &Cache,
+        input: &Input<'_>,
+        way: Direction,
+        start: LazyStateID,
+    ) -> Known
+        requires of { IsCacheOf cache.now self.now }
+        requires at { IsUnderway way self.now cache.now.store.table input.now 0 start None }
+        ensures ended { result.stop ≡ KnownStop.Ended
+            → IsKnownEnd way self.now cache.now input.now result.at result.id result.found }
+        ensures left { (result.stop ≡ KnownStop.Ended → ⊥)
+            → IsKnownUpto way self.now cache.now.store input.now result.at result.id result.found }
+        ensures missing { result.stop ≡ KnownStop.Missing
+            → IsNextCell way self.now cache.now.store input.now result.at result.id unknown_id }
+    {
+        cache.see_bounds();
+        let last = last_place(input);
+        let run = self.run(cache, input, way, 0, start, None, last.min(FIRST_RUN));
+        let next = self.known_next(cache, input, way, run.at, run.id, run.next);
+        if next.is_unknown() {
+            // Two comparisons: the end of the first run would have to be kept for one.
+            if run.at < FIRST_RUN && run.at < last {
+                return Known::new(KnownStop::Missing, run.at, run.id, run.found);
+            }
+            return Known::new(KnownStop::Left, run.at, run.id, run.found);
+        }
+        if next.is_dead() {
+            return Known::new(KnownStop::Ended, run.at, run.id, run.found);
+        }
+        if next.is_quit() {
+            return Known::new(KnownStop::Left, run.at, run.id, run.found);
+        }
+        let found = self.found_at(cache, next, place_offset(input, way, run.at), run.found);
+        if run.at >= last {
+            return Known::new(KnownStop::Ended, run.at, run.id, found);
+        }
+        if input.get_earliest() && found.is_some() {
+            return Known::new(KnownStop::Ended, run.at, run.id, found);
+        }
+        Known::new(KnownStop::Left, run.at + 1, next, found)
+    }
+}

@@ -1,0 +1,262 @@
+//! How a walk goes on, in either direction, to the next state whose patterns match.
+ghost use Rattle.std.specs.Prelude.{ℕ, ◌≡◌, ◌-◌, ◌<◌, ◌≤◌, ◌⊎◌, IfOk, IfErr, OnOk, Some, []};
+ghost use Rattle.std.specs.Prelude.{true, false, suc, length};
+ghost use Rattle.automata_base.specs.Answers.Answers.{offset_in};
+ghost use Rattle.automata_base.specs.ByteClasses.Classes.{is_quit};
+ghost use Rattle.automata_base.specs.Paths.Paths.{next};
+ghost use Rattle.automata_base.specs.Powersets.Powerset.{Powerset};
+ghost use Rattle.automata_base.specs.Haystacks.Tapes.{is_split};
+ghost use Rattle.automata_hybrid.specs.Cache.Caches.{IsCacheOf};
+ghost use Rattle.automata_hybrid.specs.Private.Searches.PassContracts.{FollowsTo};
+ghost use Rattle.automata_hybrid.specs.Private.Searches.PassState.{IsFollowed, IsMet};
+ghost use Rattle.automata_hybrid.specs.Private.Walks.Parts.{IsAdvanceEffect, IsUnitEffect, StandsAfterUnits};
+ghost use Rattle.automata_hybrid.specs.Searches.Passes.{HasReadNoQuit, IsUnitError, Skips};
+ghost use Rattle.automata_hybrid.specs.Searches.Passes.{state_in, tape_in, unit_offset};
+ghost use Rattle.automata_hybrid.specs.Cache.Table.{IsRowId, Leads, Names};
+ghost use Rattle.automata_hybrid.specs.Walks.Answers.{WalkReads};
+ghost use Rattle.automata_hybrid.specs.Private.Walks.Answers.{IsArrival};
+
+use crate::cache::Cache;
+use crate::dfa::DFA;
+use crate::id::LazyStateID;
+use crate::search::direction::{
+    byte_at, last_place, place_offset, span_offset, unit_at, unit_offset,
+};
+use crate::search::fast::follow::Stop;
+use automata_base::util::search::{Direction, Input};
+use automata_config::error::SearchError;
+
+/// How many bytes a walk follows one by one before it looks for leaps.
+const NEAR: usize = 256;
+
+/// Where a walk has come to: a state whose patterns match, or none at its end; and how many units it has read.
+#[derive(Clone, Copy)]
+pub(crate) struct Arrival {
+    pub(crate) id: Option<LazyStateID>,
+    pub(crate) units: usize,
+}
+
+impl DFA {
+    /// The state after what a walk reads at a place, to which the search moves. `met` is the next ID if the caller has
+    /// seen it, and else unknown.
+    #[inline(always)]
+    fn read_unit(
+        &self,
+        cache: &mut Cache,
+        input: &Input<'_>,
+        way: Direction,
+        id: LazyStateID,
+        met: LazyStateID,
+        place: usize,
+    ) -> Result<LazyStateID, SearchError>
+        requires of { IsCacheOf cache.old self.now }
+        requires at { StandsAfterUnits way self.now cache.old.store.table input.now place id }
+        requires met { IsMet way self.now cache.old.store input.now place id met }
+        ensures of { IsCacheOf cache.new self.now }
+        ensures leads { IfOk result (λ n. Leads cache.new.store.table n
+            (state_in way self.now input.now (suc place))) }
+        ensures clean { OnOk result ((byte : ℕ) → next (tape_in way input.now) place ≡ Some byte
+            → is_quit self.now.quits byte ≡ false) }
+        ensures reads { WalkReads way self.now input.now place }
+        ensures refusal { IfErr result (IsUnitError way self.now cache.new.store input.now place) }
+        ensures effect { IsUnitEffect way self.now input.now place cache.old cache.new result }
+    {
+        cache.see_bounds();
+        let at = span_offset(input, way, place);
+        let quit_at = unit_offset(input, way, place);
+        self.read(cache, id, met, unit_at(input, way, place), quit_at, at)
+    }
+
+    /// Whether a state's patterns match at a place of a walk that is not skipped.
+    #[inline(always)]
+    fn reports(
+        &self,
+        cache: &Cache,
+        input: &Input<'_>,
+        way: Direction,
+        id: LazyStateID,
+        place: usize,
+    ) -> bool
+        requires of { IsCacheOf cache.now self.now }
+        requires open { input.now.start ≤ input.now.end }
+        requires within { place ≤ input.now.end - input.now.start }
+        requires valid { IsRowId cache.now.store.table id }
+        ensures yes { result ≡ true
+            → (Skips self.now → is_split input.now.haystack (offset_in way input.now place) ≡ false)
+            × ((q : Powerset) → Names cache.now.store.table id q → 0 < length q.patterns) }
+        ensures no { result ≡ false
+            → (Skips self.now × (is_split input.now.haystack (offset_in way input.now place) ≡ true))
+            ⊎ ((q : Powerset) → Names cache.now.store.table id q → q.patterns ≡ []) }
+    {
+        cache.see_bounds();
+        if !id.is_match() {
+            return false;
+        }
+        !self.skips_at(input, place_offset(input, way, place))
+    }
+
+    /// Follows one cached transition from an ID with a tag to one without, so that a walk goes on from a match as it does
+    /// from any other state. From an ID without a tag, it follows none.
+    fn leave_tag(
+        &self,
+        cache: &Cache,
+        input: &Input<'_>,
+        way: Direction,
+        start: usize,
+        from: LazyStateID,
+    ) -> Stop
+        requires of { IsCacheOf cache.now self.now }
+        requires open { input.now.start ≤ input.now.end }
+        requires within { start ≤ input.now.end - input.now.start }
+        requires named { Names cache.now.store.table from (state_in way self.now input.now start) }
+        ensures within { result.at ≤ input.now.end - input.now.start }
+        ensures followed { IsFollowed way self.now cache.now.store input.now 0 start result.at result.id }
+        ensures met { IsMet way self.now cache.now.store input.now result.at result.id result.next }
+    {
+        if from.has_only(0) || start >= last_place(input) {
+            return Stop {
+                at: start,
+                id: from,
+                next: LazyStateID::UNKNOWN,
+            };
+        }
+        let next = self.next_state_known(cache, from, byte_at(input, way, start));
+        if next.has_only(0) {
+            return Stop {
+                at: start + 1,
+                id: next,
+                next: LazyStateID::UNKNOWN,
+            };
+        }
+        Stop {
+            at: start,
+            id: from,
+            next,
+        }
+    }
+
+    /// Follows cached transitions to IDs without a tag, up to a place, and a self-loop beyond it: each direction has its
+    /// own loop.
+    #[inline(always)]
+    fn follow_walk(
+        &self,
+        cache: &Cache,
+        input: &Input<'_>,
+        way: Direction,
+        start: usize,
+        from: LazyStateID,
+        end: usize,
+    ) -> Stop
+        requires of { IsCacheOf cache.now self.now }
+        requires open { input.now.start ≤ input.now.end }
+        requires within { start ≤ input.now.end - input.now.start }
+        requires upto { end ≤ input.now.end - input.now.start }
+        requires named { Names cache.now.store.table from (state_in way self.now input.now start) }
+        ensures { FollowsTo way self.now cache.now.store input.now 0 start result }
+    {
+        let first = self.leave_tag(cache, input, way, start, from);
+        if !first.id.has_only(0) {
+            return first;
+        }
+        match way {
+            Direction::Forward => self.follow(
+                cache,
+                input,
+                Direction::Forward,
+                first.at,
+                first.id,
+                0,
+                end,
+            ),
+            Direction::Backward => self.follow(
+                cache,
+                input,
+                Direction::Backward,
+                first.at,
+                first.id,
+                0,
+                end,
+            ),
+        }
+    }
+
+    /// Goes on by leaps, where a walk has come to the place where it looks for them; and the place where it looks for them
+    /// next.
+    #[inline(always)]
+    fn walk_far(
+        &self,
+        cache: &mut Cache,
+        input: &Input<'_>,
+        way: Direction,
+        near: Stop,
+        end: usize,
+    ) -> (Stop, usize)
+        requires of { IsCacheOf cache.old self.now }
+        requires open { input.now.start ≤ input.now.end }
+        requires upto { end ≤ input.now.end - input.now.start }
+        requires near { FollowsTo way self.now cache.old.store input.now 0 near.at near }
+        ensures same { cache.new ≡ cache.old }
+        ensures far { FollowsTo way self.now cache.new.store input.now 0 near.at result.0 }
+        ensures upto { result.1 ≤ input.now.end - input.now.start }
+    {
+        let _haystack = input.haystack();
+        let last = last_place(input);
+        if near.at < end || near.at >= last {
+            return (near, end);
+        }
+        let far = self.leap_on(cache, input, way, near);
+        (far, last.min(far.at + NEAR))
+    }
+
+    /// Goes on with a walk from its state to the next one whose patterns match. The search stays open at the last byte
+    /// that is read.
+    #[inline(always)]
+    pub(crate) fn advance(
+        &self,
+        cache: &mut Cache,
+        input: &Input<'_>,
+        way: Direction,
+        from: LazyStateID,
+        units: usize,
+    ) -> Result<Arrival, SearchError>
+        requires of { IsCacheOf cache.old self.now }
+        requires from { StandsAfterUnits way self.now cache.old.store.table input.now units from }
+        requires clean { HasReadNoQuit way self.now input.now units }
+        ensures of { IsCacheOf cache.new self.now }
+        ensures arrives { IfOk result (λ a. IsArrival way self.now cache.new.store.table input.now units a.id
+            a.units) }
+        ensures effect { IsAdvanceEffect way self.now input.now units cache.old cache.new result }
+    {
+        let _haystack = input.haystack();
+        cache.see_bounds();
+        let last = last_place(input);
+        let mut id = from;
+        let mut read = units;
+        let mut end = last.min(read + NEAR);
+        while read <= last {
+            let near = self.follow_walk(cache, input, way, read, id, end);
+            let (stop, due) = self.walk_far(cache, input, way, near, end);
+            end = due;
+            let next = self.read_unit(cache, input, way, stop.id, stop.next, stop.at)?;
+            cache.see_bounds();
+            if next.is_dead() {
+                return Ok(Arrival {
+                    id: None,
+                    units: stop.at + 1,
+                });
+            }
+            if self.reports(cache, input, way, next, stop.at) {
+                return Ok(Arrival {
+                    id: Some(next),
+                    units: stop.at + 1,
+                });
+            }
+            id = next;
+            read = stop.at + 1;
+        }
+        Ok(Arrival {
+            id: None,
+            units: read,
+        })
+    }
+}

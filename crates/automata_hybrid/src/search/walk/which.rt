@@ -1,0 +1,79 @@
+//! The set of the patterns that match, found by one overlapping search forward.
+ghost use Rattle.std.specs.Prelude.{◌≤◌, OnOk, length};
+ghost use Rattle.std.specs.Result.{result_err};
+ghost use Rattle.automata_hybrid.specs.Cache.Caches.{IsCacheOf};
+ghost use Rattle.automata_hybrid.specs.Walks.Contracts.{IsWhich, JoinsReported};
+ghost use Rattle.automata_hybrid.specs.Private.Walks.Contracts.{IsSetReported};
+ghost use Rattle.automata_hybrid.specs.Walks.Progress.{IsSetRun};
+
+use crate::cache::Cache;
+use crate::dfa::DFA;
+use crate::search::walk::{Cursor, Held};
+use automata_base::laws::walk_is_right;
+use automata_base::util::pattern_set::PatternSet;
+use automata_base::util::search::{Direction, Input};
+use automata_config::error::SearchError;
+
+impl DFA {
+    /// Adds to a set the patterns of all overlapping matches that are below its capacity; with an earliest input, that
+    /// of the first match alone. After an error the set has those that were reported before it.
+    ///
+    /// ```rust
+    /// let mut found = PatternSet::new(alloc, self.dfa.pattern_len())?;
+    /// let input = Input::new(bytes);
+    /// let _haystack = input.haystack();
+    /// self.dfa
+    ///     .try_which_overlapping_matches(&mut self.cache, &input, &mut found)?;
+    /// ```
+    pub fn try_which_overlapping_matches(
+        &self,
+        cache: &mut Cache,
+        input: &Input<'_>,
+        patset: &mut PatternSet,
+    ) -> Result<(), SearchError>
+        requires { IsCacheOf cache.old self.now }
+        ensures of { IsCacheOf cache.new self.now }
+
+        // What the set is joined with by paths, and by passes, whatever the cache.
+        ensures which { IsWhich self.now input.now patset.old patset.new result }
+        ensures found { OnOk result (JoinsReported self.now input.now patset.old patset.new) }
+
+        // What it does to the cache, why it fails, and what the set has then.
+        ensures effect { IsSetRun self.now input.now patset.old patset.new cache.old cache.new (result_err result) }
+    {
+        self.collect(cache, input, patset)
+    }
+
+    /// Takes one match after another, until there is none, the set is full, or an earliest search has one.
+    fn collect(
+        &self,
+        cache: &mut Cache,
+        input: &Input<'_>,
+        patset: &mut PatternSet,
+    ) -> Result<(), SearchError>
+        requires { IsCacheOf cache.old self.now }
+        ensures of { IsCacheOf cache.new self.now }
+        ensures reported { IsSetReported self.now input.now patset.old patset.new result }
+        ensures effect { IsSetRun self.now input.now patset.old patset.new cache.old cache.new (result_err result) }
+        ensures inside { input.now.end ≤ length input.now.haystack }
+    {
+        walk_is_right(self.get_nfa());
+        let _haystack = input.haystack();
+        cache.see_bounds();
+        let mut walk = Cursor::start();
+        let mut held = Held::Row(None);
+        'walk: loop {
+            self.go_on(cache, input, Direction::Forward, &mut walk, &mut held)?;
+            let Some(half) = walk.get_match() else {
+                return Ok(());
+            };
+            let _ = patset.try_insert(half.pattern());
+            if patset.is_full() {
+                return Ok(());
+            }
+            if input.get_earliest() {
+                return Ok(());
+            }
+        }
+    }
+}
