@@ -96,17 +96,47 @@ abbrev pub IsGivenAt : Machine → List ℕ → (end offset : ℕ) → Result To
 IsGivenAt m h end offset (Ok t) = IsTokenAt m h end offset t
 IsGivenAt m h end offset (Err e) = IsItemAt m h end offset (Err e) × IsErrorAt m h end offset e
 
+-- an iteration over tokens has no further item, and stays as it is
+pub record EndsTokens (end offset offset' : ℕ) (failed failed' : Bool) : Type 0 where
+  -- an error was reported, or the span's end is reached
+  pub why : (failed ≡ true) ⊎ (end ≤ offset)
+  -- it stays at its offset
+  pub place : offset' ≡ offset
+  -- whether an error was reported is unchanged
+  pub same : failed' ≡ failed
+
+-- an iteration over tokens gives a token, and goes on from its end
+pub record PassesToken (m : Machine) (h : List ℕ) (end : ℕ) (t : Token) (offset offset' : ℕ) (failed failed' : Bool) :
+    Type 0 where
+  -- it is the token at the offset
+  pub token : IsTokenAt m h end offset t
+  -- the next offset is the token's end
+  pub place : offset' ≡ t.span.end
+  -- no error was reported before it
+  pub before : failed ≡ false
+  -- and none is reported with it
+  pub after : failed' ≡ false
+
+-- an iteration over tokens reports an error, and stays at its offset
+pub record RefusesToken (m : Machine) (h : List ℕ) (end : ℕ) (e : TokenError) (offset offset' : ℕ)
+    (failed failed' : Bool) : Type 0 where
+  -- it is the error at the offset
+  pub error : IsGivenAt m h end offset (Err e)
+  -- it stays at its offset
+  pub place : offset' ≡ offset
+  -- no error was reported before it
+  pub before : failed ≡ false
+  -- one is reported now
+  pub after : failed' ≡ true
+
 -- one item, and the iteration before and after it: the offset, and whether an error was reported. There is no item at
 -- the span's end, and none after an error
 abbrev pub GivesToken :
     Machine → List ℕ → (end : ℕ) → Option (Result Token TokenError)
     → (offset offset' : ℕ) → (failed failed' : Bool) → Type 0
-GivesToken m h end None offset offset' failed failed' =
-    ((failed ≡ true) ⊎ (end ≤ offset)) × (offset' ≡ offset) × (failed' ≡ failed)
-GivesToken m h end (Some (Ok t)) offset offset' failed failed' =
-    IsTokenAt m h end offset t × (offset' ≡ t.span.end) × (failed ≡ false) × (failed' ≡ false)
-GivesToken m h end (Some (Err e)) offset offset' failed failed' =
-    IsGivenAt m h end offset (Err e) × (offset' ≡ offset) × (failed ≡ false) × (failed' ≡ true)
+GivesToken m h end None offset offset' failed failed' = EndsTokens end offset offset' failed failed'
+GivesToken m h end (Some (Ok t)) offset offset' failed failed' = PassesToken m h end t offset offset' failed failed'
+GivesToken m h end (Some (Err e)) offset offset' failed failed' = RefusesToken m h end e offset offset' failed failed'
 
 -- the error of the search for a token, if it failed
 abbrev pub search_error : Result Token TokenError → Option SearchError
@@ -133,20 +163,44 @@ AreGiven m h end offset [] None = end ≤ offset
 AreGiven m h end offset [] (Some e) = (e ≡ Search search.OutOfMemory) ⊎ IsItemAt m h end offset (Err e)
 AreGiven m h end offset (t ∷ ts) error = IsItemAt m h end offset (Ok t) × AreGiven m h end t.end ts error
 
--- the tokens of an input, by what searches find: a token ends where an answer does, past its offset; there is no token
--- if there is no answer, or one that ends at the offset
+-- a token by what searches find: it ends where the answer at its offset does
+pub record FindsToken (Finds : Input → Option HalfMatch → Type 0) (h : List ℕ) (end offset : ℕ) (t : Match) :
+    Type 0 where
+  -- it begins at the offset
+  pub start : t.start ≡ offset
+  -- it ends after the offset
+  pub past : offset < t.end
+  -- it ends at or before the span's end
+  pub within : t.end ≤ end
+  -- the search there finds its pattern and its end
+  pub found : Finds (asked h end offset) (Some (record { pattern = t.pattern; offset = t.end }))
+
+-- the search at an offset finds no token
+pub data FindsNoToken (Finds : Input → Option HalfMatch → Type 0) (h : List ℕ) (end offset : ℕ) : Type 0 where
+  -- it finds no match
+  NoMatch : Finds (asked h end offset) None → FindsNoToken Finds h end offset
+  -- it finds a match that ends at the offset
+  EmptyMatch :
+      (pattern : ℕ) → Finds (asked h end offset) (Some (record { pattern = pattern; offset = offset }))
+      → FindsNoToken Finds h end offset
+
+-- no token by what searches find, told of an offset
+pub record IsNoTokenFound (Finds : Input → Option HalfMatch → Type 0) (h : List ℕ) (end offset told : ℕ) : Type 0 where
+  -- the offset of the error is that of the search
+  pub place : told ≡ offset
+  -- the offset is before the span's end
+  pub within : offset < end
+  -- the search there finds none
+  pub none : FindsNoToken Finds h end offset
+
+-- the tokens of an input, by what searches find: each begins where the one before ended
 abbrev pub AreFoundBy :
     (Finds : Input → Option HalfMatch → Type 0) → List ℕ → (end offset : ℕ) → List Match → Option TokenError → Type 0
 AreFoundBy Finds h end offset [] None = end ≤ offset
-AreFoundBy Finds h end offset [] (Some (NoToken at)) =
-    (at ≡ offset) × (offset < end)
-    × (Finds (asked h end offset) None
-    ⊎ ((pattern : ℕ) × Finds (asked h end offset) (Some (record { pattern = pattern; offset = offset }))))
+AreFoundBy Finds h end offset [] (Some (NoToken at)) = IsNoTokenFound Finds h end offset at
 AreFoundBy Finds h end offset [] (Some (Search e)) = Unit {0}
 AreFoundBy Finds h end offset (t ∷ ts) error =
-    (t.start ≡ offset) × (offset < t.end) × (t.end ≤ end)
-    × Finds (asked h end offset) (Some (record { pattern = t.pattern; offset = t.end }))
-    × AreFoundBy Finds h end t.end ts error
+    FindsToken Finds h end offset t × AreFoundBy Finds h end t.end ts error
 
 -- one list of bytes begins another
 abbrev pub IsBeginningOf : List ℕ → List ℕ → Type 0

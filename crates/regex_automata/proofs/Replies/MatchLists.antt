@@ -1,6 +1,6 @@
 -- The matches that a replay lists, and why the next one fails.
 use Rattle.std.proofs.Common.{◌≡◌, ◌∙◌, ◌≤◌, ℕ, suc, arith, Bool, Result, Ok, false, List, [], Option}
-use Rattle.std.proofs.Common.{Some, None, Err, inl, inr, ap, subst, sym}
+use Rattle.std.proofs.Common.{Some, None, Err, ap, subst, sym}
 use Rattle.automata_base.specs.Haystacks.Input.{Input}
 use Rattle.automata_base.specs.Haystacks.Matches.{Match}
 use Rattle.automata_base.specs.Answers.Spans.{from}
@@ -8,7 +8,7 @@ use Rattle.automata_base.specs.declared.util.search.Direction.TheVariants.{Forwa
 use Rattle.automata_config.specs.declared.error.SearchError.{SearchError}
 use Rattle.automata_hybrid.specs.Searches.Contracts.{IsMemory, IsUnsupported, unsupported_error}
 use Rattle.regex_automata.specs.Spans.Contracts.{ReportsUnsupported}
-use Rattle.regex_automata.specs.Spans.Errors.{IsFree, IsNextError}
+use Rattle.regex_automata.specs.Spans.Errors.{FailsHere, FailsLater, IsFree, IsNextError}
 use Rattle.regex_automata.specs.Regexes.SoundPairs.{IsSoundPair}
 use Rattle.regex_automata.specs.declared.hybrid.regex.Regex.{Regex}
 use Rattle.regex_automata.specs.declared.hybrid.regex.caches.Cache.{Cache}
@@ -58,6 +58,6 @@ memory_next p c input now last e is le refused sound free = next refused where
   here = subst (IsFree p) (sym is) (free_from p input now.start le free)
 
   next : IsNextError p c now last e → IsMemory e
-  next (inl first) = memory_of_sound p c now e sound here first
-  next (inr later) =
-      memory_of_sound p c (from (suc now.start) now) e sound (free_from p now (suc now.start) (omega arith) here) later.3
+  next (FailsHere first) = memory_of_sound p c now e sound here first
+  next (FailsLater m found empty later) =
+      memory_of_sound p c (from (suc now.start) now) e sound (free_from p now (suc now.start) (omega arith) here) later

@@ -13,7 +13,7 @@ use Rattle.automata_config.specs.declared.error.SearchError.{SearchError}
 use Rattle.automata_config.specs.declared.error.SearchError.TheVariants as search
 use Rattle.automata_hybrid.specs.Machines.Machine.{Machine}
 use Rattle.automata_hybrid.specs.Searches.Contracts.{IsMemory}
-use Rattle.automata_hybrid.specs.Walks.Progress.{EndsSet, HaveCalled, IsOpenAfter, IsSetRun}
+use Rattle.automata_hybrid.specs.Walks.Progress.{EndsSet, HaveCalled, IsOpenAfter, IsSetRun, NoCall, OneMore}
 use Rattle.automata_hybrid.specs.Cache.Caches.{CacheView}
 use Rattle.automata_hybrid.specs.Walks.Answers.{HasReported}
 use Rattle.automata_hybrid.specs.Walks.State.{Walk}
@@ -65,19 +65,19 @@ up_to P n below here k l = go (cases_lt k n) where
 -- the calls that the walk of a set has made, one after another, have reported as many pairs, each if the set went on
 called_reported :
     (m : Machine) (input : Input) (set : List Bool) (calls : ℕ) (old : CacheView) (walk : Walk) (new : CacheView)
-    → HaveCalled m input set calls old walk new
+    → HaveCalled m input set old calls walk new
     → HasReported Forward m input walk calls × ((k : ℕ) → k < calls → IsOpenAfter m input set k)
-called_reported m input set zero old walk new (fresh, same) =
+called_reported m input set zero old walk new (NoCall walk1 new1 fresh same) =
     (subst (λ (w : Walk). HasReported Forward m input w 0) (sym fresh) (refl, refl), λ k l. absurd (omega (arith, l)))
-called_reported m input set (suc calls) old walk new (before, mid, called, is_open, there, reports, ended) =
+called_reported m input set (suc calls) old walk new (OneMore calls1 before walk1 mid new1 called is_open there reports ended) =
     let reported = called_reported m input set calls old before mid called in
     ((reports calls reported.0).0, up_to (IsOpenAfter m input set) calls reported.1 is_open)
 
 pub reported_set :
     (m : Machine) (input : Input) (set : List Bool) (old new : CacheView) → EndsSet m input set old new → HasReportedSet m input set
-reported_set m input set old new (calls, walk, called, last) =
-    let reported = called_reported m input set calls old walk new called in
-    (calls, walk, reported.0, reported.1, last)
+reported_set m input set old new s =
+    let reported = called_reported m input set s.calls old s.walk new s.called in
+    record { calls = s.calls; walk = s.walk; reported = reported.0; on = reported.1; last = s.last }
 
 -- the run of one that returned no error
 pub run_ended :

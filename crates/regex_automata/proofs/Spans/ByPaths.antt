@@ -21,7 +21,7 @@ use Rattle.automata_hybrid.proofs.Searches.Bounds.{found_within}
 use Rattle.automata_hybrid.proofs.Searches.Reach.{refused_memory}
 use Rattle.regex_automata.specs.Regexes.Caches.{AreCachesOf}
 use Rattle.regex_automata.specs.Spans.Outcomes.{FindsMatch, IsOutcome}
-use Rattle.regex_automata.specs.Spans.Errors.{HasReason, IsFree, IsOfMemory, IsRegexError}
+use Rattle.regex_automata.specs.Spans.Errors.{BackFails, FrontFails, HasReason, IsFree, IsOfMemory, IsRegexError, NoStart}
 use Rattle.regex_automata.specs.Regexes.SoundPairs.{BothKeepCycles, IsSoundPair, forward_engine, reverse_engine}
 use Rattle.regex_automata.specs.declared.hybrid.regex.Regex.{Regex}
 use Rattle.regex_automata.specs.declared.hybrid.regex.caches.Cache.{Cache}
@@ -89,9 +89,9 @@ module _ (p : Regex) (front : ReportedIsRight p.forward.nfa) where
     no_pair : e ≡ search.NotAPair → IsOutcome p input NotAPair
     no_pair is = go (subst (HasReason p c input) is reason) where
       go : HasReason p c input search.NotAPair → IsOutcome p input NotAPair
-      go (inl r) = absurd (never_pair Forward p.forward c.forward.store input r)
-      go (inr (inl r)) = absurd (never_pair Backward p.reverse c.reverse.store (back input r.0) r.2.1)
-      go (inr (inr r)) = r.1
+      go (FrontFails r) = absurd (never_pair Forward p.forward c.forward.store input r)
+      go (BackFails half found r) = absurd (never_pair Backward p.reverse c.reverse.store (back input half) r.1)
+      go (NoStart apart none) = none
 
     pub shapes_error : (IsFree p input → IsOfMemory e) → IsRegexError p c input e
     shapes_error free =
@@ -104,13 +104,13 @@ module _ (p : Regex) (front : ReportedIsRight p.forward.nfa) where
         } where
           quits : p.forward.quits ≡ p.reverse.quits → (byte at : ℕ) → e ≡ search.Match (QuitAt byte at) → HasReason p c input e
               → IsSearchError Forward p.forward c.forward.store input e
-          quits same byte at is (inl r) = r
-          quits same byte at is (inr (inl r)) =
+          quits same byte at is (FrontFails r) = r
+          quits same byte at is (BackFails half found r) =
               absurd
-              (back_free law p.forward p.reverse c.reverse.store input r.0 byte at same given.1 (found_within Forward p.forward input r.0 given.1 r.1).2
-              (found_within Forward p.forward input r.0 given.1 r.1).0.1 r.1
-              (subst (λ (v : SearchError). IsSearchError Backward p.reverse c.reverse.store (back input r.0) v) is r.2.1))
-          quits same byte at is (inr (inr r)) = absurd (not_quit (sym is ∙ r.0)) where
+              (back_free law p.forward p.reverse c.reverse.store input half byte at same given.1 (found_within Forward p.forward input half given.1 found).2
+              (found_within Forward p.forward input half given.1 found).0.1 found
+              (subst (λ (v : SearchError). IsSearchError Backward p.reverse c.reverse.store (back input half) v) is r.1))
+          quits same byte at is (NoStart apart none) = absurd (not_quit (sym is ∙ apart)) where
             not_quit : ◌≡◌ {A = SearchError} (search.Match (QuitAt byte at)) search.NotAPair → ⊥
             not_quit h = cc
 
@@ -118,14 +118,14 @@ module _ (p : Regex) (front : ReportedIsRight p.forward.nfa) where
 pub free_of :
     (p : Regex) (c : Cache) (input : Input) (e : SearchError)
     → input.end ≤ length input.haystack → AreCachesOf c p → HasReason p c input e → IsFree p input → IsOfMemory e
-free_of p c input e few of (inl r) free =
+free_of p c input e few of (FrontFails r) free =
     inl (refused_memory Forward p.forward c.forward.store input e few of.0 free.forward free.supported free.forward_clears r)
-free_of p c input e few of (inr (inl (half, found, (long, r)))) free =
+free_of p c input e few of (BackFails half found (long, r)) free =
     let l = found_within Forward p.forward input half few found in
     let within = l.0.1 in
     inl (refused_memory Backward p.reverse c.reverse.store (back input half) e (omega (arith, within, few)) of.1
     (back_reach p.reverse input half l.1 within free.reverse) refl free.reverse_clears r)
-free_of p c input e few of (inr (inr (apart, none))) free = inr apart
+free_of p c input e few of (NoStart apart none) free = inr apart
 
 -- each error of a search
 pub refusals :

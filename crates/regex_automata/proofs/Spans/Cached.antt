@@ -10,7 +10,7 @@ use Rattle.automata_hybrid.specs.Cache.Caches.{CacheView}
 use Rattle.automata_hybrid.specs.Cache.Growth.{IsStill}
 use Rattle.automata_hybrid.specs.Searches.Cached.{KnownStays, Knows}
 use Rattle.automata_hybrid.specs.Searches.Passes.{IsFound}
-use Rattle.automata_hybrid.proofs.Cache.Growth.{nothing_first, nothing_second}
+use Rattle.automata_hybrid.proofs.Caches.Growth.{nothing_first, nothing_second}
 use Rattle.automata_hybrid.proofs.Searches.Bounds.{found_within}
 use Rattle.regex_automata.specs.Spans.Agreement.{AreAlike, MatchesAgree}
 use Rattle.regex_automata.specs.Spans.Follows.{KnowsNext}

@@ -1,10 +1,10 @@
 -- What follows of the runs of searches over two lazy DFAs.
-use Rattle.std.proofs.Common.{suc, ◌≡◌, ◌∙◌, ◌+◌, ◌≤◌, ◌<◌, ◌⊎◌, inl, inr, Option, Some, None, refl, sym, ap, subst, arith, ⊎_elim}
+use Rattle.std.proofs.Common.{suc, ◌≡◌, ◌∙◌, ◌+◌, ◌≤◌, ◌<◌, ◌⊎◌, inl, inr, Option, Some, None, refl, sym, ap, subst, arith}
 use Rattle.std.specs.Prelude.{IfSome}
 use Rattle.automata_base.specs.Answers.Answers.{Half}
 use Rattle.automata_base.specs.Haystacks.Input.{Input}
 use Rattle.automata_base.specs.Answers.OfPasses.{ReportedEndsAreRight, ReportedIsRight}
-use Rattle.automata_base.specs.Answers.Spans.{IsShort, back, from}
+use Rattle.automata_base.specs.Answers.Spans.{back, from}
 use Rattle.automata_base.specs.Laws.StartIsRight.{BackMeetsNone, StartsAreRight}
 use Rattle.automata_base.specs.declared.util.search.Direction.TheVariants.{Backward, Forward}
 use Rattle.automata_base.proofs.Answers.Starts.{yes_no}
@@ -15,16 +15,17 @@ use Rattle.automata_hybrid.specs.Cache.Growth.{ClearedNothing, IsGrown, IsStill}
 use Rattle.automata_hybrid.specs.Machines.Machine.{Machine}
 use Rattle.automata_hybrid.specs.Searches.Agreement.{AnswersAgree}
 use Rattle.automata_hybrid.specs.Searches.Cached.{IsOfInput, KnownStays}
-use Rattle.automata_hybrid.specs.Searches.Follows.{IsCostOfPass, SearchFollows}
+use Rattle.automata_hybrid.specs.Searches.Follows.{SearchFollows}
 use Rattle.automata_hybrid.specs.Searches.Passes.{IsFound}
-use Rattle.automata_hybrid.proofs.Cache.Growth.{grown_same}
+use Rattle.automata_hybrid.proofs.Caches.Growth.{grown_same}
 use Rattle.automata_hybrid.proofs.Searches.Follows.{search_refused, searches_follow}
 use Rattle.regex_automata.specs.Regexes.Caches.{AreCachesOf, AreGrown, KnowsBack}
-use Rattle.regex_automata.specs.Regexes.SoundPairs.{forward_engine}
-use Rattle.regex_automata.specs.Spans.Errors.{HasReason, IsBackError, IsOfGiven}
-use Rattle.regex_automata.specs.Spans.Follows.{NextFollows, NextsFollow, ErrorsFollow, SpanFollows, SpansFollow}
+use Rattle.regex_automata.specs.Spans.Errors.{BackFails, FailsHere, FailsLater, FrontFails, HasReason, IsBackError, IsOfGiven}
+use Rattle.regex_automata.specs.Spans.Errors.{NoStart}
+use Rattle.regex_automata.specs.Spans.Follows.{ErrorsFollow, IsCostBack, NextFollows, NextsFollow, NoPass, OnePass, SpanFollows}
+use Rattle.regex_automata.specs.Spans.Follows.{OfOne, OfTwo, SpansFollow}
 use Rattle.regex_automata.specs.Spans.Outcomes.{IsStartFound}
-use Rattle.regex_automata.specs.Spans.Runs.{IsBackRun, IsBothRun, IsErrorOfBoth, IsFrontRun, IsSpanRun}
+use Rattle.regex_automata.specs.Spans.Runs.{IsBackRun, IsBothRun, IsErrorOfBoth, IsFrontRun, IsSpanRun, Made, NotMade}
 use Rattle.regex_automata.specs.Spans.Iteration.{FindsEmptyAt}
 use Rattle.regex_automata.specs.declared.hybrid.regex.Regex.{Regex}
 use Rattle.regex_automata.specs.declared.hybrid.regex.caches.Cache.{Cache}
@@ -42,7 +43,7 @@ weaker (Some e) f h = f e h
 -- what follows of the search back from a forward answer
 record BackFollows (p : Regex) (input : Input) (half : Half) (old new : CacheView) (error : Option SearchError) : Type 0 where
   -- it is one pass from the answer's end to its base
-  pub cost : (new ≡ old) ⊎ ((IsShort (forward_engine p) input half → ⊥) × IsCostOfPass Backward p.reverse (back input half) old new)
+  pub cost : IsCostBack p input old new
   pub grown : IsGrown old new
   pub learned : ClearedNothing old.store new.store → error ≡ None → KnowsBack p new.store input half
   pub known : KnowsBack p old.store input half → IsStill old new × IfSome error IsOfInput
@@ -50,9 +51,9 @@ record BackFollows (p : Regex) (input : Input) (half : Half) (old new : CacheVie
 
 back_follows :
     (p : Regex) (input : Input) (half : Half) (old new : CacheView) (error : Option SearchError)
-    → IsBackRun p input half old new error → BackFollows p input half old new error
-back_follows p input half old new error (inl (short, same, none)) = record {
-  cost = inl same;
+    → IsFound Forward p.forward input (Some half) → IsBackRun p input half old new error → BackFollows p input half old new error
+back_follows p input half old new error found (NotMade short same none) = record {
+  cost = NoPass same;
   grown = grown_same old new same;
   learned = λ nothing ok long. absurd (long short);
   known = λ knows. (
@@ -61,8 +62,8 @@ back_follows p input half old new error (inl (short, same, none)) = record {
   );
   refused = subst (λ (e : Option SearchError). IfSome e (IsBackError p new.store input half)) (sym none) tt;
 }
-back_follows p input half old new error (inr (long, run)) = record {
-  cost = inr (long, f.once (λ s. yes_no s.1));
+back_follows p input half old new error found (Made long run) = record {
+  cost = OnePass half found long (f.once (λ s. yes_no s.1));
   grown = f.grown;
   learned = λ nothing ok other. f.learned nothing ok;
   known = λ knows. f.known (knows long);
@@ -96,16 +97,18 @@ pub span_refused :
     (p : Regex) (input : Input) (old new : Cache) (error : Option SearchError)
     → IsFrontRun p input old new error ⊎ IsBothRun p input old new error → IfSome error (HasReason p new input)
 span_refused p input old new error (inl (run, same, none)) =
-    weaker error (λ e h. inl h) (search_refused Forward p.forward input old.forward new.forward error run)
-span_refused p input old new error (inr (run, (half, found, (failed, back, ends)))) =
-    of_both p input half failed error (HasReason p new input) (λ none. inr (inr (refl, (half, found, none))))
-    (weaker failed (λ e h. inr (inl (half, found, h))) (back_follows p input half old.reverse new.reverse failed back).refused) ends
+    weaker error (λ e h. FrontFails h) (search_refused Forward p.forward input old.forward new.forward error run)
+span_refused p input old new error (inr b) =
+    of_both p input b.half b.failed error (HasReason p new input) (λ none. NoStart refl (b.half, b.found, none))
+    (weaker b.failed (λ e h. BackFails b.half b.found h)
+    (back_follows p input b.half old.reverse new.reverse b.failed b.found b.back).refused)
+    b.told
 
 span_follows :
     AnswersAgree → (p : Regex) (input : Input) (old new : Cache) (error : Option SearchError)
     → IsFrontRun p input old new error ⊎ IsBothRun p input old new error → SpanFollows p input old new error
 span_follows agree p input old new error (inl (run, same, none)) = record {
-  cost = (f.cost, inl same);
+  cost = record { front = f.cost; back = NoPass same };
   grown = (f.grown, grown_same old.reverse new.reverse same);
   learned = λ nothing ok. knows_front agree p input new (f.learned nothing.0 ok) (none ok);
   known = λ knows. (
@@ -118,21 +121,24 @@ span_follows agree p input old new error (inl (run, same, none)) = record {
 } where
   f : SearchFollows Forward p.forward input old.forward new.forward error
   f = searches_follow Forward p.forward input old.forward new.forward error run
-span_follows agree p input old new error (inr (run, (half, found, (failed, back, ends)))) = record {
-  cost = (f.cost, ⊎_elim (λ same. inl same) (λ back. inr (half, found, back.0, back.1)) b.cost);
+span_follows agree p input old new error (inr both) = record {
+  cost = record { front = f.cost; back = b.cost };
   grown = (f.grown, b.grown);
-  learned = λ nothing ok. knows_both agree p input new half (f.learned nothing.0 refl) found (b.learned nothing.1 (ends_both p input half failed error ends ok));
+  learned = λ nothing ok. knows_both agree p input new both.half (f.learned nothing.0 refl) both.found
+      (b.learned nothing.1 (ends_both p input both.half both.failed error both.told ok));
   known = λ knows. (
-      let second = b.known (knows.1 half found) in
-      (((f.known knows.0).0, second.0), of_both p input half failed error IsOfGiven (λ none. inr refl) (weaker failed (λ e h. inl h) second.1) ends));
-  refused = span_refused p input old new error (inr (run, (half, found, (failed, back, ends))));
-  done = λ past. absurd (none_past p.forward input half found past);
+      let second = b.known (knows.1 both.half both.found) in (
+        ((f.known knows.0).0, second.0),
+        of_both p input both.half both.failed error IsOfGiven (λ none. inr refl) (weaker both.failed (λ e h. inl h) second.1) both.told,
+      ));
+  refused = span_refused p input old new error (inr both);
+  done = λ past. absurd (none_past p.forward input both.half both.found past);
 } where
   f : SearchFollows Forward p.forward input old.forward new.forward None
-  f = searches_follow Forward p.forward input old.forward new.forward None run
+  f = searches_follow Forward p.forward input old.forward new.forward None both.front
 
-  b : BackFollows p input half old.reverse new.reverse failed
-  b = back_follows p input half old.reverse new.reverse failed back
+  b : BackFollows p input both.half old.reverse new.reverse both.failed
+  b = back_follows p input both.half old.reverse new.reverse both.failed both.found both.back
 
 pub spans_follow : AnswersAgree → SpansFollow
 spans_follow agree p input old new error run = span_follows agree p input old new error run.run
@@ -158,16 +164,16 @@ nexts_follow agree p front rear refused input last old new error given of run = 
       × ((between : Cache) × IsSpanRun p input old between None × IsSpanRun p (from (suc input.start) input) between new error))
       → NextFollows p input last old new error
   go (inl (run, only)) = record {
-    cost = inl f.cost;
+    cost = OfOne f.cost;
     grown = f.grown;
     learned = λ nothing ok. alone p input last new (f.learned nothing ok) (only ok);
     known = λ knows. f.known knows.0;
-    refused = weaker error (λ e h. inl h) (refused input old new error given of run);
+    refused = weaker error (λ e h. FailsHere h) (refused input old new error given of run);
   } where
     f : SpanFollows p input old new error
     f = spans_follow agree p input old new error run
   go (inr (empty, (between, first, second))) = record {
-    cost = inr (empty, (between, f.cost, s.cost));
+    cost = OfTwo empty between f.cost s.cost;
     grown = grown_twice old between new f.grown s.grown;
     learned = λ nothing ok. (
         let cleared = cleared_second old between new f.grown s.grown nothing in (
@@ -180,7 +186,7 @@ nexts_follow agree p front rear refused input last old new error given of run = 
         let still = (f.known knows.0).0 in
         let later = s.known (still_both p old between (from (suc input.start) input) still (knows.1 empty.0 empty.1 empty.2)) in
         (still_twice old between new still later.0, later.1));
-    refused = weaker error (λ e h. inr (empty.0, empty.1, empty.2, h))
+    refused = weaker error (λ e h. FailsLater empty.0 empty.1 empty.2 h)
         (refused (from (suc input.start) input) between new error given (grown_of p old between of f.grown) second);
   } where
     f : SpanFollows p input old between None

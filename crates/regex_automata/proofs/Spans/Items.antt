@@ -25,7 +25,13 @@ pub gives_match :
     → end ≡ m.end → GivesItem p (Some (Ok m)) input input' last (Some end) ended ended
 gives_match p input input' last true m start end still next lies same begins ends = absurd (false_true (sym still))
 gives_match p input input' last false m start end still next lies same begins ends =
-    (next, lies, same ∙ ap (λ n. from n input) begins, ap (λ (n : ℕ). Some n) ends, refl)
+    record {
+      next = next;
+      within = lies;
+      rest = same ∙ ap (λ n. from n input) begins;
+      place = ap (λ (n : ℕ). Some n) ends;
+      going = refl;
+    }
 
 -- and may be sliced from the haystack, as what was searched lies in it
 pub lies_in_haystack :
@@ -38,14 +44,14 @@ pub gives_none :
     (p : Regex) (input : Input) (last : Option ℕ) (ended : Bool)
     → ended ≡ false → IsNextMatch p input last None → GivesItem p None input input last last ended true
 gives_none p input last true still next = absurd (false_true (sym still))
-gives_none p input last false still next = (next, refl, refl, refl)
+gives_none p input last false still next = (next, record { rest = refl; place = refl; over = refl })
 
 -- or an error
 pub gives_error :
     (p : Regex) (input : Input) (last : Option ℕ) (ended : Bool) (e : SearchError)
     → ended ≡ false → GivesItem p (Some (Err e)) input input last last ended true
 gives_error p input last true e still = absurd (false_true (sym still))
-gives_error p input last false e still = (refl, refl, refl)
+gives_error p input last false e still = record { rest = refl; place = refl; over = refl }
 
 -- what an item of an iteration that goes on makes of the caches
 pub item_run :

@@ -56,7 +56,7 @@ pub item_match :
     → GivesItem p (Some (Ok m)) input input' last last' ended ended'
     → IsNextMatch p input last (Some m) × (input' ≡ from m.end input) × (last' ≡ Some m.end) × (ended ≡ false) × (ended' ≡ false)
 item_match p input input' last last' true ended' m g = let e = g.0 in cc
-item_match p input input' last last' false ended' m g = (g.0, g.2, g.3, refl, g.4)
+item_match p input input' last last' false ended' m g = (g.next, g.rest, g.place, refl, g.going)
 
 pub item_none :
     (p : Regex) (input input' : Input) (last last' : Option ℕ) (ended ended' : Bool)

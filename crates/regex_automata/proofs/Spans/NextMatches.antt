@@ -5,7 +5,7 @@ use Rattle.automata_base.specs.Haystacks.Input.{Input}
 use Rattle.automata_base.specs.Haystacks.Matches.{Match}
 use Rattle.automata_base.specs.Answers.Spans.{IsEmptyAt, from}
 use Rattle.automata_config.specs.declared.error.SearchError.{SearchError}
-use Rattle.automata_hybrid.proofs.Cache.Growth.{grown_trans}
+use Rattle.automata_hybrid.proofs.Caches.Growth.{grown_trans}
 use Rattle.regex_automata.specs.Spans.Iteration.{GoesPast, IsNextMatch}
 use Rattle.regex_automata.specs.Spans.Outcomes.{FindsMatch, MatchLiesIn}
 use Rattle.regex_automata.specs.Regexes.Caches.{AreGrown}

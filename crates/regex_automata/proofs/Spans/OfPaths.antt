@@ -46,7 +46,7 @@ spans_of_paths p front ends starts sound input given =
           → GivesItem p item input input' last last' ended ended' → IsItemOfPaths (forward_engine p) input last ended item
       item input' last last' true ended' o g = g.0
       item input' last last' false ended' None g = next last None g.0
-      item input' last last' false ended' (Some (Ok m)) g = next last (Some m) g.0
+      item input' last last' false ended' (Some (Ok m)) g = next last (Some m) g.next
       item input' last last' false ended' (Some (Err e)) g = tt
 
 pub loops_collect : LoopsCollect

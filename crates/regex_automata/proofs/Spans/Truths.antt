@@ -110,7 +110,8 @@ same_some o (Some half) e = ap (λ (v : Option HalfMatch). is_some v) e
 pub truth_found :
     (m : Machine) (input asked : Input) → IsAsked m input asked → (found : Option HalfMatch) (truth : Bool)
     → WithoutBase (IsFound Forward m asked) found → truth ≡ is_some found → IsTruthFound m input truth
-truth_found m input asked is found truth f e = (asked, f.0, is, f.1, e ∙ same_some found f.0 f.2)
+truth_found m input asked is found truth f e =
+    record { asked = asked; is = is; answer = f.0; found = f.1; same = e ∙ same_some found f.0 f.2 }
 
 -- and what it reports
 pub truth_reported :

@@ -11,7 +11,8 @@ use Rattle.automata_config.specs.declared.error.SearchError.{SearchError}
 use Rattle.automata_hybrid.specs.Machines.Machine.{Machine}
 use Rattle.automata_hybrid.specs.Searches.Contracts.{IsUnhindered}
 use Rattle.automata_hybrid.specs.Searches.Bounds.{LiesIn}
-use Rattle.regex_automata.specs.Tokens.{AreFoundBy, AreGiven, IsBeginningOf, IsGivenAt, IsItemAt, IsNoTokenOrMemory}
+use Rattle.regex_automata.specs.Tokens.{AreFoundBy, AreGiven, EmptyMatch, FindsNoToken, IsBeginningOf, IsGivenAt, IsItemAt}
+use Rattle.regex_automata.specs.Tokens.{IsNoTokenOrMemory, NoMatch}
 use Rattle.regex_automata.specs.Tokens.{IsTokenAt, SearchReturns, asked, match_bytes, item_of, joined, match_of}
 use Rattle.regex_automata.specs.declared.tokens.error.TokenError.{TokenError}
 use Rattle.regex_automata.specs.declared.tokens.error.TokenError.TheVariants.{NoToken, Search}
@@ -112,11 +113,10 @@ module _ (m : Machine) (h : List ℕ) (end : ℕ) where
   module _ (P : Input → Option HalfMatch → Type 0)
       (right : (offset : ℕ) (o : Option HalfMatch) → SearchReturns m h end offset (Ok o) → P (asked h end offset) o) where
     none_by :
-        (offset : ℕ) → ReportsNone offset
-        → P (asked h end offset) None
-        ⊎ ((pattern : ℕ) × P (asked h end offset) (Some (record { pattern = pattern; offset = offset })))
-    none_by offset (inl returned) = inl (right offset None returned)
-    none_by offset (inr (pattern, returned)) = inr (pattern, right offset (Some (record { pattern = pattern; offset = offset })) returned)
+        (offset : ℕ) → ReportsNone offset → FindsNoToken P h end offset
+    none_by offset (inl returned) = NoMatch (right offset None returned)
+    none_by offset (inr (pattern, returned)) =
+        EmptyMatch pattern (right offset (Some (record { pattern = pattern; offset = offset })) returned)
 
     pub found_by :
         (offset : ℕ) (ts : List Match) (error : Option TokenError) → AreGiven m h end offset ts error
@@ -124,11 +124,12 @@ module _ (m : Machine) (h : List ℕ) (end : ℕ) where
     found_by offset [] None g = g
     found_by offset [] (Some (NoToken at)) (inl memory) = absurd (no_search at _ memory)
     found_by offset [] (Some (NoToken at)) (inr item) =
-        let n = no_token_is offset at item in (n.0, n.1, none_by offset n.2)
+        let n = no_token_is offset at item in record { place = n.0; within = n.1; none = none_by offset n.2 }
     found_by offset [] (Some (Search e)) g = tt
     found_by offset (t ∷ ts) error g =
         let n = token_is offset t g.0 in
-        (n.1, n.2, n.3, right offset (Some (record { pattern = t.pattern; offset = t.end })) n.0, found_by t.end ts error g.1)
+        let found = right offset (Some (record { pattern = t.pattern; offset = t.end })) n.0 in
+        (record { start = n.1; past = n.2; within = n.3; found = found }, found_by t.end ts error g.1)
 
   -- a part of the haystack is two parts, split anywhere
   parts : (a b c : ℕ) → a ≤ b → b ≤ c → slice_range h a b ++ slice_range h b c ≡ slice_range h a c

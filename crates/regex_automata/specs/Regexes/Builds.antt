@@ -91,6 +91,19 @@ abbrev pub BuildsOne : Options → Automaton → Regex → Type 0
 BuildsOne o forward p =
     (kept reverse : Automaton) × IsKeepingUnions forward kept × IsReversed forward reverse × BuildsPair o kept reverse p
 
+-- why no pair of DFAs can be built of an NFA and of its reverse
+pub record IsUnpaired (o : Options) (forward : Automaton) (error : BuildError) : Type 0 where
+  -- the NFA passes all tests
+  pub passes : PassesAll forward
+  -- the reversed NFA
+  pub reverse : Automaton
+  -- it is the NFA reversed
+  pub reversed : IsReversed forward reverse
+  -- the two cannot be built
+  pub fails : pair_error o forward reverse ≡ Some error
+  -- if the capacity is too small, the error names one that is enough
+  pub enough : NamesEnough o forward reverse error
+
 -- why no regex is built of one NFA: it fails the next test after those that it passes; or it passes all, and cannot be
 -- reversed, or no pair can be built of it and of its reverse. Memory is used only after the first test
 abbrev pub IsBuildError : Options → Automaton → RegexBuildError → Type 0
@@ -99,7 +112,4 @@ IsBuildError o forward is.NotUtf8 = SkipsLazily forward × (IsUtf8 forward → �
 IsBuildError o forward is.Starts = PassesTwo forward × (BeginsAlike forward → ⊥)
 IsBuildError o forward is.TooLarge = PassesAll forward × MayBeTooLarge forward
 IsBuildError o forward is.OutOfMemory = SkipsLazily forward
-IsBuildError o forward (is.Build error) =
-    PassesAll forward
-    × ((reverse : Automaton) × IsReversed forward reverse × (pair_error o forward reverse ≡ Some error)
-    × NamesEnough o forward reverse error)
+IsBuildError o forward (is.Build error) = IsUnpaired o forward error

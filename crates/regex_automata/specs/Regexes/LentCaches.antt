@@ -3,7 +3,7 @@ use Rattle.std.specs.Prelude.{◌≡◌, ⊤}
 use Rattle.std.specs.Borrow.{Lends, LendsBoth, MutBor, Fml, follows_so}
 use mathlib.Core.Option.{none}
 use Rattle.automata_hybrid.specs.Cache.Caches.{CacheView}
-use Rattle.automata_hybrid.specs.contracts.dfa.cache.Cache.{the_row as part}
+use Rattle.automata_hybrid.specs.contracts.cache.Cache.{the_row as part}
 use Rattle.regex_automata.specs.declared.hybrid.regex.caches.Cache.{Cache}
 use Rattle.regex_automata.specs.contracts.hybrid.regex.caches.Cache.{the_row}
 

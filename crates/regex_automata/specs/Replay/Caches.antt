@@ -53,13 +53,15 @@ abbrev pub IsTruthSearched : Regex → Input → (old new : Cache) → Result Bo
 IsTruthSearched p input old new result =
     IfOk result (IsTruthReported p.forward input) × IsTruthRun p input old new (result_err result)
 
--- the search after the last match of a list, and why that match is the last: there is no further one, the search fails,
--- or there is no memory for the list
-abbrev pub AreSearchedLast : Regex → (old new : Cache) → Input → Option ℕ → Option SearchError → Type 0
-AreSearchedLast p old new input last error =
-    IsNextRun p input last old new error
-    ⊎ ((error ≡ Some search.OutOfMemory)
-    × ((m : Match) × IsNextMatch p input last (Some m) × IsNextRun p input last old new None))
+-- the search after the last match of a list, and why that match is the last
+pub data AreSearchedLast (p : Regex) (old new : Cache) (input : Input) (last : Option ℕ) (error : Option SearchError) :
+    Type 0 where
+  -- there is no further match, or the search fails
+  EndsList : IsNextRun p input last old new error → AreSearchedLast p old new input last error
+  -- there is a further match, and no memory for it in the list
+  NoRoom :
+      (m : Match) → IsNextMatch p input last (Some m) → IsNextRun p input last old new None
+      → error ≡ Some search.OutOfMemory → AreSearchedLast p old new input last error
 
 -- the searches for a list of matches, one after another, each over the caches that the one before left
 abbrev pub AreSearched : Regex → (old new : Cache) → Input → Option ℕ → List Match → Option SearchError → Type 0
@@ -82,13 +84,21 @@ IsTokenSearchedLast m h end place old new (Some e) =
     IsTokenMade m h end place old new (Some (Err e))
     ⊎ ((e ≡ Search search.OutOfMemory) × ((t : Token) × IsTokenMade m h end place old new (Some (Ok t))))
 
+-- the search for a token of a list, given by its pattern and its span
+pub record IsTokenSearched (m : Machine) (h : List ℕ) (end place : ℕ) (old new : Cache) (t : Match) : Type 0 where
+  -- the token that the search gives
+  pub token : Token
+  -- it has this pattern and this span
+  pub is : match_of token ≡ t
+  -- what the search for it does to the caches
+  pub made : IsTokenMade m h end place old new (Some (Ok token))
+
 -- the searches for a list of tokens, one after another, each over the caches that the one before left
 abbrev pub AreTokensSearched :
     Machine → List ℕ → (end place : ℕ) → (old new : Cache) → List Match → Option TokenError → Type 0
 AreTokensSearched m h end place old new [] error = IsTokenSearchedLast m h end place old new error
 AreTokensSearched m h end place old new (t ∷ ts) error =
-    (token : Token) × (next : Cache) × (match_of token ≡ t) × IsTokenMade m h end place old next (Some (Ok token))
-    × AreTokensSearched m h end t.end next new ts error
+    (next : Cache) × IsTokenSearched m h end place old next t × AreTokensSearched m h end t.end next new ts error
 
 -- a walk has answered so many calls: it has ended exactly if they are more than its pairs
 pub record HasAnswered (way : Direction) (m : Machine) (input : Input) (w : Walk) (k : ℕ) : Type 0 where
@@ -97,14 +107,19 @@ pub record HasAnswered (way : Direction) (m : Machine) (input : Input) (w : Walk
   -- it has ended exactly if there are fewer pairs than calls
   pub ended : (pairs : List Pair) → AreWalked way m input pairs → (w.stage ≡ Ended ↔ length pairs < k)
 
--- a call of a walk that has answered so many: if it returns Ok, the walk goes on to the next pair
-abbrev pub IsCalled :
-    Direction → Machine → Input → (answered : ℕ) → (old new : CacheView)
-    → Result (Option HalfMatch) SearchError → Type 0
-IsCalled way m input answered old new result =
-    (walk : Walk) × (next : Walk) × HasAnswered way m input walk answered
-    × OnOk result (ReportsNext way m input walk next)
-    × IsWalkRun States way m input walk next old new (result_err result)
+-- a call of a walk that has answered so many
+pub record IsCalled (way : Direction) (m : Machine) (input : Input) (answered : ℕ) (old new : CacheView)
+    (result : Result (Option HalfMatch) SearchError) : Type 0 where
+  -- the walk before the call
+  pub walk : Walk
+  -- it has answered so many calls
+  pub before : HasAnswered way m input walk answered
+  -- the walk after the call
+  pub next : Walk
+  -- if the call returns Ok, the walk goes on to the next pair
+  pub reports : OnOk result (ReportsNext way m input walk next)
+  -- what the call makes of the cache, also if it fails
+  pub run : IsWalkRun States way m input walk next old new (result_err result)
 
 -- the cache of the DFA of a direction
 abbrev pub own_of : Direction → Cache → CacheView
@@ -125,14 +140,39 @@ IsWalkStepped r (Some w) old new result =
     result
     × (other_of w.way new ≡ other_of w.way old)
 
--- the walk of a fresh set, and the list of its patterns; or there is no memory for the set or the list
-abbrev pub ArePatternsSearched :
-    Machine → Input → (capacity : ℕ) → (old new : CacheView) → List ℕ → Option SearchError → Type 0
-ArePatternsSearched m input capacity old new found error =
-    ((new ≡ old) × (found ≡ []) × (error ≡ Some search.OutOfMemory))
-    ⊎ ((set : List Bool) × (failed : Option SearchError)
-    × IsSetRun m input (empty_set capacity) set old new failed
-    × (((found ≡ members set) × (error ≡ failed)) ⊎ ((found ≡ []) × (error ≡ Some search.OutOfMemory))))
+-- the search for the patterns below a capacity, listed
+pub data ArePatternsSearched (m : Machine) (input : Input) (capacity : ℕ) (old new : CacheView) (found : List ℕ)
+    (error : Option SearchError) : Type 0 where
+  -- there is no memory for the set, and nothing is searched
+  NoSet :
+      new ≡ old → found ≡ [] → error ≡ Some search.OutOfMemory
+      → ArePatternsSearched m input capacity old new found error
+  -- the walk of a fresh set ends, or fails with this error, and the patterns of the set are listed
+  Listed :
+      (set : List Bool) → IsSetRun m input (empty_set capacity) set old new error → found ≡ members set
+      → ArePatternsSearched m input capacity old new found error
+  -- it ends or fails, and there is no memory for the list
+  NoList :
+      (set : List Bool) (failed : Option SearchError) → IsSetRun m input (empty_set capacity) set old new failed
+      → found ≡ [] → error ≡ Some search.OutOfMemory → ArePatternsSearched m input capacity old new found error
+
+-- a list of matches: those that an iteration gives, and what its searches make of the caches
+abbrev pub IsListSearched : Regex → Input → (old new : Cache) → List Match → Option SearchError → Type 0
+IsListSearched r input old new ms error =
+    AreCollected (FindsMatch r) input ms error × AreSearched r old new input None ms error
+
+-- a list of tokens: what its searches report, and what they make of the caches
+abbrev pub IsTokenListSearched : Regex → Input → (old new : Cache) → List Match → Option TokenError → Type 0
+IsTokenListSearched r input old new ts error =
+    AreTokensReported r.forward input ts error
+    × AreTokensSearched r.forward input.haystack input.end input.start old new ts error
+
+-- a list of patterns: what the passes report, and what the search makes of the cache
+abbrev pub IsPatternListSearched :
+    Machine → (capacity : ℕ) → Input → (old new : CacheView) → List ℕ → Option SearchError → Type 0
+IsPatternListSearched m capacity input old new found error =
+    (error ≡ None → ArePatternsReported m input capacity found)
+    × ArePatternsSearched m input capacity old new found error
 
 -- what a request does to the caches of the current regex; one that uses one cache alone leaves the other unchanged
 abbrev pub IsMadeBy : Regex → List Begun → Request → (old new : Cache) → Reply → Type 0
@@ -143,17 +183,12 @@ IsMadeBy r walks (request.SearchRev input) old new answer =
 IsMadeBy r walks (request.Find input) old new answer = OnSpan (IsSpanSearched r input old new) answer
 IsMadeBy r walks (request.IsMatch input) old new answer = OnTruth (IsTruthSearched r input old new) answer
 IsMadeBy r walks (request.Iterate input) old new answer =
-    OnSpans (λ ms error. AreCollected (FindsMatch r) input ms error × AreSearched r old new input None ms error) answer
-IsMadeBy r walks (request.Tokenise input) old new answer =
-    OnTokens (λ ts error.
-    AreTokensReported r.forward input ts error
-    × AreTokensSearched r.forward input.haystack input.end input.start old new ts error) answer
+    OnSpans (IsListSearched r input old new) answer
+IsMadeBy r walks (request.Tokenise input) old new answer = OnTokens (IsTokenListSearched r input old new) answer
 IsMadeBy r walks (request.BeginWalk way input) old new answer = new ≡ old
 IsMadeBy r walks (request.StepWalk k) old new answer = OnHalf (IsWalkStepped r (slice_get walks k) old new) answer
 IsMadeBy r walks (request.Which capacity input) old new answer =
-    OnPatterns (λ found error.
-    (error ≡ None → ArePatternsReported r.forward input capacity found)
-    × ArePatternsSearched r.forward input capacity old.forward new.forward found error) answer
+    OnPatterns (IsPatternListSearched r.forward capacity input old.forward new.forward) answer
     × (new.reverse ≡ old.reverse)
 IsMadeBy r walks (request.Reset k) old new answer = new ≡ old
 

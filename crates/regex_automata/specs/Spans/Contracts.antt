@@ -134,12 +134,19 @@ empty_set capacity = replicate capacity false
 
 -- the walk of a set has made calls as long as the set could take more, until it ended or the set takes no more; no unit
 -- that it read is a quit byte
-abbrev pub HasReportedSet : Machine → Input → (set : List Bool) → Type 0
-HasReportedSet m input set =
-    (calls : ℕ) × (walk : Walk) × HasReported Forward m input walk calls
-    × ((k : ℕ) → k < calls → IsOpenAfter m input set k)
-    × ((walk.stage ≡ Ended)
-    ⊎ ((pairs : List Pair) → AreWalked Forward m input pairs → IsOpen input set (take calls pairs) → ⊥))
+pub record HasReportedSet (m : Machine) (input : Input) (set : List Bool) : Type 0 where
+  -- how many calls it has made
+  pub calls : ℕ
+  -- the walk after them
+  pub walk : Walk
+  -- they have reported as many pairs
+  pub reported : HasReported Forward m input walk calls
+  -- the set could take more before each of them
+  pub on : (k : ℕ) → k < calls → IsOpenAfter m input set k
+  -- the walk has ended, or the set takes no more
+  pub last :
+      (walk.stage ≡ Ended)
+      ⊎ ((pairs : List Pair) → AreWalked Forward m input pairs → IsOpen input set (take calls pairs) → ⊥)
 
 -- the patterns below a capacity that the passes report, for every NFA
 pub record ArePatternsReported (m : Machine) (input : Input) (capacity : ℕ) (found : List ℕ) : Type 0 where

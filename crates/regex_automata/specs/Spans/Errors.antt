@@ -23,12 +23,16 @@ abbrev pub IsBackError : Regex → Stored → Input → Half → SearchError →
 IsBackError p c input half e =
     (IsShort (forward_engine p) input half → ⊥) × IsSearchError Backward p.reverse c (back input half) e
 
--- the forward search fails, or the one back, or that one finds no start
-abbrev pub HasReason : Regex → Cache → Input → SearchError → Type 0
-HasReason p c input e =
-    IsSearchError Forward p.forward c.forward.store input e
-    ⊎ (((half : Half) × IsFound Forward p.forward input (Some half) × IsBackError p c.reverse.store input half e)
-    ⊎ ((e ≡ search.NotAPair) × IsOutcome p input NotAPair))
+-- why a search for a span fails
+pub data HasReason (p : Regex) (c : Cache) (input : Input) (e : SearchError) : Type 0 where
+  -- the forward search fails
+  FrontFails : IsSearchError Forward p.forward c.forward.store input e → HasReason p c input e
+  -- the forward search finds this, and the search back from there fails
+  BackFails :
+      (half : Half) → IsFound Forward p.forward input (Some half) → IsBackError p c.reverse.store input half e
+      → HasReason p c input e
+  -- the search back finds no start
+  NoStart : e ≡ search.NotAPair → IsOutcome p input NotAPair → HasReason p c input e
 
 -- nothing prevents an answer: no quit byte is in reach, the anchored mode is supported, no clear limit is set
 pub record IsFree (p : Regex) (input : Input) : Type 0 where
@@ -61,13 +65,14 @@ pub record IsRegexError (p : Regex) (c : Cache) (input : Input) (e : SearchError
   pub quits : p.forward.quits ≡ p.reverse.quits → (byte at : ℕ) → e ≡ search.Match (QuitAt byte at)
       → IsSearchError Forward p.forward c.forward.store input e
 
--- why the next match fails: the search failed, or it found an empty match at the last end and the search from one
--- offset later failed
-abbrev pub IsNextError : Regex → Cache → Input → Option ℕ → SearchError → Type 0
-IsNextError p c input last e =
-    IsRegexError p c input e
-    ⊎ ((m : Match) × FindsMatch p input (Some m) × IsEmptyAt last m
-    × IsRegexError p c (from (suc input.start) input) e)
+-- why the search for the next match fails
+pub data IsNextError (p : Regex) (c : Cache) (input : Input) (last : Option ℕ) (e : SearchError) : Type 0 where
+  -- the search of what is left fails
+  FailsHere : IsRegexError p c input e → IsNextError p c input last e
+  -- it finds an empty match at the last end, and the search from one offset later fails
+  FailsLater :
+      (m : Match) → FindsMatch p input (Some m) → IsEmptyAt last m
+      → IsRegexError p c (from (suc input.start) input) e → IsNextError p c input last e
 
 -- a search fails by what it was given, and not for lack of room
 abbrev pub IsOfGiven : SearchError → Type 0

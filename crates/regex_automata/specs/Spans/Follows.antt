@@ -1,11 +1,12 @@
 -- What follows of what searches over two lazy DFAs make of their caches: how often they determinize, how the caches
 -- grow, and what is cached.
-use Rattle.std.specs.Prelude.{ℕ, suc, ◌≡◌, ◌<◌, ◌⊎◌, Option, Some, None, IfSome}
+use Rattle.std.specs.Prelude.{ℕ, suc, ◌≡◌, ◌<◌, Option, Some, None, IfSome}
 use Rattle.automata_base.specs.Answers.Answers.{Half, IsInput}
 use Rattle.automata_base.specs.Haystacks.Input.{Input}
 use Rattle.automata_base.specs.Haystacks.Matches.{Match}
 use Rattle.automata_base.specs.Answers.Spans.{IsEmptyAt, IsShort, back, from}
 use Rattle.automata_base.specs.declared.util.search.Direction.TheVariants.{Backward, Forward}
+use Rattle.automata_hybrid.specs.Cache.Caches.{CacheView}
 use Rattle.automata_hybrid.specs.Searches.Follows.{IsCostOfPass, IsCostOfSearch}
 use Rattle.automata_hybrid.specs.Searches.Passes.{IsFound}
 use Rattle.regex_automata.specs.Regexes.SoundPairs.{forward_engine}
@@ -18,21 +19,30 @@ use Rattle.regex_automata.specs.Regexes.Caches.{AreCachesOf, AreGrown, AreStill,
 use Rattle.regex_automata.specs.Spans.Errors.{HasReason, IsNextError, IsOfGiven, IsRegexError}
 use Rattle.regex_automata.specs.Spans.Runs.{IsNextRun, IsSpanRun}
 
--- what a search costs the two caches of a regex: the forward one its passes, and the reverse one, if a search back from
--- a forward answer is made, one pass from the answer's end to its base
-abbrev pub AreCostsOf : Regex → Input → Cache → Cache → Type 0
-AreCostsOf p input old new =
-    IsCostOfSearch Forward p.forward input old.forward new.forward
-    × ((new.reverse ≡ old.reverse)
-    ⊎ ((half : Half) × IsFound Forward p.forward input (Some half) × (IsShort (forward_engine p) input half → ⊥)
-    × IsCostOfPass Backward p.reverse (back input half) old.reverse new.reverse))
+-- what a search for a span costs the reverse cache
+pub data IsCostBack (p : Regex) (input : Input) (old new : CacheView) : Type 0 where
+  -- no search back is made, and nothing changes
+  NoPass : new ≡ old → IsCostBack p input old new
+  -- a search back is made from a forward answer: one pass from the answer's end to its base
+  OnePass :
+      (half : Half) → IsFound Forward p.forward input (Some half) → (IsShort (forward_engine p) input half → ⊥)
+      → IsCostOfPass Backward p.reverse (back input half) old new → IsCostBack p input old new
 
--- the cost of one search; or, if it finds an empty match at the last end, of that and the search from one offset later
-abbrev pub AreCostsTwice : Regex → Input → Option ℕ → Cache → Cache → Type 0
-AreCostsTwice p input last old new =
-    AreCostsOf p input old new
-    ⊎ (FindsEmptyAt p input last
-    × ((between : Cache) × AreCostsOf p input old between × AreCostsOf p (from (suc input.start) input) between new))
+-- what a search for a span costs the two caches of a regex
+pub record AreCostsOf (p : Regex) (input : Input) (old new : Cache) : Type 0 where
+  -- the forward cache its passes
+  pub front : IsCostOfSearch Forward p.forward input old.forward new.forward
+  -- the reverse cache at most one pass
+  pub back : IsCostBack p input old.reverse new.reverse
+
+-- what the search for the match after another costs
+pub data AreCostsTwice (p : Regex) (input : Input) (last : Option ℕ) (old new : Cache) : Type 0 where
+  -- what one search does
+  OfOne : AreCostsOf p input old new → AreCostsTwice p input last old new
+  -- if that finds an empty match at the last end, what it costs and what the search from one offset later does
+  OfTwo :
+      FindsEmptyAt p input last → (between : Cache) → AreCostsOf p input old between
+      → AreCostsOf p (from (suc input.start) input) between new → AreCostsTwice p input last old new
 
 -- all that the next match uses is cached: what a search uses, and, if that finds an empty match at the last end, what
 -- the search from one offset later uses

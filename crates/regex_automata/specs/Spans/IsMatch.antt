@@ -18,9 +18,17 @@ abbrev pub IsAsked : Machine → Input → Input → Type 0
 IsAsked m input asked = (Skips m × (asked ≡ in_full input)) ⊎ ((Skips m → ⊥) × (asked ≡ in_part input))
 
 -- whether there is a match, by what a search finds; none of its passes met a quit byte
-abbrev pub IsTruthFound : Machine → Input → Bool → Type 0
-IsTruthFound m input truth =
-    (asked : Input) × (o : Option Half) × IsAsked m input asked × IsFound Forward m asked o × (truth ≡ is_some o)
+pub record IsTruthFound (m : Machine) (input : Input) (truth : Bool) : Type 0 where
+  -- the input that is searched
+  pub asked : Input
+  -- it is not earliest if split places are skipped, and else earliest
+  pub is : IsAsked m input asked
+  -- what the search finds
+  pub answer : Option Half
+  -- its passes report it
+  pub found : IsFound Forward m asked answer
+  -- there is a match exactly if it finds one
+  pub same : truth ≡ is_some answer
 
 -- by what passes report of the input when it is not earliest
 abbrev pub IsMatchReported : Machine → Input → Bool → Type 0

@@ -27,20 +27,39 @@ abbrev pub LiesInHaystack : List ℕ → Option (Result Match SearchError) → T
 LiesInHaystack haystack item =
     IfSome item (λ r. IfOk r (λ (m : Match). (m.start ≤ m.end) × (m.end ≤ length haystack)))
 
+-- an iteration stays where it is, and has ended
+pub record StaysEnded (input input' : Input) (last last' : Option ℕ) (ended' : Bool) : Type 0 where
+  -- the same is left to be searched
+  pub rest : input' ≡ input
+  -- the last match ended at the same offset
+  pub place : last' ≡ last
+  -- the iteration has ended
+  pub over : ended' ≡ true
+
+-- an iteration gives a match, and goes on from its end
+pub record PassesMatch (p : Regex) (m : Match) (input input' : Input) (last last' : Option ℕ) (ended' : Bool) :
+    Type 0 where
+  -- it is the match after the one that ended at `last`
+  pub next : IsNextMatch p input last (Some m)
+  -- it lies in the span that was left, and its pattern is one of the NFAs'
+  pub within : MatchLiesIn p input m
+  -- what is left to be searched starts at its end
+  pub rest : input' ≡ from m.end input
+  -- and it is the last match
+  pub place : last' ≡ Some m.end
+  -- the iteration has not ended
+  pub going : ended' ≡ false
+
 -- one item of an iteration, and the iteration before and after it: what is left to be searched, where the last match
 -- ended, and whether it has ended
 abbrev pub GivesItem :
     Regex → Option (Result Match SearchError) → (input input' : Input) → (last last' : Option ℕ)
     → (ended ended' : Bool) → Type 0
-GivesItem p item input input' last last' true ended' =
-    (item ≡ None) × (input' ≡ input) × (last' ≡ last) × (ended' ≡ true)
+GivesItem p item input input' last last' true ended' = (item ≡ None) × StaysEnded input input' last last' ended'
 GivesItem p None input input' last last' false ended' =
-    IsNextMatch p input last None × (input' ≡ input) × (last' ≡ last) × (ended' ≡ true)
-GivesItem p (Some (Ok m)) input input' last last' false ended' =
-    IsNextMatch p input last (Some m) × MatchLiesIn p input m
-    × (input' ≡ from m.end input) × (last' ≡ Some m.end) × (ended' ≡ false)
-GivesItem p (Some (Err e)) input input' last last' false ended' =
-    (input' ≡ input) × (last' ≡ last) × (ended' ≡ true)
+    IsNextMatch p input last None × StaysEnded input input' last last' ended'
+GivesItem p (Some (Ok m)) input input' last last' false ended' = PassesMatch p m input input' last last' ended'
+GivesItem p (Some (Err e)) input input' last last' false ended' = StaysEnded input input' last last' ended'
 
 -- an input made of its parts
 abbrev pub input_over : List ℕ → (start end : ℕ) → Anchored → (earliest : Bool) → Input

@@ -18,12 +18,15 @@ use Rattle.regex_automata.specs.Regexes.SoundPairs.{forward_engine}
 use Rattle.regex_automata.specs.declared.hybrid.regex.Regex.{Regex}
 use Rattle.regex_automata.specs.declared.hybrid.regex.caches.Cache.{Cache}
 
--- the search back from a forward answer, if it is made; otherwise its cache is unchanged
-abbrev pub IsBackRun : Regex → Input → Half → (old new : CacheView) → Option SearchError → Type 0
-IsBackRun p input half old new error =
-    (IsShort (forward_engine p) input half × (new ≡ old) × (error ≡ None))
-    ⊎ ((IsShort (forward_engine p) input half → ⊥)
-    × IsSearchRun Backward p.reverse (back input half) old new error)
+-- the search back from a forward answer, if it is made
+pub data IsBackRun (p : Regex) (input : Input) (half : Half) (old new : CacheView) (error : Option SearchError) :
+    Type 0 where
+  -- the start is known without it: the cache is unchanged, and nothing fails
+  NotMade : IsShort (forward_engine p) input half → new ≡ old → error ≡ None → IsBackRun p input half old new error
+  -- the reverse DFA searches from the answer's end to its base
+  Made :
+      (IsShort (forward_engine p) input half → ⊥) → IsSearchRun Backward p.reverse (back input half) old new error
+      → IsBackRun p input half old new error
 
 -- the forward search alone: it fails, or it finds no match
 abbrev pub IsFrontRun : Regex → Input → (old new : Cache) → Option SearchError → Type 0
@@ -37,12 +40,19 @@ IsErrorOfBoth p input half failed error =
     (error ≡ failed) ⊎ ((failed ≡ None) × IsStartFound p input half None × (error ≡ Some search.NotAPair))
 
 -- the forward search has an answer, and the search back fails or ends
-abbrev pub IsBothRun : Regex → Input → (old new : Cache) → Option SearchError → Type 0
-IsBothRun p input old new error =
-    IsSearchRun Forward p.forward input old.forward new.forward None
-    × ((half : Half) × IsFound Forward p.forward input (Some half)
-    × ((failed : Option SearchError) × IsBackRun p input half old.reverse new.reverse failed
-    × IsErrorOfBoth p input half failed error))
+pub record IsBothRun (p : Regex) (input : Input) (old new : Cache) (error : Option SearchError) : Type 0 where
+  -- the forward search does not fail
+  pub front : IsSearchRun Forward p.forward input old.forward new.forward None
+  -- its answer
+  pub half : Half
+  -- its passes report it
+  pub found : IsFound Forward p.forward input (Some half)
+  -- the error of the search back, if that fails
+  pub failed : Option SearchError
+  -- what the search back does, if it is made
+  pub back : IsBackRun p input half old.reverse new.reverse failed
+  -- the error that is returned
+  pub told : IsErrorOfBoth p input half failed error
 
 -- a search for a span, by the error that it returns, if it fails
 pub record IsSpanRun (p : Regex) (input : Input) (old new : Cache) (error : Option SearchError) : Type 0 where

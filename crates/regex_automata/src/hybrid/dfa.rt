@@ -1,10 +1,10 @@
 //! The lazy DFA, its settings and its cache.
 
 pub use automata_config::config::{Config, Settled};
+pub use automata_hybrid::cache::Cache;
+pub use automata_hybrid::cache::states::{CachedState, States};
 pub use automata_hybrid::dfa::DFA;
 pub use automata_hybrid::dfa::builder::Builder;
-pub use automata_hybrid::dfa::cache::Cache;
-pub use automata_hybrid::dfa::states::{CachedState, States};
+pub use automata_hybrid::search::pieces::walk::{PiecesWalk, WalkEnd};
 pub use automata_hybrid::search::pieces::{BeginError, Pieces};
-pub use automata_hybrid::search::pieces_walk::{PiecesWalk, WalkEnd};
 pub use automata_hybrid::search::walk::OverlappingState;

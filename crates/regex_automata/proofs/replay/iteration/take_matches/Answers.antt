@@ -1,8 +1,9 @@
-use Rattle.std.proofs.Common.{◌≡◌, ◌∙◌, [], ◌∷◌, ◌++◌, None, Some, Ok, Err, ap, inl, inr, refl, rules, sym, subst, List}
+use Rattle.std.proofs.Common.{◌≡◌, ◌∙◌, [], ◌∷◌, ◌++◌, None, Some, Ok, Err, ap, refl, rules, sym, subst, List}
 use Rattle.automata_base.specs.Answers.Answers.{IsInput}
 use Rattle.automata_base.specs.Haystacks.Input.{Input}
 use Rattle.automata_base.specs.Haystacks.Matches.{Match}
 use Rattle.automata_config.specs.declared.error.SearchError.TheVariants as search
+use Rattle.regex_automata.specs.Replay.Caches.{EndsList, NoRoom}
 use Rattle.regex_automata.specs.Spans.Iteration.{IsNextMatch, input_over}
 use Rattle.automata_base.specs.Answers.Spans.{AreFirst}
 use Rattle.regex_automata.specs.Spans.Outcomes.{FindsMatch}
@@ -116,7 +117,7 @@ returns-in_default-clause-made c =
     let run = run_turn s.regex.now c.args.regex.now now s.last s.ended s.cache.now t.cache.now (Some (Ok c.in-Ok.next)) i.regex i.going steps.3 in
     let next = (item_match s.regex.now now rest s.last t.last s.ended t.ended c.in-Ok.next steps.0).0 in
     searches_end c.args.regex.now c.args.cache.now s.cache.now t.cache.now _ c.args.input now s.last c.loop-item.found.items _ (Some search.OutOfMemory) i.made
-    (inr (refl, (c.in-Ok.next, subst (λ (r : Regex). IsNextMatch r now s.last (Some c.in-Ok.next)) i.regex next, run))) c.in_default.ensures.items (search rules)
+    (NoRoom c.in-Ok.next (subst (λ (r : Regex). IsNextMatch r now s.last (Some c.in-Ok.next)) i.regex next) run refl) c.in_default.ensures.items (search rules)
 
 pub returns-in-Err-clause-made : goal.returns-in-Err-clause-made
 returns-in-Err-clause-made c =
@@ -127,7 +128,7 @@ returns-in-Err-clause-made c =
     let steps = rw c.in-Err.is at c.in-Some.ensures.steps in
     let e = c.in-Err.error in
     searches_end c.args.regex.now c.args.cache.now s.cache.now t.cache.now _ c.args.input now s.last c.loop-item.found.items c.loop-item.found.items (Some e) i.made
-    (inl (run_turn s.regex.now c.args.regex.now now s.last s.ended s.cache.now t.cache.now (Some (Err e)) i.regex i.going steps.3)) refl (search rules)
+    (EndsList (run_turn s.regex.now c.args.regex.now now s.last s.ended s.cache.now t.cache.now (Some (Err e)) i.regex i.going steps.3)) refl (search rules)
 
 pub returns-clause-made : goal.returns-clause-made
 returns-clause-made c =
@@ -136,4 +137,4 @@ returns-clause-made c =
     let t = c.next.new.self in
     let now = input_over s.haystack.now s.start s.end s.anchored s.earliest in
     searches_end c.args.regex.now c.args.cache.now s.cache.now t.cache.now _ c.args.input now s.last c.loop-item.found.items c.loop-item.found.items None i.made
-    (inl (run_turn s.regex.now c.args.regex.now now s.last s.ended s.cache.now t.cache.now None i.regex i.going c.in-None.ensures.steps.3)) refl (search rules)
+    (EndsList (run_turn s.regex.now c.args.regex.now now s.last s.ended s.cache.now t.cache.now None i.regex i.going c.in-None.ensures.steps.3)) refl (search rules)

@@ -1,4 +1,4 @@
-use Rattle.std.proofs.Common.{◌≡◌, ◌∙◌, Bool, List, Option, [], ap, inl, inr, refl, subst, sym, IfSome}
+use Rattle.std.proofs.Common.{◌≡◌, ◌∙◌, Bool, List, Option, [], ap, inl, refl, subst, sym, IfSome}
 use Rattle.std.specs.Result.{result_err}
 use Rattle.automata_base.specs.Answers.Answers.{ArePatterns, ArePatternsFound}
 use Rattle.automata_base.specs.Answers.Answers.{IsOverlapping}
@@ -8,7 +8,8 @@ use Rattle.automata_config.specs.declared.error.SearchError.{SearchError}
 use Rattle.automata_hybrid.specs.Searches.Contracts.{IsMemory}
 use Rattle.automata_hybrid.specs.Walks.Progress.{IsSetRun}
 use Rattle.automata_hybrid.specs.Walks.Answers.{AreWalked}
-use Rattle.regex_automata.specs.Spans.Contracts.{HasReportedSet}
+use Rattle.regex_automata.specs.Replay.Caches.{Listed, NoList, NoSet}
+use Rattle.regex_automata.specs.Spans.Contracts.{HasReportedSet, empty_set}
 use Rattle.regex_automata.proofs.Replies.SetLists.{members_rise, memory_where, no_patterns, none_where, patterns_reported}
 use Rattle.regex_automata.proofs.Replies.SetLists.{reported_set, reported_where, run_ended}
 use Rattle.regex_automata.proofs.replay.patterns.patterns_below.Goals as goal
@@ -44,27 +45,22 @@ pub returns-clause-returned : goal.returns-clause-returned
 returns-clause-returned c = no_patterns c.args.dfa.now c.args.input.now c.args.capacity c.new-in-Err.result.items c.new-in-Err.ensures.items
 
 pub returns-in_default-clause-made : goal.returns-in_default-clause-made
-returns-in_default-clause-made c = inl (refl, c.new-in_default.ensures.items, refl)
+returns-in_default-clause-made c = NoSet refl c.new-in_default.ensures.items refl
 
 pub returns-in-Ok-list_members-clause-made : goal.returns-in-Ok-list_members-clause-made
 returns-in-Ok-list_members-clause-made c =
     let reported = c.try_which_overlapping_matches-reported in
-    inr (
-      reported.new.patset,
-      result_err reported.result,
-      subst (λ (set : List Bool). IsSetRun c.args.dfa.now c.args.input.now set reported.new.patset c.args.cache.now reported.new.cache (result_err reported.result)) c.in-Ok.ensures.capacity reported.ensures.effect,
-      inl (c.in-Ok-list_members.ensures, c.err.ensures.value),
-    )
+    Listed reported.new.patset
+    (subst (λ (error : Option SearchError). IsSetRun c.args.dfa.now c.args.input.now (empty_set c.args.capacity) reported.new.patset c.args.cache.now reported.new.cache error) (sym c.err.ensures.value)
+    (subst (λ (set : List Bool). IsSetRun c.args.dfa.now c.args.input.now set reported.new.patset c.args.cache.now reported.new.cache (result_err reported.result)) c.in-Ok.ensures.capacity reported.ensures.effect))
+    c.in-Ok-list_members.ensures
 
 pub returns-clause-made : goal.returns-clause-made
 returns-clause-made c =
     let reported = c.try_which_overlapping_matches-reported in
-    inr (
-      reported.new.patset,
-      result_err reported.result,
-      subst (λ (set : List Bool). IsSetRun c.args.dfa.now c.args.input.now set reported.new.patset c.args.cache.now reported.new.cache (result_err reported.result)) c.in-Ok.ensures.capacity reported.ensures.effect,
-      inr (c.new-in-Err.ensures.items, refl),
-    )
+    NoList reported.new.patset (result_err reported.result)
+    (subst (λ (set : List Bool). IsSetRun c.args.dfa.now c.args.input.now set reported.new.patset c.args.cache.now reported.new.cache (result_err reported.result)) c.in-Ok.ensures.capacity reported.ensures.effect)
+    c.new-in-Err.ensures.items refl
 
 pub returns-in_default-clause-found : goal.returns-in_default-clause-found
 returns-in_default-clause-found c = λ e. absurd (some_none e)

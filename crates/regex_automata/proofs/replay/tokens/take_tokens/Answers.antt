@@ -20,14 +20,14 @@ loop-item-preserved c =
     let items : c.push.new.self.items ≡ c.loop-item.found.items ++ t ∷ [] = c.in-Ok-push.ensures.items ∙ ap (λ (m : Match). c.loop-item.found.items ++ m ∷ []) same in
     record {
       comes = completes_on p.forward input.haystack input.end input.start c.loop-item.found.items c.push.new.self.items s.offset c.next.new.self.offset t i.comes
-          (item_turn s.regex.now p s.haystack.now input.haystack s.end input.end s.offset (Ok t) i.regex i.haystack i.end steps.0.0.item) items steps.0.1;
+          (item_turn s.regex.now p s.haystack.now input.haystack s.end input.end s.offset (Ok t) i.regex i.haystack i.end steps.0.token.item) items steps.0.place;
       regex = steps.1 ∙ i.regex;
       haystack = steps.3 ∙ i.haystack;
       end = steps.4 ∙ i.end;
-      going = steps.0.3;
+      going = steps.0.after;
       made = tokens_turn p.forward input.haystack input.end input.start c.args.cache.now s.cache.now c.next.new.self.cache.now c.loop-item.found.items c.push.new.self.items s.offset c.next.new.self.offset c.in-Ok.token i.made
           (token_made_turn s.regex.now p s.haystack.now input.haystack s.end input.end s.offset s.cache.now c.next.new.self.cache.now (Some (Ok c.in-Ok.token)) i.regex i.haystack i.end (steps.5, steps.6))
-          items steps.0.1;
+          items steps.0.place;
       same_cache = steps.2 ∙ i.same_cache;
     }
 
@@ -47,7 +47,7 @@ returns-in-Err-clause-given c =
     let e = c.in-Err.error in
     let steps = rw c.in-Err.is at c.in-Some.ensures.steps in
     completes_end p.forward input.haystack input.end input.start c.loop-item.found.items s.offset (Some e) i.comes
-    (inr (item_turn s.regex.now p s.haystack.now input.haystack s.end input.end s.offset (Err e) i.regex i.haystack i.end steps.0.0.0))
+    (inr (item_turn s.regex.now p s.haystack.now input.haystack s.end input.end s.offset (Err e) i.regex i.haystack i.end steps.0.error.0))
 
 pub returns-clause-given : goal.returns-clause-given
 returns-clause-given c =
@@ -55,7 +55,7 @@ returns-clause-given c =
     let s = c.loop-item.item-iterator in
     let input = c.args.input in
     completes_end c.args.regex.now.forward input.haystack input.end input.start c.loop-item.found.items s.offset None i.comes
-    (at_end s.failed s.end input.end s.offset c.in-None.ensures.steps.0.0 i.going i.end)
+    (at_end s.failed s.end input.end s.offset c.in-None.ensures.steps.0.why i.going i.end)
 
 pub returns-in_default-clause-made : goal.returns-in_default-clause-made
 returns-in_default-clause-made c =

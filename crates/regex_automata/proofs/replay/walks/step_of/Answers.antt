@@ -1,4 +1,4 @@
-use Rattle.std.proofs.Common.{inl}
+use Rattle.automata_hybrid.specs.Walks.Progress.{HasEnded}
 use Rattle.regex_automata.proofs.Results.{ok_err, same_err}
 use Rattle.regex_automata.proofs.Replies.WalkCalls.{answered, stayed, step_answers, step_refused}
 use Rattle.regex_automata.proofs.replay.walks.step_of.Goals as goal
@@ -25,7 +25,7 @@ returns-in-Err-clause-call c =
     let old = c.args.state.now in
     let new = c.try_search_overlapping.new.walk in
     record {
-      step = λ k h. step_refused c.args.way m input old k h c.in-Err.error (λ ended. s.ready (inl ended))
+      step = λ k h. step_refused c.args.way m input old k h c.in-Err.error (λ ended. s.ready (HasEnded ended))
           (λ fresh u. same_err (s.unsupported fresh u)) s.free;
       reported = λ k h. tt;
       kept = λ k h. stayed c.args.way m input old k h new s.refused;
@@ -33,13 +33,20 @@ returns-in-Err-clause-call c =
 
 pub returns-in-Ok-clause-made : goal.returns-in-Ok-clause-made
 returns-in-Ok-clause-made c = λ k h.
-    (c.args.state.now, c.try_search_overlapping.new.walk, h, c.in-Ok.ensures.call.reports, c.in-Ok.ensures.effect)
+    record {
+      walk = c.args.state.now;
+      before = h;
+      next = c.try_search_overlapping.new.walk;
+      reports = c.in-Ok.ensures.call.reports;
+      run = c.in-Ok.ensures.effect;
+    }
 
 pub returns-in-Err-clause-made : goal.returns-in-Err-clause-made
-returns-in-Err-clause-made c = λ k h. (
-  c.args.state.now,
-  c.try_search_overlapping.new.walk,
-  h,
-  tt,
-  c.in-Err.ensures.effect,
-)
+returns-in-Err-clause-made c = λ k h.
+    record {
+      walk = c.args.state.now;
+      before = h;
+      next = c.try_search_overlapping.new.walk;
+      reports = tt;
+      run = c.in-Err.ensures.effect;
+    }

@@ -6,6 +6,7 @@ use Rattle.automata_base.specs.declared.util.search.Direction.TheVariants.{Backw
 use Rattle.automata_hybrid.specs.Searches.Progress.{IsSearchRun}
 use Rattle.automata_hybrid.specs.Searches.Passes.{IsFound, with_base}
 use Rattle.automata_hybrid.specs.Searches.Bounds.{LiesIn}
+use Rattle.regex_automata.specs.Spans.Runs.{Made, NotMade}
 use Rattle.regex_automata.proofs.Spans.Costs.{back_none, back_some}
 use Rattle.regex_automata.proofs.Spans.NextMatches.{some_of}
 use Rattle.regex_automata.proofs.Results.{is_err}
@@ -21,7 +22,7 @@ pub returns-then-short-clause-within : goal.returns-then-short-clause-within
 returns-then-short-clause-within c = (omega arith, c.requires.past.past)
 
 pub returns-then-short-clause-effect : goal.returns-then-short-clause-effect
-returns-then-short-clause-effect c = inl (c.is_short-short.ensures.yes c.if-short.true, refl, refl)
+returns-then-short-clause-effect c = NotMade (c.is_short-short.ensures.yes c.if-short.true) refl refl
 
 pub backward-rest-requires-clause-ordered : goal.backward-rest-requires-clause-ordered
 backward-rest-requires-clause-ordered c = c.requires.past.past
@@ -38,11 +39,9 @@ returns-in_err-found-clause-of c = c.try_search_rev.ensures.of
 pub returns-in_err-found-clause-effect : goal.returns-in_err-found-clause-effect
 returns-in_err-found-clause-effect c =
     let error = is_err c.from_residual.result _ c.from_residual.ensures.1 in
-    inr (
-      c.is_short-short.ensures.no c.if-short.false,
-      subst (IsSearchRun Backward c.args.self.now.reverse (back c.args.input.now (with_base c.args.half c.args.base)) c.args.cache.now c.try_search_rev.new.cache) (sym (ap result_err error))
-          (subst (λ (i : Input). IsSearchRun Backward c.args.self.now.reverse i c.args.cache.now c.try_search_rev.new.cache (Some c.in_err-found.field-0.0)) c.backward-rest.ensures c.in_err-found.ensures.effect),
-    )
+    Made (c.is_short-short.ensures.no c.if-short.false)
+    (subst (IsSearchRun Backward c.args.self.now.reverse (back c.args.input.now (with_base c.args.half c.args.base)) c.args.cache.now c.try_search_rev.new.cache) (sym (ap result_err error))
+    (subst (λ (i : Input). IsSearchRun Backward c.args.self.now.reverse i c.args.cache.now c.try_search_rev.new.cache (Some c.in_err-found.field-0.0)) c.backward-rest.ensures c.in_err-found.ensures.effect))
 
 pub returns-in-Some-clause-of : goal.returns-in-Some-clause-of
 returns-in-Some-clause-of c = c.try_search_rev.ensures.of
@@ -64,10 +63,8 @@ returns-in-Some-clause-within c =
 
 pub returns-in-Some-clause-effect : goal.returns-in-Some-clause-effect
 returns-in-Some-clause-effect c =
-    inr (
-      c.is_short-short.ensures.no c.if-short.false,
-      subst (λ (i : Input). IsSearchRun Backward c.args.self.now.reverse i c.args.cache.now c.try_search_rev.new.cache None) c.backward-rest.ensures c.in_ok-found.ensures.effect,
-    )
+    Made (c.is_short-short.ensures.no c.if-short.false)
+    (subst (λ (i : Input). IsSearchRun Backward c.args.self.now.reverse i c.args.cache.now c.try_search_rev.new.cache None) c.backward-rest.ensures c.in_ok-found.ensures.effect)
 
 pub returns-in-None-clause-of : goal.returns-in-None-clause-of
 returns-in-None-clause-of c = c.try_search_rev.ensures.of
@@ -81,7 +78,5 @@ returns-in-None-clause-found c = (
 
 pub returns-in-None-clause-effect : goal.returns-in-None-clause-effect
 returns-in-None-clause-effect c =
-    inr (
-      c.is_short-short.ensures.no c.if-short.false,
-      subst (λ (i : Input). IsSearchRun Backward c.args.self.now.reverse i c.args.cache.now c.try_search_rev.new.cache None) c.backward-rest.ensures c.in_ok-found.ensures.effect,
-    )
+    Made (c.is_short-short.ensures.no c.if-short.false)
+    (subst (λ (i : Input). IsSearchRun Backward c.args.self.now.reverse i c.args.cache.now c.try_search_rev.new.cache None) c.backward-rest.ensures c.in_ok-found.ensures.effect)

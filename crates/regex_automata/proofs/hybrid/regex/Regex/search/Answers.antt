@@ -82,14 +82,14 @@ returns-in_err-start-clause-reported c = record {
 pub returns-in_err-start-clause-effect : goal.returns-in_err-start-clause-effect
 returns-in_err-start-clause-effect c =
     record {
-      run = inr (
-        c.in_ok-front.ensures.effect,
-        (
-          with_base c.in-Some.front.0 c.in-Some.front.1,
-          front_some c.args.self.now.forward c.args.input.now c.in_ok-front.field-0 c.in-Some.front.0 c.in-Some.front.1 c.in_ok-front.ensures.found c.in-Some.is,
-          (Some c.in_err-start.field-0.0, c.in_err-start.ensures.effect, inl (ap result_err (is_err c.from_residual-in_err-start.result _ c.from_residual-in_err-start.ensures.1))),
-        ),
-      );
+      run = inr (record {
+        front = c.in_ok-front.ensures.effect;
+        half = with_base c.in-Some.front.0 c.in-Some.front.1;
+        found = front_some c.args.self.now.forward c.args.input.now c.in_ok-front.field-0 c.in-Some.front.0 c.in-Some.front.1 c.in_ok-front.ensures.found c.in-Some.is;
+        failed = Some c.in_err-start.field-0.0;
+        back = c.in_err-start.ensures.effect;
+        told = inl (ap result_err (is_err c.from_residual-in_err-start.result _ c.from_residual-in_err-start.ensures.1));
+      });
     }
 
 pub returns-in_default-2-clause-of : goal.returns-in_default-2-clause-of
@@ -107,14 +107,14 @@ returns-in_default-2-clause-reported c = record {
 pub returns-in_default-2-clause-effect : goal.returns-in_default-2-clause-effect
 returns-in_default-2-clause-effect c =
     record {
-      run = inr (
-        c.in_ok-front.ensures.effect,
-        (
-          with_base c.in-Some.front.0 c.in-Some.front.1,
-          front_some c.args.self.now.forward c.args.input.now c.in_ok-front.field-0 c.in-Some.front.0 c.in-Some.front.1 c.in_ok-front.ensures.found c.in-Some.is,
-          (None, c.in_ok-start.ensures.effect, inr (refl, subst (IsStartFound c.args.self.now c.args.input.now (with_base c.in-Some.front.0 c.in-Some.front.1)) c.in_default-2.is c.in_ok-start.ensures.found, refl)),
-        ),
-      );
+      run = inr (record {
+        front = c.in_ok-front.ensures.effect;
+        half = with_base c.in-Some.front.0 c.in-Some.front.1;
+        found = front_some c.args.self.now.forward c.args.input.now c.in_ok-front.field-0 c.in-Some.front.0 c.in-Some.front.1 c.in_ok-front.ensures.found c.in-Some.is;
+        failed = None;
+        back = c.in_ok-start.ensures.effect;
+        told = inr (refl, subst (IsStartFound c.args.self.now c.args.input.now (with_base c.in-Some.front.0 c.in-Some.front.1)) c.in_default-2.is c.in_ok-start.ensures.found, refl);
+      });
     }
 
 pub new-requires : goal.new-requires
@@ -137,12 +137,12 @@ returns-clause-reported c = record {
 pub returns-clause-effect : goal.returns-clause-effect
 returns-clause-effect c =
     record {
-      run = inr (
-        c.in_ok-front.ensures.effect,
-        (
-          with_base c.in-Some.front.0 c.in-Some.front.1,
-          front_some c.args.self.now.forward c.args.input.now c.in_ok-front.field-0 c.in-Some.front.0 c.in-Some.front.1 c.in_ok-front.ensures.found c.in-Some.is,
-          (None, c.in_ok-start.ensures.effect, inl refl),
-        ),
-      );
+      run = inr (record {
+        front = c.in_ok-front.ensures.effect;
+        half = with_base c.in-Some.front.0 c.in-Some.front.1;
+        found = front_some c.args.self.now.forward c.args.input.now c.in_ok-front.field-0 c.in-Some.front.0 c.in-Some.front.1 c.in_ok-front.ensures.found c.in-Some.is;
+        failed = None;
+        back = c.in_ok-start.ensures.effect;
+        told = inl refl;
+      });
     }

@@ -17,12 +17,10 @@ returns-in-Err-build_from_nfas-clause-refused c =
     let refused =
     refused_of c.args.self.now c.args.forward c.keeping_unions.result c.in-Ok.reverse c.keeping_unions.ensures.same
     c.in-Err-build_from_nfas.error (sym c.in-Err-build_from_nfas.ensures.refused)
-    in (
-      c.in-Ok.ensures.passes,
-      (
-        c.in-Ok.reverse,
-        c.in-Ok.ensures.reversed,
-        refused,
-        enough_of c.args.self.now c.args.forward c.in-Ok.reverse c.in-Err-build_from_nfas.error refused,
-      ),
-    )
+    in record {
+      passes = c.in-Ok.ensures.passes;
+      reverse = c.in-Ok.reverse;
+      reversed = c.in-Ok.ensures.reversed;
+      fails = refused;
+      enough = enough_of c.args.self.now c.args.forward c.in-Ok.reverse c.in-Err-build_from_nfas.error refused;
+    }

@@ -35,8 +35,8 @@ use denote.Struct.Struct.{within}
 use denote.Struct.Tuple.{tuple_type}
 use denote.Triple.Walked.{Stays, walk_of, stay_dropped, Goes-spent_ref, ends_at}
 use Rattle.std.proofs.raw_atomic.Walks.{proved}
-use Rattle.automata_hybrid.specs.contracts.dfa.cache.Cache.{the_row as part}
-use Rattle.automata_hybrid.proofs.dfa.cache.Cache.TheLaws.{the_field_loose}
+use Rattle.automata_hybrid.specs.contracts.cache.Cache.{the_row as part}
+use Rattle.automata_hybrid.proofs.cache.Cache.TheLaws.{the_field_loose}
 use Rattle.regex_automata.specs.contracts.hybrid.regex.caches.Cache.{struct, the_row, the_type}
 use Rattle.regex_automata.specs.contracts.hybrid.regex.caches.Cache.as_parts_mut as f
 use Rattle.regex_automata.specs.declared.hybrid.regex.caches.Cache.{Cache}
