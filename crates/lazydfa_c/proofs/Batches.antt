@@ -23,19 +23,15 @@ call_more :
 call_more {A = A} Call [] f old at new s u t status calls done call = (
   new,
   t,
-  status,
-  done,
-  subst (λ (a : A). Call f a new s t status) calls.0 (subst (λ (v : Searcher). Call f at new v t status) calls.1 call),
+  record {
+    status = status;
+    done = done;
+    call = subst (λ (a : A). Call f a new s t status) calls.0 (subst (λ (v : Searcher). Call f at new v t status) calls.1 call);
+  },
   (refl, refl),
 )
-call_more Call (g ∷ fs) f old at new s u t status calls done call = (
-  calls.0,
-  calls.1,
-  calls.2,
-  calls.3,
-  calls.4,
-  call_more Call fs f calls.0 at new calls.1 u t status calls.5 done call,
-)
+call_more Call (g ∷ fs) f old at new s u t status calls done call =
+    (calls.0, calls.1, calls.2, call_more Call fs f calls.0 at new calls.1 u t status calls.3 done call)
 
 tail_of : {A : Type 0} (i : ℕ) (xs : List A) → drop (suc i) xs ≡ drop 1 (drop i xs)
 tail_of zero [] = refl

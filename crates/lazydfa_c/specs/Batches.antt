@@ -21,13 +21,22 @@ use Rattle.lazydfa_c.specs.declared.input.Request.{Request}
 use Rattle.lazydfa_c.specs.declared.object.Searcher.{Searcher}
 use Rattle.lazydfa_c.specs.declared.status.Status.{Status}
 
+-- a call that wrote this match
+pub record WritesOne {A : Type 0} (Call : Found → A → A → Searcher → Searcher → Status → Type 0) (f : Found)
+    (old new : A) (s t : Searcher) : Type 0 where
+  -- its status
+  pub status : Status
+  -- it is `LAZYDFA_OK`
+  pub done : status.code ≡ number_of code.Done
+  -- what the call does
+  pub call : Call f old new s t status
+
 -- calls one after another, each of which wrote one of these matches
 abbrev pub AreCalls : {A : Type 0} → (Call : Found → A → A → Searcher → Searcher → Status → Type 0)
     → List Found → (old new : A) → (s t : Searcher) → Type 0
 AreCalls Call [] old new s t = (new ≡ old) × (t ≡ s)
 AreCalls {A = A} Call (f ∷ fs) old new s t =
-    (at : A) × (u : Searcher) × (done : Status) × (done.code ≡ number_of code.Done) × Call f old at s u done
-    × AreCalls Call fs at new u t
+    (at : A) × (u : Searcher) × WritesOne Call f old at s u × AreCalls Call fs at new u t
 
 -- a call that writes as many matches as there is room for: it makes calls one after another, each of which writes the
 -- next match, until one writes none

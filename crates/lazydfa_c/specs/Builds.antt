@@ -141,11 +141,20 @@ abbrev pub options_for : Settings → (quits : List ℕ) → StartStates → Res
 options_for s quits starts =
     if has_one_start s starts then Err (plain code.OneStart) else options_of s quits (kind_of s.match_kind)
 
+-- a handle is open on a regex of this kind
+pub record HoldsRegex (Makes : Regex → Type 0) (new : Handle) : Type 0 where
+  -- the regex
+  pub regex : Regex
+  -- it is of this kind
+  pub made : Makes regex
+  -- the handle is open on it
+  pub opened : IsRegexIn regex new
+
 -- a handle is opened on the regex that the library's call returned, or the error of that call is told, or that there is
 -- no memory for the handle's object
 abbrev pub OpensRegex : (Makes : Regex → Type 0) → (Refuses : Status → Type 0)
     → (old new : Handle) → Result (Unit {0}) Status → Type 0
-OpensRegex Makes Refuses old new (Ok u) = (regex : Regex) × Makes regex × IsRegexIn regex new
+OpensRegex Makes Refuses old new (Ok u) = HoldsRegex Makes new
 OpensRegex Makes Refuses old new (Err e) = (new ≡ old) × (Refuses e ⊎ (e ≡ plain code.Memory))
 
 -- the same of an NFA, if there is one

@@ -28,13 +28,17 @@ written_over [] old = old
 written_over (x ∷ xs) [] = []
 written_over (x ∷ xs) (o ∷ old) = x ∷ written_over xs old
 
--- `lazydfa_which`: an empty set for the patterns below a number is joined with the patterns that match; its members are
--- written and counted, also after an error. If there is no memory for the set, all stays, and none is counted
-abbrev pub Lists : (below : ℕ) → (old new : List ℕ) → (count : ℕ) → Input → (s t : Searcher) → Status → Type 0
-Lists below old new count input s t status =
-    (JoinsPatterns (replicate below false) input s t status
-    × (new ≡ written_over (members t.patterns) old) × (count ≡ length (members t.patterns)))
-    ⊎ ((status ≡ plain code.Memory) × KeepsCaches s t × (new ≡ old) × (count ≡ 0))
+-- `lazydfa_which`: the patterns below a number that match are written and counted
+pub data Lists (below : ℕ) (old new : List ℕ) (count : ℕ) (input : Input) (s t : Searcher) (status : Status) :
+    Type 0 where
+  -- an empty set is joined with the patterns that match; its members are written and counted, also after an error
+  AreWritten :
+      JoinsPatterns (replicate below false) input s t status → new ≡ written_over (members t.patterns) old
+      → count ≡ length (members t.patterns) → Lists below old new count input s t status
+  -- there is no memory for the set: all stays, and none is counted
+  NoMemory :
+      status ≡ plain code.Memory → KeepsCaches s t → new ≡ old → count ≡ 0
+      → Lists below old new count input s t status
 
 -- `lazydfa_cache_reset`: the cache is a fresh one of its regex, or memory is out and it stays
 pub record Resets (s t : Searcher) (status : Status) : Type 0 where

@@ -194,12 +194,15 @@ pub record FindsNext (found : Found) (old new : Iteration) (input : Input) (s t 
   -- the iteration is moved past the match, or has ended
   pub iterated : new ≡ iterated old result
 
--- `lazydfa_next`: an iteration that has ended stays, and so does one without an input
-abbrev pub Iterates : List ℕ → Found → (old new : Iteration) → (s t : Searcher) → Status → Type 0
-Iterates haystack found old new s t status =
-    (old.ended ≡ 0 → OfInput (FindsNext found old new) (input_of haystack old.left) s t status)
-    × ((old.ended ≡ 0 → ⊥) → (t ≡ s) × (new ≡ old) × (status ≡ plain code.Nothing))
-    × ((old.ended ≡ 0) → input_of haystack old.left ≡ None → new ≡ old)
+-- `lazydfa_next`: the next match of an iteration
+pub record Iterates (haystack : List ℕ) (found : Found) (old new : Iteration) (s t : Searcher) (status : Status) :
+    Type 0 where
+  -- an iteration that has not ended searches what is left
+  pub searches : old.ended ≡ 0 → OfInput (FindsNext found old new) (input_of haystack old.left) s t status
+  -- one that has ended stays, and the status is `LAZYDFA_NONE`
+  pub over : (old.ended ≡ 0 → ⊥) → (t ≡ s) × (new ≡ old) × (status ≡ plain code.Nothing)
+  -- one without an input stays
+  pub same : old.ended ≡ 0 → input_of haystack old.left ≡ None → new ≡ old
 
 -- the next token, or why there is none, is told
 abbrev pub IsTokenTold : (written : Found) → Option (Result Token TokenError) → Status → Type 0

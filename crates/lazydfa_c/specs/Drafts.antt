@@ -105,12 +105,16 @@ has_list (add.UnanchoredPrefix start) = false
 abbrev pub IsPassed : {A : Type 0} → (Does : Result A BuildError → Type 0) → Result A Status → Type 0
 IsPassed {A = A} Does result = (r : Result A BuildError) × Does r × (result ≡ told_by r)
 
+-- a builder stays, and this is reported
+abbrev pub RefusesWith : Status → Draft → Draft → Result ℕ Status → Type 0
+RefusesWith status b c result = (c ≡ b) × (result ≡ Err status)
+
 -- a state is added to a builder: without numbers for it, or without memory for a copy of its list, the builder stays
 abbrev pub AddsTo : Added → Draft → Draft → Result ℕ Status → Type 0
 AddsTo added b c result =
     (IsTrue (allows added) × IsPassed (AddsState added b c) result)
-    ⊎ (IsFalse (allows added) × (c ≡ b) × (result ≡ Err (plain code.Argument)))
-    ⊎ (IsTrue (has_list added) × (c ≡ b) × (result ≡ Err (plain code.Memory)))
+    ⊎ (IsFalse (allows added) × RefusesWith (plain code.Argument) b c result)
+    ⊎ (IsTrue (has_list added) × RefusesWith (plain code.Memory) b c result)
 
 -- `Builder::start_pattern`, `Builder::finish_pattern` and `Builder::patch`
 pub record StartsPattern (old new : Draft) (result : Result ℕ BuildError) : Type 0 where
@@ -161,26 +165,34 @@ pub record Patches (from to : ℕ) (old new : Draft) (result : Result (Unit {0})
 -- a call with numbers of states: if one is none, it is told, and the builder stays
 abbrev pub OfStates : (are : Bool) → (Does : Type 0) → Draft → Draft → Result ℕ Status → Type 0
 OfStates are Does b c result =
-    (IsTrue are × Does) ⊎ (IsFalse are × (c ≡ b) × (result ≡ Err (plain code.Argument)))
+    (IsTrue are × Does) ⊎ (IsFalse are × RefusesWith (plain code.Argument) b c result)
 
 -- the same result, with a number that says nothing
 abbrev pub zeroed : {E : Type 0} → Result (Unit {0}) E → Result ℕ E
 zeroed (Ok u) = Ok 0
 zeroed (Err e) = Err e
 
+-- the builder is this one now, and the result says nothing
+abbrev pub Becomes : (wanted : Draft) → Draft → Result ℕ Status → Type 0
+Becomes wanted c result = (c ≡ wanted) × (result ≡ Ok 0)
+
+-- a state is patched, and the result says nothing but the error
+abbrev pub IsPatched : (from to : ℕ) → Draft → Draft → Result ℕ Status → Type 0
+IsPatched from to b c result =
+    (r : Result (Unit {0}) BuildError) × Patches from to b c r × (result ≡ told_by (zeroed r))
+
 -- a builder is changed, and the result has a pattern if the change does
 abbrev pub Changes : Change → Draft → Draft → Result ℕ Status → Type 0
-Changes change.Clear b c result = (c ≡ blank b.flags) × (result ≡ Ok 0)
+Changes change.Clear b c result = Becomes (blank b.flags) c result
 Changes change.StartPattern b c result = IsPassed (StartsPattern b c) result
 Changes (change.FinishPattern start) b c result =
     OfStates (is_state start) (IsPassed (FinishesPattern start b c) result) b c result
 Changes (change.Patch from to) b c result =
-    OfStates (is_state from && is_state to)
-    ((r : Result (Unit {0}) BuildError) × Patches from to b c r × (result ≡ told_by (zeroed r))) b c result
-Changes (change.Utf8 is_on) b c result = (c ≡ with_flags b (record b.flags { utf8 = is_on })) × (result ≡ Ok 0)
-Changes (change.Reverse is_on) b c result = (c ≡ with_flags b (record b.flags { reverse = is_on })) × (result ≡ Ok 0)
+    OfStates (is_state from && is_state to) (IsPatched from to b c result) b c result
+Changes (change.Utf8 is_on) b c result = Becomes (with_flags b (record b.flags { utf8 = is_on })) c result
+Changes (change.Reverse is_on) b c result = Becomes (with_flags b (record b.flags { reverse = is_on })) c result
 Changes (change.LineTerminator byte) b c result =
-    (c ≡ with_flags b (record b.flags { line_terminator = byte })) × (result ≡ Ok 0)
+    Becomes (with_flags b (record b.flags { line_terminator = byte })) c result
 
 -- a call on the object of a handle, which does this to a builder; any other object stays, and its kind is reported
 abbrev pub OfBuilder : (Does : Draft → Draft → Result ℕ Status → Type 0) → Object → Object → Result ℕ Status → Type 0

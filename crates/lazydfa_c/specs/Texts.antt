@@ -2,10 +2,9 @@
 use Rattle.std.specs.Prelude.{ℕ, ◌≡◌, ◌==◌, ◌<◌, not, List, [], ◌∷◌, take, drop, Result, Ok, Err, if◌then◌else◌}
 use Rattle.automata_base.specs.Nfas.Nodes.{Automaton}
 use Rattle.automata_config.specs.Options.{Options}
-use Rattle.regex_automata.specs.declared.hybrid.regex.Regex.{Regex}
 use Rattle.patterns.specs.Patterns.{IsNfaOf}
 use Rattle.patterns.specs.declared.compile.Options.{Options as Reading}
-use Rattle.lazydfa_c.specs.Builds.{IsRegexIn, IsBuiltRegex, WithOptions, kind_of, options_of}
+use Rattle.lazydfa_c.specs.Builds.{HoldsRegex, IsBuiltRegex, WithOptions, kind_of, options_of}
 use Rattle.lazydfa_c.specs.Codes.{number_of}
 use Rattle.lazydfa_c.specs.Handles.{is_open}
 use Rattle.lazydfa_c.specs.Statuses.{done_status}
@@ -55,7 +54,7 @@ IsFailure status = number_of code.Nothing < status.code
 abbrev pub OpensTexts : Options → Reading → (texts : List (List ℕ)) → (old new : Handle)
     → Result (Unit {0}) Status → Type 0
 OpensTexts o reading texts old new (Ok u) =
-    (nfa : Automaton) × IsNfaOf reading texts nfa × ((regex : Regex) × IsBuiltRegex o nfa regex × IsRegexIn regex new)
+    (nfa : Automaton) × IsNfaOf reading texts nfa × HoldsRegex (IsBuiltRegex o nfa) new
 OpensTexts o reading texts old new (Err e) = (new ≡ old) × IsFailure e
 
 -- the same with settings and quit bytes, over a handle that is closed
