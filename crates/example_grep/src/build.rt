@@ -102,13 +102,14 @@ fn line_searcher(nfa: NFA, capacity: usize) -> Result<LineSearcher>
     LineSearcher::new(dfa)
 }
 
-/// The searcher of matches for the patterns of an NFA. Its caches have the library's own capacity.
-fn span_searcher(nfa: NFA, case_insensitive: bool) -> Result<SpanSearcher>
+/// The searcher of matches for the patterns of an NFA.
+fn span_searcher(nfa: NFA, case_insensitive: bool, capacity: usize) -> Result<SpanSearcher>
     ensures { IfOk result (λ s. (res : List Re) → IsJoinedNfa (bytewise case_insensitive) res nfa
         → IsRegexOf (bytewise case_insensitive) res s.pattern.regex) }
 {
     let how = bytewise(case_insensitive);
-    let pattern = Pattern::from_nfa(nfa, &how)?;
+    let config = settings(MatchKind::LeftmostFirst, capacity);
+    let pattern = Pattern::from_nfa_with(nfa, &how, config)?;
     let spans = SpanSearcher::new(pattern)?;
     Ok(spans)
 }
@@ -142,7 +143,7 @@ fn view_of(nfa: &NFA, how: How, case_insensitive: bool, capacity: usize) -> Resu
         How::Whole => Ok(View::Whole),
         How::Matches => {
             let copy = nfa.clone()?;
-            let spans = span_searcher(copy, case_insensitive)?;
+            let spans = span_searcher(copy, case_insensitive, capacity)?;
             Ok(View::Matches(spans))
         }
         How::Which => {
@@ -153,8 +154,7 @@ fn view_of(nfa: &NFA, how: How, case_insensitive: bool, capacity: usize) -> Resu
     }
 }
 
-/// A grep for the patterns of an NFA, which has searched nothing. Each cache that is not for matches alone may account
-/// for so many bytes.
+/// A grep for the patterns of an NFA, which has searched nothing. Each cache may account for so many bytes.
 pub fn grep_of(
     alloc: Global,
     show: Show,

@@ -1,5 +1,5 @@
 -- A draft that gets one pattern after another.
-use Rattle.std.proofs.Common.{ℕ, suc, ◌≡◌, ◌+◌, ◌-◌, ◌*◌, ◌<◌, ◌≤◌, List, [], ◌∷◌, ◌++◌, Bool, Bor, false, length, map, take, get_or, option_map, refl, sym, ap, ap₂, ◌∙◌, subst, arith, add-one, length-append}
+use Rattle.std.proofs.Common.{ℕ, suc, ◌≡◌, ◌+◌, ◌-◌, ◌*◌, ◌<◌, ◌≤◌, List, [], ◌∷◌, ◌++◌, Bool, Bor, false, length, map, take, get_or, option_map, refl, sym, ap, ap₂, ◌∙◌, subst, ⊎_elim, arith, add-one, length-append}
 use Rattle.std.specs.Prelude.{slice_get, sum_by}
 use Rattle.std.proofs.lemmas.List.{append_assoc, length-map, length-take-le, map-append, take-map}
 use Rattle.std.proofs.lemmas.List.Sums.{sum_by-append, sum_by-cons}
@@ -20,7 +20,7 @@ use Rattle.meaning.specs.Agreeing.{Each, HasMeaning, HasNoUnicodeLook, Implement
 use Rattle.meaning.specs.Translated.{joined_engine, joined_nfa, nodes_of, nodes_of_all, size_of, starts_of}
 use Rattle.meaning.proofs.Lists.{our_nodes, length-our_nodes, length-starts_of, nodes_of_all_push, starts_of_push}
 use Rattle.meaning.proofs.Unions.{length-nodes_of_all}
-use Rattle.patterns.specs.Drafts.{Grows, Has, IsCompiled, IsDraftOf, IsLeft}
+use Rattle.patterns.specs.Drafts.{Grows, Has, IsCompiled, IsDraftOf, IsLeft, IsMergedWithin}
 use Rattle.patterns.specs.Faults.{IsFaultOf, IsFirstFault}
 use Rattle.patterns.specs.Patterns.{AreMeanings, IsMeaning, IsWithinLimit, config_of}
 use Rattle.patterns.specs.declared.compile.Draft.{Draft}
@@ -77,23 +77,30 @@ left_push o old new ks k left small room =
 pub draft_push : (o : Options) (texts : List (List ℕ)) (text : List ℕ) (old new : Draft) → IsDraftOf o texts old →
     (k : kit_nfa.Nfa) × IsCompiled (config_of o) text k × (table_bytes k ≤ old.room + 24) × Grows o.ascii old k new →
     IsDraftOf o (texts ++ text ∷ []) new
-draft_push o texts text old new is (k, compiled, small, grows) = (
-  is.0 ++ compiled.0 ∷ [],
-  is.1 ++ k ∷ [],
-  meanings_push (config_of o) texts is.0 text compiled.0 is.2 compiled.1,
-  (
-    implement_push is.1 is.0 k compiled.0 is.3.0 compiled.2,
-    each_push (λ x. o.ascii ≡ false → HasNoUnicodeLook x) is.1 k is.3.1 grows.looks,
-  ),
-  has_push o.ascii old new is.1 k is.4 grows,
-  left_push o old new is.1 k is.5 small grows.room,
-)
+draft_push o texts text old new is (k, compiled, small, grows) = record {
+  res = is.res ++ compiled.0 ∷ [];
+  meant = meanings_push (config_of o) texts is.res text compiled.0 is.meant compiled.1;
+  ks = is.ks ++ k ∷ [];
+  nfas = (
+    implement_push is.ks is.res k compiled.0 is.nfas.0 compiled.2,
+    each_push (λ x. o.ascii ≡ false → HasNoUnicodeLook x) is.ks k is.nfas.1 grows.looks,
+  );
+  has = has_push o.ascii old new is.ks k is.has grows;
+  left = left_push o old new is.ks k is.left small grows.room;
+}
 
 -- none yet
 pub draft_empty : (o : Options) (draft : Draft) → draft.states.items ≡ [] → draft.starts.items ≡ [] → draft.room ≡ o.size_limit →
     IsDraftOf o [] draft
 draft_empty o draft states starts room =
-    ([], [], tt, (tt, tt), record { nodes = ap ours.nodes_of states; starts = starts }, omega (arith, room))
+    record {
+      res = [];
+      meant = tt;
+      ks = [];
+      nfas = (tt, tt);
+      has = record { nodes = ap ours.nodes_of states; starts = starts };
+      left = omega (arith, room);
+    }
 
 -- one turn over the texts
 pub draft_next : (o : Options) (texts : List (Bor (List ℕ))) (i : ℕ) (d : Bor (List ℕ)) (old new : Draft) → i < length texts →
@@ -119,9 +126,9 @@ implement_count [] (re ∷ res) are = absurd are
 implement_count (k ∷ ks) [] are = absurd are
 implement_count (k ∷ ks) (re ∷ res) are = ap suc (implement_count ks res are.1)
 
-patterns_count : (o : Options) (texts : List (List ℕ)) (draft : Draft) (is : IsDraftOf o texts draft) → length is.1 ≡ length texts
+patterns_count : (o : Options) (texts : List (List ℕ)) (draft : Draft) (is : IsDraftOf o texts draft) → length is.ks ≡ length texts
 patterns_count o texts draft is =
-    implement_count is.1 is.0 is.3.0 ∙ meanings_count (config_of o) texts is.0 is.2
+    implement_count is.ks is.res is.nfas.0 ∙ meanings_count (config_of o) texts is.res is.meant
 
 -- the text at which a draft of those before it fails
 pub first_fault : (o : Options) (texts : List (Bor (List ℕ))) (i : ℕ) (d : Bor (List ℕ)) (draft : Draft) (number : ℕ) (fault : Fault) →
@@ -130,16 +137,16 @@ pub first_fault : (o : Options) (texts : List (Bor (List ℕ))) (i : ℕ) (d : B
     IsFirstFault o (map (λ text. text.now) texts) (record { number = number; fault = fault })
 first_fault o texts i d draft number fault inside is count at =
     let place : number ≡ i =
-    count ∙ starts_count draft is.1 is.4 ∙ patterns_count o (map (λ (text : Bor (List ℕ)). text.now) (take i texts)) draft is
+    count ∙ starts_count draft is.ks is.has ∙ patterns_count o (map (λ (text : Bor (List ℕ)). text.now) (take i texts)) draft is
     ∙ length-map (take i texts) (λ (text : Bor (List ℕ)). text.now)
     ∙ length-take-le i texts (omega (arith, inside)) in
     record {
       before = (
-        is.0,
-        subst (λ v. AreMeanings (config_of o) v is.0)
+        is.res,
+        subst (λ v. AreMeanings (config_of o) v is.res)
             (sym (take-map (λ (text : Bor (List ℕ)). text.now) i texts)
             ∙ ap (λ n. take n (map (λ (text : Bor (List ℕ)). text.now) texts)) (sym place))
-            is.2,
+            is.meant,
       );
       text = (get_or texts i d).now;
       is = ap (λ n. slice_get (map (λ (text : Bor (List ℕ)). text.now) texts) n) place
@@ -156,20 +163,27 @@ states_small (k ∷ ks) = omega (arith, states_small ks, sum_by-cons table_bytes
 abbrev tail_of : List kit_nfa.Nfa → List Node
 tail_of ks = Split (starts_of 0 ks) ∷ Split (size_of ks ∷ (size_of ks + 2) ∷ []) ∷ any_byte (size_of ks + 1) ∷ []
 
-pub within_limit : (o : Options) (texts : List (List ℕ)) (draft : Draft) (a : Automaton) (is : IsDraftOf o texts draft) →
-    engine_of a LeftmostFirst ≡ joined_engine o.utf8 is.1 → IsWithinLimit o texts a
-within_limit o texts draft a is same =
-    let states : length a.states ≡ length (nodes_of_all 0 0 is.1 ++ tail_of is.1) =
+states_within : (o : Options) (texts : List (List ℕ)) (draft : Draft) (a : Automaton) (is : IsDraftOf o texts draft) →
+    engine_of a LeftmostFirst ≡ joined_engine o.utf8 is.ks → IsWithinLimit o texts a
+states_within o texts draft a is same =
+    let states : length a.states ≡ length (nodes_of_all 0 0 is.ks ++ tail_of is.ks) =
     sym (length-our_nodes a.states) ∙ ap (λ (e : Engine). length e.nfa.nodes) same in
     omega (
       arith,
       states,
-      length-append (nodes_of_all 0 0 is.1) (tail_of is.1),
-      length-nodes_of_all 0 0 is.1,
-      states_small is.1,
-      is.5,
+      length-append (nodes_of_all 0 0 is.ks) (tail_of is.ks),
+      length-nodes_of_all 0 0 is.ks,
+      states_small is.ks,
+      is.left,
       patterns_count o texts draft is,
     )
+
+-- also where unions are merged
+pub within_limit : (o : Options) (texts : List (List ℕ)) (draft : Draft) (a b : Automaton) (is : IsDraftOf o texts draft) →
+    engine_of a LeftmostFirst ≡ joined_engine o.utf8 is.ks → IsMergedWithin o.size_limit a b → IsWithinLimit o texts b
+within_limit o texts draft a b is same into =
+    ⊎_elim (λ (l : 12 * length b.states ≤ o.size_limit). omega (arith, l))
+    (λ (e : b ≡ a). subst (λ v. IsWithinLimit o texts v) (sym e) (states_within o texts draft a is same)) into.small
 
 -- the three states that join the patterns
 pub joined_nodes : (s0 s1 s2 s3 : List State) (x y z : State) (n1 n2 n3 : Node) →

@@ -34,17 +34,17 @@ module _ (p : Regex) (c : Cache) (hay : List ℕ) (last : Option ℕ) where
       GivesMatch p c hay (Some (Ok m)) last (Some end) ended ended
   gives_match true m end on is next lies ends = open_is on
   gives_match false m end on is next lies ends =
-      (subst (λ v. IsNextMeant p hay last v) is next, lies, ap (λ (n : ℕ). Some n) ends, refl)
+      record { next = subst (λ v. IsNextMeant p hay last v) is next; within = lies; place = ap (λ (n : ℕ). Some n) ends; going = refl }
 
   pub gives_none : (ended : Bool) → ended ≡ false → {o : Option Match} → o ≡ None → IsNextMeant p hay last o →
       GivesMatch p c hay None last last ended true
   gives_none true on is next = open_is on
-  gives_none false on is next = (subst (λ v. IsNextMeant p hay last v) is next, refl, refl)
+  gives_none false on is next = (subst (λ v. IsNextMeant p hay last v) is next, record { place = refl; over = refl })
 
   pub gives_error : (ended : Bool) (e : SearchError) → ended ≡ false → IsNextError p c (rest_of hay last) last e →
       GivesMatch p c hay (Some (Err e)) last last ended true
   gives_error true e on refused = open_is on
-  gives_error false e on refused = (refused, refl, refl)
+  gives_error false e on refused = (refused, record { place = refl; over = refl })
 
 -- what an item of an iteration that goes on makes of the caches
 pub item_run : (p : Regex) (input : Input) (last : Option ℕ) (ended : Bool) (old new : Cache) (item : Option (Result Match SearchError)) →
@@ -69,7 +69,7 @@ some_left hay (Some at) false on within = omega (arith, within)
 pub item_match : (p : Regex) (c : Cache) (hay : List ℕ) (m : Match) (last last' : Option ℕ) (ended ended' : Bool) →
     GivesMatch p c hay (Some (Ok m)) last last' ended ended' → IsNextMeant p hay last (Some m) × (last' ≡ Some m.end) × (ended' ≡ false)
 item_match p c hay m last last' true ended' h = let e = h.0 in absurd (cc)
-item_match p c hay m last last' false ended' h = (h.0, h.2, h.3)
+item_match p c hay m last last' false ended' h = (h.next, h.place, h.going)
 
 pub item_none : (p : Regex) (c : Cache) (hay : List ℕ) (last last' : Option ℕ) (ended ended' : Bool) →
     GivesMatch p c hay None last last' ended ended' → ended ≡ false → IsNextMeant p hay last None

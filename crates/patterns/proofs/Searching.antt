@@ -1,5 +1,5 @@
 -- What the searches for a pattern find, by what the pattern means.
-use Rattle.std.proofs.Common.{ℕ, ◌≡◌, ◌<◌, ◌≤◌, List, [], ◌∷◌, Option, Bool, true, false, is_some, length, option_map, ◌∙◌, sym, subst, ⊎_elim, All}
+use Rattle.std.proofs.Common.{ℕ, ◌≡◌, ◌<◌, ◌≤◌, List, [], ◌∷◌, Option, Bool, true, false, is_some, length, option_map, ◌∙◌, ap, sym, subst, ⊎_elim, All}
 use Rattle.std.specs.Prelude.{Result, Ok, Err, IfOk, IsAscii}
 use Rattle.std.specs.Option.{unwrap_or}
 use Rattle.std.proofs.lemmas.Bool.{cases_Bool}
@@ -11,7 +11,9 @@ use Rattle.automata_base.specs.Answers.Spans.{IsNextItem, IsSpan}
 use Rattle.automata_base.specs.Haystacks.Input.{Input}
 use Rattle.automata_base.specs.Haystacks.Matches.{HalfMatch, Match}
 use Rattle.automata_base.specs.Haystacks.Tapes.{IsHaystack}
+use Rattle.automata_base.specs.Nfas.Engines.{engine_of}
 use Rattle.automata_base.specs.declared.util.search.Direction.TheVariants.{Forward}
+use Rattle.automata_base.specs.declared.util.search.MatchKind.TheVariants.{LeftmostFirst}
 use Rattle.automata_base.specs.Answers.TruePairs.{KeepsUtf8}
 use Rattle.automata_config.specs.declared.error.SearchError.{SearchError}
 use Rattle.automata_hybrid.specs.Searches.Contracts.{IsHalf}
@@ -23,12 +25,13 @@ use Rattle.regex_automata.specs.Spans.OfPaths.{MatchesAreSpans}
 use Rattle.regex_automata.specs.declared.hybrid.regex.Regex.{Regex}
 use Rattle.meaning.specs.Agreeing.{Each, HasNoUnicodeLook, HasSameLooks}
 use Rattle.meaning.specs.Patterns.{IsFirstLeft, end_of, find_any, left_any, numbered_match, span_input}
+use Rattle.meaning.specs.Translated.{joined_engine}
 use Rattle.meaning.proofs.Ascii.{same_looks_ascii}
 use Rattle.meaning.proofs.Iterations.{end_is, item_left, span_is, truth_is}
 use Rattle.meaning.proofs.Looking.{same_looks}
 use Rattle.meaning.proofs.Means.{any_means}
 use Rattle.patterns.specs.Iteration.{IsNextMeant, rest_of}
-use Rattle.patterns.specs.Patterns.{IsFor, IsRegexOf}
+use Rattle.patterns.specs.Patterns.{IsFor, IsJoinedNfa, IsRegexOf}
 use Rattle.patterns.specs.declared.compile.Options.{Options}
 
 all_ascii : (hay : List ℕ) → IsAscii hay → All (λ b. b < 128) hay
@@ -45,12 +48,26 @@ looks_same ascii hay only (k ∷ ks) looks = (
 )
 
 module _ (p : Regex) (o : Options) (res : List Re) (is : IsRegexOf o res p) (hay : List ℕ) (for : IsFor o hay) (bytes : IsHaystack hay) where
+  abbrev made : IsJoinedNfa o res p.forward.nfa
+  made = is.joined
+
+  -- the forward engine is the one that answers as the joined one
+  own : forward_engine p ≡ engine_of p.forward.nfa LeftmostFirst
+  own = ap (engine_of p.forward.nfa) is.kind
+
   -- each search has the span that is meant
   spans : (s : ℕ) → IsSpan (forward_engine p) (span_input hay s (length hay)) (option_map (numbered_match res hay) (find_any o.utf8 res hay s))
   spans s =
-      subst (λ d. IsSpan d (span_input hay s (length hay)) (option_map (numbered_match res hay) (find_any o.utf8 res hay s))) (sym is.1.2)
-      (any_means is.1.0 res is.1.1.0 hay (looks_same o.ascii hay for.1 is.1.0 is.1.1.1) o.utf8 bytes for.0
-      (subst (λ d. KeepsUtf8 Forward d) is.1.2 is.0.utf8) s)
+      subst (λ d. IsSpan d (span_input hay s (length hay)) (option_map (numbered_match res hay) (find_any o.utf8 res hay s))) (sym own)
+      (((made.answers.alike LeftmostFirst).matches.span (span_input hay s (length hay))
+      (option_map (numbered_match res hay) (find_any o.utf8 res hay s)) bytes).0
+      (subst (λ d. IsSpan d (span_input hay s (length hay)) (option_map (numbered_match res hay) (find_any o.utf8 res hay s))) (sym made.joins)
+      (any_means made.ks res made.nfas.0 hay (looks_same o.ascii hay for.1 made.ks made.nfas.1) o.utf8 bytes for.0 keeps s)))
+    where
+      keeps : KeepsUtf8 Forward (joined_engine o.utf8 made.ks)
+      keeps =
+          subst (λ d. KeepsUtf8 Forward d) made.joins
+          ((made.answers.utf8 LeftmostFirst).1 (subst (λ d. KeepsUtf8 Forward d) own is.sound.utf8))
 
   pub find_means : (s : ℕ) (found : Option Match) → IsSpan (forward_engine p) (span_input hay s (length hay)) found →
       found ≡ option_map (numbered_match res hay) (find_any o.utf8 res hay s)
@@ -60,7 +77,7 @@ module _ (p : Regex) (o : Options) (res : List Re) (is : IsRegexOf o res p) (hay
       IfOk r (λ truth. truth ≡ is_some (find_any o.utf8 res hay 0))
   truth_means (Err error) h = tt
   truth_means (Ok truth) h =
-      truth_is (forward_engine p) res hay (find_any o.utf8 res hay) spans 0 truth (h.answer is.0.cycles)
+      truth_is (forward_engine p) res hay (find_any o.utf8 res hay) spans 0 truth (h.answer is.sound.cycles)
 
   pub end_means : (s : ℕ) (found : Option HalfMatch) →
       WithoutBase (IsAnswer Forward (forward_engine p) (span_input hay s (length hay))) found →
@@ -82,7 +99,7 @@ pub found_means : (p : Regex) (hay : List ℕ) (s : ℕ) (input : Input) (r : Re
 found_means p hay s input (Err e) same bytes h = tt
 found_means p hay s input (Ok found) same bytes h = λ o res is for.
     find_means p o res is hay for (subst (λ (v : Input). IsHaystack v.haystack) same bytes) s found
-    (subst (λ v. IsSpan (forward_engine p) v found) same (h.span is.0))
+    (subst (λ v. IsSpan (forward_engine p) v found) same (h.span is.sound))
 
 pub truth_found : (p : Regex) (hay : List ℕ) (input : Input) (r : Result Bool SearchError) →
     input ≡ span_input hay 0 (length hay) → IsHaystack input.haystack → IsTruthOf p input r →
@@ -100,7 +117,7 @@ pub end_found : (p : Regex) (hay : List ℕ) (s : ℕ) (input : Input) (r : Resu
 end_found p hay s input (Err e) same bytes h = tt
 end_found p hay s input (Ok found) same bytes h = λ o res is for.
     end_means p o res is hay for (subst (λ (v : Input). IsHaystack v.haystack) same bytes) s found
-    (subst (λ v. WithoutBase (IsAnswer Forward (forward_engine p) v) found) same (h.answer is.0.cycles))
+    (subst (λ v. WithoutBase (IsAnswer Forward (forward_engine p) v) found) same (h.answer is.sound.cycles))
 
 pub next_found : (p : Regex) → MatchesAreSpans p → (hay : List ℕ) (last : Option ℕ) (input : Input)
     (r : Result (Option Match) SearchError) → input ≡ rest_of hay last → IsHaystack input.haystack
@@ -109,4 +126,4 @@ next_found p law hay last input (Err e) same bytes within h = tt
 next_found p law hay last input (Ok found) same bytes within h = λ o res is for.
     next_means p o res is hay for (subst (λ (v : Input). IsHaystack v.haystack) same bytes) (unwrap_or last 0) last found
     (subst (λ (v : Input). IsNextItem (IsSpan (forward_engine p)) v v.start last found) same
-    ((law is.0 input (bytes, within)).next last found h))
+    ((law is.sound input (bytes, within)).next last found h))

@@ -3,7 +3,6 @@ use Rattle.std.proofs.Common.{ℕ, ◌≡◌, ◌<◌, ◌⊎◌, ◌↔◌, Boo
 use Rattle.std.specs.Prelude.{slice_get}
 use Rattle.std.proofs.lemmas.List.{length-map, length-replicate}
 use Rattle.regex_hir.specs.Re.{Re}
-use Rattle.regex_nfa.specs.declared.nfa.Nfa as kit_nfa
 use Rattle.automata_base.specs.Haystacks.Matches.{HalfMatch}
 use Rattle.automata_base.specs.Haystacks.PatternSet.{has, members}
 use Rattle.automata_base.specs.Haystacks.Tapes.{IsHaystack}
@@ -19,6 +18,7 @@ use Rattle.automata_hybrid.specs.Walks.State.{fresh_walk}
 use Rattle.regex_automata.specs.Promises.{AreWalked, Forward, Input, JoinsReported, KindAll, Machine, MatchesIn, SetsHaveMatching}
 use Rattle.regex_automata.specs.Promises.{HasReported, ReportsNext, Walk, engine_of, half_nth, match_kind_of}
 use Rattle.regex_automata.specs.Spans.Contracts.{empty_set}
+use Rattle.meaning.specs.Agreeing.{Each, HasSameLooks}
 use Rattle.meaning.specs.Patterns.{find_any, is_found, span_input}
 use Rattle.meaning.proofs.Flags.{has_map, same_flag, same_set}
 use Rattle.meaning.proofs.Lists.{length-starts_of}
@@ -65,20 +65,37 @@ module _ (m : Machine) (o : Options) (res : List Re) (is : IsDfaOf o res m) (hay
   abbrev input : Input
   input = span_input hay 0 (length hay)
 
-  abbrev ks : List kit_nfa.Nfa
-  ks = is.joined.0
+  abbrev made : IsJoinedNfa o res m.nfa
+  made = is.joined
+
+  -- what accepts in the NFA accepts in the one that joins the patterns
+  ends : (pair : Pair) → IsAccepted Forward made.joined input made.joined.start_unanchored pair ↔ IsAccepted Forward m.nfa input m.nfa.start_unanchored pair
+  ends pair = made.answers.ends input pair bytes
+
+  looks : Each (HasSameLooks hay) made.ks
+  looks = looks_same o.ascii hay for.1 made.ks made.nfas.1
+
+  keeps : KeepsUtf8 Forward (engine_of made.joined KindAll)
+  keeps = (made.answers.utf8 KindAll).1 is.utf8
 
   -- what is found by itself has an accepting path, and nothing else
   found_is : (p : ℕ) →
       ((end : ℕ) × IsAccepted Forward m.nfa input m.nfa.start_unanchored (record { pattern = p; place = end }))
       ↔ ((re : Re) × (slice_get res p ≡ Some re) × (is_found o.utf8 hay re ≡ true))
-  found_is p =
-      accepted_is_found ks res is.joined.1.0 o.utf8 hay (looks_same o.ascii hay for.1 ks is.joined.1.1) bytes for.0 m.nfa
-      is.joined.2 is.utf8 p
+  found_is p = (
+    λ w. joined_is.0 (w.0, (ends (record { pattern = p; place = w.0 })).1 w.1),
+    λ h. let w = joined_is.1 h in (w.0, (ends (record { pattern = p; place = w.0 })).0 w.1),
+  )
+    where
+      joined_is :
+          ((end : ℕ) × IsAccepted Forward made.joined input made.joined.start_unanchored (record { pattern = p; place = end }))
+          ↔ ((re : Re) × (slice_get res p ≡ Some re) × (is_found o.utf8 hay re ≡ true))
+      joined_is = accepted_is_found made.ks res made.nfas.0 o.utf8 hay looks bytes for.0 made.joined made.joins keeps p
 
   count : length m.nfa.start_pattern ≡ length res
   count =
-      ap (λ (d : Engine). length d.starts) is.joined.2 ∙ length-starts_of 0 ks ∙ implement_count ks res is.joined.1.0
+      sym made.answers.count ∙ ap (λ (d : Engine). length d.starts) made.joins ∙ length-starts_of 0 made.ks
+      ∙ implement_count made.ks res made.nfas.0
 
   -- a set that was empty has the patterns that are found
   pub set_means : SetsHaveMatching m → (new : List Bool) → length new ≡ length m.nfa.start_pattern →
@@ -139,10 +156,10 @@ module _ (m : Machine) (o : Options) (res : List Re) (is : IsDfaOf o res m) (hay
   pub ends_meant : AllPairsAreReported m.nfa → (pairs : List Pair) → AreWalked Forward m input pairs → AreEnds o res hay pairs
   ends_meant all pairs walked = record {
     all = λ p re i j at l begin way. (accepted (record { pattern = p; place = j })).1
-        (way_is_accepted ks res is.joined.1.0 o.utf8 hay (looks_same o.ascii hay for.1 ks is.joined.1.1) bytes for.0 m.nfa
-        is.joined.2 is.utf8 p re i j at l begin way);
-    own = λ pair h. accepted_matches ks res is.joined.1.0 o.utf8 hay (looks_same o.ascii hay for.1 ks is.joined.1.1) bytes for.0
-        m.nfa is.joined.2 is.utf8 pair.pattern pair.place ((accepted pair).0 h);
+        ((ends (record { pattern = p; place = j })).0
+        (way_is_accepted made.ks res made.nfas.0 o.utf8 hay looks bytes for.0 made.joined made.joins keeps p re i j at l begin way));
+    own = λ pair h. accepted_matches made.ks res made.nfas.0 o.utf8 hay looks bytes for.0 made.joined made.joins keeps pair.pattern pair.place
+        ((ends pair).1 ((accepted pair).0 h));
   }
     where
       accepted : (pair : Pair) → InPairs pair pairs ↔ IsAccepted Forward m.nfa input m.nfa.start_unanchored pair

@@ -1,12 +1,15 @@
 -- What a draft has of the patterns so far.
-use Rattle.std.specs.Prelude.{ℕ, ◌≡◌, ◌+◌, ◌-◌, ◌*◌, ◌≤◌, Bool, false, List, [], ◌∷◌, ◌++◌, length, sum_by}
+use Rattle.std.specs.Prelude.{ℕ, ◌≡◌, ◌+◌, ◌-◌, ◌*◌, ◌≤◌, ◌⊎◌, Bool, false, List, [], ◌∷◌, ◌++◌, length, sum_by}
 use Rattle.regex_nfa.specs.Sizes.{table_bytes}
 use Rattle.regex_nfa.specs.declared.nfa.Nfa as kit_nfa
 use Rattle.regex_hir.specs.Re.{Re}
 use Rattle.regex_syntax.specs.declared.Config.{Config}
+use Rattle.automata_base.specs.Nfas.Accepted.{IsChecked}
+use Rattle.automata_base.specs.Nfas.MergedNfas.{IsMergedNfa}
 use Rattle.automata_base.specs.Nfas.Nodes as ours
+use Rattle.regex_automata.specs.Promises.{LeftmostFirst, engine_of}
 use Rattle.meaning.specs.Agreeing.{HasMeaning, HasNoUnicodeLook}
-use Rattle.meaning.specs.Translated.{nodes_of, nodes_of_all, starts_of}
+use Rattle.meaning.specs.Translated.{joined_engine, nodes_of, nodes_of_all, starts_of}
 use Rattle.patterns.specs.Patterns.{AreMeanings, AreNfasOf, IsMeaning, config_of}
 use Rattle.patterns.specs.declared.compile.Draft.{Draft}
 use Rattle.patterns.specs.declared.compile.Options.{Options}
@@ -40,8 +43,31 @@ pub record Has (draft : Draft) (ks : List kit_nfa.Nfa) : Type 0 where
 abbrev pub IsLeft : Options → Draft → List kit_nfa.Nfa → Type 0
 IsLeft options draft ks = sum_by table_bytes ks + draft.room ≤ options.size_limit + 24 * length ks
 
--- those of these texts
-abbrev pub IsDraftOf : Options → (texts : List (List ℕ)) → Draft → Type 0
-IsDraftOf options texts draft =
-    (res : List Re) × (ks : List kit_nfa.Nfa) × AreMeanings (config_of options) texts res × AreNfasOf options ks res
-    × Has draft ks × IsLeft options draft ks
+-- a draft has the states and starts of these texts
+pub record IsDraftOf (options : Options) (texts : List (List ℕ)) (draft : Draft) : Type 0 where
+  -- what each text means
+  pub res : List Re
+  -- the texts have these meanings
+  pub meant : AreMeanings (config_of options) texts res
+  -- an NFA for each
+  pub ks : List kit_nfa.Nfa
+  -- the NFAs find what the texts mean
+  pub nfas : AreNfasOf options ks res
+  -- the draft has the states and starts of these NFAs
+  pub has : Has draft ks
+  -- the room that they leave of the size limit
+  pub left : IsLeft options draft ks
+
+-- the NFA joins the patterns of a draft, whichever these are
+abbrev pub JoinsDraft : (utf8 : Bool) → Draft → ours.Automaton → Type 0
+JoinsDraft utf8 draft nfa =
+    (ks : List kit_nfa.Nfa) → Has draft ks → engine_of nfa LeftmostFirst ≡ joined_engine utf8 ks
+
+-- the second NFA is the first one with some of its unions merged, where that is within a limit
+pub record IsMergedWithin (limit : ℕ) (nfa merged : ours.Automaton) : Type 0 where
+  -- the first one is an NFA
+  pub checked : IsChecked nfa
+  -- some of its unions are merged, or none
+  pub merges : IsMergedNfa nfa merged
+  -- the states take no more bytes than the limit, 12 each, or none is merged
+  pub small : (12 * length merged.states ≤ limit) ⊎ (merged ≡ nfa)

@@ -23,17 +23,32 @@ IsNextMeant regex hay last found =
     (o : Options) (res : List Re) → IsRegexOf o res regex → IsFor o hay
     → IsFirstLeft (left_any o.utf8 res hay) last found
 
+-- an iteration has ended, and the last match is that of before
+pub record HasNoMore (last last' : Option ℕ) (ended' : Bool) : Type 0 where
+  -- the last match ended at the same offset
+  pub place : last' ≡ last
+  -- the iteration has ended
+  pub over : ended' ≡ true
+
+-- an iteration gives a match of the patterns, and goes on from its end
+pub record GivesNext (regex : Regex) (hay : List ℕ) (m : Match) (last last' : Option ℕ) (ended' : Bool) : Type 0 where
+  -- it is the next of the matches that are left
+  pub next : IsNextMeant regex hay last (Some m)
+  -- it lies in what is left of the haystack
+  pub within : MatchLiesIn regex (rest_of hay last) m
+  -- it is the last match then
+  pub place : last' ≡ Some m.end
+  -- the iteration has not ended
+  pub going : ended' ≡ false
+
 -- one item of an iteration; where the last match ended, and whether the iteration has ended, before it and after it
 abbrev pub GivesMatch :
     Regex → Cache → List ℕ → Option (Result Match SearchError) → (last last' : Option ℕ) → (ended ended' : Bool) → Type 0
-GivesMatch regex c hay item last last' true ended' = (item ≡ None) × (last' ≡ last) × (ended' ≡ true)
-GivesMatch regex c hay None last last' false ended' =
-    IsNextMeant regex hay last None × (last' ≡ last) × (ended' ≡ true)
-GivesMatch regex c hay (Some (Ok m)) last last' false ended' =
-    IsNextMeant regex hay last (Some m) × MatchLiesIn regex (rest_of hay last) m
-    × (last' ≡ Some m.end) × (ended' ≡ false)
+GivesMatch regex c hay item last last' true ended' = (item ≡ None) × HasNoMore last last' ended'
+GivesMatch regex c hay None last last' false ended' = IsNextMeant regex hay last None × HasNoMore last last' ended'
+GivesMatch regex c hay (Some (Ok m)) last last' false ended' = GivesNext regex hay m last last' ended'
 GivesMatch regex c hay (Some (Err e)) last last' false ended' =
-    IsNextError regex c (rest_of hay last) last e × (last' ≡ last) × (ended' ≡ true)
+    IsNextError regex c (rest_of hay last) last e × HasNoMore last last' ended'
 
 -- how many items may come: ends rise, and an error may be the last item
 abbrev pub most_left : (ended : Bool) → List ℕ → (last : Option ℕ) → ℕ

@@ -1,14 +1,20 @@
 -- What NFAs and regexes of patterns are: each text is read as a tree, and what its NFA finds is what the tree means.
-use Rattle.std.specs.Prelude.{ℕ, ◌≡◌, ◌+◌, ◌*◌, ◌≤◌, true, false, List, [], ◌∷◌, length, Option, Some, IsAscii, IsUtf8}
+use Rattle.std.specs.Prelude.{ℕ, ◌≡◌, ◌+◌, ◌*◌, ◌≤◌, ◌↔◌, true, false, List, [], ◌∷◌, length, Option, Some, IsAscii, IsUtf8}
 use Rattle.regex_hir.specs.Re.{Re}
 use Rattle.regex_hir.specs.Meaning.{meaning}
 use Rattle.regex_hir.specs.declared.hir.Hir as kit_hir
 use Rattle.regex_nfa.specs.declared.nfa.Nfa as kit_nfa
 use Rattle.regex_syntax.specs.declared.Config.{Config}
 use Rattle.regex_syntax.specs.Verdict.{Reads}
+use Rattle.automata_base.specs.Answers.Alike.{AnswerAlike}
+use Rattle.automata_base.specs.Answers.TruePairs.{KeepsUtf8}
+use Rattle.automata_base.specs.Laws.Walks.{IsAccepted}
 use Rattle.automata_base.specs.Nfas.Nodes.{Automaton}
+use Rattle.automata_base.specs.Paths.Selections.{Pair}
+use Rattle.automata_base.specs.declared.util.search.MatchKind.{MatchKind}
 use Rattle.automata_config.specs.Options as settings
-use Rattle.regex_automata.specs.Promises.{IsLookAcyclic, IsSoundPair, LeftmostFirst, engine_of, forward_engine, nfa_of}
+use Rattle.regex_automata.specs.Promises.{Forward, Input, IsHaystack, IsLookAcyclic, IsSoundPair, LeftmostFirst}
+use Rattle.regex_automata.specs.Promises.{engine_of, match_kind_of, nfa_of}
 use Rattle.regex_automata.specs.Regexes.Builds.{BuildsOne}
 use Rattle.regex_automata.specs.declared.hybrid.regex.Regex.{Regex}
 use Rattle.meaning.specs.Agreeing.{Each, HasNoUnicodeLook, ImplementAll}
@@ -69,10 +75,36 @@ AreNfasOf options ks res = ImplementAll ks res × Each (λ k. options.ascii ≡ 
 abbrev pub HasNoLookCycle : Automaton → Type 0
 HasNoLookCycle nfa = IsLookAcyclic (nfa_of nfa)
 
--- the NFA joins NFAs that find what these patterns mean
-abbrev pub IsJoinedNfa : Options → List Re → Automaton → Type 0
-IsJoinedNfa options res nfa =
-    (ks : List kit_nfa.Nfa) × AreNfasOf options ks res × (engine_of nfa LeftmostFirst ≡ joined_engine options.utf8 ks)
+-- the second NFA answers as the first one: no search, walk or iteration finds anything else
+pub record AnswersAs (first second : Automaton) : Type 0 where
+  -- under each match kind, all searches find the same
+  pub alike : (kind : MatchKind) → AnswerAlike (engine_of first kind) (engine_of second kind)
+  -- paths of the same patterns end at the same offsets
+  pub ends :
+      (input : Input) (pair : Pair) → IsHaystack input.haystack
+      → IsAccepted Forward first input first.start_unanchored pair
+      ↔ IsAccepted Forward second input second.start_unanchored pair
+  -- both keep the UTF-8 promise, or neither does
+  pub utf8 : (kind : MatchKind) → KeepsUtf8 Forward (engine_of first kind) ↔ KeepsUtf8 Forward (engine_of second kind)
+  -- both have as many patterns
+  pub count : length first.start_pattern ≡ length second.start_pattern
+
+-- the NFA answers as the one that joins some NFAs, each of which finds what one of these patterns means
+pub record IsJoinedNfa (options : Options) (res : List Re) (nfa : Automaton) : Type 0 where
+  -- the NFAs of the kit
+  pub ks : List kit_nfa.Nfa
+  -- they find what the patterns mean
+  pub nfas : AreNfasOf options ks res
+  -- the NFA that joins them
+  pub joined : Automaton
+  -- it has their states and starts
+  pub joins : engine_of joined LeftmostFirst ≡ joined_engine options.utf8 ks
+  -- the NFA answers as that one
+  pub answers : AnswersAs joined nfa
+  -- no cycle of what reads nothing passes a look
+  pub acyclic : HasNoLookCycle nfa
+  -- so it needs to keep no unions
+  pub unions : nfa.keeps_unions ≡ false
 
 -- the NFA is that of the patterns of these texts
 abbrev pub IsNfaOf : Options → (texts : List (List ℕ)) → Automaton → Type 0
@@ -89,11 +121,19 @@ abbrev pub settings_of : Options → settings.Options
 settings_of options = settings.overwritten settings.unset
     (record settings.unset { unicode_word_boundary = Some options.ascii })
 
+-- these settings, but for the match kind, which is leftmost-first, and Unicode's word boundaries, which are those of the options
+abbrev pub settings_with : settings.Options → Options → settings.Options
+settings_with config options = settings.overwritten settings.unset
+    (record config { match_kind = Some LeftmostFirst; unicode_word_boundary = Some options.ascii })
+
 -- the regex is a sound pair that searches for what the patterns mean
-abbrev pub IsRegexOf : Options → List Re → Regex → Type 0
-IsRegexOf options res regex =
-    IsSoundPair regex
-    × ((ks : List kit_nfa.Nfa) × AreNfasOf options ks res × (forward_engine regex ≡ joined_engine options.utf8 ks))
+pub record IsRegexOf (options : Options) (res : List Re) (regex : Regex) : Type 0 where
+  -- its two DFAs are a sound pair
+  pub sound : IsSoundPair regex
+  -- the forward one is searched leftmost first
+  pub kind : match_kind_of regex.forward.config ≡ LeftmostFirst
+  -- its NFA answers as one that joins NFAs of what these patterns mean
+  pub joined : IsJoinedNfa options res regex.forward.nfa
 
 -- the regex is that of the patterns of these texts
 abbrev pub IsRegexOfTexts : Options → (texts : List (List ℕ)) → Regex → Type 0

@@ -37,7 +37,7 @@ set_settings_of options = settings.overwritten settings.unset
 pub record IsDfaOf (options : Options) (res : List Re) (m : Machine) : Type 0 where
   -- its searches report all matches
   pub kind : match_kind_of m.config ≡ KindAll
-  -- its NFA joins NFAs that find what these patterns mean
+  -- its NFA answers as one that joins NFAs of what these patterns mean
   pub joined : IsJoinedNfa options res m.nfa
   -- the NFA keeps the UTF-8 promise
   pub utf8 : KeepsUtf8 Forward (engine_of m.nfa KindAll)

@@ -4,12 +4,10 @@ ghost use Rattle.std.specs.Prelude.{option_map, string_bytes};
 ghost use Rattle.automata_base.specs.Nfas.Engines.{any_byte};
 ghost use Rattle.automata_base.specs.Nfas.Nfa.{Split};
 ghost use Rattle.automata_base.specs.Nfas.Nodes as nodes;
-ghost use Rattle.regex_automata.specs.Promises.{LeftmostFirst, engine_of};
 ghost use Rattle.regex_nfa.specs.Sizes as sizes;
 ghost use Rattle.regex_nfa.specs.declared.nfa.Nfa as kit_nfa;
 ghost use Rattle.regex_syntax.specs.Verdict.{Reads};
-ghost use Rattle.meaning.specs.Translated.{joined_engine};
-ghost use Rattle.patterns.specs.Drafts.{Grows, Has, IsCompiled, IsDraftOf};
+ghost use Rattle.patterns.specs.Drafts.{Grows, IsCompiled, IsDraftOf, IsMergedWithin, JoinsDraft};
 ghost use Rattle.patterns.specs.Faults.{IsAddFault, IsFaultOf, IsFirstFault, IsJoinFault, IsNfaFault, IsOfSize};
 ghost use Rattle.patterns.specs.Patterns.{HasNoLookCycle, IsNfaOf, IsWithinLimit, config_of};
 
@@ -19,8 +17,11 @@ use regex_automata::nfa::thompson::{Flags, NFA, NfaError, State};
 use regex_automata::util::primitives::{PatternID, StateID};
 use regex_nfa::Nfa;
 use regex_syntax::{Config, Flags as SyntaxFlags, Parsed};
-use std::alloc::Global;
+use std::alloc::{AllocError, Global};
 use std::mem;
+
+/// How many bytes of the size limit a state of a merged NFA takes.
+const STATE_BYTES: usize = 12;
 
 /// How patterns are read, and how large they may become. The flags are those of the same names of Rust's `RegexBuilder`;
 /// a pattern sets one for a part of itself by `(?flags)`.
@@ -241,8 +242,7 @@ impl Draft {
 
     /// The NFA of all patterns.
     fn finish(&mut self, alloc: Global, utf8: bool) -> Result<NFA, Fault>
-        ensures joined { IfOk result (λ nfa. (ks : List kit_nfa.Nfa) → Has self.old ks
-            → engine_of nfa LeftmostFirst ≡ joined_engine utf8 ks) }
+        ensures joined { IfOk result (JoinsDraft utf8 self.old) }
         ensures refused { IfErr result IsJoinFault }
     {
         let start = id_of(self.states.len())?;
@@ -260,13 +260,40 @@ impl Draft {
             Err(error) => Err(Fault::Refused(error)),
         }
     }
+
+    /// The NFA of all patterns, with its wide unions merged if the size limit leaves room.
+    fn finish_merged(&mut self, alloc: Global, options: &Options) -> Result<NFA, Fault>
+        ensures merged { IfOk result (λ nfa. (joined : nodes.Automaton)
+            × JoinsDraft options.now.utf8 self.old joined × IsMergedWithin options.now.size_limit joined nfa) }
+        ensures refused { IfErr result IsJoinFault }
+    {
+        let nfa = self.finish(alloc, options.utf8)?;
+        match merged_within(nfa, options.size_limit) {
+            Ok(merged) => Ok(merged),
+            Err(error) => Err(Fault::from(error)),
+        }
+    }
+}
+
+/// The NFA with its wide unions merged, if its states then take no more bytes than the limit; otherwise it is as it was.
+fn merged_within(nfa: NFA, limit: usize) -> Result<NFA, AllocError>
+    ensures { IfOk result (IsMergedWithin limit nfa) }
+{
+    let _states = nfa.states();
+    match nfa.merged() {
+        Ok(merged) if merged.states().len() <= limit / STATE_BYTES => Ok(merged),
+        Ok(_) => Ok(nfa),
+        Err(error) => Err(error),
+    }
 }
 
 /// The NFA of these patterns, in which each has its place in the list as its number. It fails at the first text that is
 /// no pattern, or that makes the patterns too large.
 ///
 /// Behind the states of the patterns stand a union of their starts and a loop that skips bytes, also for one pattern.
-/// No cycle of what reads nothing passes a look-around assertion, whatever the patterns.
+/// Of eight patterns or more that union is merged where `NFA::merged` does so, if the size limit leaves room for 12 bytes
+/// of each state: states that read bytes for several patterns at once come after the loop. No cycle of what reads nothing
+/// passes a look-around assertion, whatever the patterns.
 pub fn nfa_of(alloc: Global, texts: &[&str], options: &Options) -> Result<NFA, PatternError>
     ensures meant { IfOk result (IsNfaOf options.now (map (λ text. text.now) texts.now)) }
     ensures acyclic { IfOk result HasNoLookCycle }
@@ -275,7 +302,7 @@ pub fn nfa_of(alloc: Global, texts: &[&str], options: &Options) -> Result<NFA, P
 {
     let mut draft = Draft::new(alloc, options.size_limit);
     draft.read(alloc, texts, options)?;
-    match draft.finish(alloc, options.utf8) {
+    match draft.finish_merged(alloc, options) {
         Ok(nfa) => Ok(nfa),
         Err(fault) => Err(PatternError { number: 0, fault }),
     }

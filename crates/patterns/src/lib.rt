@@ -1,9 +1,9 @@
 //! From the texts of patterns to one NFA that the library searches, and to what is found.
 //!
 //! The kit's parser reads each text, and the kit's compiler makes an NFA of it. `nfa_of` translates these states into
-//! those of the library, and joins the patterns by one union: a pattern's number is its place in the list, and where two
-//! match at one offset, the first one is preferred. The tables of all patterns take at most `Options::size_limit` bytes
-//! and 24 more for each. What is wrong with a text is a `PatternError`, which has the pattern's number and, for an error
+//! those of the library, and joins the patterns by one union, which it merges if they are many: a pattern's number is its
+//! place in the list, and where two match at one offset, the first one is preferred. The tables of all patterns take at
+//! most `Options::size_limit` bytes and 24 more for each. What is wrong with a text is a `PatternError`, which has the pattern's number and, for an error
 //! of the parser, the bytes that it is about. `Pattern` is a regex of this NFA; `RegexSet` is a DFA of it, which reports
 //! all patterns that match.
 //!

@@ -15,7 +15,8 @@ ghost use Rattle.regex_automata.specs.Regexes.Caches.{AreFresh};
 ghost use Rattle.meaning.specs.Patterns.{end_of, find_any, numbered_match, span_input};
 ghost use Rattle.patterns.specs.Iteration.{IsNextMeant, rest_of};
 ghost use Rattle.patterns.specs.Faults.{IsPatternFault};
-ghost use Rattle.patterns.specs.Patterns.{IsBuiltOf, IsFor, IsJoinedNfa, IsRegexOfTexts, IsRegexOf, settings_of};
+ghost use Rattle.patterns.specs.Patterns.{IsBuiltOf, IsFor, IsJoinedNfa, IsRegexOfTexts, IsRegexOf};
+ghost use Rattle.patterns.specs.Patterns.{settings_of, settings_with};
 ghost use Rattle.patterns.specs.declared.compile.Options as options;
 
 use crate::compile::{Options, nfa_of};
@@ -26,7 +27,7 @@ use regex_automata::hybrid::dfa::{Config, DFA};
 use regex_automata::hybrid::regex::{Cache, Regex, RegexBuildError};
 use regex_automata::laws::{matches_are_spans, spans_follow};
 use regex_automata::nfa::thompson::NFA;
-use regex_automata::util::search::{HalfMatch, Input, Match};
+use regex_automata::util::search::{HalfMatch, Input, Match, MatchKind};
 use std::alloc::{AllocError, Global};
 
 /// One pattern, or several. Of several a match is of the first that matches where it begins, and has that one's number.
@@ -97,6 +98,25 @@ impl Pattern {
         ensures refused { IfErr result (IsBuildError (settings_of options.now) nfa) }
     {
         let config = DFA::config().unicode_word_boundary(options.ascii);
+        let regex = regex_of(nfa, config)?;
+        Ok(Pattern { regex })
+    }
+
+    /// The same with settings of your own: what its caches may take, say, and when a search gives up. The match kind is
+    /// leftmost-first and Unicode's word boundaries are those of the options, whatever the settings say of these two.
+    pub fn from_nfa_with(
+        nfa: NFA,
+        options: &Options,
+        config: Config,
+    ) -> Result<Pattern, RegexBuildError>
+        ensures meant { IfOk result (λ pattern. (res : List Re) → IsJoinedNfa options.now res nfa
+            → IsRegexOf options.now res pattern.regex) }
+        ensures built { IfOk result (λ pattern. BuildsOne (settings_with config options.now) nfa pattern.regex) }
+        ensures refused { IfErr result (IsBuildError (settings_with config options.now) nfa) }
+    {
+        let config = config
+            .match_kind(MatchKind::LeftmostFirst)
+            .unicode_word_boundary(options.ascii);
         let regex = regex_of(nfa, config)?;
         Ok(Pattern { regex })
     }

@@ -1,4 +1,4 @@
-use Rattle.std.proofs.Common.{◌≡◌, ◌∙◌, ℕ, add-one, ap, arith, get_or, length, sym, slice_set}
+use Rattle.std.proofs.Common.{◌≡◌, ◌∙◌, add-one, ap, arith, get_or, length, sym, slice_set}
 use Rattle.example_grep.specs.Blocks.{line_ends}
 use Rattle.example_grep.proofs.Ends.{none, so_far, turn, whole}
 use Rattle.example_grep.proofs.blocks.end_lines.Goals as goal

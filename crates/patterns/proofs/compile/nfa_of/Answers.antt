@@ -1,15 +1,25 @@
 use Rattle.std.proofs.Common.{map}
-use Rattle.patterns.proofs.Building.{has_no_look_cycle}
+use Rattle.patterns.specs.Patterns.{IsJoinedNfa}
+use Rattle.patterns.proofs.Building.{joined_is}
 use Rattle.patterns.proofs.Drafting.{within_limit}
 use Rattle.patterns.proofs.compile.nfa_of.Goals as goal
 
-pub returns-in-Ok-clause-acyclic : goal.returns-in-Ok-clause-acyclic
-returns-in-Ok-clause-acyclic c =
+joined : (c : goal.After-drop-draft-in-Ok) → IsJoinedNfa c.args.options.now c.in_ok-read.ensures.read.res c.in-Ok.nfa
+joined c =
     let draft = c.in_ok-read.ensures.read in
-    has_no_look_cycle c.in-Ok.nfa draft.1 c.args.options.now.utf8 (c.in-Ok.ensures.joined draft.1 draft.4)
+    let made = c.in-Ok.ensures.merged in
+    joined_is c.args.options.now draft.res draft.ks made.0 c.in-Ok.nfa draft.nfas (made.1 draft.ks draft.has) made.2
+
+pub returns-in-Ok-clause-meant : goal.returns-in-Ok-clause-meant
+returns-in-Ok-clause-meant c =
+    let draft = c.in_ok-read.ensures.read in (draft.res, draft.meant, joined c)
+
+pub returns-in-Ok-clause-acyclic : goal.returns-in-Ok-clause-acyclic
+returns-in-Ok-clause-acyclic c = (joined c).acyclic
 
 pub returns-in-Ok-clause-small : goal.returns-in-Ok-clause-small
 returns-in-Ok-clause-small c =
     let draft = c.in_ok-read.ensures.read in
-    within_limit c.args.options.now (map (λ text. text.now) c.args.texts.now) c.read.new.self c.in-Ok.nfa draft
-    (c.in-Ok.ensures.joined draft.1 draft.4)
+    let made = c.in-Ok.ensures.merged in
+    within_limit c.args.options.now (map (λ text. text.now) c.args.texts.now) c.read.new.self made.0 c.in-Ok.nfa draft
+    (made.1 draft.ks draft.has) made.2

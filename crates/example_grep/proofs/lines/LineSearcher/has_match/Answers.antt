@@ -1,7 +1,7 @@
 use Rattle.std.proofs.Common.{◌≡◌, ◌∙◌, ℕ, Bool, true, false, List, Option, None, Some, ap, subst, sym}
 use Rattle.std.specs.Prelude.{◌↔◌, IsTrue, is_some}
 use Rattle.regex_hir.specs.Re.{Re}
-use Rattle.regex_automata.specs.Promises.{Forward, Half, HalfMatch, Input, IsAnswer, IsHaystack, Machine, WithoutBase, engine_of, nfa_of, without_base, engine}
+use Rattle.regex_automata.specs.Promises.{Forward, Half, HalfMatch, Input, IsAnswer, IsHaystack, LeftmostFirst, Machine, WithoutBase, engine_of, nfa_of, without_base, engine}
 use Rattle.meaning.specs.Patterns.{HasPart}
 use Rattle.meaning.proofs.Matching.{part_of_answer}
 use Rattle.meaning.proofs.Options.{some_map}
@@ -32,8 +32,12 @@ tells :
     → IsHaystack line → WithoutBase (IsAnswer Forward (engine m) (whole_line line)) found
     → truth ≡ is_some found → IsTrue truth ↔ HasPart res line
 tells m line found truth case_insensitive res is bytes (answer, a, e) t =
-    part_of_answer is.0.0 res is.0.1.0 line (looks_same false line (λ f. absurd (cc)) is.0.0 is.0.1.1) bytes true answer
-    (subst (λ d. IsAnswer Forward d (whole_line line) answer) (ap (engine_of m.nfa) is.1 ∙ is.0.2) a) truth
+    let made = is.0 in
+    let own : IsAnswer Forward (engine_of m.nfa LeftmostFirst) (whole_line line) answer =
+    subst (λ d. IsAnswer Forward d (whole_line line) answer) (ap (engine_of m.nfa) is.1) a in
+    part_of_answer made.ks res made.nfas.0 line (looks_same false line (λ f. absurd (cc)) made.ks made.nfas.1) bytes true answer
+    (subst (λ d. IsAnswer Forward d (whole_line line) answer) made.joins
+    (((made.answers.alike LeftmostFirst).searches.answer Forward (whole_line line) answer bytes).1 own)) truth
     (t ∙ ap is_some e ∙ some_map without_base answer)
 
 pub returns-clause-meant : goal.returns-clause-meant

@@ -1,9 +1,8 @@
-use Rattle.std.proofs.Common.{◌≡◌, subst, sym, ◌∙◌, Some, ap}
-use Rattle.std.specs.Prelude.{Result, Ok, Err, IfErr, IsErrAnd}
+use Rattle.std.proofs.Common.{subst, ◌∙◌, Some, ap}
 use Rattle.automata_config.specs.Options.{Options, match_kind_of, overwritten, unset}
 use Rattle.regex_automata.specs.Regexes.Builds.{BuildsOne, IsBuildError}
 use Rattle.patterns.specs.Patterns.{settings_of}
-use Rattle.patterns.proofs.Building.{regex_is}
+use Rattle.patterns.proofs.Building.{of_error, regex_is}
 use Rattle.patterns.proofs.pattern.Pattern.from_nfa.Goals as goal
 
 pub returns-clause-meant : goal.returns-clause-meant
@@ -19,11 +18,6 @@ returns-clause-built c =
     (c.unicode_word_boundary-config.ensures
     ∙ ap (λ (o : Options). record o { unicode_word_boundary = Some c.args.options.now.ascii }) c.config.ensures)
     c.in_ok-regex.ensures.built
-
--- what holds of the error that is returned
-of_error : {A E : Type 0} (r : Result A E) (e : E) (P : E → Type 0) → IsErrAnd r (λ x. x ≡ e) → P e → IfErr r P
-of_error (Ok a) e P is h = absurd is
-of_error (Err x) e P is h = subst P (sym is) h
 
 pub returns-in_err-regex-clause-refused : goal.returns-in_err-regex-clause-refused
 returns-in_err-regex-clause-refused c =
