@@ -20,10 +20,13 @@ import tempfile
 
 TOP = os.path.dirname(os.path.dirname(os.path.abspath(__file__)))
 PATTERNS = ["lazy", "[0-9]{3,}", "^a", "no such", "e", "in .* the"]
+LETTERS = "abcdefghij"
 TEXTS = {
     "short": b"one\ntwo lazy\n\nthe last line is lazy 77",
     "patterns": b"lazy\n[0-9]{3,}\n",
     "six": "".join(f"{it}\n" for it in PATTERNS).encode(),
+    # A regex of these needs caches of more than the 2 MiB that the library takes if nothing is said.
+    "many": "".join(f"{a}{b}{c}[a-z]{{0,9}}x?\n" for a in LETTERS for b in LETTERS for c in LETTERS).encode(),
     "binary": b"a lazy\0lazy b\nxx\n\0lazy\n",
     "ends": b"xx\0\0lazy\0",
     "late": b"lazy first\n" + 9999 * (b"x" * 79 + b"\n") + b"lazy\0lazy\nlazy\n",
@@ -55,6 +58,7 @@ CALLS = [
     ["-on", "[0-9]+", "README.md"],
     ["-io", "LAZY|[a-z]+zer", "README.md", "short"],
     ["-f", "patterns", "README.md", "short"],
+    ["-onf", "many", "README.md"],
     ["-fpatterns", "-cv", "README.md", "short"],
     ["-nelazy", "short", "-"],
     ["-c", "lazy", "-", "short"],

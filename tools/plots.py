@@ -30,7 +30,7 @@ BARS = {"searched.svg": ("Instructions a byte: a longer bar is one of more instr
 
 
 def rows_of(text, head):
-    """The table whose head begins with this cell, as lists of cells."""
+    """The table whose head begins with this cell, as lists of cells. It is an error if there is none."""
     rows = []
     for line in text.splitlines():
         cells = [it.strip() for it in line.strip().strip("|").split("|")]
@@ -38,6 +38,8 @@ def rows_of(text, head):
             break
         if rows or line.startswith(f"| {head} |"):
             rows.append(cells)
+    if len(rows) < 3:
+        raise LookupError(f"docs/PERFORMANCE.md has no table of `{head}`")
     return rows
 
 
@@ -137,7 +139,9 @@ def pictures():
     text = read("docs/PERFORMANCE.md")
     for name, (title, head, first, count) in PICTURES.items():
         (_, *columns), _, *rows = rows_of(text, head)
-        begin = next(at for at, row in enumerate(rows) if row[0] == first)
+        begin = next((at for at, row in enumerate(rows) if row[0] == first), None)
+        if begin is None:
+            raise LookupError(f"docs/PERFORMANCE.md has no row of `{first}` in the table of `{head}`")
         yield f"docs/{name}", "\n".join(picture(title, columns, series_of(rows[begin:begin + count]))) + "\n"
     for name, (title, head, most) in BARS.items():
         columns, _, *rows = rows_of(text, head)
@@ -145,8 +149,11 @@ def pictures():
 
 
 def faults():
-    """Returns which pictures are not those of their tables."""
-    return [f"{path} is not what tools/plots.py draws" for path, drawn in pictures() if read(path) != drawn]
+    """Returns which pictures are not those of their tables, or which table or picture is missing."""
+    try:
+        return [f"{path} is not what tools/plots.py draws" for path, drawn in pictures() if read(path) != drawn]
+    except (LookupError, OSError) as error:
+        return [str(error)]
 
 
 def main(words):
