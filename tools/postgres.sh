@@ -47,7 +47,8 @@ has() { # NAME PATTERN GOT
 has no $2"; fi
 }
 
-if ! bin=$("$config" --bindir 2>/dev/null) || [ ! -f "$("$config" --pgxs)" ] || [ ! -x "$bin/postgres" ]; then
+if ! bin=$("$config" --bindir 2>/dev/null) || [ ! -f "$("$config" --pgxs)" ] || [ ! -x "$bin/postgres" ] ||
+    [ ! -f "$("$config" --includedir-server)/postgres.h" ]; then
     echo "the extension for PostgreSQL: skipped, since no server with its headers is installed"
     finish
 fi
