@@ -5,3 +5,4 @@ pub mod Reach
 pub mod Utf8
 pub mod Standing
 pub mod Bounds
+pub mod Folds

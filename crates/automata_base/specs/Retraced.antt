@@ -11,3 +11,5 @@ pub mod DenseRuns
 pub mod Decoders
 pub mod Reach
 pub mod Apart
+pub mod Folds
+pub mod Segments

@@ -1,8 +1,9 @@
 -- A rule that reports one thing over each span has one answer.
-use Rattle.std.proofs.Common.{ℕ, ◌≡◌, ◌∙◌, ◌<◌, ◌≤◌, ◌+◌, ◌⊎◌, inl, inr, true, false, Option, Some, None, refl, sym, ap}
+use Rattle.std.proofs.Common.{ℕ, ◌≡◌, ◌∙◌, ◌<◌, ◌≤◌, ◌+◌, true, false, Option, Some, None, refl, sym, ap}
 use Rattle.std.proofs.Common.{ap₂, subst, arith, ⊎_elim, eq-or-lt_of_le}
 use Rattle.std.proofs.lemmas.Bool.{cases_lt, false≢true}
-use Rattle.automata_base.specs.Answers.Answers.{Half, later, offset_in, IsSplit, Tries, Answers}
+use Rattle.automata_base.specs.Answers.Answers.{Half, later, offset_in, IsSplit, Tries, Answers, HasAnswerAt}
+use Rattle.automata_base.specs.Answers.Answers.{HasNoAnswerAt, SpanIsDone, SpanReportsNone, StopsAtSplit}
 use Rattle.automata_base.specs.Haystacks.Input.{Input}
 use Rattle.automata_base.specs.Paths.Selections.{Pair}
 use Rattle.automata_base.specs.Haystacks.Tapes.{Direction, Forward, Backward, is_split}
@@ -23,18 +24,12 @@ module _ (T : Input → Option Pair → Type 0) (S : Type 0) (way : Direction) (
     (once : (i : Input) (a b : Option Pair) → T i a → T i b → a ≡ b) where
   -- The span at which the search ends, with this answer.
   abbrev pub Ends : Option Half → ℕ → Type 0
-  Ends None k =
-      (input.end < input.start + k)
-      ⊎ (T (later way k input) None ⊎ (S × (input.anchored ≡ No → ⊥) × IsSplit T way (later way k input)))
-  Ends (Some half) k =
-      (pair : Pair) × (input.start + k ≤ input.end) × T (later way k input) (Some pair)
-      × (S → is_split input.haystack (offset_in way (later way k input) pair.place) ≡ false)
-      × (half.pattern ≡ pair.pattern) × (half.offset ≡ offset_in way (later way k input) pair.place)
-      × (half.base ≡ (later way k input).start)
+  Ends None k = HasNoAnswerAt T S way input k
+  Ends (Some half) k = HasAnswerAt T S way input k half
 
   ends : (o : Option Half) → Answers T S way input o → (k : ℕ) × Tries T S way input k × Ends o k
-  ends None a = (a.0, a.1, a.2)
-  ends (Some half) a = (a.0, a.2, (a.1, a.3, a.4, a.5, a.6, a.7, a.8))
+  ends None a = a
+  ends (Some half) a = a
 
   split_keeps :
       (k : ℕ) (p q : Pair) → p ≡ q → is_split (later way k input).haystack (offset_in way (later way k input) p.place) ≡ true
@@ -44,29 +39,32 @@ module _ (T : Input → Option Pair → Type 0) (S : Type 0) (way : Direction) (
 
   no_further : (o : Option Half) (k k' : ℕ) → Ends o k → Tries T S way input k' → k < k' → ⊥
   no_further o k k' e c l =
-      go o e (c.1 k l) (⊎_elim (λ (z : k' ≡ 0). absurd (omega (arith, z, l))) (λ (z : S × (input.anchored ≡ No)). z) c.0)
+      go o e (c.before k l)
+      (⊎_elim (λ (z : k' ≡ 0). absurd (omega (arith, z, l))) (λ (z : S × (input.anchored ≡ No)). z) c.comes)
     where
       go : (o : Option Half) → Ends o k → (input.start + k ≤ input.end) × IsSplit T way (later way k input) → S × (input.anchored ≡ No) → ⊥
-      go None (inl m) s z = omega (arith, m, s.0)
-      go None (inr (inl m)) s z = some_none (once (later way k input) (Some s.1.0) None s.1.1 m)
-      go None (inr (inr m)) s z = m.1 z.1
+      go None (SpanIsDone m) s z = omega (arith, m, s.0)
+      go None (SpanReportsNone m) s z = some_none (once (later way k input) (Some s.1.0) None s.1.1 m)
+      go None (StopsAtSplit skips anchored m) s z = anchored z.1
       go (Some half) m s z =
-          split_keeps k s.1.0 m.0 (some_inj (once (later way k input) (Some s.1.0) (Some m.0) s.1.1 m.2)) s.1.2 (m.3 z.0)
+          split_keeps k s.1.0 m.pair (some_inj (once (later way k input) (Some s.1.0) (Some m.pair) s.1.1 m.reported)) s.1.2
+          (m.whole z.0)
 
   none_some : (a : Half) (k : ℕ) → Ends None k → Ends (Some a) k → ⊥
-  none_some a k (inl m) s = omega (arith, m, s.1)
-  none_some a k (inr (inl m)) s = some_none (once (later way k input) (Some s.0) None s.2 m)
-  none_some a k (inr (inr m)) s =
-      split_keeps k m.2.0 s.0 (some_inj (once (later way k input) (Some m.2.0) (Some s.0) m.2.1 s.2)) m.2.2 (s.3 m.0)
+  none_some a k (SpanIsDone m) s = omega (arith, m, s.within)
+  none_some a k (SpanReportsNone m) s = some_none (once (later way k input) (Some s.pair) None s.reported m)
+  none_some a k (StopsAtSplit skips anchored m) s =
+      split_keeps k m.0 s.pair (some_inj (once (later way k input) (Some m.0) (Some s.pair) m.1 s.reported)) m.2
+      (s.whole skips)
 
   same_ends : (o o' : Option Half) (k : ℕ) → Ends o k → Ends o' k → o ≡ o'
   same_ends None None k e e' = refl
   same_ends (Some a) None k e e' = absurd (none_some a k e' e)
   same_ends None (Some a) k e e' = absurd (none_some a k e e')
   same_ends (Some a) (Some b) k e e' =
-      let p : e.0 ≡ e'.0 = some_inj (once (later way k input) (Some e.0) (Some e'.0) e.2 e'.2) in
-      half_is a b (e.4 ∙ (ap (λ (v : Pair). v.pattern) p ∙ sym e'.4))
-      (e.5 ∙ (ap (λ (v : Pair). offset_in way (later way k input) v.place) p ∙ sym e'.5)) (e.6 ∙ sym e'.6)
+      let p : e.pair ≡ e'.pair = some_inj (once (later way k input) (Some e.pair) (Some e'.pair) e.reported e'.reported) in
+      half_is a b (e.pattern ∙ (ap (λ (v : Pair). v.pattern) p ∙ sym e'.pattern))
+      (e.offset ∙ (ap (λ (v : Pair). offset_in way (later way k input) v.place) p ∙ sym e'.offset)) (e.base ∙ sym e'.base)
 
   pub answers_once : (o o' : Option Half) → Answers T S way input o → Answers T S way input o' → o ≡ o'
   answers_once o o' a a' = go (ends o a) (ends o' a') where

@@ -88,7 +88,7 @@ goes_back f r h b i k pattern z rest e pair bytes l u w p m = (
   where
     j : Joins Backward r h (b + k) (b + i) pattern
     j =
-        (pair.3 h (b + k) (b + i) pattern bytes (omega (arith, l)) (omega (arith, u, w))).0
+        (pair.joins h (b + k) (b + i) pattern bytes (omega (arith, l)) (omega (arith, u, w))).0
         (narrow f h b e i k pattern z rest l u w p m)
 
 -- A reverse path is a forward path from the place at which it ends.
@@ -127,7 +127,7 @@ comes_forth f r h b i e m pattern path pair bytes u w a = (short, (o.0, o.1, o.2
     o =
         let wide =
         widen f h b e s m pattern (omega arith) (omega (arith, short, u)) w
-        ((pair.3 h s (s + m) pattern bytes (omega arith) (omega (arith, short, u, w))).1 j) in (
+        ((pair.joins h s (s + m) pattern bytes (omega arith) (omega (arith, short, u, w))).1 j) in (
           wide.0,
           wide.1,
           subst (λ v. IsPathFrom f.nfa (forward_tape h b e) v [] f.anchored wide.0 i wide.1) (omega arith)

@@ -3,9 +3,11 @@ use Rattle.std.proofs.Common.{ℕ, zero, suc, ◌≡◌, ◌<◌, ◌≤◌, ◌
 use Rattle.std.proofs.Common.{inl, inr, sym, ◌∙◌, subst}
 use Rattle.std.proofs.Common.{take, drop, refl}
 use Rattle.automata_base.specs.Answers.Answers.{Answers, ArePatternsFound, AreUnsplit, Half, IsAnswer, IsOverlapping, IsOverlappingFrom, IsSplit}
-use Rattle.automata_base.specs.Answers.Answers.{OverlapsOver, SelectsFrom, SelectsOver, Tries, later}
+use Rattle.automata_base.specs.Answers.Answers.{HasNoAnswerAt, KeepsSplit, OverlapsOver, SelectsFrom, SelectsOver, SkipsSplit, SpanIsDone}
+use Rattle.automata_base.specs.Answers.Answers.{SpanReportsNone, StopsAtSplit, Tries, WalksNoSpan, WalksSpan, later}
 use Rattle.automata_base.specs.Answers.OfPasses.{EndsFrom, EndsOver, IsFarthestAnswer, IsNearestAnswer}
-use Rattle.automata_base.specs.Answers.Spans.{AreMatches, AreSpans, IsMatch, IsNextItem, IsPathStart, IsSpan, from, in_full}
+use Rattle.automata_base.specs.Answers.Spans.{AreMatches, AreSpans, Chooses, FindsHere, FindsLater, IsMatch, IsNextItem, IsPathStart, IsSpan}
+use Rattle.automata_base.specs.Answers.Spans.{from, in_full}
 use Rattle.automata_base.specs.Haystacks.Input.{Input}
 use Rattle.automata_base.specs.Haystacks.Matches.{Match}
 use Rattle.automata_base.specs.Haystacks.Tapes.{IsHaystack, Direction, Forward, Backward, between, tape_of, forward_tape}
@@ -46,39 +48,37 @@ module _ (T U : Input → Option Pair → Type 0) (S V : Type 0) (way : Directio
 
   tries_turned :
       (input : Input) (k : ℕ) → IsHaystack input.haystack → Tries T S way input k → Tries U V way input k
-  tries_turned input k bytes h = (first h.0, before)
+  tries_turned input k bytes h = record { comes = first h.comes; before = before }
     where
       first : (k ≡ 0) ⊎ (S × (input.anchored ≡ No)) → (k ≡ 0) ⊎ (V × (input.anchored ≡ No))
       first (inl z) = inl z
       first (inr s) = inr (skips.0 s.0, s.1)
 
       before : (j : ℕ) → j < k → (input.start + j ≤ input.end) × IsSplit U way (later way j input)
-      before j l = let b = h.1 j l in (b.0, split_turned (later way j input) (later_bytes way j input bytes) b.1)
+      before j l = let b = h.before j l in (b.0, split_turned (later way j input) (later_bytes way j input bytes) b.1)
 
   answers_turned :
       (input : Input) (answer : Option Half) → IsHaystack input.haystack → Answers T S way input answer
       → Answers U V way input answer
   answers_turned input None bytes (k, t, h) = (k, tries_turned input k bytes t, end h)
     where
-      end :
-          (input.end < input.start + k)
-          ⊎ (T (later way k input) None ⊎ (S × (input.anchored ≡ No → ⊥) × IsSplit T way (later way k input)))
-          → (input.end < input.start + k)
-          ⊎ (U (later way k input) None ⊎ (V × (input.anchored ≡ No → ⊥) × IsSplit U way (later way k input)))
-      end (inl l) = inl l
-      end (inr (inl h)) = inr (inl (turn (later way k input) None (later_bytes way k input bytes) h))
-      end (inr (inr h)) =
-          inr (inr (skips.0 h.0, h.1, split_turned (later way k input) (later_bytes way k input bytes) h.2))
-  answers_turned input (Some half) bytes (k, pair, t, l, h, unsplit, p, o, b) = (
+      end : HasNoAnswerAt T S way input k → HasNoAnswerAt U V way input k
+      end (SpanIsDone l) = SpanIsDone l
+      end (SpanReportsNone h) = SpanReportsNone (turn (later way k input) None (later_bytes way k input bytes) h)
+      end (StopsAtSplit s f h) =
+          StopsAtSplit (skips.0 s) f (split_turned (later way k input) (later_bytes way k input bytes) h)
+  answers_turned input (Some half) bytes (k, t, a) = (
     k,
-    pair,
     tries_turned input k bytes t,
-    l,
-    turn (later way k input) (Some pair) (later_bytes way k input bytes) h,
-    (λ s. unsplit (skips.1 s)),
-    p,
-    o,
-    b,
+    record {
+      pair = a.pair;
+      within = a.within;
+      reported = turn (later way k input) (Some a.pair) (later_bytes way k input bytes) a.reported;
+      whole = λ s. a.whole (skips.1 s);
+      pattern = a.pattern;
+      offset = a.offset;
+      base = a.base;
+    },
   )
 
 -- What the second engine needs to answer as the first: `R` says which paths correspond on a tape from a state.
@@ -199,15 +199,15 @@ module _ (d e : Engine) (R : Tape → ℕ → List ℕ → List ℕ → Type 0) 
   unsplit_carried :
       (way : Direction) (input : Input) (pairs found : List Pair) → AreUnsplit (IsSkipping d) way input pairs found
       → AreUnsplit (IsSkipping e) way input pairs found
-  unsplit_carried way input pairs found (inl h) = inl (c.skips.0 h.0, h.1)
-  unsplit_carried way input pairs found (inr h) = inr ((λ s. h.0 (c.skips.1 s)), h.1)
+  unsplit_carried way input pairs found (SkipsSplit s e) = SkipsSplit (c.skips.0 s) e
+  unsplit_carried way input pairs found (KeepsSplit f e) = KeepsSplit (λ s. f (c.skips.1 s)) e
 
   pub walk_carried :
       (way : Direction) (input : Input) (found : List Pair) → IsHaystack input.haystack → IsOverlapping way d input found
       → IsOverlapping way e input found
-  walk_carried way input found bytes (inl h) = inl h
-  walk_carried way input found bytes (inr h) =
-      inr (h.0, (h.1.0, overlaps_over way input h.1.0 bytes h.1.1, unsplit_carried way input h.1.0 found h.1.2))
+  walk_carried way input found bytes (WalksNoSpan l e) = WalksNoSpan l e
+  walk_carried way input found bytes (WalksSpan l pairs o unsplit) =
+      WalksSpan l pairs (overlaps_over way input pairs bytes o) (unsplit_carried way input pairs found unsplit)
 
   pub set_carried :
       (input : Input) (capacity : ℕ) (given found : List ℕ) → IsHaystack input.haystack
@@ -217,48 +217,42 @@ module _ (d e : Engine) (R : Tape → ℕ → List ℕ → List ℕ → Type 0) 
   pub span_carried :
       (input : Input) (answer : Option Match) → IsHaystack input.haystack → IsSpan d input answer → IsSpan e input answer
   span_carried input None bytes h = answer_carried Forward input None bytes h
-  span_carried input (Some m) bytes (half, q, i, place, path, answer, first, offset, chooses, start, p, s, l) =
-      let t = forward_tape input.haystack half.base input.end in
-      let b = tape_bytes Forward input.haystack half.base input.end bytes in
-      let there = c.there t input.anchored q b first in
-      let back = c.back t input.anchored q b first in
-      let f = there i half.pattern path chooses.0 in (
-        half,
-        q,
-        i,
-        place,
-        f.0,
-        answer_carried Forward input (Some half) bytes answer,
-        sym (c.starts input.anchored) ∙ first,
-        offset,
-        (
-          f.2,
-          λ j r other acc.
-              let g = back j r other acc in
-              subst (λ k. IsChosen k input.earliest i f.0 j other) c.kinds
-              (chosen_carried d.nfa e.nfa t q (R t q) there back (c.same t q) (c.order t q) d.kind input.earliest i j path f.0 g.0
-              other f.1 g.1 (chooses.1 j r g.0 g.2)),
-        ),
-        c.begins t input.anchored q place path f.0 b first f.1 start,
-        p,
-        s,
-        l,
-      )
+  span_carried input (Some m) bytes s =
+      let t = forward_tape input.haystack s.half.base input.end in
+      let b = tape_bytes Forward input.haystack s.half.base input.end bytes in
+      let there = c.there t input.anchored s.first b s.is_first in
+      let back = c.back t input.anchored s.first b s.is_first in
+      let f = there s.length s.half.pattern s.path s.chosen.0 in
+      let chosen : Chooses e input.earliest t s.first s.length s.half.pattern f.0 = (
+        f.2,
+        λ j r other acc.
+            let g = back j r other acc in
+            subst (λ k. IsChosen k input.earliest s.length f.0 j other) c.kinds
+            (chosen_carried d.nfa e.nfa t s.first (R t s.first) there back (c.same t s.first) (c.order t s.first) d.kind input.earliest
+            s.length j s.path f.0 g.0 other f.1 g.1 (s.chosen.1 j r g.0 g.2)),
+      ) in record {
+        half = s.half;
+        answer = answer_carried Forward input (Some s.half) bytes s.answer;
+        first = s.first;
+        is_first = sym (c.starts input.anchored) ∙ s.is_first;
+        length = s.length;
+        ends = s.ends;
+        path = f.0;
+        chosen = chosen;
+        before = s.before;
+        begins = c.begins t input.anchored s.first s.before s.path f.0 b s.is_first f.1 s.begins;
+        pattern = s.pattern;
+        start = s.start;
+        end = s.end;
+      }
 
   next_carried :
       (input : Input) (start : ℕ) (last : Option ℕ) (found : Option Match) → IsHaystack input.haystack
       → IsNextItem (IsSpan d) input start last found → IsNextItem (IsSpan e) input start last found
-  next_carried input start last None bytes (inl h) = inl (span_carried (from start input) None bytes h)
-  next_carried input start last None bytes (inr h) =
-      inr (h.0, span_carried (from start input) (Some h.0) bytes h.1, h.2, span_carried (from (suc start) input) None bytes h.3)
-  next_carried input start last (Some m) bytes (inl h) = inl (span_carried (from start input) (Some m) bytes h.0, h.1)
-  next_carried input start last (Some m) bytes (inr h) =
-      inr (
-        h.0,
-        span_carried (from start input) (Some h.0) bytes h.1,
-        h.2,
-        span_carried (from (suc start) input) (Some m) bytes h.3,
-      )
+  next_carried input start last found bytes (FindsHere h apart) =
+      FindsHere (span_carried (from start input) found bytes h) apart
+  next_carried input start last found bytes (FindsLater m h empty later) =
+      FindsLater m (span_carried (from start input) (Some m) bytes h) empty (span_carried (from (suc start) input) found bytes later)
 
   matches_carried :
       (input : Input) (start : ℕ) (last : Option ℕ) (ms : List Match) → IsHaystack input.haystack

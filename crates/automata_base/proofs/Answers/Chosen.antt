@@ -1,12 +1,12 @@
 -- The chosen path's start is the least of all that lead to its end.
-use Rattle.std.proofs.Common.{ℕ, ◌≡◌, ◌<◌, ◌≤◌, Bool, true, false, List, [], ◌∷◌, length, Option, Some, None, inl, inr}
+use Rattle.std.proofs.Common.{ℕ, ◌≡◌, ◌<◌, ◌≤◌, Bool, true, false, List, [], ◌∷◌, length, Option, Some, None}
 use Rattle.std.proofs.Common.{refl, ◌∙◌, subst, arith, ⊎_elim}
 use Rattle.std.proofs.lemmas.Bool.{cases_lt}
 use Rattle.automata_base.specs.Paths.Order.{Upto, Begins}
 use Rattle.automata_base.specs.Nfas.Nfa.{Nfa, accepts}
 use Rattle.automata_base.specs.Paths.Paths.{Tape, IsPathFrom, IsPath}
 use Rattle.automata_base.specs.Powersets.Cuts.{MatchKind, All, LeftmostFirst}
-use Rattle.automata_base.specs.Paths.Selections.{Accepts, IsChosen, Pair, Selects, IsFarthest}
+use Rattle.automata_base.specs.Paths.Selections.{Accepts, ByEdges, ByPlace, IsChosen, IsPreferred, Pair, Selects, IsFarthest}
 use Rattle.automata_base.proofs.Paths.Orders.{before_upto, before_irrefl, nil_cons}
 use Rattle.automata_base.proofs.Paths.Searches.{accepting_inside}
 use Rattle.automata_base.proofs.Paths.Places.{path_grows}
@@ -17,13 +17,13 @@ use Rattle.automata_base.proofs.Answers.Loops.{HasBytes}
 
 pub chosen_upto :
     (kind : MatchKind) (earliest : Bool) (i : ℕ) (path other : List ℕ) → IsChosen kind earliest i path i other → Upto path other
-chosen_upto All true i path other (inl l) = absurd (omega (arith, l))
-chosen_upto All true i path other (inr h) = h.1
-chosen_upto LeftmostFirst true i path other (inl l) = absurd (omega (arith, l))
-chosen_upto LeftmostFirst true i path other (inr h) = h.1
+chosen_upto All true i path other (ByPlace l) = absurd (omega (arith, l))
+chosen_upto All true i path other (ByEdges e h) = h
+chosen_upto LeftmostFirst true i path other (ByPlace l) = absurd (omega (arith, l))
+chosen_upto LeftmostFirst true i path other (ByEdges e h) = h
 chosen_upto LeftmostFirst false i path other h = h
-chosen_upto All false i path other (inl l) = absurd (omega (arith, l))
-chosen_upto All false i path other (inr h) = h.1
+chosen_upto All false i path other (ByPlace l) = absurd (omega (arith, l))
+chosen_upto All false i path other (ByEdges e h) = h
 
 -- A chosen path of a lazy loop, taken apart.
 abbrev pub StartsAt : Engine → Tape → (k i pattern : ℕ) → List ℕ → List ℕ → Type 0
@@ -98,6 +98,8 @@ all_farthest n t start None s = s
 all_farthest n t start (Some pair) s = ((s.0, s.1), farthest)
   where
     farthest : (j pattern : ℕ) (path : List ℕ) → pair.place < j → Accepts n t start j pattern path → ⊥
-    farthest j pattern path l a = ⊎_elim
-        (λ (h : j < pair.place). omega (arith, l, h)) (λ (h : (pair.place ≡ j) × Upto s.0 path). omega (arith, l, h.0))
-        (s.2 j pattern path a)
+    farthest j pattern path l a = past (s.2 j pattern path a)
+      where
+        past : IsPreferred (j < pair.place) pair.place s.0 j path → ⊥
+        past (ByPlace h) = omega (arith, l, h)
+        past (ByEdges e h) = omega (arith, l, e)

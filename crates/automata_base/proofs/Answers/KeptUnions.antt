@@ -4,7 +4,7 @@ use Rattle.automata_base.specs.declared.util.search.MatchKind.{MatchKind}
 use Rattle.automata_base.specs.Answers.TruePairs.{IsTruePair, Joins, KeepsUtf8}
 use Rattle.automata_base.specs.Haystacks.Tapes.{Direction, Forward, tape_of}
 use Rattle.automata_base.specs.Nfas.Engines.{Anchored, BeginsLazily, Engine, HasEmptyMatch, MatchesEmpty, No, Pattern, Reaches, Road, Yes}
-use Rattle.automata_base.specs.Nfas.Engines.{engine_of, first_state}
+use Rattle.automata_base.specs.Nfas.Engines.{ByteEdge, FreeEdge, LazyLoop, SharedStart, engine_of, first_state}
 use Rattle.automata_base.specs.Nfas.Nfa.{Nfa, Node}
 use Rattle.automata_base.specs.Nfas.Nodes.{Automaton, nfa_of, nodes_of}
 use Rattle.automata_base.specs.Paths.Paths.{Tape, IsPathFrom, Run}
@@ -35,11 +35,17 @@ module _ (nodes : List Node) (terminator : ℕ) (reverse : Bool) where
 
   road_with : (v w : Bool) (q : ℕ) (rs : List ℕ) (z : ℕ) → Road (n v) q rs z → Road (n w) q rs z
   road_with v w q [] z u = u
-  road_with v w q (r ∷ rs) z (inl e, u) = (inl e, road_with v w r rs z u)
-  road_with v w q (r ∷ rs) z (inr e, u) = (inr e, road_with v w r rs z u)
+  road_with v w q (r ∷ rs) z (FreeEdge e h, u) = (FreeEdge e h, road_with v w r rs z u)
+  road_with v w q (r ∷ rs) z (ByteEdge b h, u) = (ByteEdge b h, road_with v w r rs z u)
 
   pub reaches_with : (v w : Bool) (q z : ℕ) → Reaches (n v) q z → Reaches (n w) q z
   reaches_with v w q z r = (r.0, road_with v w q r.0 z r.1)
+
+  pub lazily_with :
+      (v w : Bool) (anchored unanchored : ℕ) → BeginsLazily (n v) anchored unanchored → BeginsLazily (n w) anchored unanchored
+  lazily_with v w anchored unanchored (SharedStart same) = SharedStart same
+  lazily_with v w anchored unanchored (LazyLoop skip l) =
+      LazyLoop skip (l.0, l.1, λ r. l.2 (reaches_with w v anchored unanchored r))
 
 module _ (a : Automaton) (kind : MatchKind) where
   abbrev with_unions : Bool → Automaton
@@ -58,31 +64,19 @@ module _ (a : Automaton) (kind : MatchKind) where
       → Joins Forward (engine_of (with_unions v) kind) h i j pattern → Joins Forward (engine_of (with_unions w) kind) h i j pattern
   joined v w h i j pattern f = (f.0, accepted v w (tape_of Forward h i j) a.start_anchored (j - i) pattern f.0 f.1)
 
-  loops :
-      (v w : Bool) (anchored unanchored : ℕ)
-      → BeginsLazily (nfa_of (with_unions v)) anchored unanchored → BeginsLazily (nfa_of (with_unions w)) anchored unanchored
-  loops v w anchored unanchored (inl same) = inl same
-  loops v w anchored unanchored (inr (skip, l)) = inr (
-    skip,
-    (
-      l.0,
-      l.1,
-      λ r. l.2 (reaches_with (nodes_of a.states) a.flags.line_terminator a.flags.reverse w v anchored unanchored r),
-    ),
-  )
-
   pub pair_with :
       (v w : Bool) (r : Engine)
       → IsTruePair (engine_of (with_unions v) kind) r → IsTruePair (engine_of (with_unions w) kind) r
-  pair_with v w r p = (
-    p.0,
-    p.1,
-    (λ e. p.2.0 (empty w v e), λ e. empty v w (p.2.1 e)),
-    (λ h i j pattern hay le few.
-        let joins = p.3 h i j pattern hay le few in
-        (λ f. joins.0 (joined w v h i j pattern f), λ b. joined v w h i j pattern (joins.1 b))),
-    loops v w a.start_anchored a.start_unanchored p.4,
-  )
+  pair_with v w r p = record {
+    all = p.all;
+    utf8 = p.utf8;
+    empty = (λ e. p.empty.0 (empty w v e), λ e. empty v w (p.empty.1 e));
+    joins = λ h i j pattern hay le few.
+        let joins = p.joins h i j pattern hay le few in
+        (λ f. joins.0 (joined w v h i j pattern f), λ b. joined v w h i j pattern (joins.1 b));
+    begins =
+        lazily_with (nodes_of a.states) a.flags.line_terminator a.flags.reverse v w a.start_anchored a.start_unanchored p.begins;
+  }
 
   first_with :
       (v w : Bool) (mode : Anchored) → first_state (engine_of (with_unions v) kind) mode ≡ first_state (engine_of (with_unions w) kind) mode

@@ -9,7 +9,7 @@ use Rattle.automata_base.specs.Nfas.Nfa.{Nfa, Split, Truth, node, hop, hop_at, t
 use Rattle.automata_base.specs.Paths.Paths.{Tape, truth, IsPathFrom, all_true}
 use Rattle.automata_base.proofs.Paths.Orders.{some_inj, none_some, cons_head, cons_tail, nil_cons}
 use Rattle.automata_base.proofs.Paths.Walks.{hop_more, in_left, in_either}
-use Rattle.automata_base.specs.Nfas.Engines.{HasEdge, Reaches, any_byte}
+use Rattle.automata_base.specs.Nfas.Engines.{ByteEdge, FreeEdge, HasEdge, Reaches, any_byte}
 
 -- The edges of the loop, for `k` bytes.
 abbrev pub skips : ℕ → List ℕ → List ℕ
@@ -32,7 +32,7 @@ path_past n t i seen u q [] j z f h = h
 path_past n t i seen u q (e ∷ p) j z f (inl h) = inl (h.0, h.1, fresh, path_past n t i (q ∷ seen) u h.0 p j z on h.3)
   where
     edge : HasEdge n q h.0
-    edge = inl (e, hop_more n (truth n t i) all_true q e h.0 (λ look a. refl) h.1)
+    edge = FreeEdge e (hop_more n (truth n t i) all_true q e h.0 (λ look a. refl) h.1)
 
     on : Reaches n h.0 u → ⊥
     on r = f (h.0 ∷ r.0, (edge, r.1))
@@ -138,7 +138,7 @@ union_apart n u a x c d e = none_some (subst (λ v. hop_at v all_true 0 ≡ Some
 
 pub skip_apart : (n : Nfa) (u a x : ℕ) → node n x ≡ any_byte u → (Reaches n a u → ⊥) → x ≡ a → ⊥
 skip_apart n u a x d f e =
-    f (u ∷ [], (inr (0, subst (λ v. takes n v 0 ≡ Some u) e (any_takes n x u 0 d (omega arith))), refl))
+    f (u ∷ [], (ByteEdge 0 (subst (λ v. takes n v 0 ≡ Some u) e (any_takes n x u 0 d (omega arith))), refl))
 
 -- A path from the anchored start, after some skipped bytes, is one from the union.
 pub skipping :

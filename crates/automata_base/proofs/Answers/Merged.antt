@@ -264,12 +264,24 @@ module _ (a b : Automaton) (kind : MatchKind) (checked : IsChecked a) (into : Is
       (way : Direction) (input : Input) (start : ℕ) (pair : Pair) → IsHaystack input.haystack → start < length n.nodes
       → IsAccepted way a input start pair ↔ IsAccepted way b input start pair
   pair_alike way input start pair bytes l = (
-    (λ (place, path, inside, accepts, is, unsplit).
-        let c = (both place).0 (path, accepts) in
-        (place, c.0, inside, c.1, is, (λ s. unsplit (skipping_alike.1 s)))),
-    (λ (place, path, inside, accepts, is, unsplit).
-        let c = (both place).1 (path, accepts) in
-        (place, c.0, inside, c.1, is, (λ s. unsplit (skipping_alike.0 s)))),
+    (λ h.
+        let c = (both h.place).0 (h.path, h.accepted) in record {
+          place = h.place;
+          path = c.0;
+          inside = h.inside;
+          accepted = c.1;
+          offset = h.offset;
+          whole = λ s. h.whole (skipping_alike.1 s);
+        }),
+    (λ h.
+        let c = (both h.place).1 (h.path, h.accepted) in record {
+          place = h.place;
+          path = c.0;
+          inside = h.inside;
+          accepted = c.1;
+          offset = h.offset;
+          whole = λ s. h.whole (skipping_alike.0 s);
+        }),
   )
     where
       t : Tape
@@ -348,13 +360,13 @@ module _ (f : Engine) (a b : Automaton) (checked : IsChecked a) (into : IsMerged
       (anchored_ends a b All checked into).0)
 
   stays_paired : IsTruePair f (engine_of a All) → IsTruePair f (engine_of b All)
-  stays_paired pair = (
-    refl,
-    pair.1 ∙ ap (λ v. v.utf8) (sym into.begins.flags),
-    both_ways pair.2 (empty_there a b All checked into, empty_here a b All checked into),
-    (λ h i j p hay l k. both_ways (pair.3 h i j p hay l k) (joined_back h i j p hay)),
-    pair.4,
-  )
+  stays_paired pair = record {
+    all = refl;
+    utf8 = pair.utf8 ∙ ap (λ v. v.utf8) (sym into.begins.flags);
+    empty = both_ways pair.empty (empty_there a b All checked into, empty_here a b All checked into);
+    joins = λ h i j p hay l k. both_ways (pair.joins h i j p hay l k) (joined_back h i j p hay);
+    begins = pair.begins;
+  }
 
 pub merged_alike : MergedAnswerAlike
 merged_alike a b kind checked into = both_alike a b kind checked into

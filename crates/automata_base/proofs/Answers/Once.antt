@@ -1,40 +1,41 @@
 -- Searches have one answer, and spans have one start.
-use Rattle.std.proofs.Common.{ℕ, suc, ◌≡◌, ◌<◌, ◌+◌, Bool, true, false, List, [], ◌∷◌, ◌++◌, ◌⊎◌, Option, Some, None}
+use Rattle.std.proofs.Common.{ℕ, suc, ◌≡◌, ◌+◌, Bool, true, false, List, [], ◌∷◌, ◌++◌, ◌⊎◌, Option, Some, None}
 use Rattle.std.proofs.Common.{is_some, inl, inr, refl, sym, ap, ap₂, ◌∙◌, subst, arith, ⊎_elim}
 use Rattle.automata_base.specs.Paths.Order.{Begins}
 use Rattle.automata_base.specs.Nfas.Nfa.{Nfa, accepts}
 use Rattle.automata_base.specs.Paths.Paths.{Tape, IsPath}
 use Rattle.automata_base.specs.Powersets.Cuts.{MatchKind, All, LeftmostFirst}
-use Rattle.automata_base.specs.Paths.Selections.{Accepts, Pair, IsChosen, Selects}
+use Rattle.automata_base.specs.Paths.Selections.{Accepts, ByEdges, ByPlace, Pair, IsChosen, Selects}
 use Rattle.automata_base.proofs.Paths.Orders.{some_inj, cons_head, cons_tail, none_some, some_none}
 use Rattle.automata_base.specs.Answers.Spans.{IsPathStart, Chooses, IsSpan, in_full, IsMatch, from, IsEmptyAt}
-use Rattle.automata_base.specs.Answers.Spans.{IsNextItem, AreMatches, AreSpans}
+use Rattle.automata_base.specs.Answers.Spans.{IsNextItem, IsSpanOfPath, AreMatches, AreSpans, FindsHere, FindsLater}
 use Rattle.automata_base.specs.Haystacks.Matches.{Match}
 use Rattle.automata_base.proofs.Paths.Places.{path_end}
 use Rattle.automata_base.specs.Haystacks.Tapes.{Direction, Forward, tape_of, forward_tape}
 use Rattle.automata_base.specs.Nfas.Engines.{Engine, Anchored, No, Yes, Pattern, first_state, IsSkipping}
-use Rattle.automata_base.specs.Answers.Answers.{Half, SelectsFrom, SelectsOver, later, IsAnswer}
+use Rattle.automata_base.specs.Answers.Answers.{Half, SelectsFrom, SelectsOver, later, IsAnswer, HasNoAnswerAt, SpanIsDone}
+use Rattle.automata_base.specs.Answers.Answers.{SpanReportsNone, StopsAtSplit}
 use Rattle.automata_base.specs.Haystacks.Input.{Input}
 use Rattle.automata_base.proofs.Answers.Answered.{answers_once}
-use Rattle.automata_base.proofs.Answers.Tried.{ComesTo, IsSplitAnswer}
+use Rattle.automata_base.proofs.Answers.Tried.{ComesTo}
 use Rattle.automata_base.proofs.Paths.Unique.{upto_both}
 
 pub chosen_once :
     (kind : MatchKind) (earliest : Bool) (i j : ℕ) (path other : List ℕ)
     → IsChosen kind earliest i path j other → IsChosen kind earliest j other i path → path ≡ other
-chosen_once All true i j path other (inl h) (inl k) = absurd (omega (arith, h, k))
-chosen_once All true i j path other (inl h) (inr k) = absurd (omega (arith, h, k.0))
-chosen_once All true i j path other (inr h) (inl k) = absurd (omega (arith, h.0, k))
-chosen_once All true i j path other (inr h) (inr k) = upto_both path other h.1 k.1
-chosen_once LeftmostFirst true i j path other (inl h) (inl k) = absurd (omega (arith, h, k))
-chosen_once LeftmostFirst true i j path other (inl h) (inr k) = absurd (omega (arith, h, k.0))
-chosen_once LeftmostFirst true i j path other (inr h) (inl k) = absurd (omega (arith, h.0, k))
-chosen_once LeftmostFirst true i j path other (inr h) (inr k) = upto_both path other h.1 k.1
+chosen_once All true i j path other (ByPlace h) (ByPlace k) = absurd (omega (arith, h, k))
+chosen_once All true i j path other (ByPlace h) (ByEdges e k) = absurd (omega (arith, h, e))
+chosen_once All true i j path other (ByEdges e h) (ByPlace k) = absurd (omega (arith, e, k))
+chosen_once All true i j path other (ByEdges e h) (ByEdges e' k) = upto_both path other h k
+chosen_once LeftmostFirst true i j path other (ByPlace h) (ByPlace k) = absurd (omega (arith, h, k))
+chosen_once LeftmostFirst true i j path other (ByPlace h) (ByEdges e k) = absurd (omega (arith, h, e))
+chosen_once LeftmostFirst true i j path other (ByEdges e h) (ByPlace k) = absurd (omega (arith, e, k))
+chosen_once LeftmostFirst true i j path other (ByEdges e h) (ByEdges e' k) = upto_both path other h k
 chosen_once LeftmostFirst false i j path other h k = upto_both path other h k
-chosen_once All false i j path other (inl h) (inl k) = absurd (omega (arith, h, k))
-chosen_once All false i j path other (inl h) (inr k) = absurd (omega (arith, h, k.0))
-chosen_once All false i j path other (inr h) (inl k) = absurd (omega (arith, h.0, k))
-chosen_once All false i j path other (inr h) (inr k) = upto_both path other h.1 k.1
+chosen_once All false i j path other (ByPlace h) (ByPlace k) = absurd (omega (arith, h, k))
+chosen_once All false i j path other (ByPlace h) (ByEdges e k) = absurd (omega (arith, h, e))
+chosen_once All false i j path other (ByEdges e h) (ByPlace k) = absurd (omega (arith, e, k))
+chosen_once All false i j path other (ByEdges e h) (ByEdges e' k) = upto_both path other h k
 
 -- One path accepts one pattern at one place.
 pub accepting_once :
@@ -107,46 +108,55 @@ start_once d (Pattern p) t path k k' s s' = s ∙ sym s'
 pub match_is : (a b : Match) → a.pattern ≡ b.pattern → a.start ≡ b.start → a.end ≡ b.end → a ≡ b
 match_is a b pattern start end = λ i. record { pattern = pattern i; start = start i; end = end i }
 
--- A span for a forward answer.
-abbrev pub SpanOf : Engine → Input → Match → Half → Type 0
-SpanOf d input m half =
-    (q i place : ℕ) × (path : List ℕ)
-    × (first_state d input.anchored ≡ Some q) × (half.offset ≡ half.base + i)
-    × Chooses d input.earliest (forward_tape input.haystack half.base input.end) q i half.pattern path
-    × IsPathStart d input.anchored (forward_tape input.haystack half.base input.end) path place
-    × (m.pattern ≡ half.pattern) × (m.start ≡ half.base + place) × (m.end ≡ half.offset)
-
-span_of_once : (d : Engine) (input : Input) (half : Half) (m m' : Match) → SpanOf d input m half → SpanOf d input m' half → m ≡ m'
-span_of_once d input half m m' s s' =
-    match_is m m' (s.8 ∙ sym s'.8) (s.9 ∙ (ap (λ v. half.base + v) start ∙ sym s'.9)) (s.10 ∙ sym s'.10)
+-- The spans of one forward answer are one.
+span_of_once :
+    (d : Engine) (input : Input) (m m' : Match) (s : IsSpanOfPath d input m) (s' : IsSpanOfPath d input m') → s.half ≡ s'.half
+    → m ≡ m'
+span_of_once d input m m' s s' same =
+    match_is m m' (s.pattern ∙ (ap (λ (v : Half). v.pattern) same ∙ sym s'.pattern))
+    (s.start ∙ (ap₂ (λ (v : Half) w. v.base + w) same start ∙ sym s'.start))
+    (s.end ∙ (ap (λ (v : Half). v.offset) same ∙ sym s'.end))
   where
     t : Tape
-    t = forward_tape input.haystack half.base input.end
+    t = forward_tape input.haystack s.half.base input.end
 
-    q_same : s'.0 ≡ s.0
-    q_same = some_inj (sym s'.4 ∙ s.4)
+    first_same : s'.first ≡ s.first
+    first_same = some_inj (sym s'.is_first ∙ s.is_first)
 
-    there : Chooses d input.earliest t s.0 s'.1 half.pattern s'.3
-    there = subst (λ v. Chooses d input.earliest t v s'.1 half.pattern s'.3) q_same s'.6
+    there : Chooses d input.earliest t s.first s'.length s.half.pattern s'.path
+    there =
+        subst
+        (λ (v : Half). Chooses d input.earliest (forward_tape input.haystack v.base input.end) s.first s'.length v.pattern s'.path)
+        (sym same)
+        (subst
+        (λ v. Chooses d input.earliest (forward_tape input.haystack s'.half.base input.end) v s'.length s'.half.pattern s'.path)
+        first_same s'.chosen)
 
-    path_same : s.3 ≡ s'.3
+    path_same : s.path ≡ s'.path
     path_same =
-        chosen_once d.kind input.earliest s.1 s'.1 s.3 s'.3 (s.6.1 s'.1 half.pattern s'.3 there.0)
-        (there.1 s.1 half.pattern s.3 s.6.0)
+        chosen_once d.kind input.earliest s.length s'.length s.path s'.path
+        (s.chosen.1 s'.length s.half.pattern s'.path there.0) (there.1 s.length s.half.pattern s.path s.chosen.0)
 
-    start : s.2 ≡ s'.2
-    start = start_once d input.anchored t s.3 s.2 s'.2 s.7 (subst (λ v. IsPathStart d input.anchored t v s'.2) (sym path_same) s'.7)
+    begins : IsPathStart d input.anchored t s'.path s'.before
+    begins =
+        subst (λ (v : Half). IsPathStart d input.anchored (forward_tape input.haystack v.base input.end) s'.path s'.before)
+        (sym same) s'.begins
+
+    start : s.before ≡ s'.before
+    start =
+        start_once d input.anchored t s.path s.before s'.before s.begins
+        (subst (λ v. IsPathStart d input.anchored t v s'.before) (sym path_same) begins)
 
 -- An input has one span.
 pub span_once : (d : Engine) (input : Input) (a b : Option Match) → IsSpan d input a → IsSpan d input b → a ≡ b
 span_once d input None None s s' = refl
-span_once d input None (Some b) s s' = absurd (none_some (answer_once Forward d input None (Some s'.0) s s'.5))
-span_once d input (Some a) None s s' = absurd (none_some (answer_once Forward d input None (Some s.0) s' s.5))
+span_once d input None (Some b) s s' =
+    absurd (none_some (answer_once Forward d input None (Some s'.half) s s'.answer))
+span_once d input (Some a) None s s' =
+    absurd (none_some (answer_once Forward d input None (Some s.half) s' s.answer))
 span_once d input (Some a) (Some b) s s' =
     ap (λ v. Some v)
-    (span_of_once d input s.0 a b (s.1, s.2, s.3, s.4, s.6, s.7, s.8, s.9, s.10, s.11, s.12)
-    (subst (λ v. SpanOf d input b v) (sym (some_inj (answer_once Forward d input (Some s.0) (Some s'.0) s.5 s'.5)))
-    (s'.1, s'.2, s'.3, s'.4, s'.6, s'.7, s'.8, s'.9, s'.10, s'.11, s'.12)))
+    (span_of_once d input a b s s' (some_inj (answer_once Forward d input (Some s.half) (Some s'.half) s.answer s'.answer)))
 
 -- What finds one answer finds one list.
 abbrev pub FindsOnce : (Input → Option Match → Type 0) → Type 0
@@ -155,26 +165,28 @@ FindsOnce Finds = (input : Input) (a b : Option Match) → Finds input a → Fin
 pub next_none :
     (Finds : Input → Option Match → Type 0) (input : Input) (start : ℕ) (last : Option ℕ) (m : Match)
     → FindsOnce Finds → IsNextItem Finds input start last None → IsNextItem Finds input start last (Some m) → ⊥
-next_none Finds input start last m once (inl s) (inl s') = none_some (once (from start input) None (Some m) s s'.0)
-next_none Finds input start last m once (inl s) (inr s') = none_some (once (from start input) None (Some s'.0) s s'.1)
-next_none Finds input start last m once (inr s) (inl s') =
-    s'.1 (subst (λ v. IsEmptyAt last v) (some_inj (once (from start input) (Some s.0) (Some m) s.1 s'.0)) s.2)
-next_none Finds input start last m once (inr s) (inr s') =
-    none_some (once (from (suc start) input) None (Some m) s.3 s'.3)
+next_none Finds input start last m once (FindsHere s apart) (FindsHere s' apart') =
+    none_some (once (from start input) None (Some m) s s')
+next_none Finds input start last m once (FindsHere s apart) (FindsLater n s' empty t') =
+    none_some (once (from start input) None (Some n) s s')
+next_none Finds input start last m once (FindsLater n s empty t) (FindsHere s' apart') =
+    apart' (subst (λ v. IsEmptyAt last v) (some_inj (once (from start input) (Some n) (Some m) s s')) empty)
+next_none Finds input start last m once (FindsLater n s empty t) (FindsLater n' s' empty' t') =
+    none_some (once (from (suc start) input) None (Some m) t t')
 
 pub next_some :
     (Finds : Input → Option Match → Type 0) (input : Input) (start : ℕ) (last : Option ℕ) (m m' : Match)
     → FindsOnce Finds → IsNextItem Finds input start last (Some m) → IsNextItem Finds input start last (Some m') → m ≡ m'
-next_some Finds input start last m m' once (inl s) (inl s') =
-    some_inj (once (from start input) (Some m) (Some m') s.0 s'.0)
-next_some Finds input start last m m' once (inl s) (inr s') =
+next_some Finds input start last m m' once (FindsHere s apart) (FindsHere s' apart') =
+    some_inj (once (from start input) (Some m) (Some m') s s')
+next_some Finds input start last m m' once (FindsHere s apart) (FindsLater n' s' empty' t') =
     absurd
-    (s.1 (subst (λ v. IsEmptyAt last v) (some_inj (once (from start input) (Some s'.0) (Some m) s'.1 s.0)) s'.2))
-next_some Finds input start last m m' once (inr s) (inl s') =
+    (apart (subst (λ v. IsEmptyAt last v) (some_inj (once (from start input) (Some n') (Some m) s' s)) empty'))
+next_some Finds input start last m m' once (FindsLater n s empty t) (FindsHere s' apart') =
     absurd
-    (s'.1 (subst (λ v. IsEmptyAt last v) (some_inj (once (from start input) (Some s.0) (Some m') s.1 s'.0)) s.2))
-next_some Finds input start last m m' once (inr s) (inr s') =
-    some_inj (once (from (suc start) input) (Some m) (Some m') s.3 s'.3)
+    (apart' (subst (λ v. IsEmptyAt last v) (some_inj (once (from start input) (Some n) (Some m') s s')) empty))
+next_some Finds input start last m m' once (FindsLater n s empty t) (FindsLater n' s' empty' t') =
+    some_inj (once (from (suc start) input) (Some m) (Some m') t t')
 
 pub matches_once :
     (Finds : Input → Option Match → Type 0) (input : Input) (start : ℕ) (last : Option ℕ) (ms ms' : List Match)
@@ -197,7 +209,7 @@ spans_once d input ms ms' s s' =
 
 -- A search that does not skip is made once.
 plain : (way : Direction) (d : Engine) (input : Input) (k : ℕ) → (IsSkipping d → ⊥) → ComesTo way d input k → k ≡ 0
-plain way d input k f c = ⊎_elim (λ (z : k ≡ 0). z) (λ (z : IsSkipping d × (input.anchored ≡ No)). absurd (f z.0)) c.0
+plain way d input k f c = ⊎_elim (λ (z : k ≡ 0). z) (λ (z : IsSkipping d × (input.anchored ≡ No)). absurd (f z.0)) c.comes
 
 clash_from :
     (d : Engine) (v w : Bool) (t : Tape) (o : Option ℕ) (pair : Pair) → SelectsFrom d v t o None → SelectsFrom d w t o (Some pair) → ⊥
@@ -216,19 +228,15 @@ clash d v w input half f a b = go a.2
     zero_a = plain Forward d (with_earliest v input) a.0 f a.1
 
     zero_b : b.0 ≡ 0
-    zero_b = plain Forward d (with_earliest w input) b.0 f b.2
+    zero_b = plain Forward d (with_earliest w input) b.0 f b.1
 
-    go :
-        (input.end < input.start + a.0)
-        ⊎ (SelectsOver Forward d (later Forward a.0 (with_earliest v input)) None
-        ⊎ (IsSkipping d × (input.anchored ≡ No → ⊥) × IsSplitAnswer Forward d (later Forward a.0 (with_earliest v input))))
-        → ⊥
-    go (inl l) = omega (arith, l, zero_a, zero_b, b.3)
-    go (inr (inl s)) =
-        clash_from d v w (forward_tape input.haystack (input.start + 0) input.end) (first_state d input.anchored) b.1
+    go : HasNoAnswerAt (SelectsOver Forward d) (IsSkipping d) Forward (with_earliest v input) a.0 → ⊥
+    go (SpanIsDone l) = omega (arith, l, zero_a, zero_b, b.2.within)
+    go (SpanReportsNone s) =
+        clash_from d v w (forward_tape input.haystack (input.start + 0) input.end) (first_state d input.anchored) b.2.pair
         (subst (λ x. SelectsOver Forward d (later Forward x (with_earliest v input)) None) zero_a s)
-        (subst (λ x. SelectsOver Forward d (later Forward x (with_earliest w input)) (Some b.1)) zero_b b.4)
-    go (inr (inr s)) = f s.0
+        (subst (λ x. SelectsOver Forward d (later Forward x (with_earliest w input)) (Some b.2.pair)) zero_b b.2.reported)
+    go (StopsAtSplit skips anchored s) = f skips
 
 -- If the input is not earliest or nothing is skipped, there is a match exactly if the search that is not earliest has
 -- one.
@@ -249,5 +257,5 @@ match_iff_find d input truth answer premise m s = m.2 ∙ go answer s m.0 m.1 pr
         absurd (none_some (answer_once Forward d (in_full input) None (Some half) (same None e s) a))
     go None s (Some half) a (inr f) = absurd (clash d input.earliest false input half f s a)
     go (Some m) s None a (inl e) =
-        absurd (none_some (answer_once Forward d (in_full input) None (Some s.0) a (same (Some s.0) e s.5)))
-    go (Some m) s None a (inr f) = absurd (clash d false input.earliest input s.0 f a s.5)
+        absurd (none_some (answer_once Forward d (in_full input) None (Some s.half) a (same (Some s.half) e s.answer)))
+    go (Some m) s None a (inr f) = absurd (clash d false input.earliest input s.half f a s.answer)

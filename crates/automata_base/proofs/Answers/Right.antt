@@ -8,12 +8,12 @@ use Rattle.automata_base.specs.Haystacks.Tapes.{IsHaystack, Forward, Backward, f
 use Rattle.automata_base.specs.Paths.Selections.{IsFarthest, Selects}
 use Rattle.automata_base.specs.Powersets.Cuts.{All}
 use Rattle.automata_base.specs.Nfas.Engines.{Engine, Anchored, No, Yes, Pattern, BeginsAnchored, IsSkipping}
-use Rattle.automata_base.specs.Nfas.Engines.{LoopsLazily, BeginsLazily}
+use Rattle.automata_base.specs.Nfas.Engines.{LoopsLazily, BeginsLazily, LazyLoop, SharedStart}
 use Rattle.automata_base.specs.Answers.Answers.{Half, IsAnswer, SelectsOver}
 use Rattle.automata_base.specs.Haystacks.Input.{Input}
 use Rattle.automata_base.specs.Answers.TruePairs.{IsTruePair, KeepsUtf8}
 use Rattle.automata_base.specs.Answers.Spans.{IsPathStart, Chooses, IsSpan, IsShort, back, FindsStartBy, Outcome, Found}
-use Rattle.automata_base.specs.Answers.Spans.{NotAPair, IsTrySearch, IsFarSearch, FindsSpan}
+use Rattle.automata_base.specs.Answers.Spans.{NotAPair, IsTrySearch, IsFarSearch, FindsSpan, StartIsBase, StartIsFound}
 use Rattle.automata_base.specs.Answers.OfPasses.{EndsOver, IsFarthestAnswer}
 use Rattle.automata_base.proofs.Answers.Chosen.{StartsAt, starts_at, all_farthest, lazy_start, same_start}
 use Rattle.automata_base.proofs.Answers.Backs.{end_inside, forward_bytes}
@@ -75,11 +75,11 @@ short_start d input half q i path lazy bytes w a short = go (mode_cases input.an
     go :
         (input.anchored ≡ No) ⊎ (input.anchored ≡ No → ⊥) → BeginsLazily d.nfa d.anchored d.unanchored → IsShort d input half → IsPathStart d input.anchored t path 0
     go (inr f) lazy short = anchored_start d input.anchored t path f
-    go (inl m) (inl e) short = same m e
-    go (inl m) (inr loop) (inr (inl f)) = absurd (f m)
-    go (inl m) (inr loop) (inr (inr e)) = same m e
-    go (inl m) (inr loop) (inl e) =
-        let c = looped d loop.0 input half q i path loop.1 bytes w m a in
+    go (inl m) (SharedStart e) short = same m e
+    go (inl m) (LazyLoop x loop) (inr (inl f)) = absurd (f m)
+    go (inl m) (LazyLoop x loop) (inr (inr e)) = same m e
+    go (inl m) (LazyLoop x loop) (inl e) =
+        let c = looped d x input half q i path loop bytes w m a in
         subst (λ v. IsPathStart d input.anchored t path v) (omega (arith, c.3, e, a.1)) c.4
 
 -- The chosen path's start, and that the reverse search finds it.
@@ -94,18 +94,18 @@ pub start_found :
     (f r : Engine) (input : Input) (half : Half) (q i : ℕ) (path : List ℕ)
     → IsTruePair f r → KeepsUtf8 Forward f → IsHaystack input.haystack → input.end ≤ length input.haystack
     → Answered f input half q i path → (IsShort f input half → ⊥) → StartFound f r input half path
-start_found f r input half q i path pair keeps bytes w a long = go (mode_cases input.anchored) pair.4
+start_found f r input half q i path pair keeps bytes w a long = go (mode_cases input.anchored) pair.begins
   where
     h : List ℕ
     h = input.haystack
 
     go : (input.anchored ≡ No) ⊎ (input.anchored ≡ No → ⊥) → BeginsLazily f.nfa f.anchored f.unanchored → StartFound f r input half path
     go (inr g) lazy = absurd (long (inr (inl g)))
-    go (inl m) (inl e) = absurd (long (inr (inr e)))
-    go (inl m) (inr loop) = (c.0, c.4, omega (arith, c.3, a.1), finds)
+    go (inl m) (SharedStart e) = absurd (long (inr (inr e)))
+    go (inl m) (LazyLoop x loop) = (c.0, c.4, omega (arith, c.3, a.1), finds)
       where
         c : Looped f input half i path
-        c = looped f loop.0 input half q i path loop.1 bytes w m a
+        c = looped f x input half q i path loop bytes w m a
 
         chosen : Chooses f input.earliest (forward_tape h half.base input.end) f.unanchored i half.pattern path
         chosen = unanchored f input half q i path m a
@@ -118,8 +118,8 @@ start_found f r input half q i path pair keeps bytes w a long = go (mode_cases i
             → (found : Half) × (answer ≡ Some found) × (found.offset ≡ half.base + c.0)
         finds answer b =
             let g =
-            goes_to_start f r loop.0 h half.base input.end input.earliest i c.0 half.pattern path c.1 pair bytes a.4 w
-            loop.1 chosen c.2 in
+            goes_to_start f r x h half.base input.end input.earliest i c.0 half.pattern path c.1 pair bytes a.4 w
+            loop chosen c.2 in
             let u =
             start_unsplit f r h half.base input.end i c.0 half.pattern c.2.1.0 c.1 pair keeps bytes inside w c.3
             c.2.1.1 c.2.1.2 (λ s. ap (λ v. is_split h v) (sym a.1) ∙ a.5 s) in
@@ -143,47 +143,40 @@ far_right f r input NotAPair pair keeps bytes w s =
   where
     none_found : {P : Half → Type 0} → (found : Half) × (◌≡◌ {A = Option Half} None (Some found)) × P found → ⊥
     none_found h = none_some h.1
-far_right f r input (Found (Some m)) pair keeps bytes w s = (Some m, refl, go s.2)
+far_right f r input (Found (Some m)) pair keeps bytes w s = (Some m, refl, go s.start)
   where
     half : Half
-    half = s.0
+    half = s.half
 
     a : (q i : ℕ) × (path : List ℕ) × Answered f input half q i path
-    a = answered f input half s.1
+    a = answered f input half s.front
+
+    span :
+        (before : ℕ) → IsPathStart f input.anchored (forward_tape input.haystack half.base input.end) a.2 before
+        → m.start ≡ half.base + before → IsSpan f input (Some m)
+    span before begins start = record {
+      half = half;
+      answer = s.front;
+      first = a.0;
+      is_first = a.3.0;
+      length = a.1;
+      ends = a.3.1;
+      path = a.2;
+      chosen = a.3.2;
+      before = before;
+      begins = begins;
+      pattern = s.pattern;
+      start = start;
+      end = s.end;
+    }
 
     go : FindsStartBy (IsFarthestAnswer Backward r) f input half (Some m.start) → IsSpan f input (Some m)
-    go (inl e) = (
-      half,
-      a.0,
-      a.1,
-      0,
-      a.2,
-      s.1,
-      a.3.0,
-      a.3.1,
-      a.3.2,
-      short_start f input half a.0 a.1 a.2 pair.4 bytes w a.3 e.0,
-      s.3,
-      omega (arith, e.1),
-      s.4,
-    )
-    go (inr e) =
-        let b = start_found f r input half a.0 a.1 a.2 pair keeps bytes w a.3 e.0 in
-        let o = b.3 (Some e.1.0) e.1.1 in (
-          half,
-          a.0,
-          a.1,
-          b.0,
-          a.2,
-          s.1,
-          a.3.0,
-          a.3.1,
-          a.3.2,
-          b.1,
-          s.3,
-          e.1.2 ∙ (ap (λ v. offset_of v) o.1 ∙ o.2),
-          s.4,
-        )
+    go (StartIsBase short e) =
+        span 0 (short_start f input half a.0 a.1 a.2 pair.begins bytes w a.3 short) (omega (arith, e))
+    go (StartIsFound long found backs e) =
+        let b = start_found f r input half a.0 a.1 a.2 pair keeps bytes w a.3 long in
+        let o = b.3 (Some found) backs in
+        span b.0 b.1 (e ∙ (ap (λ v. offset_of v) o.1 ∙ o.2))
       where
         offset_of : Option Half → ℕ
         offset_of None = 0
@@ -207,4 +200,4 @@ pub span_right :
 span_right f r input outcome pair keeps bytes w s =
     far_right f r input outcome pair keeps bytes w
     (turn_outcome (IsAnswer Forward f) (IsAnswer Forward f) (IsAnswer Backward r) (IsFarthestAnswer Backward r) f input
-    (λ o a. a) (λ half o a b. back_far r input half o pair.0 b) outcome s)
+    (λ o a. a) (λ half o a b. back_far r input half o pair.all b) outcome s)

@@ -12,7 +12,7 @@ use Rattle.automata_base.specs.Haystacks.Input.{Input}
 use Rattle.automata_base.specs.Answers.TruePairs.{IsTruePair, KeepsUtf8}
 use Rattle.automata_base.specs.Answers.Spans.{IsPathStart, Chooses, IsSpan, FindsStart, Outcome, Found, IsTrySearch}
 use Rattle.automata_base.specs.Answers.Spans.{from, IsNextItem, AreFirst, AreMatches, AreSpans, TryFinds}
-use Rattle.automata_base.specs.Answers.Spans.{AreFound, Rise}
+use Rattle.automata_base.specs.Answers.Spans.{AreFound, FindsHere, FindsLater, Rise, StartIsBase, StartIsFound}
 use Rattle.automata_base.specs.Haystacks.Matches.{Match}
 use Rattle.automata_base.proofs.Answers.Backs.{end_inside}
 use Rattle.automata_base.proofs.Answers.Bytes.{tape_length}
@@ -40,35 +40,35 @@ pub span_inside :
     (d : Engine) (input : Input) (m : Match) → input.end ≤ length input.haystack → IsSpan d input (Some m)
     → (input.start ≤ m.start) × (m.start ≤ m.end) × (m.end ≤ input.end)
 span_inside d input m w s =
-    let a = answered d input s.0 s.5 in
+    let a = answered d input s.half s.answer in
     let l =
-    start_inside d input.anchored (forward_tape input.haystack s.0.base input.end) s.1 s.2 s.0.pattern s.3 input.earliest s.4
-    s.6 s.8 s.9 in
+    start_inside d input.anchored (forward_tape input.haystack s.half.base input.end) s.first s.length s.half.pattern s.before input.earliest s.path
+    s.is_first s.chosen s.begins in
     let g =
-    end_inside d input.haystack s.0.base input.end s.1 s.2 s.0.pattern s.4 a.3.4 w s.8.0 in
-    (omega (arith, a.3.3, s.11), omega (arith, l, s.7, s.11, s.12), omega (arith, g, s.7, s.12))
+    end_inside d input.haystack s.half.base input.end s.first s.length s.half.pattern s.path a.3.4 w s.chosen.0 in
+    (omega (arith, a.3.3, s.start), omega (arith, l, s.ends, s.start, s.end), omega (arith, g, s.ends, s.end))
 
 -- A reverse answer lies in its span.
 back_inside :
     (r : Engine) (h : List ℕ) (b e : ℕ) (found : Half) → e ≤ length h → IsAnswer Backward r (anchored_back h b e) (Some found)
     → (b ≤ found.offset) × (found.offset ≤ e)
 back_inside r h b e found w a =
-    let z = only_once (SelectsOver Backward r) (IsSkipping r) h b e a.0 a.2 in
-    let g = accepting_inside r.nfa (reverse_tape h b (e - a.0)) r.anchored a.1.place a.1.pattern a.4.0 a.4.1 in
-    let n = tape_length h b (e - a.0) (omega (arith, z, a.3)) (omega (arith, w)) in
-    (omega (arith, a.7, z, g, n, a.3), omega (arith, a.7))
+    let z = only_once (SelectsOver Backward r) (IsSkipping r) h b e a.0 a.1 in
+    let g = accepting_inside r.nfa (reverse_tape h b (e - a.0)) r.anchored a.2.pair.place a.2.pair.pattern a.2.reported.0 a.2.reported.1 in
+    let n = tape_length h b (e - a.0) (omega (arith, z, a.2.within)) (omega (arith, w)) in
+    (omega (arith, a.2.offset, z, g, n, a.2.within), omega (arith, a.2.offset))
 
 -- Any two DFAs find matches that lie in the span.
 pub try_inside :
     (f r : Engine) (input : Input) (m : Match) → input.end ≤ length input.haystack → IsTrySearch f r input (Found (Some m))
     → (input.start ≤ m.start) × (m.start ≤ m.end) × (m.end ≤ input.end)
-try_inside f r input m w s = go s.2
+try_inside f r input m w s = go s.start
   where
     half : Half
-    half = s.0
+    half = s.half
 
     a : (q i : ℕ) × (path : List ℕ) × Answered f input half q i path
-    a = answered f input half s.1
+    a = answered f input half s.front
 
     low : input.start ≤ half.base
     low = a.3.3
@@ -83,10 +83,10 @@ try_inside f r input m w s = go s.2
         omega (arith, g, e)
 
     go : FindsStart f r input half (Some m.start) → (input.start ≤ m.start) × (m.start ≤ m.end) × (m.end ≤ input.end)
-    go (inl h) = (omega (arith, low, h.1), omega (arith, mid, h.1, s.4), omega (arith, high, s.4))
-    go (inr h) =
-        let g = back_inside r input.haystack half.base half.offset h.1.0 (omega (arith, high, w)) h.1.1 in
-        (omega (arith, low, h.1.2, g.0), omega (arith, g.1, h.1.2, s.4), omega (arith, high, s.4))
+    go (StartIsBase short h) = (omega (arith, low, h), omega (arith, mid, h, s.end), omega (arith, high, s.end))
+    go (StartIsFound long found backs h) =
+        let g = back_inside r input.haystack half.base half.offset found (omega (arith, high, w)) backs in
+        (omega (arith, low, h, g.0), omega (arith, g.1, h, s.end), omega (arith, high, s.end))
 
 -- What is found lies in the span.
 abbrev pub StaysInside : (Input → Option Match → Type 0) → Type 0
@@ -105,8 +105,8 @@ pub next_inside :
     (Finds : Input → Option Match → Type 0) (input : Input) (start : ℕ) (last : Option ℕ) (m : Match)
     → StaysInside Finds → input.end ≤ length input.haystack → IsNextItem Finds input start last (Some m)
     → (start ≤ m.start) × (m.start ≤ m.end) × (m.end ≤ input.end) × (last ≡ Some start → start < m.end)
-next_inside Finds input start last m stays w (inl s) =
-    let f = stays (from start input) m w s.0 in
+next_inside Finds input start last m stays w (FindsHere s apart) =
+    let f = stays (from start input) m w s in
     (f.0, f.1, f.2, λ e. past e (eq-or-lt_of_le (both f.0 f.1)))
   where
     both : start ≤ m.start → m.start ≤ m.end → start ≤ m.end
@@ -115,10 +115,10 @@ next_inside Finds input start last m stays w (inl s) =
     past : last ≡ Some start → (start ≡ m.end) ⊎ (start < m.end) → start < m.end
     past e (inr l) = l
     past e (inl c) =
-        let f = stays (from start input) m w s.0 in
-        absurd (s.1 (omega (arith, f.0, f.1, c), e ∙ ap (λ v. Some v) c))
-next_inside Finds input start last m stays w (inr s) =
-    let f = stays (from (suc start) input) m w s.3 in
+        let f = stays (from start input) m w s in
+        absurd (apart (omega (arith, f.0, f.1, c), e ∙ ap (λ v. Some v) c))
+next_inside Finds input start last m stays w (FindsLater empty here at_last s) =
+    let f = stays (from (suc start) input) m w s in
     (omega (arith, f.0), f.1, f.2, λ e. omega (arith, f.0, f.1))
 
 -- All matches begin as the first ones do.
@@ -133,7 +133,7 @@ module _ (Finds : Input → Option Match → Type 0) (input : Input) (stays : St
   rise_from start [] s = tt
   rise_from start (m ∷ ms) s =
       let f = next_inside Finds input start (Some start) m stays w s.0 in
-      (f.0, f.1, f.3 refl, f.2, rise_from m.end ms s.1)
+      (record { from = f.0; ordered = f.1; past = f.3 refl; within = f.2 }, rise_from m.end ms s.1)
 
   pub first_rise : (ms : List Match) → AreFirst Finds input input.start None ms → Rise input.end None ms
   first_rise [] s = tt
@@ -142,7 +142,7 @@ module _ (Finds : Input → Option Match → Type 0) (input : Input) (stays : St
 
   count_from : (end start : ℕ) (ms : List Match) → start ≤ end → Rise end (Some start) ms → start + length ms ≤ end
   count_from end start [] l r = omega (arith, l)
-  count_from end start (m ∷ ms) l r = let g = count_from end m.end ms r.3 r.4 in omega (arith, g, r.2)
+  count_from end start (m ∷ ms) l r = let g = count_from end m.end ms r.0.within r.1 in omega (arith, g, r.0.past)
 
   -- At most one match more than the span has bytes.
   pub first_few : (ms : List Match) → AreFirst Finds input input.start None ms → length ms ≤ suc (input.end - input.start)
@@ -174,10 +174,8 @@ module _
     (right : (start : ℕ) (o : Option Match) → F (from start input) o → G (from start input) o)
   where
     next_right : (start : ℕ) (last : Option ℕ) (o : Option Match) → IsNextItem F input start last o → IsNextItem G input start last o
-    next_right start last None (inl s) = inl (right start None s)
-    next_right start last None (inr s) = inr (s.0, right start (Some s.0) s.1, s.2, right (suc start) None s.3)
-    next_right start last (Some m) (inl s) = inl (right start (Some m) s.0, s.1)
-    next_right start last (Some m) (inr s) = inr (s.0, right start (Some s.0) s.1, s.2, right (suc start) (Some m) s.3)
+    next_right start last o (FindsHere s apart) = FindsHere (right start o s) apart
+    next_right start last o (FindsLater m s empty t) = FindsLater m (right start (Some m) s) empty (right (suc start) o t)
 
     pub matches_right : (start : ℕ) (last : Option ℕ) (ms : List Match) → AreMatches F input start last ms → AreMatches G input start last ms
     matches_right start last [] s = next_right start last None s

@@ -8,7 +8,8 @@ use Rattle.automata_base.proofs.Paths.Orders.{some_inj, some_none}
 use Rattle.automata_base.proofs.Paths.Places.{path_grows}
 use Rattle.automata_base.specs.Haystacks.Tapes.{IsHaystack, Forward, Backward, forward_tape, reverse_tape, is_split}
 use Rattle.automata_base.specs.Nfas.Engines.{Engine, Anchored, No, Yes, Pattern, first_state, LoopsLazily, IsSkipping}
-use Rattle.automata_base.specs.Answers.Answers.{Half, SelectsFrom, later, IsAnswer, IsSplit, Tries}
+use Rattle.automata_base.specs.Answers.Answers.{Half, SelectsFrom, later, IsAnswer, IsSplit, Tries, SpanIsDone, SpanReportsNone}
+use Rattle.automata_base.specs.Answers.Answers.{StopsAtSplit}
 use Rattle.automata_base.specs.Haystacks.Input.{Input}
 use Rattle.automata_base.specs.Answers.TruePairs.{Joins, IsTruePair, KeepsUtf8}
 use Rattle.automata_base.specs.Answers.Spans.{Chooses}
@@ -39,25 +40,25 @@ Answered d input half q i path =
 pub answered :
     (d : Engine) (input : Input) (half : Half) → IsAnswer Forward d input (Some half)
     → (q i : ℕ) × (path : List ℕ) × Answered d input half q i path
-answered d input half a = go (first_state d input.anchored) refl a.4
+answered d input half a = go (first_state d input.anchored) refl a.2.reported
   where
     go :
         (o : Option ℕ) → first_state d input.anchored ≡ o
-        → SelectsFrom d input.earliest (forward_tape input.haystack (input.start + a.0) input.end) o (Some a.1)
+        → SelectsFrom d input.earliest (forward_tape input.haystack (input.start + a.0) input.end) o (Some a.2.pair)
         → (q i : ℕ) × (path : List ℕ) × Answered d input half q i path
     go None e s = absurd (some_none s)
     go (Some q) e s = (
       q,
-      a.1.place,
+      a.2.pair.place,
       s.0,
       (
         e,
-        a.7 ∙ ap (λ v. v + a.1.place) (sym a.8),
-        subst (λ v. Chooses d input.earliest (forward_tape input.haystack v input.end) q a.1.place half.pattern s.0) (sym a.8)
-            (subst (λ v. Chooses d input.earliest (forward_tape input.haystack (input.start + a.0) input.end) q a.1.place v s.0) (sym a.6) (s.1, s.2)),
-        omega (arith, a.8),
-        omega (arith, a.8, a.3),
-        λ k. ap (λ v. is_split input.haystack v) a.7 ∙ a.5 k,
+        a.2.offset ∙ ap (λ v. v + a.2.pair.place) (sym a.2.base),
+        subst (λ v. Chooses d input.earliest (forward_tape input.haystack v input.end) q a.2.pair.place half.pattern s.0) (sym a.2.base)
+            (subst (λ v. Chooses d input.earliest (forward_tape input.haystack (input.start + a.0) input.end) q a.2.pair.place v s.0) (sym a.2.pattern) (s.1, s.2)),
+        omega (arith, a.2.base),
+        omega (arith, a.2.base, a.2.within),
+        λ k. ap (λ v. is_split input.haystack v) a.2.offset ∙ a.2.whole k,
       ),
     )
 
@@ -76,7 +77,7 @@ anchored_back h b e = record { haystack = h; start = b; end = e; anchored = Yes;
 pub only_once :
     (T : Input → Option Pair → Type 0) (S : Type 0) (h : List ℕ) (b e k : ℕ) → Tries T S Backward (anchored_back h b e) k
     → k ≡ 0
-only_once T S h b e k c = ⊎_elim (λ (z : k ≡ 0). z) (λ (z : S × (Yes ≡ No)). absurd (yes_no z.1)) c.0
+only_once T S h b e k c = ⊎_elim (λ (z : k ≡ 0). z) (λ (z : S × (Yes ≡ No)). absurd (yes_no z.1)) c.comes
 
 -- The greatest place at which a path accepts.
 abbrev pub IsGreatest : Nfa → Tape → ℕ → ℕ → Type 0
@@ -139,12 +140,12 @@ back_answer r h b e m answer l g u = go answer
     go :
         (o : Option Half) → IsFarthestAnswer Backward r (anchored_back h b e) o
         → (found : Half) × (o ≡ Some found) × (found.offset ≡ e - m)
-    go None (k, tries, inl c) = let z = first k tries in absurd (omega (arith, l, c, z))
-    go None (k, tries, inr (inl s)) = absurd (none k (once k tries) s)
-    go None (k, tries, inr (inr (skipping, f, s))) = absurd (split k (once k tries) skipping s)
-    go (Some found) (k, pair, tries, n, s, whole, same_pattern, at, base) =
-        let p = greatest k (Some pair) (once k tries) s in
-        (found, refl, at ∙ (ap (λ w. e - k - w) (same_place p.1) ∙ p.2))
+    go None (k, tries, SpanIsDone c) = let z = first k tries in absurd (omega (arith, l, c, z))
+    go None (k, tries, SpanReportsNone s) = absurd (none k (once k tries) s)
+    go None (k, tries, StopsAtSplit skipping f s) = absurd (split k (once k tries) skipping s)
+    go (Some found) (k, tries, a) =
+        let p = greatest k (Some a.pair) (once k tries) a.reported in
+        (found, refl, a.offset ∙ (ap (λ w. e - k - w) (same_place p.1) ∙ p.2))
 
 -- Over the span that the forward search left, the reverse paths from its end go back to the chosen path's start and no
 -- farther, and that place splits no character if split places are skipped.
@@ -184,7 +185,7 @@ pub start_unsplit :
 start_unsplit f r h b e i k pattern z rest pair keeps bytes u w l p m ends s = go (eq-or-lt_of_le l)
   where
     skipping : IsSkipping f
-    skipping = (pair.1 ∙ s.0, pair.2.1 s.1)
+    skipping = (pair.utf8 ∙ s.0, pair.empty.1 s.1)
 
     j : Joins Forward f h (b + k) (b + i) pattern
     j = narrow f h b e i k pattern z rest l u w p m

@@ -14,10 +14,11 @@ use Rattle.automata_base.specs.Haystacks.Tapes.{IsHaystack, Direction, Forward, 
 use Rattle.automata_base.specs.Haystacks.Tapes.{is_split}
 use Rattle.automata_base.specs.Nfas.Engines.{Engine, No, first_state, IsSkipping}
 use Rattle.automata_base.specs.Answers.Answers.{Half, SelectsFrom, SelectsOver, later, offset_in, IsAnswer, IsInput}
-use Rattle.automata_base.specs.Answers.Answers.{IsSound}
+use Rattle.automata_base.specs.Answers.Answers.{HasAnswerAt, IsSound, SpanIsDone, SpanReportsNone, StopsAtSplit}
 use Rattle.automata_base.specs.Haystacks.Input.{Input}
 use Rattle.automata_base.specs.Answers.TruePairs.{IsTruePair, KeepsUtf8}
-use Rattle.automata_base.specs.Answers.Spans.{IsSpan, IsShort, back, Outcome, Found, NotAPair, IsTrySearch}
+use Rattle.automata_base.specs.Answers.Spans.{IsSpan, IsShort, back, Outcome, Found, NotAPair, IsTrySearch, HasStartBy, StartIsBase}
+use Rattle.automata_base.specs.Answers.Spans.{StartIsFound}
 use Rattle.automata_base.specs.Haystacks.Matches.{Match}
 use Rattle.automata_base.proofs.Answers.Bytes.{nth_reverse, reverse_length}
 use Rattle.automata_base.proofs.Answers.Backs.{end_inside, forward_bytes}
@@ -80,9 +81,9 @@ later_input Backward k input b l = ((b.0, omega (arith, b.1)), omega (arith, l))
 search_from :
     (way : Direction) (d : Engine) (input : Input) → IsSound d → IsInput input → (IsSkipping d ⊎ (IsSkipping d → ⊥))
     → (n k : ℕ) → ComesTo way d input k → input.end < input.start + k + n → (o : Option Half) × IsAnswer way d input o
-search_from way d input s b skips zero k c l = (None, (k, c, inl (omega (arith, l))))
+search_from way d input s b skips zero k c l = (None, (k, c, SpanIsDone (omega (arith, l))))
 search_from way d input s b skips (suc n) k c l = ⊎_elim
-    (λ (m : input.end < input.start + k). (None, (k, c, inl m)))
+    (λ (m : input.end < input.start + k). (None, (k, c, SpanIsDone m)))
     (λ (m : input.start + k ≤ input.end).
     let f = later_input way k input b m in
     let a = sel_exists way d (later way k input) s f.0 f.1 in
@@ -93,7 +94,7 @@ search_from way d input s b skips (suc n) k c l = ⊎_elim
         input.start + k ≤ input.end → (a : Option Pair) → SelectsOver way d (later way k input) a
         → (ComesTo way d input (suc k) → (o : Option Half) × IsAnswer way d input o)
         → (o : Option Half) × IsAnswer way d input o
-    go m None a on = (None, (k, c, inr (inl a)))
+    go m None a on = (None, (k, c, SpanReportsNone a))
     go m (Some pair) a on = decide skips
       where
         o : ℕ
@@ -102,11 +103,22 @@ search_from way d input s b skips (suc n) k c l = ⊎_elim
         half : Half
         half = record { pattern = pair.pattern; offset = o; base = (later way k input).start }
 
+        answer : (IsSkipping d → is_split input.haystack o ≡ false) → HasAnswerAt (SelectsOver way d) (IsSkipping d) way input k half
+        answer whole = record {
+          pair = pair;
+          within = m;
+          reported = a;
+          whole = whole;
+          pattern = refl;
+          offset = refl;
+          base = refl;
+        }
+
         split : IsSkipping d → (v : Bool) → is_split input.haystack o ≡ v → (o : Option Half) × IsAnswer way d input o
-        split z false e = (Some half, (k, pair, c, m, a, λ z. e, refl, refl, refl))
+        split z false e = (Some half, (k, c, answer (λ z. e)))
         split z true e = ⊎_elim
-            (λ (free : input.anchored ≡ No). on (inr (z, free), before free))
-            (λ (f : input.anchored ≡ No → ⊥). (None, (k, c, inr (inr (z, f, here)))))
+            (λ (free : input.anchored ≡ No). on (record { comes = inr (z, free); before = before free }))
+            (λ (f : input.anchored ≡ No → ⊥). (None, (k, c, StopsAtSplit z f here)))
             (mode_cases input.anchored)
           where
             here : IsSplitAnswer way d (later way k input)
@@ -117,14 +129,14 @@ search_from way d input s b skips (suc n) k c l = ⊎_elim
             before free j l = ⊎_elim
                 (λ (e : j ≡ k).
                 (omega (arith, m, e), subst (λ v. IsSplitAnswer way d (later way v input)) (sym e) here))
-                (λ (b : j < k). c.1 j b)
+                (λ (b : j < k). c.before j b)
                 (eq-or-lt_of_le (le_of l))
               where
                 le_of : j < suc k → j ≤ k
                 le_of x = omega (arith, x)
 
         decide : (IsSkipping d ⊎ (IsSkipping d → ⊥)) → (o : Option Half) × IsAnswer way d input o
-        decide (inr f) = (Some half, (k, pair, c, m, a, λ z. absurd (f z), refl, refl, refl))
+        decide (inr f) = (Some half, (k, c, answer (λ z. absurd (f z))))
         decide (inl z) = split z (is_split input.haystack o) refl
 
 pub answer_exists :
@@ -132,7 +144,7 @@ pub answer_exists :
     → (o : Option Half) × IsAnswer way d input o
 answer_exists way d input s b skips =
     search_from way d input s b skips (suc input.end) 0
-    (inl refl, λ j l. absurd (omega (arith, l))) (omega arith)
+    (record { comes = inl refl; before = λ j l. absurd (omega (arith, l)) }) (omega arith)
 
 pub short_or_not : (f : Engine) (input : Input) (half : Half) → IsShort f input half ⊎ (IsShort f input half → ⊥)
 short_or_not f input half =
@@ -178,9 +190,15 @@ try_exists f r input sf sr b kf kr = go (answer_exists Forward f input sf b kf)
                 let w = b.1 in
                 (b.0, omega (arith, g, e, w))
 
+            found_at :
+                (start : ℕ) → HasStartBy (IsAnswer Backward r) f input half start
+                → (outcome : Outcome) × IsTrySearch f r input outcome
+            found_at start begins =
+                (Found (Some (match_of half start)), record { half = half; front = a; start = begins; pattern = refl; end = refl })
+
             start :
                 IsShort f input half ⊎ (IsShort f input half → ⊥) → (outcome : Outcome) × IsTrySearch f r input outcome
-            start (inl s) = (Found (Some (match_of half half.base)), (half, a, inl (s, refl), refl, refl))
+            start (inl s) = found_at half.base (StartIsBase s refl)
             start (inr s) = find (answer_exists Backward r (back input half) sr inside kr)
               where
                 find :
@@ -192,8 +210,7 @@ try_exists f r input sf sr b kf kr = go (answer_exists Forward f input sf b kf)
                         (o : Option Half) → IsAnswer Backward r (back input half) o
                         → (outcome : Outcome) × IsTrySearch f r input outcome
                     from_back None c = (NotAPair, (half, a, (s, c)))
-                    from_back (Some found) c =
-                        (Found (Some (match_of half found.offset)), (half, a, inr (s, (found, c, refl)), refl, refl))
+                    from_back (Some found) c = found_at found.offset (StartIsFound s found c refl)
 
 -- Over a true pair under the UTF-8 promise a search finds the span, so each input has one.
 pub span_found :

@@ -1,8 +1,8 @@
 -- The reverse search reads no unit that the forward search did not read up to its match.
-use Rattle.std.proofs.Common.{ℕ, suc, ◌≡◌, ◌<◌, ◌≤◌, ◌+◌, ◌-◌, Bool, List, length, Option, Some, inl, inr, sym, ap, ◌∙◌}
+use Rattle.std.proofs.Common.{ℕ, suc, ◌≡◌, ◌<◌, ◌≤◌, ◌+◌, ◌-◌, Bool, List, length, Option, Some, sym, ap, ◌∙◌}
 use Rattle.std.proofs.Common.{arith, ⊎_elim, eq-or-lt_of_le}
 use Rattle.std.specs.Prelude.{slice_get}
-use Rattle.automata_base.specs.Haystacks.Tapes.{forward_tape, reverse_tape, byte_before, ReadsUpto, MeetsNone}
+use Rattle.automata_base.specs.Haystacks.Tapes.{forward_tape, reverse_tape, byte_before, ReadsByteBefore, ReadsUnitAt, ReadsUpto, MeetsNone}
 use Rattle.automata_base.proofs.Answers.Bytes.{forward_next, forward_prev, reverse_next}
 
 before_suc : (h : List ℕ) (o p : ℕ) → o ≡ suc p → byte_before h o ≡ slice_get h p
@@ -11,26 +11,22 @@ before_suc h o p e = ap (λ v. byte_before h v) e
 pub back_reads :
     (h : List ℕ) (b e i m : ℕ) (v : Option ℕ) → b + i ≤ e → e ≤ length h → m ≤ i
     → ReadsUpto (reverse_tape h b (b + i)) m v → ReadsUpto (forward_tape h b e) i v
-back_reads h b e i m v l w k (inl g) =
-    inr (i, omega arith, g ∙ sym (forward_next h b e i l w))
-back_reads h b e i m v l w k (inr g) = ⊎_elim
-    (λ (c : g.0 ≡ i).
-    inl
-    (g.2
-    ∙ (reverse_next h b (b + i) g.0 b (omega (arith, c)) (omega arith) (omega (arith, l, w))
+back_reads h b e i m v l w k (ReadsByteBefore g) = ReadsUnitAt i (omega arith) (g ∙ sym (forward_next h b e i l w))
+back_reads h b e i m v l w k (ReadsUnitAt j few g) = ⊎_elim
+    (λ (c : j ≡ i).
+    ReadsByteBefore
+    (g
+    ∙ (reverse_next h b (b + i) j b (omega (arith, c)) (omega arith) (omega (arith, l, w))
     ∙ (ap (λ x. byte_before h x) (omega arith) ∙ sym (forward_prev h b e 0 (omega (arith, l)))))))
-    (λ (c : g.0 < i).
-    inr (
-      i - suc g.0,
-      omega arith,
-      g.2
-          ∙ (reverse_next h b (b + i) g.0 (b + (i - g.0)) (omega (arith, c)) (omega arith) (omega (arith, l, w))
-          ∙ (before_suc h (b + (i - g.0)) (b + (i - suc g.0)) (omega (arith, c))
-          ∙ sym (forward_next h b e (i - suc g.0) (omega (arith, l, c)) w))),
-    ))
-    (eq-or-lt_of_le (within g.1))
+    (λ (c : j < i).
+    ReadsUnitAt (i - suc j) (omega arith)
+    (g
+    ∙ (reverse_next h b (b + i) j (b + (i - j)) (omega (arith, c)) (omega arith) (omega (arith, l, w))
+    ∙ (before_suc h (b + (i - j)) (b + (i - suc j)) (omega (arith, c))
+    ∙ sym (forward_next h b e (i - suc j) (omega (arith, l, c)) w)))))
+    (eq-or-lt_of_le (within few))
   where
-    within : g.0 ≤ m → g.0 ≤ i
+    within : j ≤ m → j ≤ i
     within a = omega (arith, a, k)
 
 -- So with one quit set the reverse search meets no quit byte if the forward search met none up to its match.

@@ -2,7 +2,7 @@
 use Rattle.std.proofs.Common.{ℕ, zero, suc, ◌≡◌, ◌∙◌, ◌<◌, ◌≤◌, ◌⊎◌, inl, inr, Bool, true, false, List, [], ◌∷◌, length}
 use Rattle.std.proofs.Common.{Option, Some, None, refl, sym, ap, subst, arith}
 use Rattle.std.proofs.Common.{eq-or-lt_of_le}
-use Rattle.automata_base.specs.Answers.Answers.{Half, later, offset_in, with_offsets}
+use Rattle.automata_base.specs.Answers.Answers.{Half, KeepsSplit, SkipsSplit, WalksNoSpan, WalksSpan, later, offset_in, with_offsets}
 use Rattle.automata_base.specs.Retraced.Computed.{is_in, once_past}
 use Rattle.automata_base.specs.Retraced.Passes.{earlier_or, pair_at, first_among}
 use Rattle.automata_base.specs.Powersets.Cuts.{MatchKind}
@@ -157,13 +157,13 @@ pub reported_within :
     → input.end ≤ length input.haystack → IsReported way a kind input (Some half)
     → IsInSpan input half.offset × (input.start ≤ half.base) × (half.base ≤ half.offset)
 reported_within Forward a kind input half few f =
-    let b = over_below Forward a kind (later Forward f.0 input) f.1 (sym f.4) in
-    let w = place_in Forward (later Forward f.0 input) f.1.place f.3 few b.0 in
-    ((omega (arith, w.0, f.7), omega (arith, w.1, f.7)), omega (arith, f.8), omega (arith, w.0, f.7, f.8))
+    let b = over_below Forward a kind (later Forward f.0 input) f.2.pair (sym f.2.reported) in
+    let w = place_in Forward (later Forward f.0 input) f.2.pair.place f.2.within few b.0 in
+    ((omega (arith, w.0, f.2.offset), omega (arith, w.1, f.2.offset)), omega (arith, f.2.base), omega (arith, w.0, f.2.offset, f.2.base))
 reported_within Backward a kind input half few f =
-    let b = over_below Backward a kind (later Backward f.0 input) f.1 (sym f.4) in
-    let w = place_in Backward (later Backward f.0 input) f.1.place (omega (arith, f.3)) (omega (arith, few)) b.0 in
-    ((omega (arith, w.0, f.7), omega (arith, w.1, f.7)), omega (arith, f.8), omega (arith, w.0, f.7, f.8))
+    let b = over_below Backward a kind (later Backward f.0 input) f.2.pair (sym f.2.reported) in
+    let w = place_in Backward (later Backward f.0 input) f.2.pair.place (omega (arith, f.2.within)) (omega (arith, few)) b.0 in
+    ((omega (arith, w.0, f.2.offset), omega (arith, w.1, f.2.offset)), omega (arith, f.2.base), omega (arith, w.0, f.2.offset, f.2.base))
 
 -- and its pattern is the automaton's
 pattern_reported :
@@ -171,8 +171,8 @@ pattern_reported :
     → IsChecked a → IsReported way a kind input (Some half) → IsPatternOf a half.pattern
 pattern_reported way a kind input half d f =
     let i = later way f.0 input in
-    let b = over_below way a kind i f.1 (sym f.4) in
-    subst (IsPatternOf a) (sym f.6) (reported_own a d kind i.anchored (tape_of way i.haystack i.start i.end) f.1.place f.1.pattern b.1)
+    let b = over_below way a kind i f.2.pair (sym f.2.reported) in
+    subst (IsPatternOf a) (sym f.2.pattern) (reported_own a d kind i.anchored (tape_of way i.haystack i.start i.end) f.2.pair.place f.2.pair.pattern b.1)
 
 pub reported_lies : (a : Automaton) → IsChecked a → ReportedLiesWithin a
 reported_lies a d way kind input half few f =
@@ -192,9 +192,9 @@ offset_lies a d way kind input pairs pair ahead few reported i =
     )
 
 pub walk_lies : (a : Automaton) → IsChecked a → WalkLiesWithin a
-walk_lies a d way kind input found pair few (inl (done, e)) i = absurd (subst (InPairs pair) e i)
-walk_lies a d way kind input found pair few (inr (ahead, (pairs, reported, inl (skips, e)))) i =
+walk_lies a d way kind input found pair few (WalksNoSpan done e) i = absurd (subst (InPairs pair) e i)
+walk_lies a d way kind input found pair few (WalksSpan ahead pairs reported (SkipsSplit skips e)) i =
     offset_lies a d way kind input pairs pair ahead few reported
     (in_unsplit input.haystack pair (with_offsets way input pairs) (subst (InPairs pair) e i)).0
-walk_lies a d way kind input found pair few (inr (ahead, (pairs, reported, inr (whole, e)))) i =
+walk_lies a d way kind input found pair few (WalksSpan ahead pairs reported (KeepsSplit whole e)) i =
     offset_lies a d way kind input pairs pair ahead few reported (subst (InPairs pair) e i)

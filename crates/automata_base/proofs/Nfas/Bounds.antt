@@ -1,15 +1,12 @@
 -- Bytes that ranges, and the states of a list, do not read.
-use Rattle.std.proofs.Common.{ℕ, ◌≡◌, ◌<◌, ◌≤◌, ◌+◌, ◌⊎◌, ◌&&◌, Bool, true, false, cond, leb, List, [], ◌∷◌, ◌++◌, Option, Some, None}
-use Rattle.std.proofs.Common.{length, get_or, drop, refl, sym, ap, ◌∙◌, subst, arith}
-use Rattle.std.proofs.lemmas.Bool.Decides.{nat_tests}
-use Rattle.std.proofs.lemmas.List.{at_drop_more, drop_all}
-use Rattle.automata_base.specs.Haystacks.Looks.{within}
-use Rattle.automata_base.specs.Lists.{In, cons_some, pick}
+use Rattle.std.proofs.Common.{ℕ, ◌≡◌, ◌<◌, ◌+◌, List, [], Some, None}
+use Rattle.std.proofs.Common.{length, get_or, drop, sym, ap, ◌∙◌}
+use Rattle.automata_base.specs.Lists.{cons_some}
 use Rattle.automata_base.specs.Nfas.Nfa.{Nfa, Node, node, takes, takes_at, takes_in}
 use Rattle.automata_base.specs.Nfas.Nodes.{ranges_of}
 use Rattle.automata_base.specs.Powersets.Cuts.{targets}
 use Rattle.automata_base.specs.declared.nfa.thompson.Transition.{Transition}
-use Rattle.automata_base.proofs.Powersets.Keeping.{next_drop, pick_next}
+use Rattle.automata_base.proofs.Powersets.Keeping.{pick_next}
 
 -- Ranges do not read a byte if those from an index on do not.
 abbrev pub Skips : List Transition → (i u : ℕ) → Type 0

@@ -6,7 +6,7 @@ use Rattle.automata_base.specs.Nfas.Nfa.{Nfa}
 use Rattle.automata_base.specs.Paths.Order.{Before, Upto}
 use Rattle.automata_base.specs.Paths.Paths.{Tape}
 use Rattle.automata_base.specs.Paths.Selections.{Accepts, IsAllAt, IsFirstAt, ArePatternsAt, Pair, Pairs, IsOverlappingOn}
-use Rattle.automata_base.specs.Paths.Selections.{IsChosen, Selects}
+use Rattle.automata_base.specs.Paths.Selections.{ByEdges, ByPlace, IsChosen, ReportsLeast, ReportsNoneAt, Selects}
 use Rattle.automata_base.specs.Powersets.Cuts.{MatchKind, All, LeftmostFirst}
 
 module _ (n m : Nfa) (t : Tape) (q : ℕ) (R : List ℕ → List ℕ → Type 0)
@@ -21,13 +21,13 @@ module _ (n m : Nfa) (t : Tape) (q : ℕ) (R : List ℕ → List ℕ → Type 0)
   pub chosen_carried :
       (kind : MatchKind) (earliest : Bool) (i j : ℕ) (a b c d : List ℕ) → R a b → R c d
       → IsChosen kind earliest i a j c → IsChosen kind earliest i b j d
-  chosen_carried All true i j a b c d r s (inl h) = inl h
-  chosen_carried All true i j a b c d r s (inr h) = inr (h.0, upto_carried a b c d r s h.1)
-  chosen_carried LeftmostFirst true i j a b c d r s (inl h) = inl h
-  chosen_carried LeftmostFirst true i j a b c d r s (inr h) = inr (h.0, upto_carried a b c d r s h.1)
+  chosen_carried All true i j a b c d r s (ByPlace h) = ByPlace h
+  chosen_carried All true i j a b c d r s (ByEdges e h) = ByEdges e (upto_carried a b c d r s h)
+  chosen_carried LeftmostFirst true i j a b c d r s (ByPlace h) = ByPlace h
+  chosen_carried LeftmostFirst true i j a b c d r s (ByEdges e h) = ByEdges e (upto_carried a b c d r s h)
   chosen_carried LeftmostFirst false i j a b c d r s h = upto_carried a b c d r s h
-  chosen_carried All false i j a b c d r s (inl h) = inl h
-  chosen_carried All false i j a b c d r s (inr h) = inr (h.0, upto_carried a b c d r s h.1)
+  chosen_carried All false i j a b c d r s (ByPlace h) = ByPlace h
+  chosen_carried All false i j a b c d r s (ByEdges e h) = ByEdges e (upto_carried a b c d r s h)
 
   pub selects_carried :
       (kind : MatchKind) (earliest : Bool) (answer : Option Pair) → Selects kind earliest n t q answer
@@ -59,26 +59,26 @@ module _ (n m : Nfa) (t : Tape) (q : ℕ) (R : List ℕ → List ℕ → Type 0)
   all_carried i ps h = ((λ p path acc. let c = back i p path acc in h.0 p c.0 c.2), sorted_carried i ps h.1)
 
   first_carried : (i : ℕ) (ps : List ℕ) → IsFirstAt n t q i ps → IsFirstAt m t q i ps
-  first_carried i ps (inl h) = inl (
-    h.0,
-    λ p path acc.
-        let c = back i p path acc in
-        let less = h.1 p c.0 c.2 in
-        let d = there less.0 less.1 less.2 less.4 in
-        (less.0, less.1, d.0, less.3, d.2, order less.2 d.0 c.0 path d.1 c.1 less.5),
-  )
-  first_carried i ps (inr h) =
-      let c = there i h.0 h.1 h.3 in
-      inr (
-        h.0,
-        c.0,
-        h.2,
-        c.2,
-        (λ other more acc.
-            let d = back i other more acc in upto_carried h.1 c.0 d.0 more c.1 d.1 (h.4 other d.0 d.2)),
-        (λ j other more l acc.
-            let d = back j other more acc in order h.1 c.0 d.0 more c.1 d.1 (h.5 j other d.0 l d.2)),
-      )
+  first_carried i ps (ReportsNoneAt none h) = ReportsNoneAt none (λ p path acc.
+      let c = back i p path acc in
+      let less = h p c.0 c.2 in
+      let d = there less.place less.pattern less.less less.accepted in record {
+        place = less.place;
+        pattern = less.pattern;
+        less = d.0;
+        earlier = less.earlier;
+        accepted = d.2;
+        before = order less.less d.0 c.0 path d.1 c.1 less.before;
+      })
+  first_carried i ps (ReportsLeast p path one h) =
+      let c = there i p path h.accepted in
+      ReportsLeast p c.0 one (record {
+        accepted = c.2;
+        least = λ other more acc.
+            let d = back i other more acc in upto_carried path c.0 d.0 more c.1 d.1 (h.least other d.0 d.2);
+        first = λ j other more l acc.
+            let d = back j other more acc in order path c.0 d.0 more c.1 d.1 (h.first j other d.0 l d.2);
+      })
 
   patterns_carried : (kind : MatchKind) (i : ℕ) (ps : List ℕ) → ArePatternsAt kind n t q i ps → ArePatternsAt kind m t q i ps
   patterns_carried All i ps h = all_carried i ps h

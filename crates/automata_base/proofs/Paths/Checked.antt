@@ -1,23 +1,18 @@
 -- What the tests of an NFA show.
-use Rattle.std.proofs.Common.{ℕ, zero, suc, ◌≡◌, ◌<◌, ◌+◌, Bool, true, false, cond, not, ltb, List, [], ◌∷◌}
-use Rattle.std.proofs.Common.{length, Option, Some, None, inl, inr, refl, sym, ap, ◌∙◌, subst, arith, true≢false}
+use Rattle.std.proofs.Common.{ℕ, zero, suc, ◌≡◌, ◌<◌, Bool, true, false, cond, ltb, List, [], ◌∷◌}
+use Rattle.std.proofs.Common.{length, Some, inl, inr, refl, sym, subst}
 use Rattle.std.proofs.lemmas.Bool.{ltb-true}
 use Rattle.automata_base.specs.Lists.{In, all_below}
 use Rattle.std.specs.Prelude.{slice_get}
 use Rattle.automata_base.specs.Nfas.Nfa.{Nfa, Node, Split, Assert, Read, Accept, Range, Truth, node, node_or_fail}
-use Rattle.automata_base.specs.Nfas.Nfa.{hop_at, takes_at, takes_in}
+use Rattle.automata_base.specs.Nfas.Nfa.{takes_at, takes_in}
 use Rattle.automata_base.specs.Haystacks.Looks.{within}
-use Rattle.automata_base.specs.Paths.Paths.{Tape, next, next_in, all_true, IsLookAcyclic}
-use Rattle.automata_base.specs.Powersets.Passes.{IsUnit, IsTape}
+use Rattle.automata_base.specs.Paths.Paths.{next}
 use Rattle.automata_base.specs.Powersets.Closure.{children_at}
-use Rattle.automata_base.specs.Retraced.Computed.{is_in, closure_of}
 use Rattle.automata_base.specs.Nfas.Accepted.{IsInRange}
 use Rattle.automata_base.proofs.Paths.Checks.{ranges_below, node_below, nodes_below, is_in_range}
 use Rattle.automata_base.proofs.Paths.Orders.{some_inj, none_some}
-use Rattle.automata_base.proofs.Paths.Sets.{HasWalk}
-use Rattle.automata_base.proofs.Paths.Fuels.{is_in_false, closure_right, AllBelow}
 use Rattle.std.proofs.lemmas.Bool.{and_parts}
-use Rattle.automata_base.proofs.Answers.Empties.{run_walk}
 
 pub below_in : (N : ℕ) (xs : List ℕ) (y : ℕ) → all_below N xs ≡ true → In y xs → y < N
 below_in N [] y e i = absurd i

@@ -1,9 +1,7 @@
 -- Tests of an NFA and of a tape, which compute.
-use Rattle.std.specs.Prelude.{ℕ, suc, Bool, true, not, ◌&&◌, ltb, List, [], ◌∷◌, length, Option, Some, None}
+use Rattle.std.specs.Prelude.{ℕ, Bool, true, ◌&&◌, ltb, List, [], ◌∷◌, length}
 use Rattle.automata_base.specs.Lists.{all_below}
 use Rattle.automata_base.specs.Nfas.Nfa.{Nfa, Node, Split, Assert, Read, Accept, Range}
-use Rattle.automata_base.specs.Paths.Paths.{all_true, Tape}
-use Rattle.automata_base.specs.Retraced.Computed.{is_in, closure_of}
 
 abbrev pub ranges_below : ℕ → List Range → Bool
 ranges_below N [] = true

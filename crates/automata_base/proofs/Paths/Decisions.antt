@@ -1,6 +1,6 @@
 -- A decided list has the byte and match states of the closure under the looks that hold, in its order.
-use Rattle.std.proofs.Common.{ℕ, zero, suc, ◌≡◌, Bool, true, false, cond, List, [], ◌∷◌, ◌↔◌, Option, Some, None, inl}
-use Rattle.std.proofs.Common.{inr, refl, sym, ap, ◌∙◌, subst}
+use Rattle.std.proofs.Common.{ℕ, zero, suc, ◌≡◌, Bool, true, false, cond, List, [], ◌∷◌, ◌↔◌, Option, Some, None}
+use Rattle.std.proofs.Common.{refl, sym, ap, ◌∙◌, subst}
 use Rattle.automata_base.specs.Lists.{In, IsListOf, pick, From}
 use Rattle.automata_base.specs.Haystacks.Looks.{Look, holds}
 use Rattle.automata_base.specs.Nfas.Nfa.{Nfa, Node, Split, Assert, Read, Accept, Truth, node, hop, hop_at, keep, ends}
@@ -8,6 +8,7 @@ use Rattle.automata_base.specs.Nfas.Nfa.{stays_at, ends_at, keeps}
 use Rattle.automata_base.specs.Paths.Paths.{IsPathAt, KeepsCycles, IsClosure}
 use Rattle.automata_base.specs.Powersets.Passes.{IsUnit, Occurs, IsKnownLook, IsNeeded, IsMake, true_looks, IsNews}
 use Rattle.automata_base.specs.Powersets.Passes.{IsDecided}
+use Rattle.automata_base.specs.Powersets.Passes.{HasNews, HasNoNews}
 use Rattle.automata_base.specs.Powersets.Powerset.{Powerset}
 use Rattle.automata_base.proofs.Paths.Orders.{none_some}
 use Rattle.automata_base.proofs.Paths.Walks.{walk_more}
@@ -74,7 +75,7 @@ pub decides_known :
     → ((look : Look) → (K look ≡ true) ↔ IsKnownLook n prev look)
     → IsClosure n K roots C → IsMake n patterns C prev Q → (IsNews n Q u → ⊥)
     → IsListOf (Ending n (From (λ root path q. IsPathAt n (truth_between n prev u) [] root path q) roots)) (pick (ends n) Q.nfa)
-decides_known n K patterns roots C prev u Q unit known c make quiet = subst Goal (sym make.0) here
+decides_known n K patterns roots C prev u Q unit known c make quiet = subst Goal (sym make.nfa) here
   where
     T : Truth
     T = truth_between n prev u
@@ -90,13 +91,13 @@ decides_known n K patterns roots C prev u Q unit known c make quiet = subst Goal
 
     -- A true look at a state that was reached was known.
     reached : (x : ℕ) (key : List ℕ) → From (W K) roots x key → Agrees n T K x
-    reached x key k look next e a = (known look).1 (((make.3 look).0 was_known).1)
+    reached x key k look next e a = (known look).1 (((make.known look).0 was_known).1)
       where
         need : IsNeeded n Q.nfa look
         need = (
           x,
           next,
-          subst (λ v. In x v) (sym make.0)
+          subst (λ v. In x v) (sym make.nfa)
               (picked_in (keep n) C x x (c.0 x key k) (keep_true (keeps n x) x (stays_kept n x (ap stays_at e)))),
           e,
         )
@@ -106,7 +107,7 @@ decides_known n K patterns roots C prev u Q unit known c make quiet = subst Goal
 
         either : (b : Bool) → truth_of Q.known look ≡ b → truth_of Q.known look ≡ true
         either true k = k
-        either false k = absurd (quiet (look, (make.2 look).1 need, shown, k))
+        either false k = absurd (quiet (look, (make.needed look).1 need, shown, k))
 
         was_known : truth_of Q.known look ≡ true
         was_known = either (truth_of Q.known look) refl
@@ -143,10 +144,10 @@ news_closure n patterns C prev u Q L unit make h c =
     closure_agrees n (true_looks n Q u) (truth_between n prev u) (pick (keep n) C) L
     (λ x look next e a. sym (exact look (x, next, e)) ∙ a)
     (λ x look next e a. exact look (x, next, e) ∙ a)
-    (subst (λ v. IsClosure n (true_looks n Q u) v L) make.0 c)
+    (subst (λ v. IsClosure n (true_looks n Q u) v L) make.nfa c)
   where
     exact : (look : Look) → Occurs n look → true_looks n Q u look ≡ truth_between n prev u look
-    exact look o = truths n patterns C prev Q u look make (h.0, (make.2 h.0).0 h.1) o unit
+    exact look o = truths n patterns C prev Q u look make (h.0, (make.needed h.0).0 h.1) o unit
 
 pub decides :
     (n : Nfa) (K : Truth) (patterns roots C : List ℕ) (prev u : Option ℕ) (Q : Powerset) (L : List ℕ)
@@ -154,9 +155,9 @@ pub decides :
     → ((look : Look) → (K look ≡ true) ↔ IsKnownLook n prev look)
     → IsClosure n K roots C → IsMake n patterns C prev Q → IsDecided n Q u L
     → IsListOf (Ending n (From (λ root path q. IsPathAt n (truth_between n prev u) [] root path q) roots)) (pick (ends n) L)
-decides n K patterns roots C prev u Q L free unit known c make (inl h) =
+decides n K patterns roots C prev u Q L free unit known c make (HasNews news h) =
     late n K (truth_between n prev u) roots C L (λ look k. ((known look).0 k).1 u unit) free c
-    (news_closure n patterns C prev u Q L unit make h.0 h.1)
-decides n K patterns roots C prev u Q L free unit known c make (inr h) =
+    (news_closure n patterns C prev u Q L unit make news h)
+decides n K patterns roots C prev u Q L free unit known c make (HasNoNews quiet same) =
     subst (λ v. IsListOf (Ending n (From (λ root path q. IsPathAt n (truth_between n prev u) [] root path q) roots)) (pick (ends n) v))
-    (sym h.1) (decides_known n K patterns roots C prev u Q unit known c make h.0)
+    (sym same) (decides_known n K patterns roots C prev u Q unit known c make quiet)

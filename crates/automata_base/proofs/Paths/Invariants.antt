@@ -9,7 +9,7 @@ use Rattle.automata_base.specs.Paths.Paths.{IsPathAt, Tape, IsPath, truth, prev,
 use Rattle.automata_base.specs.Powersets.Cuts.{MatchKind, All, LeftmostFirst, cut, cut_for, IsOnce, targets}
 use Rattle.automata_base.specs.Powersets.Passes.{IsTape, IsClosureOf, IsDecided, IsSuccessor, IsStart, IsPass}
 use Rattle.automata_base.specs.Powersets.Powerset.{Powerset}
-use Rattle.automata_base.specs.Paths.Selections.{Accepts, IsFirstAt, ArePatternsAt, Reports}
+use Rattle.automata_base.specs.Paths.Selections.{Accepts, IsFirstAt, ArePatternsAt, Reports, ReportsLeast, ReportsNoneAt}
 use Rattle.automata_base.proofs.Paths.Orders.{before_total, before_upto, before_trans}
 use Rattle.automata_base.proofs.Paths.Places.{path_end, accepts_ends}
 use Rattle.automata_base.proofs.Paths.Sift.{same}
@@ -64,7 +64,7 @@ pub means_decided :
     → IsListOf (EndsWithin n t start m.0 i) (pick (ends n) L)
 means_decided kind n t start i Q L free tape_of m d =
     m.5 (pick (ends n) L)
-    (decides n m.3.0 m.1 m.2 m.3.1 (prev t i) (next t i) Q L free (tape_of i) m.3.2 m.3.3 m.3.4 d)
+    (decides n m.3.truth m.1 m.2 m.3.list (prev t i) (next t i) Q L free (tape_of i) m.3.known m.3.closure m.3.made d)
 
 -- What leftmost-first makes of a decided list whose first match state is `o`.
 abbrev pub After : Nfa → Tape → ℕ → ℕ → List ℕ → Option ℕ → Type 0
@@ -91,7 +91,7 @@ after_none n t start i None N l b e = (
   subst (λ v. IsListOf (EndsWithin n t start None i) v) (sym (no_leader n N e)) l,
   later,
   tt,
-  inl (refl, λ pattern path a. absurd (none_within n t start i None N pattern path l e a tt)),
+  ReportsNoneAt refl (λ pattern path a. absurd (none_within n t start i None N pattern path l e a tt)),
 )
   where
     later : (j pattern : ℕ) (path : List ℕ) → j < suc i → Accepts n t start j pattern path → ⊥
@@ -104,7 +104,14 @@ after_none n t start i (Some a) N l b e = (
   subst (λ v. IsListOf (EndsWithin n t start (Some a) i) v) (sym (no_leader n N e)) l,
   (b.0, b.1, omega (arith, b.2), b.3, least),
   (b.0, b.3.0, b.1, b.3.1, b.3.2, omega (arith, b.2)),
-  inl (refl, λ pattern path k. (b.0, b.1, a, b.2, b.3, strictly pattern path k (here pattern path k))),
+  ReportsNoneAt refl (λ pattern path k. record {
+    place = b.0;
+    pattern = b.1;
+    less = a;
+    earlier = b.2;
+    accepted = b.3;
+    before = strictly pattern path k (here pattern path k);
+  }),
 )
   where
     here : (pattern : ℕ) (path : List ℕ) → Accepts n t start i pattern path → Upto a path
@@ -149,7 +156,7 @@ after_some n t start i best N m l b e = (
   same (λ q key. P q key × Before key a) (EndsWithin n t start (Some a) i) (front n N) there back w.4,
   (i, w.2.0, omega arith, mine, least),
   (i, m, w.2.0, w.1.1, w.2.1, omega arith),
-  inr (w.2.0, a, ap (λ o. cons_some o []) w.2.1, mine, here, k.0),
+  ReportsLeast w.2.0 a (ap (λ o. cons_some o []) w.2.1) (record { accepted = mine; least = here; first = k.0 }),
 )
   where
     P : ℕ → List ℕ → Type 0
@@ -259,7 +266,7 @@ pub means_reports :
     → KeepsCycles n → IsTape t → Means kind n t start i P → IsSuccessor n kind P (next t i) Q
     → ArePatternsAt kind n t start i Q.patterns
 means_reports kind n t start i P Q free tape_of m s =
-    subst (λ v. ArePatternsAt kind n t start i v) (sym s.4.4.1)
+    subst (λ v. ArePatternsAt kind n t start i v) (sym s.4.made.patterns)
     (go kind m.0 m.4 (means_decided kind n t start i P s.0 free tape_of m s.2) s.3)
   where
     go :
@@ -273,9 +280,10 @@ means_reports kind n t start i P Q free tape_of m s =
     go LeftmostFirst best b l o = reported_as (after n t start i best (pick (ends n) s.0) l b).4
       where
         reported_as : IsFirstAt n t start i (reported n (leader n (pick (ends n) s.0))) → IsFirstAt n t start i s.1
-        reported_as (inl h) = inl (once_is_none (pick (accepts n) (cut n s.0)) s.1 (patterns_cut n s.0 ∙ h.0) o, h.1)
-        reported_as (inr h) =
-            inr (h.0, h.1, once_is_one (pick (accepts n) (cut n s.0)) s.1 h.0 (patterns_cut n s.0 ∙ h.2) o, h.3, h.4, h.5)
+        reported_as (ReportsNoneAt none h) =
+            ReportsNoneAt (once_is_none (pick (accepts n) (cut n s.0)) s.1 (patterns_cut n s.0 ∙ none) o) h
+        reported_as (ReportsLeast p path one h) =
+            ReportsLeast p path (once_is_one (pick (accepts n) (cut n s.0)) s.1 p (patterns_cut n s.0 ∙ one) o) h
 
 pub pass_means :
     (kind : MatchKind) (n : Nfa) (t : Tape) (start k : ℕ) (Q : Powerset)

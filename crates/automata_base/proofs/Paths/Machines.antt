@@ -16,6 +16,7 @@ use Rattle.automata_base.specs.Paths.Paths.{IsPathAt, Tape, next, IsClosure}
 use Rattle.automata_base.specs.Powersets.Cuts.{MatchKind, cut_for, targets, IsOnce}
 use Rattle.automata_base.specs.Powersets.Passes.{IsUnit, Occurs, IsKnownLook, IsNeeded, IsMake, is_word_look}
 use Rattle.automata_base.specs.Powersets.Passes.{is_crlf_look, true_looks, IsNews, IsDecided, IsClosureOf, IsSuccessor}
+use Rattle.automata_base.specs.Powersets.Passes.{HasNews, HasNoNews}
 use Rattle.automata_base.specs.Powersets.Passes.{IsPass}
 use Rattle.automata_base.specs.Powersets.Powerset.{Powerset}
 use Rattle.automata_base.specs.Paths.Selections.{Reports}
@@ -291,16 +292,19 @@ flag_right n f xs b = (there, back)
         (any_node_from f n.nodes h.1.1.0 h.1.0 h.1.1.1 h.1.1.2 h.1.2) h.2
 
 pub make_right : (n : Nfa) (patterns C : List ℕ) (prev : Option ℕ) → IsMake n patterns C prev (make n patterns C prev)
-make_right n patterns C prev = (
-  refl,
-  refl,
-  (λ look. subst (λ b. (b ≡ true) ↔ IsNeeded n xs look) (sym (truth_of-set_of needs look)) (needed_right n xs look)),
-  (λ look. subst (λ b. (b ≡ true) ↔ (((other : Look) × IsNeeded n xs other) × IsKnownLook n prev look)) (sym (truth_of-set_of knows look)) (known look)),
-  flag_right n is_word_look xs (is_word prev),
-  flag_right n is_crlf_look xs (is_byte (first_half n.reverse) prev),
-  set_of-small knows,
-  set_of-small needs,
-)
+make_right n patterns C prev = record {
+  nfa = refl;
+  patterns = refl;
+  needed = λ look.
+      subst (λ b. (b ≡ true) ↔ IsNeeded n xs look) (sym (truth_of-set_of needs look)) (needed_right n xs look);
+  known = λ look.
+      subst (λ b. (b ≡ true) ↔ (((other : Look) × IsNeeded n xs other) × IsKnownLook n prev look))
+      (sym (truth_of-set_of knows look)) (known look);
+  word = flag_right n is_word_look xs (is_word prev);
+  half = flag_right n is_crlf_look xs (is_byte (first_half n.reverse) prev);
+  known_set = set_of-small knows;
+  needed_set = set_of-small needs;
+}
   where
     xs : List ℕ
     xs = pick (keep n) C
@@ -357,8 +361,16 @@ pub arrive_right :
     (n : Nfa) (patterns roots : List ℕ) (prev : Option ℕ)
     → IsInRange n → AllBelow (length n.nodes) roots
     → IsClosureOf n patterns roots prev (arrive n patterns roots prev) × IsIn n (arrive n patterns roots prev)
-arrive_right n patterns roots prev r b =
-    ((known_looks n prev, C, known_right n prev, c, make_right n patterns C prev), inside)
+arrive_right n patterns roots prev r b = (
+  record {
+    truth = known_looks n prev;
+    known = known_right n prev;
+    list = C;
+    closure = c;
+    made = make_right n patterns C prev;
+  },
+  inside,
+)
   where
     C : List ℕ
     C = closure_of n (known_looks n prev) roots
@@ -421,10 +433,10 @@ decide_right n u Q r b = go (has_news n Q u) refl
         let w = any_look_true f all_looks e in
         let a = and_parts (truth_of Q.needed w.0) (true_looks n Q u w.0 && not (truth_of Q.known w.0)) w.1 in
         let v = and_parts (true_looks n Q u w.0) (not (truth_of Q.known w.0)) a.1 in (
-          inl ((w.0, a.0, v.0, not_true (truth_of Q.known w.0) v.1), c),
+          HasNews (w.0, a.0, v.0, not_true (truth_of Q.known w.0) v.1) c,
           closure_below n (true_looks n Q u) Q.nfa L r b c,
         )
-    go false e = (inr (quiet, refl), b)
+    go false e = (HasNoNews quiet refl, b)
       where
         quiet : IsNews n Q u → ⊥
         quiet h =

@@ -2,14 +2,14 @@
 use Rattle.std.proofs.Common.{ℕ, zero, suc, ◌≡◌, ◌<◌, ◌≤◌, Bool, true, false, List, [], ◌∷◌, ◌⊎◌, length, Option, Some}
 use Rattle.std.proofs.Common.{None, inl, inr, sym, subst, arith, ⊎_elim, eq-or-lt_of_le, le_of_suc-le-suc}
 use Rattle.std.proofs.lemmas.Bool.{cases_lt}
-use Rattle.automata_base.specs.Paths.Order.{Before, Upto}
+use Rattle.automata_base.specs.Paths.Order.{Upto}
 use Rattle.automata_base.specs.Lists.{In}
 use Rattle.std.specs.Prelude.{slice_get}
 use Rattle.automata_base.specs.Nfas.Nfa.{Nfa}
 use Rattle.automata_base.specs.Paths.Paths.{Tape, IsPathFrom, KeepsCycles}
 use Rattle.automata_base.specs.Powersets.Cuts.{MatchKind, All, LeftmostFirst}
 use Rattle.automata_base.specs.Paths.Selections.{Accepts, IsFirstAt, ArePatternsAt, Reports, Pair, Pairs, IsOverlappingOn}
-use Rattle.automata_base.specs.Paths.Selections.{Selects}
+use Rattle.automata_base.specs.Paths.Selections.{ByEdges, ByPlace, IsLeastAt, IsPreferred, ReportsLeast, ReportsNoneAt, Selects}
 use Rattle.automata_base.proofs.Paths.Orders.{cons_head, nil_cons, none_some, upto_before}
 use Rattle.automata_base.specs.Powersets.Passes.{IsTape}
 use Rattle.automata_base.proofs.Paths.Invariants.{pass_reports}
@@ -58,8 +58,9 @@ none_before LeftmostFirst n t start (suc k) f j pattern path l a =
     go (f j l) (none_before LeftmostFirst n t start k (λ j l. f j (omega (arith, l))))
   where
     go : IsFirstAt n t start j [] → ((j pattern : ℕ) (path : List ℕ) → j < k → Accepts n t start j pattern path → ⊥) → ⊥
-    go (inl h) ih = let w = h.1 pattern path a in ih w.0 w.1 w.2 (omega (arith, l, w.3)) w.4
-    go (inr h) ih = nil_cons h.2
+    go (ReportsNoneAt none h) ih =
+        let w = h pattern path a in ih w.place w.pattern w.less (omega (arith, l, w.earlier)) w.accepted
+    go (ReportsLeast p q one h) ih = nil_cons one
 
 -- The first pattern reported at a place is that of the least path there.
 pub head_least :
@@ -74,9 +75,9 @@ head_least All n t start i p rest h = (h.1.0, h.1.1, least)
         (λ (e : other ≡ p). h.1.2 more (subst (λ v. Accepts n t start i v more) e a))
         (λ (k : In other rest). inr (h.1.3 other more k a))
         (h.0 other more a)
-head_least LeftmostFirst n t start i p rest (inl h) = absurd (nil_cons (sym h.0))
-head_least LeftmostFirst n t start i p rest (inr h) =
-    (h.1, subst (λ v. Accepts n t start i v h.1) (sym (cons_head h.2)) h.3, h.4)
+head_least LeftmostFirst n t start i p rest (ReportsNoneAt none h) = absurd (nil_cons (sym none))
+head_least LeftmostFirst n t start i p rest (ReportsLeast q path one h) =
+    (path, subst (λ v. Accepts n t start i v path) (sym (cons_head one)) h.accepted, h.least)
 
 three : (i j : ℕ) → (i < j) ⊎ ((i ≡ j) ⊎ (j < i))
 three i j = ⊎_elim (λ (l : i < j). inl l)
@@ -101,12 +102,12 @@ sel_earliest kind n t start pair rest here f = (w.0, w.1, chosen)
 
     chosen :
         (j pattern : ℕ) (other : List ℕ) → Accepts n t start j pattern other
-        → (pair.place < j) ⊎ ((pair.place ≡ j) × Upto w.0 other)
+        → IsPreferred (pair.place < j) pair.place w.0 j other
     chosen j pattern other a = go (three pair.place j)
       where
-        go : (pair.place < j) ⊎ ((pair.place ≡ j) ⊎ (j < pair.place)) → (pair.place < j) ⊎ ((pair.place ≡ j) × Upto w.0 other)
-        go (inl l) = inl l
-        go (inr (inl e)) = inr (e, w.2 pattern other (subst (λ v. Accepts n t start v pattern other) (sym e) a))
+        go : (pair.place < j) ⊎ ((pair.place ≡ j) ⊎ (j < pair.place)) → IsPreferred (pair.place < j) pair.place w.0 j other
+        go (inl l) = ByPlace l
+        go (inr (inl e)) = ByEdges e (w.2 pattern other (subst (λ v. Accepts n t start v pattern other) (sym e) a))
         go (inr (inr l)) = absurd (none_before kind n t start pair.place f j pattern other l a)
 
 pub sel_all :
@@ -122,53 +123,47 @@ sel_all n t start pair rest here f = (w.0, w.1, chosen)
 
     chosen :
         (j pattern : ℕ) (other : List ℕ) → Accepts n t start j pattern other
-        → (j < pair.place) ⊎ ((pair.place ≡ j) × Upto w.0 other)
+        → IsPreferred (j < pair.place) pair.place w.0 j other
     chosen j pattern other a = go (three pair.place j)
       where
-        go : (pair.place < j) ⊎ ((pair.place ≡ j) ⊎ (j < pair.place)) → (j < pair.place) ⊎ ((pair.place ≡ j) × Upto w.0 other)
+        go : (pair.place < j) ⊎ ((pair.place ≡ j) ⊎ (j < pair.place)) → IsPreferred (j < pair.place) pair.place w.0 j other
         go (inl l) = absurd ((f j l (accepting_inside n t start j pattern other a)).0 pattern other a)
-        go (inr (inl e)) = inr (e, w.2 pattern other (subst (λ v. Accepts n t start v pattern other) (sym e) a))
-        go (inr (inr l)) = inl l
+        go (inr (inl e)) = ByEdges e (w.2 pattern other (subst (λ v. Accepts n t start v pattern other) (sym e) a))
+        go (inr (inr l)) = ByPlace l
 
 -- After the last place at which something is reported every accepting path has one before it.
-abbrev pub Reported : Nfa → Tape → ℕ → Pair → List ℕ → Type 0
-Reported n t start pair reported =
-    (pattern : ℕ) × (path : List ℕ) × (reported ≡ pattern ∷ []) × Accepts n t start pair.place pattern path
-    × ((other : ℕ) (more : List ℕ) → Accepts n t start pair.place other more → Upto path more)
-    × ((j other : ℕ) (more : List ℕ) → j < pair.place → Accepts n t start j other more → Before path more)
-
 upto :
-    (n : Nfa) (t : Tape) (start : ℕ) (pair : Pair) (rest : List ℕ)
-    → ((j : ℕ) → pair.place < j → j ≤ length t.bytes → ArePatternsAt LeftmostFirst n t start j [])
-    → (h : Reported n t start pair (pair.pattern ∷ rest))
-    → (k j pattern : ℕ) (other : List ℕ) → j < k → Accepts n t start j pattern other → Upto h.1 other
-upto n t start pair rest f h zero j pattern other l a = absurd (omega (arith, l))
-upto n t start pair rest f h (suc k) j pattern other l a = go (three pair.place j) (upto n t start pair rest f h k)
+    (n : Nfa) (t : Tape) (start place pattern : ℕ) (path : List ℕ)
+    → ((j : ℕ) → place < j → j ≤ length t.bytes → ArePatternsAt LeftmostFirst n t start j [])
+    → IsLeastAt n t start place pattern path
+    → (k j p : ℕ) (other : List ℕ) → j < k → Accepts n t start j p other → Upto path other
+upto n t start place pattern path f h zero j p other l a = absurd (omega (arith, l))
+upto n t start place pattern path f h (suc k) j p other l a = go (three place j) (upto n t start place pattern path f h k)
   where
     go :
-        (pair.place < j) ⊎ ((pair.place ≡ j) ⊎ (j < pair.place))
-        → ((j pattern : ℕ) (other : List ℕ) → j < k → Accepts n t start j pattern other → Upto h.1 other)
-        → Upto h.1 other
-    go (inr (inl e)) ih = h.4 pattern other (subst (λ v. Accepts n t start v pattern other) (sym e) a)
-    go (inr (inr b)) ih = inr (h.5 j pattern other b a)
-    go (inl b) ih = beyond (f j b (accepting_inside n t start j pattern other a))
+        (place < j) ⊎ ((place ≡ j) ⊎ (j < place))
+        → ((j p : ℕ) (other : List ℕ) → j < k → Accepts n t start j p other → Upto path other)
+        → Upto path other
+    go (inr (inl e)) ih = h.least p other (subst (λ v. Accepts n t start v p other) (sym e) a)
+    go (inr (inr b)) ih = inr (h.first j p other b a)
+    go (inl b) ih = beyond (f j b (accepting_inside n t start j p other a))
       where
-        beyond : IsFirstAt n t start j [] → Upto h.1 other
-        beyond (inl g) =
-            let w = g.1 pattern other a in
-            inr (upto_before h.1 w.2 other (ih w.0 w.1 w.2 (omega (arith, w.3, l)) w.4) w.5)
-        beyond (inr g) = absurd (nil_cons g.2)
+        beyond : IsFirstAt n t start j [] → Upto path other
+        beyond (ReportsNoneAt none g) =
+            let w = g p other a in
+            inr (upto_before path w.less other (ih w.place w.pattern w.less (omega (arith, w.earlier, l)) w.accepted) w.before)
+        beyond (ReportsLeast q least one g) = absurd (nil_cons one)
 
 pub sel_first :
     (n : Nfa) (t : Tape) (start : ℕ) (pair : Pair) (rest : List ℕ)
     → ArePatternsAt LeftmostFirst n t start pair.place (pair.pattern ∷ rest)
     → ((j : ℕ) → pair.place < j → j ≤ length t.bytes → ArePatternsAt LeftmostFirst n t start j [])
     → Selects LeftmostFirst false n t start (Some pair)
-sel_first n t start pair rest (inl h) f = absurd (nil_cons (sym h.0))
-sel_first n t start pair rest (inr h) f = (
-  h.1,
-  subst (λ v. Accepts n t start pair.place v h.1) (sym (cons_head h.2)) h.3,
-  λ j pattern other a. upto n t start pair rest f h (suc (length t.bytes)) j pattern other (let k = accepting_inside n t start j pattern other a in omega (arith, k)) a,
+sel_first n t start pair rest (ReportsNoneAt none h) f = absurd (nil_cons (sym none))
+sel_first n t start pair rest (ReportsLeast p path one h) f = (
+  path,
+  subst (λ v. Accepts n t start pair.place v path) (sym (cons_head one)) h.accepted,
+  λ j pattern other a. upto n t start pair.place p path f h (suc (length t.bytes)) j pattern other (let k = accepting_inside n t start j pattern other a in omega (arith, k)) a,
 )
 
 -- A plain search.

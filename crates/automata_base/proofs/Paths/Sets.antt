@@ -9,6 +9,7 @@ use Rattle.automata_base.specs.Nfas.Nfa.{Nfa, Truth, node, hop, takes, accepts, 
 use Rattle.automata_base.specs.Paths.Paths.{IsPathAt, Tape, IsPath, truth, prev, next, IsClosure}
 use Rattle.automata_base.specs.Powersets.Cuts.{MatchKind, All, LeftmostFirst, cut, cut_for, IsOnce, targets}
 use Rattle.automata_base.specs.Powersets.Passes.{IsUnit, IsTape, IsKnownLook, IsMake, IsClosureOf, IsDecided}
+use Rattle.automata_base.specs.Powersets.Passes.{HasNews, HasNoNews}
 use Rattle.automata_base.specs.Powersets.Passes.{IsSuccessor, IsPass}
 use Rattle.automata_base.specs.Powersets.Powerset.{Powerset}
 use Rattle.automata_base.specs.Paths.Selections.{Accepts, IsNearest, IsFarthest, Reports, Pair}
@@ -75,7 +76,7 @@ pub decides_set :
     → ((look : Look) → (K look ≡ true) ↔ IsKnownLook n prev look)
     → IsClosure n K roots C → IsMake n patterns C prev Q → IsDecided n Q u L
     → IsSet (λ q. (ends n q ≡ Some q) × Reached n (truth_between n prev u) roots q) (pick (ends n) L)
-decides_set n K patterns roots C prev u Q L unit known c make (inr h) = (
+decides_set n K patterns roots C prev u Q L unit known c make (HasNoNews quiet same) = (
   λ q i. let k = sorted_has (Ending n (From W roots)) (pick (ends n) L) q l.1 i in (k.1.0, (k.0, k.1.1)),
   λ q r. l.0 q r.1.0 (r.0, r.1.1),
 )
@@ -84,8 +85,8 @@ decides_set n K patterns roots C prev u Q L unit known c make (inr h) = (
     W root path z = IsPathAt n (truth_between n prev u) [] root path z
 
     l : IsListOf (Ending n (From W roots)) (pick (ends n) L)
-    l = subst (λ v. IsListOf (Ending n (From W roots)) (pick (ends n) v)) (sym h.1) (decides_known n K patterns roots C prev u Q unit known c make h.0)
-decides_set n K patterns roots C prev u Q L unit known c make (inl h) = (from_list, to_list)
+    l = subst (λ v. IsListOf (Ending n (From W roots)) (pick (ends n) v)) (sym same) (decides_known n K patterns roots C prev u Q unit known c make quiet)
+decides_set n K patterns roots C prev u Q L unit known c make (HasNews news h) = (from_list, to_list)
   where
     T : Truth
     T = truth_between n prev u
@@ -94,7 +95,7 @@ decides_set n K patterns roots C prev u Q L unit known c make (inl h) = (from_li
     W A root path z = IsPathAt n A [] root path z
 
     l : IsClosure n T (pick (keep n) C) L
-    l = news_closure n patterns C prev u Q L unit make h.0 h.1
+    l = news_closure n patterns C prev u Q L unit make news h
 
     more : Includes K T
     more look k = ((known look).0 k).1 u unit
@@ -196,7 +197,8 @@ decided_set n t start i Q L tape_of m d =
     (λ q k. let r = s.0 q k in (r.0, (m.3 q).0 r.1), λ q k. s.1 q (k.0, (m.3 q).1 k.1))
   where
     s : IsSet (λ q. (ends n q ≡ Some q) × Reached n (truth n t i) m.1 q) (pick (ends n) L)
-    s = decides_set n m.2.0 m.0 m.1 m.2.1 (prev t i) (next t i) Q L (tape_of i) m.2.2 m.2.3 m.2.4 d
+    s =
+        decides_set n m.2.truth m.0 m.1 m.2.list (prev t i) (next t i) Q L (tape_of i) m.2.known m.2.closure m.2.made d
 
 start_set : (n : Nfa) (t : Tape) (start : ℕ) (q : ℕ) → Reached n (truth n t 0) (start ∷ []) q ↔ IsMet n t start 0 q
 start_set n t start q = (λ r. there r.0 r.1, λ m. (0 ∷ m.0, (start, refl, path_walk n t 0 [] start m.0 0 q refl m.1)))
@@ -278,7 +280,7 @@ pub all_reports_set :
     → IsTape t → MeansSet n t start i P → IsSuccessor n All P (next t i) Q
     → IsSet (λ p. (path : List ℕ) × Accepts n t start i p path) Q.patterns
 all_reports_set n t start i P Q tape_of m s =
-    subst (λ v. IsSet (λ p. (path : List ℕ) × Accepts n t start i p path) v) (sym s.4.4.1) (there, back)
+    subst (λ v. IsSet (λ p. (path : List ℕ) × Accepts n t start i p path) v) (sym s.4.made.patterns) (there, back)
   where
     N : IsSet (EndsMet n t start i) (pick (ends n) s.0)
     N = decided_set n t start i P s.0 tape_of m s.2
@@ -312,7 +314,7 @@ reports_honest All n t start i P Q tape_of m s =
   where
     w : IsSet (λ p. (path : List ℕ) × Accepts n t start i p path) Q.patterns
     w = all_reports_set n t start i P Q tape_of m s
-reports_honest LeftmostFirst n t start i P Q tape_of m s = subst (λ v. IsHonest n t start i v) (sym s.4.4.1) (go (leader n (pick (ends n) s.0)) refl)
+reports_honest LeftmostFirst n t start i P Q tape_of m s = subst (λ v. IsHonest n t start i v) (sym s.4.made.patterns) (go (leader n (pick (ends n) s.0)) refl)
   where
     N : IsSet (EndsMet n t start i) (pick (ends n) s.0)
     N = decided_set n t start i P s.0 tape_of m s.2

@@ -59,16 +59,16 @@ truths n patterns C prev Q u look make need occurs unit = go look occurs
     full = not_empty need.1.0 Q.nfa need.1.2
 
     word_is : (look : Look) × Occurs n look × (is_word_look look ≡ true) → Q.word ≡ is_word prev
-    word_is h = bool_iff Q.word (is_word prev) (λ e. (make.4.0 e).2) (λ e. make.4.1 (full, h, e))
+    word_is h = bool_iff Q.word (is_word prev) (λ e. (make.word.0 e).2) (λ e. make.word.1 (full, h, e))
 
     half_is : (look : Look) × Occurs n look × (is_crlf_look look ≡ true) → Q.half ≡ is_byte (first_half r) prev
-    half_is h = bool_iff Q.half (is_byte (first_half r) prev) (λ e. (make.5.0 e).2) (λ e. make.5.1 (full, h, e))
+    half_is h = bool_iff Q.half (is_byte (first_half r) prev) (λ e. (make.half.0 e).2) (λ e. make.half.1 (full, h, e))
 
     known : (look : Look) → truth_of Q.known look ≡ true → holds t r look prev u ≡ true
-    known look e = ((make.3 look).0 e).1.1 u unit
+    known look e = ((make.known look).0 e).1.1 u unit
 
     knows : (look : Look) → Occurs n look → ((next : Option ℕ) → holds t r look prev next ≡ true) → truth_of Q.known look ≡ true
-    knows look o f = (make.3 look).1 (need, (o, λ next i. f next))
+    knows look o f = (make.known look).1 (need, (o, λ next i. f next))
 
     exact : (look : Look) → decided t r Q.word Q.half look u ≡ holds t r look prev u → Shows n Q prev u look
     exact look e =

@@ -8,9 +8,10 @@ use Rattle.automata_base.specs.Nfas.Nfa.{Nfa, accepts}
 use Rattle.automata_base.specs.Paths.Paths.{IsPathAt, Tape}
 use Rattle.automata_base.specs.Powersets.Cuts.{MatchKind, All, LeftmostFirst, cut_for, IsOnce, targets}
 use Rattle.automata_base.specs.Powersets.Passes.{IsMake, IsNeeded, IsClosureOf, IsDecided, true_looks, IsSuccessor}
+use Rattle.automata_base.specs.Powersets.Passes.{HasNews, HasNoNews}
 use Rattle.automata_base.specs.Powersets.Powerset.{Powerset}
 use Rattle.automata_base.specs.Paths.Selections.{Accepts, Pair, ArePatternsAt, IsFirstAt, Pairs, at_place}
-use Rattle.automata_base.specs.Paths.Selections.{IsOverlappingOn}
+use Rattle.automata_base.specs.Paths.Selections.{IsLeastAt, IsOverlappingOn, IsPreceded, ReportsLeast, ReportsNoneAt}
 use Rattle.automata_base.proofs.Paths.Orders.{some_inj, before_irrefl, before_trans}
 use Rattle.automata_base.proofs.Paths.Places.{path_end}
 use Rattle.automata_base.proofs.Paths.Readings.{list_one}
@@ -32,19 +33,24 @@ accepting_one n t start i a j b path h k =
     let e = path_end n t 0 [] start path i h.0 j k.0 h.1 k.1 in
     (e.0, some_inj (sym h.2 ∙ (ap (λ v. accepts n v) e.1 ∙ k.2)))
 
+-- The least path is preceded by none.
+none_least :
+    (n : Nfa) (t : Tape) (start i pattern : ℕ) (path : List ℕ) → IsPreceded n t start i path → IsLeastAt n t start i pattern path
+    → ⊥
+none_least n t start i pattern path w h =
+    before_irrefl path (before_trans path w.less path (h.first w.place w.pattern w.less w.earlier w.accepted) w.before)
+
 first_one :
     (n : Nfa) (t : Tape) (start i : ℕ) (a b : List ℕ) → IsFirstAt n t start i a → IsFirstAt n t start i b → a ≡ b
-first_one n t start i a b (inl h) (inl k) = h.0 ∙ sym k.0
-first_one n t start i a b (inl h) (inr k) =
-    let w = h.1 k.0 k.1 k.3 in
-    absurd (before_irrefl k.1 (before_trans k.1 w.2 k.1 (k.5 w.0 w.1 w.2 w.3 w.4) w.5))
-first_one n t start i a b (inr h) (inl k) =
-    let w = k.1 h.0 h.1 h.3 in
-    absurd (before_irrefl h.1 (before_trans h.1 w.2 h.1 (h.5 w.0 w.1 w.2 w.3 w.4) w.5))
-first_one n t start i a b (inr h) (inr k) =
-    let s = upto_both h.1 k.1 (h.4 k.0 k.1 k.3) (k.4 h.0 h.1 h.3) in
-    let e = accepting_one n t start i h.0 i k.0 k.1 (subst (λ v. Accepts n t start i h.0 v) s h.3) k.3 in
-    h.2 ∙ (ap (λ v. v ∷ []) e.1 ∙ sym k.2)
+first_one n t start i a b (ReportsNoneAt none h) (ReportsNoneAt none' k) = none ∙ sym none'
+first_one n t start i a b (ReportsNoneAt none h) (ReportsLeast q path one k) =
+    absurd (none_least n t start i q path (h q path k.accepted) k)
+first_one n t start i a b (ReportsLeast p path one h) (ReportsNoneAt none k) =
+    absurd (none_least n t start i p path (k p path h.accepted) h)
+first_one n t start i a b (ReportsLeast p path one h) (ReportsLeast q path' one' k) =
+    let s = upto_both path path' (h.least q path' k.accepted) (k.least p path h.accepted) in
+    let e = accepting_one n t start i p i q path' (subst (λ v. Accepts n t start i p v) s h.accepted) k.accepted in
+    one ∙ (ap (λ v. v ∷ []) e.1 ∙ sym one')
 
 pub at_one :
     (kind : MatchKind) (n : Nfa) (t : Tape) (start i : ℕ) (a b : List ℕ)
@@ -81,47 +87,47 @@ make_one :
     (n : Nfa) (patterns C : List ℕ) (prev : Option ℕ) (A B : Powerset)
     → IsMake n patterns C prev A → IsMake n patterns C prev B → A ≡ B
 make_one n patterns C prev A B a b =
-    powerset_path A B l (a.1 ∙ sym b.1)
-    (same_looks A.known B.known a.6 b.6 (λ look. bool_iff (truth_of A.known look) (truth_of B.known look)
-    (λ e. let w = (a.3 look).0 e in (b.3 look).1 ((w.0.0, subst (λ v. IsNeeded n v w.0.0) l w.0.1), w.1))
-    (λ e. let w = (b.3 look).0 e in (a.3 look).1 ((w.0.0, subst (λ v. IsNeeded n v w.0.0) (sym l) w.0.1), w.1))))
-    (same_looks A.needed B.needed a.7 b.7 (λ look. bool_iff (truth_of A.needed look) (truth_of B.needed look)
-    (λ e. (b.2 look).1 (subst (λ v. IsNeeded n v look) l ((a.2 look).0 e)))
-    (λ e. (a.2 look).1 (subst (λ v. IsNeeded n v look) (sym l) ((b.2 look).0 e)))))
+    powerset_path A B l (a.patterns ∙ sym b.patterns)
+    (same_looks A.known B.known a.known_set b.known_set (λ look. bool_iff (truth_of A.known look) (truth_of B.known look)
+    (λ e. let w = (a.known look).0 e in (b.known look).1 ((w.0.0, subst (λ v. IsNeeded n v w.0.0) l w.0.1), w.1))
+    (λ e. let w = (b.known look).0 e in (a.known look).1 ((w.0.0, subst (λ v. IsNeeded n v w.0.0) (sym l) w.0.1), w.1))))
+    (same_looks A.needed B.needed a.needed_set b.needed_set (λ look. bool_iff (truth_of A.needed look) (truth_of B.needed look)
+    (λ e. (b.needed look).1 (subst (λ v. IsNeeded n v look) l ((a.needed look).0 e)))
+    (λ e. (a.needed look).1 (subst (λ v. IsNeeded n v look) (sym l) ((b.needed look).0 e)))))
     (bool_iff A.word B.word
-    (λ e. let w = a.4.0 e in b.4.1 ((λ f. w.0 (l ∙ f)), w.1, w.2))
-    (λ e. let w = b.4.0 e in a.4.1 ((λ f. w.0 (sym l ∙ f)), w.1, w.2)))
+    (λ e. let w = a.word.0 e in b.word.1 ((λ f. w.0 (l ∙ f)), w.1, w.2))
+    (λ e. let w = b.word.0 e in a.word.1 ((λ f. w.0 (sym l ∙ f)), w.1, w.2)))
     (bool_iff A.half B.half
-    (λ e. let w = a.5.0 e in b.5.1 ((λ f. w.0 (l ∙ f)), w.1, w.2))
-    (λ e. let w = b.5.0 e in a.5.1 ((λ f. w.0 (sym l ∙ f)), w.1, w.2)))
+    (λ e. let w = a.half.0 e in b.half.1 ((λ f. w.0 (l ∙ f)), w.1, w.2))
+    (λ e. let w = b.half.0 e in a.half.1 ((λ f. w.0 (sym l ∙ f)), w.1, w.2)))
   where
     l : A.nfa ≡ B.nfa
-    l = a.0 ∙ sym b.0
+    l = a.nfa ∙ sym b.nfa
 
 pub arrival_one :
     (n : Nfa) (patterns roots : List ℕ) (prev : Option ℕ) (A B : Powerset)
     → IsClosureOf n patterns roots prev A → IsClosureOf n patterns roots prev B → A ≡ B
 arrival_one n patterns roots prev A B a b =
-    make_one n patterns a.1 prev A B a.4 (subst (λ v. IsMake n patterns v prev B) (sym c) b.4)
+    make_one n patterns a.list prev A B a.made (subst (λ v. IsMake n patterns v prev B) (sym c) b.made)
   where
-    k : (look : Look) → a.0 look ≡ true → b.0 look ≡ true
-    k look e = (b.2 look).1 ((a.2 look).0 e)
+    k : (look : Look) → a.truth look ≡ true → b.truth look ≡ true
+    k look e = (b.known look).1 ((a.known look).0 e)
 
-    k' : (look : Look) → b.0 look ≡ true → a.0 look ≡ true
-    k' look e = (a.2 look).1 ((b.2 look).0 e)
+    k' : (look : Look) → b.truth look ≡ true → a.truth look ≡ true
+    k' look e = (a.known look).1 ((b.known look).0 e)
 
-    c : a.1 ≡ b.1
+    c : a.list ≡ b.list
     c =
-        list_one (From (λ root path q. IsPathAt n b.0 [] root path q) roots) a.1 b.1
-        (closure_agrees n a.0 b.0 roots a.1 (λ x look next e. k look) (λ x look next e. k' look) a.3) b.3
+        list_one (From (λ root path q. IsPathAt n b.truth [] root path q) roots) a.list b.list
+        (closure_agrees n a.truth b.truth roots a.list (λ x look next e. k look) (λ x look next e. k' look) a.closure) b.closure
 
 pub decided_one :
     (n : Nfa) (Q : Powerset) (u : Option ℕ) (L M : List ℕ) → IsDecided n Q u L → IsDecided n Q u M → L ≡ M
-decided_one n Q u L M (inl a) (inl b) =
-    list_one (From (λ root path q. IsPathAt n (true_looks n Q u) [] root path q) Q.nfa) L M a.1 b.1
-decided_one n Q u L M (inl a) (inr b) = absurd (b.0 a.0)
-decided_one n Q u L M (inr a) (inl b) = absurd (a.0 b.0)
-decided_one n Q u L M (inr a) (inr b) = a.1 ∙ sym b.1
+decided_one n Q u L M (HasNews news a) (HasNews news' b) =
+    list_one (From (λ root path q. IsPathAt n (true_looks n Q u) [] root path q) Q.nfa) L M a b
+decided_one n Q u L M (HasNews news a) (HasNoNews quiet b) = absurd (quiet news)
+decided_one n Q u L M (HasNoNews quiet a) (HasNews news b) = absurd (quiet news)
+decided_one n Q u L M (HasNoNews quiet a) (HasNoNews quiet' b) = a ∙ sym b
 
 pub succ_one :
     (n : Nfa) (kind : MatchKind) (Q : Powerset) (u : Option ℕ) (A B : Powerset)

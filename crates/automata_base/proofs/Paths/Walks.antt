@@ -4,7 +4,7 @@ use Rattle.std.proofs.Common.{inl, inr, refl, sym, subst, ⊎_elim}
 use Rattle.automata_base.specs.Lists.{In}
 use Rattle.std.specs.Prelude.{slice_get}
 use Rattle.automata_base.specs.Nfas.Nfa.{Nfa, Node, Split, Assert, Read, Accept, Truth, node, hop, hop_at}
-use Rattle.automata_base.specs.Paths.Paths.{IsPathAt, all_true, Run, HasEpsilonPath, LeadsOn}
+use Rattle.automata_base.specs.Paths.Paths.{IsPathAt, all_true, Run}
 use Rattle.automata_base.proofs.Paths.Orders.{none_some}
 use Rattle.automata_base.proofs.Paths.Included.{Includes}
 

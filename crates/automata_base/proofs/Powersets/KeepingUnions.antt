@@ -4,10 +4,11 @@ use Rattle.std.proofs.Common.{true≢false}
 use Rattle.std.specs.Prelude.{slice_get, IsTrue}
 use Rattle.automata_base.specs.declared.nfa.thompson.Data.{Data}
 use Rattle.automata_base.specs.Nfas.Automata.{automaton_of, IsConsistent}
-use Rattle.automata_base.specs.Nfas.Engines.{MatchesEmpty}
+use Rattle.automata_base.specs.Nfas.Engines.{BeginsLazily, MatchesEmpty}
 use Rattle.automata_base.specs.Nfas.Nfa.{Nfa, Assert, node_or_fail, hop_at}
 use Rattle.automata_base.specs.Nfas.Nodes.{nfa_of}
 use Rattle.automata_base.specs.Paths.Paths.{all_true, Run, IsLookAcyclic, KeepsCycles}
+use Rattle.automata_base.proofs.Answers.KeptUnions.{lazily_with}
 use Rattle.automata_base.proofs.Paths.KeptUnions.{acyclic_keeps, unions_keep}
 
 run_with : (n m : Nfa) → n.nodes ≡ m.nodes → (q : ℕ) (path : List ℕ) (z : ℕ) → Run n q path z → Run m q path z
@@ -40,12 +41,17 @@ consistent_with d v w c = record {
   looks = c.looks;
   room = c.room;
   empty = (λ t. matches v w (c.empty.0 t), λ m. c.empty.1 (matches w v m));
-  skips = c.skips;
+  skips = (λ t. lazily v w (c.skips.0 t), λ h. c.skips.1 (lazily w v h));
   acyclic = (λ t. acyclic_with (n v) (n w) refl (c.acyclic.0 t), λ f. c.acyclic.1 (acyclic_with (n w) (n v) refl f));
 }
   where
     n : Bool → Nfa
     n b = nfa_of (automaton_of d b)
+
+    lazily :
+        (a b : Bool) → BeginsLazily (n a) d.start_anchored d.start_unanchored
+        → BeginsLazily (n b) d.start_anchored d.start_unanchored
+    lazily a b h = lazily_with (n a).nodes (n a).terminator (n a).reverse a b d.start_anchored d.start_unanchored h
 
     matches : (a b : Bool) → MatchesEmpty (n a) d.start_pattern.items → MatchesEmpty (n b) d.start_pattern.items
     matches a b m = (m.0, m.1, m.2, m.3, (m.4.0, run_with (n a) (n b) refl m.0 m.4.0 m.1 m.4.1), m.5)

@@ -26,14 +26,15 @@ pub closure_made :
     → IsClosure (nfa_of a) (truth_of known) roots closed → IsMake (nfa_of a) matched closed unit made
     → IsOf a made → length made.nfa ≤ length a.states → IsClosureMade a matched roots unit made
 closure_made a matched roots closed unit known made same closure make is_of few = record {
-  closure = (
-    truth_of known,
-    closed,
-    (λ look. subst (λ b. (b ≡ true) ↔ IsKnownLook (nfa_of a) unit look) (sym (same look)) (known_right (nfa_of a) unit look)),
-    closure,
-    make,
-  );
-  patterns = make.1;
+  closure = record {
+    truth = truth_of known;
+    known = λ look.
+        subst (λ b. (b ≡ true) ↔ IsKnownLook (nfa_of a) unit look) (sym (same look)) (known_right (nfa_of a) unit look);
+    list = closed;
+    closure = closure;
+    made = make;
+  };
+  patterns = make.patterns;
   is_of = is_of;
   few = few;
 }

@@ -2,7 +2,7 @@
 use Rattle.std.proofs.Common.{ℕ, zero, suc, ◌≡◌, ◌<◌, ◌≤◌, ◌⊎◌, ◌↔◌, inl, inr, Bool, true, false, cond, List, [], ◌∷◌}
 use Rattle.std.proofs.Common.{◌++◌, length, Some, refl, sym, ap, ◌∙◌, subst, arith, true≢false, eq-or-lt_of_le}
 use Rattle.std.proofs.Common.{le_of_suc-le-suc}
-use Rattle.automata_base.specs.Answers.Answers.{IsInput, offset_in, with_offsets, without_split}
+use Rattle.automata_base.specs.Answers.Answers.{IsInput, KeepsSplit, SkipsSplit, WalksNoSpan, WalksSpan, offset_in, with_offsets, without_split}
 use Rattle.automata_base.specs.Powersets.Cuts.{MatchKind, All}
 use Rattle.automata_base.specs.Nfas.Accepted.{IsChecked}
 use Rattle.automata_base.specs.Nfas.Engines.{Anchored, IsSkipping, engine_of}
@@ -160,21 +160,28 @@ module _ (a : Automaton) (checked : IsChecked a) (way : Direction) (input : Inpu
       subst (λ (x : Pair). InPairs x (with_offsets way input all)) (sym same) (offsets_in way input (record { pattern = pair.pattern; place = place }) all raw)
 
   accepted : (pair : Pair) → Reached pair → (IsSkipping (engine_of a All) → is_split input.haystack pair.place ≡ false) → IsAccepted way a input start pair
-  accepted pair r free = (r.0, r.1, r.2, r.3, r.4, free)
+  accepted pair r free = record {
+    place = r.0;
+    path = r.1;
+    inside = r.2;
+    accepted = r.3;
+    offset = r.4;
+    whole = free;
+  }
 
   reached : (pair : Pair) → IsAccepted way a input start pair → Reached pair
-  reached pair r = (r.0, r.1, r.2, r.3, r.4)
+  reached pair r = (r.place, r.path, r.inside, r.accepted, r.offset)
 
   pub pairs_accepted : (found : List Pair) → AreReported way a All input found → (pair : Pair) → InPairs pair found ↔ IsAccepted way a input start pair
-  pairs_accepted found (inl (done, e)) pair = absurd (omega (arith, l, done))
-  pairs_accepted found (inr (undone, (pairs, reported, inl (s, e)))) pair =
+  pairs_accepted found (WalksNoSpan done e) pair = absurd (omega (arith, l, done))
+  pairs_accepted found (WalksSpan undone pairs reported (SkipsSplit s e)) pair =
       let same : found ≡ without_split input.haystack (with_offsets way input all) = e ∙ ap (λ (ps : List Pair). without_split input.haystack (with_offsets way input ps)) reported in (
         λ h. (
             let k = in_unsplit input.haystack pair (with_offsets way input all) (subst (InPairs pair) same h) in
             accepted pair (offsets_reached pair k.0) (λ skips. k.1)),
-        λ h. subst (InPairs pair) (sym same) (unsplit_in input.haystack pair (with_offsets way input all) (reached_offsets pair (reached pair h)) (h.5 s)),
+        λ h. subst (InPairs pair) (sym same) (unsplit_in input.haystack pair (with_offsets way input all) (reached_offsets pair (reached pair h)) (h.whole s)),
       )
-  pairs_accepted found (inr (undone, (pairs, reported, inr (n, e)))) pair =
+  pairs_accepted found (WalksSpan undone pairs reported (KeepsSplit n e)) pair =
       let same : found ≡ with_offsets way input all = e ∙ ap (with_offsets way input) reported in (
         λ h. accepted pair (offsets_reached pair (subst (InPairs pair) same h)) (λ skips. absurd (n skips)),
         λ h. subst (InPairs pair) (sym same) (reached_offsets pair (reached pair h)),

@@ -80,19 +80,19 @@ starts_are_right a range below mode prev r = (
 made_needs :
     (n : Nfa) (patterns C : List ℕ) (prev : Option ℕ) (Q : Powerset)
     → IsMake n patterns C prev Q → (look : Look) → truth_of Q.needed look ≡ true → Occurs n look
-made_needs n patterns C prev Q m look e = let w = (m.2 look).0 e in (w.0, w.1, w.3)
+made_needs n patterns C prev Q m look e = let w = (m.needed look).0 e in (w.0, w.1, w.3)
 
 pub successor_needs :
     (a : Automaton) (kind : MatchKind) (q : Powerset) (u : Option ℕ) (r : Powerset)
     → IsSuccessor (nfa_of a) kind q u r → NeedsOwnLooks a r
-successor_needs a kind q u r h = made_needs (nfa_of a) h.1 h.4.1 u r h.4.4
+successor_needs a kind q u r h = made_needs (nfa_of a) h.1 h.4.list u r h.4.made
 
 start_needs :
     (n : Nfa) (start : Option ℕ) (prev : Option ℕ) (r : Powerset)
     → IsStartAt n start prev r → (look : Look) → truth_of r.needed look ≡ true → Occurs n look
 start_needs n None prev r h look e =
     absurd (true≢false (sym e ∙ (ap (λ (q : Powerset). truth_of q.needed look) h ∙ truth_of_none look)))
-start_needs n (Some s) prev r h look e = made_needs n [] h.1 prev r h.4 look e
+start_needs n (Some s) prev r h look e = made_needs n [] h.list prev r h.made look e
 
 pub start_of_needs :
     (a : Automaton) (mode : Anchored) (prev : Option ℕ) (r : Powerset) → IsStartOf a mode prev r → NeedsOwnLooks a r

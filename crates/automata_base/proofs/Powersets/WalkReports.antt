@@ -2,8 +2,8 @@
 use Rattle.std.proofs.Common.{ℕ, zero, suc, ◌≡◌, ◌<◌, ◌≤◌, ◌⊎◌, ◌↔◌, inl, inr, Bool, true, false, List, [], ◌++◌}
 use Rattle.std.proofs.Common.{length, Option, Some, None, refl, sym, ap, ap₂, ◌∙◌, subst, arith}
 use Rattle.std.specs.Prelude.{IsTrue}
-use Rattle.automata_base.specs.Answers.Answers.{AreUnsplit, IsInput, IsOverlappingFrom, OverlapsOver, Walks}
-use Rattle.automata_base.specs.Answers.Answers.{with_offsets, without_split}
+use Rattle.automata_base.specs.Answers.Answers.{AreUnsplit, IsInput, IsOverlappingFrom, KeepsSplit, OverlapsOver, SkipsSplit, Walks}
+use Rattle.automata_base.specs.Answers.Answers.{WalksNoSpan, WalksSpan, with_offsets, without_split}
 use Rattle.automata_base.specs.Powersets.Cuts.{MatchKind}
 use Rattle.automata_base.specs.Nfas.Accepted.{IsChecked}
 use Rattle.automata_base.specs.Nfas.Engines.{Anchored, IsSkipping, engine_of, first_state}
@@ -65,26 +65,26 @@ turn_walks :
     (T U : Input → List Pair → Type 0) (S : Type 0) (way : Direction) (input : Input) (found : List Pair)
     → ((pairs : List Pair) → input.start ≤ input.end → T input pairs → U input pairs)
     → Walks T S way input found → Walks U S way input found
-turn_walks T U S way input found turn (inl h) = inl h
-turn_walks T U S way input found turn (inr (l, (pairs, reported, unsplit))) = inr (l, (pairs, turn pairs l reported, unsplit))
+turn_walks T U S way input found turn (WalksNoSpan l e) = WalksNoSpan l e
+turn_walks T U S way input found turn (WalksSpan l pairs reported unsplit) = WalksSpan l pairs (turn pairs l reported) unsplit
 
 unsplit_once :
     (S : Type 0) (way : Direction) (input : Input) (x y a b : List Pair)
     → x ≡ y → AreUnsplit S way input x a → AreUnsplit S way input y b → a ≡ b
-unsplit_once S way input x y a b e (inl h) (inl k) =
-    h.1 ∙ (ap (λ (ps : List Pair). without_split input.haystack (with_offsets way input ps)) e ∙ sym k.1)
-unsplit_once S way input x y a b e (inl h) (inr k) = absurd (k.0 h.0)
-unsplit_once S way input x y a b e (inr h) (inl k) = absurd (h.0 k.0)
-unsplit_once S way input x y a b e (inr h) (inr k) = h.1 ∙ (ap (with_offsets way input) e ∙ sym k.1)
+unsplit_once S way input x y a b e (SkipsSplit s h) (SkipsSplit s' k) =
+    h ∙ (ap (λ (ps : List Pair). without_split input.haystack (with_offsets way input ps)) e ∙ sym k)
+unsplit_once S way input x y a b e (SkipsSplit s h) (KeepsSplit n k) = absurd (n s)
+unsplit_once S way input x y a b e (KeepsSplit n h) (SkipsSplit s k) = absurd (n s)
+unsplit_once S way input x y a b e (KeepsSplit n h) (KeepsSplit n' k) = h ∙ (ap (with_offsets way input) e ∙ sym k)
 
 pub walks_once :
     (T : Input → List Pair → Type 0) (S : Type 0) (way : Direction) (input : Input) (a b : List Pair)
     → ((x y : List Pair) → T input x → T input y → x ≡ y)
     → Walks T S way input a → Walks T S way input b → a ≡ b
-walks_once T S way input a b once (inl h) (inl k) = h.1 ∙ sym k.1
-walks_once T S way input a b once (inl h) (inr k) = absurd (omega (arith, h.0, k.0))
-walks_once T S way input a b once (inr h) (inl k) = absurd (omega (arith, h.0, k.0))
-walks_once T S way input a b once (inr (l, (x, t, u))) (inr (l', (y, t', u'))) = unsplit_once S way input x y a b (once x y t t') u u'
+walks_once T S way input a b once (WalksNoSpan l e) (WalksNoSpan l' e') = e ∙ sym e'
+walks_once T S way input a b once (WalksNoSpan l e) (WalksSpan l' y t u) = absurd (omega (arith, l, l'))
+walks_once T S way input a b once (WalksSpan l x t u) (WalksNoSpan l' e) = absurd (omega (arith, l, l'))
+walks_once T S way input a b once (WalksSpan l x t u) (WalksSpan l' y t' u') = unsplit_once S way input x y a b (once x y t t') u u'
 
 pub walks_one : WalksAreOne
 walks_one way a kind input first second h k =
@@ -114,8 +114,8 @@ skips_or_not a kind true true u e = inl (sym u, e.0 refl)
 unsplit_all :
     (S : Type 0) (way : Direction) (input : Input) (pairs : List Pair)
     → S ⊎ (S → ⊥) → (found : List Pair) × AreUnsplit S way input pairs found
-unsplit_all S way input pairs (inl s) = (without_split input.haystack (with_offsets way input pairs), inl (s, refl))
-unsplit_all S way input pairs (inr n) = (with_offsets way input pairs, inr (n, refl))
+unsplit_all S way input pairs (inl s) = (without_split input.haystack (with_offsets way input pairs), SkipsSplit s refl)
+unsplit_all S way input pairs (inr n) = (with_offsets way input pairs, KeepsSplit n refl)
 
 pub walks_reported :
     (a : Automaton) (utf8 empty : Bool) → utf8 ≡ a.flags.utf8 → (IsTrue empty ↔ HasEmpty a) → WalksAreReported a
@@ -125,9 +125,9 @@ walks_reported a utf8 empty u e way kind input = go (done_or_open input.start in
     done_or_open s t = grind arith
 
     go : (input.end < input.start) ⊎ (input.start ≤ input.end) → (found : List Pair) × AreReported way a kind input found
-    go (inl l) = ([], inl (l, refl))
+    go (inl l) = ([], WalksNoSpan l refl)
     go (inr l) =
         let t : Tape = tape_of way input.haystack input.start input.end in
         let all : List Pair = pairs_reported a kind input.anchored t (suc (length t.bytes)) in
         let f = unsplit_all (IsSkipping (engine_of a kind)) way input all (skips_or_not a kind utf8 empty u e) in
-        (f.0, inr (l, (all, refl, f.1)))
+        (f.0, WalksSpan l all refl f.1)

@@ -36,12 +36,13 @@ abbrev pub IsSplit : (Reports : Input → Option Pair → Type 0) → Direction 
 IsSplit Reports way input =
     (pair : Pair) × Reports input (Some pair) × (is_split input.haystack (offset_in way input pair.place) ≡ true)
 
--- The search comes to try the span that begins `k` places later: over all the spans before it a split place was
--- reported, and only an unanchored search that skips goes on after one.
-abbrev pub Tries : (Reports : Input → Option Pair → Type 0) → (skipping : Type 0) → Direction → Input → ℕ → Type 0
-Tries Reports skipping way input k =
-    ((k ≡ 0) ⊎ (skipping × (input.anchored ≡ No)))
-    × ((j : ℕ) → j < k → (input.start + j ≤ input.end) × IsSplit Reports way (later way j input))
+-- The search comes to try the span that begins `k` places later.
+pub record Tries (Reports : Input → Option Pair → Type 0) (skipping : Type 0) (way : Direction) (input : Input)
+    (k : ℕ) : Type 0 where
+  -- it is the first span, or an unanchored search that skips split places goes on after them
+  pub comes : (k ≡ 0) ⊎ (skipping × (input.anchored ≡ No))
+  -- over all the spans before it a split place was reported
+  pub before : (j : ℕ) → j < k → (input.start + j ≤ input.end) × IsSplit Reports way (later way j input)
 
 -- A pattern, the offset where its path ends, and the start of the span that gave it.
 pub record Half : Type 0 where
@@ -52,21 +53,44 @@ pub record Half : Type 0 where
   -- where the span begins that gave it: after the input's start only if offsets inside a character were skipped
   pub base : ℕ
 
+-- Why a search has no answer that comes to try the span `k` places later.
+pub data HasNoAnswerAt (Reports : Input → Option Pair → Type 0) (skipping : Type 0) (way : Direction) (input : Input)
+    (k : ℕ) : Type 0 where
+  -- the span is done
+  SpanIsDone : input.end < input.start + k → HasNoAnswerAt Reports skipping way input k
+  -- nothing is reported over it
+  SpanReportsNone : Reports (later way k input) None → HasNoAnswerAt Reports skipping way input k
+  -- what is reported over it is split, and an anchored search tries no other span
+  StopsAtSplit :
+      skipping → (input.anchored ≡ No → ⊥) → IsSplit Reports way (later way k input)
+      → HasNoAnswerAt Reports skipping way input k
+
+-- A search has this answer that comes to try the span `k` places later.
+pub record HasAnswerAt (Reports : Input → Option Pair → Type 0) (skipping : Type 0) (way : Direction) (input : Input)
+    (k : ℕ) (half : Half) : Type 0 where
+  -- what is reported over the span
+  pub pair : Pair
+  -- the span is not done
+  pub within : input.start + k ≤ input.end
+  -- that is reported over it
+  pub reported : Reports (later way k input) (Some pair)
+  -- it is not split, if split places are skipped
+  pub whole : skipping → is_split input.haystack (offset_in way (later way k input) pair.place) ≡ false
+  -- the answer has its pattern
+  pub pattern : half.pattern ≡ pair.pattern
+  -- the answer has the offset of its place
+  pub offset : half.offset ≡ offset_in way (later way k input) pair.place
+  -- the answer has the start of the span
+  pub base : half.base ≡ (later way k input).start
+
 -- What is reported over the first span for which that is nothing or not split. If split places are skipped, an anchored
 -- search has an answer over its first span alone.
 abbrev pub Answers :
     (Reports : Input → Option Pair → Type 0) → (skipping : Type 0) → Direction → Input → Option Half → Type 0
 Answers Reports skipping way input None =
-    (k : ℕ) × Tries Reports skipping way input k
-    × ((input.end < input.start + k)
-    ⊎ (Reports (later way k input) None
-    ⊎ (skipping × (input.anchored ≡ No → ⊥) × IsSplit Reports way (later way k input))))
+    (k : ℕ) × Tries Reports skipping way input k × HasNoAnswerAt Reports skipping way input k
 Answers Reports skipping way input (Some half) =
-    (k : ℕ) × (pair : Pair) × Tries Reports skipping way input k × (input.start + k ≤ input.end)
-    × Reports (later way k input) (Some pair)
-    × (skipping → is_split input.haystack (offset_in way (later way k input) pair.place) ≡ false)
-    × (half.pattern ≡ pair.pattern) × (half.offset ≡ offset_in way (later way k input) pair.place)
-    × (half.base ≡ (later way k input).start)
+    (k : ℕ) × Tries Reports skipping way input k × HasAnswerAt Reports skipping way input k half
 
 -- What a search answers, by paths.
 abbrev pub IsAnswer : Direction → Engine → Input → Option Half → Type 0
@@ -89,17 +113,24 @@ IsOverlappingFrom d t None pairs = pairs ≡ []
 IsOverlappingFrom d t (Some q) pairs = IsOverlappingOn d.kind d.nfa t q pairs
 
 -- These pairs by their offsets, without the split ones if they are skipped.
-abbrev pub AreUnsplit : (skipping : Type 0) → Direction → Input → (pairs found : List Pair) → Type 0
-AreUnsplit skipping way input pairs found =
-    (skipping × (found ≡ without_split input.haystack (with_offsets way input pairs)))
-    ⊎ ((skipping → ⊥) × (found ≡ with_offsets way input pairs))
+pub data AreUnsplit (skipping : Type 0) (way : Direction) (input : Input) (pairs found : List Pair) : Type 0 where
+  -- split places are skipped
+  SkipsSplit :
+      skipping → found ≡ without_split input.haystack (with_offsets way input pairs)
+      → AreUnsplit skipping way input pairs found
+  -- they are not skipped
+  KeepsSplit :
+      (skipping → ⊥) → found ≡ with_offsets way input pairs → AreUnsplit skipping way input pairs found
 
--- The whole list of a walk: what is reported over the span, and nothing over one that is done.
-abbrev pub Walks : (Reports : Input → List Pair → Type 0) → (skipping : Type 0) → Direction → Input → List Pair → Type 0
-Walks Reports skipping way input found =
-    ((input.end < input.start) × (found ≡ []))
-    ⊎ ((input.start ≤ input.end)
-    × ((pairs : List Pair) × Reports input pairs × AreUnsplit skipping way input pairs found))
+-- The whole list of a walk.
+pub data Walks (Reports : Input → List Pair → Type 0) (skipping : Type 0) (way : Direction) (input : Input)
+    (found : List Pair) : Type 0 where
+  -- the span is done, and nothing is reported
+  WalksNoSpan : input.end < input.start → found ≡ [] → Walks Reports skipping way input found
+  -- what is reported over the span, by offsets
+  WalksSpan :
+      input.start ≤ input.end → (pairs : List Pair) → Reports input pairs → AreUnsplit skipping way input pairs found
+      → Walks Reports skipping way input found
 
 -- What the paths over the span of an input report to a walk, which is not done.
 abbrev pub OverlapsOver : Direction → Engine → Input → List Pair → Type 0

@@ -1,6 +1,6 @@
 -- Spans of matches, by paths; and how the search over two DFAs finds them.
 use Rattle.std.specs.Prelude.{ℕ, suc, ◌≡◌, ◌<◌, ◌≤◌, ◌+◌, Bool, false, List, [], ◌∷◌, ◌++◌, ◌⊎◌, Option, Some, None}
-use Rattle.std.specs.Prelude.{is_some}
+use Rattle.std.specs.Prelude.{is_some, IfSome}
 use Rattle.automata_base.specs.Paths.Order.{Begins}
 use Rattle.automata_base.specs.Paths.Paths.{Tape, IsPath}
 use Rattle.automata_base.specs.Paths.Selections.{Accepts, IsChosen}
@@ -35,15 +35,40 @@ in_full input = record input { earliest = false }
 abbrev pub IsMatch : Engine → Input → Bool → Type 0
 IsMatch d input answer = (o : Option Half) × IsAnswer Forward d (in_full input) o × (answer ≡ is_some o)
 
+-- A match is the span of the path that the forward search chose.
+pub record IsSpanOfPath (d : Engine) (input : Input) (m : Match) : Type 0 where
+  -- the answer of the forward search
+  pub half : Half
+  -- it answers that
+  pub answer : IsAnswer Forward d input (Some half)
+  -- the state where the path begins
+  pub first : ℕ
+  -- it is the first state of the input's anchored mode
+  pub is_first : first_state d input.anchored ≡ Some first
+  -- how many bytes the path reads
+  pub length : ℕ
+  -- they are those from the base of the answer to its offset
+  pub ends : half.offset ≡ half.base + length
+  -- the path, by the numbers of its edges
+  pub path : List ℕ
+  -- the search chose it
+  pub chosen :
+      Chooses d input.earliest (forward_tape input.haystack half.base input.end) first length half.pattern path
+  -- how many bytes the path reads before its match begins
+  pub before : ℕ
+  -- its match begins there
+  pub begins : IsPathStart d input.anchored (forward_tape input.haystack half.base input.end) path before
+  -- the match has the pattern of the answer
+  pub pattern : m.pattern ≡ half.pattern
+  -- it starts where the match of the path begins
+  pub start : m.start ≡ half.base + before
+  -- it ends at the offset of the answer
+  pub end : m.end ≡ half.offset
+
 -- The match of an input: the pattern and end that the forward search answers, from the start of the path that it chose.
 abbrev pub IsSpan : Engine → Input → Option Match → Type 0
 IsSpan d input None = IsAnswer Forward d input None
-IsSpan d input (Some m) =
-    (half : Half) × (q i place : ℕ) × (path : List ℕ)
-    × IsAnswer Forward d input (Some half) × (first_state d input.anchored ≡ Some q) × (half.offset ≡ half.base + i)
-    × Chooses d input.earliest (forward_tape input.haystack half.base input.end) q i half.pattern path
-    × IsPathStart d input.anchored (forward_tape input.haystack half.base input.end) path place
-    × (m.pattern ≡ half.pattern) × (m.start ≡ half.base + place) × (m.end ≡ half.offset)
+IsSpan d input (Some m) = IsSpanOfPath d input m
 
 -- The start is where the forward search began, and no reverse search is made: the match is empty there, or the
 -- search is anchored by its mode or by its NFA.
@@ -55,25 +80,44 @@ abbrev pub back : Input → Half → Input
 back input half =
     record { haystack = input.haystack; start = half.base; end = half.offset; anchored = Yes; earliest = false }
 
--- The start of the match that a forward answer ends: where its span began, or what the search back finds; none if that
--- finds nothing. `Backs` says what the search back finds.
+-- The match that a forward answer ends has this start. `Backs` says what the search back finds.
+pub data HasStartBy (Backs : Input → Option Half → Type 0) (f : Engine) (input : Input) (half : Half) (start : ℕ) :
+    Type 0 where
+  -- no search back is made, and it is where the span began
+  StartIsBase : IsShort f input half → start ≡ half.base → HasStartBy Backs f input half start
+  -- the search back finds it
+  StartIsFound :
+      (IsShort f input half → ⊥) → (found : Half) → Backs (back input half) (Some found) → start ≡ found.offset
+      → HasStartBy Backs f input half start
+
+-- The start of the match that a forward answer ends; none if the search back finds nothing.
 abbrev pub FindsStartBy : (Backs : Input → Option Half → Type 0) → Engine → Input → Half → Option ℕ → Type 0
 FindsStartBy Backs f input half None = (IsShort f input half → ⊥) × Backs (back input half) None
-FindsStartBy Backs f input half (Some start) =
-    (IsShort f input half × (start ≡ half.base))
-    ⊎ ((IsShort f input half → ⊥) × ((found : Half) × Backs (back input half) (Some found) × (start ≡ found.offset)))
+FindsStartBy Backs f input half (Some start) = HasStartBy Backs f input half start
 
 -- A match or none; or the two are no pair, since the search back finds no start.
 pub data Outcome : Type 0 where
   Found : Option Match → Outcome
   NotAPair : Outcome
 
+-- A match is what the search forward and the one back find.
+pub record IsMatchBy (Fronts Backs : Input → Option Half → Type 0) (f : Engine) (input : Input) (m : Match) :
+    Type 0 where
+  -- what the search forward finds
+  pub half : Half
+  -- it finds that
+  pub front : Fronts input (Some half)
+  -- the start of the match that ends there
+  pub start : FindsStartBy Backs f input half (Some m.start)
+  -- the match has the pattern of what is found
+  pub pattern : m.pattern ≡ half.pattern
+  -- it ends at the offset of what is found
+  pub end : m.end ≡ half.offset
+
 -- What a search over a forward and a reverse DFA returns, by what the search forward and the one back find.
 abbrev pub ReportsBy : (Fronts Backs : Input → Option Half → Type 0) → Engine → Input → Outcome → Type 0
 ReportsBy Fronts Backs f input (Found None) = Fronts input None
-ReportsBy Fronts Backs f input (Found (Some m)) =
-    (half : Half) × Fronts input (Some half) × FindsStartBy Backs f input half (Some m.start)
-    × (m.pattern ≡ half.pattern) × (m.end ≡ half.offset)
+ReportsBy Fronts Backs f input (Found (Some m)) = IsMatchBy Fronts Backs f input m
 ReportsBy Fronts Backs f input NotAPair =
     (half : Half) × Fronts input (Some half) × FindsStartBy Backs f input half None
 
@@ -97,16 +141,17 @@ from start input = record input { start = start }
 abbrev pub IsEmptyAt : Option ℕ → Match → Type 0
 IsEmptyAt last m = (m.start ≡ m.end) × (last ≡ Some m.end)
 
--- The next match of an iteration that stands at `start`, after a match that ended at `last`: an empty one at `last` is
--- replaced by that of the search one place later. `Finds` says what a search finds.
-abbrev pub IsNextItem : (Finds : Input → Option Match → Type 0) → Input → ℕ → Option ℕ → Option Match → Type 0
-IsNextItem Finds input start last None =
-    Finds (from start input) None
-    ⊎ ((m : Match) × Finds (from start input) (Some m) × IsEmptyAt last m × Finds (from (suc start) input) None)
-IsNextItem Finds input start last (Some found) =
-    (Finds (from start input) (Some found) × (IsEmptyAt last found → ⊥))
-    ⊎ ((m : Match) × Finds (from start input) (Some m) × IsEmptyAt last m
-    × Finds (from (suc start) input) (Some found))
+-- The next match of an iteration that stands at `start`, after a match that ended at `last`. `Finds` says what a
+-- search finds.
+pub data IsNextItem (Finds : Input → Option Match → Type 0) (input : Input) (start : ℕ) (last : Option ℕ)
+    (item : Option Match) : Type 0 where
+  -- the search finds it, and it is not empty at the last end
+  FindsHere :
+      Finds (from start input) item → IfSome item (λ m. IsEmptyAt last m → ⊥) → IsNextItem Finds input start last item
+  -- the search finds an empty match at the last end, and the search one place later finds it
+  FindsLater :
+      (m : Match) → Finds (from start input) (Some m) → IsEmptyAt last m → Finds (from (suc start) input) item
+      → IsNextItem Finds input start last item
 
 -- The matches of an iteration from there on.
 abbrev pub AreMatches : (Finds : Input → Option Match → Type 0) → Input → ℕ → Option ℕ → List Match → Type 0
@@ -136,8 +181,19 @@ AreFound f r input ms = AreMatches (TryFinds f r) input input.start None ms
 abbrev pub FindsSpan : Engine → Input → Outcome → Type 0
 FindsSpan f input outcome = (answer : Option Match) × (outcome ≡ Found answer) × IsSpan f input answer
 
+-- A match comes after the last end, in a span that ends here.
+pub record ComesAfter (last end : ℕ) (m : Match) : Type 0 where
+  -- it starts at the last end or after it
+  pub from : last ≤ m.start
+  -- it does not end before it starts
+  pub ordered : m.start ≤ m.end
+  -- it ends after the last end
+  pub past : last < m.end
+  -- it ends in the span
+  pub within : m.end ≤ end
+
 -- Each match starts at or after the last end and ends after it, in the span.
 abbrev pub Rise : (end : ℕ) → Option ℕ → List Match → Type 0
 Rise end last [] = Unit {0}
 Rise end None (m ∷ ms) = (m.start ≤ m.end) × (m.end ≤ end) × Rise end (Some m.end) ms
-Rise end (Some e) (m ∷ ms) = (e ≤ m.start) × (m.start ≤ m.end) × (e < m.end) × (m.end ≤ end) × Rise end (Some m.end) ms
+Rise end (Some e) (m ∷ ms) = ComesAfter e end m × Rise end (Some m.end) ms

@@ -10,12 +10,19 @@ abbrev pub Joins : Direction → Engine → List ℕ → (i j pattern : ℕ) →
 Joins way d h i j pattern = (path : List ℕ) × Accepts d.nfa (tape_of way h i j) d.anchored (j - i) pattern path
 
 -- Over every haystack the two accept the same, each in its direction.
-abbrev pub IsTruePair : Engine → Engine → Type 0
-IsTruePair f r =
-    (r.kind ≡ All) × (f.utf8 ≡ r.utf8) × (HasEmptyMatch f ↔ HasEmptyMatch r)
-    × ((h : List ℕ) (i j pattern : ℕ) → IsHaystack h → i ≤ j → j ≤ length h
-    → Joins Forward f h i j pattern ↔ Joins Backward r h i j pattern)
-    × BeginsLazily f.nfa f.anchored f.unanchored
+pub record IsTruePair (f r : Engine) : Type 0 where
+  -- the reverse one searches under `MatchKind::All`
+  pub all : r.kind ≡ All
+  -- both are in UTF-8 mode, or neither is
+  pub utf8 : f.utf8 ≡ r.utf8
+  -- both have an empty match, or neither has
+  pub empty : HasEmptyMatch f ↔ HasEmptyMatch r
+  -- over every span of a haystack both accept the same patterns
+  pub joins :
+      (h : List ℕ) (i j pattern : ℕ) → IsHaystack h → i ≤ j → j ≤ length h
+      → Joins Forward f h i j pattern ↔ Joins Backward r h i j pattern
+  -- unanchored searches of the forward one begin anchored, or after any bytes, the fewest first
+  pub begins : BeginsLazily f.nfa f.anchored f.unanchored
 
 -- In UTF-8 mode every accepting path of an anchored mode that is not empty reads UTF-8.
 abbrev pub KeepsUtf8 : Direction → Engine → Type 0

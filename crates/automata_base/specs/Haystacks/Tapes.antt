@@ -1,6 +1,6 @@
 -- A haystack, its offsets, and the tapes of its spans. An offset is a position between bytes, from 0 to the length; a
 -- place is a position on a tape, counted from where a search begins.
-use Rattle.std.specs.Prelude.{ℕ, zero, suc, ◌≡◌, ◌<◌, ◌≤◌, ◌+◌, ◌-◌, Bool, false, List, ◌⊎◌, take, drop, reverse}
+use Rattle.std.specs.Prelude.{ℕ, zero, suc, ◌≡◌, ◌<◌, ◌≤◌, ◌+◌, ◌-◌, Bool, false, List, take, drop, reverse}
 use Rattle.std.specs.Prelude.{Option, Some, None, slice_get}
 use Rattle.automata_base.specs.Haystacks.Looks.{within}
 use Rattle.automata_base.specs.Paths.Paths.{Tape, prev, next}
@@ -47,9 +47,12 @@ is_continuation (Some u) = within 128 191 u
 abbrev pub is_split : List ℕ → ℕ → Bool
 is_split h o = is_continuation (slice_get h o)
 
--- The units that a pass reads up to place `m`: the byte before its first place, and the unit at each place.
-abbrev pub ReadsUpto : Tape → ℕ → Option ℕ → Type 0
-ReadsUpto t m v = (v ≡ prev t 0) ⊎ ((j : ℕ) × (j ≤ m) × (v ≡ next t j))
+-- The units that a pass reads up to place `m`.
+pub data ReadsUpto (t : Tape) (m : ℕ) (v : Option ℕ) : Type 0 where
+  -- the byte before its first place
+  ReadsByteBefore : v ≡ prev t 0 → ReadsUpto t m v
+  -- the unit at each place
+  ReadsUnitAt : (j : ℕ) → j ≤ m → v ≡ next t j → ReadsUpto t m v
 
 -- No unit that a pass reads up to place `m` is a quit byte.
 abbrev pub MeetsNone : (quits : ℕ → Bool) → Tape → ℕ → Type 0

@@ -52,13 +52,19 @@ InPairs pair [] = ⊥
 InPairs pair (x ∷ xs) = (pair ≡ x) ⊎ InPairs pair xs
 
 -- some path of this pattern from the start ends at the place of this offset, which is not skipped
-abbrev pub IsAccepted : Direction → Automaton → Input → (start : ℕ) → Pair → Type 0
-IsAccepted way a input start pair =
-    (place : ℕ) × (path : List ℕ)
-    × (place ≤ length (tape_of way input.haystack input.start input.end).bytes)
-    × Accepts (nfa_of a) (tape_of way input.haystack input.start input.end) start place pair.pattern path
-    × (pair.place ≡ offset_in way input place)
-    × (IsSkipping (engine_of a All) → is_split input.haystack pair.place ≡ false)
+pub record IsAccepted (way : Direction) (a : Automaton) (input : Input) (start : ℕ) (pair : Pair) : Type 0 where
+  -- the place where the path ends
+  pub place : ℕ
+  -- the path, by the numbers of its edges
+  pub path : List ℕ
+  -- the place is in the span
+  pub inside : place ≤ length (tape_of way input.haystack input.start input.end).bytes
+  -- the path ends there in a match of the pattern
+  pub accepted : Accepts (nfa_of a) (tape_of way input.haystack input.start input.end) start place pair.pattern path
+  -- the offset is that of the place
+  pub offset : pair.place ≡ offset_in way input place
+  -- it is not split, if split places are skipped
+  pub whole : IsSkipping (engine_of a All) → is_split input.haystack pair.place ≡ false
 
 -- for every NFA a walk under `MatchKind::All` reports the pairs of all accepting paths
 abbrev pub AllPairsAreReported : Automaton → Type 0

@@ -1,5 +1,5 @@
 -- What is searched with: an NFA, its starts, its UTF-8 flag and a match kind.
-use Rattle.std.specs.Prelude.{ℕ, ◌≡◌, Bool, true, List, [], ◌∷◌, ◌⊎◌, Option, Some, slice_get}
+use Rattle.std.specs.Prelude.{ℕ, ◌≡◌, Bool, true, List, [], ◌∷◌, Option, Some, slice_get}
 use Rattle.automata_base.specs.Lists.{In}
 use Rattle.automata_base.specs.Nfas.Nfa.{Nfa, Node, Split, Read, node, hop, takes, accepts}
 use Rattle.automata_base.specs.Paths.Paths.{all_true, HasEpsilonPath}
@@ -41,9 +41,12 @@ HasEmptyMatch d = MatchesEmpty d.nfa d.starts
 abbrev pub IsSkipping : Engine → Type 0
 IsSkipping d = (d.utf8 ≡ true) × HasEmptyMatch d
 
--- `q` has an edge to `r`, one of a byte or one that reads nothing, looks taken as true.
-abbrev pub HasEdge : Nfa → ℕ → ℕ → Type 0
-HasEdge n q r = ((e : ℕ) × (hop n all_true q e ≡ Some r)) ⊎ ((u : ℕ) × (takes n q u ≡ Some r))
+-- `q` has an edge to `r`, looks taken as true.
+pub data HasEdge (n : Nfa) (q r : ℕ) : Type 0 where
+  -- one that reads nothing
+  FreeEdge : (e : ℕ) → hop n all_true q e ≡ Some r → HasEdge n q r
+  -- one that reads a byte
+  ByteEdge : (u : ℕ) → takes n q u ≡ Some r → HasEdge n q r
 
 -- Such edges lead from `q` over these states to `z`.
 abbrev pub Road : Nfa → ℕ → List ℕ → ℕ → Type 0
@@ -69,10 +72,12 @@ LoopsLazily n anchored unanchored skip =
     (node n unanchored ≡ Split (anchored ∷ skip ∷ [])) × (node n skip ≡ any_byte unanchored)
     × (Reaches n anchored unanchored → ⊥)
 
--- Unanchored searches begin anchored, or after any bytes, the fewest first.
-abbrev pub BeginsLazily : Nfa → (anchored unanchored : ℕ) → Type 0
-BeginsLazily n anchored unanchored =
-    (unanchored ≡ anchored) ⊎ ((skip : ℕ) × LoopsLazily n anchored unanchored skip)
+-- Where unanchored searches begin.
+pub data BeginsLazily (n : Nfa) (anchored unanchored : ℕ) : Type 0 where
+  -- where anchored ones do
+  SharedStart : unanchored ≡ anchored → BeginsLazily n anchored unanchored
+  -- there, or after any bytes, the fewest first
+  LazyLoop : (skip : ℕ) → LoopsLazily n anchored unanchored skip → BeginsLazily n anchored unanchored
 
 -- An NFA, searched under a match kind.
 abbrev pub engine_of : Automaton → MatchKind → Engine

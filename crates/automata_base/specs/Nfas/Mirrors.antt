@@ -14,6 +14,7 @@ use Rattle.automata_base.specs.Nfas.Getters.{SkipsLazily}
 use Rattle.automata_base.specs.Nfas.Nodes.{Automaton, nfa_of}
 use Rattle.automata_base.specs.Retraced.DenseRuns.{ranged_nfa}
 use Rattle.automata_base.specs.Nfas.Accepted.{IsChecked}
+use Rattle.automata_base.specs.Paths.Paths.{Tape}
 use Rattle.automata_base.specs.Paths.Selections.{Accepts}
 use Rattle.automata_base.specs.Haystacks.Tapes.{forward_tape, reverse_tape}
 use Rattle.automata_base.specs.Answers.TruePairs.{IsTruePair}
@@ -190,6 +191,41 @@ pub record IsReversed (a b : Automaton) : Type 0 where
   -- its states are those of the other NFA reversed, the edges of dense states taken as ranges
   pub mirror : IsMirror (ranged_nfa a) (nfa_of b) a.start_anchored b.start_pattern b.start_anchored
 
+-- Searches of the NFA begin at the state.
+abbrev pub IsStart : Automaton → ℕ → Type 0
+IsStart a start = (start ≡ a.start_anchored) ⊎ ((start ≡ a.start_unanchored) ⊎ In start a.start_pattern)
+
+-- A path accepts the pattern at place `i` of the tape.
+abbrev pub Reaches : Automaton → Tape → (start i pattern : ℕ) → Type 0
+Reaches a t start i pattern = (path : List ℕ) × Accepts (nfa_of a) t start i pattern path
+
+-- The NFAs have the same starts and flags, and from each start the same patterns are accepted at the same places. Their
+-- states may differ.
+pub record ReadsAlike (a b : Automaton) : Type 0 where
+  -- they have the same flags
+  pub flags : b.flags ≡ a.flags
+  -- anchored searches begin at the same state
+  pub anchored : b.start_anchored ≡ a.start_anchored
+  -- and so do unanchored ones
+  pub unanchored : b.start_unanchored ≡ a.start_unanchored
+  -- and those for each pattern
+  pub patterns : b.start_pattern ≡ a.start_pattern
+  -- from each start the one accepts what the other accepts
+  pub accepts :
+      (start : ℕ) → IsStart a start → (t : Tape) (i pattern : ℕ)
+      → Reaches a t start i pattern ↔ Reaches b t start i pattern
+  -- both or neither have the empty match, looks taken as true
+  pub empty : MatchesEmpty (nfa_of a) a.start_pattern ↔ MatchesEmpty (nfa_of b) b.start_pattern
+
+-- The NFA `b` reads like `a` reversed.
+pub record IsReversalOf (a b : Automaton) : Type 0 where
+  -- `a` reversed, state by state
+  pub mirror : Automaton
+  -- this is its reversed NFA
+  pub reversed : IsReversed a mirror
+  -- `b` reads like it
+  pub alike : ReadsAlike mirror b
+
 -- The empty match is reached from some pattern's start exactly if it is reached from the anchored start.
 abbrev pub BeginsAlike : Automaton → Type 0
 BeginsAlike a = MatchesEmpty (nfa_of a) a.start_pattern ↔ MatchesEmpty (nfa_of a) (a.start_anchored ∷ [])
@@ -205,10 +241,10 @@ IsReversedByPattern a b =
 
 -- This holds of every reversed NFA.
 abbrev pub PatternsAreReversed : Type 0
-PatternsAreReversed = (a b : Automaton) → IsChecked a → IsReversed a b → IsReversedByPattern a b
+PatternsAreReversed = (a b : Automaton) → IsChecked a → IsReversalOf a b → IsReversedByPattern a b
 
 -- An NFA and its reversed one are a true pair.
 abbrev pub ReversedIsTrue : Type 0
 ReversedIsTrue =
-    (a b : Automaton) (kind : MatchKind) → IsChecked a → IsReversed a b → BeginsAlike a → SkipsLazily a
+    (a b : Automaton) (kind : MatchKind) → IsChecked a → IsReversalOf a b → BeginsAlike a → SkipsLazily a
     → IsTruePair (engine_of a kind) (engine_of b All)

@@ -1,5 +1,5 @@
 -- The answers of a search and a walk, by paths; and what a pass reports.
-use Rattle.std.specs.Prelude.{ℕ, zero, suc, ◌≡◌, ◌<◌, Bool, true, false, List, [], ◌∷◌, ◌++◌, ◌⊎◌, length, Option}
+use Rattle.std.specs.Prelude.{ℕ, zero, suc, ◌≡◌, ◌<◌, Bool, true, false, List, [], ◌∷◌, ◌++◌, length, Option}
 use Rattle.std.specs.Prelude.{Some, None}
 use Rattle.automata_base.specs.Paths.Order.{Before, Upto}
 use Rattle.automata_base.specs.Lists.{IsListOf}
@@ -18,16 +18,41 @@ Accepts n t start i pattern path = (q : ℕ) × IsPath n t start i q path × (ac
 abbrev pub IsAllAt : Nfa → Tape → ℕ → ℕ → List ℕ → Type 0
 IsAllAt n t start i patterns = IsListOf (λ pattern path. Accepts n t start i pattern path) patterns
 
+-- Some accepting path that ends before place `i` is less than this one.
+pub record IsPreceded (n : Nfa) (t : Tape) (start i : ℕ) (path : List ℕ) : Type 0 where
+  -- where it ends
+  pub place : ℕ
+  -- its pattern
+  pub pattern : ℕ
+  -- that path
+  pub less : List ℕ
+  -- it ends before place `i`
+  pub earlier : place < i
+  -- it accepts
+  pub accepted : Accepts n t start place pattern less
+  -- it is less
+  pub before : Before less path
+
+-- An accepting path that ends at place `i` is less than all the others there, and than all that end before.
+pub record IsLeastAt (n : Nfa) (t : Tape) (start i pattern : ℕ) (path : List ℕ) : Type 0 where
+  -- it accepts the pattern
+  pub accepted : Accepts n t start i pattern path
+  -- no path there is less
+  pub least : (other : ℕ) (more : List ℕ) → Accepts n t start i other more → Upto path more
+  -- it is less than every path that ends before
+  pub first : (j other : ℕ) (more : List ℕ) → j < i → Accepts n t start j other more → Before path more
+
 -- Under `MatchKind::LeftmostFirst`: that of the least accepting path that ends there, if it is less than every
 -- accepting path that ends at an earlier place.
-abbrev pub IsFirstAt : Nfa → Tape → ℕ → ℕ → List ℕ → Type 0
-IsFirstAt n t start i patterns =
-    ((patterns ≡ [])
-    × ((pattern : ℕ) (path : List ℕ) → Accepts n t start i pattern path
-    → (j other : ℕ) × (less : List ℕ) × (j < i) × Accepts n t start j other less × Before less path))
-    ⊎ ((pattern : ℕ) × (path : List ℕ) × (patterns ≡ pattern ∷ []) × Accepts n t start i pattern path
-    × ((other : ℕ) (more : List ℕ) → Accepts n t start i other more → Upto path more)
-    × ((j other : ℕ) (more : List ℕ) → j < i → Accepts n t start j other more → Before path more))
+pub data IsFirstAt (n : Nfa) (t : Tape) (start i : ℕ) (patterns : List ℕ) : Type 0 where
+  -- none: each accepting path that ends there has a lesser one that ends before
+  ReportsNoneAt :
+      patterns ≡ [] → ((pattern : ℕ) (path : List ℕ) → Accepts n t start i pattern path → IsPreceded n t start i path)
+      → IsFirstAt n t start i patterns
+  -- that of the least one
+  ReportsLeast :
+      (pattern : ℕ) (path : List ℕ) → patterns ≡ pattern ∷ [] → IsLeastAt n t start i pattern path
+      → IsFirstAt n t start i patterns
 
 -- The patterns that a walk under a match kind reports at place `i`.
 abbrev pub ArePatternsAt : MatchKind → Nfa → Tape → ℕ → ℕ → List ℕ → Type 0
@@ -61,11 +86,19 @@ IsOverlappingOn kind n t start pairs = Pairs (ArePatternsAt kind n t start) (suc
 abbrev pub Reports : MatchKind → Nfa → Tape → ℕ → ℕ → List ℕ → Type 0
 Reports kind n t start i patterns = (Q : Powerset) × IsPass n kind start t (suc i) Q × (Q.patterns ≡ patterns)
 
+-- A path is preferred to another by its place, or at one place by its edges. `better` says that its place is
+-- preferred.
+pub data IsPreferred (better : Type 0) (i : ℕ) (path : List ℕ) (j : ℕ) (other : List ℕ) : Type 0 where
+  -- its place is preferred
+  ByPlace : better → IsPreferred better i path j other
+  -- both end at one place, and the other one is not less
+  ByEdges : i ≡ j → Upto path other → IsPreferred better i path j other
+
 -- Whether the place `i` of a path with that edge list is preferred to `j` of another.
 abbrev pub IsChosen : MatchKind → (earliest : Bool) → ℕ → List ℕ → ℕ → List ℕ → Type 0
-IsChosen kind true i path j other = (i < j) ⊎ ((i ≡ j) × Upto path other)
+IsChosen kind true i path j other = IsPreferred (i < j) i path j other
 IsChosen LeftmostFirst false i path j other = Upto path other
-IsChosen All false i path j other = (j < i) ⊎ ((i ≡ j) × Upto path other)
+IsChosen All false i path j other = IsPreferred (j < i) i path j other
 
 -- What a search over the span answers, by paths.
 abbrev pub Selects : MatchKind → Bool → Nfa → Tape → ℕ → Option Pair → Type 0

@@ -1,6 +1,6 @@
 -- Powerset states, and the pass over them: matches are delayed by one byte, and looks are decided when the next unit is
 -- known.
-use Rattle.std.specs.Prelude.{ℕ, zero, suc, ◌≡◌, ◌<◌, Bool, true, false, not, ◌&&◌, ◌||◌, List, [], ◌∷◌, ◌⊎◌, ◌↔◌}
+use Rattle.std.specs.Prelude.{ℕ, zero, suc, ◌≡◌, ◌<◌, Bool, true, false, not, ◌&&◌, ◌||◌, List, [], ◌∷◌, ◌↔◌}
 use Rattle.std.specs.Prelude.{Option, Some, None}
 use Rattle.automata_base.specs.Haystacks.Looks.{Look, Start, End, StartLF, EndLF, StartCRLF, EndCRLF, WordAscii}
 use Rattle.automata_base.specs.Haystacks.Looks.{WordAsciiNegate}
@@ -56,21 +56,32 @@ is_crlf_look look = false
 abbrev pub IsNeeded : Nfa → List ℕ → Look → Type 0
 IsNeeded n xs look = (q next : ℕ) × In q xs × (node n q ≡ Assert look next)
 
--- The powerset state that is made of a closure after a unit: what the NFA keeps of it in order, these patterns, the
--- looks that they need, those that are known after the unit, and the two flags about the unit, each kept only if
--- some look of the NFA needs it.
-abbrev pub IsMake : Nfa → List ℕ → List ℕ → Option ℕ → Powerset → Type 0
-IsMake n patterns C prev Q =
-    (Q.nfa ≡ pick (keep n) C) × (Q.patterns ≡ patterns)
-    × ((look : Look) → (truth_of Q.needed look ≡ true) ↔ IsNeeded n Q.nfa look)
-    × ((look : Look) → (truth_of Q.known look ≡ true)
-    ↔ (((other : Look) × IsNeeded n Q.nfa other) × IsKnownLook n prev look))
-    × ((Q.word ≡ true)
-    ↔ ((Q.nfa ≡ [] → ⊥) × ((look : Look) × Occurs n look × (is_word_look look ≡ true)) × (is_word prev ≡ true)))
-    × ((Q.half ≡ true)
-    ↔ ((Q.nfa ≡ [] → ⊥) × ((look : Look) × Occurs n look × (is_crlf_look look ≡ true))
-    × (is_byte (first_half n.reverse) prev ≡ true)))
-    × IsLookSet Q.known × IsLookSet Q.needed
+-- The powerset state that is made of a closure after a unit.
+pub record IsMake (n : Nfa) (matched C : List ℕ) (prev : Option ℕ) (Q : Powerset) : Type 0 where
+  -- its NFA states are what the NFA keeps of the closure, in order
+  pub nfa : Q.nfa ≡ pick (keep n) C
+  -- it has these patterns
+  pub patterns : Q.patterns ≡ matched
+  -- it needs the looks of its NFA states
+  pub needed : (look : Look) → (truth_of Q.needed look ≡ true) ↔ IsNeeded n Q.nfa look
+  -- if it needs a look, it knows those that are known after the unit
+  pub known :
+      (look : Look)
+      → (truth_of Q.known look ≡ true) ↔ (((other : Look) × IsNeeded n Q.nfa other) × IsKnownLook n prev look)
+  -- it has the flag for a word byte exactly if it has states, the NFA has a look at words, and the unit is such a byte
+  pub word :
+      (Q.word ≡ true)
+      ↔ ((Q.nfa ≡ [] → ⊥) × ((look : Look) × Occurs n look × (is_word_look look ≡ true)) × (is_word prev ≡ true))
+  -- it has the flag for half a line end exactly if it has states, the NFA has a look at `\r` and `\n`, and the unit is
+  -- the first of them that is read
+  pub half :
+      (Q.half ≡ true)
+      ↔ ((Q.nfa ≡ [] → ⊥) × ((look : Look) × Occurs n look × (is_crlf_look look ≡ true))
+      × (is_byte (first_half n.reverse) prev ≡ true))
+  -- what it knows is a set of looks
+  pub known_set : IsLookSet Q.known
+  -- what it needs is a set of looks
+  pub needed_set : IsLookSet Q.needed
 
 -- What the next unit decides, with the flags for the byte before.
 abbrev pub decided : (terminator : ℕ) (reverse word half : Bool) → Look → (unit : Option ℕ) → Bool
@@ -103,15 +114,24 @@ IsNews n Q u =
     (look : Look) × (truth_of Q.needed look ≡ true) × (true_looks n Q u look ≡ true) × (truth_of Q.known look ≡ false)
 
 -- The list once its looks are decided.
-abbrev pub IsDecided : Nfa → Powerset → Option ℕ → List ℕ → Type 0
-IsDecided n Q u L =
-    (IsNews n Q u × IsClosure n (true_looks n Q u) Q.nfa L) ⊎ ((IsNews n Q u → ⊥) × (L ≡ Q.nfa))
+pub data IsDecided (n : Nfa) (Q : Powerset) (u : Option ℕ) (L : List ℕ) : Type 0 where
+  -- a needed look has become true: the closure of the states under the looks that are true
+  HasNews : IsNews n Q u → IsClosure n (true_looks n Q u) Q.nfa L → IsDecided n Q u L
+  -- none has: the states themselves
+  HasNoNews : (IsNews n Q u → ⊥) → L ≡ Q.nfa → IsDecided n Q u L
 
 -- The closure of the roots under the looks known after `prev`, made a powerset state.
-abbrev pub IsClosureOf : Nfa → List ℕ → List ℕ → Option ℕ → Powerset → Type 0
-IsClosureOf n patterns roots prev Q =
-    (K : Truth) × (C : List ℕ) × ((look : Look) → (K look ≡ true) ↔ IsKnownLook n prev look)
-    × IsClosure n K roots C × IsMake n patterns C prev Q
+pub record IsClosureOf (n : Nfa) (patterns roots : List ℕ) (prev : Option ℕ) (Q : Powerset) : Type 0 where
+  -- which looks are taken as true
+  pub truth : Truth
+  -- they are those known after the unit
+  pub known : (look : Look) → (truth look ≡ true) ↔ IsKnownLook n prev look
+  -- the closure
+  pub list : List ℕ
+  -- it is that of the roots
+  pub closure : IsClosure n truth roots list
+  -- the powerset state is made of it
+  pub made : IsMake n patterns list prev Q
 
 -- The powerset state that a search begins with.
 abbrev pub IsStart : Nfa → ℕ → Option ℕ → Powerset → Type 0

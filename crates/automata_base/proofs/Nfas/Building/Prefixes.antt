@@ -1,13 +1,13 @@
 -- An NFA that starts at a lazy loop which was added last skips lazily.
-use Rattle.std.proofs.Common.{ℕ, zero, suc, ◌≡◌, ◌<◌, ◌+◌, List, [], ◌∷◌, ◌++◌, length, map, Some, inl}
-use Rattle.std.proofs.Common.{inr, refl, sym, ap, ◌∙◌, subst, arith}
+use Rattle.std.proofs.Common.{ℕ, zero, suc, ◌≡◌, ◌<◌, ◌+◌, List, [], ◌∷◌, ◌++◌, length, map, Some}
+use Rattle.std.proofs.Common.{refl, sym, ap, ◌∙◌, subst, arith}
 use Rattle.std.specs.Prelude.{slice_get}
 use Rattle.std.proofs.lemmas.List.{map-append, length-map}
 use Rattle.automata_base.specs.declared.nfa.thompson.State.{State}
 use Rattle.automata_base.specs.declared.nfa.thompson.State.TheVariants as is
 use Rattle.automata_base.specs.Nfas.Accepted.{IsChecked}
 use Rattle.automata_base.specs.Nfas.Drafts.{Outline, PrefixesSkipLazily, prefix_of}
-use Rattle.automata_base.specs.Nfas.Engines.{HasEdge, Road, Reaches, any_byte}
+use Rattle.automata_base.specs.Nfas.Engines.{ByteEdge, FreeEdge, HasEdge, LazyLoop, Road, Reaches, any_byte}
 use Rattle.automata_base.specs.Nfas.Getters.{SkipsLazily}
 use Rattle.automata_base.specs.Nfas.Nfa.{Node, Split, Assert, Read, Accept, node, node_or_fail, hop_at, takes_at}
 use Rattle.automata_base.specs.Nfas.Nodes.{Automaton, nfa_of, node_of, nodes_of, ranges_of, dense_from}
@@ -95,13 +95,13 @@ module _
         ∙ (ap node_or_fail (nth_front shapes last q l) ∙ sym (ap (λ z. node_or_fail (slice_get z q)) nodes_was))
 
     edge_below : (q r : ℕ) → q < length shapes → HasEdge (nfa_of after) q r → r < length shapes
-    edge_below q r l (inl h) =
+    edge_below q r l (FreeEdge e h) =
         subst (λ z. r < z) few
         (checked.range.0 q r all_true
-        (nth_in (children (nfa_of before) all_true q) h.0 r
-        (sym (hop_children (nfa_of before) all_true q h.0) ∙ (ap (λ x. hop_at x all_true h.0) (sym (node_same q l)) ∙ h.1))))
-    edge_below q r l (inr h) =
-        subst (λ z. r < z) few (checked.range.1 q h.0 r (ap (λ x. takes_at x h.0) (sym (node_same q l)) ∙ h.1))
+        (nth_in (children (nfa_of before) all_true q) e r
+        (sym (hop_children (nfa_of before) all_true q e) ∙ (ap (λ x. hop_at x all_true e) (sym (node_same q l)) ∙ h))))
+    edge_below q r l (ByteEdge u h) =
+        subst (λ z. r < z) few (checked.range.1 q u r (ap (λ x. takes_at x u) (sym (node_same q l)) ∙ h))
 
     road_below : (q : ℕ) (way : List ℕ) (z : ℕ) → q < length shapes → Road (nfa_of after) q way z → z < length shapes
     road_below q [] z l w = subst (λ v. v < length shapes) w l
@@ -111,13 +111,10 @@ module _
     apart h = let l : length shapes < length shapes = road_below start h.0 (length shapes) within h.1 in omega (arith, l)
 
     pub loops_lazily : after.start_anchored ≡ start → after.start_unanchored ≡ length shapes → SkipsLazily after
-    loops_lazily anchored unanchored = inr (
-      length shapes + 1,
-      (
-        ap (node (nfa_of after)) unanchored ∙ (union_is ∙ ap (λ z. Split (z ∷ (length shapes + 1) ∷ [])) (sym anchored)),
-        skip_is ∙ ap any_byte (sym unanchored),
-        λ h. apart (subst (λ z. Reaches (nfa_of after) z (length shapes)) anchored (subst (Reaches (nfa_of after) after.start_anchored) unanchored h)),
-      ),
+    loops_lazily anchored unanchored = LazyLoop (length shapes + 1) (
+      ap (node (nfa_of after)) unanchored ∙ (union_is ∙ ap (λ z. Split (z ∷ (length shapes + 1) ∷ [])) (sym anchored)),
+      skip_is ∙ ap any_byte (sym unanchored),
+      λ h. apart (subst (λ z. Reaches (nfa_of after) z (length shapes)) anchored (subst (Reaches (nfa_of after) after.start_anchored) unanchored h)),
     )
 
 pub prefixed : PrefixesSkipLazily

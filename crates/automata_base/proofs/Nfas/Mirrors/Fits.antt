@@ -320,7 +320,7 @@ plain_match n P (is.Capture next pattern index slot) h = refl
 plain_match n P is.Fail h = refl
 plain_match n P (is.Match pattern) h = lt-ltb pattern P h
 
-plain_tests :
+pub plain_tests :
     (n P : ℕ) (xs : List State) → 0 < n → ArePlain n P (nodes_of xs)
     → (states_below n xs ≡ true) × (states_ordered xs ≡ true) × (matches_below P xs ≡ true)
 plain_tests n P [] z h = (refl, refl, refl)

@@ -196,3 +196,11 @@ made_is n len hs lists yielded heads states a e l m f = (
   subst (λ z. AreHeads z hs (lists_of lists) heads) (l ∙ (m ∙ sym (lists_length lists)))
       (subst (λ z. AreHeads n hs (lists_of z) heads) e a),
 )
+
+-- A list in the place of one with the same items changes nothing.
+pub lists_same :
+    (vs : List (Vec ℕ Global)) (k : ℕ) (old new : Vec ℕ Global) → k < length vs → old ≡ get_or vs k old → new.items ≡ old.items
+    → lists_of (set vs k new) ≡ lists_of vs
+lists_same [] k old new l e f = absurd (omega (arith, l))
+lists_same (v ∷ vs) zero old new l e f = ap (λ z. z ∷ lists_of vs) (f ∙ ap (λ (z : Vec ℕ Global). z.items) e)
+lists_same (v ∷ vs) (suc k) old new l e f = ap (λ z. v.items ∷ z) (lists_same vs k old new (omega (arith, l)) e f)

@@ -11,7 +11,7 @@ use Rattle.automata_base.specs.Nfas.Engines.{MatchesEmpty, engine_of}
 use Rattle.automata_base.specs.Lists.{In}
 use Rattle.std.specs.Prelude.{slice_get}
 use Rattle.automata_base.specs.Haystacks.Looks.{Look, within, holds}
-use Rattle.automata_base.specs.Nfas.Mirrors.{flip, HasRange, IsReversed, PatternsAreReversed, ReversedIsTrue}
+use Rattle.automata_base.specs.Nfas.Mirrors.{flip, HasRange, IsReversed, BeginsAlike, IsReversedByPattern}
 use Rattle.automata_base.specs.Nfas.Nfa.{Nfa, Node, Truth, Split, Assert, Read, Accept, node_or_fail, takes_in, accepts}
 use Rattle.automata_base.specs.Nfas.Nodes.{Automaton, nfa_of, ranges_of}
 use Rattle.automata_base.specs.Paths.Paths.{truth, prev, next}
@@ -19,7 +19,8 @@ use Rattle.automata_base.specs.Nfas.Errors.{ordered_from, state_ordered, states_
 use Rattle.automata_base.specs.Retraced.DenseRuns.{runs_from, ranged, ranged_nodes, ranged_nfa}
 use Rattle.automata_base.specs.Paths.Selections.{Accepts}
 use Rattle.automata_base.specs.Haystacks.Tapes.{Forward, Backward, forward_tape, reverse_tape}
-use Rattle.automata_base.specs.Answers.TruePairs.{Joins}
+use Rattle.automata_base.specs.Answers.TruePairs.{IsTruePair, Joins}
+use Rattle.automata_base.specs.Nfas.Getters.{SkipsLazily}
 use Rattle.automata_base.proofs.Nfas.Mirrors.Flips.{flip_holds}
 use Rattle.automata_base.proofs.Nfas.Mirrors.Ranged.{way_ranged, ranged_way, accepts_ranged}
 use Rattle.automata_base.proofs.Nfas.Mirrors.Runs.{runs_ordered}
@@ -288,14 +289,22 @@ module _ (a b : Automaton) (kind : MatchKind) (checked : IsChecked a) (reversed 
           always always no_bytes no_bytes 0 still_turns e.4.0 e.0 e.2 e.1 e.3
           (run_way (nfa_of b) e.0 e.4.0 e.1 e.4.1) e.5
 
-pub reversed_true : ReversedIsTrue
-reversed_true a b kind checked reversed alike lazy = (
-  refl,
-  sym reversed.utf8,
-  ((λ e. empty_back a b kind checked reversed (alike.0 e)), λ e. alike.1 (empty_forth a b kind checked reversed e)),
-  λ h i j p bytes l w. (joins_back a b kind checked reversed h i j p l w, joins_forth a b kind checked reversed h i j p l w),
-  lazy,
-)
+pub mirror_true :
+    (a b : Automaton) (kind : MatchKind) → IsChecked a → IsReversed a b → BeginsAlike a → SkipsLazily a
+    → IsTruePair (engine_of a kind) (engine_of b All)
+mirror_true a b kind checked reversed alike lazy = record {
+  all = refl;
+  utf8 = sym reversed.utf8;
+  empty = (
+    (λ e. empty_back a b kind checked reversed (alike.0 e)),
+    λ e. alike.1 (empty_forth a b kind checked reversed e),
+  );
+  joins = λ h i j p bytes l w. (
+    joins_back a b kind checked reversed h i j p l w,
+    joins_forth a b kind checked reversed h i j p l w,
+  );
+  begins = lazy;
+}
 
 -- A pattern's start.
 module _ (a b : Automaton) (checked : IsChecked a) (reversed : IsReversed a b) (k entry : ℕ) (at : slice_get b.start_pattern k ≡ Some entry)
@@ -344,6 +353,6 @@ module _ (a b : Automaton) (checked : IsChecked a) (reversed : IsReversed a b) (
       path : HasPath (nfa_of b) (reverse_tape h i j) 0 entry (j - i) back.0
       path = way_path (nfa_of b) (reverse_tape h i j) 0 entry back.1.0 (j - i) back.0 back.1.1
 
-pub patterns_turned : PatternsAreReversed
-patterns_turned a b checked reversed k entry at h i j pattern l w =
+pub mirror_patterns : (a b : Automaton) → IsChecked a → IsReversed a b → IsReversedByPattern a b
+mirror_patterns a b checked reversed k entry at h i j pattern l w =
     (pattern_forth a b checked reversed k entry at h i j pattern l w, pattern_back a b checked reversed k entry at h i j pattern l w)

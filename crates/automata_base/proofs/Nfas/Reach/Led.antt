@@ -7,7 +7,7 @@ use Rattle.automata_base.specs.declared.nfa.thompson.State.{State}
 use Rattle.automata_base.specs.declared.nfa.thompson.State.TheVariants as is
 use Rattle.automata_base.specs.declared.nfa.thompson.Transition.{Transition}
 use Rattle.automata_base.specs.declared.nfa.thompson.reach.Edges.TheVariants.{Epsilon, Every}
-use Rattle.automata_base.specs.Nfas.Engines.{HasEdge, Road, Reaches}
+use Rattle.automata_base.specs.Nfas.Engines.{ByteEdge, FreeEdge, HasEdge, Road, Reaches}
 use Rattle.automata_base.specs.Nfas.Getters.{HasEmpty}
 use Rattle.automata_base.specs.Lists.{In}
 use Rattle.automata_base.specs.Haystacks.Looks.{Look, within}
@@ -174,13 +174,13 @@ module _ (a : Automaton) (ordered : states_ordered a.states ≡ true) where
   edge_from q r i = go (in_either r (children (nfa_of a) all_true q) (byte_targets (node_in a.states q)) i)
     where
       go : In r (children (nfa_of a) all_true q) ⊎ In r (byte_targets (node_in a.states q)) → HasEdge (nfa_of a) q r
-      go (inl j) = inl (hop_from a q r j)
-      go (inr j) = inr (node_takes a.states q r ordered j)
+      go (inl j) = let h = hop_from a q r j in FreeEdge h.0 h.1
+      go (inr j) = let h = node_takes a.states q r ordered j in ByteEdge h.0 h.1
 
   edge_to : (q r : ℕ) → HasEdge (nfa_of a) q r → In r (targets_of Every a.states q)
-  edge_to q r (inl h) = in_left r (children (nfa_of a) all_true q) (byte_targets (node_in a.states q)) (hop_to a q h.0 r h.1)
-  edge_to q r (inr h) =
-      in_right r (children (nfa_of a) all_true q) (byte_targets (node_in a.states q)) (takes_target (node_in a.states q) h.0 r h.1)
+  edge_to q r (FreeEdge e h) = in_left r (children (nfa_of a) all_true q) (byte_targets (node_in a.states q)) (hop_to a q e r h)
+  edge_to q r (ByteEdge u h) =
+      in_right r (children (nfa_of a) all_true q) (byte_targets (node_in a.states q)) (takes_target (node_in a.states q) u r h)
 
   road_from : (q : ℕ) (way : List ℕ) (z : ℕ) → Route (targets_of Every a.states) q way z → Road (nfa_of a) q way z
   road_from q [] z w = w

@@ -6,7 +6,7 @@ use Rattle.std.proofs.lemmas.Bool.{eqb-true, eq-eqb}
 use Rattle.automata_base.specs.declared.nfa.thompson.State.{State}
 use Rattle.automata_base.specs.declared.nfa.thompson.reach.Edges.TheVariants.{Every}
 use Rattle.automata_base.proofs.Paths.Checks.{node_below}
-use Rattle.automata_base.specs.Nfas.Engines.{any_byte}
+use Rattle.automata_base.specs.Nfas.Engines.{LazyLoop, SharedStart, any_byte}
 use Rattle.automata_base.specs.Nfas.Getters.{SkipsLazily}
 use Rattle.automata_base.specs.Nfas.Nfa.{Node, Range, Split, Assert, Read, Accept, node}
 use Rattle.automata_base.specs.Nfas.Nodes.{Automaton, dense_from, nfa_of, node_of, range_of, ranges_of}
@@ -92,8 +92,8 @@ module _ (a : Automaton) (at : ℕ) (s : State) (other : a.start_unanchored ≡ 
   skips_no_union none = (λ t. absurd (true≢false (sym t)), from)
     where
       from : SkipsLazily a → IsTrue false
-      from (inl e) = absurd (other e)
-      from (inr h) = absurd (none_some (sym none ∙ second_has (node_of s) a.start_anchored h.0 (sym start_is ∙ h.1.0)))
+      from (SharedStart e) = absurd (other e)
+      from (LazyLoop z h) = absurd (none_some (sym none ∙ second_has (node_of s) a.start_anchored z (sym start_is ∙ h.0)))
 
   module _ (skip spot : ℕ) (r : State) (second : second_at (node_of s) a.start_anchored ≡ Some skip) (here : spot ≡ skip) (inside : spot < length a.states) (next : r ≡ get_or a.states spot r) where
     second_one : (skip' : ℕ) → node (nfa_of a) a.start_unanchored ≡ Split (a.start_anchored ∷ skip' ∷ []) → skip ≡ skip'
@@ -106,8 +106,8 @@ module _ (a : Automaton) (at : ℕ) (s : State) (other : a.start_unanchored ≡ 
     skips_no_range fails = (λ t. absurd (true≢false (sym t)), from)
       where
         from : SkipsLazily a → IsTrue false
-        from (inl e) = absurd (other e)
-        from (inr h) = absurd (fails (sym skip_is ∙ (ap (node (nfa_of a)) (second_one h.0 h.1.0) ∙ h.1.1)))
+        from (SharedStart e) = absurd (other e)
+        from (LazyLoop z h) = absurd (fails (sym skip_is ∙ (ap (node (nfa_of a)) (second_one z h.0) ∙ h.1)))
 
     pub skips_unless :
         (leads : Bool) → states_ordered a.states ≡ true → node_of r ≡ any_byte a.start_unanchored
@@ -115,16 +115,13 @@ module _ (a : Automaton) (at : ℕ) (s : State) (other : a.start_unanchored ≡ 
     skips_unless true ordered passes found = (λ t. absurd (true≢false (sym t)), from)
       where
         from : SkipsLazily a → IsTrue false
-        from (inl e) = absurd (other e)
-        from (inr h) = absurd (h.1.2 (reach_from a ordered a.start_anchored a.start_unanchored (found.0 refl)))
+        from (SharedStart e) = absurd (other e)
+        from (LazyLoop z h) = absurd (h.2 (reach_from a ordered a.start_anchored a.start_unanchored (found.0 refl)))
     skips_unless false ordered passes found = (
-      λ _. inr (
-        skip,
-        (
-          start_is ∙ second_is (node_of s) a.start_anchored skip second,
-          skip_is ∙ passes,
-          λ h. true≢false (sym (found.1 (reach_to a ordered a.start_anchored a.start_unanchored h))),
-        ),
+      λ _. LazyLoop skip (
+        start_is ∙ second_is (node_of s) a.start_anchored skip second,
+        skip_is ∙ passes,
+        λ h. true≢false (sym (found.1 (reach_to a ordered a.start_anchored a.start_unanchored h))),
       ),
       λ _. refl,
     )

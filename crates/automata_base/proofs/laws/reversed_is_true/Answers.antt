@@ -1,4 +1,4 @@
-use Rattle.automata_base.proofs.Nfas.Mirrors.Pairs.{patterns_turned, reversed_true}
+use Rattle.automata_base.proofs.Nfas.Folds.Alike.{patterns_turned, reversed_true}
 use Rattle.automata_base.proofs.laws.reversed_is_true.Goals as goal
 
 pub returns-clause-pair : goal.returns-clause-pair

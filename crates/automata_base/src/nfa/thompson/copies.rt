@@ -28,7 +28,7 @@ fn copy_id(set: &SparseSet, base: StateID, id: StateID) -> StateID
 }
 
 /// Adds an ID after the others of a list.
-fn push_id(ids: &mut Vec<StateID>, id: StateID) -> Result<(), AllocError>
+pub fn push_id(ids: &mut Vec<StateID>, id: StateID) -> Result<(), AllocError>
     ensures { OnOk result (ids.new.items ≡ ids.old.items ++ id ∷ []) }
 {
     ids.push(id)?;

@@ -30,8 +30,8 @@ const EACH: usize = 8;
 
 const MORE: usize = 512;
 
-/// The closure of the root of an NFA: of the unanchored start, with whose closure most powerset states end, or, if the
-/// NFA is reversed, of its widest union, as the reverse of a class of characters is. What a step needs of it is here.
+/// The closure of the root of an NFA, the unanchored start, with whose closure most powerset states end. What a step needs
+/// of it is here.
 #[derive(Drop)]
 pub(crate) struct KeptClosure {
     /// The state whose closure this is.
@@ -59,44 +59,6 @@ impl KeptClosure {
             return Some(self.rows[byte].as_slice());
         }
         None
-    }
-}
-
-/// How many alternates the state has, if it is a union.
-fn width_of(state: &State) -> usize {
-    match state {
-        State::Union { alternates } => alternates.len(),
-        _ => 0,
-    }
-}
-
-/// The union with the most alternates, the first of them if there are several. If there is no union, it is the
-/// unanchored start.
-fn widest_union(nfa: &NFA) -> StateID
-    ensures { result < length nfa.now.states }
-{
-    let states = nfa.states();
-    let mut widest = nfa.start_unanchored();
-    let mut most = 0;
-    for i in 0..states.len() {
-        let width = width_of(&states[i]);
-        if most < width {
-            most = width;
-            widest = StateID::new_unchecked(i as u32);
-        }
-    }
-    widest
-}
-
-/// The state whose closure is kept, if it has many states.
-fn root_of(nfa: &NFA) -> StateID
-    requires { IsChecked nfa.now }
-    ensures { result < length nfa.now.states }
-{
-    if nfa.is_reverse() {
-        widest_union(nfa)
-    } else {
-        nfa.start_unanchored()
     }
 }
 
@@ -289,7 +251,7 @@ pub fn kept_closure_of(nfa: &NFA) -> Result<Option<Arc<KeptClosure>>, AllocError
     if nfa.states().len() < FEWEST {
         return Ok(None);
     }
-    let root = root_of(nfa);
+    let root = nfa.start_unanchored();
     let set = visited_from(nfa, root)?;
     if set.as_slice().len() < FEWEST {
         return Ok(None);

@@ -8,11 +8,13 @@ mod copies;
 mod cycles;
 mod debug;
 mod finishing;
+mod folding;
 pub(crate) mod kept_closure;
 mod merging;
 mod reach;
 pub(crate) mod reading;
 mod reverse;
+mod segments;
 mod standing;
 mod turn;
 mod utf8;
@@ -23,7 +25,7 @@ use crate::nfa::thompson::checks::{Totals, test, totals_of};
 use crate::nfa::thompson::cycles::are_looks_acyclic;
 use crate::nfa::thompson::kept_closure::{KeptClosure, kept_closure_of};
 use crate::nfa::thompson::reach::{reaches_match, reaches_match_in, set_for, skips_lazily};
-use crate::nfa::thompson::reverse::{Mirror, reverse_error, reverse_states};
+use crate::nfa::thompson::reverse::Mirror;
 use crate::nfa::thompson::utf8::{Class, FORWARD, ends_at_boundaries};
 use crate::util::look::{Look, LookSet};
 use crate::util::primitives::{PatternID, StateID};
@@ -315,7 +317,7 @@ impl NFA {
     ghost use Rattle.automata_base.specs.Nfas.Engines.{engine_of};
     ghost use Rattle.automata_base.specs.Nfas.Getters.{HasEmpty, IsAlwaysStartAnchored, SkipsLazily};
     ghost use Rattle.automata_base.specs.Haystacks.Looks.{Look};
-    ghost use Rattle.automata_base.specs.Nfas.Mirrors.{IsReversed, IsReversedByPattern, BeginsAlike, reversed_flags};
+    ghost use Rattle.automata_base.specs.Nfas.Mirrors.{IsReversalOf, IsReversedByPattern, BeginsAlike, reversed_flags};
     ghost use Rattle.automata_base.specs.Nfas.Automata.{automaton};
     ghost use Rattle.automata_base.specs.Retraced.Copies.{IsFit};
     ghost use Rattle.automata_base.specs.Nfas.Nodes.{nfa_of, stack_room};
@@ -703,6 +705,9 @@ impl NFA {
     /// most `(P + 1) * (n + r + 2)` states, where P counts patterns, n states, and r such edges. Neighbouring bytes of
     /// a `Dense` state that lead to one state are one edge.
     ///
+    /// Where many edges that read bytes lead to one state, as to the match of a large class of characters, one state reads
+    /// in place of theirs, and others of them stand for the states that a byte leads to. The states are as many as before.
+    ///
     /// It fails if the empty match is reached from the start of a pattern and not from the anchored start, or the other
     /// way round, since then the two would not omit the same empty matches in UTF-8 mode; if by that bound, or a like
     /// one for alternates, the reversed NFA might be too large; and if an allocation fails. A regex of the two also
@@ -713,7 +718,7 @@ impl NFA {
     /// let regex = Regex::builder().build_from_nfas(forward, reverse)?;
     /// ```
     pub fn reversed(&self) -> Result<NFA, ReverseError>
-        ensures turned { IfOk result (λ reversed. IsReversed self.now reversed) }
+        ensures turned { IfOk result (λ reversed. IsReversalOf self.now reversed) }
         ensures pair { IfOk result (λ reversed. SkipsLazily self.now
             → (kind : MatchKind) → IsTruePair (engine_of self.now kind) (engine_of reversed MatchKind.All)) }
         ensures patterns { IfOk result (λ reversed. IsReversedByPattern self.now reversed) }
@@ -735,30 +740,6 @@ impl NFA {
     {
         let begins = reaches_match(self.alloc, self.states(), &[self.start_anchored()])?;
         Ok(begins == self.has_empty())
-    }
-
-    /// The reversed NFA, if the starts begin alike. If they do not, it fails with `Starts` and asks for no memory.
-    fn reversed_if(&self, alike: bool) -> Result<NFA, ReverseError>
-        requires { IsTrue alike ↔ BeginsAlike self.now }
-        ensures turned { IfOk result (λ reversed. IsReversed self.now reversed) }
-        ensures alike { IfOk result (λ reversed. BeginsAlike self.now) }
-        ensures tested { result ≡ Err ReverseError.TooLarge → BeginsAlike self.now }
-        ensures starts { (result ≡ Err ReverseError.Starts) ↔ (BeginsAlike self.now → ⊥) }
-        ensures size { IfOk result (λ reversed. length reversed.states ≤ most_states self.now) }
-        ensures large { result ≡ Err ReverseError.TooLarge → MayBeTooLarge self.now }
-        ensures checked { IfOk result (λ reversed. IsChecked self.now) }
-    {
-        if !alike {
-            return Err(ReverseError::Starts);
-        }
-        let states = self.states();
-        let first = self.start_anchored();
-        let mirror = match reverse_states(self.alloc, states, first, self.pattern_len()) {
-            Ok(mirror) => mirror,
-            Err(error) => return Err(reverse_error(error)),
-        };
-        let reversed = self.mirrored(mirror)?;
-        Ok(reversed)
     }
 
     /// The reversed NFA of these states, with the reverse flag flipped and the other flags as they are here. If its

@@ -41,7 +41,7 @@ pub fn add(set: &mut SparseSet, id: StateID)
 }
 
 /// Adds those of the states that are not members, in their order.
-fn add_ids(set: &mut SparseSet, ids: &[StateID])
+pub fn add_ids(set: &mut SparseSet, ids: &[StateID])
     requires { all_below set.old.capacity ids.now ≡ true }
     ensures items { set.new.items ≡ once_from set.old.items ids.now }
     ensures capacity { set.new.capacity ≡ set.old.capacity }
@@ -124,7 +124,7 @@ fn add_byte_targets(set: &mut SparseSet, state: &State)
 }
 
 /// Adds the states that edges of this kind lead to from this state.
-fn add_targets(set: &mut SparseSet, state: &State, edges: Edges)
+pub fn add_targets(set: &mut SparseSet, state: &State, edges: Edges)
     requires { state_below set.old.capacity state.now ≡ true }
     ensures items { set.new.items ≡ once_from set.old.items (targets_at edges (node_of state.now)) }
     ensures capacity { set.new.capacity ≡ set.old.capacity }

@@ -1,4 +1,4 @@
-//! The states of a reversed NFA.
+//! The states of a reversed NFA, and the NFA of them.
 ghost use Rattle.std.specs.Prelude.{◌≡◌, ◌<◌, ◌≤◌, ◌+◌, ◌*◌, ◌^◌, ◌++◌, [], ◌∷◌, true, IfOk, Err, length, sum_by};
 ghost use Rattle.automata_base.specs.Retraced.Copies.{IsFit};
 ghost use Rattle.automata_base.specs.Lists.{all_below, Distinct};
@@ -10,9 +10,10 @@ ghost use Rattle.automata_base.specs.Retraced.ReversedEdges.{AreTurned, AreRever
 
 use crate::nfa::thompson::checks::MAX_STATES;
 use crate::nfa::thompson::copies::{Parts, parts_of};
+use crate::nfa::thompson::folding::{fold, has_wide};
 use crate::nfa::thompson::reach::{Edges, reach};
 use crate::nfa::thompson::turn::{EdgesByTarget, MakeError, push_state};
-use crate::nfa::thompson::{ReverseError, State};
+use crate::nfa::thompson::{Flags, NFA, NfaError, ReverseError, State};
 use crate::util::primitives::StateID;
 use std::alloc::Global;
 
@@ -114,4 +115,92 @@ pub fn reverse_states(
     let parts = parts_of(alloc, states, &turned, ids, patterns)?;
     let mirror = rooted(alloc, parts)?;
     Ok(mirror)
+}
+
+impl NFA {
+    ghost use Rattle.std.specs.Prelude.{◌≡◌, ◌<◌, ◌≤◌, ◌+◌, ◌*◌, ◌^◌, ◌↔◌, IsTrue, length, sum_by, Err, IfOk, IfSome};
+    ghost use Rattle.automata_base.specs.Nfas.Accepted.{IsChecked};
+    ghost use Rattle.automata_base.specs.Nfas.Automata.{automaton};
+    ghost use Rattle.automata_base.specs.Nfas.Mirrors.{BeginsAlike, IsReversalOf, ReadsAlike, reversed_flags};
+    ghost use Rattle.automata_base.specs.Nfas.ReversedSizes.{MayBeTooLarge, most_states};
+    ghost use Rattle.automata_base.specs.Retraced.Copies.{IsFit};
+    ghost use Rattle.automata_base.specs.Retraced.ReversedEdges.{AreReversed};
+
+    /// The states of the reversed NFA.
+    pub(super) fn mirror(&self) -> Result<Mirror, ReverseError>
+        ensures reversed { IfOk result (λ m. AreReversed self.now.states self.now.start_anchored
+            (length self.now.start_pattern) m.states.items m.entries.items m.root) }
+        ensures fit { IfOk result (λ m. IsFit
+            self.now.states (length self.now.start_pattern) m.states.items m.entries.items m.root) }
+        ensures checked { IfOk result (λ m. IsChecked self.now) }
+        ensures large { result ≡ Err ReverseError.TooLarge → 2 ^ 27 < most_states self.now }
+        ensures starts { result ≡ Err ReverseError.Starts → ⊥ }
+    {
+        let states = self.states();
+        let first = self.start_anchored();
+        match reverse_states(self.alloc(), states, first, self.pattern_len()) {
+            Ok(mirror) => Ok(mirror),
+            Err(error) => Err(reverse_error(error)),
+        }
+    }
+
+    /// The reversed NFA of these states with their wide unions folded. It is none if there are not enough free states or
+    /// too many alternates then.
+    pub(super) fn folded(&self, mirror: Mirror) -> Result<Option<NFA>, ReverseError>
+        requires { IsFit
+            self.now.states (length self.now.start_pattern) mirror.states.items mirror.entries.items mirror.root }
+        ensures alike { IfOk result (λ made. IfSome made (λ nfa. ReadsAlike (automaton mirror.states.items mirror.root
+            mirror.root mirror.entries.items (reversed_flags self.now.flags)) nfa)) }
+        ensures size { IfOk result (λ made. IfSome made (λ nfa. length nfa.states ≡ length mirror.states.items)) }
+        ensures large { result ≡ Err ReverseError.TooLarge → ⊥ }
+        ensures starts { result ≡ Err ReverseError.Starts → ⊥ }
+    {
+        let Mirror {
+            mut states,
+            entries,
+            root,
+        } = mirror;
+        match fold(self.alloc(), &mut states, root, entries.as_slice()) {
+            Ok(()) => {}
+            Err(MakeError::TooLarge) => return Ok(None),
+            Err(MakeError::OutOfMemory) => return Err(ReverseError::OutOfMemory),
+        }
+        let given = self.flags();
+        let flags = Flags {
+            reverse: !given.reverse,
+            ..given
+        };
+        match NFA::from_states(self.alloc(), states, root, root, entries, flags) {
+            Ok(nfa) => Ok(Some(nfa)),
+            Err(NfaError::OutOfMemory) => Err(ReverseError::OutOfMemory),
+            Err(_) => Ok(None),
+        }
+    }
+
+    /// The reversed NFA, if the starts begin alike. If they do not, it fails with `Starts` and asks for no memory.
+    pub(super) fn reversed_if(&self, alike: bool) -> Result<NFA, ReverseError>
+        requires { IsTrue alike ↔ BeginsAlike self.now }
+        ensures turned { IfOk result (λ reversed. IsReversalOf self.now reversed) }
+        ensures alike { IfOk result (λ reversed. BeginsAlike self.now) }
+        ensures tested { result ≡ Err ReverseError.TooLarge → BeginsAlike self.now }
+        ensures starts { (result ≡ Err ReverseError.Starts) ↔ (BeginsAlike self.now → ⊥) }
+        ensures size { IfOk result (λ reversed. length reversed.states ≤ most_states self.now) }
+        ensures large { result ≡ Err ReverseError.TooLarge → MayBeTooLarge self.now }
+        ensures checked { IfOk result (λ reversed. IsChecked self.now) }
+    {
+        if !alike {
+            return Err(ReverseError::Starts);
+        }
+        let mirror = self.mirror()?;
+        if has_wide(&mirror.states) {
+            if let Some(folded) = self.folded(mirror)? {
+                return Ok(folded);
+            }
+            let again = self.mirror()?;
+            let unfolded = self.mirrored(again)?;
+            return Ok(unfolded);
+        }
+        let reversed = self.mirrored(mirror)?;
+        Ok(reversed)
+    }
 }

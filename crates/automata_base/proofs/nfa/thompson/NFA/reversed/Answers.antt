@@ -1,5 +1,5 @@
 use Rattle.automata_base.proofs.Nfas.Mirrors.Lists.{err_is}
-use Rattle.automata_base.proofs.Nfas.Mirrors.Pairs.{patterns_turned, reversed_true}
+use Rattle.automata_base.proofs.Nfas.Folds.Alike.{patterns_turned, reversed_true}
 use Rattle.automata_base.proofs.nfa.thompson.NFA.reversed.Goals as goal
 
 pub returns-clause-pair : goal.returns-clause-pair

@@ -1,0 +1,11 @@
+pub mod Ways
+pub mod Alike
+pub mod Tree
+pub mod Heads
+pub mod Ranges
+pub mod Parts
+pub mod Unions
+pub mod Placed
+pub mod Led
+pub mod States
+pub mod Final

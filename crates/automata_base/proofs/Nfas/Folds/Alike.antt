@@ -1,0 +1,130 @@
+-- What reads like a reversed NFA is its other half of a true pair.
+use Rattle.std.proofs.Common.{ℕ, ◌≡◌, ◌-◌, ◌↔◌, List, [], Some, inl, inr, refl, sym, ap, ◌∙◌, subst}
+use Rattle.std.specs.Prelude.{slice_get}
+use Rattle.automata_base.specs.declared.nfa.thompson.Flags.{Flags}
+use Rattle.automata_base.specs.declared.nfa.thompson.State.{State}
+use Rattle.automata_base.specs.Lists.{In}
+use Rattle.automata_base.specs.Nfas.Automata.{automaton}
+use Rattle.automata_base.specs.Nfas.Engines.{MatchesEmpty, engine_of}
+use Rattle.automata_base.specs.Nfas.Mirrors.{ReadsAlike, Reaches, IsStart}
+use Rattle.automata_base.specs.Nfas.Mirrors.{PatternsAreReversed, ReversedIsTrue}
+use Rattle.automata_base.specs.Nfas.Nfa.{Node}
+use Rattle.automata_base.specs.Nfas.Nodes.{Automaton, nfa_of}
+use Rattle.automata_base.specs.Paths.Paths.{Tape, truth}
+use Rattle.automata_base.specs.Powersets.Cuts.{All}
+use Rattle.automata_base.specs.Retraced.Folds.{IsFolded, IsKept}
+use Rattle.automata_base.specs.Haystacks.Tapes.{Backward, forward_tape, reverse_tape}
+use Rattle.automata_base.specs.Answers.TruePairs.{IsTruePair, Joins}
+use Rattle.automata_base.proofs.Nfas.Folds.Ways.{forth_there, back_there}
+use Rattle.automata_base.proofs.Nfas.Mirrors.Pairs.{mirror_patterns, mirror_true}
+use Rattle.automata_base.proofs.Nfas.Mirrors.Ways.{path_way, way_path, run_way, way_run, always, no_bytes}
+use Rattle.automata_base.proofs.Paths.Sets.{nth_in}
+
+pub reversed_true : ReversedIsTrue
+reversed_true a b kind checked r alike lazy = record {
+  all = refl;
+  utf8 = pair.utf8 ∙ sym (ap (λ (f : Flags). f.utf8) r.alike.flags);
+  empty = ((λ e. r.alike.empty.0 (pair.empty.0 e)), λ e. pair.empty.1 (r.alike.empty.1 e));
+  joins = λ h i j p bytes l w. (
+    (λ s. forth h i j p ((pair.joins h i j p bytes l w).0 s)),
+    λ s. (pair.joins h i j p bytes l w).1 (back h i j p s),
+  );
+  begins = lazy;
+}
+  where
+    pair : IsTruePair (engine_of a kind) (engine_of r.mirror All)
+    pair = mirror_true a r.mirror kind checked r.reversed alike lazy
+
+    forth : (h : List ℕ) (i j p : ℕ) → Joins Backward (engine_of r.mirror All) h i j p → Joins Backward (engine_of b All) h i j p
+    forth h i j p s =
+        subst (λ v. Reaches b (reverse_tape h i j) v (j - i) p) (sym r.alike.anchored)
+        ((r.alike.accepts r.mirror.start_anchored (inl refl) (reverse_tape h i j) (j - i) p).0 s)
+
+    back : (h : List ℕ) (i j p : ℕ) → Joins Backward (engine_of b All) h i j p → Joins Backward (engine_of r.mirror All) h i j p
+    back h i j p s =
+        (r.alike.accepts r.mirror.start_anchored (inl refl) (reverse_tape h i j) (j - i) p).1
+        (subst (λ v. Reaches b (reverse_tape h i j) v (j - i) p) r.alike.anchored s)
+
+pub patterns_turned : PatternsAreReversed
+patterns_turned a b checked r k entry at h i j pattern l w = (
+  (λ s. turned.0 (reads.1 s)),
+  λ s. reads.0 (turned.1 s),
+)
+  where
+    mirrored : slice_get r.mirror.start_pattern k ≡ Some entry
+    mirrored = ap (λ (z : List ℕ). slice_get z k) (sym r.alike.patterns) ∙ at
+
+    turned :
+        Reaches r.mirror (reverse_tape h i j) entry (j - i) pattern
+        ↔ ((pattern ≡ k) × Reaches a (forward_tape h i j) a.start_anchored (j - i) pattern)
+    turned = mirror_patterns a r.mirror checked r.reversed k entry mirrored h i j pattern l w
+
+    reads : Reaches r.mirror (reverse_tape h i j) entry (j - i) pattern ↔ Reaches b (reverse_tape h i j) entry (j - i) pattern
+    reads = r.alike.accepts entry (inr (inr (nth_in r.mirror.start_pattern k entry mirrored))) (reverse_tape h i j) (j - i) pattern
+
+-- The NFA itself reads like it.
+pub itself_alike : (a : Automaton) → ReadsAlike a a
+itself_alike a = record {
+  flags = refl;
+  anchored = refl;
+  unanchored = refl;
+  patterns = refl;
+  accepts = λ start is t i p. ((λ s. s), λ s. s);
+  empty = ((λ s. s), λ s. s);
+}
+
+-- And so does the folded one.
+module _ (states folded : List State) (root : ℕ) (entries : List ℕ) (flags : Flags) (free : List ℕ) (made : List Node)
+    (f : IsFolded (nfa_of (automaton states root root entries flags)) (nfa_of (automaton folded root root entries flags))
+    free made)
+    (low : IsKept free root) (entered : (e : ℕ) → In e entries → IsKept free e) where
+  abbrev Plain : Automaton
+  Plain = automaton states root root entries flags
+
+  abbrev Folded : Automaton
+  Folded = automaton folded root root entries flags
+
+  below : (start : ℕ) → IsStart Plain start → IsKept free start
+  below start (inl e) = subst (λ v. IsKept free v) (sym e) low
+  below start (inr (inl e)) = subst (λ v. IsKept free v) (sym e) low
+  below start (inr (inr k)) = entered start k
+
+  reach : (start : ℕ) → IsKept free start → (t : Tape) (i p : ℕ) → Reaches Plain t start i p → Reaches Folded t start i p
+  reach start l t i p s =
+      let there =
+      forth_there (nfa_of Plain) (nfa_of Folded) free made f (truth (nfa_of Plain) t) (slice_get t.bytes) 0 start i p l
+      (s.1.0, (s.0, path_way (nfa_of Plain) t 0 [] start s.0 i s.1.0 s.1.1), s.1.2) in
+      let path = way_path (nfa_of Folded) t 0 start there.1.0 i there.0 there.1.1 in
+      (path.0, (there.0, path.1, there.2))
+
+  reach_back : (start : ℕ) → IsKept free start → (t : Tape) (i p : ℕ) → Reaches Folded t start i p → Reaches Plain t start i p
+  reach_back start l t i p s =
+      let there =
+      back_there (nfa_of Plain) (nfa_of Folded) free made f (truth (nfa_of Plain) t) (slice_get t.bytes) 0 start i p l
+      (s.1.0, (s.0, path_way (nfa_of Folded) t 0 [] start s.0 i s.1.0 s.1.1), s.1.2) in
+      let path = way_path (nfa_of Plain) t 0 start there.1.0 i there.0 there.1.1 in
+      (path.0, (there.0, path.1, there.2))
+
+  empty : MatchesEmpty (nfa_of Plain) entries → MatchesEmpty (nfa_of Folded) entries
+  empty e =
+      let there =
+      forth_there (nfa_of Plain) (nfa_of Folded) free made f always no_bytes 0 e.0 0 e.2 (entered e.0 e.3)
+      (e.1, (e.4.0, run_way (nfa_of Plain) e.0 e.4.0 e.1 e.4.1), e.5) in
+      (e.0, there.0, e.2, e.3, (there.1.0, way_run (nfa_of Folded) 0 e.0 there.1.0 0 there.0 there.1.1), there.2)
+
+  empty_back : MatchesEmpty (nfa_of Folded) entries → MatchesEmpty (nfa_of Plain) entries
+  empty_back e =
+      let there =
+      back_there (nfa_of Plain) (nfa_of Folded) free made f always no_bytes 0 e.0 0 e.2 (entered e.0 e.3)
+      (e.1, (e.4.0, run_way (nfa_of Folded) e.0 e.4.0 e.1 e.4.1), e.5) in
+      (e.0, there.0, e.2, e.3, (there.1.0, way_run (nfa_of Plain) 0 e.0 there.1.0 0 there.0 there.1.1), there.2)
+
+  pub folded_alike : ReadsAlike Plain Folded
+  folded_alike = record {
+    flags = refl;
+    anchored = refl;
+    unanchored = refl;
+    patterns = refl;
+    accepts = λ start is t i p. (reach start (below start is) t i p, reach_back start (below start is) t i p);
+    empty = (empty, empty_back);
+  }

@@ -1,0 +1,34 @@
+-- A tree over the bytes, with a list of states for each node.
+use Rattle.std.specs.Prelude.{ℕ, zero, suc, ◌≡◌, ◌+◌, ◌/◌, ◌%◌, ◌⊎◌, List, Option, None, Some, slice_get}
+use Rattle.automata_base.specs.Lists.{In}
+use Rattle.automata_base.specs.Retraced.ReversedEdges.{list_at, push_at}
+
+-- The node that is so many steps above this one.
+abbrev pub above : (steps node : ℕ) → ℕ
+above zero node = node
+above (suc steps) node = above steps node / 2
+
+-- The state is in the list of the node or of one above it.
+abbrev pub IsOnWay : List (List ℕ) → (node state : ℕ) → Type 0
+IsOnWay lists node state = (steps : ℕ) × In state (list_at lists (above steps node))
+
+-- The head of a node; past the last node there is none.
+abbrev pub head_or_none : Option (Option ℕ) → Option ℕ
+head_or_none None = None
+head_or_none (Some head) = head
+
+-- The head of the leaf of a byte, whose node is 256 after it.
+abbrev pub leaf_head : List (Option ℕ) → (u : ℕ) → Option ℕ
+leaf_head heads u = head_or_none (slice_get heads (u + 256))
+
+-- The state is added to the node where a row begins, if it is a second child.
+abbrev pub IsPutFirst : (old new : List (List ℕ)) → (left next first : ℕ) → Type 0
+IsPutFirst old new left next first =
+    ((left % 2 ≡ 0) × (first ≡ left) × (new ≡ old))
+    ⊎ ((left % 2 ≡ 1) × (first ≡ left + 1) × (new ≡ push_at old left next))
+
+-- The state is added to the node before the end of a row, if it is a first child.
+abbrev pub IsPutLast : (old new : List (List ℕ)) → (end next last : ℕ) → Type 0
+IsPutLast old new end next last =
+    ((end % 2 ≡ 0) × (last ≡ end) × (new ≡ old))
+    ⊎ ((end % 2 ≡ 1) × (last + 1 ≡ end) × (new ≡ push_at old last next))
